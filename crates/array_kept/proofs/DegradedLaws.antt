@@ -33,40 +33,40 @@ use Rattle.flat_history.specs.Flat.{covers, sector_at, behind, now, visible_of, 
 use Rattle.flat_history.specs.Plain.{entries_of, loses_role}
 use Rattle.flat_history.specs.OneShape.{opening_in, is_gone_now, gone_count_now, keeps_shape_event, IsCallOpen, IsOneShapeRefusal, AreTooManyLost, IsNoRoleNow, is_spare_now, is_lost}
 use Rattle.history_laws.proofs.OneShapeGrowing.{one, IsOneShapeCall, call-faults, call-fails, too_many_missing}
-use Rattle.views.specs.declared.work.Work.{Work}
-use Rattle.views.specs.Rebuilding.{AreRebuilt, HasNoRebuilt}
-use Rattle.views.specs.Whole.{list_size}
-use Rattle.views.specs.Placed.{places_of, is_vacant, IsPlaced}
-use Rattle.views.proofs.HeldRows.{missing-moved, missing-before, vacant-missing, without-before}
-use Rattle.views.proofs.LackingLaws.{since-missing, too-many-still, never-both}
+use Rattle.call_entries.specs.views_the_Work.{Work}
+use Rattle.call_entries.specs.views_Rebuilding.{AreRebuilt, HasNoRebuilt}
+use Rattle.call_entries.specs.views_Whole.{list_size}
+use Rattle.call_entries.specs.views_Placed.{places_of, is_vacant, IsPlaced}
+use Rattle.call_entries.proofs.views_HeldRows.{missing-moved, missing-before, vacant-missing, without-before}
+use Rattle.call_entries.proofs.views_LackingLaws.{since-missing, too-many-still, never-both}
 use Rattle.call_entries.specs.Losing.{losses_of}
-use Rattle.views.specs.Moving.{Grows, IsMoved}
-use Rattle.shape_changes.specs.Marking.{AreOthersPresent}
+use Rattle.call_entries.specs.views_Moving.{Grows, IsMoved}
+use Rattle.call_entries.specs.shape_changes_Marking.{AreOthersPresent}
 use Rattle.array_kept.specs.Kept.{world_in, AreTold, AreFillsRight, AreRebuildsRight, AreSectorsWhole, IsKept}
-use Rattle.views.specs.Status.{rebuilt_of, left_of}
-use Rattle.shape_views.specs.Regions.{DoWithout}
-use Rattle.views.specs.Lacking.{AreLostSince, AreTooMany, IsUnread, IsUnwritten, lacking, ListStands, RowsStandAmong, RowsStandBelow, mended_rows, are_mended}
-use Rattle.views.proofs.Fit.{valid, multiple, force-disks, count-alike}
-use Rattle.views.proofs.Still.{count-still}
+use Rattle.call_entries.specs.views_Status.{rebuilt_of, left_of}
+use Rattle.call_entries.specs.shape_views_Regions.{DoWithout}
+use Rattle.call_entries.specs.views_Lacking.{AreLostSince, AreTooMany, IsUnread, IsUnwritten, lacking, ListStands, RowsStandAmong, RowsStandBelow, mended_rows, are_mended}
+use Rattle.call_entries.proofs.views_Fit.{valid, multiple, force-disks, count-alike}
+use Rattle.call_entries.proofs.views_Still.{count-still}
 use Rattle.superblocks.proofs.ValidFields.{few-roles}
 use Rattle.array_kept.specs.Calls.{IsRefusedHere, IsRefusedFor, HasRole}
 use Rattle.array_kept.proofs.KeptLaws.{StayPlaced, LeavesSafe, LeavesWork, NamesSafe, rebuilds-before, left-lost, mended-are, leaves-named as named-leaves, work-kept, kept-after, same-now, whole-still, seen-behind, held-behind, unsynced-behind}
 use Rattle.array_kept.proofs.StepsLeft.{left-moved}
-use Rattle.views.proofs.LackingWrites.{recovering-before, full-later}
+use Rattle.call_entries.proofs.views_LackingWrites.{recovering-before, full-later}
 use Rattle.array_kept.proofs.LedgerLaws.{OnlyAdd, add-none, add-one, add-losses, ends-nothing, pending-more}
-use Rattle.shape_changes.proofs.Steady.{safe-is-seen}
-use Rattle.shape_changes.specs.Safety.{IsRisen}
-use Rattle.shape_views.specs.Views.{Ledger}
-use Rattle.shape_changes.specs.Steady.{AreViewsRight, IsSafeOver, KeepsSafe}
+use Rattle.call_entries.proofs.shape_changes_Steady.{safe-is-seen}
+use Rattle.call_entries.specs.shape_changes_Safety.{IsRisen}
+use Rattle.call_entries.specs.shape_views_Views.{Ledger}
+use Rattle.call_entries.specs.shape_changes_Steady.{AreViewsRight, IsSafeOver, KeepsSafe}
 use Rattle.bank.proofs.Marks.{each_mark-along}
 use Rattle.flat_history.specs.Losses.{was_dirty, is_resync_end, is_unsynced, settles}
 use Rattle.flat_history.specs.Sound.{OpensFit, LosesNoRole}
 use Rattle.bank.specs.Tape.{Contents, IsIn, EachMark}
 use Rattle.array_kept.proofs.ReadyLaws.{Settles, AreStill, silent-behind, still-behind}
-use Rattle.views.proofs.MovedLaws.{grows-none, moved-same}
+use Rattle.call_entries.proofs.views_MovedLaws.{grows-none, moved-same}
 use Rattle.call_entries.proofs.LeftLaws.{TellLeft, fold-left, left-more, left-behind, keeps-left}
 use Rattle.array_kept.proofs.NowLaws.{wrote-is, visible-is}
-use Rattle.views.proofs.LackingLists.{list-moved, among-moved, row-sector}
+use Rattle.call_entries.proofs.views_LackingLists.{list-moved, among-moved, row-sector}
 use Rattle.call_entries.proofs.CallLaws.{GivesNone, gives-losses, builds-losses, losses-are, told-losses, last_end-behind, length-losses, limit-losses, values-losses, ends-losses}
 use Rattle.call_entries.proofs.StepLaws.{faults-are}
 use Rattle.array_kept.proofs.RecordLaws.{AreSilent, told-more, gone-lately}

@@ -30,18 +30,18 @@ use Rattle.flat_history.proofs.OneShapeLegal.{opening-grown, entries-keep}
 use Rattle.history_laws.proofs.OneShapeGrowing.{IsOneShapeCall}
 use Rattle.flat_history.proofs.OneShapeGone.{keep-both}
 use Rattle.flat_history.proofs.SoundLaws.{fit-before}
-use Rattle.views.specs.declared.work.Work.{Work}
-use Rattle.views.specs.Whole.{list_size}
-use Rattle.views.specs.Placed.{places_of, AreWhole, IsPlaced}
-use Rattle.shape_changes.specs.Steady.{AreUnlost, IsSafeOver, KeepsSafe, AreGoneTold, IsUncleanTold}
+use Rattle.call_entries.specs.views_the_Work.{Work}
+use Rattle.call_entries.specs.views_Whole.{list_size}
+use Rattle.call_entries.specs.views_Placed.{places_of, AreWhole, IsPlaced}
+use Rattle.call_entries.specs.shape_changes_Steady.{AreUnlost, IsSafeOver, KeepsSafe, AreGoneTold, IsUncleanTold}
 use Rattle.call_entries.specs.Losing.{losses_of}
-use Rattle.views.specs.Moving.{Grows}
-use Rattle.shape_changes.specs.Safety.{HasRoomLeft, IsRisen}
-use Rattle.shape_views.specs.Views.{Ledger}
-use Rattle.views.specs.Status.{stripes_of, left_of}
-use Rattle.views.specs.Rebuilding.{AreSparesFree, AreRebuilt, is_rebuilt, HasNoRebuilt}
-use Rattle.shape_views.specs.Regions.{DoWithout}
-use Rattle.views.specs.Lacking.{ListStands, RowsStandBelow, mended_rows}
+use Rattle.call_entries.specs.views_Moving.{Grows}
+use Rattle.call_entries.specs.shape_changes_Safety.{HasRoomLeft, IsRisen}
+use Rattle.call_entries.specs.shape_views_Views.{Ledger}
+use Rattle.call_entries.specs.views_Status.{stripes_of, left_of}
+use Rattle.call_entries.specs.views_Rebuilding.{AreSparesFree, AreRebuilt, is_rebuilt, HasNoRebuilt}
+use Rattle.call_entries.specs.shape_views_Regions.{DoWithout}
+use Rattle.call_entries.specs.views_Lacking.{ListStands, RowsStandBelow, mended_rows}
 use Rattle.array_kept.specs.Kept.{world_in, ledger_now, AreTold, AreFillsRight, AreRebuildsRight, AreSectorsWhole, IsRecorded, IsKept, IsSafe}
 use Rattle.array_kept.proofs.MadeLaws.{opening-grown as list-grown}
 use Rattle.call_entries.proofs.LeftLaws.{TellLeft, left-behind, fold-left, left-more}

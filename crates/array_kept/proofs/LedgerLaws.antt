@@ -27,19 +27,19 @@ use Rattle.flat_history.specs.OneShape.{ShapeOpening, IsOneShapeEvent, AreOneSha
 use Rattle.flat_history.proofs.OneShapeGone.{gone-or_lost, losses-gone}
 use Rattle.history_laws.proofs.OneShapeGrowing.{gone-more}
 use Rattle.array_kept.specs.Kept.{ledger_now}
-use Rattle.views.specs.declared.work.Work.{Work}
-use Rattle.views.specs.Numbers.{is_carried}
-use Rattle.shape_views.specs.Views.{Ledger, ledger_of}
-use Rattle.shape_changes.specs.Steady.{IsSafeNow, IsMoreTold, AreWritesAllowed, settled_ledger}
-use Rattle.views.specs.Whole.{list_size}
-use Rattle.views.specs.Placed.{places_of}
-use Rattle.views.proofs.Still.{length-still}
+use Rattle.call_entries.specs.views_the_Work.{Work}
+use Rattle.call_entries.specs.views_Numbers.{is_carried}
+use Rattle.call_entries.specs.shape_views_Views.{Ledger, ledger_of}
+use Rattle.call_entries.specs.shape_changes_Steady.{IsSafeNow, IsMoreTold, AreWritesAllowed, settled_ledger}
+use Rattle.call_entries.specs.views_Whole.{list_size}
+use Rattle.call_entries.specs.views_Placed.{places_of}
+use Rattle.call_entries.proofs.views_Still.{length-still}
 use Rattle.call_entries.proofs.CallLaws.{AreLossEvents, GivesNone}
-use Rattle.views.proofs.LackingLists.{row-sector}
+use Rattle.call_entries.proofs.views_LackingLists.{row-sector}
 use Rattle.call_entries.proofs.LosingLaws.{entries-both}
-use Rattle.views.proofs.MemberLaws.{without-none}
+use Rattle.call_entries.proofs.views_MemberLaws.{without-none}
 use Rattle.array_kept.proofs.NowLaws.{values-more, sectors_of-at}
-use Rattle.shape_changes.proofs.Steady.{losing-stays-safe}
+use Rattle.call_entries.proofs.shape_changes_Steady.{losing-stays-safe}
 
 -- ---- the ledger of a call
 

@@ -18,11 +18,11 @@ use Rattle.flat_history.specs.declared.events.Event.TheVariants.{Torn, Lost, Fai
 use Rattle.flat_history.specs.declared.events.LostCause.TheVariants.{Command}
 use Rattle.flat_history.specs.Plain.{entries_of}
 use Rattle.flat_history.specs.Transfers.{last_end_from}
-use Rattle.views.specs.Placed.{AreStillHeld}
+use Rattle.call_entries.specs.views_Placed.{AreStillHeld}
 use Rattle.call_entries.specs.Losing.{losses_of, failure_events}
-use Rattle.views.specs.Lacking.{AreLostSince}
+use Rattle.call_entries.specs.views_Lacking.{AreLostSince}
 use Rattle.array_kept.specs.Calls.{IsLossBy, AreLossesBy, AreLossesOf, IsEndOf, IsBehind, IsSettling, is_torn, has_torn}
-use Rattle.views.specs.Rebuilding.{Held}
+use Rattle.call_entries.specs.views_Rebuilding.{Held}
 use Rattle.call_entries.proofs.PlainLaws.{one}
 use Rattle.call_entries.proofs.LosingLaws.{entries-both, no-losses}
 use Rattle.call_entries.proofs.CallLaws.{all-losses, last_end-behind}

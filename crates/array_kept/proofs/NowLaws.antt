@@ -13,7 +13,7 @@ use Rattle.flat_history.specs.declared.events.Event.{Event}
 use Rattle.flat_history.specs.declared.events.Event.TheVariants.{Wrote}
 use Rattle.flat_history.specs.Flat.{values_after, values_of, first_values, now, covers, sector_at, length_of, length_after, limit_of, limit_after, visible_of}
 use Rattle.flat_history.specs.Plain.{entries_of}
-use Rattle.views.specs.Rows.{row_sector, IsWritten}
+use Rattle.call_entries.specs.views_Rows.{row_sector, IsWritten}
 use Rattle.call_entries.proofs.PlainLaws.{one}
 use Rattle.call_entries.proofs.CallLaws.{AreLossEvents, values-losses}
 

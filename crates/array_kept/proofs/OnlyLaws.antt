@@ -24,10 +24,10 @@ use Rattle.flat_history.proofs.OneShapeGone.{is_gone-both, never-gone}
 use Rattle.call_entries.specs.Losing.{role_losses, spare_loss, spare_losses, losses_of}
 use Rattle.call_entries.proofs.CallLaws.{AreLossEvents, losses-are, all-losses}
 use Rattle.call_entries.proofs.LosingLaws.{entries-both}
-use Rattle.views.specs.Moving.{IsMoved}
-use Rattle.views.specs.Lacking.{AreLostSince}
-use Rattle.views.specs.Rebuilding.{AreSparesFree, MayHold}
-use Rattle.views.proofs.HeldRows.{missing-moved, vacant-missing}
+use Rattle.call_entries.specs.views_Moving.{IsMoved}
+use Rattle.call_entries.specs.views_Lacking.{AreLostSince}
+use Rattle.call_entries.specs.views_Rebuilding.{AreSparesFree, MayHold}
+use Rattle.call_entries.proofs.views_HeldRows.{missing-moved, vacant-missing}
 use Rattle.array_kept.specs.Kept.{AreOnlyTold}
 
 -- whether the slot is told to be a spare, behind these entries

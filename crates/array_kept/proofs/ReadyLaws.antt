@@ -24,11 +24,11 @@ use Rattle.history_laws.proofs.NumberLaws.{safe-throughout}
 use Rattle.flat_history.proofs.SoundLaws.{stays-throughout}
 use Rattle.flat_history.proofs.OneShapeLegal.{one_shape-legal, found-in}
 use Rattle.history_laws.proofs.OneShapeGrowing.{IsOneShapeCall}
-use Rattle.views.specs.Rows.{row_sector}
-use Rattle.views.specs.Placed.{AreWhole}
-use Rattle.views.specs.declared.work.Work.{Work}
-use Rattle.views.specs.Rebuilding.{HasNoRebuilt}
-use Rattle.views.specs.Moving.{Grows}
+use Rattle.call_entries.specs.views_Rows.{row_sector}
+use Rattle.call_entries.specs.views_Placed.{AreWhole}
+use Rattle.call_entries.specs.views_the_Work.{Work}
+use Rattle.call_entries.specs.views_Rebuilding.{HasNoRebuilt}
+use Rattle.call_entries.specs.views_Moving.{Grows}
 use Rattle.array_kept.specs.Kept.{scope_in, world_in, IsReady, IsKept}
 use Rattle.flat_history.specs.Losses.{is_resync_end}
 use Rattle.flat_history.specs.Sound.{OpensFit, FillsRight, LosesNoRole}

@@ -13,7 +13,7 @@ use Rattle.flat_history.specs.Plain.{entries_of}
 use Rattle.flat_history.specs.OneShape.{is_lost, is_gone_now}
 use Rattle.flat_history.proofs.OneShapeGone.{never-gone, gone-or_lost}
 use Rattle.history_laws.proofs.OneShapeGrowing.{gone-more}
-use Rattle.views.specs.Placed.{AreWhole}
+use Rattle.call_entries.specs.views_Placed.{AreWhole}
 use Rattle.array_kept.specs.Kept.{AreTold}
 use Rattle.flat_history.specs.Sound.{LosesNoRole}
 use Rattle.call_entries.proofs.CallLaws.{GivesNone}

@@ -27,7 +27,7 @@ use Rattle.flat_history.specs.OneShape.{OneShapeAnswers}
 use Rattle.call_entries.specs.Losing.{losses_of, failure_events}
 use Rattle.md_base.specs.declared.places.Shape.{Shape}
 use Rattle.superblocks.specs.Reading.{shape_of, final_shape}
-use Rattle.views.specs.Lacking.{AreTooMany, LacksTooMany, IsUnread, IsUnwritten}
+use Rattle.call_entries.specs.views_Lacking.{AreTooMany, LacksTooMany, IsUnread, IsUnwritten}
 use Rattle.array_kept.specs.Calls.{StandsInside, IsReplied, IsRefusedFor, IsSettled, IsCausedBy, IsAnswered}
 use Rattle.call_entries.proofs.PlainLaws.{one, begins}
 use Rattle.call_entries.proofs.LosingLaws.{entries-both}

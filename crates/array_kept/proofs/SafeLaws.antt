@@ -28,19 +28,19 @@ use Rattle.flat_history.specs.Plain.{entries_of}
 use Rattle.history_laws.proofs.GrowingLaws.{calls-owe}
 use Rattle.flat_history.proofs.OneShapeGone.{losses-gone, never-gone_by}
 use Rattle.flat_history.proofs.OneShapeLegal.{opening-grown as shape-grown}
-use Rattle.shape_changes.specs.Safety.{HasLiveSlot, HasRoomLeft, IsRisen}
-use Rattle.views.specs.declared.work.Work.{Work}
-use Rattle.views.specs.Numbers.{is_carried}
+use Rattle.call_entries.specs.shape_changes_Safety.{HasLiveSlot, HasRoomLeft, IsRisen}
+use Rattle.call_entries.specs.views_the_Work.{Work}
+use Rattle.call_entries.specs.views_Numbers.{is_carried}
 use Rattle.array_kept.specs.Kept.{world_in, ledger_now, IsRecorded, IsCounted, IsSafe}
-use Rattle.shape_views.specs.Views.{Disk, Ledger, IsJudgedBy}
-use Rattle.shape_views.proofs.Judged.{views-safe}
-use Rattle.shape_changes.specs.Steady.{AreViewsRight, IsMoreTold, IsSafeNow, IsSafeOver, KeepsSafe}
+use Rattle.call_entries.specs.shape_views_Views.{Disk, Ledger, IsJudgedBy}
+use Rattle.call_entries.proofs.shape_views_Judged.{views-safe}
+use Rattle.call_entries.specs.shape_changes_Steady.{AreViewsRight, IsMoreTold, IsSafeNow, IsSafeOver, KeepsSafe}
 use Rattle.call_entries.proofs.LosingLaws.{entries-both}
 use Rattle.call_entries.proofs.CallLaws.{GivesNone}
 use Rattle.array_kept.proofs.LedgerLaws.{told_by, judged_by, told-ledger, now-ledger, none-lost-before}
 use Rattle.array_kept.proofs.MadeLaws.{made-past, made-both, made-before, length-entries, call-length, made-from, ends-by, opening-grown}
-use Rattle.views.proofs.SoundViews.{throughout-kept}
-use Rattle.shape_changes.proofs.Steady.{safe-is-seen, views-told}
+use Rattle.call_entries.proofs.views_SoundViews.{throughout-kept}
+use Rattle.call_entries.proofs.shape_changes_Steady.{safe-is-seen, views-told}
 
 -- ---- room for events
 

@@ -16,7 +16,7 @@ use Rattle.md_base.specs.declared.status.Role.TheVariants.{Whole, Recovering, Mi
 use Rattle.layout.proofs.Limits.{limited}
 use Rattle.bank.specs.Given.{Given}
 use Rattle.superblocks.specs.declared.members.Members.{Members}
-use Rattle.views.proofs.Fit.{fit-valid, force-disks}
+use Rattle.call_entries.proofs.views_Fit.{fit-valid, force-disks}
 use Rattle.superblocks.specs.Reading.{shape_of, role_state, holder}
 use Rattle.superblocks.specs.Reads.{has_spare}
 use Rattle.superblock_reads.proofs.SaidSlots.{has-slots_below}
@@ -29,15 +29,15 @@ use Rattle.flat_history.specs.Fits.{is_lost_event}
 use Rattle.flat_history.specs.Plain.{entries_of}
 use Rattle.flat_history.specs.declared.events.Event.TheVariants.{Lost, SpareLost}
 use Rattle.flat_history.specs.declared.events.LostCause.TheVariants.{Fault}
-use Rattle.views.specs.declared.work.Work.{Work}
-use Rattle.views.specs.Placed.{is_vacant}
-use Rattle.views.specs.Moving.{IsMoved}
+use Rattle.call_entries.specs.views_the_Work.{Work}
+use Rattle.call_entries.specs.views_Placed.{is_vacant}
+use Rattle.call_entries.specs.views_Moving.{IsMoved}
 use Rattle.call_entries.specs.Losing.{role_loss, role_losses, spare_loss, spare_losses, losses_of}
-use Rattle.views.specs.Lacking.{AreLostSince}
-use Rattle.views.specs.Status.{stripes_of, rebuilt_of, vacant_count, spare_count, resync_left, role_left, recovery_left, left_of}
-use Rattle.views.specs.Rebuilding.{with_state, with_recovering, with_whole}
+use Rattle.call_entries.specs.views_Lacking.{AreLostSince}
+use Rattle.call_entries.specs.views_Status.{stripes_of, rebuilt_of, vacant_count, spare_count, resync_left, role_left, recovery_left, left_of}
+use Rattle.call_entries.specs.views_Rebuilding.{with_state, with_recovering, with_whole}
 use Rattle.array_kept.specs.Calls.{AreStepsFewer, AreStepsKept, with_rebuilt}
-use Rattle.views.proofs.Counts.{count-implied}
+use Rattle.call_entries.proofs.views_Counts.{count-implied}
 
 -- ---- sums and counts
 

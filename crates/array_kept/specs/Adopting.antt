@@ -26,16 +26,16 @@ use Rattle.flat_history.specs.Losses.{was_dirty}
 use Rattle.flat_history.specs.Epochs.{OpensAlike}
 use Rattle.flat_history.specs.Plain.{entries_of}
 use Rattle.flat_history.specs.OneShape.{opening_in, is_absent_at_first}
-use Rattle.shape_changes.specs.Held.{IsHeldBy}
-use Rattle.views.specs.Whole.{list_size}
-use Rattle.views.specs.Placed.{places_of, IsPlaced}
-use Rattle.shape_changes.specs.Steady.{AreUnlost}
-use Rattle.views.specs.Lacking.{ListStands, RowsStand, AreHoldersFlushed}
+use Rattle.call_entries.specs.shape_changes_Held.{IsHeldBy}
+use Rattle.call_entries.specs.views_Whole.{list_size}
+use Rattle.call_entries.specs.views_Placed.{places_of, IsPlaced}
+use Rattle.call_entries.specs.shape_changes_Steady.{AreUnlost}
+use Rattle.call_entries.specs.views_Lacking.{ListStands, RowsStand, AreHoldersFlushed}
 use Rattle.array_kept.specs.Kept.{world_in, AreSectorsWhole, AreUsed}
 use Rattle.flat_history.specs.Opened.{OpensGood}
-use Rattle.views.specs.Rebuilding.{AreSparesFree}
-use Rattle.views.specs.declared.work.Work.{Work}
-use Rattle.views.specs.Parts.{Parts}
+use Rattle.call_entries.specs.views_Rebuilding.{AreSparesFree}
+use Rattle.call_entries.specs.views_the_Work.{Work}
+use Rattle.call_entries.specs.views_Parts.{Parts}
 
 -- the caller of what an opening enters
 abbrev pub opener : Who

@@ -29,15 +29,15 @@ use Rattle.flat_history.specs.Fits.{is_lost_event}
 use Rattle.flat_history.specs.Legal.{disturbs}
 use Rattle.flat_history.specs.Plain.{entries_of}
 use Rattle.flat_history.specs.OneShape.{is_gone_now, EndsIdleSteps, OneShapeFits}
-use Rattle.views.specs.Placed.{is_vacant}
+use Rattle.call_entries.specs.views_Placed.{is_vacant}
 use Rattle.call_entries.specs.Losing.{losses_of}
-use Rattle.shape_views.specs.Regions.{DoWithout}
-use Rattle.views.specs.Lacking.{AreTooMany, IsNotResynced}
-use Rattle.views.specs.Parts.{Parts}
-use Rattle.views.specs.declared.work.Work.{Work}
-use Rattle.views.specs.Status.{stripes_of, rebuilt_of, left_of}
-use Rattle.views.specs.Numbers.{is_carried, free_number}
-use Rattle.views.specs.Rebuilding.{IfOwn, Held, MayHold}
+use Rattle.call_entries.specs.shape_views_Regions.{DoWithout}
+use Rattle.call_entries.specs.views_Lacking.{AreTooMany, IsNotResynced}
+use Rattle.call_entries.specs.views_Parts.{Parts}
+use Rattle.call_entries.specs.views_the_Work.{Work}
+use Rattle.call_entries.specs.views_Status.{stripes_of, rebuilt_of, left_of}
+use Rattle.call_entries.specs.views_Numbers.{is_carried, free_number}
+use Rattle.call_entries.specs.views_Rebuilding.{IfOwn, Held, MayHold}
 use Rattle.array_kept.specs.Kept.{scope_in, world_in}
 
 -- ---- what a call enters

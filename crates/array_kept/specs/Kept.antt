@@ -19,17 +19,17 @@ use Rattle.flat_history.specs.Sound.{FillsRight, LosesNoRole, OpensFit, LeavesSo
 use Rattle.flat_history.specs.Epochs.{HasRoomForEvents, OpensAlike}
 use Rattle.flat_history.specs.Growing.{EndBy, IsSafeThroughout}
 use Rattle.flat_history.specs.OneShape.{opening_in, is_gone_now, is_spare_now, is_unsettled, IsOneShapeLegal, is_used_now}
-use Rattle.views.specs.Whole.{list_size}
-use Rattle.shape_views.specs.Views.{Ledger}
-use Rattle.shape_changes.specs.Steady.{IsSafeOver, AreUnlost}
-use Rattle.views.specs.Placed.{places_of, AreWhole, IsPlaced}
-use Rattle.shape_changes.specs.Safety.{HasLiveSlot}
-use Rattle.views.specs.declared.work.Work.{Work}
-use Rattle.views.specs.Status.{stripes_of, left_of}
-use Rattle.views.specs.Numbers.{is_carried}
-use Rattle.views.specs.Rebuilding.{AreSparesFree, AreRebuilt, HasNoRebuilt, MayHold}
-use Rattle.shape_views.specs.Regions.{DoWithout}
-use Rattle.views.specs.Lacking.{ListStands, RowsStandBelow, mended_rows}
+use Rattle.call_entries.specs.views_Whole.{list_size}
+use Rattle.call_entries.specs.shape_views_Views.{Ledger}
+use Rattle.call_entries.specs.shape_changes_Steady.{IsSafeOver, AreUnlost}
+use Rattle.call_entries.specs.views_Placed.{places_of, AreWhole, IsPlaced}
+use Rattle.call_entries.specs.shape_changes_Safety.{HasLiveSlot}
+use Rattle.call_entries.specs.views_the_Work.{Work}
+use Rattle.call_entries.specs.views_Status.{stripes_of, left_of}
+use Rattle.call_entries.specs.views_Numbers.{is_carried}
+use Rattle.call_entries.specs.views_Rebuilding.{AreSparesFree, AreRebuilt, HasNoRebuilt, MayHold}
+use Rattle.call_entries.specs.shape_views_Regions.{DoWithout}
+use Rattle.call_entries.specs.views_Lacking.{ListStands, RowsStandBelow, mended_rows}
 
 -- these slots of a bank, looked at for an array
 abbrev pub scope_in : Given → List ℕ → ℕ → Option ℕ → Scope

@@ -1,3 +1,22 @@
 pub mod Kept
 pub mod Calls
 pub mod Adopting
+pub use Rattle.call_entries.specs.Losing as call_entries_Losing
+pub use Rattle.call_entries.specs.views_Rebuilding
+pub use Rattle.call_entries.specs.views_Lacking
+pub use Rattle.call_entries.specs.views_Placed
+pub use Rattle.call_entries.specs.views_Numbers
+pub use Rattle.call_entries.specs.views_the_Work
+pub use Rattle.call_entries.specs.views_Whole
+pub use Rattle.call_entries.specs.views_Flushing
+pub use Rattle.call_entries.specs.views_Moving
+pub use Rattle.call_entries.specs.views_Status
+pub use Rattle.call_entries.specs.views_Rows
+pub use Rattle.call_entries.specs.shape_changes_Marking
+pub use Rattle.call_entries.specs.shape_changes_Safety
+pub use Rattle.call_entries.specs.shape_changes_Steady
+pub use Rattle.call_entries.specs.shape_changes_Carried
+pub use Rattle.call_entries.specs.shape_views_Regions
+pub use Rattle.call_entries.specs.shape_views_Views
+pub use Rattle.call_entries.specs.shape_views_Windows
+pub use Rattle.call_entries.specs.shape_changes_Held

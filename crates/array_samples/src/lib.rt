@@ -1,8 +1,8 @@
 //! Banks, and what is made and found in them, for tests.
 #![tactic(auto)]
 
-pub use assemble;
-use assemble::{CreateSpec, Opened, find, make};
+pub use assemble::{CreateSpec, Opened, refusal_of_create};
+use assemble::{find, make};
 use bank::{Bank, MemoryBank};
 use md_base::{Fault, Shape};
 use sb1::{Sb, sectors_of};

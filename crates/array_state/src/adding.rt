@@ -4,7 +4,7 @@ ghost use Rattle.std.specs.Prelude.{◌≡◌, ◌+◌, ◌<◌, ◌≤◌, ℕ,
 ghost use Rattle.md_base.specs.declared.answers.Refusal.{Refusal};
 ghost use Rattle.superblocks.specs.Reading.{entry_of};
 ghost use Rattle.views.specs.Placed.{IsPlaced};
-ghost use Rattle.shape_views.specs.Regions.{DoWithout};
+ghost use Rattle.safe_additions.specs.shape_views_Regions.{DoWithout};
 ghost use Rattle.views.specs.Numbers.{IsSpareSb};
 ghost use Rattle.calls_kept.specs.array_kept_Calls.{IsTaken, IsFirstOffset, IsUnaddable};
 
@@ -13,7 +13,7 @@ use crate::refusing::refusal_of;
 use bank::Bank;
 use md_base::Refusal;
 use safe_additions::device::spare_sb;
-use safe_additions::safe_updates::roles::is_spare;
+use safe_additions::is_spare;
 use sb1::Sb;
 use superblocks::Members;
 

@@ -10,7 +10,7 @@ ghost use Rattle.views.specs.Placed.{places_of, is_vacant};
 ghost use Rattle.views.specs.Status.{stripes_of, spare_count, recovery_left, left_of};
 
 use md_base::{NoMemory, Role, RoleList, SlotList};
-use safe_additions::safe_updates::roles::{is_spare, is_vacant, list_length, shape_in};
+use safe_additions::{is_spare, is_vacant, list_length, shape_in};
 use safe_rows::mending::stripes;
 use std::alloc::Global;
 use superblocks::Members;

@@ -9,7 +9,7 @@ ghost use Rattle.calls_kept.specs.array_kept_Calls.{HasRole, IsFirstOffset};
 
 use md_base::Role;
 use safe_additions::adding::data_offset;
-use safe_additions::safe_updates::roles::shape_in;
+use safe_additions::shape_in;
 use superblocks::Members;
 
 /// Whether the slot holds a role.

@@ -9,4 +9,6 @@ pub mod refusing;
 pub mod room;
 pub mod work;
 
-pub use safe_additions;
+pub use safe_additions::adding::{add_member, look_at};
+pub use safe_additions::device::free_number;
+pub use safe_rows::mending::stripes;

@@ -14,8 +14,7 @@ ghost use Rattle.calls_kept.specs.array_kept_Calls.{IsRefusalOf, IsUnmendable};
 
 use crate::asking::visible;
 use md_base::{Refusal, Shape};
-use safe_additions::safe_updates::refusing::{too_many, unread, unwritten};
-use safe_additions::safe_updates::roles::{list_length, shape_in};
+use safe_additions::{list_length, shape_in, too_many, unread, unwritten};
 use safe_rows::mending::mended_rows;
 use superblocks::Members;
 

@@ -12,7 +12,7 @@ ghost use Rattle.calls_kept.specs.array_kept_Adopting.{found_stripes, is_number_
 ghost use Rattle.calls_kept.specs.array_kept_Calls.{with_rebuilt};
 
 use md_base::Role;
-use safe_additions::safe_updates::roles::shape_in;
+use safe_additions::shape_in;
 use superblocks::Members;
 use superblocks::says::is_clean;
 use views::Work;

@@ -20,15 +20,15 @@ use Rattle.flat_history.specs.Opened.{IsSound, OpensSound, OpensGood}
 use Rattle.flat_history.specs.OneShape.{opening_in, is_absent_at_first, is_used_in}
 use Rattle.flat_history.specs.Epochs.{OpensAlike}
 use Rattle.flat_history.proofs.GivenLaws.{holder-given}
-use Rattle.views.specs.Whole.{Places, list_size}
-use Rattle.views.specs.Placed.{places_of, IsPlaced}
-use Rattle.shape_changes.specs.Steady.{AreUnlost}
-use Rattle.shape_changes.specs.Held.{IsHeldBy}
-use Rattle.views.specs.Lacking.{DoesWithout, ListStands, RowsStand, AreHoldersFlushed}
+use Rattle.safe_additions.specs.views_Whole.{Places, list_size}
+use Rattle.safe_additions.specs.views_Placed.{places_of, IsPlaced}
+use Rattle.safe_additions.specs.shape_changes_Steady.{AreUnlost}
+use Rattle.safe_additions.specs.shape_changes_Held.{IsHeldBy}
+use Rattle.safe_additions.specs.views_Lacking.{DoesWithout, ListStands, RowsStand, AreHoldersFlushed}
 use Rattle.array_kept.specs.Kept.{world_in, AreSectorsWhole, AreUsed}
-use Rattle.views.specs.Rebuilding.{AreSparesFree, MayHold}
-use Rattle.views.proofs.Fit.{few as few-placed}
-use Rattle.views.proofs.Still.{count-still}
+use Rattle.safe_additions.specs.views_Rebuilding.{AreSparesFree, MayHold}
+use Rattle.safe_additions.proofs.views_Fit.{few as few-placed}
+use Rattle.safe_additions.proofs.views_Still.{count-still}
 use Rattle.array_kept.specs.Adopting.{IsAdoptable}
 use Rattle.assemble.specs.declared.opening.Opened.{Opened}
 use Rattle.assemble.specs.Opening.{scope_of, IsOpened, AreFlushed}

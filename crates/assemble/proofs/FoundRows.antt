@@ -42,10 +42,10 @@ use Rattle.flat_history.specs.Opened.{HasGoodRows}
 use Rattle.flat_history.specs.Reshaped.{IsGoodRow}
 use Rattle.flat_history.specs.Stands.{stands, shape_for, covers, placed_sector, held_sector as found_sector, held_row as found_row, standing_sector as listed_sector}
 use Rattle.flat_history.proofs.SameLaws.{stands-is}
-use Rattle.views.specs.Placed.{places_of, IsPlaced}
-use Rattle.views.specs.Whole.{list_size}
-use Rattle.views.specs.Lacking.{ListStands, RowsStand}
-use Rattle.views.proofs.Fit.{valid, multiple}
+use Rattle.safe_additions.specs.views_Placed.{places_of, IsPlaced}
+use Rattle.safe_additions.specs.views_Whole.{list_size}
+use Rattle.safe_additions.specs.views_Lacking.{ListStands, RowsStand}
+use Rattle.safe_additions.proofs.views_Fit.{valid, multiple}
 use Rattle.array_kept.specs.Kept.{AreSectorsWhole}
 
 -- a list that nothing happened to

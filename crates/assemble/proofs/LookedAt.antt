@@ -19,8 +19,8 @@ use Rattle.superblocks.specs.Writing.{AreWritable}
 use Rattle.superblocks.specs.Found.{AreInSectors}
 use Rattle.election.proofs.LostSlots.{has-all_but}
 use Rattle.assemble.specs.Opening.{scope_of, AreGiven, AreFlushed}
-use Rattle.views.specs.Flushing.{AreTried, OnlyFlushesAdded, OnlyItsSlotsFail}
-use Rattle.views.proofs.Flushed.{contents-added}
+use Rattle.safe_additions.specs.views_Flushing.{AreTried, OnlyFlushesAdded, OnlyItsSlotsFail}
+use Rattle.safe_additions.proofs.views_Flushed.{contents-added}
 
 is_below : (s n : ℕ) → s < n → nat_lt s n ≡ true
 is_below s n h = grind (arith, nat_tests)

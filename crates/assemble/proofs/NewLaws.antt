@@ -29,16 +29,16 @@ use Rattle.superblocks.specs.Found.{AreInSectors}
 use Rattle.row_io.specs.Rows.{reading_of as members_reading}
 use Rattle.flat_history.specs.Stands.{verdict}
 use Rattle.assemble.specs.declared.spec.CreateSpec.{CreateSpec}
-use Rattle.views.specs.Placed.{IsPlaced}
+use Rattle.safe_additions.specs.views_Placed.{IsPlaced}
 use Rattle.assemble.specs.Opening.{scope_of, IsOpened, AreGiven}
 use Rattle.assemble.specs.Creating.{HasRoom, IsLastSlot, rows_end}
 use Rattle.assemble.specs.Filling.{IsMade, AreFilled, AreStored, AreBelow, OnlyBelow, AreSlotsDone, OnlyFirstFail}
 use Rattle.assemble.specs.Made.{is_used, used_slot, IsNew}
 use Rattle.bank.specs.declared.bank.Operation.{Operation}
 use Rattle.bank.specs.declared.bank.Operation.TheVariants.{Write, Flush}
-use Rattle.views.specs.Flushing.{OnlyFlushesAdded, OnlyItsSlotsFail}
-use Rattle.views.proofs.Flushed.{contents-added}
-use Rattle.views.proofs.Still.{count-still}
+use Rattle.safe_additions.specs.views_Flushing.{OnlyFlushesAdded, OnlyItsSlotsFail}
+use Rattle.safe_additions.proofs.views_Flushed.{contents-added}
+use Rattle.safe_additions.proofs.views_Still.{count-still}
 use Rattle.assemble.proofs.FillLaws.{present-same}
 use Rattle.assemble.proofs.CreateLaws.{fewer, not-backup, least_below-fails}
 use Rattle.assemble.proofs.Judged.{verdict-for, still_none}

@@ -11,9 +11,9 @@ use Rattle.superblocks.specs.Reading.{Scope, Reading}
 use Rattle.flat_history.specs.Opened.{IsSound}
 use Rattle.flat_history.specs.Reshaped.{IsGoodRow}
 use Rattle.flat_history.specs.Stands.{held_sector, held_row}
-use Rattle.views.specs.Rows.{AreGoodRows}
-use Rattle.views.specs.Whole.{Places, AreFit, in_row, list_size, IsReadWhole}
-use Rattle.views.proofs.WholeLaws.{length-is, shape-is, held-is}
+use Rattle.safe_additions.specs.views_Rows.{AreGoodRows}
+use Rattle.safe_additions.specs.views_Whole.{Places, AreFit, in_row, list_size, IsReadWhole}
+use Rattle.safe_additions.proofs.views_WholeLaws.{length-is, shape-is, held-is}
 use Rattle.assemble.proofs.MadeLaws.{same-tabulated}
 
 module _ (scope : Scope) (p : Places) (fit : AreFit p) (c : Contents) (r : Reading) (whole : IsReadWhole scope p r) (good : AreGoodRows p c) where

@@ -29,10 +29,10 @@ use Rattle.superblocks.specs.Election.{reading_in}
 use Rattle.row_io.specs.Rows.{reading_of}
 use Rattle.flat_history.specs.Stands.{verdict, refusal_of}
 use Rattle.assemble.specs.declared.spec.CreateSpec.{CreateSpec}
-use Rattle.views.specs.Whole.{Places, AreFit, in_row, IsReadWhole}
-use Rattle.views.specs.Placed.{places_of}
-use Rattle.views.proofs.Fit.{valid, multiple, short}
-use Rattle.views.proofs.WholeLaws.{stands-length, stands-at}
+use Rattle.safe_additions.specs.views_Whole.{Places, AreFit, in_row, IsReadWhole}
+use Rattle.safe_additions.specs.views_Placed.{places_of}
+use Rattle.safe_additions.proofs.views_Fit.{valid, multiple, short}
+use Rattle.safe_additions.proofs.views_WholeLaws.{stands-length, stands-at}
 use Rattle.assemble.specs.declared.opening.Opened.{Opened}
 use Rattle.assemble.specs.Opening.{scope_of, IsOpened}
 use Rattle.assemble.specs.Filling.{AreZeros}

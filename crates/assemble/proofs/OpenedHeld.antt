@@ -27,8 +27,8 @@ use Rattle.superblock_reads.proofs.SaidSlots.{read-parts}
 use Rattle.superblock_reads.proofs.FoundHeld.{found-of, found-held, found-exact, found-said, live-seen}
 use Rattle.superblock_reads.proofs.StageReads.{held-reads}
 use Rattle.flat_history.specs.Stands.{verdict, refusal_of, backup_absent}
-use Rattle.shape_changes.specs.Marking.{marking}
-use Rattle.shape_changes.specs.Held.{IsHeldBy}
+use Rattle.safe_additions.specs.shape_changes_Marking.{marking}
+use Rattle.safe_additions.specs.shape_changes_Held.{IsHeldBy}
 use Rattle.array_kept.specs.Adopting.{AreNumbersKept}
 use Rattle.assemble.specs.declared.opening.Opened.{Opened}
 use Rattle.assemble.specs.Opening.{scope_of, IsOpened, AreFlushed}

@@ -27,9 +27,9 @@ use Rattle.superblock_reads.proofs.Accepted.{IsAccepted, is-accepted}
 use Rattle.superblocks.proofs.ValidFields.{few-roles}
 use Rattle.row_io.specs.Rows.{reading_of}
 use Rattle.row_io.proofs.Apart.{readings-are-apart}
-use Rattle.views.specs.Placed.{IsPlaced}
-use Rattle.shape_changes.specs.Steady.{AreUnlost}
-use Rattle.views.specs.Rebuilding.{AreSparesFree}
+use Rattle.safe_additions.specs.views_Placed.{IsPlaced}
+use Rattle.safe_additions.specs.shape_changes_Steady.{AreUnlost}
+use Rattle.safe_additions.specs.views_Rebuilding.{AreSparesFree}
 use Rattle.assemble.specs.Opening.{AreOfGiven, AreCounted}
 use Rattle.assemble.proofs.Judged.{elected-valid, reading-made}
 use Rattle.assemble.proofs.StillFit.{still-fit}

@@ -25,13 +25,13 @@ use Rattle.flat_history.specs.World.{World, opening_list, reading_at}
 use Rattle.flat_history.specs.Epochs.{OpensAlike}
 use Rattle.flat_history.specs.Opened.{IsSound, OpensSound}
 use Rattle.assemble.specs.declared.spec.CreateSpec.{CreateSpec}
-use Rattle.views.specs.Parts.{Parts}
-use Rattle.views.specs.Placed.{places_of, AreWhole}
-use Rattle.shape_changes.specs.Steady.{AreUnlost}
-use Rattle.shape_views.specs.Regions.{DoWithout}
-use Rattle.views.proofs.Fit.{valid, multiple, short}
-use Rattle.views.proofs.Still.{count-still}
-use Rattle.views.specs.Rebuilding.{AreSparesFree}
+use Rattle.safe_additions.specs.views_Parts.{Parts}
+use Rattle.safe_additions.specs.views_Placed.{places_of, AreWhole}
+use Rattle.safe_additions.specs.shape_changes_Steady.{AreUnlost}
+use Rattle.safe_additions.specs.shape_views_Regions.{DoWithout}
+use Rattle.safe_additions.proofs.views_Fit.{valid, multiple, short}
+use Rattle.safe_additions.proofs.views_Still.{count-still}
+use Rattle.safe_additions.specs.views_Rebuilding.{AreSparesFree}
 use Rattle.array_kept.specs.Kept.{world_in, scope_in}
 use Rattle.array_kept.specs.Calls.{world_for}
 use Rattle.array_kept.specs.Adopting.{opener, found_loss, absent_losses, found_losses, found_work, IsAdoptable, IsAdopted}

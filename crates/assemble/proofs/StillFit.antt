@@ -7,8 +7,8 @@ use Rattle.sb1.specs.declared.sb.Sb.{Sb}
 use Rattle.geometry.specs.Geometry.{is_size}
 use Rattle.superblocks.specs.Reading.{is_reshaping, shape_of, final_shape, list_length}
 use Rattle.superblocks.specs.Verdict.{unit_of}
-use Rattle.shape_views.specs.Regions.{AreShapesFit}
-use Rattle.shape_views.proofs.Stands.{final-still}
+use Rattle.safe_additions.specs.shape_views_Regions.{AreShapesFit}
+use Rattle.safe_additions.proofs.shape_views_Stands.{final-still}
 
 module _ (newest : Sb) (still : is_reshaping newest ≡ false) (valid : is_valid_shape (shape_of newest) ≡ true) (size : is_size newest.size (shape_of newest).chunk ≡ true) where
   final : final_shape newest ≡ shape_of newest

@@ -10,7 +10,7 @@ use Rattle.bank.specs.Given.{Given, IsFaulted}
 use Rattle.bank.specs.Tape.{Contents}
 use Rattle.superblocks.specs.Reading.{Scope, seen_superblock, of_array, shape_of, is_clean}
 use Rattle.assemble.specs.declared.spec.CreateSpec.{CreateSpec}
-use Rattle.views.specs.Placed.{IsPlaced}
+use Rattle.safe_additions.specs.views_Placed.{IsPlaced}
 use Rattle.assemble.specs.declared.opening.Opened.{Opened}
 use Rattle.assemble.specs.Opening.{scope_of, AreGiven}
 use Rattle.assemble.specs.Creating.{create_refusal}

@@ -8,9 +8,9 @@ use Rattle.superblocks.specs.Reading.{Scope}
 use Rattle.superblocks.specs.Election.{reading_in}
 use Rattle.flat_history.specs.Stands.{stands}
 use Rattle.assemble.specs.declared.spec.CreateSpec.{CreateSpec}
-use Rattle.views.specs.Whole.{Places, list_size, IsReadWhole}
-use Rattle.views.specs.Rows.{AreGoodRows}
-use Rattle.views.specs.Placed.{places_of}
+use Rattle.safe_additions.specs.views_Whole.{Places, list_size, IsReadWhole}
+use Rattle.safe_additions.specs.views_Rows.{AreGoodRows}
+use Rattle.safe_additions.specs.views_Placed.{places_of}
 use Rattle.assemble.specs.declared.opening.Opened.{Opened}
 use Rattle.assemble.specs.Opening.{scope_of, IsOpened}
 use Rattle.assemble.specs.Filling.{AreZeros}

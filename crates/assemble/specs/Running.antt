@@ -9,9 +9,9 @@ use Rattle.row_io.specs.Rows.{reading_of}
 use Rattle.flat_history.specs.World.{opening_list}
 use Rattle.flat_history.specs.Epochs.{OpensAlike}
 use Rattle.flat_history.specs.Opened.{OpensSound}
-use Rattle.views.specs.Parts.{Parts}
-use Rattle.views.specs.Placed.{AreWhole}
-use Rattle.shape_views.specs.Regions.{DoWithout}
+use Rattle.safe_additions.specs.views_Parts.{Parts}
+use Rattle.safe_additions.specs.views_Placed.{AreWhole}
+use Rattle.safe_additions.specs.shape_views_Regions.{DoWithout}
 use Rattle.array_kept.specs.Calls.{world_for}
 use Rattle.array_kept.specs.Adopting.{opener, found_losses, found_work}
 use Rattle.flat_history.specs.Plain.{entries_of}

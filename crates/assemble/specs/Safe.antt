@@ -8,7 +8,7 @@ use Rattle.superblocks.specs.Found.{AreLikeNewest, AreInSectors}
 use Rattle.flat_history.specs.World.{World}
 use Rattle.flat_history.specs.CrashSafe.{IsSafeAt}
 use Rattle.flat_history.specs.Settled.{IsKeptAt}
-use Rattle.shape_changes.specs.Held.{IsHeldBy}
+use Rattle.safe_additions.specs.shape_changes_Held.{IsHeldBy}
 use Rattle.assemble.specs.declared.opening.Opened.{Opened}
 use Rattle.assemble.specs.Opening.{scope_of, IsOpened, AreFlushed}
 

@@ -11,7 +11,7 @@ ghost use Rattle.bank.specs.Given.{IsFaulted};
 ghost use Rattle.bank.specs.Tape.{contents};
 ghost use Rattle.superblocks.specs.Writing.{AreWritable};
 ghost use Rattle.superblocks.specs.Found.{AreInSectors};
-ghost use Rattle.views.specs.Flushing.{OnlyFlushesAdded, OnlyItsSlotsFail};
+ghost use Rattle.safe_additions.specs.views_Flushing.{OnlyFlushesAdded, OnlyItsSlotsFail};
 ghost use Rattle.row_io.specs.Rows.{present};
 ghost use Rattle.assemble.specs.Opening.{scope_of, AreGiven, AreFlushed, IsOpened};
 ghost use Rattle.assemble.specs.Creating.{IsLastSlot, HasRoom, create_refusal};

@@ -8,7 +8,7 @@ ghost use Rattle.superblocks.specs.Writing.{AreWritable};
 ghost use Rattle.superblocks.specs.Found.{AreInSectors};
 ghost use Rattle.assemble.specs.Looking.{lengths_scope, IsJudged};
 ghost use Rattle.assemble.specs.Opening.{IsFound, IsAside, HasFoundNone, AreGiven, AreOfGiven, AreCounted, AreFlushed};
-ghost use Rattle.views.specs.Flushing.{OnlyFlushesAdded, OnlyItsSlotsFail};
+ghost use Rattle.safe_additions.specs.views_Flushing.{OnlyFlushesAdded, OnlyItsSlotsFail};
 
 use crate::reshape::backup_refusal;
 use crate::slots::{Found, look};

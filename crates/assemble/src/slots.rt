@@ -8,11 +8,11 @@ ghost use Rattle.superblocks.specs.Election.{seen_superblocks};
 ghost use Rattle.superblocks.specs.Writing.{AreWritable};
 ghost use Rattle.superblocks.specs.Found.{AreInSectors};
 ghost use Rattle.assemble.specs.Opening.{scope_of, AreGiven, AreFlushed};
-ghost use Rattle.views.specs.Flushing.{OnlyFlushesAdded, OnlyItsSlotsFail};
+ghost use Rattle.safe_additions.specs.views_Flushing.{OnlyFlushesAdded, OnlyItsSlotsFail};
 
 use bank::Bank;
 use election::reads::read_superblocks;
-use safe_additions::safe_updates::flush_slots;
+use safe_additions::flush_slots;
 use std::alloc::{AllocError, Global};
 use superblocks::SbList;
 use superblocks::sets::{contains, with};

@@ -3,3 +3,31 @@ pub mod LosingLaws
 pub mod CallLaws
 pub mod LeftLaws
 pub mod StepLaws
+pub use Rattle.views.proofs.HeldRows as views_HeldRows
+pub use Rattle.views.proofs.LackingLaws as views_LackingLaws
+pub use Rattle.views.proofs.Fit as views_Fit
+pub use Rattle.views.proofs.Still as views_Still
+pub use Rattle.views.proofs.LackingWrites as views_LackingWrites
+pub use Rattle.views.proofs.MovedLaws as views_MovedLaws
+pub use Rattle.views.proofs.LackingLists as views_LackingLists
+pub use Rattle.views.proofs.MemberLaws as views_MemberLaws
+pub use Rattle.views.proofs.SoundViews as views_SoundViews
+pub use Rattle.views.proofs.Counts as views_Counts
+pub use Rattle.views.proofs.shape_changes_Steady
+pub use Rattle.views.proofs.shape_views_Judged
+pub use Rattle.views.proofs.LiveLeft as views_LiveLeft
+pub use Rattle.views.proofs.Searching as views_Searching
+pub use Rattle.views.proofs.AddedRows as views_AddedRows
+pub use Rattle.views.proofs.Flushed as views_Flushed
+pub use Rattle.views.proofs.MarkedSafe as views_MarkedSafe
+pub use Rattle.views.proofs.SafeStretch as views_SafeStretch
+pub use Rattle.views.proofs.AddedMembers as views_AddedMembers
+pub use Rattle.views.proofs.MarkLaws as views_MarkLaws
+pub use Rattle.views.proofs.GivenMembers as views_GivenMembers
+pub use Rattle.views.proofs.Stripes as views_Stripes
+pub use Rattle.views.proofs.FilledParts as views_FilledParts
+pub use Rattle.views.proofs.PutLists as views_PutLists
+pub use Rattle.views.proofs.shape_changes_Since
+pub use Rattle.views.proofs.shape_changes_Without
+pub use Rattle.views.proofs.shape_views_Stands
+pub use Rattle.views.proofs.shape_views_Alike

@@ -24,9 +24,9 @@ use Rattle.flat_history.specs.Plain.{loses_role, entries_of}
 use Rattle.flat_history.specs.OneShape.{ShapeOpening, is_lost, is_gone_now, IsOneShapeLegal, KeepShape, is_spare_now}
 use Rattle.flat_history.proofs.OneShapeGone.{gone-lost}
 use Rattle.history_laws.proofs.OneShapeGrowing.{AreMissing, loss_events, found-legal, call-ends, entries-both}
-use Rattle.views.specs.Rebuilding.{HasNoRebuilt}
+use Rattle.array_kept.specs.views_Rebuilding.{HasNoRebuilt}
 use Rattle.array_kept.specs.Adopting.{opener, found_loss, absent_loss, absent_losses}
-use Rattle.call_entries.proofs.CallLaws.{GivesNone}
+use Rattle.array_kept.proofs.call_entries_CallLaws.{GivesNone}
 use Rattle.array_kept.proofs.NowLaws.{now-quiet}
 use Rattle.array_kept.proofs.OnlyLaws.{either, gone-or}
 

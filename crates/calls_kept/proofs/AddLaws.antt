@@ -19,13 +19,13 @@ use Rattle.superblocks.specs.Update.{own_in}
 use Rattle.superblocks.specs.Reading.{Scope, is_seen, is_backup, shape_of, role_state, holder, data_offset_of, entry_of}
 use Rattle.row_io.specs.Rows.{reading_of}
 use Rattle.array_kept.specs.Calls.{IsTaken, IsFirstOffset, IsUnaddable, IsAddedAs, IsReplied, IsRefusedFor}
-use Rattle.views.specs.Rebuilding.{Held}
-use Rattle.views.specs.Lacking.{AreTooMany}
-use Rattle.views.specs.Placed.{is_vacant, IsPlaced}
-use Rattle.views.specs.Numbers.{is_carried, free_number, spare_sb, IsSpareSb, IsOfScope, AreSecondEntries}
+use Rattle.array_kept.specs.views_Rebuilding.{Held}
+use Rattle.array_kept.specs.views_Lacking.{AreTooMany}
+use Rattle.array_kept.specs.views_Placed.{is_vacant, IsPlaced}
+use Rattle.array_kept.specs.views_Numbers.{is_carried, free_number, spare_sb, IsSpareSb, IsOfScope, AreSecondEntries}
 use Rattle.array_kept.specs.Kept.{scope_in}
-use Rattle.views.specs.declared.work.Work.{Work}
-use Rattle.views.specs.Rebuilding.{IfOwn}
+use Rattle.array_kept.specs.views_the_Work.{Work}
+use Rattle.array_kept.specs.views_Rebuilding.{IfOwn}
 use Rattle.flat_history.specs.declared.events.Entry.{Entry}
 use Rattle.flat_history.specs.declared.events.Event.{Event}
 use Rattle.flat_history.specs.declared.events.Event.TheVariants.{Added, Refused}
@@ -33,14 +33,14 @@ use Rattle.flat_history.specs.declared.events.Request.TheVariants.{Add as AsksAd
 use Rattle.flat_history.specs.Flat.{next_number}
 use Rattle.flat_history.specs.OneShape.{OneShapeAnswers}
 use Rattle.flat_history.specs.Plain.{entries_of}
-use Rattle.call_entries.specs.Losing.{losses_of}
-use Rattle.call_entries.proofs.CallLaws.{AreLossEvents, losses-are, torn-losses}
+use Rattle.array_kept.specs.call_entries_Losing.{losses_of}
+use Rattle.array_kept.proofs.call_entries_CallLaws.{AreLossEvents, losses-are, torn-losses}
 use Rattle.array_kept.proofs.ReplyLaws.{inside-losses, none-inside, replied}
-use Rattle.views.proofs.LiveLeft.{some-held}
-use Rattle.views.proofs.Searching.{least-found, both-parts}
-use Rattle.shape_views.specs.Regions.{DoWithout}
-use Rattle.views.proofs.Fit.{valid}
-use Rattle.views.proofs.LackingLaws.{does-without, never-both}
+use Rattle.array_kept.proofs.views_LiveLeft.{some-held}
+use Rattle.array_kept.proofs.views_Searching.{least-found, both-parts}
+use Rattle.array_kept.specs.shape_views_Regions.{DoWithout}
+use Rattle.array_kept.proofs.views_Fit.{valid}
+use Rattle.array_kept.proofs.views_LackingLaws.{does-without, never-both}
 
 -- ---- the lowest role that a slot holds
 

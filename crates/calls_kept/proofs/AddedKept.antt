@@ -29,45 +29,45 @@ use Rattle.flat_history.specs.Sound.{OpensFit, LosesNoRole}
 use Rattle.flat_history.specs.Legal.{told_left}
 use Rattle.flat_history.specs.World.{World, opening_list}
 use Rattle.history_laws.proofs.OneShapeGrowing.{one, IsOneShapeCall, call-faults}
-use Rattle.views.specs.declared.work.Work.{Work}
-use Rattle.views.specs.Whole.{list_size}
-use Rattle.views.specs.Placed.{places_of}
-use Rattle.views.specs.Flushing.{OnlyFlushesAdded}
-use Rattle.call_entries.specs.Losing.{losses_of}
-use Rattle.views.specs.Lacking.{AreLostSince, ListStands, RowsStandBelow, mended_rows, RowsStandAmong}
-use Rattle.shape_changes.specs.Marking.{AreOthersPresent}
-use Rattle.views.specs.Moving.{Grows}
-use Rattle.shape_changes.specs.Safety.{HasLiveSlot, HasRoomLeft, IsRisen}
-use Rattle.views.specs.Numbers.{is_carried, IsOfScope, free_number}
-use Rattle.views.specs.Rebuilding.{AreRebuilt, HasNoRebuilt, with_spare, MayHold}
+use Rattle.array_kept.specs.views_the_Work.{Work}
+use Rattle.array_kept.specs.views_Whole.{list_size}
+use Rattle.array_kept.specs.views_Placed.{places_of}
+use Rattle.array_kept.specs.views_Flushing.{OnlyFlushesAdded}
+use Rattle.array_kept.specs.call_entries_Losing.{losses_of}
+use Rattle.array_kept.specs.views_Lacking.{AreLostSince, ListStands, RowsStandBelow, mended_rows, RowsStandAmong}
+use Rattle.array_kept.specs.shape_changes_Marking.{AreOthersPresent}
+use Rattle.array_kept.specs.views_Moving.{Grows}
+use Rattle.array_kept.specs.shape_changes_Safety.{HasLiveSlot, HasRoomLeft, IsRisen}
+use Rattle.array_kept.specs.views_Numbers.{is_carried, IsOfScope, free_number}
+use Rattle.array_kept.specs.views_Rebuilding.{AreRebuilt, HasNoRebuilt, with_spare, MayHold}
 use Rattle.array_kept.specs.Calls.{IsUnaddable, IsTaken}
-use Rattle.views.specs.Status.{left_of}
-use Rattle.shape_views.specs.Views.{Ledger}
-use Rattle.shape_changes.specs.Steady.{AreViewsRight, IsSafeOver, IsSafeStretch, KeepsSafe, AreGoneTold, IsUncleanTold, IsMoreTold, with_number}
+use Rattle.array_kept.specs.views_Status.{left_of}
+use Rattle.array_kept.specs.shape_views_Views.{Ledger}
+use Rattle.array_kept.specs.shape_changes_Steady.{AreViewsRight, IsSafeOver, IsSafeStretch, KeepsSafe, AreGoneTold, IsUncleanTold, IsMoreTold, with_number}
 use Rattle.array_kept.specs.Kept.{world_in, ledger_now, AreTold, IsKept, IsSafe, AreOnlyTold}
 use Rattle.calls_kept.proofs.AddedLosses.{IsAddDone, with-placed, stays-added, does-added, told-added, left-refused, left-carried, left-added, spares-added}
-use Rattle.views.proofs.AddedRows.{list-with, among-with, rebuilt-with}
-use Rattle.call_entries.proofs.CallLaws.{GivesNone, losses-are, ends-losses, builds-losses, last_end-behind}
+use Rattle.array_kept.proofs.views_AddedRows.{list-with, among-with, rebuilt-with}
+use Rattle.array_kept.proofs.call_entries_CallLaws.{GivesNone, losses-are, ends-losses, builds-losses, last_end-behind}
 use Rattle.array_kept.proofs.DegradedLaws.{degraded-quiet, rebuilt-moved, leaves-named, stays-moved, kept-alone, kept-refused, too-many-here}
-use Rattle.views.proofs.Flushed.{contents-added}
+use Rattle.array_kept.proofs.views_Flushed.{contents-added}
 use Rattle.array_kept.proofs.KeptLaws.{LeavesSafe, LeavesWork, StayPlaced, rebuilds-before, left-lost, safe-old, safe-adding, work-kept, mended-are, same-now, whole-still, kept-after}
-use Rattle.views.proofs.LackingLists.{list-moved, among-moved}
+use Rattle.array_kept.proofs.views_LackingLists.{list-moved, among-moved}
 use Rattle.array_kept.proofs.LedgerLaws.{told_by, CarriesMore, OnlyAdd, add-none, add-one, add-losses, more-safe, told-more as more-told, told-unclean, unsettled-still}
-use Rattle.call_entries.proofs.LeftLaws.{left-more}
-use Rattle.views.proofs.MarkedSafe.{added-longer, flushed-safe}
-use Rattle.views.proofs.MovedLaws.{grows-then, moved-same}
+use Rattle.array_kept.proofs.call_entries_LeftLaws.{left-more}
+use Rattle.array_kept.proofs.views_MarkedSafe.{added-longer, flushed-safe}
+use Rattle.array_kept.proofs.views_MovedLaws.{grows-then, moved-same}
 use Rattle.array_kept.proofs.ReadyLaws.{AreStill, silent-behind, still-behind}
 use Rattle.array_kept.proofs.RecordLaws.{AreSilent, told-more}
-use Rattle.views.proofs.SafeStretch.{safe-then}
-use Rattle.call_entries.proofs.StepLaws.{faults-are}
-use Rattle.shape_changes.proofs.Steady.{views-told}
+use Rattle.array_kept.proofs.views_SafeStretch.{safe-then}
+use Rattle.array_kept.proofs.call_entries_StepLaws.{faults-are}
+use Rattle.array_kept.proofs.shape_changes_Steady.{views-told}
 use Rattle.array_kept.proofs.OnlyLaws.{MakeSpares, gone-behind-losses, spares-behind-losses, added-makes, only-more, TellsOnly}
-use Rattle.views.proofs.HeldRows.{missing-moved, vacant-missing}
+use Rattle.array_kept.proofs.views_HeldRows.{missing-moved, vacant-missing}
 use Rattle.calls_kept.proofs.AddLaws.{lowest}
-use Rattle.call_entries.proofs.LosingLaws.{entries-both}
+use Rattle.array_kept.proofs.call_entries_LosingLaws.{entries-both}
 use Rattle.std.proofs.lemmas.List.Folds.{list_any-append}
 use Rattle.std.specs.List.{list_any}
-use Rattle.views.proofs.Fit.{valid}
+use Rattle.array_kept.proofs.views_Fit.{valid}
 use Rattle.md_base.specs.declared.places.Shape.{Shape}
 
 -- ---- the numbers that are known

@@ -20,28 +20,28 @@ use Rattle.flat_history.specs.declared.events.LostCause.TheVariants.{Fault}
 use Rattle.flat_history.specs.Legal.{told_left, left_after}
 use Rattle.flat_history.specs.Plain.{entries_of}
 use Rattle.flat_history.specs.OneShape.{is_gone_now}
-use Rattle.views.specs.declared.work.Work.{Work}
-use Rattle.views.specs.Placed.{IsPlaced}
-use Rattle.shape_changes.specs.Steady.{AreUnlost}
-use Rattle.call_entries.specs.Losing.{losses_of}
-use Rattle.views.specs.Lacking.{HaveFailedSince, AreLostSince}
-use Rattle.shape_changes.specs.Marking.{AreOthersPresent}
-use Rattle.views.specs.Moving.{Grows, IsMoved}
-use Rattle.shape_changes.specs.Safety.{IsRisen}
-use Rattle.views.specs.Numbers.{IsSpareSb}
-use Rattle.views.specs.Status.{resync_left, left_of, vacant_count, spare_count, stripes_of}
-use Rattle.views.specs.Rebuilding.{MayHold, AreSparesFree, with_spare}
+use Rattle.array_kept.specs.views_the_Work.{Work}
+use Rattle.array_kept.specs.views_Placed.{IsPlaced}
+use Rattle.array_kept.specs.shape_changes_Steady.{AreUnlost}
+use Rattle.array_kept.specs.call_entries_Losing.{losses_of}
+use Rattle.array_kept.specs.views_Lacking.{HaveFailedSince, AreLostSince}
+use Rattle.array_kept.specs.shape_changes_Marking.{AreOthersPresent}
+use Rattle.array_kept.specs.views_Moving.{Grows, IsMoved}
+use Rattle.array_kept.specs.shape_changes_Safety.{IsRisen}
+use Rattle.array_kept.specs.views_Numbers.{IsSpareSb}
+use Rattle.array_kept.specs.views_Status.{resync_left, left_of, vacant_count, spare_count, stripes_of}
+use Rattle.array_kept.specs.views_Rebuilding.{MayHold, AreSparesFree, with_spare}
 use Rattle.array_kept.specs.Kept.{AreTold}
-use Rattle.views.proofs.AddedMembers.{placed-with, free-with, spares-with}
-use Rattle.call_entries.proofs.CallLaws.{AreLossEvents, GivesNone, gives-losses, losses-are, told-losses}
-use Rattle.views.proofs.HeldRows.{missing-before, vacant-missing, without-before}
+use Rattle.array_kept.proofs.views_AddedMembers.{placed-with, free-with, spares-with}
+use Rattle.array_kept.proofs.call_entries_CallLaws.{AreLossEvents, GivesNone, gives-losses, losses-are, told-losses}
+use Rattle.array_kept.proofs.views_HeldRows.{missing-before, vacant-missing, without-before}
 use Rattle.array_kept.proofs.KeptLaws.{StayPlaced}
-use Rattle.views.proofs.LackingLaws.{AreVacant, AreNewlyVacant, lost-since}
-use Rattle.call_entries.proofs.LeftLaws.{fold-left}
-use Rattle.views.proofs.MarkLaws.{few-below}
+use Rattle.array_kept.proofs.views_LackingLaws.{AreVacant, AreNewlyVacant, lost-since}
+use Rattle.array_kept.proofs.call_entries_LeftLaws.{fold-left}
+use Rattle.array_kept.proofs.views_MarkLaws.{few-below}
 use Rattle.array_kept.proofs.RecordLaws.{told-more, gone-lately}
 use Rattle.array_kept.proofs.StepsLeft.{recovery-same, left-moved}
-use Rattle.shape_views.specs.Regions.{DoWithout}
+use Rattle.array_kept.specs.shape_views_Regions.{DoWithout}
 use Rattle.superblocks.proofs.ValidFields.{few-roles}
 use Rattle.array_kept.proofs.DegradedLaws.{count-moved}
 

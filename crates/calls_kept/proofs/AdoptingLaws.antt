@@ -14,10 +14,10 @@ use Rattle.sb1.specs.declared.sb.Sb.{Sb}
 use Rattle.superblocks.specs.Update.{own_in}
 use Rattle.superblocks.proofs.Searches.{any_below-some}
 use Rattle.layout.proofs.Limits.{limited}
-use Rattle.views.specs.declared.work.Work.{Work}
-use Rattle.views.specs.Numbers.{is_carried}
-use Rattle.shape_changes.specs.Carried.{AreCarried}
-use Rattle.views.specs.Rebuilding.{AreRebuilt, HasNoRebuilt}
+use Rattle.array_kept.specs.views_the_Work.{Work}
+use Rattle.array_kept.specs.views_Numbers.{is_carried}
+use Rattle.array_kept.specs.shape_changes_Carried.{AreCarried}
+use Rattle.array_kept.specs.views_Rebuilding.{AreRebuilt, HasNoRebuilt}
 use Rattle.md_base.specs.Sectors.{Sector}
 use Rattle.bank.specs.Given.{Given}
 use Rattle.bank.specs.Tape.{Contents, IsIn, disk}
@@ -35,29 +35,29 @@ use Rattle.flat_history.specs.Plain.{entries_of}
 use Rattle.flat_history.specs.declared.events.Event.{Event}
 use Rattle.flat_history.specs.Growing.{EndBy}
 use Rattle.flat_history.specs.OneShape.{opening_in, is_unsettled, IsOneShapeLegal}
-use Rattle.views.specs.Status.{stripes_of, rebuilt_of, left_of}
+use Rattle.array_kept.specs.views_Status.{stripes_of, rebuilt_of, left_of}
 use Rattle.flat_history.specs.Losses.{was_dirty, is_unsynced}
 use Rattle.flat_history.specs.Epochs.{OpensAlike}
-use Rattle.views.specs.Whole.{list_size}
-use Rattle.views.specs.Placed.{places_of}
-use Rattle.shape_views.specs.Regions.{ArePlaced}
-use Rattle.shape_views.specs.Views.{IsViewRight}
-use Rattle.shape_views.proofs.Stands.{flushed-right, still-stands}
-use Rattle.shape_changes.specs.Steady.{AreViewsRight, IsSafeOver}
-use Rattle.views.specs.Lacking.{ListStands, RowsStand, RowsStandBelow, mended_rows}
+use Rattle.array_kept.specs.views_Whole.{list_size}
+use Rattle.array_kept.specs.views_Placed.{places_of}
+use Rattle.array_kept.specs.shape_views_Regions.{ArePlaced}
+use Rattle.array_kept.specs.shape_views_Views.{IsViewRight}
+use Rattle.array_kept.proofs.shape_views_Stands.{flushed-right, still-stands}
+use Rattle.array_kept.specs.shape_changes_Steady.{AreViewsRight, IsSafeOver}
+use Rattle.array_kept.specs.views_Lacking.{ListStands, RowsStand, RowsStandBelow, mended_rows}
 use Rattle.array_kept.specs.Kept.{world_in, ledger_now, IsReady, IsKept, IsRecorded, IsSafe, AreTold, AreSectorsWhole}
 use Rattle.array_kept.specs.Adopting.{opener, found_losses, stripes_held, found_stripes, is_number_of, found_work, AreNumbersKept, IsAdoptable}
 use Rattle.array_kept.proofs.LedgerLaws.{newest-allowed}
 use Rattle.array_kept.proofs.NowLaws.{values-more}
 use Rattle.array_kept.proofs.RecordLaws.{ends-at}
 use Rattle.array_kept.proofs.SafeLaws.{safe-last}
-use Rattle.shape_changes.proofs.Since.{since-none}
-use Rattle.views.proofs.SoundViews.{throughout-opening}
-use Rattle.shape_changes.proofs.Steady.{safe-is-seen}
-use Rattle.views.proofs.Still.{count-still, held-placed, backup-still, length-still, open-still, gone-still, tail-still, untailed}
+use Rattle.array_kept.proofs.shape_changes_Since.{since-none}
+use Rattle.array_kept.proofs.views_SoundViews.{throughout-opening}
+use Rattle.array_kept.proofs.shape_changes_Steady.{safe-is-seen}
+use Rattle.array_kept.proofs.views_Still.{count-still, held-placed, backup-still, length-still, open-still, gone-still, tail-still, untailed}
 use Rattle.calls_kept.proofs.AbsentLaws.{AreAbsent, absents-legal, absents-are, absents-length, absents-limit, absents-left, absents-values, absents-now, absents-end, absents-keep, absents-ended, absents-told, absents-missing, absents-spares, absents-rebuilt}
-use Rattle.call_entries.proofs.StepLaws.{used-more}
-use Rattle.views.proofs.Fit.{valid}
+use Rattle.array_kept.proofs.call_entries_StepLaws.{used-more}
+use Rattle.array_kept.proofs.views_Fit.{valid}
 
 -- ---- the resync of an array that opened dirty
 

@@ -14,13 +14,13 @@ use Rattle.flat_history.specs.declared.events.Event.TheVariants.{Stepped, Refuse
 use Rattle.flat_history.specs.Flat.{last_of}
 use Rattle.flat_history.specs.Plain.{entries_of}
 use Rattle.flat_history.specs.OneShape.{opening_in, IsCallOpen, IsOneShapeRefusal}
-use Rattle.views.specs.declared.work.Work.{Work}
-use Rattle.views.specs.Status.{left_of}
+use Rattle.array_kept.specs.views_the_Work.{Work}
+use Rattle.array_kept.specs.views_Status.{left_of}
 use Rattle.array_kept.specs.Kept.{world_in, AreFillsRight, IsKept}
 use Rattle.array_kept.specs.Calls.{IsStepsReply}
-use Rattle.call_entries.proofs.PlainLaws.{one}
-use Rattle.call_entries.proofs.LeftLaws.{keeps-left}
-use Rattle.call_entries.proofs.StepLaws.{last-refused}
+use Rattle.array_kept.proofs.call_entries_PlainLaws.{one}
+use Rattle.array_kept.proofs.call_entries_LeftLaws.{keeps-left}
+use Rattle.array_kept.proofs.call_entries_StepLaws.{last-refused}
 use Rattle.array_kept.proofs.KeptLaws.{unrebuilt-before}
 use Rattle.array_kept.proofs.DegradedLaws.{kept-alone}
 use Rattle.array_kept.proofs.IdleLaws.{nothing-left}

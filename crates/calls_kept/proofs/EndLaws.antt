@@ -18,24 +18,24 @@ use Rattle.flat_history.specs.declared.events.StepKind.TheVariants.{ResyncEnded}
 use Rattle.flat_history.specs.Losses.{is_resync_end}
 use Rattle.flat_history.specs.Plain.{entries_of}
 use Rattle.flat_history.specs.OneShape.{opening_in, IsCallOpen}
-use Rattle.views.specs.Placed.{IsPlaced}
-use Rattle.call_entries.specs.Losing.{losses_of}
-use Rattle.shape_changes.specs.Marking.{AreOthersPresent}
-use Rattle.views.specs.Moving.{Grows, IsMoved}
-use Rattle.views.specs.declared.work.Work.{Work}
-use Rattle.views.specs.Rebuilding.{HasNoRebuilt}
-use Rattle.views.specs.Status.{stripes_of, left_of}
-use Rattle.views.specs.Lacking.{AreLostSince, mended_rows}
+use Rattle.array_kept.specs.views_Placed.{IsPlaced}
+use Rattle.array_kept.specs.call_entries_Losing.{losses_of}
+use Rattle.array_kept.specs.shape_changes_Marking.{AreOthersPresent}
+use Rattle.array_kept.specs.views_Moving.{Grows, IsMoved}
+use Rattle.array_kept.specs.views_the_Work.{Work}
+use Rattle.array_kept.specs.views_Rebuilding.{HasNoRebuilt}
+use Rattle.array_kept.specs.views_Status.{stripes_of, left_of}
+use Rattle.array_kept.specs.views_Lacking.{AreLostSince, mended_rows}
 use Rattle.array_kept.specs.Kept.{world_in, IsKept}
-use Rattle.call_entries.proofs.CallLaws.{losses-are, ends-losses, builds-losses}
+use Rattle.array_kept.proofs.call_entries_CallLaws.{losses-are, ends-losses, builds-losses}
 use Rattle.array_kept.proofs.RecordLaws.{AreSilent}
 use Rattle.array_kept.proofs.ReadyLaws.{AreStill, silent-behind, still-behind}
-use Rattle.call_entries.proofs.StepLaws.{left-stepped}
+use Rattle.array_kept.proofs.call_entries_StepLaws.{left-stepped}
 use Rattle.calls_kept.proofs.SteppedLaws.{call-stepping}
 use Rattle.array_kept.proofs.StepsLeft.{left-ended}
 use Rattle.array_kept.proofs.KeptLaws.{LeavesSafe, LeavesWork, built-still, whole-still}
 use Rattle.array_kept.proofs.DegradedLaws.{stays-moved, degraded-after, holds-still, good-still, rebuilt-still, told-behind, only-behind}
-use Rattle.views.proofs.Fit.{multiple}
+use Rattle.array_kept.proofs.views_Fit.{multiple}
 
 -- ---- every stripe is mended
 

@@ -11,20 +11,20 @@ use Rattle.superblocks.specs.declared.members.Members.{Members}
 use Rattle.superblocks.specs.Reading.{is_clean, role_state, holder}
 use Rattle.row_io.specs.Rows.{reading_of, role_without, members_without}
 use Rattle.row_io.proofs.Losses.{state_after}
-use Rattle.views.specs.Placed.{is_vacant, IsPlaced}
-use Rattle.shape_changes.specs.Steady.{AreUnlost, IsSafeOver}
-use Rattle.views.specs.Moving.{IsMoved}
-use Rattle.views.proofs.MemberLaws.{placed-without, unlost-without}
-use Rattle.views.proofs.MovedLaws.{moved-without}
+use Rattle.array_kept.specs.views_Placed.{is_vacant, IsPlaced}
+use Rattle.array_kept.specs.shape_changes_Steady.{AreUnlost, IsSafeOver}
+use Rattle.array_kept.specs.views_Moving.{IsMoved}
+use Rattle.array_kept.proofs.views_MemberLaws.{placed-without, unlost-without}
+use Rattle.array_kept.proofs.views_MovedLaws.{moved-without}
 use Rattle.bank.specs.Tape.{disk}
 use Rattle.bank.specs.declared.bank.Operation.{Operation}
 use Rattle.flat_history.specs.Sound.{OpensFit}
-use Rattle.shape_changes.specs.Safety.{HasLiveSlot, IsRisen}
+use Rattle.array_kept.specs.shape_changes_Safety.{HasLiveSlot, IsRisen}
 use Rattle.array_kept.proofs.KeptLaws.{NamesSafe}
-use Rattle.views.proofs.LackingLaws.{holder-without}
-use Rattle.shape_changes.proofs.Steady.{losing-stays-safe}
-use Rattle.views.proofs.Still.{told-same}
-use Rattle.shape_changes.proofs.Without.{in-both, live-before}
+use Rattle.array_kept.proofs.views_LackingLaws.{holder-without}
+use Rattle.array_kept.proofs.shape_changes_Steady.{losing-stays-safe}
+use Rattle.array_kept.proofs.views_Still.{told-same}
+use Rattle.array_kept.proofs.shape_changes_Without.{in-both, live-before}
 use Rattle.std.specs.Prelude.{◌^◌}
 use Rattle.superblocks.specs.Reads.{has_spare}
 

@@ -26,32 +26,32 @@ use Rattle.flat_history.specs.Losses.{settles}
 use Rattle.flat_history.specs.Sound.{OpensFit, FillsRight}
 use Rattle.flat_history.specs.Plain.{entries_of}
 use Rattle.flat_history.specs.OneShape.{opening_in, is_unsettled, keeps_shape_event, IsCallOpen}
-use Rattle.views.specs.Whole.{list_size}
-use Rattle.views.specs.Placed.{places_of, IsPlaced}
-use Rattle.call_entries.specs.Losing.{losses_of}
-use Rattle.views.specs.Moving.{Grows, IsMoved}
-use Rattle.shape_changes.specs.Safety.{HasRoomLeft, IsRisen}
-use Rattle.views.specs.declared.work.Work.{Work}
-use Rattle.views.specs.Rebuilding.{AreRebuilt, HasNoRebuilt}
-use Rattle.views.specs.Status.{stripes_of, rebuilt_of, left_of}
-use Rattle.shape_views.specs.Views.{Ledger}
-use Rattle.shape_changes.specs.Steady.{IsSafeOver, KeepsSafe, AreGoneTold, AreWritesAllowed}
-use Rattle.views.specs.Lacking.{AreLostSince, IsUnwritten, IsOfStripe, ListStands, mended_rows}
+use Rattle.array_kept.specs.views_Whole.{list_size}
+use Rattle.array_kept.specs.views_Placed.{places_of, IsPlaced}
+use Rattle.array_kept.specs.call_entries_Losing.{losses_of}
+use Rattle.array_kept.specs.views_Moving.{Grows, IsMoved}
+use Rattle.array_kept.specs.shape_changes_Safety.{HasRoomLeft, IsRisen}
+use Rattle.array_kept.specs.views_the_Work.{Work}
+use Rattle.array_kept.specs.views_Rebuilding.{AreRebuilt, HasNoRebuilt}
+use Rattle.array_kept.specs.views_Status.{stripes_of, rebuilt_of, left_of}
+use Rattle.array_kept.specs.shape_views_Views.{Ledger}
+use Rattle.array_kept.specs.shape_changes_Steady.{IsSafeOver, KeepsSafe, AreGoneTold, AreWritesAllowed}
+use Rattle.array_kept.specs.views_Lacking.{AreLostSince, IsUnwritten, IsOfStripe, ListStands, mended_rows}
 use Rattle.array_kept.specs.Kept.{world_in, AreRebuildsRight, AreSectorsWhole, IsKept}
 use Rattle.array_kept.specs.Calls.{HasStripeLeft, IsRefusedHere}
-use Rattle.call_entries.proofs.PlainLaws.{one}
-use Rattle.call_entries.proofs.CallLaws.{GivesNone, losses-are, builds-losses}
+use Rattle.array_kept.proofs.call_entries_PlainLaws.{one}
+use Rattle.array_kept.proofs.call_entries_CallLaws.{GivesNone, losses-are, builds-losses}
 use Rattle.array_kept.proofs.LedgerLaws.{told_by, allowed-more, OnlyAdd, add-none, add-one, add-losses, pending-more, told-unclean}
-use Rattle.views.proofs.LackingWrites.{recovering-before}
+use Rattle.array_kept.proofs.views_LackingWrites.{recovering-before}
 use Rattle.array_kept.proofs.RecordLaws.{AreSilent}
 use Rattle.array_kept.proofs.ReadyLaws.{AreStill, silent-behind, still-behind}
-use Rattle.call_entries.proofs.StepLaws.{left-stepped}
+use Rattle.array_kept.proofs.call_entries_StepLaws.{left-stepped}
 use Rattle.calls_kept.proofs.SteppedLaws.{call-stepping}
 use Rattle.array_kept.proofs.StepsLeft.{left-mended}
 use Rattle.array_kept.proofs.KeptLaws.{StayPlaced, LeavesSafe, LeavesWork, leaves-as, leaves-unsettled, unbuilt-still, built-still, stripes-are, mended-are, same-now, whole-still, newest-old}
 use Rattle.array_kept.proofs.DegradedLaws.{stays-moved, rows-same, degraded-after, work-behind, none-ended, told-behind, call-refused, unwritten-here, only-behind}
-use Rattle.shape_views.specs.Regions.{DoWithout}
-use Rattle.views.proofs.Fit.{valid, multiple}
+use Rattle.array_kept.specs.shape_views_Regions.{DoWithout}
+use Rattle.array_kept.proofs.views_Fit.{valid, multiple}
 
 -- a resync that has a stripe to mend is pending
 pub is-pending : (resync : Option ℕ) (m : Members) → HasStripeLeft resync m → IsSome resync

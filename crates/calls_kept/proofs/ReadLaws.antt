@@ -17,23 +17,23 @@ use Rattle.flat_history.specs.World.{opening_list}
 use Rattle.flat_history.specs.Flat.{now}
 use Rattle.flat_history.specs.OneShape.{IsCallOpen}
 use Rattle.flat_history.specs.Plain.{entries_of}
-use Rattle.views.specs.declared.work.Work.{Work}
-use Rattle.views.specs.Whole.{list_size}
-use Rattle.views.specs.Rows.{row_sector}
-use Rattle.views.specs.Placed.{places_of, AreWhole}
-use Rattle.call_entries.specs.Losing.{losses_of}
-use Rattle.shape_changes.specs.Marking.{AreOthersPresent}
-use Rattle.views.specs.Moving.{Grows, IsMoved}
-use Rattle.shape_changes.specs.Safety.{IsRisen}
-use Rattle.views.specs.Lacking.{AreLostSince, IsUnread, ListStands, RowsStandBelow, mended_rows}
+use Rattle.array_kept.specs.views_the_Work.{Work}
+use Rattle.array_kept.specs.views_Whole.{list_size}
+use Rattle.array_kept.specs.views_Rows.{row_sector}
+use Rattle.array_kept.specs.views_Placed.{places_of, AreWhole}
+use Rattle.array_kept.specs.call_entries_Losing.{losses_of}
+use Rattle.array_kept.specs.shape_changes_Marking.{AreOthersPresent}
+use Rattle.array_kept.specs.views_Moving.{Grows, IsMoved}
+use Rattle.array_kept.specs.shape_changes_Safety.{IsRisen}
+use Rattle.array_kept.specs.views_Lacking.{AreLostSince, IsUnread, ListStands, RowsStandBelow, mended_rows}
 use Rattle.array_kept.specs.Kept.{world_in, AreFillsRight, IsKept}
 use Rattle.array_kept.proofs.NowLaws.{visible-is}
-use Rattle.views.proofs.MovedLaws.{size-moved}
-use Rattle.views.proofs.LackingLists.{row-sector}
+use Rattle.array_kept.proofs.views_MovedLaws.{size-moved}
+use Rattle.array_kept.proofs.views_LackingLists.{row-sector}
 use Rattle.array_kept.proofs.ReadyLaws.{read_is}
 use Rattle.array_kept.proofs.KeptLaws.{NamesSafe, rebuilds-of}
 use Rattle.array_kept.proofs.DegradedLaws.{unread-here, leaves-behind, degraded-refused, degraded-read}
-use Rattle.shape_views.specs.Regions.{DoWithout}
+use Rattle.array_kept.specs.shape_views_Regions.{DoWithout}
 use Rattle.md_base.specs.declared.places.Shape.{Shape}
 
 -- what stands behind an answer that was given

@@ -20,17 +20,17 @@ use Rattle.flat_history.specs.declared.events.Entry.{Entry}
 use Rattle.flat_history.specs.OneShape.{is_lost, is_gone_with, is_gone_now}
 use Rattle.flat_history.specs.Plain.{loses_role}
 use Rattle.flat_history.specs.Sound.{LosesNoRole}
-use Rattle.views.specs.declared.work.Work.{Work}
-use Rattle.views.specs.Placed.{is_vacant, AreWhole, IsPlaced}
-use Rattle.views.specs.Moving.{IsMoved}
-use Rattle.views.specs.Status.{stripes_of, rebuilt_of}
-use Rattle.views.specs.Rebuilding.{AreSparesFree, AreRebuilt, AreRowsFull, with_whole}
-use Rattle.views.specs.Lacking.{HaveFailedSince, RowsStand}
-use Rattle.views.proofs.GivenMembers.{IsReceiver, W, state-here, state-other, holder-then, offset-same, rows-other, spare-then, spare-before}
-use Rattle.views.proofs.HeldRows.{vacant-missing}
+use Rattle.array_kept.specs.views_the_Work.{Work}
+use Rattle.array_kept.specs.views_Placed.{is_vacant, AreWhole, IsPlaced}
+use Rattle.array_kept.specs.views_Moving.{IsMoved}
+use Rattle.array_kept.specs.views_Status.{stripes_of, rebuilt_of}
+use Rattle.array_kept.specs.views_Rebuilding.{AreSparesFree, AreRebuilt, AreRowsFull, with_whole}
+use Rattle.array_kept.specs.views_Lacking.{HaveFailedSince, RowsStand}
+use Rattle.array_kept.proofs.views_GivenMembers.{IsReceiver, W, state-here, state-other, holder-then, offset-same, rows-other, spare-then, spare-before}
+use Rattle.array_kept.proofs.views_HeldRows.{vacant-missing}
 use Rattle.calls_kept.proofs.RebuildGiven.{few-given, free-then}
-use Rattle.views.proofs.Stripes.{stripes-whole}
-use Rattle.views.proofs.Fit.{multiple}
+use Rattle.array_kept.proofs.views_Stripes.{stripes-whole}
+use Rattle.array_kept.proofs.views_Fit.{multiple}
 use Rattle.array_kept.proofs.DegradedLaws.{count-moved}
 
 -- ---- what the slot has of the role

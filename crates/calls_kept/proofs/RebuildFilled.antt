@@ -31,35 +31,35 @@ use Rattle.flat_history.specs.Plain.{entries_of}
 use Rattle.flat_history.specs.OneShape.{opening_in, IsCallOpen}
 use Rattle.flat_history.specs.Sound.{OpensFit, LosesNoRole}
 use Rattle.history_laws.proofs.OneShapeGrowing.{one, IsOneShapeCall, call-faults}
-use Rattle.views.specs.declared.work.Work.{Work}
-use Rattle.call_entries.specs.Losing.{losses_of}
+use Rattle.array_kept.specs.views_the_Work.{Work}
+use Rattle.array_kept.specs.call_entries_Losing.{losses_of}
 use Rattle.flat_history.specs.Transfers.{last_end_from}
-use Rattle.views.specs.Whole.{list_size}
-use Rattle.views.specs.Placed.{places_of, is_vacant, IsPlaced}
-use Rattle.views.specs.Moving.{Grows, IsMoved}
-use Rattle.shape_changes.specs.Safety.{IsRisen}
-use Rattle.views.specs.Status.{stripes_of, rebuilt_of, left_of}
-use Rattle.views.specs.Rebuilding.{AreRebuilt, IsFilledAmong}
-use Rattle.views.specs.Lacking.{AreLostSince, AreTooMany, RowsStandBelow, IsOfStripe, mended_rows, LacksTooMany, ListStands}
+use Rattle.array_kept.specs.views_Whole.{list_size}
+use Rattle.array_kept.specs.views_Placed.{places_of, is_vacant, IsPlaced}
+use Rattle.array_kept.specs.views_Moving.{Grows, IsMoved}
+use Rattle.array_kept.specs.shape_changes_Safety.{IsRisen}
+use Rattle.array_kept.specs.views_Status.{stripes_of, rebuilt_of, left_of}
+use Rattle.array_kept.specs.views_Rebuilding.{AreRebuilt, IsFilledAmong}
+use Rattle.array_kept.specs.views_Lacking.{AreLostSince, AreTooMany, RowsStandBelow, IsOfStripe, mended_rows, LacksTooMany, ListStands}
 use Rattle.array_kept.specs.Kept.{world_in, IsKept}
 use Rattle.array_kept.specs.Calls.{with_rebuilt}
-use Rattle.call_entries.proofs.CallLaws.{GivesNone, losses-are, last_end-behind}
+use Rattle.array_kept.proofs.call_entries_CallLaws.{GivesNone, losses-are, last_end-behind}
 use Rattle.array_kept.proofs.DegradedLaws.{stays-moved, told-behind, work-behind, call-refused, too-many-here, rows-same, only-behind, count-moved}
-use Rattle.views.proofs.FilledParts.{data-filled, row-filled, full-kept}
+use Rattle.array_kept.proofs.views_FilledParts.{data-filled, row-filled, full-kept}
 use Rattle.array_kept.proofs.KeptLaws.{StayPlaced, LeavesSafe, NamesSafe, rebuilds-before, left-lost, mended-are, leaves-named, work-kept}
-use Rattle.views.proofs.LackingWrites.{recovering-before}
+use Rattle.array_kept.proofs.views_LackingWrites.{recovering-before}
 use Rattle.array_kept.proofs.LedgerLaws.{add-none, add-one}
 use Rattle.calls_kept.proofs.RebuildLaws.{AreQuiet, quiet-behind, losses-end, some-lost, kept-listed}
-use Rattle.call_entries.proofs.StepLaws.{faults-are, left-stepped}
+use Rattle.array_kept.proofs.call_entries_StepLaws.{faults-are, left-stepped}
 use Rattle.calls_kept.proofs.SteppedLaws.{call-stepping}
 use Rattle.array_kept.proofs.StepsLeft.{left-filled}
 use Rattle.array_kept.proofs.ToldLosses.{role-told}
 use Rattle.array_kept.proofs.OnlyLaws.{MakeSpares}
-use Rattle.shape_views.specs.Regions.{DoWithout}
+use Rattle.array_kept.specs.shape_views_Regions.{DoWithout}
 use Rattle.list_io.specs.Full.{DataStands, RowStands}
-use Rattle.views.proofs.Still.{count-still}
-use Rattle.views.proofs.Fit.{valid}
-use Rattle.views.proofs.LackingLaws.{never-both}
+use Rattle.array_kept.proofs.views_Still.{count-still}
+use Rattle.array_kept.proofs.views_Fit.{valid}
+use Rattle.array_kept.proofs.views_LackingLaws.{never-both}
 
 -- ---- how many stripes are rebuilt
 

@@ -15,21 +15,21 @@ use Rattle.superblocks.specs.Update.{is_held_by, is_live}
 use Rattle.row_io.specs.Rows.{reading_of, held_slot, is_missing}
 use Rattle.row_io.proofs.Losses.{holder-of}
 use Rattle.list_io.specs.Full.{full_sector}
-use Rattle.views.specs.declared.work.Work.{Work}
-use Rattle.views.specs.Placed.{is_vacant, IsPlaced}
-use Rattle.shape_changes.specs.Steady.{AreUnlost}
-use Rattle.views.specs.Status.{rebuilt_of}
-use Rattle.views.specs.Rebuilding.{AreSparesFree, AreRebuilt, AreRowsFull, MayHold}
-use Rattle.views.specs.Lacking.{ListStands, RowsStandAmong}
-use Rattle.views.proofs.GivenMembers.{IsReceiver, W, state-here, state-other, holder-then, offset-same, recovered-here, rows-other, spare-before}
-use Rattle.views.proofs.HeldRows.{recovered_of}
-use Rattle.views.proofs.MarkLaws.{few-below}
-use Rattle.shape_changes.proofs.Without.{any-held}
-use Rattle.views.specs.Moving.{IsMoved}
+use Rattle.array_kept.specs.views_the_Work.{Work}
+use Rattle.array_kept.specs.views_Placed.{is_vacant, IsPlaced}
+use Rattle.array_kept.specs.shape_changes_Steady.{AreUnlost}
+use Rattle.array_kept.specs.views_Status.{rebuilt_of}
+use Rattle.array_kept.specs.views_Rebuilding.{AreSparesFree, AreRebuilt, AreRowsFull, MayHold}
+use Rattle.array_kept.specs.views_Lacking.{ListStands, RowsStandAmong}
+use Rattle.array_kept.proofs.views_GivenMembers.{IsReceiver, W, state-here, state-other, holder-then, offset-same, recovered-here, rows-other, spare-before}
+use Rattle.array_kept.proofs.views_HeldRows.{recovered_of}
+use Rattle.array_kept.proofs.views_MarkLaws.{few-below}
+use Rattle.array_kept.proofs.shape_changes_Without.{any-held}
+use Rattle.array_kept.specs.views_Moving.{IsMoved}
 use Rattle.array_kept.specs.Calls.{IsHeldOrGiven, IsRecoveredOrLost}
 use Rattle.md_base.specs.Shapes.{has_slot}
 use Rattle.superblocks.proofs.SlotSets.{none_there, none_above}
-use Rattle.views.proofs.Fit.{disks-within}
+use Rattle.array_kept.proofs.views_Fit.{disks-within}
 
 -- ---- slots that may get the role
 

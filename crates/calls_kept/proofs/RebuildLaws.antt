@@ -23,20 +23,20 @@ use Rattle.flat_history.specs.Transfers.{last_end_from}
 use Rattle.flat_history.specs.OneShape.{ShapeOpening, opening_in, IsIdleStep, IsCallOpen}
 use Rattle.flat_history.specs.Sound.{OpensFit}
 use Rattle.history_laws.proofs.OneShapeGrowing.{one, IsOneShapeCall, call-faults, inner-of, call-ends}
-use Rattle.views.specs.declared.work.Work.{Work}
-use Rattle.views.specs.Placed.{AreWhole}
-use Rattle.views.specs.Moving.{Grows}
-use Rattle.views.specs.Rebuilding.{HasNoRebuilt, AreRebuilt}
-use Rattle.views.specs.Lacking.{ListStands, RowsStandBelow, mended_rows}
+use Rattle.array_kept.specs.views_the_Work.{Work}
+use Rattle.array_kept.specs.views_Placed.{AreWhole}
+use Rattle.array_kept.specs.views_Moving.{Grows}
+use Rattle.array_kept.specs.views_Rebuilding.{HasNoRebuilt, AreRebuilt}
+use Rattle.array_kept.specs.views_Lacking.{ListStands, RowsStandBelow, mended_rows}
 use Rattle.array_kept.specs.Kept.{world_in, AreTold, AreFillsRight, AreRebuildsRight, IsKept}
-use Rattle.call_entries.proofs.CallLaws.{AreLossEvents, length-losses, limit-losses, values-losses, builds-losses, ends-losses}
+use Rattle.array_kept.proofs.call_entries_CallLaws.{AreLossEvents, length-losses, limit-losses, values-losses, builds-losses, ends-losses}
 use Rattle.array_kept.proofs.LedgerLaws.{OnlyAdd, add-losses}
 use Rattle.array_kept.proofs.RecordLaws.{AreSilent}
 use Rattle.array_kept.proofs.ReadyLaws.{AreStill}
-use Rattle.call_entries.proofs.StepLaws.{GoOnBehind, faults-are}
+use Rattle.array_kept.proofs.call_entries_StepLaws.{GoOnBehind, faults-are}
 use Rattle.array_kept.proofs.KeptLaws.{StayPlaced, LeavesSafe, LeavesWork, kept-after, same-now, whole-still}
 use Rattle.array_kept.proofs.OnlyLaws.{TellsOnly}
-use Rattle.shape_views.specs.Regions.{DoWithout}
+use Rattle.array_kept.specs.shape_views_Regions.{DoWithout}
 
 -- ---- events behind the losses of a call
 

@@ -20,37 +20,37 @@ use Rattle.flat_history.specs.Flat.{now}
 use Rattle.flat_history.specs.Plain.{entries_of}
 use Rattle.flat_history.specs.OneShape.{opening_in, IsCallOpen}
 use Rattle.history_laws.proofs.OneShapeGrowing.{one}
-use Rattle.views.specs.declared.work.Work.{Work}
-use Rattle.call_entries.specs.Losing.{losses_of}
-use Rattle.views.specs.Placed.{is_vacant, IsPlaced}
-use Rattle.shape_changes.specs.Marking.{AreOthersPresent}
-use Rattle.views.specs.Moving.{Grows, IsMoved}
-use Rattle.shape_changes.specs.Safety.{HasRoomLeft, IsRisen}
-use Rattle.views.specs.Status.{left_of}
-use Rattle.views.specs.Rebuilding.{with_recovering, MayHold}
-use Rattle.views.specs.Lacking.{AreLostSince, RowsStandBelow, mended_rows, RowsStandAmong}
+use Rattle.array_kept.specs.views_the_Work.{Work}
+use Rattle.array_kept.specs.call_entries_Losing.{losses_of}
+use Rattle.array_kept.specs.views_Placed.{is_vacant, IsPlaced}
+use Rattle.array_kept.specs.shape_changes_Marking.{AreOthersPresent}
+use Rattle.array_kept.specs.views_Moving.{Grows, IsMoved}
+use Rattle.array_kept.specs.shape_changes_Safety.{HasRoomLeft, IsRisen}
+use Rattle.array_kept.specs.views_Status.{left_of}
+use Rattle.array_kept.specs.views_Rebuilding.{with_recovering, MayHold}
+use Rattle.array_kept.specs.views_Lacking.{AreLostSince, RowsStandBelow, mended_rows, RowsStandAmong}
 use Rattle.array_kept.specs.Kept.{world_in, AreTold, IsKept}
-use Rattle.shape_views.specs.Views.{Ledger}
-use Rattle.shape_changes.specs.Steady.{IsSafeOver, KeepsSafe, AreGoneTold, IsUncleanTold}
+use Rattle.array_kept.specs.shape_views_Views.{Ledger}
+use Rattle.array_kept.specs.shape_changes_Steady.{IsSafeOver, KeepsSafe, AreGoneTold, IsUncleanTold}
 use Rattle.array_kept.specs.Calls.{with_rebuilt}
-use Rattle.call_entries.proofs.CallLaws.{losses-are, last_end-behind, told-losses}
+use Rattle.array_kept.proofs.call_entries_CallLaws.{losses-are, last_end-behind, told-losses}
 use Rattle.array_kept.proofs.DegradedLaws.{rebuilt-moved, count-moved}
-use Rattle.views.proofs.GivenMembers.{IsReceiver, state-here, placed-given, state-other, spare-before}
-use Rattle.views.proofs.HeldRows.{vacant-missing, missing-moved}
+use Rattle.array_kept.proofs.views_GivenMembers.{IsReceiver, state-here, placed-given, state-other, spare-before}
+use Rattle.array_kept.proofs.views_HeldRows.{vacant-missing, missing-moved}
 use Rattle.array_kept.proofs.KeptLaws.{StayPlaced, rebuilds-before, mended-are, few, leaves-alike, work-kept}
-use Rattle.views.proofs.LackingLaws.{since-missing}
-use Rattle.views.proofs.LackingLists.{list-moved, among-moved}
+use Rattle.array_kept.proofs.views_LackingLaws.{since-missing}
+use Rattle.array_kept.proofs.views_LackingLists.{list-moved, among-moved}
 use Rattle.array_kept.proofs.LedgerLaws.{told_by, told-unclean, add-none, add-one}
 use Rattle.calls_kept.proofs.RebuildFilled.{rebuilt-here, rebuilt-other}
 use Rattle.calls_kept.proofs.RebuildGiven.{receiver-spare, few-given, free-then, missing-given, list-given, among-given, rebuilt-given, none-recovered}
 use Rattle.calls_kept.proofs.RebuildLaws.{AreQuiet, quiet-behind, kept-listed}
 use Rattle.array_kept.proofs.RecordLaws.{told-more, gone-lately}
 use Rattle.calls_kept.proofs.SteppedLaws.{call-stepping}
-use Rattle.call_entries.proofs.StepLaws.{left-stepped}
+use Rattle.array_kept.proofs.call_entries_StepLaws.{left-stepped}
 use Rattle.array_kept.proofs.StepsLeft.{left-taken}
 use Rattle.array_kept.proofs.OnlyLaws.{gone-behind-losses, taken-spares, TellsOnly}
 use Rattle.std.proofs.lemmas.Bool.{cases_eq}
-use Rattle.shape_views.specs.Regions.{DoWithout}
+use Rattle.array_kept.specs.shape_views_Regions.{DoWithout}
 
 module _ {tells : Type 0} {given : Given} {tape tape' : List Operation} {scope : Scope} {first : ℕ} {entries : List Entry} {members members' : Members} {work : Work}
     (who : Who) (end : ℕ) (was : IsKept tells given tape scope first entries members work)

@@ -29,27 +29,27 @@ use Rattle.flat_history.specs.OneShape.{opening_in, is_gone_now, gives_role, is_
 use Rattle.flat_history.specs.Sound.{OpensFit, FillsRight}
 use Rattle.flat_history.specs.Transfers.{last_end_from}
 use Rattle.history_laws.proofs.OneShapeGrowing.{one, IsOneShapeCall, call-faults, gone-more}
-use Rattle.views.specs.declared.work.Work.{Work}
-use Rattle.call_entries.specs.Losing.{losses_of}
-use Rattle.views.specs.Placed.{is_vacant, IsPlaced}
-use Rattle.shape_changes.specs.Marking.{AreOthersPresent}
-use Rattle.views.specs.Moving.{Grows, IsMoved}
-use Rattle.shape_changes.specs.Safety.{HasRoomLeft, IsRisen}
-use Rattle.views.specs.Status.{stripes_of, rebuilt_of, left_of}
-use Rattle.views.specs.Rebuilding.{AreRowsFull, HasNoRebuilt, is_rebuilt, with_whole, MayHold}
-use Rattle.views.specs.Lacking.{AreLostSince, RowsStand, RowsStandBelow, mended_rows, RowsStandAmong}
+use Rattle.array_kept.specs.views_the_Work.{Work}
+use Rattle.array_kept.specs.call_entries_Losing.{losses_of}
+use Rattle.array_kept.specs.views_Placed.{is_vacant, IsPlaced}
+use Rattle.array_kept.specs.shape_changes_Marking.{AreOthersPresent}
+use Rattle.array_kept.specs.views_Moving.{Grows, IsMoved}
+use Rattle.array_kept.specs.shape_changes_Safety.{HasRoomLeft, IsRisen}
+use Rattle.array_kept.specs.views_Status.{stripes_of, rebuilt_of, left_of}
+use Rattle.array_kept.specs.views_Rebuilding.{AreRowsFull, HasNoRebuilt, is_rebuilt, with_whole, MayHold}
+use Rattle.array_kept.specs.views_Lacking.{AreLostSince, RowsStand, RowsStandBelow, mended_rows, RowsStandAmong}
 use Rattle.array_kept.specs.Kept.{world_in, ledger_now, AreTold, AreRebuildsRight, IsKept, AreOnlyTold}
-use Rattle.shape_views.specs.Views.{Ledger}
-use Rattle.shape_changes.specs.Steady.{IsSafeOver, KeepsSafe, IsMoreTold, AreGoneTold, IsUncleanTold, AreWritesAllowed, given_back}
-use Rattle.call_entries.proofs.CallLaws.{losses-are, last_end-behind, length-losses, limit-losses, values-losses, ends-losses, told-losses}
+use Rattle.array_kept.specs.shape_views_Views.{Ledger}
+use Rattle.array_kept.specs.shape_changes_Steady.{IsSafeOver, KeepsSafe, IsMoreTold, AreGoneTold, IsUncleanTold, AreWritesAllowed, given_back}
+use Rattle.array_kept.proofs.call_entries_CallLaws.{losses-are, last_end-behind, length-losses, limit-losses, values-losses, ends-losses, told-losses}
 use Rattle.array_kept.proofs.DegradedLaws.{rebuilt-moved, told-behind, work-behind, only-behind, count-moved}
-use Rattle.views.proofs.GivenMembers.{IsReceiver, state-here, placed-given, state-other, spare-before}
+use Rattle.array_kept.proofs.views_GivenMembers.{IsReceiver, state-here, placed-given, state-other, spare-before}
 use Rattle.array_kept.proofs.KeptLaws.{StayPlaced, LeavesSafe, LeavesWork, rebuilds-before, mended-are, few, newest-old, safe-by, leaves-alike}
-use Rattle.views.proofs.LackingLaws.{since-missing}
-use Rattle.views.proofs.LackingLists.{list-moved, among-moved}
+use Rattle.array_kept.proofs.views_LackingLaws.{since-missing}
+use Rattle.array_kept.proofs.views_LackingLists.{list-moved, among-moved}
 use Rattle.array_kept.proofs.LedgerLaws.{told_by, allowed-more, told-now, told-unclean, more-safe, pending-more, unsettled-still, add-none, add-one, keep-losses}
-use Rattle.call_entries.proofs.LeftLaws.{fold-left}
-use Rattle.call_entries.proofs.LosingLaws.{entries-both}
+use Rattle.array_kept.proofs.call_entries_LeftLaws.{fold-left}
+use Rattle.array_kept.proofs.call_entries_LosingLaws.{entries-both}
 use Rattle.array_kept.proofs.NowLaws.{values-more}
 use Rattle.calls_kept.proofs.RebuildEnded.{rows-full, whole-spare, role-lost, holder-still, holder-before, spare-still, moved-vacant}
 use Rattle.calls_kept.proofs.RebuildFilled.{not-vacant}
@@ -57,13 +57,13 @@ use Rattle.calls_kept.proofs.RebuildGiven.{receiver-recovering, few-given, free-
 use Rattle.calls_kept.proofs.RebuildLaws.{AreQuiet, quiet-behind, losses-end, call-stepped_on, kept-listed}
 use Rattle.array_kept.proofs.RecordLaws.{AreSilent, told-more, gone-lately}
 use Rattle.calls_kept.proofs.SteppedLaws.{told-stepped}
-use Rattle.call_entries.proofs.StepLaws.{faults-are, left-stepped}
+use Rattle.array_kept.proofs.call_entries_StepLaws.{faults-are, left-stepped}
 use Rattle.array_kept.proofs.StepsLeft.{left-whole}
 use Rattle.array_kept.proofs.ToldLosses.{role-told}
 use Rattle.array_kept.proofs.OnlyLaws.{lost-among, gone-or, spare-both, spares-behind-losses, TellsOnly}
 use Rattle.std.proofs.lemmas.List.Sums.{fold-append}
-use Rattle.views.proofs.HeldRows.{missing-moved, vacant-missing}
-use Rattle.shape_views.specs.Regions.{DoWithout}
+use Rattle.array_kept.proofs.views_HeldRows.{missing-moved, vacant-missing}
+use Rattle.array_kept.specs.shape_views_Regions.{DoWithout}
 
 module _ {tells : Type 0} {given : Given} {tape tape' : List Operation} {scope : Scope} {first : ℕ} {entries : List Entry} {members members' : Members} {work : Work}
     (who : Who) (end : ℕ) (was : IsKept tells given tape scope first entries members work)

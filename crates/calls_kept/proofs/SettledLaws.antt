@@ -22,31 +22,31 @@ use Rattle.flat_history.specs.declared.events.Event.TheVariants.{Refused}
 use Rattle.bank.specs.Tape.{IsIn, disk}
 use Rattle.std.specs.List.{list_any}
 use Rattle.std.specs.Prelude.{IsSome, is_some}
-use Rattle.views.specs.declared.work.Work.{Work}
-use Rattle.views.specs.Whole.{list_size}
+use Rattle.array_kept.specs.views_the_Work.{Work}
+use Rattle.array_kept.specs.views_Whole.{list_size}
 use Rattle.flat_history.specs.Flat.{now, values_of, length_of}
 use Rattle.flat_history.specs.Plain.{entries_of}
-use Rattle.views.specs.Placed.{places_of, IsPlaced}
-use Rattle.call_entries.specs.Losing.{losses_of}
-use Rattle.views.specs.Moving.{Grows, IsMoved}
-use Rattle.shape_changes.specs.Safety.{HasRoomLeft, IsRisen}
-use Rattle.shape_views.specs.Views.{Ledger}
-use Rattle.shape_changes.specs.Steady.{IsSafeOver, KeepsSafe, AreGoneTold, IsUncleanTold, AreWritesAllowed, settled_ledger}
-use Rattle.views.specs.Lacking.{AreTooMany, ListStands, RowsStand, AreLostSince, AreHoldersFlushed, mended_rows}
+use Rattle.array_kept.specs.views_Placed.{places_of, IsPlaced}
+use Rattle.array_kept.specs.call_entries_Losing.{losses_of}
+use Rattle.array_kept.specs.views_Moving.{Grows, IsMoved}
+use Rattle.array_kept.specs.shape_changes_Safety.{HasRoomLeft, IsRisen}
+use Rattle.array_kept.specs.shape_views_Views.{Ledger}
+use Rattle.array_kept.specs.shape_changes_Steady.{IsSafeOver, KeepsSafe, AreGoneTold, IsUncleanTold, AreWritesAllowed, settled_ledger}
+use Rattle.array_kept.specs.views_Lacking.{AreTooMany, ListStands, RowsStand, AreLostSince, AreHoldersFlushed, mended_rows}
 use Rattle.array_kept.specs.Kept.{world_in, ledger_now, AreTold, IsKept}
 use Rattle.array_kept.specs.Calls.{AreLeftFlushed}
 use Rattle.array_kept.proofs.NowLaws.{values-more, length-more}
-use Rattle.call_entries.proofs.CallLaws.{GivesNone, losses-are, length-losses, limit-losses, values-losses}
-use Rattle.call_entries.proofs.LosingLaws.{entries-both}
+use Rattle.array_kept.proofs.call_entries_CallLaws.{GivesNone, losses-are, length-losses, limit-losses, values-losses}
+use Rattle.array_kept.proofs.call_entries_LosingLaws.{entries-both}
 use Rattle.array_kept.proofs.LedgerLaws.{told_by, allowed-more, CarriesMore, HasNewest, pending-more, OnlyAdd, add-none, add-one, add-losses, keep-losses, told-unclean, more-safe, settled-now, unsettles-behind}
-use Rattle.call_entries.proofs.PlainLaws.{one}
+use Rattle.array_kept.proofs.call_entries_PlainLaws.{one}
 use Rattle.array_kept.proofs.RecordLaws.{AreSilent}
 use Rattle.array_kept.proofs.ReadyLaws.{Settles, KeepsNewest, silent-behind}
 use Rattle.array_kept.proofs.KeptLaws.{StayPlaced, LeavesSafe, holds-before, newest-old, safe-by, leaves-unsettled}
 use Rattle.array_kept.proofs.DegradedLaws.{stays-moved, told-behind, told-alone, none-ended, count-moved}
-use Rattle.views.proofs.HeldRows.{without-before}
-use Rattle.shape_views.specs.Regions.{DoWithout}
-use Rattle.views.proofs.LackingLaws.{never-both}
+use Rattle.array_kept.proofs.views_HeldRows.{without-before}
+use Rattle.array_kept.specs.shape_views_Regions.{DoWithout}
+use Rattle.array_kept.proofs.views_LackingLaws.{never-both}
 
 -- ---- what was told
 

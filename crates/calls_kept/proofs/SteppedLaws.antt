@@ -12,14 +12,14 @@ use Rattle.flat_history.specs.Legal.{told_left}
 use Rattle.flat_history.specs.Plain.{entries_of}
 use Rattle.flat_history.specs.OneShape.{ShapeOpening, IsIdleStep}
 use Rattle.history_laws.proofs.OneShapeGrowing.{IsOneShapeCall}
-use Rattle.views.specs.declared.work.Work.{Work}
-use Rattle.call_entries.specs.Losing.{losses_of}
-use Rattle.views.specs.Moving.{IsMoved}
-use Rattle.views.specs.Lacking.{AreLostSince}
-use Rattle.views.specs.Status.{left_of}
-use Rattle.call_entries.proofs.CallLaws.{losses-are}
+use Rattle.array_kept.specs.views_the_Work.{Work}
+use Rattle.array_kept.specs.call_entries_Losing.{losses_of}
+use Rattle.array_kept.specs.views_Moving.{IsMoved}
+use Rattle.array_kept.specs.views_Lacking.{AreLostSince}
+use Rattle.array_kept.specs.views_Status.{left_of}
+use Rattle.array_kept.proofs.call_entries_CallLaws.{losses-are}
 use Rattle.array_kept.proofs.StepsLeft.{left-moved}
-use Rattle.call_entries.proofs.StepLaws.{call-stepped}
+use Rattle.array_kept.proofs.call_entries_StepLaws.{call-stepped}
 use Rattle.array_kept.proofs.KeptLaws.{left-lost}
 
 -- Behind the losses of a call whose step lowers the steps left by one, the history tells one more than are left in the end, or none.

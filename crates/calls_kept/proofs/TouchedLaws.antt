@@ -16,16 +16,16 @@ use Rattle.list_io.specs.Full.{DataStands, RowStands, AreWholeIn}
 use Rattle.list_io.specs.Writing.{IsWritten, HasFull}
 use Rattle.flat_history.specs.World.{World}
 use Rattle.flat_history.specs.Sound.{OpensFit}
-use Rattle.shape_views.specs.Views.{Ledger, IsTailZero}
-use Rattle.shape_views.specs.Regions.{DoWithout}
-use Rattle.shape_views.specs.Windows.{IsOfRegion}
-use Rattle.shape_changes.specs.Safety.{HasRoomLeft}
-use Rattle.shape_changes.specs.Steady.{IsSafeOver, KeepsSafe, AreGoneTold, AreWritesAllowed}
-use Rattle.views.specs.Placed.{AreWhole, IsPlaced}
-use Rattle.views.specs.Moving.{IsMoved}
-use Rattle.views.specs.Lacking.{DoesWithout, ListStands, RowsStand, RowsStandBelow, DataStandsAmong, RowsStandAmong, AreOtherRowsKept, IsOfStripe}
-use Rattle.views.proofs.PutLists.{touched-or-not, stripe-or-not, untouched-same, list-put, row-put, rebuilt-put}
-use Rattle.views.proofs.Still.{region-still, tail-still}
+use Rattle.array_kept.specs.shape_views_Views.{Ledger, IsTailZero}
+use Rattle.array_kept.specs.shape_views_Regions.{DoWithout}
+use Rattle.array_kept.specs.shape_views_Windows.{IsOfRegion}
+use Rattle.array_kept.specs.shape_changes_Safety.{HasRoomLeft}
+use Rattle.array_kept.specs.shape_changes_Steady.{IsSafeOver, KeepsSafe, AreGoneTold, AreWritesAllowed}
+use Rattle.array_kept.specs.views_Placed.{AreWhole, IsPlaced}
+use Rattle.array_kept.specs.views_Moving.{IsMoved}
+use Rattle.array_kept.specs.views_Lacking.{DoesWithout, ListStands, RowsStand, RowsStandBelow, DataStandsAmong, RowsStandAmong, AreOtherRowsKept, IsOfStripe}
+use Rattle.array_kept.proofs.views_PutLists.{touched-or-not, stripe-or-not, untouched-same, list-put, row-put, rebuilt-put}
+use Rattle.array_kept.proofs.views_Still.{region-still, tail-still}
 
 -- ---- some rows of the list
 

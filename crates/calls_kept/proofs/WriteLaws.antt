@@ -29,35 +29,35 @@ use Rattle.md_base.proofs.SectorLaws.{length-sectors_of}
 use Rattle.std.specs.List.{list_any}
 use Rattle.std.specs.Prelude.{fold, IsSome, is_some}
 use Rattle.flat_history.specs.Plain.{entries_of}
-use Rattle.views.specs.declared.work.Work.{Work}
-use Rattle.views.specs.Status.{rebuilt_of}
-use Rattle.views.specs.Rebuilding.{AreRebuilt}
-use Rattle.views.specs.Whole.{list_size}
-use Rattle.views.specs.Placed.{places_of, AreWhole, IsPlaced}
-use Rattle.call_entries.specs.Losing.{losses_of, failure_events}
-use Rattle.shape_changes.specs.Marking.{AreOthersPresent}
-use Rattle.views.specs.Moving.{Grows, IsMoved}
-use Rattle.shape_changes.specs.Safety.{HasRoomLeft, IsRisen}
-use Rattle.shape_views.specs.Views.{Ledger}
-use Rattle.shape_changes.specs.Steady.{IsSafeOver, KeepsSafe, AreGoneTold, AreWritesAllowed}
-use Rattle.views.specs.Lacking.{AreLostSince, LacksTooMany, AreBytes, IsUnwritten, ListStands, RowsStandAmong, RowsStandBelow, are_mended, mended_rows, lacking, too_many}
+use Rattle.array_kept.specs.views_the_Work.{Work}
+use Rattle.array_kept.specs.views_Status.{rebuilt_of}
+use Rattle.array_kept.specs.views_Rebuilding.{AreRebuilt}
+use Rattle.array_kept.specs.views_Whole.{list_size}
+use Rattle.array_kept.specs.views_Placed.{places_of, AreWhole, IsPlaced}
+use Rattle.array_kept.specs.call_entries_Losing.{losses_of, failure_events}
+use Rattle.array_kept.specs.shape_changes_Marking.{AreOthersPresent}
+use Rattle.array_kept.specs.views_Moving.{Grows, IsMoved}
+use Rattle.array_kept.specs.shape_changes_Safety.{HasRoomLeft, IsRisen}
+use Rattle.array_kept.specs.shape_views_Views.{Ledger}
+use Rattle.array_kept.specs.shape_changes_Steady.{IsSafeOver, KeepsSafe, AreGoneTold, AreWritesAllowed}
+use Rattle.array_kept.specs.views_Lacking.{AreLostSince, LacksTooMany, AreBytes, IsUnwritten, ListStands, RowsStandAmong, RowsStandBelow, are_mended, mended_rows, lacking, too_many}
 use Rattle.array_kept.specs.Kept.{world_in, AreTold, IsKept}
 use Rattle.array_kept.specs.Calls.{IsRefusedHere}
-use Rattle.call_entries.proofs.CallLaws.{losses-are, length-losses, limit-losses, values-losses}
-use Rattle.views.proofs.LackingLists.{sectors-whole}
-use Rattle.views.proofs.LackingWrites.{list-with, list-with-is, recovering-before}
+use Rattle.array_kept.proofs.call_entries_CallLaws.{losses-are, length-losses, limit-losses, values-losses}
+use Rattle.array_kept.proofs.views_LackingLists.{sectors-whole}
+use Rattle.array_kept.proofs.views_LackingWrites.{list-with, list-with-is, recovering-before}
 use Rattle.array_kept.proofs.LedgerLaws.{told_by, allowed-more, HasNewest, OnlyAdd, add-none, add-one, add-losses, wrote-adds, torn-adds, wrote-in, torn-in, written-allowed, unsettles-behind}
 use Rattle.array_kept.proofs.NowLaws.{values-more}
-use Rattle.call_entries.proofs.PlainLaws.{one}
+use Rattle.array_kept.proofs.call_entries_PlainLaws.{one}
 use Rattle.array_kept.proofs.RecordLaws.{AreSilent, whole-told}
 use Rattle.array_kept.proofs.ReadyLaws.{silent-behind}
 use Rattle.array_kept.proofs.KeptLaws.{LeavesSafe, newest-old, holds-before, mended-are, leaves-unsettled}
 use Rattle.array_kept.proofs.DegradedLaws.{stays-moved, rows-same, too-many-here, pending-of, unwritten-here, told-behind, degraded-refused, degraded-torn, degraded-wrote}
-use Rattle.views.proofs.Stripes.{stripes-multiple}
-use Rattle.views.proofs.HeldRows.{without-before}
-use Rattle.views.proofs.Still.{length-still}
-use Rattle.shape_views.specs.Regions.{DoWithout}
-use Rattle.views.proofs.Fit.{valid, multiple}
+use Rattle.array_kept.proofs.views_Stripes.{stripes-multiple}
+use Rattle.array_kept.proofs.views_HeldRows.{without-before}
+use Rattle.array_kept.proofs.views_Still.{length-still}
+use Rattle.array_kept.specs.shape_views_Regions.{DoWithout}
+use Rattle.array_kept.proofs.views_Fit.{valid, multiple}
 
 -- ---- rows whose parity is to be relied on
 

@@ -5,8 +5,8 @@ use Rattle.std.specs.Option.{option_map_or}
 use Rattle.std.specs.Borrow.{Bor}
 use Rattle.std.proofs.lemmas.List.{append_assoc, length-map, map-append, take_all, take_more}
 use Rattle.clap.specs.Words.{Text}
-use Rattle.command_words.specs.Words.{NamedPaths, is_few, listed, paths_from, paths_in, command_in, is_memory, is_run}
-use Rattle.command_words.specs.Words.Asked.{Memory, Run}
+use Rattle.command_words.specs.Words.{NamedPaths, is_few, listed, paths_from, paths_in, size_in, command_in, is_memory, is_run, is_demo, Asked}
+use Rattle.command_words.specs.Words.Asked.{Memory, Run, Demo}
 
 -- one text more
 pub copies_more : (old fn new : List Text) (texts : List (Bor Text)) (i : ℕ) (d : Bor Text) → i < length texts
@@ -47,11 +47,24 @@ some_named script images slots backup few is =
 -- what the words behind run name is the command's
 pub run_in : (words : List Text) (found : Option NamedPaths) → is_memory words ≡ false → is_run words ≡ true → found ≡ paths_in words
     → option_map_or (λ paths. Some (Run paths)) found None ≡ command_in words
-run_in words found other run is = by_word (is_memory words) (is_run words) (paths_in words) other run is
+run_in words found other run is = by_word (is_memory words) (is_run words) (paths_in words) (if is_demo words then option_map_or (λ size. Some (Demo size)) (size_in words) None else None) other run is
   where
-    by_word : (a b : Bool) (o : Option NamedPaths) → a ≡ false → b ≡ true → found ≡ o
+    by_word : (a b : Bool) (o : Option NamedPaths) (rest : Option Asked) → a ≡ false → b ≡ true → found ≡ o
         → option_map_or (λ paths. Some (Run paths)) found None
-        ≡ (if a then Some Memory else (if b then option_map_or (λ paths. Some (Run paths)) o None else None))
-    by_word false true o x y z = ap (λ q. option_map_or (λ paths. Some (Run paths)) q None) z
-    by_word false false o x y z = absurd (cc)
-    by_word true b o x y z = absurd (cc)
+        ≡ (if a then Some Memory else (if b then option_map_or (λ paths. Some (Run paths)) o None else rest))
+    by_word false true o rest x y z = ap (λ q. option_map_or (λ paths. Some (Run paths)) q None) z
+    by_word false false o rest x y z = absurd (cc)
+    by_word true b o rest x y z = absurd (cc)
+
+-- and so of those behind demo
+pub demo_asked : (words : List Text) (found : Option ℕ) → is_memory words ≡ false → is_run words ≡ false → is_demo words ≡ true → found ≡ size_in words
+    → option_map_or (λ size. Some (Demo size)) found None ≡ command_in words
+demo_asked words found other run demo is = by_word (is_memory words) (is_run words) (is_demo words) (option_map_or (λ paths. Some (Run paths)) (paths_in words) None) (size_in words) other run demo is
+  where
+    by_word : (a b c : Bool) (first : Option Asked) (o : Option ℕ) → a ≡ false → b ≡ false → c ≡ true → found ≡ o
+        → option_map_or (λ size. Some (Demo size)) found None
+        ≡ (if a then Some Memory else (if b then first else (if c then option_map_or (λ size. Some (Demo size)) o None else None)))
+    by_word false false true first o x y w z = ap (λ q. option_map_or (λ size. Some (Demo size)) q None) z
+    by_word false false false first o x y w z = absurd (cc)
+    by_word false true c first o x y w z = absurd (cc)
+    by_word true b c first o x y w z = absurd (cc)

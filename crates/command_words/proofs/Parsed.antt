@@ -10,38 +10,43 @@ use Rattle.clap.specs.declared.parser.matches.ArgMatches.{ArgMatches}
 use Rattle.clap.specs.declared.parser.matches.Found.{Found}
 use Rattle.clap.proofs.OnLiterals.{clap_on_literals}
 use Rattle.clap.proofs.WalkLemmas.{first_value-rows, raw_values-rows}
-use Rattle.command_words.specs.Words.{NamedPaths, IsParsedAs, run_app, faults_in, rows_in, paths_from, paths_found, paths_in}
+use Rattle.command_words.specs.Words.{NamedPaths, IsParsedAs, run_app, demo_app, faults_in, rows_in, paths_from, paths_found, paths_in, size_of, size_found, size_in}
 
 -- ---- the parser's answer
 
-simple : is_simple run_app ≡ true
+-- the two forms are among those that the parser's definition speaks of
+pub run_simple : is_simple run_app ≡ true
 unfolding clap_on_literals
-simple = refl
+run_simple = refl
 
-free : is_simple_and_free run_app ≡ true
+pub run_free : is_simple_and_free run_app ≡ true
 unfolding clap_on_literals
-free = refl
+run_free = refl
+
+pub demo_simple : is_simple demo_app ≡ true
+unfolding clap_on_literals
+demo_simple = refl
+
+pub demo_free : is_simple_and_free demo_app ≡ true
+unfolding clap_on_literals
+demo_free = refl
 
 -- the form's matches, where the parser gave some
-pub parsed : (a : App) (words : List Text) (m : ArgMatches) → a ≡ run_app → HasMatchesOf a words m
-    → (is_simple_and_free a ≡ true → fault_of a words ≡ []) → IsParsedAs words (Some m)
+pub parsed : (a : App) (words : List Text) (m : ArgMatches) → is_simple a ≡ true → is_simple_and_free a ≡ true → HasMatchesOf a words m
+    → (is_simple_and_free a ≡ true → fault_of a words ≡ []) → IsParsedAs a words (Some m)
 unfolding faults_in rows_in
-parsed a words m is has none = (
-  (subst (λ (x : App). is_simple_and_free x ≡ true → fault_of x words ≡ []) is none) free,
-  ((subst (λ (x : App). HasMatchesOf x words m) is has) simple).0,
-)
+parsed a words m simple free has none = (none free, (has simple).0)
 
 by_kind : (e : Error) → HasKind [] e → kind_of e ≡ OutOfMemory
 by_kind e (inl short) = short
 by_kind e (inr bad) = absurd bad
 
 -- a fault, where it gave an error that isn't want of memory
-pub refused : (a : App) (words : List Text) (e : Error) → a ≡ run_app → (is_simple_and_free a ≡ true → HasKind (fault_of a words) e)
-    → kind_of e ≢ OutOfMemory → IsParsedAs words None
+pub refused : (a : App) (words : List Text) (e : Error) → is_simple_and_free a ≡ true → (is_simple_and_free a ≡ true → HasKind (fault_of a words) e)
+    → kind_of e ≢ OutOfMemory → IsParsedAs a words None
 unfolding faults_in
-refused a words e is has other none =
-    other (by_kind e (subst (λ (kinds : Kinds). HasKind kinds e) none
-    ((subst (λ (x : App). is_simple_and_free x ≡ true → HasKind (fault_of x words) e) is has) free)))
+refused a words e free has other none =
+    other (by_kind e (subst (λ (kinds : Kinds). HasKind kinds e) none (has free)))
 
 -- ---- what is read of the matches
 
@@ -73,7 +78,7 @@ no_images_read f none = paths_read f (first_value f (codes "SCRIPT")) (first_val
 
 -- ---- by the words
 
-choose_none : (kinds : Kinds) (o : Option NamedPaths) → kinds ≢ [] → (if length kinds == 0 then o else None) ≡ None
+choose_none : {A : Type 0} (kinds : Kinds) (o : Option A) → kinds ≢ [] → (if length kinds == 0 then o else None) ≡ None
 choose_none [] o some = absurd (some refl)
 choose_none (k ∷ ks) o some = by_count (length (k ∷ ks) == 0) (grind (arith, nat_tests))
   where
@@ -81,12 +86,22 @@ choose_none (k ∷ ks) o some = by_count (length (k ∷ ks) == 0) (grind (arith,
     by_count true is = absurd (cc)
     by_count false is = refl
 
-choose_some : (kinds : Kinds) (o : Option NamedPaths) → kinds ≡ [] → (if length kinds == 0 then o else None) ≡ o
+choose_some : {A : Type 0} (kinds : Kinds) (o : Option A) → kinds ≡ [] → (if length kinds == 0 then o else None) ≡ o
 choose_some [] o none = refl
 choose_some (k ∷ ks) o none = absurd (cc)
 
-pub none_in : (words : List Text) → IsParsedAs words None → None ≡ paths_in words
-none_in words is = sym (choose_none (faults_in words) (paths_found (rows_in words)) is)
+pub none_in : (words : List Text) → IsParsedAs run_app words None → None ≡ paths_in words
+none_in words is = sym (choose_none (faults_in run_app words) (paths_found (rows_in run_app words)) is)
 
-pub some_in : (words : List Text) (m : ArgMatches) → IsParsedAs words (Some m) → paths_found (rows_of (found_of m)) ≡ paths_in words
-some_in words m is = ap paths_found is.1 ∙ sym (choose_some (faults_in words) (paths_found (rows_in words)) is.0)
+pub some_in : (words : List Text) (m : ArgMatches) → IsParsedAs run_app words (Some m) → paths_found (rows_of (found_of m)) ≡ paths_in words
+some_in words m is = ap paths_found is.1 ∙ sym (choose_some (faults_in run_app words) (paths_found (rows_in run_app words)) is.0)
+
+pub no_size_in : (words : List Text) → IsParsedAs demo_app words None → None ≡ size_in words
+no_size_in words is = sym (choose_none (faults_in demo_app words) (size_found (rows_in demo_app words)) is)
+
+pub size_is_in : (words : List Text) (m : ArgMatches) → IsParsedAs demo_app words (Some m) → size_found (rows_of (found_of m)) ≡ size_in words
+size_is_in words m is = ap size_found is.1 ∙ sym (choose_some (faults_in demo_app words) (size_found (rows_in demo_app words)) is.0)
+
+-- the size is read of the one argument
+pub size_read : (f : Found) (word : Option Text) → word ≡ first_value f (codes "N") → option_map_or size_of word None ≡ size_found (rows_of f)
+size_read f word is = ap (λ o. option_map_or size_of o None) (is ∙ first_value-rows f (codes "N"))

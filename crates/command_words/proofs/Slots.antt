@@ -1,11 +1,11 @@
 -- How many slots a command has, and where its backup is.
-use Rattle.std.proofs.Common.{◌≡◌, ◌+◌, ◌-◌, ◌≤◌, Bool, true, false, Option, Some, None, List, ◌++◌, length, refl, subst, arith, length-append}
+use Rattle.std.proofs.Common.{◌≡◌, ℕ, ◌+◌, ◌-◌, ◌≤◌, Bool, true, false, Option, Some, None, List, ◌++◌, length, refl, subst, arith, length-append}
 use Rattle.std.specs.Prelude.{MatchOption, ⊤, is_some, if◌then◌else◌, codes, ◌==◌}
 use Rattle.std.specs.Option.{option_map_or}
 use Rattle.std.proofs.lemmas.Bool.Decides.{nat_tests}
 use Rattle.clap.specs.Words.{Row, Text, all_of, first_of}
-use Rattle.command_words.specs.Words.{Asked, NamedPaths, is_few, listed, paths_from, paths_found, paths_in, faults_in, rows_in, command_in, is_memory, is_run, slots_for, backup_for}
-use Rattle.command_words.specs.Words.Asked.{Memory, Run}
+use Rattle.command_words.specs.Words.{Asked, NamedPaths, is_few, listed, paths_from, paths_found, paths_in, faults_in, rows_in, run_app, size_in, command_in, is_memory, is_run, is_demo, slots_for, backup_for}
+use Rattle.command_words.specs.Words.Asked.{Memory, Run, Demo}
 
 -- at most 32 slots, the last of which is the backup's, where it has one
 pub record HasFewSlots (asked : Asked) : Type 0 where
@@ -46,11 +46,11 @@ found_few rows paths is = by_images (all_of (codes "IMAGE") rows) is
     by_images (Some images) h = from_few_paths (first_of (codes "SCRIPT") rows) images (first_of (codes "backup") rows) paths h
 
 in_few : (words : List Text) (paths : NamedPaths) → paths_in words ≡ Some paths → ArePathsFew paths
-in_few words paths is = by_faults (length (faults_in words) == 0) is
+in_few words paths is = by_faults (length (faults_in run_app words) == 0) is
   where
-    by_faults : (b : Bool) → (if b then paths_found (rows_in words) else None) ≡ Some paths → ArePathsFew paths
+    by_faults : (b : Bool) → (if b then paths_found (rows_in run_app words) else None) ≡ Some paths → ArePathsFew paths
     by_faults false h = absurd (cc)
-    by_faults true h = found_few (rows_in words) paths h
+    by_faults true h = found_few (rows_in run_app words) paths h
 
 memory_few : HasFewSlots Memory
 memory_few = record { few = omega arith; last = refl }
@@ -62,16 +62,25 @@ run_few paths are = record { few = are.few; last = by_backup paths.has_backup }
     by_backup true = let some = are.some in omega (arith, some)
     by_backup false = tt
 
+demo_few : (size : ℕ) → HasFewSlots (Demo size)
+demo_few size = record { few = omega arith; last = refl }
+
 -- a command's words name no more slots
 pub asked_few : (words : List Text) (asked : Asked) → command_in words ≡ Some asked → HasFewSlots asked
-asked_few words asked is = by_word (is_memory words) (is_run words) (paths_in words) (λ paths h. in_few words paths h) is
+asked_few words asked is = by_word (is_memory words) (is_run words) (is_demo words) (paths_in words) (size_in words) (λ paths h. in_few words paths h) is
   where
     by_paths : (o : Option NamedPaths) → ((paths : NamedPaths) → o ≡ Some paths → ArePathsFew paths) → option_map_or (λ paths. Some (Run paths)) o None ≡ Some asked → HasFewSlots asked
     by_paths None few h = absurd (cc)
     by_paths (Some paths) few h = let made : Run paths ≡ asked = cc in subst HasFewSlots made (run_few paths (few paths refl))
 
-    by_word : (a b : Bool) (o : Option NamedPaths) → ((paths : NamedPaths) → o ≡ Some paths → ArePathsFew paths)
-        → (if a then Some Memory else (if b then option_map_or (λ paths. Some (Run paths)) o None else None)) ≡ Some asked → HasFewSlots asked
-    by_word true b o few h = let made : Memory ≡ asked = cc in subst HasFewSlots made memory_few
-    by_word false true o few h = by_paths o few h
-    by_word false false o few h = absurd (cc)
+    by_size : (s : Option ℕ) → option_map_or (λ size. Some (Demo size)) s None ≡ Some asked → HasFewSlots asked
+    by_size None h = absurd (cc)
+    by_size (Some size) h = let made : Demo size ≡ asked = cc in subst HasFewSlots made (demo_few size)
+
+    by_word : (a b c : Bool) (o : Option NamedPaths) (s : Option ℕ) → ((paths : NamedPaths) → o ≡ Some paths → ArePathsFew paths)
+        → (if a then Some Memory else (if b then option_map_or (λ paths. Some (Run paths)) o None else (if c then option_map_or (λ size. Some (Demo size)) s None else None)))
+        ≡ Some asked → HasFewSlots asked
+    by_word true b c o s few h = let made : Memory ≡ asked = cc in subst HasFewSlots made memory_few
+    by_word false true c o s few h = by_paths o few h
+    by_word false false true o s few h = by_size s h
+    by_word false false false o s few h = absurd (cc)

@@ -1,9 +1,10 @@
 //! The command that the words name.
 
-ghost use Rattle.std.specs.Prelude.{◌≡◌, true, map, option_map, string_bytes, IfOk, OnErr};
-ghost use Rattle.command_words.specs.Words.{asked_by, command_in, is_memory, is_run};
+ghost use Rattle.std.specs.Prelude.{◌≡◌, true, false, map, option_map, string_bytes, IfOk, IfSome, OnErr};
+ghost use Rattle.command_words.specs.Words.{asked_by, command_in, is_memory, is_run, is_demo, is_parsed, demo_for, IsDemoSize};
 
 use crate::paths::{Paths, paths_of};
+use crate::sizes::demo_size;
 use md_base::NoMemory;
 use std::alloc::Global;
 
@@ -14,6 +15,8 @@ pub enum Command {
     Memory,
     /// A script from a file, over image files.
     Run(Paths),
+    /// The script of a demo of this size, 1 to 64, over members in memory.
+    Demo(u64),
 }
 
 // Whether the words are `memory`, alone.
@@ -36,21 +39,60 @@ fn is_run(words: &[String]) -> bool
     }
 }
 
-/// The command that the words name, and `None` where they are no command's form. Memory is wanted for the words of a run
-/// alone.
-pub fn command_of(alloc: Global, words: &[String]) -> Result<Option<Command>, NoMemory>
-    ensures named { IfOk result (λ found. option_map asked_by found ≡ command_in (map string_bytes words.now)) }
-    ensures short { OnErr result (is_run (map string_bytes words.now) ≡ true) }
+// Whether the first word is `demo`.
+fn is_demo(words: &[String]) -> bool
+    ensures { result ≡ is_demo (map string_bytes words.now) }
 {
-    if is_memory(words) {
-        return Ok(Some(Command::Memory));
+    match words {
+        [word, ..] => word.as_str() == "demo",
+        [] => false,
     }
-    if !is_run(words) {
-        return Ok(None);
-    }
+}
+
+// The run that the words name.
+fn run_of(alloc: Global, words: &[String]) -> Result<Option<Command>, NoMemory>
+    requires other { is_memory (map string_bytes words.now) ≡ false }
+    requires run { is_run (map string_bytes words.now) ≡ true }
+    ensures named { IfOk result (λ found. option_map asked_by found ≡ command_in (map string_bytes words.now)) }
+    ensures few { IfOk result (λ found. IfSome found (λ command. IfSome (demo_for (asked_by command)) IsDemoSize)) }
+{
     match paths_of(alloc, words) {
         Ok(Some(paths)) => Ok(Some(Command::Run(paths))),
         Ok(None) => Ok(None),
         Err(none) => Err(none),
     }
+}
+
+// The demo that the words name.
+fn demo_of(alloc: Global, words: &[String]) -> Result<Option<Command>, NoMemory>
+    requires other { is_memory (map string_bytes words.now) ≡ false }
+    requires no_run { is_run (map string_bytes words.now) ≡ false }
+    requires demo { is_demo (map string_bytes words.now) ≡ true }
+    ensures named { IfOk result (λ found. option_map asked_by found ≡ command_in (map string_bytes words.now)) }
+    ensures few { IfOk result (λ found. IfSome found (λ command. IfSome (demo_for (asked_by command)) IsDemoSize)) }
+{
+    match demo_size(alloc, words) {
+        Ok(Some(size)) => Ok(Some(Command::Demo(size))),
+        Ok(None) => Ok(None),
+        Err(none) => Err(none),
+    }
+}
+
+/// The command that the words name, and `None` where they are no command's form. Memory is wanted for words that begin with `run`
+/// or `demo` alone.
+pub fn command_of(alloc: Global, words: &[String]) -> Result<Option<Command>, NoMemory>
+    ensures named { IfOk result (λ found. option_map asked_by found ≡ command_in (map string_bytes words.now)) }
+    ensures few { IfOk result (λ found. IfSome found (λ command. IfSome (demo_for (asked_by command)) IsDemoSize)) }
+    ensures short { OnErr result (is_parsed (map string_bytes words.now) ≡ true) }
+{
+    if is_memory(words) {
+        return Ok(Some(Command::Memory));
+    }
+    if is_run(words) {
+        return run_of(alloc, words);
+    }
+    if !is_demo(words) {
+        return Ok(None);
+    }
+    demo_of(alloc, words)
 }

@@ -4,6 +4,8 @@
 mod command;
 mod parsing;
 mod paths;
+mod sizes;
 
 pub use command::{Command, command_of};
 pub use paths::Paths;
+pub use sizes::MOST_SIZE;

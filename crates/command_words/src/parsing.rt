@@ -1,8 +1,8 @@
-//! The words after `run`, as the parser of command lines takes them.
+//! The words after `run` and after `demo`, as the parser of command lines takes them.
 
-ghost use Rattle.std.specs.Prelude.{◌≡◌, ◌≢◌, map, string_bytes, IfOk, IsTrue, IsFalse};
-ghost use Rattle.clap.specs.Words.{app_of, kind_of};
-ghost use Rattle.command_words.specs.Words.{run_app, IsParsedAs};
+ghost use Rattle.std.specs.Prelude.{◌≡◌, ◌≢◌, true, map, string_bytes, IfOk, IsTrue, IsFalse};
+ghost use Rattle.clap.specs.Words.{app_of, kind_of, is_simple, is_simple_and_free};
+ghost use Rattle.command_words.specs.Words.{run_app, demo_app, IsParsedAs};
 
 use clap::error::ErrorKind;
 use clap::{Arg, ArgAction, ArgMatches, Command, Error};
@@ -40,14 +40,21 @@ fn is_short(error: &Error) -> bool
     }
 }
 
-/// What is found in the words, the first of which is `run`, and `None` where they are not of the form.
-pub fn parse<'a>(alloc: Global, words: &'a [String]) -> Result<Option<ArgMatches<'a>>, NoMemory>
-    ensures { IfOk result (λ found. IsParsedAs (map string_bytes words.now) found) }
+// The form of the words: one positional.
+fn demo_form<'a>(alloc: Global) -> Result<Command<'a>, AllocError>
+    ensures { IfOk result (λ c. app_of c ≡ demo_app) }
 {
-    let form = match run_form(alloc) {
-        Ok(form) => form,
-        Err(_) => return Err(NoMemory {}),
-    };
+    let size = Arg::new(alloc, "N").required(true).action(ArgAction::Set);
+    let command = Command::new(alloc, "demo").arg(size)?;
+    Ok(command)
+}
+
+// What is found in the words by this form, and `None` where they are not of it.
+fn parse<'a>(form: Command<'a>, words: &'a [String]) -> Result<Option<ArgMatches<'a>>, NoMemory>
+    requires simple { is_simple (app_of form) ≡ true }
+    requires free { is_simple_and_free (app_of form) ≡ true }
+    ensures { IfOk result (λ found. IsParsedAs (app_of form.entry) (map string_bytes words.now) found) }
+{
     match form.try_get_matches_from(words) {
         Ok(matches) => Ok(Some(matches)),
         Err(error) => {
@@ -57,5 +64,28 @@ pub fn parse<'a>(alloc: Global, words: &'a [String]) -> Result<Option<ArgMatches
                 Ok(None)
             }
         }
+    }
+}
+
+/// What is found in the words, the first of which is `run`, and `None` where they are not of the form.
+pub fn parse_run<'a>(alloc: Global, words: &'a [String]) -> Result<Option<ArgMatches<'a>>, NoMemory>
+    ensures { IfOk result (λ found. IsParsedAs run_app (map string_bytes words.now) found) }
+{
+    match run_form(alloc) {
+        Ok(form) => parse(form, words),
+        Err(_) => Err(NoMemory {}),
+    }
+}
+
+/// What is found in the words, the first of which is `demo`, and `None` where they are not of the form.
+pub fn parse_demo<'a>(
+    alloc: Global,
+    words: &'a [String],
+) -> Result<Option<ArgMatches<'a>>, NoMemory>
+    ensures { IfOk result (λ found. IsParsedAs demo_app (map string_bytes words.now) found) }
+{
+    match demo_form(alloc) {
+        Ok(form) => parse(form, words),
+        Err(_) => Err(NoMemory {}),
     }
 }

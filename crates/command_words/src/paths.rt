@@ -4,7 +4,7 @@ ghost use Rattle.std.specs.Prelude.{◌≡◌, ◌++◌, [], ◌∷◌, Some, ma
 ghost use Rattle.clap.specs.Words.{found_of, rows_of};
 ghost use Rattle.command_words.specs.Words.{told_by, is_few, listed, paths_from, paths_found, paths_in};
 
-use crate::parsing::parse;
+use crate::parsing::parse_run;
 use clap::ArgMatches;
 use md_base::NoMemory;
 use std::alloc::Global;
@@ -134,7 +134,7 @@ fn found_paths<'a>(alloc: Global, matches: &ArgMatches<'a>) -> Result<Option<Pat
 pub fn paths_of(alloc: Global, words: &[String]) -> Result<Option<Paths>, NoMemory>
     ensures { IfOk result (λ found. option_map told_by found ≡ paths_in (map string_bytes words.now)) }
 {
-    match parse(alloc, words) {
+    match parse_run(alloc, words) {
         Ok(Some(matches)) => found_paths(alloc, &matches),
         Ok(None) => Ok(None),
         Err(none) => Err(none),

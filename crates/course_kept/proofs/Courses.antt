@@ -26,20 +26,20 @@ use Rattle.backup.specs.Section.{names_span, has_section}
 use Rattle.flat_history.specs.ActiveSection.{section_for}
 use Rattle.flat_history.specs.Stands.{shape_for}
 use Rattle.region_laws.specs.Regions.{IsDirected}
-use Rattle.shape_views.specs.Regions.{open_by, place_by}
-use Rattle.shape_views.specs.Windows.{IsShown, ListStands, RowsStand, moved_past}
-use Rattle.shape_views.proofs.Headers.{backup-is, names-one, span-same}
-use Rattle.shape_views.proofs.Tails.{no-tail, some-listed, row-within, moved-tails}
-use Rattle.shape_views.proofs.Stands.{moved-stands, moved-rows-stand}
-use Rattle.shape_views.proofs.UnderWay.{row-apart, row-apart-uncritical, under-way, is-reshaping}
-use Rattle.shape_changes.proofs.LessViews.{ends-place}
-use Rattle.shape_ends.proofs.EndLaws.{places-alike-stand, begun-alike}
-use Rattle.shape_ends.proofs.GrownLaws.{zero-is-sector}
+use Rattle.window_steps.specs.shape_views_Regions.{open_by, place_by}
+use Rattle.window_steps.specs.shape_views_Windows.{IsShown, ListStands, RowsStand, moved_past}
+use Rattle.window_steps.proofs.shape_views_Headers.{backup-is, names-one, span-same}
+use Rattle.window_steps.proofs.shape_views_Tails.{no-tail, some-listed, row-within, moved-tails}
+use Rattle.window_steps.proofs.shape_views_Stands.{moved-stands, moved-rows-stand}
+use Rattle.window_steps.proofs.shape_views_UnderWay.{row-apart, row-apart-uncritical, under-way, is-reshaping}
+use Rattle.window_steps.proofs.shape_changes_LessViews.{ends-place}
+use Rattle.window_steps.proofs.shape_ends_EndLaws.{places-alike-stand, begun-alike}
+use Rattle.window_steps.proofs.shape_ends_GrownLaws.{zero-is-sector}
 use Rattle.geometry.proofs.Rows.{rows_hold}
-use Rattle.views.specs.Placed.{IsPlaced}
-use Rattle.views.specs.Lacking.{IsOfStripe}
-use Rattle.views.proofs.LackingWrites.{others-same}
-use Rattle.window_rows.specs.Copies.{tail_of}
+use Rattle.window_steps.specs.views_Placed.{IsPlaced}
+use Rattle.window_steps.specs.views_Lacking.{IsOfStripe}
+use Rattle.window_steps.proofs.views_LackingWrites.{others-same}
+use Rattle.window_steps.specs.window_rows_Copies.{tail_of}
 use Rattle.window_steps.proofs.CopyLaws.{open-alike}
 use Rattle.window_steps.proofs.PastLaws.{header-alike, past-placed}
 use Rattle.grow_asked.specs.declared.window.Window.{Window}

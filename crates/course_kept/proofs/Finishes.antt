@@ -17,13 +17,13 @@ use Rattle.superblocks.specs.Reading.{is_backward, final_shape, list_length, nex
 use Rattle.superblocks.specs.Verdict.{off_unit}
 use Rattle.row_io.specs.Rows.{reading_of, held_slot}
 use Rattle.list_io.specs.Full.{RowStands}
-use Rattle.shape_views.specs.Regions.{AreShapesFit, place_by}
-use Rattle.shape_views.specs.Windows.{IsShown, moved_past}
-use Rattle.shape_views.proofs.Tails.{no-tail}
-use Rattle.views.specs.Placed.{IsPlaced}
-use Rattle.views.specs.Moving.{IsMoved}
-use Rattle.views.proofs.Fit.{list-alike}
-use Rattle.views.proofs.MovedLaws.{moved-same}
+use Rattle.window_steps.specs.shape_views_Regions.{AreShapesFit, place_by}
+use Rattle.window_steps.specs.shape_views_Windows.{IsShown, moved_past}
+use Rattle.window_steps.proofs.shape_views_Tails.{no-tail}
+use Rattle.window_steps.specs.views_Placed.{IsPlaced}
+use Rattle.window_steps.specs.views_Moving.{IsMoved}
+use Rattle.window_steps.proofs.views_Fit.{list-alike}
+use Rattle.window_steps.proofs.views_MovedLaws.{moved-same}
 use Rattle.window_steps.proofs.PastLaws.{roomy, placed-roomy, past-rows, next-moved, free-moved}
 use Rattle.grow_asked.specs.declared.window.Window.TheVariants.{Entered}
 use Rattle.course_kept.specs.Course.{IsOfStripes, hidden_in, AnyShape, StandsInCourse, past_stripe}

@@ -17,15 +17,15 @@ use Rattle.row_io.specs.Rows.{reading_of, held_slot}
 use Rattle.row_io.proofs.Losses.{holder-of}
 use Rattle.list_io.specs.Full.{RowStands}
 use Rattle.flat_history.specs.Stands.{shape_at, shape_for}
-use Rattle.shape_views.specs.Regions.{place_by, DoWithout}
-use Rattle.shape_views.specs.Views.{IsTail}
-use Rattle.shape_views.specs.Windows.{IsShown, ListStands, RowsStand, AreTailsStanding}
-use Rattle.shape_views.proofs.Stands.{StandsAt}
-use Rattle.views.specs.Placed.{HaveSameReshape}
-use Rattle.views.specs.Moving.{IsMoved}
-use Rattle.views.specs.Lacking.{lacking, DoesWithout, AreOtherRowsKept}
-use Rattle.views.proofs.Fit.{for-alike, list-alike}
-use Rattle.views.proofs.HeldRows.{held-moved, shape-without-before}
+use Rattle.window_steps.specs.shape_views_Regions.{place_by, DoWithout}
+use Rattle.window_steps.specs.shape_views_Views.{IsTail}
+use Rattle.window_steps.specs.shape_views_Windows.{IsShown, ListStands, RowsStand, AreTailsStanding}
+use Rattle.window_steps.proofs.shape_views_Stands.{StandsAt}
+use Rattle.window_steps.specs.views_Placed.{HaveSameReshape}
+use Rattle.window_steps.specs.views_Moving.{IsMoved}
+use Rattle.window_steps.specs.views_Lacking.{lacking, DoesWithout, AreOtherRowsKept}
+use Rattle.window_steps.proofs.views_Fit.{for-alike, list-alike}
+use Rattle.window_steps.proofs.views_HeldRows.{held-moved, shape-without-before}
 use Rattle.window_steps.proofs.CopyLaws.{row-later}
 use Rattle.course_kept.specs.declared.course.Course.{Course}
 use Rattle.grow_asked.specs.declared.window.Window.{Window}

@@ -15,11 +15,11 @@ use Rattle.row_io.specs.Rows.{reading_of, held_slot}
 use Rattle.row_io.proofs.Losses.{holder-of}
 use Rattle.list_io.specs.Full.{RowStands}
 use Rattle.flat_history.specs.Stands.{shape_for}
-use Rattle.shape_views.specs.Regions.{place_by}
-use Rattle.shape_views.specs.Views.{Disk}
-use Rattle.views.specs.Lacking.{DoesWithout}
-use Rattle.views.specs.Rebuilding.{with_spare}
-use Rattle.views.proofs.AddedMembers.{own-other}
+use Rattle.window_steps.specs.shape_views_Regions.{place_by}
+use Rattle.window_steps.specs.shape_views_Views.{Disk}
+use Rattle.window_steps.specs.views_Lacking.{DoesWithout}
+use Rattle.window_steps.specs.views_Rebuilding.{with_spare}
+use Rattle.window_steps.proofs.views_AddedMembers.{own-other}
 use Rattle.course_kept.specs.declared.course.Course.{Course}
 use Rattle.grow_asked.specs.declared.window.Window.{Window}
 use Rattle.grow_asked.specs.declared.window.Window.TheVariants.{Closed, Entered, Unsure}

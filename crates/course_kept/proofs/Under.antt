@@ -5,13 +5,13 @@ use Rattle.md_base.specs.Sectors.{Sector}
 use Rattle.bank.specs.Tape.{IsIn}
 use Rattle.superblocks.specs.declared.members.Members.{Members}
 use Rattle.superblocks.specs.Reading.{Scope}
-use Rattle.shape_views.specs.Regions.{backup_of, open_by}
+use Rattle.window_steps.specs.shape_views_Regions.{backup_of, open_by}
 use Rattle.parity.specs.Rows.{sector_of}
-use Rattle.shape_views.specs.Views.{AreSectionsAllowed, Disk}
-use Rattle.shape_views.specs.Windows.{IsShown, ListStands, RowsStand}
+use Rattle.window_steps.specs.shape_views_Views.{AreSectionsAllowed, Disk}
+use Rattle.window_steps.specs.shape_views_Windows.{IsShown, ListStands, RowsStand}
 use Rattle.grow_asked.specs.declared.window.Window.{Window}
 use Rattle.grow_asked.specs.declared.window.Window.TheVariants.{Closed, Entered, Unsure}
-use Rattle.window_rows.specs.Copies.{HasWindow}
+use Rattle.window_steps.specs.window_rows_Copies.{HasWindow}
 use Rattle.course_kept.specs.Course.{hidden_in, HasWindowIn, IsStoredAs, HasSection}
 use Rattle.course_kept.specs.Laws.{CoursesStandUnder}
 use Rattle.course_kept.proofs.Frames.{list-whole, rows-whole}

@@ -22,17 +22,17 @@ use Rattle.list_io.specs.Full.{RowStands}
 use Rattle.list_io.specs.Writing.{IsWritten}
 use Rattle.list_io.proofs.FullLaws.{full-same}
 use Rattle.flat_history.specs.Stands.{covers}
-use Rattle.shape_views.specs.Regions.{AreShapesFit, place_by}
-use Rattle.shape_views.specs.Views.{IsTail}
-use Rattle.shape_views.proofs.UnderWay.{window-row, row-apart}
-use Rattle.shape_views.proofs.WindowLaws.{region-rows}
-use Rattle.shape_changes.specs.Updates.{IsAtEnd}
-use Rattle.shape_changes.proofs.LessViews.{ends-place}
-use Rattle.views.specs.Placed.{IsPlaced}
-use Rattle.views.specs.Moving.{IsMoved}
-use Rattle.views.specs.Lacking.{AreOtherRowsKept}
-use Rattle.views.proofs.Fit.{list-alike}
-use Rattle.window_rows.specs.Copies.{HasWindow}
+use Rattle.window_steps.specs.shape_views_Regions.{AreShapesFit, place_by}
+use Rattle.window_steps.specs.shape_views_Views.{IsTail}
+use Rattle.window_steps.proofs.shape_views_UnderWay.{window-row, row-apart}
+use Rattle.window_steps.proofs.shape_views_WindowLaws.{region-rows}
+use Rattle.window_steps.specs.shape_changes_Updates.{IsAtEnd}
+use Rattle.window_steps.proofs.shape_changes_LessViews.{ends-place}
+use Rattle.window_steps.specs.views_Placed.{IsPlaced}
+use Rattle.window_steps.specs.views_Moving.{IsMoved}
+use Rattle.window_steps.specs.views_Lacking.{AreOtherRowsKept}
+use Rattle.window_steps.proofs.views_Fit.{list-alike}
+use Rattle.window_steps.specs.window_rows_Copies.{HasWindow}
 use Rattle.window_steps.specs.Zeroing.{IsThrough}
 use Rattle.window_steps.proofs.CopyLaws.{row-later}
 use Rattle.grow_asked.specs.declared.window.Window.{Window}

@@ -13,12 +13,12 @@ use Rattle.superblocks.specs.Reading.{Scope, is_backward, shape_of, final_shape,
 use Rattle.row_io.specs.Rows.{reading_of, held_slot}
 use Rattle.list_io.specs.Full.{RowStands}
 use Rattle.flat_history.specs.Stands.{shape_for}
-use Rattle.shape_views.specs.Regions.{backup_of, place_by}
-use Rattle.shape_views.specs.Views.{AreHeadersFit, Disk}
-use Rattle.shape_views.specs.Windows.{HasNoSection, IsShown, AreTailsStanding}
-use Rattle.shape_views.specs.Backups.{IsOpenUnderAll, IsOpenOrNot}
-use Rattle.shape_ends.specs.Grown.{IsZeroPast}
-use Rattle.window_rows.specs.Copies.{HasWindow, IsRoomFor}
+use Rattle.window_steps.specs.shape_views_Regions.{backup_of, place_by}
+use Rattle.window_steps.specs.shape_views_Views.{AreHeadersFit, Disk}
+use Rattle.window_steps.specs.shape_views_Windows.{HasNoSection, IsShown, AreTailsStanding}
+use Rattle.window_steps.specs.shape_views_Backups.{IsOpenUnderAll, IsOpenOrNot}
+use Rattle.window_steps.specs.shape_ends_Grown.{IsZeroPast}
+use Rattle.window_steps.specs.window_rows_Copies.{HasWindow, IsRoomFor}
 use Rattle.window_steps.specs.Zeroing.{IsThrough}
 use Rattle.course_kept.specs.declared.course.Course.{Course}
 use Rattle.grow_asked.specs.declared.window.Window.{Window}

@@ -16,19 +16,19 @@ use Rattle.row_io.specs.Rows.{reading_of, held_slot}
 use Rattle.list_io.specs.Full.{RowStands}
 use Rattle.list_io.specs.Writing.{IsWritten}
 use Rattle.flat_history.specs.Stands.{shape_for, covers}
-use Rattle.shape_views.specs.Regions.{place_by, ArePlaced, DoWithout}
-use Rattle.shape_views.specs.Views.{AreHeadersFit, Disk}
-use Rattle.shape_views.specs.Windows.{IsShown, ListStands, RowsStand, AreTailsStanding, moved_past}
-use Rattle.shape_views.specs.Backups.{IsOpenUnderAll}
-use Rattle.shape_changes.specs.Marking.{AreOthersPresent}
-use Rattle.shape_ends.specs.Ends.{IsBegun}
-use Rattle.shape_ends.specs.Grown.{IsZeroPast}
+use Rattle.window_steps.specs.shape_views_Regions.{place_by, ArePlaced, DoWithout}
+use Rattle.window_steps.specs.shape_views_Views.{AreHeadersFit, Disk}
+use Rattle.window_steps.specs.shape_views_Windows.{IsShown, ListStands, RowsStand, AreTailsStanding, moved_past}
+use Rattle.window_steps.specs.shape_views_Backups.{IsOpenUnderAll}
+use Rattle.window_steps.specs.shape_changes_Marking.{AreOthersPresent}
+use Rattle.window_steps.specs.shape_ends_Ends.{IsBegun}
+use Rattle.window_steps.specs.shape_ends_Grown.{IsZeroPast}
 use Rattle.reshape_ends.specs.Finished.{IsZeroBehind}
-use Rattle.views.specs.Placed.{IsPlaced}
-use Rattle.views.specs.Moving.{IsMoved}
-use Rattle.views.specs.Lacking.{DoesWithout, IsOfStripe, AreOtherRowsKept}
-use Rattle.views.specs.Under.{StandsUnder, RowsStandUnder}
-use Rattle.window_rows.specs.Copies.{tail_of, HasWindow, IsRoomFor, IsCopied}
+use Rattle.window_steps.specs.views_Placed.{IsPlaced}
+use Rattle.window_steps.specs.views_Moving.{IsMoved}
+use Rattle.window_steps.specs.views_Lacking.{DoesWithout, IsOfStripe, AreOtherRowsKept}
+use Rattle.window_steps.specs.views_Under.{StandsUnder, RowsStandUnder}
+use Rattle.window_steps.specs.window_rows_Copies.{tail_of, HasWindow, IsRoomFor, IsCopied}
 use Rattle.window_steps.specs.Zeroing.{IsThrough}
 use Rattle.course_kept.specs.declared.course.Course.{Course}
 use Rattle.grow_asked.specs.declared.window.Window.{Window}

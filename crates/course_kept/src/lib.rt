@@ -5,6 +5,8 @@ pub mod course;
 pub mod laws;
 
 pub use course::Course;
-pub use reshape_ends;
-pub use window_steps;
-pub use window_steps::safe_updates;
+pub use reshape_ends::{Finished, begin, finish};
+pub use window_steps::{
+    copy, flush_and_record, give_role, has_unnamed, is_spare, is_vacant, list_length, name_missing,
+    newly_vacant, record, settle, too_many, unread, unwritten, vacant_roles, zero,
+};

@@ -11,11 +11,11 @@ use Rattle.geometry.specs.Geometry.{side}
 use Rattle.geometry.proofs.Divisions.{quotient_is}
 use Rattle.superblocks.specs.Reading.{is_reshaping, is_backward, final_shape, list_length, data_offset_of}
 use Rattle.row_io.specs.Rows.{reading_of, held_slot}
-use Rattle.shape_views.specs.Regions.{AreShapesFit}
-use Rattle.shape_views.specs.Views.{IsTail}
-use Rattle.shape_views.proofs.UnderWay.{shape-on}
-use Rattle.views.specs.Lacking.{IsOfStripe}
-use Rattle.views.proofs.Stripes.{sector-in_stripes}
+use Rattle.course_kept.specs.shape_views_Regions.{AreShapesFit}
+use Rattle.course_kept.specs.shape_views_Views.{IsTail}
+use Rattle.course_kept.proofs.shape_views_UnderWay.{shape-on}
+use Rattle.course_kept.specs.views_Lacking.{IsOfStripe}
+use Rattle.course_kept.proofs.views_Stripes.{sector-in_stripes}
 use Rattle.region_mends.specs.Mends.{low_shape, low_stripes}
 use Rattle.region_mends.proofs.region_writes_Sides.{low-valid, low-is, low-fits, low-ends, low-before, low-reach}
 use Rattle.region_mends.proofs.StripeRows.{in-stripe}

@@ -15,15 +15,15 @@ use Rattle.row_io.specs.Rows.{reading_of, held_slot}
 use Rattle.row_io.proofs.Losses.{holder-of}
 use Rattle.list_io.specs.Full.{AreWholeIn, RowStands}
 use Rattle.flat_history.specs.Stands.{shape_for}
-use Rattle.shape_views.specs.Regions.{AreShapesFit, place_by}
-use Rattle.shape_views.specs.Windows.{IsShown}
-use Rattle.shape_changes.proofs.LessViews.{ends-place}
-use Rattle.views.specs.Placed.{IsPlaced}
-use Rattle.views.specs.Moving.{IsMoved}
-use Rattle.views.specs.Lacking.{AreOtherRowsKept}
-use Rattle.views.proofs.Fit.{for-alike, list-alike}
-use Rattle.views.proofs.HeldRows.{held-moved}
-use Rattle.views.proofs.LackingWrites.{others-same}
+use Rattle.course_kept.specs.shape_views_Regions.{AreShapesFit, place_by}
+use Rattle.course_kept.specs.shape_views_Windows.{IsShown}
+use Rattle.course_kept.proofs.shape_changes_LessViews.{ends-place}
+use Rattle.course_kept.specs.views_Placed.{IsPlaced}
+use Rattle.course_kept.specs.views_Moving.{IsMoved}
+use Rattle.course_kept.specs.views_Lacking.{AreOtherRowsKept}
+use Rattle.course_kept.proofs.views_Fit.{for-alike, list-alike}
+use Rattle.course_kept.proofs.views_HeldRows.{held-moved}
+use Rattle.course_kept.proofs.views_LackingWrites.{others-same}
 use Rattle.course_kept.specs.window_steps_Zeroing.{IsThrough}
 use Rattle.course_kept.proofs.window_steps_CopyLaws.{row-later}
 use Rattle.region_mends.specs.region_rows_Stretches.{RowsStandIn}

@@ -15,7 +15,7 @@ use Rattle.row_io.specs.Rows.{reading_of, held_slot}
 use Rattle.row_io.proofs.Losses.{holder-of}
 use Rattle.list_io.specs.Full.{RowStands}
 use Rattle.flat_history.specs.Stands.{shape_for}
-use Rattle.shape_views.specs.Regions.{place_by}
+use Rattle.course_kept.specs.shape_views_Regions.{place_by}
 use Rattle.region_mends.specs.Mends.{low_shape}
 use Rattle.course_kept.specs.declared.course.Course.{Course}
 use Rattle.course_kept.specs.Laws.{DifferInSpares}

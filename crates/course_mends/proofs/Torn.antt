@@ -7,9 +7,9 @@ use Rattle.row_io.specs.Rows.{reading_of, held_slot}
 use Rattle.row_io.proofs.Losses.{holder-of}
 use Rattle.list_io.specs.Full.{RowStands}
 use Rattle.flat_history.specs.Stands.{shape_for}
-use Rattle.shape_views.specs.Regions.{place_by}
-use Rattle.views.proofs.Fit.{for-alike, list-alike}
-use Rattle.views.proofs.HeldRows.{held-moved}
+use Rattle.course_kept.specs.shape_views_Regions.{place_by}
+use Rattle.course_kept.proofs.views_Fit.{for-alike, list-alike}
+use Rattle.course_kept.proofs.views_HeldRows.{held-moved}
 use Rattle.course_kept.proofs.window_steps_CopyLaws.{row-later}
 use Rattle.region_mends.proofs.region_writes_LowRuns.{low-rows}
 use Rattle.region_mends.proofs.region_writes_Together.{rows-together, together-shape}

@@ -10,15 +10,15 @@ use Rattle.sb1.specs.declared.sb.Sb.{Sb}
 use Rattle.geometry.specs.Geometry.{stripes, beyond}
 use Rattle.superblocks.specs.declared.members.Members.{Members}
 use Rattle.superblocks.specs.Reading.{is_reshaping, is_backward, final_shape, list_length, next_window}
-use Rattle.shape_views.specs.Regions.{AreShapesFit}
-use Rattle.shape_views.specs.Windows.{moved_past}
-use Rattle.shape_views.proofs.Headers.{window-filled}
-use Rattle.shape_views.proofs.Stands.{window-inside}
-use Rattle.shape_views.proofs.UnderWay.{is-reshaping}
-use Rattle.shape_ends.proofs.GrownLaws.{zero-is-sector}
-use Rattle.views.specs.Placed.{IsPlaced}
-use Rattle.views.specs.Moving.{IsMoved}
-use Rattle.views.proofs.Fit.{list-alike}
+use Rattle.course_kept.specs.shape_views_Regions.{AreShapesFit}
+use Rattle.course_kept.specs.shape_views_Windows.{moved_past}
+use Rattle.course_kept.proofs.shape_views_Headers.{window-filled}
+use Rattle.course_kept.proofs.shape_views_Stands.{window-inside}
+use Rattle.course_kept.proofs.shape_views_UnderWay.{is-reshaping}
+use Rattle.course_kept.proofs.shape_ends_GrownLaws.{zero-is-sector}
+use Rattle.course_kept.specs.views_Placed.{IsPlaced}
+use Rattle.course_kept.specs.views_Moving.{IsMoved}
+use Rattle.course_kept.proofs.views_Fit.{list-alike}
 use Rattle.region_mends.specs.Mends.{relied_sector}
 use Rattle.region_mends.proofs.ReliedLaws.{relied-reaches}
 use Rattle.course_kept.specs.declared.course.Course.{Course}

@@ -14,12 +14,12 @@ use Rattle.row_io.specs.Rows.{reading_of}
 use Rattle.list_io.specs.Full.{AreWholeIn, RowStands}
 use Rattle.list_io.specs.Writing.{IsWritten}
 use Rattle.flat_history.specs.Stands.{covers}
-use Rattle.shape_views.specs.Regions.{AreShapesFit, ArePlaced}
-use Rattle.shape_views.specs.Windows.{AreTailsStanding, moved_past}
-use Rattle.shape_changes.specs.Marking.{AreOthersPresent}
-use Rattle.views.specs.Placed.{IsPlaced}
-use Rattle.views.specs.Moving.{IsMoved}
-use Rattle.views.specs.Lacking.{IsOfStripe, AreOtherRowsKept}
+use Rattle.course_kept.specs.shape_views_Regions.{AreShapesFit, ArePlaced}
+use Rattle.course_kept.specs.shape_views_Windows.{AreTailsStanding, moved_past}
+use Rattle.course_kept.specs.shape_changes_Marking.{AreOthersPresent}
+use Rattle.course_kept.specs.views_Placed.{IsPlaced}
+use Rattle.course_kept.specs.views_Moving.{IsMoved}
+use Rattle.course_kept.specs.views_Lacking.{IsOfStripe, AreOtherRowsKept}
 use Rattle.region_mends.specs.region_rows_Stretches.{ListStandsIn, RowsStandIn}
 use Rattle.region_mends.specs.region_writes_Runs.{IsListTouched}
 use Rattle.region_mends.specs.Mends.{low_shape, low_stripes, mend_stripes, stripe_behind, relied_sector, IsMendRow, AreEndsStanding}

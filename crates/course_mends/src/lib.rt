@@ -3,5 +3,14 @@
 
 pub mod laws;
 
-pub use course_kept::{reshape_ends, safe_updates};
-pub use region_mends::safe_rows;
+pub use course_kept::{
+    Course, Finished, begin, copy, finish, flush_and_record, give_role, has_unnamed, is_spare,
+    is_vacant, list_length, name_missing, newly_vacant, record, settle, too_many, unread,
+    unwritten, vacant_roles, zero,
+};
+pub use region_mends::counting::resync_left;
+pub use region_mends::mending::{mend_list, unmended};
+pub use region_mends::stripes::relied_sector;
+pub use region_mends::{
+    Filled, fetch, fill, final_in, mend, mended_rows, put, put_list, recovering_slot, shape_in,
+};

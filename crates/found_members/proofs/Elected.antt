@@ -13,9 +13,9 @@ use Rattle.superblocks.specs.Reading.{Reading, reading_of, reading_by, newest_of
 use Rattle.superblocks.specs.Verdict.{members_refusal, first_of_all, fresh_from, unsupported, bad_field, judged_fields, first_bad_entry, two_holders, members_missing, missing_count, too_many, dirty_degraded, off_unit, AreValidShapes}
 use Rattle.superblocks.specs.Election.{reading_in, IsElected}
 use Rattle.superblocks.proofs.ValidFields.{valid-shapes}
-use Rattle.shape_views.specs.Regions.{DoWithout}
-use Rattle.shape_views.proofs.Alike.{found-none}
-use Rattle.shape_views.proofs.Judged.{within-few}
+use Rattle.array_kept.specs.shape_views_Regions.{DoWithout}
+use Rattle.array_kept.proofs.shape_views_Alike.{found-none}
+use Rattle.array_kept.proofs.shape_views_Judged.{within-few}
 
 -- ---- nothing is refused
 

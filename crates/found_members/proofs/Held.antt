@@ -26,9 +26,9 @@ use Rattle.superblock_reads.proofs.SaidSlots.{read-parts}
 use Rattle.superblock_reads.proofs.FoundHeld.{found-of, found-held, found-exact, found-said, live-seen}
 use Rattle.superblock_reads.proofs.StageReads.{held-reads}
 use Rattle.flat_history.specs.Stands.{verdict, refusal_of, backup_absent}
-use Rattle.shape_changes.specs.Marking.{marking}
-use Rattle.shape_changes.specs.Held.{IsHeldBy}
-use Rattle.shape_views.specs.Views.{Disk}
+use Rattle.array_kept.specs.shape_changes_Marking.{marking}
+use Rattle.array_kept.specs.shape_changes_Held.{IsHeldBy}
+use Rattle.array_kept.specs.shape_views_Views.{Disk}
 use Rattle.array_kept.specs.Kept.{scope_in}
 use Rattle.array_kept.specs.Adopting.{AreNumbersKept}
 use Rattle.found_members.specs.Found.{AreElected, AreStored}

@@ -24,10 +24,10 @@ use Rattle.superblock_reads.proofs.Accepted.{IsAccepted, is-accepted}
 use Rattle.superblocks.proofs.ValidFields.{few-roles}
 use Rattle.row_io.specs.Rows.{reading_of}
 use Rattle.row_io.proofs.Apart.{readings-are-apart}
-use Rattle.views.specs.Placed.{IsPlaced}
-use Rattle.shape_changes.specs.Steady.{AreUnlost}
-use Rattle.views.specs.Rebuilding.{AreSparesFree}
-use Rattle.shape_views.specs.Regions.{AreShapesFit}
+use Rattle.array_kept.specs.views_Placed.{IsPlaced}
+use Rattle.array_kept.specs.shape_changes_Steady.{AreUnlost}
+use Rattle.array_kept.specs.views_Rebuilding.{AreSparesFree}
+use Rattle.array_kept.specs.shape_views_Regions.{AreShapesFit}
 use Rattle.found_members.specs.Found.{AreElected}
 use Rattle.found_members.proofs.Elected.{elected-valid, reading-made}
 

@@ -12,8 +12,8 @@ use Rattle.superblocks.specs.Verdict.{members_refusal}
 use Rattle.superblocks.specs.Election.{reading_in}
 use Rattle.superblocks.specs.Reads.{SaysSame, roles_refusal}
 use Rattle.row_io.specs.Rows.{reading_of}
-use Rattle.views.specs.Placed.{IsPlaced}
-use Rattle.shape_views.specs.Regions.{IsReadOf}
+use Rattle.array_kept.specs.views_Placed.{IsPlaced}
+use Rattle.array_kept.specs.shape_views_Regions.{IsReadOf}
 use Rattle.found_members.specs.Found.{AreElected}
 use Rattle.found_members.proofs.Elected.{elected-passes, elected-unrefused, reading-made}
 

@@ -11,7 +11,7 @@ use Rattle.superblocks.specs.Found.{AreInSectors}
 use Rattle.superblocks.specs.Update.{own_in}
 use Rattle.superblocks.specs.Writing.{AreWritable}
 use Rattle.flat_history.specs.Stands.{verdict}
-use Rattle.shape_views.specs.Views.{Disk}
+use Rattle.array_kept.specs.shape_views_Views.{Disk}
 
 -- They are what the superblocks of these slots say, each of which can be written again; the bank's other slots are the lost ones.
 pub record AreElected (bank : Given) (given : ℕ) (members : Members) : Type 0 where

@@ -6,12 +6,12 @@ use Rattle.superblocks.specs.declared.members.Members.{Members}
 use Rattle.superblocks.specs.Election.{reading_in}
 use Rattle.superblocks.specs.Found.{AreLikeNewest}
 use Rattle.superblocks.specs.Reading.{Scope, is_reshaping}
-use Rattle.shape_views.specs.Regions.{AreShapesFit, DoWithout, IsReadOf}
-use Rattle.shape_views.specs.Views.{Disk}
-use Rattle.shape_changes.specs.Held.{IsHeldBy}
-use Rattle.shape_changes.specs.Steady.{AreUnlost}
-use Rattle.views.specs.Placed.{IsPlaced}
-use Rattle.views.specs.Rebuilding.{AreSparesFree}
+use Rattle.array_kept.specs.shape_views_Regions.{AreShapesFit, DoWithout, IsReadOf}
+use Rattle.array_kept.specs.shape_views_Views.{Disk}
+use Rattle.array_kept.specs.shape_changes_Held.{IsHeldBy}
+use Rattle.array_kept.specs.shape_changes_Steady.{AreUnlost}
+use Rattle.array_kept.specs.views_Placed.{IsPlaced}
+use Rattle.array_kept.specs.views_Rebuilding.{AreSparesFree}
 use Rattle.array_kept.specs.Kept.{scope_in}
 use Rattle.array_kept.specs.Adopting.{AreNumbersKept}
 use Rattle.found_members.specs.Found.{AreElected, AreStored}

@@ -2,8 +2,8 @@
 use Rattle.std.proofs.Common.{◌≡◌, ◌≢◌, ◌⊎◌, inl, inr, ℕ, Bool, true, false, refl, sym, ◌∙◌}
 use Rattle.superblocks.specs.declared.members.Members.{Members}
 use Rattle.superblocks.specs.Reads.{has_spare}
-use Rattle.views.specs.Placed.{AreStillHeld}
-use Rattle.views.specs.Rebuilding.{MayHold}
+use Rattle.turning.specs.views_Placed.{AreStillHeld}
+use Rattle.turning.specs.views_Rebuilding.{MayHold}
 use Rattle.running_replies.specs.array_kept_Calls.{AreSparesFewer, AreHeldOrSpare}
 use Rattle.turning.specs.running_words_Adding.{AreSparesBut}
 use Rattle.growing.specs.Plans.{IsAside}

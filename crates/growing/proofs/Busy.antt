@@ -21,8 +21,8 @@ use Rattle.flat_history.proofs.OneShapeReplies.{where-asked}
 use Rattle.grow_asked.specs.Asked.{Asked, grow_refusal}
 use Rattle.grow_asked.specs.Fitting.{IsReadLike}
 use Rattle.grow_asked.proofs.FirstLaws.{judged, exactly}
-use Rattle.kept_history.specs.Recorded.{entry_of}
-use Rattle.kept_history.proofs.Records.{begins-going}
+use Rattle.turning.specs.kept_history_Recorded.{entry_of}
+use Rattle.turning.proofs.kept_history_Records.{begins-going}
 use Rattle.turning.specs.course_kept_the_Course.{Course}
 use Rattle.turning.specs.moving_kept_Moving.{IsMoving}
 use Rattle.turning.proofs.moving_kept_Refusals.{quiet-refusal}

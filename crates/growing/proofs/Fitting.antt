@@ -22,19 +22,19 @@ use Rattle.flat_history.specs.Growing.{EndBy}
 use Rattle.flat_history.specs.Flat.{limit_of, next_number}
 use Rattle.flat_history.specs.Plain.{entries_of}
 use Rattle.flat_history.specs.World.{World, until, reading_at, opening_list}
-use Rattle.views.specs.declared.work.Work.{Work}
+use Rattle.turning.specs.views_the_Work.{Work}
 use Rattle.running_replies.proofs.array_kept_ReplyLaws.{none_before}
 use Rattle.grow_asked.specs.Asked.{Asked, asked_of, IsFirst, IsUngrowable, grow_refusal}
 use Rattle.grow_asked.specs.Fitting.{IsToldBy, IsReadLike, SaysSameShape}
 use Rattle.grow_asked.proofs.FirstLaws.{judged}
 use Rattle.grow_asked.proofs.FitLaws.{refusals-fit, plans-fit}
-use Rattle.kept_history.specs.Recorded.{entry_of}
-use Rattle.kept_history.specs.Safe.{world_in, IsFilledRight}
-use Rattle.kept_history.proofs.Turned.{filled-before}
+use Rattle.turning.specs.kept_history_Recorded.{entry_of}
+use Rattle.turning.specs.kept_history_Safe.{world_in, IsFilledRight}
+use Rattle.turning.proofs.kept_history_Turned.{filled-before}
 use Rattle.running_replies.specs.history_calls_Reliable.{IsReliable}
 use Rattle.turning.specs.still_kept_Still.{AreNoneMissing, IsStill}
 use Rattle.turning.specs.running_words_Parts.{visible_size}
-use Rattle.turning.proofs.running_words_Visible.{visible-is}
+use Rattle.turning.proofs.running_words_VisibleLaws.{visible-is}
 use Rattle.growing.specs.Planned.{IsReadWhereAsked, ArePhasesTold}
 use Rattle.growing.proofs.Read.{read-whole}
 

@@ -20,9 +20,9 @@ use Rattle.row_io.specs.Rows.{reading_of, is_missing}
 use Rattle.flat_history.specs.declared.events.Entry.{Entry}
 use Rattle.flat_history.specs.declared.events.Event.TheVariants.{Refused}
 use Rattle.flat_history.specs.OneShape.{ShapeOpening, IsOneShapeRefusal}
-use Rattle.views.specs.declared.work.Work.{Work}
-use Rattle.views.specs.Placed.{is_vacant}
-use Rattle.views.specs.Status.{stripes_of, rebuilt_of, vacant_count, spare_count, resync_left, role_left, recovery_left, left_of}
+use Rattle.turning.specs.views_the_Work.{Work}
+use Rattle.turning.specs.views_Placed.{is_vacant}
+use Rattle.turning.specs.views_Status.{stripes_of, rebuilt_of, vacant_count, spare_count, resync_left, role_left, recovery_left, left_of}
 use Rattle.grow_asked.specs.Asked.{Asked, lowest_missing, IsUngrowable, grow_refusal}
 use Rattle.grow_asked.proofs.FirstLaws.{judged, none-exactly}
 use Rattle.turning.specs.still_kept_Still.{AreNoneMissing}

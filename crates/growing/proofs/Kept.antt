@@ -15,18 +15,18 @@ use Rattle.flat_history.specs.declared.events.Entry.{Entry}
 use Rattle.flat_history.specs.declared.events.Event.TheVariants.{Planned}
 use Rattle.flat_history.specs.Flat.{next_number}
 use Rattle.flat_history.specs.Plain.{entries_of}
-use Rattle.views.specs.declared.work.Work.{Work}
+use Rattle.turning.specs.views_the_Work.{Work}
 use Rattle.call_entries.proofs.LeftLaws.{fold-left}
 use Rattle.running_replies.proofs.array_kept_NowLaws.{length-more}
 use Rattle.grow_asked.specs.declared.window.PhasesLeft.{PhasesLeft}
 use Rattle.grow_asked.specs.Asked.{Asked, window_for, grow_refusal}
 use Rattle.grow_asked.specs.Left.{phases_of}
-use Rattle.kept_history.proofs.Records.{begins-going}
+use Rattle.turning.proofs.kept_history_Records.{begins-going}
 use Rattle.turning.specs.still_kept_Still.{IsStill}
 use Rattle.turning.proofs.still_kept_Resting.{resting-stands}
 use Rattle.turning.specs.running_words_Parts.{still_left}
 use Rattle.turning.proofs.running_words_Called.{not_254}
-use Rattle.turning.proofs.running_words_Visible.{limit-kept}
+use Rattle.turning.proofs.running_words_VisibleLaws.{limit-kept}
 use Rattle.turning.specs.still_laws_Ready.{IsReady}
 use Rattle.turning.proofs.still_laws_Kept.{plainly-more}
 use Rattle.turning.proofs.still_laws_Plain.{IsLeftPlain, turned-plain, turns-behind}

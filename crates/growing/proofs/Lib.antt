@@ -22,3 +22,19 @@ pub use Rattle.running_replies.proofs.array_kept_ReadyLaws
 pub use Rattle.running_replies.proofs.array_kept_ReplyLaws
 pub use Rattle.running_replies.proofs.calls_kept_AdoptingLaws
 pub use Rattle.running_replies.proofs.reshape_updates_NewRoles
+pub use Rattle.call_entries.proofs.LosingLaws as call_entries_LosingLaws
+pub use Rattle.turning.proofs.views_Fit
+pub use Rattle.turning.proofs.views_LackingLaws
+pub use Rattle.turning.proofs.views_MovedLaws
+pub use Rattle.turning.proofs.kept_history_Marks
+pub use Rattle.turning.proofs.kept_history_Tests
+pub use Rattle.turning.proofs.kept_history_Growing
+pub use Rattle.turning.proofs.shape_changes_Without
+pub use Rattle.turning.proofs.shape_views_Headers
+pub use Rattle.turning.proofs.shape_views_Alike
+pub use Rattle.call_entries.proofs.PlainLaws as call_entries_PlainLaws
+pub use Rattle.call_entries.proofs.CallLaws as call_entries_CallLaws
+pub use Rattle.turning.proofs.shape_changes_PlannedRoles
+pub use Rattle.turning.proofs.shape_views_Stands
+pub use Rattle.turning.proofs.kept_history_Opened
+pub use Rattle.turning.proofs.kept_history_Turned

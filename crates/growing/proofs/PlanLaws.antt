@@ -20,9 +20,9 @@ use Rattle.flat_history.specs.declared.events.Event.TheVariants.{Planned}
 use Rattle.flat_history.specs.Plain.{entries_of}
 use Rattle.flat_history.specs.Reshaped.{plans_after, open_plans, planned_shape}
 use Rattle.flat_history.specs.World.{reading_at}
-use Rattle.views.specs.declared.work.Work.{Work}
-use Rattle.kept_history.specs.Recorded.{entry_of}
-use Rattle.kept_history.specs.Safe.{world_in}
+use Rattle.turning.specs.views_the_Work.{Work}
+use Rattle.turning.specs.kept_history_Recorded.{entry_of}
+use Rattle.turning.specs.kept_history_Safe.{world_in}
 use Rattle.running_replies.specs.history_calls_Reliable.{IsReliable}
 use Rattle.turning.specs.still_kept_Still.{AreNoneMissing, IsStill}
 use Rattle.turning.specs.running_words_Plans.{GoTo}

@@ -9,15 +9,15 @@ use Rattle.superblocks.specs.Reading.{Scope, Reading, is_reshaping, shape_of}
 use Rattle.row_io.specs.Rows.{present}
 use Rattle.flat_history.specs.declared.events.Entry.{Entry}
 use Rattle.flat_history.specs.World.{reading_at}
-use Rattle.shape_views.proofs.Alike.{shape-alike}
-use Rattle.shape_changes.specs.Safety.{HasLiveSlot}
-use Rattle.shape_changes.proofs.Steady.{held-read}
-use Rattle.views.specs.declared.work.Work.{Work}
-use Rattle.views.proofs.LiveLeft.{holder-left, left-steady}
-use Rattle.views.proofs.MemberLaws.{holder-is}
+use Rattle.turning.proofs.shape_views_Alike.{shape-alike}
+use Rattle.turning.specs.shape_changes_Safety.{HasLiveSlot}
+use Rattle.turning.proofs.shape_changes_Steady.{held-read}
+use Rattle.turning.specs.views_the_Work.{Work}
+use Rattle.turning.proofs.views_LiveLeft.{holder-left, left-steady}
+use Rattle.turning.proofs.views_MemberLaws.{holder-is}
 use Rattle.grow_asked.specs.Fitting.{SaysSameShape}
-use Rattle.kept_history.specs.Safe.{world_in}
-use Rattle.kept_history.proofs.Lengths.{now-drawn}
+use Rattle.turning.specs.kept_history_Safe.{world_in}
+use Rattle.turning.proofs.kept_history_Lengths.{now-drawn}
 use Rattle.running_replies.specs.history_calls_Reliable.{IsReliable}
 use Rattle.turning.specs.still_kept_Still.{AreNoneMissing, AreAtRest, IsStill}
 use Rattle.turning.proofs.still_kept_Leaving.{safe-now}

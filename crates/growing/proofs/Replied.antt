@@ -27,13 +27,13 @@ use Rattle.flat_history.specs.OneShape.{IsOfCall}
 use Rattle.flat_history.specs.Plain.{entries_of}
 use Rattle.flat_history.specs.Reshaped.{is_planned}
 use Rattle.flat_history.specs.World.{World}
-use Rattle.views.specs.Rebuilding.{Held}
+use Rattle.turning.specs.views_Rebuilding.{Held}
 use Rattle.running_replies.specs.array_kept_Calls.{IsLossBy}
 use Rattle.running_replies.proofs.array_kept_ReplyLaws.{none_before}
 use Rattle.grow_asked.specs.Asked.{Asked, IsUngrowable}
 use Rattle.grow_asked.specs.Left.{phases_of}
 use Rattle.grow_asked.specs.declared.window.PhasesLeft.{PhasesLeft}
-use Rattle.kept_history.specs.Recorded.{entry_of}
+use Rattle.turning.specs.kept_history_Recorded.{entry_of}
 use Rattle.turning.specs.running_words_Parts.{RunningParts}
 use Rattle.running_replies.specs.running_words_Visible.{visible_refusal, IsVisibleJudged}
 use Rattle.running_replies.specs.Limits.{limit_refusal}

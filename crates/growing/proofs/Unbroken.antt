@@ -22,8 +22,8 @@ use Rattle.flat_history.specs.Stands.{stands}
 use Rattle.flat_history.specs.World.{World}
 use Rattle.call_entries.specs.Losing.{losses_of}
 use Rattle.call_entries.proofs.CallLaws.{AreLossEvents, losses-are}
-use Rattle.kept_history.specs.Recorded.{entry_of, IsCallGoing, MayGoOn, IsLengthKept, IsOpenBehind}
-use Rattle.kept_history.proofs.Growing.{contents-grown}
+use Rattle.turning.specs.kept_history_Recorded.{entry_of, IsCallGoing, MayGoOn, IsLengthKept, IsOpenBehind}
+use Rattle.turning.proofs.kept_history_Growing.{contents-grown}
 use Rattle.running_replies.specs.history_calls_Reliable.{IsReliable}
 use Rattle.turning.specs.still_laws_Steps.{IsCallUnbroken}
 use Rattle.turning.proofs.still_laws_PlansKept.{reliable-before}

@@ -42,3 +42,14 @@ pub use Rattle.running_replies.specs.reshape_ends_Begun
 pub use Rattle.running_replies.specs.reshape_updates_Beginning
 pub use Rattle.running_replies.specs.safe_updates_First
 pub use Rattle.running_replies.specs.safe_updates_Unused
+pub use Rattle.call_entries.specs.Losing as call_entries_Losing
+pub use Rattle.turning.specs.views_Placed
+pub use Rattle.turning.specs.views_Lacking
+pub use Rattle.turning.specs.views_Moving
+pub use Rattle.turning.specs.views_Status
+pub use Rattle.turning.specs.views_Rebuilding
+pub use Rattle.turning.specs.views_the_Work
+pub use Rattle.turning.specs.kept_history_Recorded
+pub use Rattle.turning.specs.kept_history_Safe
+pub use Rattle.turning.specs.shape_changes_Marking
+pub use Rattle.turning.specs.shape_views_Regions

@@ -17,11 +17,11 @@ use Rattle.flat_history.specs.declared.events.Request.TheVariants.{Visible as As
 use Rattle.flat_history.specs.Fits.{Fits, WhereAsked, phases_left}
 use Rattle.flat_history.specs.Plain.{entries_of}
 use Rattle.flat_history.specs.World.{World}
-use Rattle.views.specs.Status.{left_of}
+use Rattle.turning.specs.views_Status.{left_of}
 use Rattle.grow_asked.specs.Asked.{Asked, asked_of, grow_refusal}
 use Rattle.grow_asked.specs.Fitting.{IsReadLike}
 use Rattle.grow_asked.specs.Left.{phases_of}
-use Rattle.kept_history.specs.Recorded.{entry_of}
+use Rattle.turning.specs.kept_history_Recorded.{entry_of}
 use Rattle.running_replies.specs.history_calls_Reliable.{IsReliable}
 use Rattle.turning.specs.still_kept_Still.{AreNoneMissing}
 use Rattle.turning.specs.running_words_Parts.{RunningParts, visible_in}

@@ -5,7 +5,7 @@ use Rattle.superblocks.specs.declared.members.Members.{Members}
 use Rattle.superblocks.specs.Reads.{has_spare}
 use Rattle.flat_history.specs.Reshaped.{open_plans}
 use Rattle.flat_history.specs.World.{World}
-use Rattle.views.specs.Rebuilding.{Held}
+use Rattle.turning.specs.views_Rebuilding.{Held}
 use Rattle.turning.specs.running_words_Parts.{RunningParts}
 use Rattle.turning.specs.running_words_Plans.{ArePlansKept}
 

@@ -4,7 +4,7 @@ ghost use Rattle.std.specs.Prelude.{◌≡◌, ◌<◌, ◌≤◌, ℕ, true, fa
 ghost use Rattle.growing.specs.Plans.{IsAside};
 
 use bank::Bank;
-use running_replies::safe_updates::roles::is_spare;
+use running_replies::is_spare;
 use superblocks::Members;
 use superblocks::sets::contains;
 use turning::{Still, holds_role};

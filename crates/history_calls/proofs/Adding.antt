@@ -20,10 +20,10 @@ use Rattle.flat_history.specs.OneShape.{is_unsettled}
 use Rattle.flat_history.specs.Plain.{entries_of}
 use Rattle.flat_history.specs.Sound.{OpensFit}
 use Rattle.flat_history.specs.World.{World, opening_list}
-use Rattle.shape_views.specs.Views.{Ledger}
-use Rattle.shape_changes.specs.Safety.{HasRoomLeft, IsRisen}
-use Rattle.shape_changes.specs.Steady.{IsMoreTold, IsSafeOver, KeepsSafe, AreGoneTold, IsUncleanTold}
-use Rattle.views.proofs.SoundViews.{throughout-kept}
+use Rattle.call_entries.specs.shape_views_Views.{Ledger}
+use Rattle.call_entries.specs.shape_changes_Safety.{HasRoomLeft, IsRisen}
+use Rattle.call_entries.specs.shape_changes_Steady.{IsMoreTold, IsSafeOver, KeepsSafe, AreGoneTold, IsUncleanTold}
+use Rattle.call_entries.proofs.views_SoundViews.{throughout-kept}
 use Rattle.call_entries.specs.Losing.{losses_of}
 use Rattle.call_entries.proofs.CallLaws.{losses-are, last_end-behind}
 use Rattle.call_entries.proofs.LosingLaws.{entries-both}

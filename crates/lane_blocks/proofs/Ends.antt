@@ -20,9 +20,9 @@ use Rattle.shared_lanes.specs.seen_laws_Callers.{AreReplied, HasCalled}
 use Rattle.shared_lanes.proofs.seen_laws_PlaceLaws.{there, still-replied}
 use Rattle.shared_lanes.specs.lanes_the_Worked.{Worked}
 use Rattle.shared_lanes.specs.lanes_Lane.{StandsIn, done_of}
-use Rattle.shared_lanes.specs.Serving.{most_entries, sectors_of, IsEarlier, IsSound, HasMade, requests_of, array_ways}
+use Rattle.shared_lanes.specs.lanes_Serving.{most_entries, sectors_of, IsEarlier, IsSound, HasMade, requests_of, array_ways}
 use Rattle.shared_lanes.specs.Lanes.{known_of, own_requests, carried_by}
-use Rattle.lane_threads.specs.Threads.{HasPassed, HasWorkedBy}
+use Rattle.shared_lanes.specs.lane_threads_Threads.{HasPassed, HasWorkedBy}
 use Rattle.lane_blocks.specs.Blocks.{HasRun}
 
 -- what holds of what is known

@@ -6,8 +6,8 @@ use Rattle.shared_lanes.specs.running_words_Parts.{RunningParts}
 use Rattle.shared_lanes.specs.running_calls_the_Reply.{Reply}
 use Rattle.shared_lanes.specs.seen_laws_Callers.{AreReplied, HasCalled}
 use Rattle.shared_lanes.specs.lanes_Lane.{AreOneEach, StandsIn, done_of}
-use Rattle.shared_lanes.specs.Serving.{most_entries, sectors_of}
-pub use Rattle.lane_threads.specs.Threads.{HasWorkedBy}
+use Rattle.shared_lanes.specs.lanes_Serving.{most_entries, sectors_of}
+pub use Rattle.shared_lanes.specs.lane_threads_Threads.{HasWorkedBy}
 
 -- Behind the start the caller has made these requests, each once and in their order, up to one for which memory was short, and no others. Each
 -- reply's event stands at its place, in a call of the caller, and fits its request, by the list as it was at the start and the entries since.

@@ -7,7 +7,7 @@ ghost use Rattle.shared_lanes.specs.running_calls_Going.{HasGoneOn};
 ghost use Rattle.shared_lanes.specs.running_calls_Replies.{IsAskable};
 ghost use Rattle.shared_lanes.specs.running_Calls.{running_left};
 ghost use Rattle.shared_lanes.specs.lanes_Pace.{AnswersSteps, asked_by};
-ghost use Rattle.shared_lanes.specs.Serving.{IsEarlier, HasMade};
+ghost use Rattle.shared_lanes.specs.lanes_Serving.{IsEarlier, HasMade};
 ghost use Rattle.lane_blocks.specs.Blocks.{HasRun, HasWorkedBy};
 
 use crate::sharing::{begun, closed, ran, rooms};

@@ -6,4 +6,7 @@ mod rows;
 mod sharing;
 
 pub use block::{Joined, run_block};
-pub use shared_lanes::{Pace, Reply, Running, Worked};
+pub use shared_lanes::{
+    CreateSpec, Pace, Reply, Running, Service, Worked, create_array, open_running, perform,
+    run_lane, run_worker,
+};

@@ -5,15 +5,14 @@ ghost use Rattle.shared_lanes.specs.array_kept_Calls.{IsEndOf};
 ghost use Rattle.shared_lanes.specs.running_calls_Replies.{IsAskable};
 ghost use Rattle.turn_lock.specs.Passes.{AreNew, Ended};
 ghost use Rattle.shared_lanes.specs.lanes_Pace.{AnswersSteps, asked_by};
-ghost use Rattle.shared_lanes.specs.Serving.{array_ways};
+ghost use Rattle.shared_lanes.specs.lanes_Serving.{array_ways};
 ghost use Rattle.shared_lanes.specs.Lanes.{carried_by};
-ghost use Rattle.lane_threads.specs.Threads.{HasPassed, HasWorkedBy};
+ghost use Rattle.shared_lanes.specs.lane_threads_Threads.{HasPassed, HasWorkedBy};
 
 use crate::rows::{put_back, taken};
 use bank::Bank;
 use flat_history::Request;
-use lane_threads::at_once;
-use shared_lanes::{Pace, Pass, Reply, Running, Shared, Worked};
+use shared_lanes::{Pace, Pass, Reply, Running, Shared, Worked, at_once};
 use std::alloc::Global;
 use std::sync::Wait;
 use std::thread::Threads;

@@ -3,4 +3,8 @@
 
 mod threads;
 
+pub use lanes::{
+    CreateSpec, Pace, Reply, Running, Service, Worked, create_array, open_running, perform,
+    run_lane, run_worker, tells_sizes,
+};
 pub use threads::at_once;

@@ -8,6 +8,8 @@ mod worker;
 
 pub use lane::run_lane;
 pub use pace::Pace;
-pub use running_calls::{Reply, Running, perform, tells_sizes};
+pub use running_calls::{
+    CreateSpec, Reply, Running, create_array, open_running, perform, tells_sizes,
+};
 pub use service::Service;
 pub use worker::{Worked, run_worker};

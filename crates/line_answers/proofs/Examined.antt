@@ -12,9 +12,9 @@ use Rattle.sb1.specs.declared.sb.Sb.{Sb}
 use Rattle.sb1.specs.Superblock.{superblock_in}
 use Rattle.flat_history.specs.declared.events.Epoch.{Epoch}
 use Rattle.flat_history.specs.Reopened.{OpensAccepted}
-use Rattle.views.specs.Moving.{Grows}
+use Rattle.run_laws.specs.views_Moving.{Grows}
 use Rattle.run_laws.specs.running_words_Parts.{RunningParts}
-use Rattle.views.specs.Parts.{Parts}
+use Rattle.run_laws.specs.views_Parts.{Parts}
 use Rattle.script.specs.declared.lines.Line.TheVariants.{Examine}
 use Rattle.run_laws.specs.declared.report.Answered.TheVariants.{Outside as IsOutside}
 use Rattle.run_laws.specs.declared.report.Outside.TheVariants.{Refused}

@@ -23,13 +23,13 @@ use Rattle.flat_history.specs.Stands.{stands, standing_sector}
 use Rattle.flat_history.specs.Fits.{whole_slot}
 use Rattle.flat_history.specs.Reopened.{OpensAccepted}
 use Rattle.run_laws.specs.array_kept_Adopting.{opener, found_loss, absent_loss, absent_losses, found_losses, stripes_held, found_stripes, found_work}
-use Rattle.views.specs.declared.work.Work.{Work}
-use Rattle.views.specs.Parts.{Parts}
-use Rattle.views.proofs.Still.{count-still}
+use Rattle.run_laws.specs.views_the_Work.{Work}
+use Rattle.run_laws.specs.views_Parts.{Parts}
+use Rattle.run_laws.proofs.views_Still.{count-still}
 use Rattle.run_laws.specs.assemble_the_CreateSpec.{CreateSpec}
 use Rattle.run_laws.specs.assemble_Opening.{scope_of, array_of, AreGiven, IsOpened}
 use Rattle.run_laws.specs.assemble_Running.{opened_of, IsBegun, IsCreated, IsAssembled}
-use Rattle.views.specs.Status.{stripes_of, rebuilt_of, vacant_count, spare_count, resync_left, role_left, recovery_left, left_of}
+use Rattle.run_laws.specs.views_Status.{stripes_of, rebuilt_of, vacant_count, spare_count, resync_left, role_left, recovery_left, left_of}
 use Rattle.run_laws.specs.running_words_Parts.{RunningParts, visible_in, visible_size}
 use Rattle.run_laws.specs.running_words_Calls.{IsStatusFor}
 use Rattle.run_laws.specs.running_words_Still.{IsStillStatus}
@@ -39,7 +39,7 @@ use Rattle.run_laws.specs.region_mends_Left.{resync_left as region_left}
 use Rattle.grow_asked.specs.declared.window.Window.{Window}
 use Rattle.run_laws.specs.course_kept_the_Course.{Course}
 use Rattle.run_laws.specs.reshape_openings_Finding.{window_for}
-use Rattle.shape_views.specs.Regions.{header_in, open_by}
+use Rattle.run_laws.specs.shape_views_Regions.{header_in, open_by}
 use Rattle.grow_plan.specs.Plans.{phases_steps}
 use Rattle.md_base.specs.declared.wishes.Phase.{Phase}
 use Rattle.flat_history.specs.Left.{opened_role, opened_roles}

@@ -1,28 +1,26 @@
 -- What a call leaves of the array, as a line leaves it.
-use Rattle.std.proofs.Common.{◌≡◌, ◌≢◌, inl, ℕ, ◌+◌, true, Option, Some, Result, Ok, Err, List, [], ◌∷◌, ◌++◌, length, refl, sym, ◌∙◌, ap, subst}
+use Rattle.std.proofs.Common.{◌≡◌, ◌≢◌, ℕ, ◌+◌, Option, Result, Ok, Err, List, [], ◌∷◌, ◌++◌, length, refl, sym, ◌∙◌, ap, subst}
 use Rattle.std.specs.Prelude.{IfOk, OnErr, MatchOption}
 use Rattle.md_base.specs.Sectors.{Sector}
 use Rattle.md_base.specs.declared.answers.Fault.{Fault}
 use Rattle.md_base.specs.declared.answers.Fault.TheVariants.{Refused as IsRefusedWith, NoMemory as WantsMemory}
 use Rattle.md_base.specs.declared.answers.Refusal.{Refusal}
-use Rattle.md_base.specs.declared.answers.Refusal.TheVariants.{BackupFault}
+use Rattle.md_base.specs.declared.answers.Refusal.TheVariants.{SlotFault, BackupFault}
 use Rattle.md_base.specs.declared.answers.Who.{Who}
 use Rattle.md_base.specs.declared.wishes.Wish.{Wish}
 use Rattle.bank.specs.declared.bank.Operation.{Operation}
 use Rattle.bank.specs.Given.{Given}
 use Rattle.grow_plan.specs.Plans.{phases}
 use Rattle.superblocks.specs.declared.members.Members.{Members}
-use Rattle.superblocks.specs.Reading.{is_reshaping, shape_of, list_length, holder, role_state}
-use Rattle.superblocks.specs.Reads.{has_spare}
-use Rattle.row_io.specs.Rows.{reading_of}
+use Rattle.superblocks.specs.Reading.{is_reshaping, shape_of, list_length}
 use Rattle.flat_history.specs.declared.events.Entry.{Entry}
 use Rattle.flat_history.specs.declared.events.Event.{Event}
 use Rattle.flat_history.specs.declared.events.Event.TheVariants.{Read, Wrote, Flushed, Failed, Added, Visible, Planned, Refused}
 use Rattle.flat_history.specs.declared.events.Request.TheVariants.{Read as AsksRead, Flush as AsksFlush, Fail as AsksFail, Add as AsksAdd, Grow as AsksGrow, Visible as AsksVisible}
 use Rattle.flat_history.specs.Plain.{entries_of}
 use Rattle.flat_history.specs.World.{World}
-use Rattle.views.specs.declared.work.Work.{Work}
-use Rattle.views.specs.Lacking.{AreTooMany, HaveRolesFailed}
+use Rattle.run_laws.specs.views_the_Work.{Work}
+use Rattle.run_laws.specs.views_Lacking.{AreTooMany, HaveRolesFailed}
 use Rattle.grow_asked.specs.declared.window.PhasesLeft.{PhasesLeft}
 use Rattle.grow_asked.specs.Left.{phases_of}
 use Rattle.run_laws.specs.growing_Planned.{IsAsBefore, IsGrowPlanned, IsReplied as IsRepliedTo}
@@ -37,7 +35,7 @@ use Rattle.script.specs.declared.lines.Line.{Line}
 use Rattle.script.specs.declared.lines.Line.TheVariants.{Read as ReadLine, Write as WriteLine, Flush, Fail, Add, ArraySize, Grow, Stop}
 use Rattle.run_laws.specs.Asked.{IsAskedAt}
 use Rattle.run_laws.specs.Caused.{record_of}
-use Rattle.run_laws.specs.Records.{IsShapeKept, IsWorkKept, IsOnlyLess, IsLessByFaults, IsWithSpare, IsAsItWas, IsLeftBy, IsLeftAt}
+use Rattle.run_laws.specs.Records.{IsShapeKept, IsWorkKept, IsOnlyLess, IsLessByFaults, IsWithSpare, IsAsItWas, IsUntouched, IsLeftBy, IsLeftAt}
 use Rattle.run_laws.proofs.AskLaws.{one, entry_there, entries_of-append}
 use Rattle.run_laws.proofs.Turned.{last-there}
 
@@ -59,18 +57,12 @@ pub left-called : {B tells : Type 0} {given : Given} {tape tape' : List Operatio
     → is_reshaping new.parts.members.newest ≡ is_reshaping old.parts.members.newest → HaveRolesFailed old.parts.members new.parts.members from to → IsLessByFaults from to (record_of old) (record_of new)
 left-called called active failed = (less-called called active, failed)
 
--- one that changes no members
-pub left-same : {B tells : Type 0} {before after : World} {old new : RunningParts B} (from to : ℕ → ℕ) → IsSameReshape tells old new before after → new.parts.members ≡ old.parts.members → new.parts.work ≡ old.parts.work
-    → IsLessByFaults from to (record_of old) (record_of new)
-left-same from to same members work = (
-  record {
-    shape = shape-same same (ap (λ (m : Members). is_reshaping m.newest) members);
-    work = work-same same work;
-    limit = same.limit;
-    held = λ role slot held. subst (λ (m : Members). holder (role_state (reading_of m) role) ≡ Some slot) members held;
-    spares = λ slot spare. subst (λ (m : Members). has_spare m.spares slot ≡ true) members spare;
-  },
-  λ role slot held. inl (subst (λ (m : Members). holder (role_state (reading_of m) role) ≡ Some slot) (sym members) held),
+-- one that changes nothing but the history
+pub left-untouched : {B tells : Type 0} {before after : World} {old new : RunningParts B} → IsSameReshape tells old new before after → new.parts.members ≡ old.parts.members → new.parts.work ≡ old.parts.work → IsUntouched (record_of old) (record_of new)
+left-untouched same members work = (
+  record { members = members; resync = ap (λ (w : Work). w.resync) work; rebuilt = ap (λ (w : Work). w.rebuilt) work },
+  ap (λ (p : PhasesLeft). phases_of p) same.ahead,
+  same.limit,
 )
 
 -- an add
@@ -147,7 +139,8 @@ module _ {B : Type 0} (before now : ℕ → ℕ) (old new : RunningParts B) (who
     pub left-added : (given : Given) (r : Result (Unit {0}) Fault) → IsAnswered size (AsksAdd slot) who old.parts.entries new.parts.entries (Added slot) r
         → IsAddedFor given old.parts.backup slot old.parts.members new.parts.members before now r → r ≢ Err WantsMemory → IsLeftAt before now (record_of old) (record_of new) (Add slot) new.parts.entries place
     left-added given (Ok x) was cause some = add-left (Added slot) was (spare, cause.1)
-    left-added given (Err (IsRefusedWith refusal)) was cause some = add-left (Refused refusal) was spare
+    left-added given (Err (IsRefusedWith (SlotFault failed))) was cause some = add-left (Refused (SlotFault failed)) was (spare, cause.3, cause.2)
+    left-added given (Err (IsRefusedWith refusal)) was cause some = add-left (Refused refusal) was (spare, cause.1)
     left-added given (Err WantsMemory) was cause some = absurd (some refl)
 
   -- a limit

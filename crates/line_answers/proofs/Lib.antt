@@ -8,7 +8,6 @@ pub mod Statuses
 pub mod Turns
 pub mod Waits
 pub use Rattle.run_laws.proofs.AskLaws as run_laws_AskLaws
-pub use Rattle.run_laws.proofs.CausedLaws as run_laws_CausedLaws
 pub use Rattle.run_laws.proofs.Causes as run_laws_Causes
 pub use Rattle.run_laws.proofs.Growth as run_laws_Growth
 pub use Rattle.run_laws.proofs.Legal as run_laws_Legal
@@ -18,3 +17,7 @@ pub use Rattle.run_laws.proofs.RecordLaws as run_laws_RecordLaws
 pub use Rattle.run_laws.proofs.Turned as run_laws_Turned
 pub use Rattle.run_laws.proofs.Worlds as run_laws_Worlds
 pub use Rattle.run_laws.proofs.Writing as run_laws_Writing
+pub use Rattle.run_laws.proofs.Apart as run_laws_Apart
+pub use Rattle.run_laws.proofs.Sizes as run_laws_Sizes
+pub use Rattle.run_laws.proofs.Told as run_laws_Told
+pub use Rattle.run_laws.proofs.running_calls_GoneOn

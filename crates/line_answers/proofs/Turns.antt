@@ -41,7 +41,7 @@ use Rattle.flat_history.specs.Epochs.{OpensAlike}
 use Rattle.flat_history.specs.Opened.{OpensSound}
 use Rattle.bank.specs.Given.{sizes}
 use Rattle.superblocks.specs.declared.members.Members.{Members}
-use Rattle.views.specs.declared.work.Work.{Work}
+use Rattle.run_laws.specs.views_the_Work.{Work}
 use Rattle.run_laws.specs.array_kept_Adopting.{opener, absent_losses}
 use Rattle.run_laws.specs.array_kept_Calls.{IsEndOf, IsEntered, world_for}
 use Rattle.run_laws.specs.assemble_Creating.{create_refusal}
@@ -56,7 +56,7 @@ use Rattle.run_laws.specs.declared.report.Answered.TheVariants.{Inside, Outside 
 use Rattle.run_laws.specs.declared.states.State.TheVariants.{Idle, Running}
 use Rattle.run_laws.specs.Asked.{script_who, IsAskedAt, IsAsked, IsStillWaiting, IsWaited, IsSizedBy}
 use Rattle.run_laws.specs.Caused.{Record, record_of, IsJudgedBy, IsJudgedAt}
-use Rattle.run_laws.specs.Records.{AreAllAnswered, IsLeftBy, IsLeftAt, IsRecordFound, IsRecordedBy}
+use Rattle.run_laws.specs.Records.{IsLeftTold, AreAllAnswered, IsLeftBy, IsLeftAt, IsRecordFound, IsRecordedBy}
 use Rattle.run_laws.specs.Turning.{IsTellable, IsTurningTold}
 use Rattle.run_laws.specs.Histories.{History, history_of, histories_of, entry_at, is_end, AreGoing}
 use Rattle.run_laws.specs.Making.{Setting, held_at, history_world, MissingAtFirst, IsStoredNew, IsStoredAs}
@@ -243,7 +243,7 @@ at_the_end setting old new asked first t longer ended =
 
 module _ {B : Type 0} (setting : Setting) (old new : RunningParts B) (epochs : Vec Epoch) (own : RunsOwn (Running old epochs)) (lost : AreLossesSince setting old.parts.entries (running_history new.parts)) (uuid : new.parts.uuid ≡ old.parts.uuid) (given : new.parts.given ≡ old.parts.given)
     (first : new.parts.first ≡ old.parts.first) (sized : IsSizedBy (list_length old.parts.members.newest) (list_length new.parts.members.newest) old.parts.entries new.parts.entries)
-    (turning : IsTurningTold (is_reshaping new.parts.members.newest) (phases_of new.ahead) new.parts.entries) where
+    (turning : IsTurningTold (is_reshaping new.parts.members.newest) (phases_of new.ahead) new.parts.entries) (counted : IsLeftTold (record_of new)) where
   abbrev hs : List History
   hs = histories_of epochs.items
 
@@ -287,7 +287,7 @@ module _ {B : Type 0} (setting : Setting) (old new : RunningParts B) (epochs : V
         (answered_last hs (running_history old.parts) (running_history new.parts) asked replied tellable);
     course = course_asked line asked called goes;
     recorded = subst (λ (n : ℕ). IsRecordedBy setting line (entries_to (hs ++ running_history new.parts ∷ []) n place) (entry_at (hs ++ running_history new.parts ∷ []) n place) (record_of old) (Some (record_of new))) len
-        (recorded_last hs (running_history new.parts) asked setting line (record_of old) (Some (record_of new)) (judged, (backed, refl, left)));
+        (recorded_last hs (running_history new.parts) asked setting line (record_of old) (Some (record_of new)) (judged, (backed, refl, counted, left)));
   }
 
   pub turn_asked : (line : Line) (place : ℕ) (asked : IsAskedAt (list_length old.parts.members.newest) line old.parts.entries new.parts.entries place) → IsTellable new.parts.entries place
@@ -341,7 +341,7 @@ module _ {B : Type 0} (setting : Setting) (old new : RunningParts B) (epochs : V
   }
 
   pub turn_of_wait : (r : Result ℕ NoMemory) → (setting.tells → setting.began ≤ length setting.tape) → IsEndOf setting.tells new.parts.first new.parts.entries setting.tape → IfOk r (λ place. IsTellable new.parts.entries place)
-      → new.parts.backup ≡ setting.backup → IfOk r (λ place. (others : List Record) × AreAllAnswered (record_of old) others (record_of new)) → IsWaited (list_length old.parts.members.newest) old.parts.entries new.parts.entries r
+      → new.parts.backup ≡ setting.backup → IfOk r (λ place. (others : List Record) × AreAllAnswered setting.before setting.now (record_of old) others (record_of new)) → IsWaited (list_length old.parts.members.newest) old.parts.entries new.parts.entries r
       → IsTurnOrNone setting (Running old epochs) (Running new epochs) Wait (answer_at k r)
   turn_of_wait (Ok place) longer ended tellable backed stepped was =
       turn_called Wait place was.asked (waited_called was)

@@ -22,3 +22,12 @@ pub use Rattle.run_laws.specs.running_words_Plans
 pub use Rattle.run_laws.specs.still_laws_Plain
 pub use Rattle.run_laws.specs.array_kept_Calls
 pub use Rattle.run_laws.specs.history_calls_Reliable
+pub use Rattle.run_laws.specs.running_Calls
+pub use Rattle.run_laws.specs.Turning
+pub use Rattle.run_laws.specs.running_calls_the_Reply
+pub use Rattle.run_laws.specs.running_calls_the_Reply_TheVariants
+pub use Rattle.run_laws.specs.running_calls_Entered
+pub use Rattle.run_laws.specs.running_calls_Replies
+pub use Rattle.run_laws.specs.running_calls_Going
+pub use Rattle.run_laws.specs.running_replies_Going
+pub use Rattle.run_laws.specs.running_steps_Steps

@@ -2,12 +2,14 @@
 
 ghost use Rattle.std.specs.Prelude.{◌≡◌, ◌<◌, ◌≤◌, ◌^◌, ℕ, List, length, vec_capacity, Some, Ok, IfOk, IsTrue, IsSome};
 ghost use Rattle.bank.specs.Given.{NeverFalls};
-ghost use Rattle.views.specs.Moving.{Grows};
+ghost use Rattle.run_laws.specs.views_Moving.{Grows};
 ghost use Rattle.script.specs.Script.{is_within_limits};
 ghost use Rattle.script.specs.declared.lines.Line.TheVariants.{Create as AsksCreate, Stop as AsksStop, Halt as AsksHalt, Assemble as AsksAssemble};
+ghost use Rattle.run_laws.specs.Caused.{record_of};
 ghost use Rattle.run_laws.specs.Ended.{IsRunKept};
 ghost use Rattle.run_laws.specs.Histories.{entry_at};
 ghost use Rattle.run_laws.specs.Making.{setting_of};
+ghost use Rattle.run_laws.specs.Records.{IsLeftTold};
 ghost use Rattle.run_laws.specs.States.{answer_at, histories_in, bank_in, RunsOwn, IsFitBank, IsTurnOrNone, IsNamed};
 ghost use Rattle.run_laws.specs.Written.{IsWrittenBy};
 ghost use Rattle.run_laws.specs.declared.report.Answered.TheVariants.{Inside as AnsweredInside, Outside as AnsweredOutside};
@@ -62,7 +64,10 @@ fn goes_on<B: Bank>(
     requires few { length epochs.items < 2 ^ 32 }
     ensures state { result.0 ≡ IsRunning array epochs }
     ensures answer { result.1 ≡ answer_at (length epochs.items) place }
+    ensures told { IsLeftTold (record_of array) }
 {
+    // (as many steps are left as the history tells)
+    let _ = array.left();
     match place {
         Ok(at) => {
             let what = inside(&epochs, at);
@@ -99,6 +104,8 @@ fn stop_array<B: Bank>(
         Err(left) => left,
     };
     let (array, fault) = left;
+    // (as many steps are left as the history tells)
+    let _ = array.left();
     match fault {
         Fault::NoMemory => (State::Running(array, epochs), Err(NoMemory {})),
         Fault::Refused(_) => {

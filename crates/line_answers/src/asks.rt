@@ -7,9 +7,9 @@ ghost use Rattle.md_base.specs.Sectors.{IsWhole};
 ghost use Rattle.std.specs.List.{list_any};
 ghost use Rattle.superblocks.specs.Reads.{has_spare};
 ghost use Rattle.superblocks.specs.Reading.{is_reshaping, list_length};
-ghost use Rattle.views.specs.Placed.{AreStillHeld};
+ghost use Rattle.run_laws.specs.views_Placed.{AreStillHeld};
 ghost use Rattle.run_laws.specs.array_kept_Calls.{AreSparesFewer, AreLossesOf, IsEndOf};
-ghost use Rattle.views.specs.Moving.{Grows};
+ghost use Rattle.run_laws.specs.views_Moving.{Grows};
 ghost use Rattle.grow_asked.specs.Left.{phases_of};
 ghost use Rattle.run_laws.specs.running_replies_Going.{IsSameEpoch, HasRunOn};
 ghost use Rattle.run_laws.specs.running_replies_Replies.{HasToldBy};
@@ -271,7 +271,7 @@ pub fn ask_steps<B: Bank>(array: &mut Running<B>, most: u32) -> Result<u64, NoMe
     ensures asked { IsAsked (list_length array.old.parts.members.newest) (StepLine most) array.old.parts.entries array.new.parts.entries result }
     ensures tellable { IfOk result (λ place. IsTellable array.new.parts.entries place) }
     ensures judged { IfOk result (λ place. IsJudgedAt (B.given array.old.parts.bank) (record_of array.old) (StepLine most) array.new.parts.entries place) }
-    ensures stepped { IfOk result (λ place. AreStepsAnswered (record_of array.old) (record_of array.new)) }
+    ensures stepped { IfOk result (λ place. AreStepsAnswered (B.faults_of array.old.parts.bank) (B.faults_of array.new.parts.bank) (record_of array.old) (record_of array.new)) }
     ensures turning { IsTurningTold (is_reshaping array.new.parts.members.newest) (phases_of array.new.ahead) array.new.parts.entries }
     ensures more { IfOk result (λ place. length array.old.parts.entries < length array.new.parts.entries) }
     ensures ended { IfOk result (λ place. IsEndOf B.tells array.new.parts.first array.new.parts.entries (B.tape array.new.parts.bank)) }
@@ -307,7 +307,7 @@ pub fn ask_wait<B: Bank>(array: &mut Running<B>) -> Result<u64, NoMemory>
     requires turning { IsTurningTold (is_reshaping array.old.parts.members.newest) (phases_of array.old.ahead) array.old.parts.entries }
     ensures asked { IsWaited (list_length array.old.parts.members.newest) array.old.parts.entries array.new.parts.entries result }
     ensures tellable { IfOk result (λ place. IsTellable array.new.parts.entries place) }
-    ensures stepped { IfOk result (λ place. (others : List Record) × AreAllAnswered (record_of array.old) others (record_of array.new)) }
+    ensures stepped { IfOk result (λ place. (others : List Record) × AreAllAnswered (B.faults_of array.old.parts.bank) (B.faults_of array.new.parts.bank) (record_of array.old) others (record_of array.new)) }
     ensures turning { IsTurningTold (is_reshaping array.new.parts.members.newest) (phases_of array.new.ahead) array.new.parts.entries }
     ensures ended { IsEndOf B.tells array.new.parts.first array.new.parts.entries (B.tape array.new.parts.bank) }
     ensures went { HasRunOn B.tells B.given B.tape B.faults_of array.old array.new }

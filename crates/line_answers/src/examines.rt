@@ -2,7 +2,7 @@
 
 ghost use Rattle.std.specs.Prelude.{◌≡◌};
 ghost use Rattle.bank.specs.Given.{NeverFalls};
-ghost use Rattle.views.specs.Moving.{Grows};
+ghost use Rattle.run_laws.specs.views_Moving.{Grows};
 ghost use Rattle.md_base.specs.declared.answers.Refusal.TheVariants.{NoSuchSlot};
 ghost use Rattle.script.specs.declared.lines.Line.TheVariants.{Examine as AsksExamine};
 ghost use Rattle.run_laws.specs.Ended.{IsRunKept};

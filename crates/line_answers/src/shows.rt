@@ -3,15 +3,15 @@
 ghost use Rattle.std.specs.Prelude.{◌≡◌, ◌+◌, ◌≤◌, length, IfOk, IfErr};
 ghost use Rattle.bank.specs.Given.{NeverFalls};
 ghost use Rattle.superblocks.specs.Reading.{is_reshaping, list_length};
-ghost use Rattle.views.specs.Placed.{AreStillHeld};
-ghost use Rattle.views.specs.Moving.{Grows};
+ghost use Rattle.run_laws.specs.views_Placed.{AreStillHeld};
+ghost use Rattle.run_laws.specs.views_Moving.{Grows};
 ghost use Rattle.grow_asked.specs.Left.{phases_of};
 ghost use Rattle.run_laws.specs.array_kept_Calls.{AreSparesFewer, AreLossesOf, IsEndOf};
 ghost use Rattle.run_laws.specs.running_replies_Going.{IsSameEpoch};
 ghost use Rattle.run_laws.specs.running_replies_Replies.{HasToldBy};
 ghost use Rattle.run_laws.specs.Asked.{IsAsked, IsSizedBy};
 ghost use Rattle.run_laws.specs.Caused.{record_of};
-ghost use Rattle.run_laws.specs.Records.{IsLessByFaults};
+ghost use Rattle.run_laws.specs.Records.{IsUntouched};
 ghost use Rattle.run_laws.specs.Showing.{IsToldAt};
 ghost use Rattle.run_laws.specs.Turning.{IsTellable, IsTurningTold};
 ghost use Rattle.script.specs.declared.lines.Line.TheVariants.{Detail as DetailLine, Mdstat as MdstatLine};
@@ -29,7 +29,7 @@ pub fn ask_show<B: Bank>(array: &mut Running<B>) -> Result<u64, NoMemory>
     ensures turning { IsTurningTold (is_reshaping array.new.parts.members.newest) (phases_of array.new.ahead) array.new.parts.entries }
     ensures asked_brief { IsAsked (list_length array.old.parts.members.newest) MdstatLine array.old.parts.entries array.new.parts.entries result }
     ensures shown { IfOk result (λ place. IsToldAt array.old array.new.parts.entries place) }
-    ensures left { IfOk result (λ place. IsLessByFaults (B.faults_of array.old.parts.bank) (B.faults_of array.new.parts.bank) (record_of array.old) (record_of array.new)) }
+    ensures left { IfOk result (λ place. IsUntouched (record_of array.old) (record_of array.new)) }
     ensures ended { IfOk result (λ place. IsEndOf B.tells array.new.parts.first array.new.parts.entries (B.tape array.new.parts.bank)) }
     ensures unchanged { IfErr result (λ none. array.new ≡ array.old) }
     ensures grows { Grows B.tells (B.tape array.old.parts.bank) (B.tape array.new.parts.bank) }

@@ -1,11 +1,11 @@
 //! The program: makes the source, the sink and the bank that its words ask for, runs, and ends with the run's status.
 #![tactic(auto)]
 
-ghost use Rattle.std.specs.Prelude.{◌≡◌, ◌≤◌, length, map, string_bytes, Some, None, IfOk};
-ghost use Rattle.command_words.specs.Words.{command_in, told_by};
-ghost use Rattle.command_words.specs.Words.Asked.{Memory as IsMemory, Run as IsRun};
+ghost use Rattle.std.specs.Prelude.{◌≡◌, ◌≤◌, length, map, string_bytes, Some, None, IfOk, IfSome};
+ghost use Rattle.command_words.specs.Words.{command_in, told_by, slots_for};
+ghost use Rattle.command_words.specs.Words.Asked.{Memory as IsMemory, Run as IsRun, Demo as IsDemo};
 
-use bank::MemoryBank;
+use bank::{Bank, MemoryBank};
 use bank_file::{FileBank, FileFault};
 use command_words::{Command, Paths, command_of};
 use runner::{Pace, run};
@@ -16,7 +16,7 @@ use std::rt::Env;
 use std::sync::Wait;
 use std::thread::Threads;
 use std::{env, io};
-use text_io::{MemorySource, StdSink, StdSource};
+use text_io::{MemorySource, Source, StdSink, StdSource};
 
 // A bank in memory: seven members and the backup.
 const SLOTS: usize = 8;
@@ -26,6 +26,11 @@ const SECTORS: u64 = 6_144;
 
 // The operations that the bank's tape has room for.
 const ROOM: u64 = 262_144;
+
+// The bank of a demo: its members, and the sectors of its backup, which has room for a window.
+const DEMO_MEMBERS: usize = 5;
+
+const DEMO_BACKUP: u64 = 104;
 
 // How many of the steps that are left a turn of background work does.
 fn steps(_turn: u64, left: u64) -> u64
@@ -54,6 +59,34 @@ fn memory_bank(alloc: Global) -> Result<MemoryBank, AllocError>
     MemoryBank::new(alloc, lengths, ROOM, Vec::new(alloc))
 }
 
+fn demo_bank(alloc: Global, size: u64) -> Result<MemoryBank, AllocError>
+    requires some { 1 ≤ size }
+    requires few { size ≤ 64 }
+    ensures { IfOk result (λ bank. length bank.start ≡ 6) }
+{
+    let mut lengths = vec![in alloc; 16 + 64 * size; DEMO_MEMBERS]?;
+    lengths.push(DEMO_BACKUP)?;
+    MemoryBank::new(alloc, lengths, 2_048 * size + 16_384, Vec::new(alloc))
+}
+
+// Runs over this bank, which is what the words ask for.
+fn run_over<B: Bank + Drop + Send, S: Source, R: Print + AllocGlobal + Threads + Wait + Sync>(
+    rt: &R,
+    words: &[String],
+    source: &mut S,
+    bank: B,
+) -> Ended
+    requires { IfSome (command_in (map string_bytes words.now)) (λ command. (B.given bank).slots ≡ slots_for command) }
+{
+    let mut sink = StdSink::new(io::writer(rt));
+    let pace = Pace::new(|turn, left| steps(turn, left));
+    let report = run(rt, rt.alloc(), words, source, &mut sink, bank, pace);
+    Ended {
+        status: report.status,
+        bad_line: report.bad_line,
+    }
+}
+
 // Words that are no command's form open nothing.
 fn run_without_command<R: Print + AllocGlobal + Threads + Wait + Sync>(
     rt: &R,
@@ -63,14 +96,8 @@ fn run_without_command<R: Print + AllocGlobal + Threads + Wait + Sync>(
 {
     let alloc = rt.alloc();
     let mut source = MemorySource::new(Vec::new(alloc), Vec::new(alloc));
-    let mut sink = StdSink::new(io::writer(rt));
     let bank = MemoryBank::new(alloc, Vec::new(alloc), 0, Vec::new(alloc))?;
-    let pace = Pace::new(|turn, left| steps(turn, left));
-    let report = run(rt, alloc, words, &mut source, &mut sink, bank, pace);
-    Ok(Ended {
-        status: report.status,
-        bad_line: report.bad_line,
-    })
+    Ok(run_over(rt, words, &mut source, bank))
 }
 
 fn run_memory<R: Input + Print + AllocGlobal + Threads + Wait + Sync>(
@@ -81,14 +108,24 @@ fn run_memory<R: Input + Print + AllocGlobal + Threads + Wait + Sync>(
 {
     let alloc = rt.alloc();
     let mut source = StdSource::new(rt.reader());
-    let mut sink = StdSink::new(io::writer(rt));
     let bank = memory_bank(alloc)?;
-    let pace = Pace::new(|turn, left| steps(turn, left));
-    let report = run(rt, alloc, words, &mut source, &mut sink, bank, pace);
-    Ok(Ended {
-        status: report.status,
-        bad_line: report.bad_line,
-    })
+    Ok(run_over(rt, words, &mut source, bank))
+}
+
+// A demo reads no script.
+fn run_demo<R: Print + AllocGlobal + Threads + Wait + Sync>(
+    rt: &R,
+    words: &[String],
+    size: u64,
+) -> Result<Ended, AllocError>
+    requires asked { command_in (map string_bytes words.now) ≡ Some (IsDemo size) }
+    requires some { 1 ≤ size }
+    requires few { size ≤ 64 }
+{
+    let alloc = rt.alloc();
+    let mut source = MemorySource::new(Vec::new(alloc), Vec::new(alloc));
+    let bank = demo_bank(alloc, size)?;
+    Ok(run_over(rt, words, &mut source, bank))
 }
 
 // Tells the path of a file that can't be opened, so that nothing is run.
@@ -125,13 +162,7 @@ fn run_files<R: Files<File = File> + Print + Eprint + AllocGlobal + Threads + Wa
         }
     };
     let mut source = StdSource::new(script);
-    let mut sink = StdSink::new(io::writer(rt));
-    let pace = Pace::new(|turn, left| steps(turn, left));
-    let report = run(rt, alloc, words, &mut source, &mut sink, bank, pace);
-    Ended {
-        status: report.status,
-        bad_line: report.bad_line,
-    }
+    run_over(rt, words, &mut source, bank)
 }
 
 fn words_of<R: Env + AllocGlobal>(rt: &R) -> io::Result<Vec<String>> {
@@ -149,6 +180,7 @@ fn run_words<
     match command_of(rt.alloc(), &words) {
         Ok(Some(Command::Memory)) => Ok(run_memory(rt, &words)?),
         Ok(Some(Command::Run(paths))) => Ok(run_files(rt, &words, &paths)),
+        Ok(Some(Command::Demo(size))) => Ok(run_demo(rt, &words, size)?),
         Ok(None) => Ok(run_without_command(rt, &words)?),
         Err(_) => Ok(Ended {
             status: NO_MEMORY,

@@ -31,3 +31,28 @@ pub use Rattle.moving_kept.proofs.window_steps_PastLaws
 pub use Rattle.moving_kept.proofs.BegunCall as moving_kept_BegunCall
 pub use Rattle.moving_kept.proofs.BegunMembers as moving_kept_BegunMembers
 pub use Rattle.moving_kept.proofs.Shortened as moving_kept_Shortened
+pub use Rattle.moving_kept.proofs.call_entries_LeftLaws
+pub use Rattle.moving_kept.proofs.call_entries_CallLaws
+pub use Rattle.moving_kept.proofs.call_entries_LosingLaws
+pub use Rattle.moving_kept.proofs.views_MovedLaws
+pub use Rattle.moving_kept.proofs.views_LackingLaws
+pub use Rattle.moving_kept.proofs.views_LiveLeft
+pub use Rattle.moving_kept.proofs.views_Fit
+pub use Rattle.moving_kept.proofs.views_LackingLists
+pub use Rattle.moving_kept.proofs.views_HeldRows
+pub use Rattle.moving_kept.proofs.kept_history_Records
+pub use Rattle.moving_kept.proofs.kept_history_Turned
+pub use Rattle.moving_kept.proofs.kept_history_Entered
+pub use Rattle.moving_kept.proofs.kept_history_Lists
+pub use Rattle.moving_kept.proofs.kept_history_Growing
+pub use Rattle.moving_kept.proofs.kept_history_Tests
+pub use Rattle.moving_kept.proofs.kept_history_Ledgers
+pub use Rattle.moving_kept.proofs.shape_views_Headers
+pub use Rattle.moving_kept.proofs.shape_views_Stands
+pub use Rattle.moving_kept.proofs.shape_changes_Without
+pub use Rattle.moving_kept.proofs.shape_changes_PlannedRoles
+pub use Rattle.moving_kept.proofs.kept_history_Lengths
+pub use Rattle.moving_kept.proofs.shape_changes_Steady
+pub use Rattle.moving_kept.proofs.shape_views_Alike
+pub use Rattle.moving_kept.proofs.kept_history_Marks
+pub use Rattle.moving_kept.proofs.kept_history_Opened

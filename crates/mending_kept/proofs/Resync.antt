@@ -28,31 +28,31 @@ use Rattle.flat_history.specs.Plain.{entries_of}
 use Rattle.flat_history.specs.Sound.{OpensFit}
 use Rattle.flat_history.specs.Stands.{covers, shape_for}
 use Rattle.flat_history.specs.World.{World, opening_list}
-use Rattle.shape_views.specs.Regions.{DoWithout}
-use Rattle.shape_views.specs.Views.{Ledger, IsTailZero}
-use Rattle.shape_views.specs.Windows.{IsShown, AreTailsStanding}
-use Rattle.shape_changes.specs.Safety.{HasLiveSlot, HasRoomLeft, IsRisen}
-use Rattle.shape_changes.specs.Steady.{IsMoreTold, IsSafeOver, KeepsSafe, AreGoneTold, IsUncleanTold, AreWritesAllowed}
-use Rattle.views.specs.Lacking.{lacking, DoesWithout, AreTooMany, AreOtherRowsKept}
-use Rattle.views.specs.Moving.{Grows, IsMoved}
-use Rattle.views.specs.Placed.{IsPlaced, IsInForce}
-use Rattle.views.proofs.Fit.{list-alike, force-disks, alike-force}
-use Rattle.views.proofs.LiveLeft.{without-left}
+use Rattle.moving_kept.specs.shape_views_Regions.{DoWithout}
+use Rattle.moving_kept.specs.shape_views_Views.{Ledger, IsTailZero}
+use Rattle.moving_kept.specs.shape_views_Windows.{IsShown, AreTailsStanding}
+use Rattle.moving_kept.specs.shape_changes_Safety.{HasLiveSlot, HasRoomLeft, IsRisen}
+use Rattle.moving_kept.specs.shape_changes_Steady.{IsMoreTold, IsSafeOver, KeepsSafe, AreGoneTold, IsUncleanTold, AreWritesAllowed}
+use Rattle.moving_kept.specs.views_Lacking.{lacking, DoesWithout, AreTooMany, AreOtherRowsKept}
+use Rattle.moving_kept.specs.views_Moving.{Grows, IsMoved}
+use Rattle.moving_kept.specs.views_Placed.{IsPlaced, IsInForce}
+use Rattle.moving_kept.proofs.views_Fit.{list-alike, force-disks, alike-force}
+use Rattle.moving_kept.proofs.views_LiveLeft.{without-left}
 use Rattle.moving_kept.specs.safe_updates_Unused.{IsUnusedKept}
-use Rattle.call_entries.specs.Losing.{losses_of}
-use Rattle.call_entries.proofs.CallLaws.{losses-are, ends-losses}
-use Rattle.call_entries.proofs.LeftLaws.{left-behind, left-more}
+use Rattle.moving_kept.specs.call_entries_Losing.{losses_of}
+use Rattle.moving_kept.proofs.call_entries_CallLaws.{losses-are, ends-losses}
+use Rattle.moving_kept.proofs.call_entries_LeftLaws.{left-behind, left-more}
 use Rattle.moving_kept.specs.region_rows_Stretches.{ListStandsIn, RowsStandIn}
 use Rattle.moving_kept.specs.region_mends_Mends.{low_shape, mend_stripes, mend_shape, relied_sector, IsMendRow, IsNotMended, AreEndsStanding}
 use Rattle.moving_kept.proofs.region_mends_Alike.{low-alike, mends-alike}
 use Rattle.moving_kept.proofs.region_mends_ReliedLaws.{relied-within}
 use Rattle.moving_kept.proofs.region_mends_StripeLaws.{is-next}
-use Rattle.kept_history.specs.Recorded.{IsCallGoing, entry_of}
-use Rattle.kept_history.specs.Safe.{world_in, IsFilledRight}
-use Rattle.kept_history.specs.Told.{told_now}
-use Rattle.kept_history.proofs.Growing.{unsynced-grown}
-use Rattle.kept_history.proofs.Ledgers.{unsynced-still}
-use Rattle.kept_history.proofs.Lists.{newest-in}
+use Rattle.moving_kept.specs.kept_history_Recorded.{IsCallGoing, entry_of}
+use Rattle.moving_kept.specs.kept_history_Safe.{world_in, IsFilledRight}
+use Rattle.moving_kept.specs.kept_history_Told.{told_now}
+use Rattle.moving_kept.proofs.kept_history_Growing.{unsynced-grown}
+use Rattle.moving_kept.proofs.kept_history_Ledgers.{unsynced-still}
+use Rattle.moving_kept.proofs.kept_history_Lists.{newest-in}
 use Rattle.moving_kept.specs.history_calls_Reliable.{AreToldGone}
 use Rattle.grow_asked.specs.declared.window.Window.{Window}
 use Rattle.grow_asked.specs.declared.window.Window.TheVariants.{Closed, Entered, Unsure}

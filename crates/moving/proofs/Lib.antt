@@ -13,4 +13,21 @@ pub use Rattle.moving_laws.proofs.moving_state_DueLaws
 pub use Rattle.moving_laws.proofs.moving_state_ReshapeLaws
 pub use Rattle.moving_laws.proofs.running_words_Called
 pub use Rattle.moving_laws.proofs.running_words_Lengths
-pub use Rattle.moving_laws.proofs.running_words_Visible
+pub use Rattle.moving_laws.proofs.running_words_VisibleLaws
+pub use Rattle.views.proofs.Fit as views_Fit
+pub use Rattle.views.proofs.MovedLaws as views_MovedLaws
+pub use Rattle.moving_laws.proofs.kept_history_Entered
+pub use Rattle.moving_laws.proofs.kept_history_Tests
+pub use Rattle.moving_laws.proofs.kept_history_Ledgers
+pub use Rattle.moving_laws.proofs.shape_changes_Without
+pub use Rattle.moving_laws.proofs.shape_changes_PlannedRoles
+pub use Rattle.moving_laws.proofs.shape_views_Stands
+pub use Rattle.moving_laws.proofs.kept_history_Records
+pub use Rattle.moving_laws.proofs.kept_history_Turned
+pub use Rattle.moving_laws.proofs.kept_history_Lengths
+pub use Rattle.moving_laws.proofs.kept_history_Growing
+pub use Rattle.moving_laws.proofs.shape_changes_Steady
+pub use Rattle.moving_laws.proofs.shape_views_Alike
+pub use Rattle.moving_laws.proofs.kept_history_Marks
+pub use Rattle.moving_laws.proofs.shape_views_Headers
+pub use Rattle.moving_laws.proofs.kept_history_Opened

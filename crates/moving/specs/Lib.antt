@@ -19,3 +19,19 @@ pub use Rattle.moving_laws.specs.running_words_Calls
 pub use Rattle.moving_laws.specs.running_words_Plans
 pub use Rattle.moving_laws.specs.running_words_Still
 pub use Rattle.moving_laws.specs.window_steps_Zeroing
+pub use Rattle.views.specs.declared.work.Work as views_the_Work
+pub use Rattle.views.specs.Placed as views_Placed
+pub use Rattle.views.specs.Lacking as views_Lacking
+pub use Rattle.views.specs.Numbers as views_Numbers
+pub use Rattle.views.specs.Rebuilding as views_Rebuilding
+pub use Rattle.moving_laws.specs.kept_history_Recorded
+pub use Rattle.moving_laws.specs.kept_history_Safe
+pub use Rattle.moving_laws.specs.shape_ends_Ends
+pub use Rattle.moving_laws.specs.shape_ends_Plans
+pub use Rattle.moving_laws.specs.shape_changes_Marking
+pub use Rattle.moving_laws.specs.shape_changes_Changing
+pub use Rattle.moving_laws.specs.shape_changes_Safety
+pub use Rattle.moving_laws.specs.shape_changes_Steady
+pub use Rattle.moving_laws.specs.shape_changes_Updates
+pub use Rattle.moving_laws.specs.shape_views_Regions
+pub use Rattle.moving_laws.specs.shape_views_Views

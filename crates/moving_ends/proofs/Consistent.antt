@@ -16,21 +16,21 @@ use Rattle.flat_history.specs.Losses.{is_gone_after}
 use Rattle.flat_history.specs.Reshaped.{IsConsistent, IsConsistentBy, IsConsistentAt}
 use Rattle.flat_history.specs.Stands.{held_row, held_sector}
 use Rattle.flat_history.specs.World.{World, contents_at}
-use Rattle.shape_views.specs.Regions.{DoWithout, IsReadOf}
-use Rattle.shape_views.specs.Views.{Ledger}
-use Rattle.shape_views.specs.Windows.{RowsStand}
-use Rattle.shape_views.proofs.Alike.{shape-alike}
-use Rattle.shape_views.proofs.SoundViews.{good-row}
-use Rattle.shape_views.proofs.Standing.{held-same}
-use Rattle.shape_changes.specs.Changing.{IsSafeChange}
-use Rattle.shape_changes.specs.Steady.{AreUnlost, IsNamedNow}
-use Rattle.shape_changes.proofs.Steady.{held-read}
-use Rattle.shape_ends.proofs.EndLaws.{fewer-pass}
-use Rattle.views.specs.Placed.{IsPlaced}
-use Rattle.views.proofs.Fit.{valid}
-use Rattle.views.proofs.LiveLeft.{without-left}
-use Rattle.views.proofs.Still.{count-still, without-still}
-use Rattle.kept_history.proofs.Lengths.{now-drawn}
+use Rattle.moving_kept.specs.shape_views_Regions.{DoWithout, IsReadOf}
+use Rattle.moving_kept.specs.shape_views_Views.{Ledger}
+use Rattle.moving_kept.specs.shape_views_Windows.{RowsStand}
+use Rattle.moving_kept.proofs.shape_views_Alike.{shape-alike}
+use Rattle.moving_kept.proofs.shape_views_SoundViews.{good-row}
+use Rattle.moving_kept.proofs.shape_views_Standing.{held-same}
+use Rattle.moving_kept.specs.shape_changes_Changing.{IsSafeChange}
+use Rattle.moving_kept.specs.shape_changes_Steady.{AreUnlost, IsNamedNow}
+use Rattle.moving_kept.proofs.shape_changes_Steady.{held-read}
+use Rattle.moving_kept.proofs.shape_ends_EndLaws.{fewer-pass}
+use Rattle.moving_kept.specs.views_Placed.{IsPlaced}
+use Rattle.moving_kept.proofs.views_Fit.{valid}
+use Rattle.moving_kept.proofs.views_LiveLeft.{without-left}
+use Rattle.moving_kept.proofs.views_Still.{count-still, without-still}
+use Rattle.moving_kept.proofs.kept_history_Lengths.{now-drawn}
 use Rattle.moving_kept.specs.history_calls_Reliable.{AreToldGone}
 use Rattle.moving_ends.proofs.EndedRows.{rows-still}
 

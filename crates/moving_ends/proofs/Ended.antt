@@ -40,38 +40,38 @@ use Rattle.flat_history.specs.Sound.{OpensFit}
 use Rattle.flat_history.specs.World.{World, reading_at, opening_list}
 use Rattle.flat_history.proofs.SoundLaws.{fit-before}
 use Rattle.history_laws.proofs.OneShapeGrowing.{entries-both}
-use Rattle.shape_views.specs.Views.{Ledger}
-use Rattle.shape_views.specs.Windows.{ListStands, RowsStand}
-use Rattle.shape_views.proofs.Alike.{final-alike}
-use Rattle.shape_views.proofs.Stands.{list-still}
-use Rattle.shape_changes.specs.Changing.{IsSafeChange}
-use Rattle.shape_changes.specs.Safety.{HasLiveSlot, HasRoomLeft, IsRisen}
-use Rattle.shape_changes.specs.Steady.{IsMoreTold, IsSafeNow, IsSafeOver, AreGoneTold, IsUncleanTold}
-use Rattle.shape_changes.proofs.Steady.{held-read}
-use Rattle.views.specs.Lacking.{DoesWithout}
-use Rattle.views.proofs.LiveLeft.{left-steady, without-left}
-use Rattle.views.proofs.SoundViews.{throughout-changed}
-use Rattle.views.proofs.Still.{count-still}
-use Rattle.call_entries.specs.Losing.{losses_of}
-use Rattle.call_entries.proofs.CallLaws.{AreLossEvents, losses-are}
-use Rattle.call_entries.proofs.StepLaws.{faults-are}
-use Rattle.kept_history.specs.Recorded.{IsHistoryKept, IsLegalCall, IsReshapedCall, IsCallGoing, entry_of, gives_some}
-use Rattle.kept_history.specs.Safe.{world_in, IsFilledRight, IsSafeHistory}
-use Rattle.kept_history.specs.Told.{told_now, told_by}
-use Rattle.kept_history.proofs.Entered.{AreAdding, adding-losses, told-adding, length-more, length-adding, values-more, values-adding, gone-was, gone-lost}
-use Rattle.kept_history.proofs.Calls.{LeavesSoundFrom}
-use Rattle.kept_history.proofs.Growing.{reading-grown, opening-grown, fit-grown, gone-grown, unsynced-grown, now-grown, alike-before, room-before, room-now}
-use Rattle.kept_history.proofs.KeptCalls.{kept-call}
-use Rattle.kept_history.proofs.Ledgers.{any-gone, unclean-now}
-use Rattle.kept_history.proofs.Lengths.{length-now, now-drawn}
-use Rattle.kept_history.proofs.Lists.{newest-in}
-use Rattle.kept_history.proofs.Longer.{regains-none}
-use Rattle.kept_history.proofs.Records.{same-call}
-use Rattle.kept_history.proofs.Reshapes.{call-ends_none, reshaped-losses}
-use Rattle.kept_history.proofs.Seen.{now-more}
-use Rattle.kept_history.proofs.Tests.{or-right}
-use Rattle.kept_history.proofs.Turned.{filled-before}
-use Rattle.kept_history.proofs.Turns.{either-call, resized-call}
+use Rattle.moving_kept.specs.shape_views_Views.{Ledger}
+use Rattle.moving_kept.specs.shape_views_Windows.{ListStands, RowsStand}
+use Rattle.moving_kept.proofs.shape_views_Alike.{final-alike}
+use Rattle.moving_kept.proofs.shape_views_Stands.{list-still}
+use Rattle.moving_kept.specs.shape_changes_Changing.{IsSafeChange}
+use Rattle.moving_kept.specs.shape_changes_Safety.{HasLiveSlot, HasRoomLeft, IsRisen}
+use Rattle.moving_kept.specs.shape_changes_Steady.{IsMoreTold, IsSafeNow, IsSafeOver, AreGoneTold, IsUncleanTold}
+use Rattle.moving_kept.proofs.shape_changes_Steady.{held-read}
+use Rattle.moving_kept.specs.views_Lacking.{DoesWithout}
+use Rattle.moving_kept.proofs.views_LiveLeft.{left-steady, without-left}
+use Rattle.moving_kept.proofs.views_SoundViews.{throughout-changed}
+use Rattle.moving_kept.proofs.views_Still.{count-still}
+use Rattle.moving_kept.specs.call_entries_Losing.{losses_of}
+use Rattle.moving_kept.proofs.call_entries_CallLaws.{AreLossEvents, losses-are}
+use Rattle.moving_kept.proofs.call_entries_StepLaws.{faults-are}
+use Rattle.moving_kept.specs.kept_history_Recorded.{IsHistoryKept, IsLegalCall, IsReshapedCall, IsCallGoing, entry_of, gives_some}
+use Rattle.moving_kept.specs.kept_history_Safe.{world_in, IsFilledRight, IsSafeHistory}
+use Rattle.moving_kept.specs.kept_history_Told.{told_now, told_by}
+use Rattle.moving_kept.proofs.kept_history_Entered.{AreAdding, adding-losses, told-adding, length-more, length-adding, values-more, values-adding, gone-was, gone-lost}
+use Rattle.moving_kept.proofs.kept_history_Calls.{LeavesSoundFrom}
+use Rattle.moving_kept.proofs.kept_history_Growing.{reading-grown, opening-grown, fit-grown, gone-grown, unsynced-grown, now-grown, alike-before, room-before, room-now}
+use Rattle.moving_kept.proofs.kept_history_KeptCalls.{kept-call}
+use Rattle.moving_kept.proofs.kept_history_Ledgers.{any-gone, unclean-now}
+use Rattle.moving_kept.proofs.kept_history_Lengths.{length-now, now-drawn}
+use Rattle.moving_kept.proofs.kept_history_Lists.{newest-in}
+use Rattle.moving_kept.proofs.kept_history_Longer.{regains-none}
+use Rattle.moving_kept.proofs.kept_history_Records.{same-call}
+use Rattle.moving_kept.proofs.kept_history_Reshapes.{call-ends_none, reshaped-losses}
+use Rattle.moving_kept.proofs.kept_history_Seen.{now-more}
+use Rattle.moving_kept.proofs.kept_history_Tests.{or-right}
+use Rattle.moving_kept.proofs.kept_history_Turned.{filled-before}
+use Rattle.moving_kept.proofs.kept_history_Turns.{either-call, resized-call}
 use Rattle.moving_kept.specs.reshape_ends_Finished.{IsFinishable}
 use Rattle.moving_kept.specs.course_kept_Course.{AnyShape, StandsInCourse}
 use Rattle.moving_kept.specs.course_kept_Laws.{closed}

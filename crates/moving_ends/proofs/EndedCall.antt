@@ -20,29 +20,29 @@ use Rattle.superblock_reads.proofs.SaidSlots.{below-length}
 use Rattle.row_io.specs.Rows.{reading_of, present, is_missing}
 use Rattle.flat_history.specs.Sound.{OpensFit}
 use Rattle.flat_history.specs.World.{World}
-use Rattle.shape_views.specs.Regions.{ArePlaced}
-use Rattle.shape_views.specs.Views.{Ledger}
-use Rattle.shape_views.proofs.Alike.{shape-alike, final-alike}
-use Rattle.shape_changes.specs.Changing.{IsSafeChange}
-use Rattle.shape_changes.specs.Marking.{AreOthersPresent}
-use Rattle.shape_changes.specs.Safety.{HasLiveSlot, HasRoomLeft, IsRisen}
-use Rattle.shape_changes.specs.Steady.{AreUnlost, IsSteady, IsSafeOver, AreGoneTold, IsUncleanTold}
-use Rattle.shape_changes.specs.Updates.{IsAtEnd}
-use Rattle.shape_changes.proofs.ChangeSafe.{told-changed}
-use Rattle.shape_changes.proofs.ChangeViews.{later-says}
-use Rattle.shape_changes.proofs.FitKinds.{dropping-is-fit}
-use Rattle.shape_changes.proofs.Risen.{room-first, room-then}
-use Rattle.shape_ends.specs.Plans.{HasNoneRecovering}
+use Rattle.moving_kept.specs.shape_views_Regions.{ArePlaced}
+use Rattle.moving_kept.specs.shape_views_Views.{Ledger}
+use Rattle.moving_kept.proofs.shape_views_Alike.{shape-alike, final-alike}
+use Rattle.moving_kept.specs.shape_changes_Changing.{IsSafeChange}
+use Rattle.moving_kept.specs.shape_changes_Marking.{AreOthersPresent}
+use Rattle.moving_kept.specs.shape_changes_Safety.{HasLiveSlot, HasRoomLeft, IsRisen}
+use Rattle.moving_kept.specs.shape_changes_Steady.{AreUnlost, IsSteady, IsSafeOver, AreGoneTold, IsUncleanTold}
+use Rattle.moving_kept.specs.shape_changes_Updates.{IsAtEnd}
+use Rattle.moving_kept.proofs.shape_changes_ChangeSafe.{told-changed}
+use Rattle.moving_kept.proofs.shape_changes_ChangeViews.{later-says}
+use Rattle.moving_kept.proofs.shape_changes_FitKinds.{dropping-is-fit}
+use Rattle.moving_kept.proofs.shape_changes_Risen.{room-first, room-then}
+use Rattle.moving_kept.specs.shape_ends_Plans.{HasNoneRecovering}
 use Rattle.moving_kept.specs.reshape_updates_Ending.{ending}
 use Rattle.moving_kept.proofs.reshape_updates_EndedPlan.{dropping, planned-fits-is}
-use Rattle.views.specs.Placed.{is_vacant, IsPlaced}
-use Rattle.views.proofs.HeldRows.{vacant-missing, without-before}
-use Rattle.views.proofs.LiveLeft.{left-steady, without-left}
-use Rattle.views.proofs.Still.{count-still}
+use Rattle.moving_kept.specs.views_Placed.{is_vacant, IsPlaced}
+use Rattle.moving_kept.proofs.views_HeldRows.{vacant-missing, without-before}
+use Rattle.moving_kept.proofs.views_LiveLeft.{left-steady, without-left}
+use Rattle.moving_kept.proofs.views_Still.{count-still}
 use Rattle.moving_kept.specs.reshape_ends_Finished.{IsOver, IsEndedBehind, IsFinishable}
 use Rattle.moving_kept.proofs.reshape_ends_FinishLaws.{active-then, small-then, whole-then}
-use Rattle.kept_history.specs.Safe.{world_in}
-use Rattle.kept_history.proofs.Lengths.{now-drawn}
+use Rattle.moving_kept.specs.kept_history_Safe.{world_in}
+use Rattle.moving_kept.proofs.kept_history_Lengths.{now-drawn}
 use Rattle.moving_kept.proofs.history_calls_Behind.{IsAmong}
 use Rattle.moving_ends.proofs.Ended.{IsEndingCall}
 use Rattle.moving_ends.proofs.EndedRows.{HaveEnded, ended-stands}

@@ -20,12 +20,12 @@ use Rattle.flat_history.specs.OneShape.{is_unsettled}
 use Rattle.flat_history.specs.Plain.{entries_of}
 use Rattle.flat_history.specs.Sound.{OpensFit}
 use Rattle.flat_history.specs.World.{opening_list}
-use Rattle.shape_changes.specs.Safety.{HasLiveSlot}
-use Rattle.views.specs.Moving.{Grows}
-use Rattle.call_entries.specs.Losing.{losses_of}
-use Rattle.views.proofs.MarkEnds.{some-or-none}
-use Rattle.kept_history.specs.Recorded.{IsHistoryKept, IsCallGoing}
-use Rattle.kept_history.specs.Safe.{world_in, IsFilledRight, IsSafeHistory}
+use Rattle.moving_kept.specs.shape_changes_Safety.{HasLiveSlot}
+use Rattle.moving_kept.specs.views_Moving.{Grows}
+use Rattle.moving_kept.specs.call_entries_Losing.{losses_of}
+use Rattle.moving_kept.proofs.views_MarkEnds.{some-or-none}
+use Rattle.moving_kept.specs.kept_history_Recorded.{IsHistoryKept, IsCallGoing}
+use Rattle.moving_kept.specs.kept_history_Safe.{world_in, IsFilledRight, IsSafeHistory}
 use Rattle.moving_kept.specs.course_kept_Laws.{closed}
 use Rattle.moving_kept.specs.history_calls_Reliable.{IsReliable, AreToldGone, IsNonePast}
 use Rattle.moving_kept.specs.Moving.{HasListStill, IsStillKept, IsMoving}

@@ -18,24 +18,24 @@ use Rattle.row_io.proofs.Losses.{holder-of}
 use Rattle.list_io.specs.Full.{RowStands}
 use Rattle.flat_history.specs.Stands.{shape_for}
 use Rattle.region_laws.specs.Regions.{IsDirected}
-use Rattle.shape_views.specs.Regions.{ArePlaced, DoWithout}
-use Rattle.shape_views.specs.Windows.{ListStands, RowsStand}
-use Rattle.shape_views.proofs.Stands.{for-still, list-still, still-stands}
-use Rattle.shape_views.proofs.UnderWay.{under-way}
-use Rattle.shape_changes.specs.Marking.{AreOthersPresent}
-use Rattle.shape_changes.specs.Steady.{AreUnlost}
-use Rattle.shape_changes.specs.Updates.{IsAtEnd}
-use Rattle.shape_changes.proofs.LessViews.{ends-place}
-use Rattle.shape_ends.specs.Ends.{AreRolesKept, ArePlacesAlike, IsEnded}
-use Rattle.shape_ends.specs.Plans.{HasNoneRecovering}
-use Rattle.shape_ends.proofs.EndLaws.{same-placed, places-alike-stand}
-use Rattle.shape_ends.proofs.GrownLaws.{row-list}
-use Rattle.shape_ends.proofs.GrownStanding.{grown-stands}
-use Rattle.views.specs.Moving.{IsMoved}
-use Rattle.views.specs.Placed.{IsPlaced, HaveSameReshape}
-use Rattle.views.proofs.Fit.{fit-alike, valid, multiple}
-use Rattle.views.proofs.HeldRows.{rows-same}
-use Rattle.views.proofs.Still.{length-still, placed-two, backup-still}
+use Rattle.moving_kept.specs.shape_views_Regions.{ArePlaced, DoWithout}
+use Rattle.moving_kept.specs.shape_views_Windows.{ListStands, RowsStand}
+use Rattle.moving_kept.proofs.shape_views_Stands.{for-still, list-still, still-stands}
+use Rattle.moving_kept.proofs.shape_views_UnderWay.{under-way}
+use Rattle.moving_kept.specs.shape_changes_Marking.{AreOthersPresent}
+use Rattle.moving_kept.specs.shape_changes_Steady.{AreUnlost}
+use Rattle.moving_kept.specs.shape_changes_Updates.{IsAtEnd}
+use Rattle.moving_kept.proofs.shape_changes_LessViews.{ends-place}
+use Rattle.moving_kept.specs.shape_ends_Ends.{AreRolesKept, ArePlacesAlike, IsEnded}
+use Rattle.moving_kept.specs.shape_ends_Plans.{HasNoneRecovering}
+use Rattle.moving_kept.proofs.shape_ends_EndLaws.{same-placed, places-alike-stand}
+use Rattle.moving_kept.proofs.shape_ends_GrownLaws.{row-list}
+use Rattle.moving_kept.proofs.shape_ends_GrownStanding.{grown-stands}
+use Rattle.moving_kept.specs.views_Moving.{IsMoved}
+use Rattle.moving_kept.specs.views_Placed.{IsPlaced, HaveSameReshape}
+use Rattle.moving_kept.proofs.views_Fit.{fit-alike, valid, multiple}
+use Rattle.moving_kept.proofs.views_HeldRows.{rows-same}
+use Rattle.moving_kept.proofs.views_Still.{length-still, placed-two, backup-still}
 use Rattle.moving_kept.specs.reshape_ends_Finished.{IsZeroBehind}
 use Rattle.moving_kept.specs.course_kept_Course.{AnyShape, StandsInCourse}
 use Rattle.moving_kept.specs.course_kept_Laws.{closed}

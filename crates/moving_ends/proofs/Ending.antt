@@ -20,14 +20,14 @@ use Rattle.flat_history.specs.Reshaped.{comes_with_finish, comes_with_step, is_r
 use Rattle.flat_history.specs.Transfers.{last_end_from}
 use Rattle.flat_history.specs.World.{World, opening_list}
 use Rattle.history_laws.proofs.OneShapeGrowing.{entries-both}
-use Rattle.call_entries.specs.Losing.{losses_of}
-use Rattle.call_entries.proofs.CallLaws.{AreLossEvents, losses-are, length-losses}
-use Rattle.call_entries.proofs.PlainLaws.{last_end-call}
-use Rattle.kept_history.specs.Recorded.{ends_reshape, gives_some}
-use Rattle.kept_history.specs.Told.{told_by}
-use Rattle.kept_history.proofs.Entered.{AreAdding, length-adding, values-adding, settle-none}
-use Rattle.shape_changes.specs.Steady.{IsMoreTold}
-use Rattle.kept_history.proofs.Tests.{or-right}
+use Rattle.moving_kept.specs.call_entries_Losing.{losses_of}
+use Rattle.moving_kept.proofs.call_entries_CallLaws.{AreLossEvents, losses-are, length-losses}
+use Rattle.moving_kept.proofs.call_entries_PlainLaws.{last_end-call}
+use Rattle.moving_kept.specs.kept_history_Recorded.{ends_reshape, gives_some}
+use Rattle.moving_kept.specs.kept_history_Told.{told_by}
+use Rattle.moving_kept.proofs.kept_history_Entered.{AreAdding, length-adding, values-adding, settle-none}
+use Rattle.moving_kept.specs.shape_changes_Steady.{IsMoreTold}
+use Rattle.moving_kept.proofs.kept_history_Tests.{or-right}
 use Rattle.flat_history.proofs.LegalLaws.{both}
 use Rattle.moving_kept.proofs.history_calls_Behind.{IsAmong, early-losses, and-true}
 

@@ -8,7 +8,7 @@ use Rattle.flat_history.specs.declared.events.Entry.{Entry}
 use Rattle.flat_history.specs.Growing.{grown, EndBy}
 use Rattle.flat_history.specs.Reshaped.{is_done, is_planned, plans_after, open_plans}
 use Rattle.flat_history.specs.World.{World}
-use Rattle.kept_history.proofs.Tests.{neither}
+use Rattle.moving_kept.proofs.kept_history_Tests.{neither}
 use Rattle.moving_kept.proofs.history_calls_Plans.{plans-end, planned-grown, ArePlannedTo}
 
 plans-still : (plans added : List Entry) → list_any (λ e. is_done e.event || is_planned e.event) added ≡ false → fold plans_after plans added ≡ plans

@@ -28,37 +28,37 @@ use Rattle.flat_history.specs.Legal.{level_at, IsLegalEvent, IsRefusedRight}
 use Rattle.flat_history.specs.Plain.{entries_of}
 use Rattle.flat_history.specs.Sound.{OpensFit}
 use Rattle.flat_history.specs.World.{World, opening_list}
-use Rattle.shape_views.specs.Regions.{backup_of, ArePlaced, DoWithout}
-use Rattle.shape_views.specs.Views.{Disk, Ledger}
-use Rattle.shape_views.specs.Windows.{AreFewer}
-use Rattle.shape_changes.specs.Marking.{AreOthersPresent}
-use Rattle.shape_changes.specs.Safety.{HasLiveSlot, HasRoomLeft, IsRisen}
-use Rattle.shape_changes.specs.Steady.{IsMoreTold, IsSafeOver, KeepsSafe, AreGoneTold, IsUncleanTold, with_number}
-use Rattle.shape_changes.proofs.Without.{live-is}
-use Rattle.views.specs.Flushing.{OnlyFlushesAdded}
-use Rattle.views.specs.Lacking.{DoesWithout}
-use Rattle.views.specs.Moving.{Grows, IsMoved}
-use Rattle.views.specs.Numbers.{IsSpareSb, IsOfScope}
-use Rattle.views.specs.Placed.{IsPlaced}
-use Rattle.views.specs.Rebuilding.{MayHold, with_spare}
-use Rattle.views.specs.Under.{IsRestKept}
-use Rattle.views.proofs.AddedMembers.{placed-with, unlost-roles, free-with, spares-with}
-use Rattle.views.proofs.Fit.{list-alike}
-use Rattle.views.proofs.Flushed.{contents-added}
-use Rattle.views.proofs.HeldRows.{shape-without-before}
-use Rattle.views.proofs.LiveLeft.{without-left}
-use Rattle.views.proofs.MarkedSafe.{added-longer, flushed-safe}
-use Rattle.views.proofs.MarkLaws.{few-below}
-use Rattle.views.proofs.MovedLaws.{grows-then, moved-same}
-use Rattle.views.proofs.SafeStretch.{safe-then}
+use Rattle.course_mends.specs.shape_views_Regions.{backup_of, ArePlaced, DoWithout}
+use Rattle.course_mends.specs.shape_views_Views.{Disk, Ledger}
+use Rattle.course_mends.specs.shape_views_Windows.{AreFewer}
+use Rattle.course_mends.specs.shape_changes_Marking.{AreOthersPresent}
+use Rattle.course_mends.specs.shape_changes_Safety.{HasLiveSlot, HasRoomLeft, IsRisen}
+use Rattle.course_mends.specs.shape_changes_Steady.{IsMoreTold, IsSafeOver, KeepsSafe, AreGoneTold, IsUncleanTold, with_number}
+use Rattle.course_mends.proofs.shape_changes_Without.{live-is}
+use Rattle.course_mends.specs.views_Flushing.{OnlyFlushesAdded}
+use Rattle.course_mends.specs.views_Lacking.{DoesWithout}
+use Rattle.course_mends.specs.views_Moving.{Grows, IsMoved}
+use Rattle.course_mends.specs.views_Numbers.{IsSpareSb, IsOfScope}
+use Rattle.course_mends.specs.views_Placed.{IsPlaced}
+use Rattle.course_mends.specs.views_Rebuilding.{MayHold, with_spare}
+use Rattle.course_mends.specs.views_Under.{IsRestKept}
+use Rattle.course_mends.proofs.views_AddedMembers.{placed-with, unlost-roles, free-with, spares-with}
+use Rattle.course_mends.proofs.views_Fit.{list-alike}
+use Rattle.course_mends.proofs.views_Flushed.{contents-added}
+use Rattle.course_mends.proofs.views_HeldRows.{shape-without-before}
+use Rattle.course_mends.proofs.views_LiveLeft.{without-left}
+use Rattle.course_mends.proofs.views_MarkedSafe.{added-longer, flushed-safe}
+use Rattle.course_mends.proofs.views_MarkLaws.{few-below}
+use Rattle.course_mends.proofs.views_MovedLaws.{grows-then, moved-same}
+use Rattle.course_mends.proofs.views_SafeStretch.{safe-then}
 use Rattle.course_mends.specs.safe_updates_Unused.{IsUnused}
 use Rattle.course_mends.proofs.safe_updates_Under.{flushed-fewer}
-use Rattle.call_entries.specs.Losing.{losses_of}
-use Rattle.call_entries.proofs.CallLaws.{losses-are}
-use Rattle.call_entries.proofs.LeftLaws.{TellLeft, left-behind, left-more}
+use Rattle.history_calls.specs.call_entries_Losing.{losses_of}
+use Rattle.history_calls.proofs.call_entries_CallLaws.{losses-are}
+use Rattle.history_calls.proofs.call_entries_LeftLaws.{TellLeft, left-behind, left-more}
 use Rattle.array_kept.specs.Calls.{IsUnaddable}
-use Rattle.kept_history.specs.Recorded.{IsCallGoing, entry_of}
-use Rattle.kept_history.specs.Safe.{world_in, OpensOnCourse}
+use Rattle.history_calls.specs.kept_history_Recorded.{IsCallGoing, entry_of}
+use Rattle.history_calls.specs.kept_history_Safe.{world_in, OpensOnCourse}
 use Rattle.course_mends.specs.course_kept_the_Course.{Course}
 use Rattle.grow_asked.specs.declared.window.Window.{Window}
 use Rattle.grow_asked.specs.declared.window.Window.TheVariants.{Closed, Entered, Unsure}

@@ -17,14 +17,14 @@ use Rattle.flat_history.specs.Losses.{unsettles, loses, is_gone_after, is_unsync
 use Rattle.flat_history.specs.Plain.{entries_of}
 use Rattle.flat_history.specs.Sound.{OpensFit}
 use Rattle.flat_history.specs.World.{opening_list, World}
-use Rattle.shape_views.specs.Views.{Ledger}
-use Rattle.shape_changes.specs.Safety.{HasLiveSlot, HasRoomLeft, IsRisen}
-use Rattle.shape_changes.specs.Steady.{IsMoreTold, IsSafeOver, KeepsSafe, AreGoneTold, IsUncleanTold}
-use Rattle.views.specs.Moving.{Grows}
-use Rattle.call_entries.specs.Losing.{losses_of}
-use Rattle.kept_history.specs.Recorded.{IsCallGoing, entry_of, IsHistoryKept, IsLegalCall}
-use Rattle.kept_history.specs.Safe.{world_in, IsFilledRight, OpensOnCourse}
-use Rattle.kept_history.specs.Told.{told_now}
+use Rattle.course_mends.specs.shape_views_Views.{Ledger}
+use Rattle.course_mends.specs.shape_changes_Safety.{HasLiveSlot, HasRoomLeft, IsRisen}
+use Rattle.course_mends.specs.shape_changes_Steady.{IsMoreTold, IsSafeOver, KeepsSafe, AreGoneTold, IsUncleanTold}
+use Rattle.course_mends.specs.views_Moving.{Grows}
+use Rattle.history_calls.specs.call_entries_Losing.{losses_of}
+use Rattle.history_calls.specs.kept_history_Recorded.{IsCallGoing, entry_of, IsHistoryKept, IsLegalCall}
+use Rattle.history_calls.specs.kept_history_Safe.{world_in, IsFilledRight, OpensOnCourse}
+use Rattle.history_calls.specs.kept_history_Told.{told_now}
 use Rattle.course_mends.specs.course_kept_the_Course.{Course}
 use Rattle.course_mends.specs.course_kept_Course.{IsCourseOf, IsStored}
 use Rattle.history_calls.specs.Reliable.{IsReliable, AreToldGone}
@@ -38,12 +38,12 @@ use Rattle.moving_kept.proofs.Quiet.{listed-later, safe-now, course-earlier}
 use Rattle.std.specs.List.{list_any}
 use Rattle.md_base.specs.Sectors.{Sector}
 use Rattle.flat_history.specs.OneShape.{is_unsettled}
-use Rattle.views.specs.Placed.{AreWhole}
-use Rattle.call_entries.proofs.CallLaws.{losses-are}
-use Rattle.kept_history.proofs.Growing.{fit-grown}
-use Rattle.kept_history.proofs.Ledgers.{gone-any}
-use Rattle.kept_history.proofs.Lists.{newest-in}
-use Rattle.kept_history.proofs.Entered.{adds_only, length-adding}
+use Rattle.course_mends.specs.views_Placed.{AreWhole}
+use Rattle.history_calls.proofs.call_entries_CallLaws.{losses-are}
+use Rattle.history_calls.proofs.kept_history_Growing.{fit-grown}
+use Rattle.history_calls.proofs.kept_history_Ledgers.{gone-any}
+use Rattle.history_calls.proofs.kept_history_Lists.{newest-in}
+use Rattle.history_calls.proofs.kept_history_Entered.{adds_only, length-adding}
 
 -- What is asked of a call, from this tape to that one with its end there, that enters these events before its last one: it may lose only what it tells, so that what is
 -- filled in is right, where it is by its entries.

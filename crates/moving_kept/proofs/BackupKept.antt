@@ -10,13 +10,13 @@ use Rattle.superblocks.specs.Outcome.{is_in_update, AreGivesOfLive}
 use Rattle.superblocks.specs.Reading.{Scope}
 use Rattle.superblocks.specs.Reads.{has_spare}
 use Rattle.superblocks.specs.Update.{is_held_by, is_live, is_added}
-use Rattle.shape_views.specs.Regions.{backup_of, ArePlaced}
-use Rattle.shape_views.specs.Views.{Disk}
-use Rattle.shape_views.proofs.Headers.{backup-is}
-use Rattle.shape_changes.specs.Marking.{marking}
-use Rattle.shape_changes.proofs.PlannedRoles.{live-was}
-use Rattle.shape_changes.proofs.Without.{any-holds, live-of}
-use Rattle.views.specs.Moving.{IsMoved}
+use Rattle.course_mends.specs.shape_views_Regions.{backup_of, ArePlaced}
+use Rattle.course_mends.specs.shape_views_Views.{Disk}
+use Rattle.course_mends.proofs.shape_views_Headers.{backup-is}
+use Rattle.course_mends.specs.shape_changes_Marking.{marking}
+use Rattle.course_mends.proofs.shape_changes_PlannedRoles.{live-was}
+use Rattle.course_mends.proofs.shape_changes_Without.{any-holds, live-of}
+use Rattle.course_mends.specs.views_Moving.{IsMoved}
 use Rattle.course_mends.specs.safe_updates_Unused.{IsUnused, IsUnusedKept}
 use Rattle.course_mends.specs.reshape_updates_Beginning.{beginning}
 use Rattle.course_mends.specs.reshape_ends_Begun.{begun_plan, IsBackupOf}

@@ -23,21 +23,21 @@ use Rattle.flat_history.specs.Losses.{is_unsynced}
 use Rattle.flat_history.specs.Plain.{entries_of}
 use Rattle.flat_history.specs.Sound.{OpensFit}
 use Rattle.flat_history.specs.World.{World, opening_list}
-use Rattle.shape_views.specs.Regions.{ArePlaced, DoWithout}
-use Rattle.shape_views.proofs.Stands.{final-still}
-use Rattle.shape_ends.specs.Ends.{IsBegun, IsCleared}
-use Rattle.shape_ends.proofs.EndLaws.{cleared-plain, fewer-pass}
-use Rattle.views.specs.Moving.{Grows, IsMoved}
-use Rattle.views.specs.Lacking.{DoesWithout, AreOtherRowsKept}
-use Rattle.views.proofs.Fit.{list-alike}
-use Rattle.views.proofs.HeldRows.{missing-moved}
-use Rattle.call_entries.specs.Losing.{losses_of}
-use Rattle.call_entries.proofs.CallLaws.{losses-are}
-use Rattle.call_entries.proofs.LeftLaws.{left-behind, fold-left}
-use Rattle.kept_history.specs.Recorded.{IsHistoryKept, IsCallGoing, IsOpenBehind}
-use Rattle.kept_history.specs.Safe.{world_in, IsFilledRight}
-use Rattle.kept_history.proofs.Growing.{fit-grown, alike-before, room-before}
-use Rattle.kept_history.proofs.Turned.{filled-before}
+use Rattle.course_mends.specs.shape_views_Regions.{ArePlaced, DoWithout}
+use Rattle.course_mends.proofs.shape_views_Stands.{final-still}
+use Rattle.course_mends.specs.shape_ends_Ends.{IsBegun, IsCleared}
+use Rattle.course_mends.proofs.shape_ends_EndLaws.{cleared-plain, fewer-pass}
+use Rattle.course_mends.specs.views_Moving.{Grows, IsMoved}
+use Rattle.course_mends.specs.views_Lacking.{DoesWithout, AreOtherRowsKept}
+use Rattle.course_mends.proofs.views_Fit.{list-alike}
+use Rattle.course_mends.proofs.views_HeldRows.{missing-moved}
+use Rattle.history_calls.specs.call_entries_Losing.{losses_of}
+use Rattle.history_calls.proofs.call_entries_CallLaws.{losses-are}
+use Rattle.history_calls.proofs.call_entries_LeftLaws.{left-behind, fold-left}
+use Rattle.history_calls.specs.kept_history_Recorded.{IsHistoryKept, IsCallGoing, IsOpenBehind}
+use Rattle.history_calls.specs.kept_history_Safe.{world_in, IsFilledRight}
+use Rattle.history_calls.proofs.kept_history_Growing.{fit-grown, alike-before, room-before}
+use Rattle.history_calls.proofs.kept_history_Turned.{filled-before}
 use Rattle.course_mends.specs.course_kept_Laws.{closed}
 use Rattle.course_mends.proofs.course_kept_Frames.{does-or}
 use Rattle.course_mends.proofs.course_kept_Courses.{begins-stand}

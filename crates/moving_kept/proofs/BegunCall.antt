@@ -17,25 +17,25 @@ use Rattle.flat_history.specs.declared.events.Entry.{Entry}
 use Rattle.flat_history.specs.Epochs.{HasRoomForEvents}
 use Rattle.flat_history.specs.Sound.{OpensFit}
 use Rattle.flat_history.specs.World.{World, contents_at}
-use Rattle.shape_views.specs.Regions.{ArePlaced}
-use Rattle.shape_views.specs.Views.{Ledger}
-use Rattle.shape_views.proofs.Stands.{final-still}
-use Rattle.shape_changes.specs.Changing.{IsSafeChange}
-use Rattle.shape_changes.specs.Safety.{HasLiveSlot, HasRoomLeft, IsRisen}
-use Rattle.shape_changes.specs.Steady.{IsSafeOver, AreGoneTold}
-use Rattle.shape_ends.specs.Ends.{IsToldWith}
-use Rattle.views.specs.Moving.{IsMoved}
-use Rattle.views.proofs.Fit.{count-alike, roles-still}
-use Rattle.views.proofs.HeldRows.{missing-moved}
-use Rattle.views.proofs.Still.{count-still}
+use Rattle.course_mends.specs.shape_views_Regions.{ArePlaced}
+use Rattle.course_mends.specs.shape_views_Views.{Ledger}
+use Rattle.course_mends.proofs.shape_views_Stands.{final-still}
+use Rattle.course_mends.specs.shape_changes_Changing.{IsSafeChange}
+use Rattle.course_mends.specs.shape_changes_Safety.{HasLiveSlot, HasRoomLeft, IsRisen}
+use Rattle.course_mends.specs.shape_changes_Steady.{IsSafeOver, AreGoneTold}
+use Rattle.course_mends.specs.shape_ends_Ends.{IsToldWith}
+use Rattle.course_mends.specs.views_Moving.{IsMoved}
+use Rattle.course_mends.proofs.views_Fit.{count-alike, roles-still}
+use Rattle.course_mends.proofs.views_HeldRows.{missing-moved}
+use Rattle.course_mends.proofs.views_Still.{count-still}
 use Rattle.course_mends.specs.reshape_updates_Beginning.{HasBegun, goes_back}
 use Rattle.course_mends.proofs.reshape_updates_BegunPlan.{planned-begun-is}
 use Rattle.course_mends.specs.reshape_ends_Begun.{IsBackupOf, IsBegunBehind, begun_plan}
-use Rattle.kept_history.specs.Safe.{world_in}
-use Rattle.kept_history.specs.Told.{told_now}
-use Rattle.kept_history.proofs.Calls.{now-live}
-use Rattle.kept_history.proofs.Growing.{room-now}
-use Rattle.kept_history.proofs.Lengths.{now-drawn}
+use Rattle.history_calls.specs.kept_history_Safe.{world_in}
+use Rattle.history_calls.specs.kept_history_Told.{told_now}
+use Rattle.history_calls.proofs.kept_history_Calls.{now-live}
+use Rattle.history_calls.proofs.kept_history_Growing.{room-now}
+use Rattle.history_calls.proofs.kept_history_Lengths.{now-drawn}
 use Rattle.history_calls.specs.Reliable.{IsReliable}
 use Rattle.moving_kept.specs.Moving.{IsStillKept}
 use Rattle.moving_kept.proofs.Beginning.{IsBeginningCall, safe-over}

@@ -25,22 +25,22 @@ use Rattle.flat_history.specs.declared.events.StepKind.TheVariants.{Begun}
 use Rattle.flat_history.specs.Legal.{told_left}
 use Rattle.flat_history.specs.Losses.{is_unsynced}
 use Rattle.flat_history.specs.Plain.{entries_of}
-use Rattle.shape_views.specs.Regions.{backup_of, ArePlaced}
-use Rattle.shape_ends.specs.Ends.{IsCleared}
-use Rattle.shape_ends.specs.Plans.{HasNoneRecovering}
-use Rattle.views.specs.Lacking.{AreOtherRowsKept}
-use Rattle.views.specs.Moving.{Grows}
-use Rattle.views.specs.Rebuilding.{AreSparesFree}
-use Rattle.views.proofs.Fit.{roles-still}
+use Rattle.course_mends.specs.shape_views_Regions.{backup_of, ArePlaced}
+use Rattle.course_mends.specs.shape_ends_Ends.{IsCleared}
+use Rattle.course_mends.specs.shape_ends_Plans.{HasNoneRecovering}
+use Rattle.course_mends.specs.views_Lacking.{AreOtherRowsKept}
+use Rattle.course_mends.specs.views_Moving.{Grows}
+use Rattle.course_mends.specs.views_Rebuilding.{AreSparesFree}
+use Rattle.course_mends.proofs.views_Fit.{roles-still}
 use Rattle.course_mends.proofs.safe_updates_Unused.{unused-moved}
-use Rattle.call_entries.specs.Losing.{losses_of}
+use Rattle.history_calls.specs.call_entries_Losing.{losses_of}
 use Rattle.course_mends.specs.reshape_updates_Beginning.{beginning, goes_back}
 use Rattle.course_mends.proofs.reshape_updates_BegunPlan.{is-begun}
 use Rattle.course_mends.proofs.reshape_updates_NewRoles.{new-or}
 use Rattle.course_mends.specs.reshape_ends_Begun.{begun_plan}
 use Rattle.course_mends.proofs.reshape_ends_BeginLaws.{gives-live, begun-placed}
-use Rattle.kept_history.specs.Recorded.{IsCallGoing, IsOpenBehind}
-use Rattle.kept_history.specs.Safe.{world_in}
+use Rattle.history_calls.specs.kept_history_Recorded.{IsCallGoing, IsOpenBehind}
+use Rattle.history_calls.specs.kept_history_Safe.{world_in}
 use Rattle.course_mends.specs.course_kept_Laws.{closed}
 use Rattle.moving_kept.specs.Moving.{IsStillKept, IsMoving}
 use Rattle.moving_kept.proofs.BackupKept.{begun-aside}

@@ -13,11 +13,11 @@ use Rattle.geometry.specs.Geometry.{AreInForce}
 use Rattle.superblocks.specs.declared.members.Members.{Members}
 use Rattle.superblocks.specs.Held.{AreDrawn}
 use Rattle.superblocks.specs.Reading.{Scope, is_reshaping, shape_of}
-use Rattle.shape_views.specs.Views.{Ledger}
-use Rattle.shape_changes.specs.Safety.{HasLiveSlot, HasRoomLeft}
-use Rattle.shape_changes.specs.Steady.{IsSteady, IsSafeNow}
-use Rattle.shape_changes.proofs.ChangeSafe.{told-changed}
-use Rattle.shape_changes.proofs.FitKinds.{taking-is-fit}
+use Rattle.course_mends.specs.shape_views_Views.{Ledger}
+use Rattle.course_mends.specs.shape_changes_Safety.{HasLiveSlot, HasRoomLeft}
+use Rattle.course_mends.specs.shape_changes_Steady.{IsSteady, IsSafeNow}
+use Rattle.course_mends.proofs.shape_changes_ChangeSafe.{told-changed}
+use Rattle.course_mends.proofs.shape_changes_FitKinds.{taking-is-fit}
 use Rattle.course_mends.specs.reshape_updates_Beginning.{beginning}
 use Rattle.course_mends.proofs.reshape_updates_BegunPlan.{is-beginning, planned-begun-is, planned-fits-is}
 use Rattle.course_mends.specs.reshape_ends_Begun.{IsBegunBehind}

@@ -30,20 +30,20 @@ use Rattle.flat_history.specs.Flat.{now}
 use Rattle.flat_history.specs.Plain.{entries_of}
 use Rattle.flat_history.specs.Stands.{covers, shape_for}
 use Rattle.flat_history.specs.World.{opening_list}
-use Rattle.shape_views.specs.Regions.{AreShapesFit, DoWithout, place_by}
-use Rattle.shape_views.specs.Windows.{moved_past}
-use Rattle.shape_views.proofs.Alike.{row-below}
-use Rattle.shape_views.proofs.UnderWay.{under-way, is-reshaping, shape-on}
-use Rattle.shape_ends.specs.Grown.{IsZeroPast}
-use Rattle.views.specs.Moving.{Grows, IsMoved}
-use Rattle.views.specs.Lacking.{DoesWithout}
-use Rattle.views.proofs.Fit.{list-alike, for-alike, force-multiple}
+use Rattle.course_mends.specs.shape_views_Regions.{AreShapesFit, DoWithout, place_by}
+use Rattle.course_mends.specs.shape_views_Windows.{moved_past}
+use Rattle.course_mends.proofs.shape_views_Alike.{row-below}
+use Rattle.course_mends.proofs.shape_views_UnderWay.{under-way, is-reshaping, shape-on}
+use Rattle.course_mends.specs.shape_ends_Grown.{IsZeroPast}
+use Rattle.course_mends.specs.views_Moving.{Grows, IsMoved}
+use Rattle.course_mends.specs.views_Lacking.{DoesWithout}
+use Rattle.course_mends.proofs.views_Fit.{list-alike, for-alike, force-multiple}
 use Rattle.window_calls.specs.Finishing.{AreStripesCopied}
 use Rattle.window_calls.proofs.Windows.{all-first}
-use Rattle.call_entries.specs.Losing.{losses_of}
-use Rattle.kept_history.specs.Safe.{world_in, IsFilledRight}
-use Rattle.kept_history.proofs.Growing.{opening-grown}
-use Rattle.kept_history.proofs.Turned.{filled-before}
+use Rattle.history_calls.specs.call_entries_Losing.{losses_of}
+use Rattle.history_calls.specs.kept_history_Safe.{world_in, IsFilledRight}
+use Rattle.history_calls.proofs.kept_history_Growing.{opening-grown}
+use Rattle.history_calls.proofs.kept_history_Turned.{filled-before}
 use Rattle.course_mends.specs.course_kept_Laws.{entered}
 use Rattle.course_mends.proofs.course_kept_Courses.{courses-copied}
 use Rattle.course_mends.specs.region_writes_Runs.{WindowRowsStand}

@@ -21,19 +21,19 @@ use Rattle.flat_history.specs.declared.events.StepKind.TheVariants.{WindowFinish
 use Rattle.flat_history.specs.Plain.{entries_of}
 use Rattle.flat_history.specs.Sound.{OpensFit}
 use Rattle.flat_history.specs.World.{World}
-use Rattle.shape_views.specs.Regions.{DoWithout, ArePlaced}
-use Rattle.shape_views.specs.Views.{AreHeadersFit, Ledger}
-use Rattle.shape_views.specs.Windows.{HasNoSection, moved_past}
-use Rattle.shape_changes.specs.Safety.{HasRoomLeft, IsRisen}
-use Rattle.shape_changes.specs.Steady.{IsSafeOver, KeepsSafe, AreGoneTold, IsUncleanTold}
-use Rattle.views.specs.Placed.{IsPlaced}
+use Rattle.course_mends.specs.shape_views_Regions.{DoWithout, ArePlaced}
+use Rattle.course_mends.specs.shape_views_Views.{AreHeadersFit, Ledger}
+use Rattle.course_mends.specs.shape_views_Windows.{HasNoSection, moved_past}
+use Rattle.course_mends.specs.shape_changes_Safety.{HasRoomLeft, IsRisen}
+use Rattle.course_mends.specs.shape_changes_Steady.{IsSafeOver, KeepsSafe, AreGoneTold, IsUncleanTold}
+use Rattle.course_mends.specs.views_Placed.{IsPlaced}
 use Rattle.course_mends.specs.safe_updates_Unused.{IsUnusedKept}
-use Rattle.views.specs.Moving.{Grows, IsMoved}
-use Rattle.views.specs.Lacking.{AreTooMany, AreOtherRowsKept}
-use Rattle.window_rows.specs.Copies.{tail_of, IsCopied}
+use Rattle.course_mends.specs.views_Moving.{Grows, IsMoved}
+use Rattle.course_mends.specs.views_Lacking.{AreTooMany, AreOtherRowsKept}
+use Rattle.course_mends.specs.window_rows_Copies.{tail_of, IsCopied}
 use Rattle.window_calls.specs.Finishing.{IsOfRest, AreStripesCopied, IsOpenWindow}
-use Rattle.call_entries.specs.Losing.{losses_of}
-use Rattle.kept_history.specs.Recorded.{IsCallGoing, MayGoOn}
+use Rattle.history_calls.specs.call_entries_Losing.{losses_of}
+use Rattle.history_calls.specs.kept_history_Recorded.{IsCallGoing, MayGoOn}
 use Rattle.course_mends.specs.course_kept_the_Course.{Course}
 use Rattle.course_mends.specs.course_kept_Laws.{closed, entered}
 use Rattle.moving_kept.specs.Moving.{IsMoving}

@@ -21,24 +21,24 @@ use Rattle.flat_history.specs.Losses.{is_unsynced, is_resync_end, unsettles}
 use Rattle.flat_history.specs.Plain.{entries_of}
 use Rattle.flat_history.specs.Sound.{OpensFit}
 use Rattle.flat_history.specs.World.{World, opening_list}
-use Rattle.shape_views.specs.Regions.{DoWithout}
-use Rattle.shape_views.specs.Views.{Ledger}
-use Rattle.shape_changes.specs.Marking.{AreOthersPresent}
-use Rattle.shape_changes.specs.Safety.{HasLiveSlot, HasRoomLeft, IsRisen}
-use Rattle.shape_changes.specs.Steady.{IsSafeOver, KeepsSafe, AreGoneTold, IsUncleanTold, AreWritesAllowed, settled_ledger}
-use Rattle.views.specs.Lacking.{DoesWithout, AreTooMany}
-use Rattle.views.specs.Moving.{Grows, IsMoved}
-use Rattle.views.specs.Under.{StandsUnder, RowsStandUnder}
+use Rattle.course_mends.specs.shape_views_Regions.{DoWithout}
+use Rattle.course_mends.specs.shape_views_Views.{Ledger}
+use Rattle.course_mends.specs.shape_changes_Marking.{AreOthersPresent}
+use Rattle.course_mends.specs.shape_changes_Safety.{HasLiveSlot, HasRoomLeft, IsRisen}
+use Rattle.course_mends.specs.shape_changes_Steady.{IsSafeOver, KeepsSafe, AreGoneTold, IsUncleanTold, AreWritesAllowed, settled_ledger}
+use Rattle.course_mends.specs.views_Lacking.{DoesWithout, AreTooMany}
+use Rattle.course_mends.specs.views_Moving.{Grows, IsMoved}
+use Rattle.course_mends.specs.views_Under.{StandsUnder, RowsStandUnder}
 use Rattle.course_mends.specs.safe_updates_Unused.{IsUnusedKept}
-use Rattle.views.proofs.Fit.{list-alike}
-use Rattle.views.proofs.LackingLaws.{never-both}
-use Rattle.views.proofs.LackingLists.{none-of}
-use Rattle.call_entries.specs.Losing.{losses_of}
-use Rattle.call_entries.proofs.CallLaws.{losses-are, values-losses}
-use Rattle.call_entries.proofs.LeftLaws.{left-behind, left-more}
-use Rattle.kept_history.specs.Recorded.{IsCallGoing, entry_of, ends_reshape}
-use Rattle.kept_history.specs.Safe.{world_in, IsFilledRight}
-use Rattle.kept_history.proofs.Entered.{values-more}
+use Rattle.course_mends.proofs.views_Fit.{list-alike}
+use Rattle.course_mends.proofs.views_LackingLaws.{never-both}
+use Rattle.course_mends.proofs.views_LackingLists.{none-of}
+use Rattle.history_calls.specs.call_entries_Losing.{losses_of}
+use Rattle.history_calls.proofs.call_entries_CallLaws.{losses-are, values-losses}
+use Rattle.history_calls.proofs.call_entries_LeftLaws.{left-behind, left-more}
+use Rattle.history_calls.specs.kept_history_Recorded.{IsCallGoing, entry_of, ends_reshape}
+use Rattle.history_calls.specs.kept_history_Safe.{world_in, IsFilledRight}
+use Rattle.history_calls.proofs.kept_history_Entered.{values-more}
 use Rattle.course_mends.specs.course_kept_the_Course.{Course}
 use Rattle.course_mends.specs.course_kept_Course.{AnyShape}
 use Rattle.course_mends.proofs.course_kept_Under.{courses-stand-under}
@@ -55,7 +55,7 @@ use Rattle.moving_kept.proofs.Refusals.{refused-right}
 use Rattle.moving_kept.proofs.Settling.{IsSettling, settlement, not-ended, settling-moves}
 use Rattle.moving_kept.proofs.Staying.{course-moved}
 use Rattle.moving_kept.proofs.Steps.{AreMissingSince, missing-moved}
-use Rattle.kept_history.proofs.Turned.{fills-on_course}
+use Rattle.history_calls.proofs.kept_history_Turned.{fills-on_course}
 
 -- What a flush of the members leaves, in an array that is unsynced behind it or not: none but superblocks is written, and each mark is safe as long as the list
 -- stands whichever header a stop leaves.

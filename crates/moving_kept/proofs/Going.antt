@@ -9,10 +9,10 @@ use Rattle.flat_history.specs.declared.events.Event.TheVariants.{Lost, SpareLost
 use Rattle.flat_history.specs.declared.events.LostCause.TheVariants.{Fault}
 use Rattle.flat_history.specs.OneShape.{IsOfCall}
 use Rattle.flat_history.specs.Plain.{entries_of}
-use Rattle.call_entries.specs.Losing.{losses_of}
-use Rattle.call_entries.proofs.CallLaws.{AreLossEvents, losses-are}
-use Rattle.kept_history.specs.Recorded.{IsCallGoing, MayGoOn, entry_of}
-use Rattle.kept_history.proofs.Records.{going-more}
+use Rattle.history_calls.specs.call_entries_Losing.{losses_of}
+use Rattle.history_calls.proofs.call_entries_CallLaws.{AreLossEvents, losses-are}
+use Rattle.history_calls.specs.kept_history_Recorded.{IsCallGoing, MayGoOn, entry_of}
+use Rattle.history_calls.proofs.kept_history_Records.{going-more}
 
 -- losses and such an event behind them may stand before others
 go-on : (who : Who) (end : ℕ) (xs : List Event) (event : Event) → AreLossEvents xs → MayGoOn event → All (λ e. IsOfCall who e × MayGoOn e.event) (entries_of who end (xs ++ event ∷ []))

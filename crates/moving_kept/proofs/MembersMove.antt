@@ -8,13 +8,13 @@ use Rattle.superblocks.specs.Reading.{Scope, shape_of, next_window, holder}
 use Rattle.md_base.specs.declared.answers.Refusal.TheVariants.{BackupAbsent}
 use Rattle.geometry.specs.Geometry.{unit}
 use Rattle.flat_history.specs.Stands.{backup_absent, has_room}
-use Rattle.shape_views.specs.Regions.{backup_of, ArePlaced}
-use Rattle.shape_views.specs.Windows.{moved_past}
-use Rattle.shape_views.proofs.Stands.{moved-is-placed}
-use Rattle.shape_changes.proofs.Without.{live-is}
-use Rattle.views.specs.Placed.{HaveSameReshape}
-use Rattle.views.specs.Moving.{IsMoved}
-use Rattle.views.proofs.Fit.{list-alike}
+use Rattle.course_mends.specs.shape_views_Regions.{backup_of, ArePlaced}
+use Rattle.course_mends.specs.shape_views_Windows.{moved_past}
+use Rattle.course_mends.proofs.shape_views_Stands.{moved-is-placed}
+use Rattle.course_mends.proofs.shape_changes_Without.{live-is}
+use Rattle.course_mends.specs.views_Placed.{HaveSameReshape}
+use Rattle.course_mends.specs.views_Moving.{IsMoved}
+use Rattle.course_mends.proofs.views_Fit.{list-alike}
 use Rattle.course_mends.proofs.safe_updates_Unused.{unused-moved}
 use Rattle.course_mends.proofs.window_steps_PastLaws.{free-moved}
 use Rattle.moving_kept.specs.Moving.{AreReshaping}

@@ -20,27 +20,27 @@ use Rattle.flat_history.specs.Flat.{now, length_of, values_of}
 use Rattle.flat_history.specs.Plain.{entries_of}
 use Rattle.flat_history.specs.Sound.{OpensFit}
 use Rattle.flat_history.specs.World.{World, opening_list}
-use Rattle.shape_views.specs.Regions.{DoWithout}
-use Rattle.shape_views.specs.Views.{AreHeadersFit, Ledger}
-use Rattle.shape_views.specs.Windows.{HasNoSection, moved_past}
-use Rattle.shape_changes.specs.Marking.{AreOthersPresent}
-use Rattle.shape_changes.specs.Safety.{HasLiveSlot, HasRoomLeft, IsRisen}
-use Rattle.shape_changes.specs.Steady.{IsMoreTold, IsSafeOver, KeepsSafe, AreGoneTold, IsUncleanTold}
-use Rattle.views.specs.Moving.{Grows, IsMoved}
-use Rattle.views.specs.Lacking.{DoesWithout, IsOfStripe, AreOtherRowsKept}
-use Rattle.views.proofs.Fit.{list-alike}
-use Rattle.views.proofs.LiveLeft.{without-left}
-use Rattle.call_entries.specs.Losing.{losses_of}
-use Rattle.call_entries.proofs.CallLaws.{losses-are}
-use Rattle.window_rows.specs.Copies.{tail_of, IsZeroIn}
+use Rattle.course_mends.specs.shape_views_Regions.{DoWithout}
+use Rattle.course_mends.specs.shape_views_Views.{AreHeadersFit, Ledger}
+use Rattle.course_mends.specs.shape_views_Windows.{HasNoSection, moved_past}
+use Rattle.course_mends.specs.shape_changes_Marking.{AreOthersPresent}
+use Rattle.course_mends.specs.shape_changes_Safety.{HasLiveSlot, HasRoomLeft, IsRisen}
+use Rattle.course_mends.specs.shape_changes_Steady.{IsMoreTold, IsSafeOver, KeepsSafe, AreGoneTold, IsUncleanTold}
+use Rattle.course_mends.specs.views_Moving.{Grows, IsMoved}
+use Rattle.course_mends.specs.views_Lacking.{DoesWithout, IsOfStripe, AreOtherRowsKept}
+use Rattle.course_mends.proofs.views_Fit.{list-alike}
+use Rattle.course_mends.proofs.views_LiveLeft.{without-left}
+use Rattle.history_calls.specs.call_entries_Losing.{losses_of}
+use Rattle.history_calls.proofs.call_entries_CallLaws.{losses-are}
+use Rattle.course_mends.specs.window_rows_Copies.{tail_of, IsZeroIn}
 use Rattle.course_mends.specs.safe_updates_Unused.{IsUnusedKept}
 use Rattle.course_mends.specs.window_steps_Recording.{IsCopiedWindow}
 use Rattle.course_mends.specs.window_steps_Zeroing.{IsThrough}
 use Rattle.course_mends.proofs.window_steps_ZeroLaws.{through-moved}
-use Rattle.kept_history.specs.Recorded.{IsCallGoing, entry_of}
-use Rattle.kept_history.specs.Safe.{world_in, IsFilledRight}
-use Rattle.kept_history.specs.Told.{told_now}
-use Rattle.kept_history.proofs.Lists.{newest-in}
+use Rattle.history_calls.specs.kept_history_Recorded.{IsCallGoing, entry_of}
+use Rattle.history_calls.specs.kept_history_Safe.{world_in, IsFilledRight}
+use Rattle.history_calls.specs.kept_history_Told.{told_now}
+use Rattle.history_calls.proofs.kept_history_Lists.{newest-in}
 use Rattle.grow_asked.specs.declared.window.Window.TheVariants.{Closed}
 use Rattle.course_mends.specs.course_kept_Course.{AnyShape, IsCourseOf, past_stripe}
 use Rattle.course_mends.specs.course_kept_Laws.{closed, entered, IsWindowCopied}
@@ -53,7 +53,7 @@ use Rattle.moving_kept.proofs.MembersMove.{reshaping-moved, reshaping-past}
 use Rattle.moving_kept.proofs.Pending.{resync-of, resync-moved, resync-unmended, unmended-of, clean-none, none-on, none-stands, mended-later, mended-whole, mended-without}
 use Rattle.moving_kept.proofs.Quiet.{quiet-moves}
 use Rattle.moving_kept.proofs.Steps.{AreMissingSince, quiet-step, missing-moved, step-is, told-behind, told-step}
-use Rattle.kept_history.proofs.Turned.{fills-on_course}
+use Rattle.history_calls.proofs.kept_history_Turned.{fills-on_course}
 
 -- ---- a stripe behind the list is zeroed
 

@@ -11,12 +11,12 @@ use Rattle.layout.proofs.Limits.{limited}
 use Rattle.superblocks.specs.declared.members.Members.{Members}
 use Rattle.superblocks.specs.Reading.{is_whole, role_state, holder}
 use Rattle.row_io.specs.Rows.{reading_of, is_missing}
-use Rattle.shape_changes.specs.Safety.{HasLiveSlot}
-use Rattle.shape_changes.specs.Steady.{AreUnlost}
-use Rattle.views.specs.Placed.{IsPlaced, IsInForce}
-use Rattle.views.specs.Lacking.{DoesWithout}
-use Rattle.views.proofs.Fit.{force-valid}
-use Rattle.views.proofs.LiveLeft.{holder-left}
+use Rattle.course_mends.specs.shape_changes_Safety.{HasLiveSlot}
+use Rattle.course_mends.specs.shape_changes_Steady.{AreUnlost}
+use Rattle.course_mends.specs.views_Placed.{IsPlaced, IsInForce}
+use Rattle.course_mends.specs.views_Lacking.{DoesWithout}
+use Rattle.course_mends.proofs.views_Fit.{force-valid}
+use Rattle.course_mends.proofs.views_LiveLeft.{holder-left}
 
 -- all are missing
 pub none-held : (given : Given) (m : Members) → IsPlaced given m → AreUnlost m → (HasLiveSlot m → ⊥) → (role : ℕ) → is_missing (reading_of m) role ≡ true

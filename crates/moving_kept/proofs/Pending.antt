@@ -11,14 +11,14 @@ use Rattle.superblocks.specs.Reading.{Scope, is_clean}
 use Rattle.flat_history.specs.declared.events.Entry.{Entry}
 use Rattle.flat_history.specs.Losses.{is_unsynced}
 use Rattle.flat_history.specs.Stands.{shape_for}
-use Rattle.shape_views.specs.Regions.{AreShapesFit, DoWithout}
-use Rattle.views.specs.Moving.{IsMoved}
-use Rattle.views.specs.Lacking.{DoesWithout}
-use Rattle.views.proofs.HeldRows.{shape-without-before, without-before}
-use Rattle.kept_history.specs.Safe.{world_in}
-use Rattle.kept_history.proofs.Entered.{AreAdding, settle-none}
-use Rattle.kept_history.proofs.Growing.{unsynced-grown}
-use Rattle.kept_history.proofs.Ledgers.{unsynced-still, none-ends}
+use Rattle.course_mends.specs.shape_views_Regions.{AreShapesFit, DoWithout}
+use Rattle.course_mends.specs.views_Moving.{IsMoved}
+use Rattle.course_mends.specs.views_Lacking.{DoesWithout}
+use Rattle.course_mends.proofs.views_HeldRows.{shape-without-before, without-before}
+use Rattle.history_calls.specs.kept_history_Safe.{world_in}
+use Rattle.history_calls.proofs.kept_history_Entered.{AreAdding, settle-none}
+use Rattle.history_calls.proofs.kept_history_Growing.{unsynced-grown}
+use Rattle.history_calls.proofs.kept_history_Ledgers.{unsynced-still, none-ends}
 use Rattle.history_calls.proofs.Quiet.{IsLeftBehind}
 use Rattle.course_mends.specs.region_mends_Mends.{low_shape, mend_stripes}
 use Rattle.course_mends.proofs.region_mends_Alike.{mends-alike}

@@ -20,28 +20,28 @@ use Rattle.flat_history.specs.OneShape.{is_unsettled}
 use Rattle.flat_history.specs.Plain.{entries_of}
 use Rattle.flat_history.specs.Sound.{OpensFit}
 use Rattle.flat_history.specs.World.{opening_list}
-use Rattle.shape_views.specs.Views.{Ledger}
-use Rattle.shape_changes.specs.Safety.{HasLiveSlot, HasRoomLeft, IsRisen}
-use Rattle.shape_changes.specs.Steady.{IsMoreTold, IsSafeOver, KeepsSafe, AreGoneTold, IsUncleanTold}
-use Rattle.views.specs.Lacking.{DoesWithout}
-use Rattle.views.specs.Moving.{Grows}
-use Rattle.call_entries.specs.Losing.{losses_of}
-use Rattle.call_entries.proofs.CallLaws.{losses-are, last_end-behind}
-use Rattle.kept_history.specs.Recorded.{IsHistoryKept, IsLegalCall, IsCallGoing, entry_of, ends_reshape}
-use Rattle.kept_history.specs.Safe.{world_in, IsFilledRight, IsSafeHistory, OpensOnCourse}
-use Rattle.kept_history.specs.Told.{told_now}
+use Rattle.course_mends.specs.shape_views_Views.{Ledger}
+use Rattle.course_mends.specs.shape_changes_Safety.{HasLiveSlot, HasRoomLeft, IsRisen}
+use Rattle.course_mends.specs.shape_changes_Steady.{IsMoreTold, IsSafeOver, KeepsSafe, AreGoneTold, IsUncleanTold}
+use Rattle.course_mends.specs.views_Lacking.{DoesWithout}
+use Rattle.course_mends.specs.views_Moving.{Grows}
+use Rattle.history_calls.specs.call_entries_Losing.{losses_of}
+use Rattle.history_calls.proofs.call_entries_CallLaws.{losses-are, last_end-behind}
+use Rattle.history_calls.specs.kept_history_Recorded.{IsHistoryKept, IsLegalCall, IsCallGoing, entry_of, ends_reshape}
+use Rattle.history_calls.specs.kept_history_Safe.{world_in, IsFilledRight, IsSafeHistory, OpensOnCourse}
+use Rattle.history_calls.specs.kept_history_Told.{told_now}
 use Rattle.course_mends.specs.course_kept_the_Course.{Course}
 use Rattle.course_mends.specs.course_kept_Course.{IsCourseOf, IsStored}
 use Rattle.course_mends.specs.Mended.{StandsMended}
-use Rattle.kept_history.proofs.Calls.{now-live}
-use Rattle.kept_history.proofs.Entered.{adds_only}
-use Rattle.kept_history.proofs.Reshapes.{call-ends_none}
+use Rattle.history_calls.proofs.kept_history_Calls.{now-live}
+use Rattle.history_calls.proofs.kept_history_Entered.{adds_only}
+use Rattle.history_calls.proofs.kept_history_Reshapes.{call-ends_none}
 use Rattle.history_calls.specs.Reliable.{IsReliable, AreToldGone, HasLastStep}
 use Rattle.history_calls.proofs.Behind.{AreEarly, AreLostOrMissing, IsAmong, early-losses, legal-losses, or-false, and-true}
 use Rattle.history_calls.proofs.Quiet.{IsQuiet, IsLeftBehind, fit-later, quiet-last, last-left, stretch-more, numbers-leaves, quiet-leaves, quiet-now}
 use Rattle.moving_kept.specs.Moving.{AreReshaping, HasListInCourse, IsMoving}
 use Rattle.moving_kept.proofs.Pending.{HasResync, pending-on}
-use Rattle.kept_history.proofs.Growing.{course-before}
+use Rattle.history_calls.proofs.kept_history_Growing.{course-before}
 
 -- ---- what a stop may leave now
 

@@ -15,14 +15,14 @@ use Rattle.superblocks.specs.Reads.{SaysSame}
 use Rattle.superblocks.specs.Updating.{planned_newest}
 use Rattle.superblock_laws.proofs.Laws.{turning-reads}
 use Rattle.row_io.specs.Rows.{members_without}
-use Rattle.shape_views.proofs.Alike.{shape-alike, final-alike}
-use Rattle.shape_changes.specs.Changing.{IsChanged, IsFitUpdate}
-use Rattle.shape_changes.specs.Held.{IsHeldBy}
-use Rattle.shape_changes.specs.Rounds.{IsHeldSince}
-use Rattle.shape_changes.specs.Safety.{HasMarkRoom}
-use Rattle.shape_changes.proofs.ChangeViews.{later-says}
-use Rattle.shape_changes.proofs.Started.{Live, Left, ready}
-use Rattle.shape_views.specs.Regions.{AreShapesFit}
+use Rattle.course_mends.proofs.shape_views_Alike.{shape-alike, final-alike}
+use Rattle.course_mends.specs.shape_changes_Changing.{IsChanged, IsFitUpdate}
+use Rattle.course_mends.specs.shape_changes_Held.{IsHeldBy}
+use Rattle.course_mends.specs.shape_changes_Rounds.{IsHeldSince}
+use Rattle.course_mends.specs.shape_changes_Safety.{HasMarkRoom}
+use Rattle.course_mends.proofs.shape_changes_ChangeViews.{later-says}
+use Rattle.course_mends.proofs.shape_changes_Started.{Live, Left, ready}
+use Rattle.course_mends.specs.shape_views_Regions.{AreShapesFit}
 
 -- the superblocks of these contents say this shape
 pub record IsShapeRead (scope : Scope) (c : Contents) (shape : Shape) : Type 0 where

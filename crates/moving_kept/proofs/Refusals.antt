@@ -15,10 +15,10 @@ use Rattle.flat_history.specs.declared.events.Event.TheVariants.{Refused}
 use Rattle.flat_history.specs.Legal.{level_at, IsTooManyMissing, IsRefusedRight}
 use Rattle.flat_history.specs.Losses.{is_gone_after}
 use Rattle.flat_history.specs.World.{World}
-use Rattle.shape_ends.proofs.EndLaws.{fewer-pass}
-use Rattle.views.specs.Placed.{IsPlaced, IsInForce}
-use Rattle.views.specs.Lacking.{lacking, LacksTooMany, AreTooMany}
-use Rattle.views.proofs.Fit.{force-disks}
+use Rattle.course_mends.proofs.shape_ends_EndLaws.{fewer-pass}
+use Rattle.course_mends.specs.views_Placed.{IsPlaced, IsInForce}
+use Rattle.course_mends.specs.views_Lacking.{lacking, LacksTooMany, AreTooMany}
+use Rattle.course_mends.proofs.views_Fit.{force-disks}
 use Rattle.history_calls.specs.Reliable.{AreToldGone}
 use Rattle.history_calls.proofs.Quiet.{IsQuiet}
 

@@ -14,10 +14,10 @@ use Rattle.flat_history.specs.Flat.{now}
 use Rattle.flat_history.specs.Legal.{IsLegalEvent}
 use Rattle.flat_history.specs.Plain.{entries_of}
 use Rattle.flat_history.specs.World.{opening_list}
-use Rattle.call_entries.proofs.LeftLaws.{TellLeft, left-more}
-use Rattle.kept_history.specs.Recorded.{IsCallGoing, entry_of}
-use Rattle.kept_history.specs.Safe.{world_in}
-use Rattle.kept_history.proofs.Entered.{adds_only}
+use Rattle.history_calls.proofs.call_entries_LeftLaws.{TellLeft, left-more}
+use Rattle.history_calls.specs.kept_history_Recorded.{IsCallGoing, entry_of}
+use Rattle.history_calls.specs.kept_history_Safe.{world_in}
+use Rattle.history_calls.proofs.kept_history_Entered.{adds_only}
 use Rattle.course_mends.specs.course_kept_the_Course.{Course}
 use Rattle.history_calls.specs.Reliable.{IsReliable}
 use Rattle.moving_kept.specs.Moving.{IsMoving}

@@ -21,16 +21,16 @@ use Rattle.flat_history.specs.Losses.{was_dirty, is_unsynced, is_resync_end}
 use Rattle.flat_history.specs.Plain.{entries_of}
 use Rattle.flat_history.specs.Sound.{OpensFit}
 use Rattle.flat_history.specs.World.{World, opening_list}
-use Rattle.shape_views.specs.Views.{Ledger}
-use Rattle.shape_changes.specs.Safety.{HasLiveSlot, HasRoomLeft, IsRisen}
-use Rattle.shape_changes.specs.Steady.{IsMoreTold, IsSafeOver, KeepsSafe, AreGoneTold, IsUncleanTold, AreWritesAllowed}
-use Rattle.views.specs.Moving.{Grows}
-use Rattle.call_entries.specs.Losing.{losses_of}
-use Rattle.call_entries.proofs.CallLaws.{losses-are, ends-losses}
-use Rattle.call_entries.proofs.LeftLaws.{TellLeft}
-use Rattle.kept_history.specs.Recorded.{IsCallGoing, entry_of, ends_reshape, gives_some}
-use Rattle.kept_history.specs.Safe.{world_in, IsFilledRight, OpensOnCourse}
-use Rattle.kept_history.specs.Told.{told_now}
+use Rattle.course_mends.specs.shape_views_Views.{Ledger}
+use Rattle.course_mends.specs.shape_changes_Safety.{HasLiveSlot, HasRoomLeft, IsRisen}
+use Rattle.course_mends.specs.shape_changes_Steady.{IsMoreTold, IsSafeOver, KeepsSafe, AreGoneTold, IsUncleanTold, AreWritesAllowed}
+use Rattle.course_mends.specs.views_Moving.{Grows}
+use Rattle.history_calls.specs.call_entries_Losing.{losses_of}
+use Rattle.history_calls.proofs.call_entries_CallLaws.{losses-are, ends-losses}
+use Rattle.history_calls.proofs.call_entries_LeftLaws.{TellLeft}
+use Rattle.history_calls.specs.kept_history_Recorded.{IsCallGoing, entry_of, ends_reshape, gives_some}
+use Rattle.history_calls.specs.kept_history_Safe.{world_in, IsFilledRight, OpensOnCourse}
+use Rattle.history_calls.specs.kept_history_Told.{told_now}
 use Rattle.course_mends.specs.course_kept_the_Course.{Course}
 use Rattle.course_mends.specs.course_kept_Course.{IsCourseOf, IsStored}
 use Rattle.history_calls.proofs.Behind.{AreLostOrMissing, IsAmong}

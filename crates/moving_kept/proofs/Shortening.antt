@@ -32,31 +32,31 @@ use Rattle.flat_history.specs.Plain.{entries_of}
 use Rattle.flat_history.specs.Sound.{OpensFit}
 use Rattle.flat_history.specs.World.{World, contents_at, reading_at, opening_list}
 use Rattle.history_laws.proofs.OneShapeGrowing.{AreFaults}
-use Rattle.shape_views.specs.Views.{Ledger}
-use Rattle.shape_changes.specs.Changing.{IsSafeChange}
-use Rattle.shape_changes.specs.Safety.{HasLiveSlot, HasRoomLeft, IsRisen}
-use Rattle.views.specs.Placed.{IsPlaced}
-use Rattle.shape_changes.specs.Steady.{AreUnlost, IsMoreTold, IsSafeNow, IsSafeOver, AreGoneTold}
-use Rattle.shape_ends.specs.Ends.{IsToldWith}
-use Rattle.views.proofs.SoundViews.{throughout-changed}
-use Rattle.call_entries.specs.Losing.{losses_of}
-use Rattle.call_entries.proofs.CallLaws.{losses-are}
-use Rattle.call_entries.proofs.PlainLaws.{last_end-call}
-use Rattle.call_entries.proofs.StepLaws.{faults-are}
-use Rattle.kept_history.specs.Recorded.{IsHistoryKept, IsLegalCall, IsCallGoing, IsOpenBehind, entry_of, ends_reshape, gives_some}
-use Rattle.kept_history.specs.Safe.{world_in, IsFilledRight, IsSafeHistory}
-use Rattle.kept_history.specs.Told.{told_now, told_by}
-use Rattle.kept_history.proofs.Growing.{reading-grown, opening-grown, fit-grown, gone-grown, unsynced-grown, now-grown, alike-before, room-before, room-now}
-use Rattle.kept_history.proofs.Ledgers.{more-then, any-gone, unclean-now, unsynced-still, none-ends}
-use Rattle.kept_history.proofs.Longer.{regains-none}
-use Rattle.kept_history.proofs.Lengths.{length-now}
-use Rattle.kept_history.proofs.Lists.{newest-in}
-use Rattle.kept_history.proofs.Calls.{now-live}
-use Rattle.kept_history.proofs.Entered.{AreAdding, told-adding, settle-none, values-more, values-adding, length-adding, gone-was, gone-lost}
-use Rattle.kept_history.proofs.KeptCalls.{kept-call}
-use Rattle.kept_history.proofs.Reshapes.{call-ends_none}
-use Rattle.kept_history.proofs.Turned.{begun-old, filled-before}
-use Rattle.kept_history.proofs.Turns.{turned-length, turned-values, resized-call}
+use Rattle.course_mends.specs.shape_views_Views.{Ledger}
+use Rattle.course_mends.specs.shape_changes_Changing.{IsSafeChange}
+use Rattle.course_mends.specs.shape_changes_Safety.{HasLiveSlot, HasRoomLeft, IsRisen}
+use Rattle.course_mends.specs.views_Placed.{IsPlaced}
+use Rattle.course_mends.specs.shape_changes_Steady.{AreUnlost, IsMoreTold, IsSafeNow, IsSafeOver, AreGoneTold}
+use Rattle.course_mends.specs.shape_ends_Ends.{IsToldWith}
+use Rattle.course_mends.proofs.views_SoundViews.{throughout-changed}
+use Rattle.history_calls.specs.call_entries_Losing.{losses_of}
+use Rattle.history_calls.proofs.call_entries_CallLaws.{losses-are}
+use Rattle.history_calls.proofs.call_entries_PlainLaws.{last_end-call}
+use Rattle.history_calls.proofs.call_entries_StepLaws.{faults-are}
+use Rattle.history_calls.specs.kept_history_Recorded.{IsHistoryKept, IsLegalCall, IsCallGoing, IsOpenBehind, entry_of, ends_reshape, gives_some}
+use Rattle.history_calls.specs.kept_history_Safe.{world_in, IsFilledRight, IsSafeHistory}
+use Rattle.history_calls.specs.kept_history_Told.{told_now, told_by}
+use Rattle.history_calls.proofs.kept_history_Growing.{reading-grown, opening-grown, fit-grown, gone-grown, unsynced-grown, now-grown, alike-before, room-before, room-now}
+use Rattle.history_calls.proofs.kept_history_Ledgers.{more-then, any-gone, unclean-now, unsynced-still, none-ends}
+use Rattle.history_calls.proofs.kept_history_Longer.{regains-none}
+use Rattle.history_calls.proofs.kept_history_Lengths.{length-now}
+use Rattle.history_calls.proofs.kept_history_Lists.{newest-in}
+use Rattle.history_calls.proofs.kept_history_Calls.{now-live}
+use Rattle.history_calls.proofs.kept_history_Entered.{AreAdding, told-adding, settle-none, values-more, values-adding, length-adding, gone-was, gone-lost}
+use Rattle.history_calls.proofs.kept_history_KeptCalls.{kept-call}
+use Rattle.history_calls.proofs.kept_history_Reshapes.{call-ends_none}
+use Rattle.history_calls.proofs.kept_history_Turned.{begun-old, filled-before}
+use Rattle.history_calls.proofs.kept_history_Turns.{turned-length, turned-values, resized-call}
 use Rattle.history_calls.specs.Reliable.{IsReliable, AreToldGone}
 use Rattle.moving_kept.proofs.Beginning.{told_before}
 use Rattle.history_calls.proofs.Behind.{IsAmong, early-losses, inner-of, legal-losses, or-false}

@@ -28,22 +28,22 @@ use Rattle.flat_history.specs.Legal.{told_left, known_left, call_before, disturb
 use Rattle.flat_history.specs.Plain.{entries_of}
 use Rattle.flat_history.specs.Sound.{OpensFit}
 use Rattle.flat_history.specs.World.{World, opening_list}
-use Rattle.shape_views.specs.Views.{Disk, Ledger}
-use Rattle.shape_views.specs.Windows.{IsCopyable}
-use Rattle.shape_changes.specs.Safety.{HasLiveSlot, HasRoomLeft, IsRisen}
-use Rattle.shape_changes.specs.Steady.{IsSafeOver, KeepsSafe, AreGoneTold, IsUncleanTold}
-use Rattle.views.specs.Moving.{Grows, IsMoved}
-use Rattle.views.specs.Placed.{is_vacant}
-use Rattle.views.specs.Lacking.{DoesWithout, IsOfStripe, AreOtherRowsKept}
+use Rattle.course_mends.specs.shape_views_Views.{Disk, Ledger}
+use Rattle.course_mends.specs.shape_views_Windows.{IsCopyable}
+use Rattle.course_mends.specs.shape_changes_Safety.{HasLiveSlot, HasRoomLeft, IsRisen}
+use Rattle.course_mends.specs.shape_changes_Steady.{IsSafeOver, KeepsSafe, AreGoneTold, IsUncleanTold}
+use Rattle.course_mends.specs.views_Moving.{Grows, IsMoved}
+use Rattle.course_mends.specs.views_Placed.{is_vacant}
+use Rattle.course_mends.specs.views_Lacking.{DoesWithout, IsOfStripe, AreOtherRowsKept}
 use Rattle.course_mends.specs.safe_updates_Unused.{IsUnusedKept}
-use Rattle.views.proofs.Fit.{list-alike, count-alike}
-use Rattle.views.proofs.HeldRows.{missing-before, vacant-missing}
-use Rattle.call_entries.specs.Losing.{losses_of}
-use Rattle.call_entries.proofs.CallLaws.{AreLossEvents, losses-are}
-use Rattle.call_entries.proofs.LeftLaws.{left-behind, left-more, fold-left}
-use Rattle.window_rows.specs.Copies.{tail_of, IsCopied}
-use Rattle.kept_history.specs.Recorded.{IsCallGoing, entry_of}
-use Rattle.kept_history.specs.Safe.{world_in}
+use Rattle.course_mends.proofs.views_Fit.{list-alike, count-alike}
+use Rattle.course_mends.proofs.views_HeldRows.{missing-before, vacant-missing}
+use Rattle.history_calls.specs.call_entries_Losing.{losses_of}
+use Rattle.history_calls.proofs.call_entries_CallLaws.{AreLossEvents, losses-are}
+use Rattle.history_calls.proofs.call_entries_LeftLaws.{left-behind, left-more, fold-left}
+use Rattle.course_mends.specs.window_rows_Copies.{tail_of, IsCopied}
+use Rattle.history_calls.specs.kept_history_Recorded.{IsCallGoing, entry_of}
+use Rattle.history_calls.specs.kept_history_Safe.{world_in}
 use Rattle.course_mends.proofs.window_steps_CopyLaws.{window-alike, critical-alike}
 use Rattle.grow_asked.specs.declared.window.Window.TheVariants.{Entered}
 use Rattle.course_mends.specs.course_kept_Course.{IsWindowOf, IsCourseOf, IsStoredAs, IsStored}
@@ -56,7 +56,7 @@ use Rattle.moving_kept.proofs.MembersMove.{reshaping-moved}
 use Rattle.moving_kept.proofs.Pending.{resync-of, resync-moved, unmended-of, mended-later}
 use Rattle.history_calls.proofs.Quiet.{IsQuiet}
 use Rattle.moving_kept.proofs.Quiet.{quiet-moves}
-use Rattle.kept_history.proofs.Turned.{fills-on_course}
+use Rattle.history_calls.proofs.kept_history_Turned.{fills-on_course}
 
 -- ---- a step
 

@@ -32,36 +32,36 @@ use Rattle.flat_history.specs.Sound.{OpensFit}
 use Rattle.flat_history.specs.Stands.{shape_for, covers}
 use Rattle.flat_history.specs.Transfers.{IsTooMany}
 use Rattle.flat_history.specs.World.{World, opening_list}
-use Rattle.shape_views.specs.Regions.{AreShapesFit, place_by}
-use Rattle.shape_views.specs.Views.{Ledger, IsTailZero}
-use Rattle.shape_views.specs.Windows.{IsShown, AreTailsStanding}
-use Rattle.shape_views.proofs.Alike.{row-below}
-use Rattle.shape_changes.specs.Safety.{HasLiveSlot, HasRoomLeft, IsRisen}
-use Rattle.shape_changes.specs.Steady.{IsMoreTold, IsSafeOver, KeepsSafe, AreGoneTold, AreWritesAllowed}
-use Rattle.views.specs.Placed.{AreWhole}
-use Rattle.views.specs.Moving.{Grows, IsMoved}
+use Rattle.course_mends.specs.shape_views_Regions.{AreShapesFit, place_by}
+use Rattle.course_mends.specs.shape_views_Views.{Ledger, IsTailZero}
+use Rattle.course_mends.specs.shape_views_Windows.{IsShown, AreTailsStanding}
+use Rattle.course_mends.proofs.shape_views_Alike.{row-below}
+use Rattle.course_mends.specs.shape_changes_Safety.{HasLiveSlot, HasRoomLeft, IsRisen}
+use Rattle.course_mends.specs.shape_changes_Steady.{IsMoreTold, IsSafeOver, KeepsSafe, AreGoneTold, AreWritesAllowed}
+use Rattle.course_mends.specs.views_Placed.{AreWhole}
+use Rattle.course_mends.specs.views_Moving.{Grows, IsMoved}
 use Rattle.course_mends.specs.safe_updates_Unused.{IsUnusedKept}
-use Rattle.views.specs.Lacking.{lacking, DoesWithout, AreOtherRowsKept, AreBytes}
-use Rattle.views.proofs.Fit.{list-alike, force-disks}
-use Rattle.views.proofs.LackingLists.{row-sector, sectors-whole}
-use Rattle.views.proofs.LackingWrites.{list-with, list-with-is}
-use Rattle.call_entries.specs.Losing.{losses_of, failure_events}
-use Rattle.call_entries.proofs.CallLaws.{losses-are, limit-losses, values-losses}
-use Rattle.call_entries.proofs.LeftLaws.{TellLeft, left-behind, left-more}
-use Rattle.call_entries.proofs.LosingLaws.{entries-both}
+use Rattle.course_mends.specs.views_Lacking.{lacking, DoesWithout, AreOtherRowsKept, AreBytes}
+use Rattle.course_mends.proofs.views_Fit.{list-alike, force-disks}
+use Rattle.course_mends.proofs.views_LackingLists.{row-sector, sectors-whole}
+use Rattle.course_mends.proofs.views_LackingWrites.{list-with, list-with-is}
+use Rattle.history_calls.specs.call_entries_Losing.{losses_of, failure_events}
+use Rattle.history_calls.proofs.call_entries_CallLaws.{losses-are, limit-losses, values-losses}
+use Rattle.history_calls.proofs.call_entries_LeftLaws.{TellLeft, left-behind, left-more}
+use Rattle.history_calls.proofs.call_entries_LosingLaws.{entries-both}
 use Rattle.array_kept.proofs.LedgerLaws.{written-allowed, wrote-in, torn-in}
 use Rattle.array_kept.proofs.NowLaws.{wrote-is}
 use Rattle.course_mends.specs.region_rows_Stretches.{relied_rows, IsShapeOf, ListStandsIn, RowsStandIn}
 use Rattle.course_mends.specs.region_writes_Runs.{IsListTouched, MayBeHidden, WindowRowsStand, IsListTorn, IsListUnwritten}
 use Rattle.course_mends.proofs.region_writes_Together.{shape-force}
 use Rattle.course_mends.proofs.region_writes_RunLists.{written-same}
-use Rattle.kept_history.specs.Recorded.{IsCallGoing, IsLegalCall, entry_of}
-use Rattle.kept_history.specs.Safe.{world_in, IsFilledRight}
-use Rattle.kept_history.specs.Told.{told_now}
-use Rattle.kept_history.proofs.Entered.{AreAdding, settle-none, values-more, length-adding}
-use Rattle.kept_history.proofs.Growing.{opening-grown, unsynced-grown}
-use Rattle.kept_history.proofs.Ledgers.{unsynced-still, none-ends}
-use Rattle.kept_history.proofs.Lists.{newest-in}
+use Rattle.history_calls.specs.kept_history_Recorded.{IsCallGoing, IsLegalCall, entry_of}
+use Rattle.history_calls.specs.kept_history_Safe.{world_in, IsFilledRight}
+use Rattle.history_calls.specs.kept_history_Told.{told_now}
+use Rattle.history_calls.proofs.kept_history_Entered.{AreAdding, settle-none, values-more, length-adding}
+use Rattle.history_calls.proofs.kept_history_Growing.{opening-grown, unsynced-grown}
+use Rattle.history_calls.proofs.kept_history_Ledgers.{unsynced-still, none-ends}
+use Rattle.history_calls.proofs.kept_history_Lists.{newest-in}
 use Rattle.course_mends.specs.course_kept_the_Course.{Course}
 use Rattle.grow_asked.specs.declared.window.Window.{Window}
 use Rattle.grow_asked.specs.declared.window.Window.TheVariants.{Closed, Entered, Unsure}

@@ -17,18 +17,18 @@ use Rattle.flat_history.specs.Losses.{is_unsynced}
 use Rattle.flat_history.specs.OneShape.{is_unsettled}
 use Rattle.flat_history.specs.Sound.{OpensFit}
 use Rattle.flat_history.specs.World.{World, opening_list}
-use Rattle.shape_views.specs.Regions.{ArePlaced, DoWithout, backup_of}
-use Rattle.shape_views.specs.Windows.{ListStands, RowsStand}
-use Rattle.shape_changes.specs.Safety.{HasLiveSlot}
-use Rattle.shape_changes.specs.Steady.{AreUnlost}
-use Rattle.shape_ends.specs.Grown.{IsZeroPast}
-use Rattle.shape_ends.specs.Plans.{HasNoneRecovering}
-use Rattle.views.specs.Placed.{IsPlaced}
-use Rattle.views.specs.Lacking.{DoesWithout}
-use Rattle.views.specs.Rebuilding.{AreSparesFree}
+use Rattle.course_mends.specs.shape_views_Regions.{ArePlaced, DoWithout, backup_of}
+use Rattle.course_mends.specs.shape_views_Windows.{ListStands, RowsStand}
+use Rattle.course_mends.specs.shape_changes_Safety.{HasLiveSlot}
+use Rattle.course_mends.specs.shape_changes_Steady.{AreUnlost}
+use Rattle.course_mends.specs.shape_ends_Grown.{IsZeroPast}
+use Rattle.course_mends.specs.shape_ends_Plans.{HasNoneRecovering}
+use Rattle.course_mends.specs.views_Placed.{IsPlaced}
+use Rattle.course_mends.specs.views_Lacking.{DoesWithout}
+use Rattle.course_mends.specs.views_Rebuilding.{AreSparesFree}
 use Rattle.course_mends.specs.safe_updates_Unused.{IsUnused}
-use Rattle.kept_history.specs.Recorded.{IsHistoryKept}
-use Rattle.kept_history.specs.Safe.{world_in, OpensOnCourse, IsFilledRight, IsSafeHistory}
+use Rattle.history_calls.specs.kept_history_Recorded.{IsHistoryKept}
+use Rattle.history_calls.specs.kept_history_Safe.{world_in, OpensOnCourse, IsFilledRight, IsSafeHistory}
 use Rattle.history_calls.specs.Reliable.{IsReliable, AreToldGone, IsNonePast, HasLastStep}
 use Rattle.course_mends.specs.course_kept_the_Course.{Course}
 use Rattle.course_mends.specs.course_kept_Course.{IsCourseOf, IsStored}

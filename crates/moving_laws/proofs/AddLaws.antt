@@ -14,16 +14,16 @@ use Rattle.superblocks.specs.declared.members.Members.{Members}
 use Rattle.superblocks.specs.Reading.{Scope}
 use Rattle.superblocks.specs.Held.{IsSecondHalf}
 use Rattle.flat_history.specs.declared.events.Entry.{Entry}
-use Rattle.shape_views.specs.Regions.{DoWithout, backup_of}
-use Rattle.views.specs.declared.work.Work.{Work}
-use Rattle.views.specs.Flushing.{OnlyFlushesAdded}
-use Rattle.views.specs.Lacking.{AreLostSince}
-use Rattle.views.specs.Moving.{Grows}
-use Rattle.views.specs.Numbers.{is_carried, free_number, IsOfScope}
-use Rattle.views.specs.Placed.{IsPlaced}
-use Rattle.views.specs.Rebuilding.{Held, with_spare}
-use Rattle.views.specs.Under.{IsRestKept}
-use Rattle.views.proofs.MovedLaws.{grows-none, grows-then}
+use Rattle.mending_kept.specs.shape_views_Regions.{DoWithout, backup_of}
+use Rattle.mending_kept.specs.views_the_Work.{Work}
+use Rattle.mending_kept.specs.views_Flushing.{OnlyFlushesAdded}
+use Rattle.mending_kept.specs.views_Lacking.{AreLostSince}
+use Rattle.mending_kept.specs.views_Moving.{Grows}
+use Rattle.mending_kept.specs.views_Numbers.{is_carried, free_number, IsOfScope}
+use Rattle.mending_kept.specs.views_Placed.{IsPlaced}
+use Rattle.mending_kept.specs.views_Rebuilding.{Held, with_spare}
+use Rattle.mending_kept.specs.views_Under.{IsRestKept}
+use Rattle.mending_kept.proofs.views_MovedLaws.{grows-none, grows-then}
 use Rattle.running_words.specs.array_kept_Kept.{scope_in}
 use Rattle.running_words.specs.array_kept_Calls.{IsUnaddable, IsLossBy, AreLossesOf, IsEndOf, IsWorkAdded}
 use Rattle.running_words.proofs.array_kept_ReadyLaws.{list-same}

@@ -15,10 +15,10 @@ use Rattle.flat_history.specs.Flat.{next_number}
 use Rattle.flat_history.specs.Plain.{entries_of}
 use Rattle.flat_history.proofs.SoundLaws.{stays-throughout}
 use Rattle.history_laws.proofs.NumberLaws.{safe-throughout}
-use Rattle.call_entries.proofs.LeftLaws.{keeps-left}
+use Rattle.mending_kept.proofs.call_entries_LeftLaws.{keeps-left}
 use Rattle.running_words.specs.array_kept_Kept.{scope_in}
-use Rattle.kept_history.specs.Recorded.{entry_of}
-use Rattle.kept_history.proofs.Records.{begins-going}
+use Rattle.mending_kept.specs.kept_history_Recorded.{entry_of}
+use Rattle.mending_kept.proofs.kept_history_Records.{begins-going}
 use Rattle.running_words.specs.history_calls_Reliable.{IsReliable}
 use Rattle.running_words.proofs.history_calls_Quiet.{IsQuiet}
 use Rattle.mending_kept.specs.course_kept_the_Course.{Course}

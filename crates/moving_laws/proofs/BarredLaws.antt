@@ -13,9 +13,9 @@ use Rattle.superblocks.specs.declared.members.Members.{Members}
 use Rattle.flat_history.specs.declared.events.Entry.{Entry}
 use Rattle.flat_history.specs.declared.events.Event.TheVariants.{Refused}
 use Rattle.flat_history.specs.Flat.{next_number, length_of, limit_of}
-use Rattle.shape_views.specs.Regions.{DoWithout}
-use Rattle.views.specs.Lacking.{AreTooMany}
-use Rattle.views.proofs.LackingLaws.{never-both}
+use Rattle.mending_kept.specs.shape_views_Regions.{DoWithout}
+use Rattle.mending_kept.specs.views_Lacking.{AreTooMany}
+use Rattle.mending_kept.proofs.views_LackingLaws.{never-both}
 use Rattle.running_words.specs.array_kept_Calls.{IsRefusedFor, IsCausedBy}
 use Rattle.running_words.proofs.array_kept_LossLaws.{behind-alone}
 use Rattle.grow_asked.specs.declared.window.Window.{Window}

@@ -3,9 +3,9 @@ use Rattle.std.proofs.Common.{◌≡◌, ◌<◌, ◌≤◌, Bool, true, false, 
 use Rattle.sb1.specs.declared.sb.Sb.{Sb}
 use Rattle.geometry.specs.Geometry.{beyond}
 use Rattle.superblocks.specs.Reading.{is_reshaping, is_backward, list_length}
-use Rattle.shape_views.specs.Regions.{AreShapesFit}
-use Rattle.shape_views.proofs.Headers.{window-filled}
-use Rattle.shape_views.proofs.Stands.{window-inside}
+use Rattle.mending_kept.specs.shape_views_Regions.{AreShapesFit}
+use Rattle.mending_kept.proofs.shape_views_Headers.{window-filled}
+use Rattle.mending_kept.proofs.shape_views_Stands.{window-inside}
 use Rattle.grow_asked.specs.declared.window.Window.{Window}
 use Rattle.grow_asked.specs.declared.window.Window.TheVariants.{Closed, Entered, Unsure}
 use Rattle.grow_asked.specs.Left.{IsWindowRight}

@@ -27,21 +27,21 @@ use Rattle.flat_history.specs.Flat.{next_number, number_after}
 use Rattle.flat_history.specs.OneShape.{IsOfCall}
 use Rattle.flat_history.specs.Plain.{entries_of}
 use Rattle.flat_history.specs.World.{World}
-use Rattle.shape_views.specs.Views.{Ledger}
-use Rattle.shape_views.specs.Windows.{IsCopyable}
-use Rattle.shape_changes.specs.Safety.{HasLiveSlot, HasRoomLeft, IsRisen}
-use Rattle.shape_changes.specs.Steady.{IsSafeOver, KeepsSafe, AreGoneTold, IsUncleanTold}
-use Rattle.views.specs.Moving.{Grows, IsMoved}
-use Rattle.views.specs.Lacking.{AreTooMany, AreOtherRowsKept, IsOfStripe}
+use Rattle.mending_kept.specs.shape_views_Views.{Ledger}
+use Rattle.mending_kept.specs.shape_views_Windows.{IsCopyable}
+use Rattle.mending_kept.specs.shape_changes_Safety.{HasLiveSlot, HasRoomLeft, IsRisen}
+use Rattle.mending_kept.specs.shape_changes_Steady.{IsSafeOver, KeepsSafe, AreGoneTold, IsUncleanTold}
+use Rattle.mending_kept.specs.views_Moving.{Grows, IsMoved}
+use Rattle.mending_kept.specs.views_Lacking.{AreTooMany, AreOtherRowsKept, IsOfStripe}
 use Rattle.running_words.specs.safe_updates_Unused.{IsUnusedKept}
-use Rattle.call_entries.specs.Losing.{losses_of}
+use Rattle.mending_kept.specs.call_entries_Losing.{losses_of}
 use Rattle.grow_asked.specs.declared.window.Window.TheVariants.{Entered}
 use Rattle.grow_asked.specs.declared.window.PhasesLeft.{PhasesLeft}
 use Rattle.grow_asked.specs.Left.{steps_from, stripes_in, phases_of, grow_left}
 use Rattle.grow_asked.proofs.LeftLaws.{copying}
-use Rattle.window_rows.specs.Copies.{tail_of, IsCopied}
-use Rattle.kept_history.specs.Recorded.{IsCallGoing, MayGoOn}
-use Rattle.kept_history.specs.Safe.{world_in}
+use Rattle.mending_kept.specs.window_rows_Copies.{tail_of, IsCopied}
+use Rattle.mending_kept.specs.kept_history_Recorded.{IsCallGoing, MayGoOn}
+use Rattle.mending_kept.specs.kept_history_Safe.{world_in}
 use Rattle.mending_kept.specs.course_kept_the_Course.{Course}
 use Rattle.mending_kept.specs.course_kept_Laws.{entered, next_stripe}
 use Rattle.mending_kept.specs.region_mends_Left.{resync_left}
@@ -54,7 +54,7 @@ use Rattle.running_words.specs.Parts.{RunningParts}
 use Rattle.moving_laws.specs.Ready.{bytes_in}
 use Rattle.running_words.specs.Calls.{IsCopyDue}
 use Rattle.moving_laws.proofs.Kept.{left_by, left-moved}
-use Rattle.kept_history.proofs.Turned.{fills-on_course}
+use Rattle.mending_kept.proofs.kept_history_Turned.{fills-on_course}
 
 -- ---- the number of a call that goes on
 

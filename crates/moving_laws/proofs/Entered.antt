@@ -28,29 +28,29 @@ use Rattle.flat_history.specs.Plain.{entries_of}
 use Rattle.flat_history.specs.Sound.{OpensFit}
 use Rattle.flat_history.specs.World.{opening_list}
 use Rattle.flat_history.proofs.SoundLaws.{fit-before}
-use Rattle.shape_views.specs.Regions.{DoWithout}
-use Rattle.shape_views.specs.Views.{Ledger}
-use Rattle.shape_views.specs.Windows.{ListStands, RowsStand}
-use Rattle.shape_changes.specs.Safety.{HasRoomLeft, IsRisen}
-use Rattle.shape_changes.specs.Steady.{AreWritesAllowed, IsSafeOver, KeepsSafe, AreGoneTold, IsUncleanTold}
-use Rattle.views.specs.Placed.{AreWhole}
-use Rattle.views.specs.Moving.{Grows, IsMoved}
-use Rattle.views.specs.Lacking.{DoesWithout, AreTooMany, AreOtherRowsKept}
-use Rattle.views.proofs.LiveLeft.{without-left}
-use Rattle.views.proofs.Fit.{list-alike}
-use Rattle.call_entries.specs.Losing.{losses_of}
-use Rattle.call_entries.proofs.CallLaws.{losses-are}
-use Rattle.call_entries.proofs.LeftLaws.{left-behind, left-more}
+use Rattle.mending_kept.specs.shape_views_Regions.{DoWithout}
+use Rattle.mending_kept.specs.shape_views_Views.{Ledger}
+use Rattle.mending_kept.specs.shape_views_Windows.{ListStands, RowsStand}
+use Rattle.mending_kept.specs.shape_changes_Safety.{HasRoomLeft, IsRisen}
+use Rattle.mending_kept.specs.shape_changes_Steady.{AreWritesAllowed, IsSafeOver, KeepsSafe, AreGoneTold, IsUncleanTold}
+use Rattle.mending_kept.specs.views_Placed.{AreWhole}
+use Rattle.mending_kept.specs.views_Moving.{Grows, IsMoved}
+use Rattle.mending_kept.specs.views_Lacking.{DoesWithout, AreTooMany, AreOtherRowsKept}
+use Rattle.mending_kept.proofs.views_LiveLeft.{without-left}
+use Rattle.mending_kept.proofs.views_Fit.{list-alike}
+use Rattle.mending_kept.specs.call_entries_Losing.{losses_of}
+use Rattle.mending_kept.proofs.call_entries_CallLaws.{losses-are}
+use Rattle.mending_kept.proofs.call_entries_LeftLaws.{left-behind, left-more}
 use Rattle.mending_kept.proofs.window_steps_CopyLaws.{window-alike, critical-alike}
 use Rattle.grow_asked.specs.declared.window.Window.{Window}
 use Rattle.grow_asked.specs.declared.window.Window.TheVariants.{Closed, Entered, Unsure}
 use Rattle.grow_asked.specs.declared.window.PhasesLeft.{PhasesLeft}
 use Rattle.grow_asked.specs.Left.{phases_of, reshape_left, grow_left}
 use Rattle.grow_asked.proofs.LeftLaws.{entering}
-use Rattle.kept_history.specs.Recorded.{IsCallGoing, entry_of}
-use Rattle.kept_history.specs.Safe.{world_in, IsFilledRight, TakesNone, OpensOnCourse}
-use Rattle.kept_history.proofs.Entered.{adds_only}
-use Rattle.kept_history.proofs.Lists.{newest-in}
+use Rattle.mending_kept.specs.kept_history_Recorded.{IsCallGoing, entry_of}
+use Rattle.mending_kept.specs.kept_history_Safe.{world_in, IsFilledRight, TakesNone, OpensOnCourse}
+use Rattle.mending_kept.proofs.kept_history_Entered.{adds_only}
+use Rattle.mending_kept.proofs.kept_history_Lists.{newest-in}
 use Rattle.running_words.specs.history_calls_Reliable.{IsReliable, AreToldGone}
 use Rattle.running_words.proofs.history_calls_Adding.{IsAdding, ChangesEarly, changing-leaves}
 use Rattle.running_words.proofs.history_calls_Behind.{IsAmong, and-true, early-losses, first-of, legal-losses}
@@ -74,7 +74,7 @@ use Rattle.moving_laws.specs.Ready.{bytes_in}
 use Rattle.running_words.proofs.Called.{not_254}
 use Rattle.moving_laws.proofs.Kept.{left_by, left-moved, behind-whole, takes-before}
 use Rattle.moving_laws.proofs.RecordLaws.{closed-bare}
-use Rattle.kept_history.proofs.Turned.{fills-on_course}
+use Rattle.mending_kept.proofs.kept_history_Turned.{fills-on_course}
 
 -- ---- answers
 

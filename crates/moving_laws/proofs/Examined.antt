@@ -6,7 +6,7 @@ use Rattle.bank.specs.declared.bank.Operation.{Operation}
 use Rattle.superblocks.specs.declared.members.Members.{Members}
 use Rattle.superblocks.specs.Reading.{Scope}
 use Rattle.flat_history.specs.declared.events.Entry.{Entry}
-use Rattle.views.specs.declared.work.Work.{Work}
+use Rattle.mending_kept.specs.views_the_Work.{Work}
 use Rattle.running_words.specs.array_kept_Kept.{scope_in}
 use Rattle.grow_asked.specs.declared.window.PhasesLeft.{PhasesLeft}
 use Rattle.mending_kept.specs.course_kept_the_Course.{Course}

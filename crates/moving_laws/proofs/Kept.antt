@@ -10,8 +10,8 @@ use Rattle.md_base.specs.declared.places.Span.{Span}
 use Rattle.md_base.specs.declared.wishes.Phase.{Phase}
 use Rattle.bank.specs.declared.bank.Operation.{Operation}
 use Rattle.md_base.specs.declared.answers.Who.{Who}
-use Rattle.call_entries.specs.Losing.{losses_of}
-use Rattle.call_entries.proofs.CallLaws.{losses-are, length-losses, limit-losses}
+use Rattle.mending_kept.specs.call_entries_Losing.{losses_of}
+use Rattle.mending_kept.proofs.call_entries_CallLaws.{losses-are, length-losses, limit-losses}
 use Rattle.running_words.proofs.array_kept_NowLaws.{length-more}
 use Rattle.bank.specs.Given.{Given, NeverFalls}
 use Rattle.sb1.specs.declared.sb.Sb.{Sb}
@@ -32,21 +32,21 @@ use Rattle.flat_history.specs.Plain.{entries_of}
 use Rattle.flat_history.specs.Losses.{loses}
 use Rattle.flat_history.specs.World.{World}
 use Rattle.flat_history.specs.Stands.{reach_of}
-use Rattle.shape_views.specs.Regions.{backup_of, DoWithout}
-use Rattle.shape_changes.specs.Safety.{HasLiveSlot}
-use Rattle.views.specs.Placed.{AreWhole, HaveSameReshape}
-use Rattle.views.specs.declared.work.Work.{Work}
-use Rattle.views.specs.Moving.{Grows, IsMoved}
-use Rattle.views.specs.Numbers.{is_carried}
-use Rattle.views.proofs.LiveLeft.{without-left}
+use Rattle.mending_kept.specs.shape_views_Regions.{backup_of, DoWithout}
+use Rattle.mending_kept.specs.shape_changes_Safety.{HasLiveSlot}
+use Rattle.mending_kept.specs.views_Placed.{AreWhole, HaveSameReshape}
+use Rattle.mending_kept.specs.views_the_Work.{Work}
+use Rattle.mending_kept.specs.views_Moving.{Grows, IsMoved}
+use Rattle.mending_kept.specs.views_Numbers.{is_carried}
+use Rattle.mending_kept.proofs.views_LiveLeft.{without-left}
 use Rattle.grow_asked.specs.declared.window.Window.{Window}
 use Rattle.grow_asked.specs.declared.window.Window.TheVariants.{Closed, Entered, Unsure}
 use Rattle.grow_asked.specs.declared.window.PhasesLeft.{PhasesLeft}
 use Rattle.grow_asked.specs.Left.{phases_of, grow_left, reshape_left}
-use Rattle.kept_history.specs.Safe.{world_in, TakesNone}
-use Rattle.kept_history.proofs.Entered.{lost-taken}
-use Rattle.kept_history.proofs.Growing.{takes-grown}
-use Rattle.kept_history.proofs.Tests.{neither, none-before}
+use Rattle.mending_kept.specs.kept_history_Safe.{world_in, TakesNone}
+use Rattle.mending_kept.proofs.kept_history_Entered.{lost-taken}
+use Rattle.mending_kept.proofs.kept_history_Growing.{takes-grown}
+use Rattle.mending_kept.proofs.kept_history_Tests.{neither, none-before}
 use Rattle.running_words.proofs.history_calls_Behind.{early-losses}
 use Rattle.mending_kept.specs.course_kept_the_Course.{Course}
 use Rattle.mending_kept.specs.moving_kept_Moving.{IsMoving}
@@ -54,7 +54,7 @@ use Rattle.mending_kept.proofs.moving_kept_Steps.{AreMissingSince, missing-moved
 use Rattle.mending_kept.specs.region_mends_Left.{resync_left}
 use Rattle.mending_kept.proofs.region_mends_LeftLaws.{left-stays}
 use Rattle.running_words.specs.Parts.{left_in}
-use Rattle.running_words.proofs.Visible.{limit-kept}
+use Rattle.running_words.proofs.VisibleLaws.{limit-kept}
 use Rattle.moving_laws.specs.Ready.{bytes_in, IsReady}
 
 -- ---- superblocks of the same reshape

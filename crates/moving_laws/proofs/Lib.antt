@@ -38,7 +38,7 @@ pub use Rattle.running_words.proofs.moving_state_DueLaws
 pub use Rattle.running_words.proofs.moving_state_ReshapeLaws
 pub use Rattle.running_words.proofs.Lengths as running_words_Lengths
 pub use Rattle.running_words.proofs.Replies as running_words_Replies
-pub use Rattle.running_words.proofs.Visible as running_words_Visible
+pub use Rattle.running_words.proofs.VisibleLaws as running_words_VisibleLaws
 pub use Rattle.running_words.proofs.array_kept_LossLaws
 pub use Rattle.running_words.proofs.array_kept_ReadyLaws
 pub use Rattle.running_words.proofs.array_kept_ReplyLaws
@@ -47,3 +47,18 @@ pub use Rattle.running_words.proofs.calls_kept_AddedKept
 pub use Rattle.running_words.proofs.calls_kept_AddedLosses
 pub use Rattle.running_words.proofs.calls_kept_FailedLaws
 pub use Rattle.running_words.proofs.calls_kept_ReadLaws
+pub use Rattle.mending_kept.proofs.kept_history_Records
+pub use Rattle.mending_kept.proofs.shape_views_Stands
+pub use Rattle.mending_kept.proofs.kept_history_Entered
+pub use Rattle.mending_kept.proofs.kept_history_Tests
+pub use Rattle.mending_kept.proofs.kept_history_Ledgers
+pub use Rattle.mending_kept.proofs.shape_changes_Without
+pub use Rattle.mending_kept.proofs.shape_changes_PlannedRoles
+pub use Rattle.mending_kept.proofs.kept_history_Turned
+pub use Rattle.mending_kept.proofs.kept_history_Lengths
+pub use Rattle.mending_kept.proofs.kept_history_Growing
+pub use Rattle.mending_kept.proofs.shape_changes_Steady
+pub use Rattle.mending_kept.proofs.shape_views_Alike
+pub use Rattle.mending_kept.proofs.kept_history_Marks
+pub use Rattle.mending_kept.proofs.shape_views_Headers
+pub use Rattle.mending_kept.proofs.kept_history_Opened

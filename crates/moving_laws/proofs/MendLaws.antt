@@ -24,21 +24,21 @@ use Rattle.flat_history.specs.Flat.{now}
 use Rattle.flat_history.specs.Plain.{entries_of}
 use Rattle.flat_history.specs.Sound.{OpensFit}
 use Rattle.flat_history.specs.World.{World, opening_list}
-use Rattle.shape_views.specs.Regions.{AreShapesFit, DoWithout}
-use Rattle.shape_views.specs.Views.{Ledger, IsTailZero}
-use Rattle.shape_views.specs.Windows.{IsShown, AreTailsStanding}
-use Rattle.shape_changes.specs.Safety.{HasRoomLeft, IsRisen}
-use Rattle.shape_changes.specs.Steady.{IsSafeOver, KeepsSafe, AreGoneTold, AreWritesAllowed}
-use Rattle.views.specs.declared.work.Work.{Work}
-use Rattle.views.specs.Moving.{Grows, IsMoved}
-use Rattle.views.specs.Lacking.{DoesWithout, AreTooMany, AreLostSince, AreOtherRowsKept}
-use Rattle.views.specs.Numbers.{is_carried}
-use Rattle.views.proofs.Fit.{fit-short}
-use Rattle.views.proofs.LackingLaws.{never-both}
+use Rattle.mending_kept.specs.shape_views_Regions.{AreShapesFit, DoWithout}
+use Rattle.mending_kept.specs.shape_views_Views.{Ledger, IsTailZero}
+use Rattle.mending_kept.specs.shape_views_Windows.{IsShown, AreTailsStanding}
+use Rattle.mending_kept.specs.shape_changes_Safety.{HasRoomLeft, IsRisen}
+use Rattle.mending_kept.specs.shape_changes_Steady.{IsSafeOver, KeepsSafe, AreGoneTold, AreWritesAllowed}
+use Rattle.mending_kept.specs.views_the_Work.{Work}
+use Rattle.mending_kept.specs.views_Moving.{Grows, IsMoved}
+use Rattle.mending_kept.specs.views_Lacking.{DoesWithout, AreTooMany, AreLostSince, AreOtherRowsKept}
+use Rattle.mending_kept.specs.views_Numbers.{is_carried}
+use Rattle.mending_kept.proofs.views_Fit.{fit-short}
+use Rattle.mending_kept.proofs.views_LackingLaws.{never-both}
 use Rattle.running_words.specs.safe_updates_First.{write_refusal}
 use Rattle.running_words.specs.safe_updates_Unused.{IsUnusedKept}
 use Rattle.running_words.proofs.safe_updates_RefusingLaws.{write-none}
-use Rattle.call_entries.specs.Losing.{losses_of}
+use Rattle.mending_kept.specs.call_entries_Losing.{losses_of}
 use Rattle.running_words.specs.array_kept_Calls.{one_more, IsRefusedFor}
 use Rattle.running_words.proofs.array_kept_ReplyLaws.{IsOfMissing, too-many-of, unwritten-of, refused-for}
 use Rattle.grow_asked.specs.declared.window.Window.{Window}
@@ -51,8 +51,8 @@ use Rattle.mending_kept.specs.region_mends_Mends.{low_end, low_shape, low_stripe
 use Rattle.mending_kept.specs.region_mends_Left.{position_behind, resync_left}
 use Rattle.mending_kept.proofs.region_mends_LeftLaws.{mending-takes-one, resync-ends-last}
 use Rattle.mending_kept.proofs.region_mends_RefusalLaws.{none-found}
-use Rattle.kept_history.specs.Recorded.{IsCallGoing}
-use Rattle.kept_history.specs.Safe.{world_in}
+use Rattle.mending_kept.specs.kept_history_Recorded.{IsCallGoing}
+use Rattle.mending_kept.specs.kept_history_Safe.{world_in}
 use Rattle.mending_kept.specs.course_kept_the_Course.{Course}
 use Rattle.mending_kept.specs.course_kept_Course.{IsCourseOf, hidden_in}
 use Rattle.mending_kept.specs.course_mends_Mended.{IsAside}

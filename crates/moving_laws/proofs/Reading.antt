@@ -35,34 +35,34 @@ use Rattle.flat_history.specs.Stands.{shape_for, reach_of}
 use Rattle.flat_history.specs.Transfers.{IsReadOver}
 use Rattle.flat_history.specs.World.{World, opening_list}
 use Rattle.flat_history.proofs.SoundLaws.{fit-before}
-use Rattle.shape_views.specs.Regions.{AreShapesFit, place_by}
-use Rattle.shape_views.specs.Views.{Ledger}
-use Rattle.shape_changes.specs.Marking.{AreOthersPresent}
-use Rattle.shape_changes.specs.Safety.{HasRoomLeft, IsRisen, HasLiveSlot}
-use Rattle.shape_changes.specs.Steady.{IsSafeOver, KeepsSafe, AreGoneTold, IsUncleanTold}
-use Rattle.views.specs.Placed.{AreWhole}
-use Rattle.views.specs.Lacking.{DoesWithout, lacking, too_many}
-use Rattle.views.specs.Moving.{Grows, IsMoved}
-use Rattle.views.proofs.Fit.{list-alike}
-use Rattle.views.proofs.LackingLists.{row-sector}
+use Rattle.mending_kept.specs.shape_views_Regions.{AreShapesFit, place_by}
+use Rattle.mending_kept.specs.shape_views_Views.{Ledger}
+use Rattle.mending_kept.specs.shape_changes_Marking.{AreOthersPresent}
+use Rattle.mending_kept.specs.shape_changes_Safety.{HasRoomLeft, IsRisen, HasLiveSlot}
+use Rattle.mending_kept.specs.shape_changes_Steady.{IsSafeOver, KeepsSafe, AreGoneTold, IsUncleanTold}
+use Rattle.mending_kept.specs.views_Placed.{AreWhole}
+use Rattle.mending_kept.specs.views_Lacking.{DoesWithout, lacking, too_many}
+use Rattle.mending_kept.specs.views_Moving.{Grows, IsMoved}
+use Rattle.mending_kept.proofs.views_Fit.{list-alike}
+use Rattle.mending_kept.proofs.views_LackingLists.{row-sector}
 use Rattle.running_words.specs.safe_updates_Unused.{IsUnusedKept}
-use Rattle.call_entries.specs.Losing.{losses_of}
-use Rattle.call_entries.proofs.CallLaws.{losses-are, limit-losses, length-losses, values-losses}
-use Rattle.call_entries.proofs.LeftLaws.{left-behind, left-more}
-use Rattle.call_entries.proofs.LosingLaws.{entries-both}
+use Rattle.mending_kept.specs.call_entries_Losing.{losses_of}
+use Rattle.mending_kept.proofs.call_entries_CallLaws.{losses-are, limit-losses, length-losses, values-losses}
+use Rattle.mending_kept.proofs.call_entries_LeftLaws.{left-behind, left-more}
+use Rattle.mending_kept.proofs.call_entries_LosingLaws.{entries-both}
 use Rattle.running_words.specs.array_kept_Calls.{IsRefusedFor, IsReplied}
 use Rattle.running_words.proofs.array_kept_NowLaws.{sectors_of-at}
 use Rattle.running_words.proofs.array_kept_ReplyLaws.{IsOfMissing, unread-of}
 use Rattle.mending_kept.specs.region_rows_Stretches.{ListStandsIn, RowsStandIn}
 use Rattle.mending_kept.proofs.region_writes_Together.{shape-force}
-use Rattle.window_rows.specs.Copies.{HasWindow, IsRoomFor}
+use Rattle.mending_kept.specs.window_rows_Copies.{HasWindow, IsRoomFor}
 use Rattle.mending_kept.specs.window_calls_Fetching.{IsShapeBeside, IsUnreadBeside}
-use Rattle.kept_history.specs.Recorded.{IsCallGoing}
-use Rattle.kept_history.specs.Safe.{world_in, TakesNone}
-use Rattle.kept_history.proofs.Entered.{adds_only, values-more, length-more}
-use Rattle.kept_history.proofs.Growing.{opening-grown}
-use Rattle.kept_history.proofs.Ledgers.{gone-any}
-use Rattle.kept_history.proofs.Tests.{none-before}
+use Rattle.mending_kept.specs.kept_history_Recorded.{IsCallGoing}
+use Rattle.mending_kept.specs.kept_history_Safe.{world_in, TakesNone}
+use Rattle.mending_kept.proofs.kept_history_Entered.{adds_only, values-more, length-more}
+use Rattle.mending_kept.proofs.kept_history_Growing.{opening-grown}
+use Rattle.mending_kept.proofs.kept_history_Ledgers.{gone-any}
+use Rattle.mending_kept.proofs.kept_history_Tests.{none-before}
 use Rattle.running_words.specs.history_calls_Reliable.{IsReliable, AreToldGone}
 use Rattle.running_words.proofs.history_calls_Behind.{IsAmong, and-true, early-losses, legal-losses}
 use Rattle.running_words.proofs.history_calls_Quiet.{IsQuiet, LeavesList, IsLeftBehind, quiet-leaves, quiet-now, last-left}
@@ -85,7 +85,7 @@ use Rattle.mending_kept.proofs.moving_kept_Steps.{AreMissingSince, missing-moved
 use Rattle.running_words.specs.moving_state_First.{IsUnreadAround}
 use Rattle.running_words.proofs.moving_state_ReshapeLaws.{window-reach}
 use Rattle.running_words.specs.Parts.{visible_size}
-use Rattle.running_words.proofs.Visible.{visible-is, visible-within}
+use Rattle.running_words.proofs.VisibleLaws.{visible-is, visible-within}
 use Rattle.running_words.proofs.Replies.{refused_reply, read_kind}
 use Rattle.moving_laws.specs.Ready.{bytes_in}
 use Rattle.moving_laws.proofs.Relied.{pending-at, pending-behind, unsynced-right, sector-role}

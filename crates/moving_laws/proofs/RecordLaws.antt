@@ -21,26 +21,26 @@ use Rattle.flat_history.specs.declared.events.StepKind.TheVariants.{Checkpointed
 use Rattle.flat_history.specs.Plain.{entries_of}
 use Rattle.flat_history.specs.Sound.{OpensFit}
 use Rattle.flat_history.specs.World.{World}
-use Rattle.shape_views.specs.Regions.{ArePlaced, DoWithout}
-use Rattle.shape_views.specs.Views.{AreHeadersFit, Ledger}
-use Rattle.shape_views.specs.Windows.{HasNoSection, moved_past}
-use Rattle.shape_changes.specs.Marking.{AreOthersPresent}
-use Rattle.shape_changes.specs.Safety.{HasLiveSlot, HasRoomLeft, IsRisen}
-use Rattle.shape_changes.specs.Steady.{IsSafeOver, KeepsSafe, AreGoneTold, IsUncleanTold}
-use Rattle.views.specs.Placed.{IsPlaced}
-use Rattle.views.specs.Moving.{Grows, IsMoved}
-use Rattle.views.specs.Lacking.{AreTooMany, AreLostSince, HaveFailedSince}
-use Rattle.views.proofs.LackingLaws.{AreVacant, AreNewlyVacant, lost-since}
+use Rattle.mending_kept.specs.shape_views_Regions.{ArePlaced, DoWithout}
+use Rattle.mending_kept.specs.shape_views_Views.{AreHeadersFit, Ledger}
+use Rattle.mending_kept.specs.shape_views_Windows.{HasNoSection, moved_past}
+use Rattle.mending_kept.specs.shape_changes_Marking.{AreOthersPresent}
+use Rattle.mending_kept.specs.shape_changes_Safety.{HasLiveSlot, HasRoomLeft, IsRisen}
+use Rattle.mending_kept.specs.shape_changes_Steady.{IsSafeOver, KeepsSafe, AreGoneTold, IsUncleanTold}
+use Rattle.mending_kept.specs.views_Placed.{IsPlaced}
+use Rattle.mending_kept.specs.views_Moving.{Grows, IsMoved}
+use Rattle.mending_kept.specs.views_Lacking.{AreTooMany, AreLostSince, HaveFailedSince}
+use Rattle.mending_kept.proofs.views_LackingLaws.{AreVacant, AreNewlyVacant, lost-since}
 use Rattle.running_words.specs.safe_updates_Unused.{IsUnusedKept}
-use Rattle.call_entries.specs.Losing.{losses_of}
+use Rattle.mending_kept.specs.call_entries_Losing.{losses_of}
 use Rattle.mending_kept.specs.window_steps_Recording.{IsCopiedWindow}
 use Rattle.mending_kept.proofs.window_steps_PastLaws.{past-placed}
 use Rattle.grow_asked.specs.declared.window.Window.TheVariants.{Closed, Entered}
 use Rattle.grow_asked.specs.declared.window.PhasesLeft.{PhasesLeft}
 use Rattle.grow_asked.specs.Left.{phases_of, reshape_left, grow_left, IsPast}
 use Rattle.grow_asked.proofs.LeftLaws.{recording}
-use Rattle.kept_history.specs.Recorded.{IsCallGoing}
-use Rattle.kept_history.specs.Safe.{world_in}
+use Rattle.mending_kept.specs.kept_history_Recorded.{IsCallGoing}
+use Rattle.mending_kept.specs.kept_history_Safe.{world_in}
 use Rattle.mending_kept.specs.course_kept_the_Course.{Course}
 use Rattle.mending_kept.specs.course_kept_Course.{IsCourseOf}
 use Rattle.mending_kept.specs.course_kept_Laws.{closed, entered}

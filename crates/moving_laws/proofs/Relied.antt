@@ -18,15 +18,15 @@ use Rattle.flat_history.specs.Losses.{is_resync_end, is_unsynced}
 use Rattle.flat_history.specs.Plain.{entries_of}
 use Rattle.flat_history.specs.Stands.{shape_for}
 use Rattle.flat_history.specs.World.{World}
-use Rattle.shape_views.specs.Regions.{AreShapesFit, place_by}
-use Rattle.views.specs.Moving.{Grows}
-use Rattle.views.proofs.Fit.{force-valid, force-disks}
+use Rattle.mending_kept.specs.shape_views_Regions.{AreShapesFit, place_by}
+use Rattle.mending_kept.specs.views_Moving.{Grows}
+use Rattle.mending_kept.proofs.views_Fit.{force-valid, force-disks}
 use Rattle.layout.proofs.Places.{place-role_below}
-use Rattle.call_entries.specs.Losing.{losses_of}
-use Rattle.call_entries.proofs.CallLaws.{losses-are, ends-losses}
-use Rattle.kept_history.specs.Safe.{world_in}
-use Rattle.kept_history.proofs.Growing.{unsynced-grown}
-use Rattle.kept_history.proofs.Ledgers.{unsynced-still}
+use Rattle.mending_kept.specs.call_entries_Losing.{losses_of}
+use Rattle.mending_kept.proofs.call_entries_CallLaws.{losses-are, ends-losses}
+use Rattle.mending_kept.specs.kept_history_Safe.{world_in}
+use Rattle.mending_kept.proofs.kept_history_Growing.{unsynced-grown}
+use Rattle.mending_kept.proofs.kept_history_Ledgers.{unsynced-still}
 use Rattle.running_words.specs.history_calls_Reliable.{AreToldGone}
 use Rattle.mending_kept.specs.region_rows_Stretches.{relied_rows}
 use Rattle.mending_kept.proofs.region_writes_Together.{shape-force}

@@ -6,8 +6,8 @@ use Rattle.superblocks.specs.declared.members.Members.{Members}
 use Rattle.bank.specs.declared.bank.Operation.{Operation}
 use Rattle.flat_history.specs.declared.events.Event.{Event}
 use Rattle.flat_history.specs.Flat.{length_after, limit_after}
-use Rattle.shape_changes.specs.Safety.{IsRisen}
-use Rattle.views.specs.Lacking.{AreTooMany}
+use Rattle.mending_kept.specs.shape_changes_Safety.{IsRisen}
+use Rattle.mending_kept.specs.views_Lacking.{AreTooMany}
 use Rattle.running_words.specs.array_kept_Calls.{IsSettling}
 use Rattle.mending_kept.proofs.moving_kept_Settling as law
 

@@ -8,17 +8,17 @@ use Rattle.superblocks.specs.declared.members.Members.{Members}
 use Rattle.superblocks.specs.Reading.{is_clean, role_count, role_state, holder}
 use Rattle.superblocks.proofs.ValidFields.{few-roles}
 use Rattle.row_io.specs.Rows.{reading_of, present, is_missing, members_without}
-use Rattle.shape_changes.specs.Marking.{AreOthersPresent}
-use Rattle.shape_changes.specs.Safety.{IsRisen}
-use Rattle.shape_changes.specs.Steady.{AreUnlost}
-use Rattle.views.specs.Lacking.{HaveFailedSince, AreLostSince}
-use Rattle.views.specs.Moving.{IsMoved}
-use Rattle.views.specs.Placed.{IsPlaced}
-use Rattle.views.specs.Under.{IsRestKept}
-use Rattle.views.proofs.Fit.{count-alike}
-use Rattle.views.proofs.HeldRows.{missing-before, vacant-missing}
-use Rattle.views.proofs.LackingLaws.{AreVacant, AreNewlyVacant, lost-since}
-use Rattle.views.proofs.MovedLaws.{moved-then}
+use Rattle.mending_kept.specs.shape_changes_Marking.{AreOthersPresent}
+use Rattle.mending_kept.specs.shape_changes_Safety.{IsRisen}
+use Rattle.mending_kept.specs.shape_changes_Steady.{AreUnlost}
+use Rattle.mending_kept.specs.views_Lacking.{HaveFailedSince, AreLostSince}
+use Rattle.mending_kept.specs.views_Moving.{IsMoved}
+use Rattle.mending_kept.specs.views_Placed.{IsPlaced}
+use Rattle.mending_kept.specs.views_Under.{IsRestKept}
+use Rattle.mending_kept.proofs.views_Fit.{count-alike}
+use Rattle.mending_kept.proofs.views_HeldRows.{missing-before, vacant-missing}
+use Rattle.mending_kept.proofs.views_LackingLaws.{AreVacant, AreNewlyVacant, lost-since}
+use Rattle.mending_kept.proofs.views_MovedLaws.{moved-then}
 use Rattle.running_words.proofs.safe_updates_Unused.{unused-moved, rest-unused}
 use Rattle.running_words.proofs.array_kept_KeptLaws.{NamesSafe}
 use Rattle.running_words.proofs.calls_kept_FailedLaws.{placed-out, moved-out, out-only, clean-out, rise-out, named-out}

@@ -29,20 +29,20 @@ use Rattle.flat_history.specs.Legal.{visible_at, IsRefusedRight}
 use Rattle.flat_history.specs.Plain.{entries_of}
 use Rattle.flat_history.specs.Stands.{covers, shape_for}
 use Rattle.flat_history.specs.World.{World, opening_list}
-use Rattle.shape_views.specs.Regions.{DoWithout}
-use Rattle.shape_views.specs.Windows.{moved_past}
-use Rattle.shape_changes.specs.Safety.{HasLiveSlot}
-use Rattle.views.specs.declared.work.Work.{Work}
-use Rattle.views.specs.Lacking.{DoesWithout, HaveRolesFailed, AreLostSince, HaveFailedSince, AreTooMany}
-use Rattle.shape_changes.specs.Safety.{HasLiveSlot}
-use Rattle.views.specs.Moving.{Grows, IsMoved}
-use Rattle.views.specs.Placed.{AreWhole, IsPlaced, AreStillHeld}
-use Rattle.views.specs.Rebuilding.{Held}
-use Rattle.views.proofs.Fit.{force-disks}
-use Rattle.views.proofs.LackingLaws.{AreVacant, AreNewlyVacant, lost-since, shape-without}
-use Rattle.views.proofs.MovedLaws.{grows-then}
-use Rattle.call_entries.specs.Losing.{losses_of, failure_events}
-use Rattle.call_entries.proofs.CallLaws.{losses-are, length-losses, limit-losses}
+use Rattle.mending_kept.specs.shape_views_Regions.{DoWithout}
+use Rattle.mending_kept.specs.shape_views_Windows.{moved_past}
+use Rattle.mending_kept.specs.shape_changes_Safety.{HasLiveSlot}
+use Rattle.mending_kept.specs.views_the_Work.{Work}
+use Rattle.mending_kept.specs.views_Lacking.{DoesWithout, HaveRolesFailed, AreLostSince, HaveFailedSince, AreTooMany}
+use Rattle.mending_kept.specs.shape_changes_Safety.{HasLiveSlot}
+use Rattle.mending_kept.specs.views_Moving.{Grows, IsMoved}
+use Rattle.mending_kept.specs.views_Placed.{AreWhole, IsPlaced, AreStillHeld}
+use Rattle.mending_kept.specs.views_Rebuilding.{Held}
+use Rattle.mending_kept.proofs.views_Fit.{force-disks}
+use Rattle.mending_kept.proofs.views_LackingLaws.{AreVacant, AreNewlyVacant, lost-since, shape-without}
+use Rattle.mending_kept.proofs.views_MovedLaws.{grows-then}
+use Rattle.mending_kept.specs.call_entries_Losing.{losses_of, failure_events}
+use Rattle.mending_kept.proofs.call_entries_CallLaws.{losses-are, length-losses, limit-losses}
 use Rattle.running_words.specs.array_kept_Calls.{IsRoleLossBy, IsLossBy, AreLossesOf, IsBehind, IsRefusedFor, IsCausedBy}
 use Rattle.running_words.proofs.array_kept_ReplyLaws.{IsOfMissing, unwritten-of}
 use Rattle.mending_kept.specs.region_writes_Runs.{IsListUnwritten}
@@ -52,8 +52,8 @@ use Rattle.grow_asked.specs.declared.window.Window.TheVariants.{Closed, Entered,
 use Rattle.grow_asked.specs.declared.window.PhasesLeft.{PhasesLeft}
 use Rattle.grow_asked.specs.Left.{stripes_in, phases_of, grow_left}
 use Rattle.grow_asked.proofs.LeftLaws.{finishing}
-use Rattle.kept_history.specs.Recorded.{IsCallGoing}
-use Rattle.kept_history.specs.Safe.{world_in, TakesNone}
+use Rattle.mending_kept.specs.kept_history_Recorded.{IsCallGoing}
+use Rattle.mending_kept.specs.kept_history_Safe.{world_in, TakesNone}
 use Rattle.running_words.proofs.history_calls_Behind.{early-losses}
 use Rattle.running_words.specs.history_calls_Reliable.{IsReliable}
 use Rattle.mending_kept.specs.course_kept_the_Course.{Course}
@@ -75,7 +75,7 @@ use Rattle.mending_kept.proofs.moving_kept_Writing.{ArePut, AreWritten, AreUnwri
 use Rattle.running_words.specs.Calls.{IsCalled, IsStepTaken}
 use Rattle.running_words.specs.Parts.{RunningParts}
 use Rattle.running_words.specs.Parts.{visible_size}
-use Rattle.running_words.proofs.Visible.{visible-is, visible-within}
+use Rattle.running_words.proofs.VisibleLaws.{visible-is, visible-within}
 use Rattle.moving_laws.specs.Ready.{bytes_in, IsReady}
 use Rattle.moving_laws.specs.Writing.{IsWindowOpen, steps_in, TouchesWindow, IsWriteLacked, IsPutEntered, IsWriteEntered}
 use Rattle.running_words.proofs.Called.{not_254}

@@ -23,18 +23,18 @@ use Rattle.flat_history.specs.Fits.{AreTornOf, IsTornOf}
 use Rattle.flat_history.specs.Flat.{is_same_call, rest_of_call, next_number, length_of, limit_of, length_after, limit_after, visible_of}
 use Rattle.flat_history.specs.OneShape.{IsOfCall, OneShapeAnswers}
 use Rattle.flat_history.specs.Plain.{entries_of}
-use Rattle.call_entries.specs.Losing.{losses_of, failure_events}
-use Rattle.call_entries.proofs.CallLaws.{AreLossEvents, losses-are, length-losses, limit-losses, torn-losses, torn-both, torn-reverse}
-use Rattle.call_entries.proofs.LosingLaws.{entries-both}
+use Rattle.mending_kept.specs.call_entries_Losing.{losses_of, failure_events}
+use Rattle.mending_kept.proofs.call_entries_CallLaws.{AreLossEvents, losses-are, length-losses, limit-losses, torn-losses, torn-both, torn-reverse}
+use Rattle.mending_kept.proofs.call_entries_LosingLaws.{entries-both}
 use Rattle.running_words.specs.array_kept_Calls.{StandsInside, IsRefusedFor, IsCausedBy}
 use Rattle.running_words.proofs.array_kept_NowLaws.{length-more}
 use Rattle.running_words.proofs.array_kept_ReplyLaws.{IsOfMissing, none_before, too-many-of}
 use Rattle.grow_asked.specs.declared.window.Window.{Window}
-use Rattle.kept_history.specs.Recorded.{entry_of}
+use Rattle.mending_kept.specs.kept_history_Recorded.{entry_of}
 use Rattle.running_words.specs.moving_state_Due.{open_in}
 use Rattle.moving_laws.specs.Writing.{IsWriteLacked, IsFinishedFirst, IsWriteEntered, IsRepliedBehind, IsWriteAnswered}
 use Rattle.running_words.specs.moving_state_Left.{visible_by}
-use Rattle.running_words.proofs.Visible.{visible-is, limit-kept}
+use Rattle.running_words.proofs.VisibleLaws.{visible-is, limit-kept}
 use Rattle.running_words.proofs.Replies.{write_kind}
 use Rattle.moving_laws.proofs.WriteLaws.{torn-missing}
 

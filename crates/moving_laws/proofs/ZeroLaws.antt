@@ -19,20 +19,20 @@ use Rattle.flat_history.specs.declared.events.Event.TheVariants.{Step, Refused}
 use Rattle.flat_history.specs.declared.events.StepKind.TheVariants.{Zeroed as ZeroesStripe}
 use Rattle.flat_history.specs.Plain.{entries_of}
 use Rattle.flat_history.specs.World.{World}
-use Rattle.shape_views.specs.Views.{Ledger}
-use Rattle.shape_changes.specs.Safety.{HasLiveSlot, HasRoomLeft, IsRisen}
-use Rattle.shape_changes.specs.Steady.{IsSafeOver, KeepsSafe, AreGoneTold, IsUncleanTold}
-use Rattle.views.specs.Moving.{Grows, IsMoved}
-use Rattle.views.specs.Lacking.{AreTooMany, AreLostSince, IsOfStripe, AreOtherRowsKept}
-use Rattle.window_rows.specs.Copies.{tail_of, IsZeroIn}
+use Rattle.mending_kept.specs.shape_views_Views.{Ledger}
+use Rattle.mending_kept.specs.shape_changes_Safety.{HasLiveSlot, HasRoomLeft, IsRisen}
+use Rattle.mending_kept.specs.shape_changes_Steady.{IsSafeOver, KeepsSafe, AreGoneTold, IsUncleanTold}
+use Rattle.mending_kept.specs.views_Moving.{Grows, IsMoved}
+use Rattle.mending_kept.specs.views_Lacking.{AreTooMany, AreLostSince, IsOfStripe, AreOtherRowsKept}
+use Rattle.mending_kept.specs.window_rows_Copies.{tail_of, IsZeroIn}
 use Rattle.running_words.specs.safe_updates_Unused.{IsUnusedKept}
-use Rattle.call_entries.specs.Losing.{losses_of}
+use Rattle.mending_kept.specs.call_entries_Losing.{losses_of}
 use Rattle.grow_asked.specs.declared.window.Window.{Window}
 use Rattle.grow_asked.specs.declared.window.PhasesLeft.{PhasesLeft}
 use Rattle.grow_asked.specs.Left.{zeroed_by, phases_of, grow_left, reshape_left}
 use Rattle.grow_asked.proofs.LeftLaws.{zeroing}
-use Rattle.kept_history.specs.Recorded.{IsCallGoing}
-use Rattle.kept_history.specs.Safe.{world_in}
+use Rattle.mending_kept.specs.kept_history_Recorded.{IsCallGoing}
+use Rattle.mending_kept.specs.kept_history_Safe.{world_in}
 use Rattle.mending_kept.specs.course_kept_the_Course.{Course}
 use Rattle.mending_kept.specs.course_kept_Course.{past_stripe}
 use Rattle.mending_kept.specs.course_kept_Laws.{closed}

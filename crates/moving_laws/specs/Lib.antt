@@ -30,3 +30,16 @@ pub use Rattle.running_words.specs.region_writes_Runs
 pub use Rattle.running_words.specs.safe_updates_First
 pub use Rattle.running_words.specs.safe_updates_Unused
 pub use Rattle.running_words.specs.window_steps_Zeroing
+pub use Rattle.mending_kept.specs.window_rows_Copies
+pub use Rattle.mending_kept.specs.kept_history_Recorded
+pub use Rattle.mending_kept.specs.kept_history_Safe
+pub use Rattle.mending_kept.specs.shape_changes_Marking
+pub use Rattle.mending_kept.specs.shape_changes_Safety
+pub use Rattle.mending_kept.specs.shape_changes_Steady
+pub use Rattle.mending_kept.specs.shape_views_Regions
+pub use Rattle.mending_kept.specs.shape_views_Views
+pub use Rattle.mending_kept.specs.shape_views_Windows
+pub use Rattle.mending_kept.specs.shape_ends_Ends
+pub use Rattle.mending_kept.specs.shape_ends_Plans
+pub use Rattle.mending_kept.specs.shape_changes_Changing
+pub use Rattle.mending_kept.specs.shape_changes_Updates

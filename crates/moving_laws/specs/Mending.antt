@@ -6,7 +6,7 @@ use Rattle.bank.specs.Given.{Given}
 use Rattle.bank.specs.Tape.{Contents}
 use Rattle.superblocks.specs.declared.members.Members.{Members}
 use Rattle.superblocks.specs.Reading.{list_length}
-use Rattle.views.specs.Lacking.{DoesWithout}
+use Rattle.mending_kept.specs.views_Lacking.{DoesWithout}
 use Rattle.mending_kept.specs.region_rows_Stretches.{RowsStandIn}
 use Rattle.mending_kept.specs.region_mends_Mends.{mend_stripes}
 use Rattle.mending_kept.specs.course_mends_Mended.{IsAside}

@@ -10,16 +10,16 @@ use Rattle.grow_plan.specs.Plans.{AreSound}
 use Rattle.flat_history.specs.declared.events.Entry.{Entry}
 use Rattle.flat_history.specs.Flat.{length_of, limit_of}
 use Rattle.flat_history.specs.Stands.{reach_of}
-use Rattle.shape_views.specs.Regions.{backup_of}
-use Rattle.views.specs.declared.work.Work.{Work}
-use Rattle.views.specs.Numbers.{is_carried}
+use Rattle.mending_kept.specs.shape_views_Regions.{backup_of}
+use Rattle.mending_kept.specs.views_the_Work.{Work}
+use Rattle.mending_kept.specs.views_Numbers.{is_carried}
 use Rattle.grow_asked.specs.declared.window.Window.{Window}
 use Rattle.grow_asked.specs.declared.window.Window.TheVariants.{Closed, Entered, Unsure}
 use Rattle.grow_asked.specs.declared.window.PhasesLeft.{PhasesLeft}
 use Rattle.grow_asked.specs.Left.{phases_of}
 use Rattle.running_words.specs.Parts.{left_in}
-use Rattle.views.specs.Placed.{AreWhole}
-use Rattle.kept_history.specs.Safe.{world_in, TakesNone}
+use Rattle.mending_kept.specs.views_Placed.{AreWhole}
+use Rattle.mending_kept.specs.kept_history_Safe.{world_in, TakesNone}
 use Rattle.mending_kept.specs.course_kept_the_Course.{Course}
 use Rattle.mending_kept.specs.moving_kept_Moving.{IsMoving}
 

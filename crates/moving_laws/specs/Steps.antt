@@ -5,7 +5,7 @@ use Rattle.superblocks.specs.declared.members.Members.{Members}
 use Rattle.superblocks.specs.Reading.{is_clean, list_length}
 use Rattle.flat_history.specs.declared.events.StepKind.{StepKind}
 use Rattle.flat_history.specs.declared.events.StepKind.TheVariants.{Entered, Copied, Checkpointed, Zeroed, Finished, ResyncStripe, ResyncEnded}
-use Rattle.views.specs.Lacking.{AreTooMany}
+use Rattle.mending_kept.specs.views_Lacking.{AreTooMany}
 use Rattle.mending_kept.specs.region_mends_Mends.{mend_shape, IsNotMended}
 use Rattle.running_words.specs.array_kept_Calls.{one_more, IsCausedBy}
 use Rattle.running_words.specs.moving_state_the_Due.{Due}

@@ -19,10 +19,10 @@ use Rattle.flat_history.specs.OneShape.{IsOfCall, OneShapeFits}
 use Rattle.flat_history.specs.declared.events.StepKind.TheVariants.{WindowFinished as FinishesWindow}
 use Rattle.flat_history.specs.Plain.{entries_of}
 use Rattle.flat_history.specs.Stands.{covers}
-use Rattle.views.specs.Lacking.{AreTooMany}
-use Rattle.call_entries.specs.Losing.{failure_events}
+use Rattle.mending_kept.specs.views_Lacking.{AreTooMany}
+use Rattle.mending_kept.specs.call_entries_Losing.{failure_events}
 use Rattle.running_words.specs.array_kept_Calls.{IsBehind, StandsInside}
-use Rattle.kept_history.specs.Recorded.{entry_of}
+use Rattle.mending_kept.specs.kept_history_Recorded.{entry_of}
 use Rattle.mending_kept.specs.region_writes_Runs.{IsListUnwritten}
 use Rattle.grow_asked.specs.declared.window.Window.{Window}
 use Rattle.grow_asked.specs.declared.window.Window.TheVariants.{Closed, Entered, Unsure}

@@ -28,15 +28,15 @@ use Rattle.list_io.specs.Full.{RowStands}
 use Rattle.flat_history.specs.Opened.{HasGoodRows, HasZeroTail}
 use Rattle.flat_history.specs.Reshaped.{IsGoodRow}
 use Rattle.flat_history.specs.Stands.{stands, shape_for, covers, placed_sector, held_sector as found_sector, held_row as found_row}
-use Rattle.shape_views.specs.Regions.{backup_of, header_in, open_by, place_by, ArePlaced, DoWithout, IsReadOf}
-use Rattle.shape_views.specs.Views.{IsTail}
-use Rattle.shape_views.specs.Windows.{IsShown, ListStands, RowsStand, AreTailsStanding}
-use Rattle.shape_views.proofs.Alike.{for-both, valid-for, row-below}
-use Rattle.shape_views.proofs.Standing.{standing_at, section-here, held-same, read-covered, read-placed}
-use Rattle.shape_views.proofs.UnderWay.{shape-on, side-or}
-use Rattle.shape_views.proofs.WindowLaws.{open-window}
+use Rattle.moving_kept.specs.shape_views_Regions.{backup_of, header_in, open_by, place_by, ArePlaced, DoWithout, IsReadOf}
+use Rattle.moving_kept.specs.shape_views_Views.{IsTail}
+use Rattle.moving_kept.specs.shape_views_Windows.{IsShown, ListStands, RowsStand, AreTailsStanding}
+use Rattle.moving_kept.proofs.shape_views_Alike.{for-both, valid-for, row-below}
+use Rattle.moving_kept.proofs.shape_views_Standing.{standing_at, section-here, held-same, read-covered, read-placed}
+use Rattle.moving_kept.proofs.shape_views_UnderWay.{shape-on, side-or}
+use Rattle.moving_kept.proofs.shape_views_WindowLaws.{open-window}
 use Rattle.grow_asked.specs.declared.window.Window.{Window}
-use Rattle.views.specs.Placed.{IsPlaced}
+use Rattle.moving_kept.specs.views_Placed.{IsPlaced}
 use Rattle.moving_kept.specs.region_mends_Mends.{low_shape, low_stripes, AreEndsStanding}
 use Rattle.moving_kept.proofs.region_writes_Sides.{low-valid, low-is, low-before, low-few}
 use Rattle.moving_kept.specs.course_kept_Course.{hidden_in, HasWindowIn, IsCopiedRow, past_stripe, AnyShape, StandsInCourse}

@@ -23,12 +23,12 @@ use Rattle.flat_history.specs.Plain.{loses_role, entries_of}
 use Rattle.flat_history.specs.World.{World}
 use Rattle.history_laws.proofs.OneShapeGrowing.{entries-both}
 use Rattle.moving_kept.specs.array_kept_Adopting.{found_loss, absent_loss, absent_losses}
-use Rattle.kept_history.specs.Recorded.{gives_some}
-use Rattle.kept_history.proofs.Entered.{gone-lost}
-use Rattle.kept_history.proofs.Ledgers.{any-gone}
-use Rattle.kept_history.proofs.Longer.{regains-none}
-use Rattle.kept_history.proofs.Opened.{loss_events, AreFound}
-use Rattle.kept_history.proofs.Tests.{or-left, or-right}
+use Rattle.moving_kept.specs.kept_history_Recorded.{gives_some}
+use Rattle.moving_kept.proofs.kept_history_Entered.{gone-lost}
+use Rattle.moving_kept.proofs.kept_history_Ledgers.{any-gone}
+use Rattle.moving_kept.proofs.kept_history_Longer.{regains-none}
+use Rattle.moving_kept.proofs.kept_history_Opened.{loss_events, AreFound}
+use Rattle.moving_kept.proofs.kept_history_Tests.{or-left, or-right}
 
 -- ---- as they are found
 

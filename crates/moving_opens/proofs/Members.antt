@@ -13,17 +13,17 @@ use Rattle.superblocks.specs.Verdict.{fresh_from}
 use Rattle.row_io.specs.Rows.{reading_of, members_without}
 use Rattle.row_io.proofs.Losses.{state_after, state_kept}
 use Rattle.flat_history.specs.Stands.{backup_absent}
-use Rattle.shape_views.specs.Regions.{AreShapesFit, ArePlaced}
-use Rattle.shape_changes.specs.Marking.{marking}
-use Rattle.shape_changes.specs.Steady.{AreUnlost}
-use Rattle.shape_changes.proofs.Without.{live-of, in-both}
-use Rattle.shape_ends.specs.Plans.{HasNoneRecovering}
-use Rattle.views.specs.Moving.{IsMoved}
-use Rattle.views.specs.Placed.{IsPlaced}
-use Rattle.views.specs.Rebuilding.{IsFree, AreSparesFree}
-use Rattle.views.proofs.MemberLaws.{placed-without, less-without, unlost-without}
-use Rattle.views.proofs.MovedLaws.{moved-less}
-use Rattle.views.proofs.Still.{placed-two}
+use Rattle.moving_kept.specs.shape_views_Regions.{AreShapesFit, ArePlaced}
+use Rattle.moving_kept.specs.shape_changes_Marking.{marking}
+use Rattle.moving_kept.specs.shape_changes_Steady.{AreUnlost}
+use Rattle.moving_kept.proofs.shape_changes_Without.{live-of, in-both}
+use Rattle.moving_kept.specs.shape_ends_Plans.{HasNoneRecovering}
+use Rattle.moving_kept.specs.views_Moving.{IsMoved}
+use Rattle.moving_kept.specs.views_Placed.{IsPlaced}
+use Rattle.moving_kept.specs.views_Rebuilding.{IsFree, AreSparesFree}
+use Rattle.moving_kept.proofs.views_MemberLaws.{placed-without, less-without, unlost-without}
+use Rattle.moving_kept.proofs.views_MovedLaws.{moved-less}
+use Rattle.moving_kept.proofs.views_Still.{placed-two}
 use Rattle.moving_kept.specs.safe_updates_Unused.{IsUnused}
 use Rattle.moving_kept.proofs.safe_updates_Unused.{unused-moved}
 use Rattle.moving_kept.specs.Moving.{AreReshaping}

@@ -33,25 +33,25 @@ use Rattle.flat_history.specs.Plain.{entries_of}
 use Rattle.flat_history.specs.Sound.{OpensFit}
 use Rattle.flat_history.specs.Stands.{reach_of, stands}
 use Rattle.flat_history.specs.World.{World, reading_at, opening_list}
-use Rattle.shape_views.specs.Regions.{AreShapesFit, ArePlaced, DoWithout, IsReadOf, header_in, open_by}
-use Rattle.shape_views.specs.Views.{Disk, Ledger, AreHeadersFit, IsViewRight}
-use Rattle.shape_views.specs.Windows.{AreTailsStanding, RowsStand}
-use Rattle.shape_views.proofs.Standing.{read-length}
-use Rattle.shape_views.proofs.Stands.{window-inside}
-use Rattle.shape_changes.specs.Safety.{HasLiveSlot}
-use Rattle.shape_changes.specs.Steady.{IsSafeOver}
-use Rattle.views.specs.Lacking.{DoesWithout}
-use Rattle.views.specs.Moving.{IsMoved}
-use Rattle.views.specs.Placed.{IsPlaced}
-use Rattle.views.specs.Under.{StandsUnder, RowsStandUnder}
-use Rattle.views.proofs.HeldRows.{missing-moved}
-use Rattle.views.proofs.SoundViews.{leaves-now}
+use Rattle.moving_kept.specs.shape_views_Regions.{AreShapesFit, ArePlaced, DoWithout, IsReadOf, header_in, open_by}
+use Rattle.moving_kept.specs.shape_views_Views.{Disk, Ledger, AreHeadersFit, IsViewRight}
+use Rattle.moving_kept.specs.shape_views_Windows.{AreTailsStanding, RowsStand}
+use Rattle.moving_kept.proofs.shape_views_Standing.{read-length}
+use Rattle.moving_kept.proofs.shape_views_Stands.{window-inside}
+use Rattle.moving_kept.specs.shape_changes_Safety.{HasLiveSlot}
+use Rattle.moving_kept.specs.shape_changes_Steady.{IsSafeOver}
+use Rattle.moving_kept.specs.views_Lacking.{DoesWithout}
+use Rattle.moving_kept.specs.views_Moving.{IsMoved}
+use Rattle.moving_kept.specs.views_Placed.{IsPlaced}
+use Rattle.moving_kept.specs.views_Under.{StandsUnder, RowsStandUnder}
+use Rattle.moving_kept.proofs.views_HeldRows.{missing-moved}
+use Rattle.moving_kept.proofs.views_SoundViews.{leaves-now}
 use Rattle.moving_kept.specs.array_kept_Adopting.{opener, absent_losses}
-use Rattle.kept_history.specs.Recorded.{IsHistoryKept}
-use Rattle.kept_history.specs.Safe.{world_in, IsReshapeFit, OpensOnCourse, IsFilledRight, IsCounted, IsSafeHistory}
-use Rattle.kept_history.specs.Told.{told_now}
-use Rattle.kept_history.proofs.Opened.{opened-kept, opened-safe}
-use Rattle.kept_history.proofs.Turned.{fills-on_course}
+use Rattle.moving_kept.specs.kept_history_Recorded.{IsHistoryKept}
+use Rattle.moving_kept.specs.kept_history_Safe.{world_in, IsReshapeFit, OpensOnCourse, IsFilledRight, IsCounted, IsSafeHistory}
+use Rattle.moving_kept.specs.kept_history_Told.{told_now}
+use Rattle.moving_kept.proofs.kept_history_Opened.{opened-kept, opened-safe}
+use Rattle.moving_kept.proofs.kept_history_Turned.{fills-on_course}
 use Rattle.moving_kept.specs.history_calls_Reliable.{IsReliable, AreToldGone, HasLastStep}
 use Rattle.moving_kept.proofs.history_calls_LastStep.{opened-last}
 use Rattle.grow_asked.specs.declared.window.Window.{Window}

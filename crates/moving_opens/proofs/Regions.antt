@@ -18,10 +18,10 @@ use Rattle.region_laws.specs.Regions.{IsUnderWay}
 use Rattle.region_laws.proofs.RegionLaws.{IsDivided, by-old, by-new, forward-is, backward-is}
 use Rattle.superblocks.specs.Reading.{is_reshaping, is_backward, shape_of, final_shape, list_length, next_window}
 use Rattle.flat_history.specs.Stands.{shape_at, shape_for, covers}
-use Rattle.shape_views.specs.Regions.{AreShapesFit}
-use Rattle.shape_views.specs.Views.{IsTail}
-use Rattle.views.proofs.Fit.{fit-multiple, force-multiple}
-use Rattle.shape_views.proofs.UnderWay.{window-is, under-way, shape-on, side-or}
+use Rattle.moving_kept.specs.shape_views_Regions.{AreShapesFit}
+use Rattle.moving_kept.specs.shape_views_Views.{IsTail}
+use Rattle.moving_kept.proofs.views_Fit.{fit-multiple, force-multiple}
+use Rattle.moving_kept.proofs.shape_views_UnderWay.{window-is, under-way, shape-on, side-or}
 
 -- ---- tests
 

@@ -13,16 +13,16 @@ use Rattle.superblocks.specs.Reading.{Scope, reading, is_clean, final_shape, rol
 use Rattle.row_io.specs.Rows.{reading_of, present, is_missing, held_slot}
 use Rattle.row_io.proofs.Losses.{holder-of}
 use Rattle.flat_history.proofs.GivenLaws.{holder-given}
-use Rattle.shape_views.specs.Regions.{ArePlaced, place_by}
-use Rattle.shape_views.specs.Views.{Disk, Ledger, IsTail, AreHeadersFit, IsViewRight}
-use Rattle.shape_views.specs.Windows.{AreTailsStanding}
-use Rattle.shape_views.proofs.Stands.{window-inside}
-use Rattle.shape_views.proofs.WindowLaws.{open-window}
-use Rattle.shape_changes.specs.Carried.{AreCarried}
-use Rattle.views.specs.Lacking.{AreHoldersFlushed}
-use Rattle.views.specs.Placed.{IsPlaced}
-use Rattle.views.specs.Under.{StandsUnder, RowsStandUnder}
-use Rattle.views.proofs.Still.{flushed-is-settled}
+use Rattle.moving_kept.specs.shape_views_Regions.{ArePlaced, place_by}
+use Rattle.moving_kept.specs.shape_views_Views.{Disk, Ledger, IsTail, AreHeadersFit, IsViewRight}
+use Rattle.moving_kept.specs.shape_views_Windows.{AreTailsStanding}
+use Rattle.moving_kept.proofs.shape_views_Stands.{window-inside}
+use Rattle.moving_kept.proofs.shape_views_WindowLaws.{open-window}
+use Rattle.moving_kept.specs.shape_changes_Carried.{AreCarried}
+use Rattle.moving_kept.specs.views_Lacking.{AreHoldersFlushed}
+use Rattle.moving_kept.specs.views_Placed.{IsPlaced}
+use Rattle.moving_kept.specs.views_Under.{StandsUnder, RowsStandUnder}
+use Rattle.moving_kept.proofs.views_Still.{flushed-is-settled}
 use Rattle.moving_kept.specs.array_kept_Adopting.{AreNumbersKept}
 use Rattle.moving_opens.specs.Opening.{AreAmong}
 

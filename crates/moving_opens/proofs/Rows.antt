@@ -29,7 +29,7 @@ use Rattle.list_io.proofs.FullLaws.{full-data, listed-is, row_roles-valid, secto
 use Rattle.list_io.proofs.Parities.{filled-same}
 use Rattle.flat_history.specs.Reshaped.{IsGoodRow}
 use Rattle.flat_history.specs.Stands.{held_row as found_row}
-use Rattle.views.specs.Placed.{IsPlaced}
+use Rattle.moving_kept.specs.views_Placed.{IsPlaced}
 
 pub zero-is_sector : IsSector zero_sector
 unfolding zero_sector

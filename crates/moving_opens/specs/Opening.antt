@@ -12,7 +12,7 @@ use Rattle.row_io.specs.Rows.{reading_of, present, members_without}
 use Rattle.flat_history.specs.declared.events.Entry.{Entry}
 use Rattle.flat_history.specs.Plain.{entries_of}
 use Rattle.flat_history.specs.Stands.{backup_absent}
-use Rattle.shape_views.specs.Regions.{header_in, open_by}
+use Rattle.moving_kept.specs.shape_views_Regions.{header_in, open_by}
 use Rattle.moving_kept.specs.array_kept_Kept.{scope_in}
 use Rattle.moving_kept.specs.array_kept_Adopting.{opener, absent_losses}
 use Rattle.grow_asked.specs.declared.window.Window.{Window}

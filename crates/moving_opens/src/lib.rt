@@ -4,8 +4,6 @@
 ghost use Rattle.std.specs.Prelude.{⊤};
 ghost use Rattle.moving_opens.specs.Opening.{FoundWindowsOpen, OpeningsMove};
 
-pub use reshape_openings;
-
 /// What `find_window` answers of members that were opened is what an opening finds.
 pub fn found_windows_open()
     ensures { FoundWindowsOpen ⊤ }
@@ -15,3 +13,5 @@ pub fn found_windows_open()
 pub fn openings_move()
     ensures { OpeningsMove ⊤ }
 {}
+
+pub use reshape_openings::{find_window, lose_recovering};

@@ -6,7 +6,7 @@ use Rattle.std.proofs.lemmas.Bool.Decides.{nat_tests}
 use Rattle.md_base.specs.declared.places.Span.{Span}
 use Rattle.sb1.specs.declared.sb.Sb.{Sb}
 use Rattle.superblocks.specs.Reading.{is_reshaping, next_window}
-use Rattle.shape_views.specs.Regions.{AreShapesFit}
+use Rattle.course_kept.specs.shape_views_Regions.{AreShapesFit}
 use Rattle.region_mends.specs.Mends.{mend_stripes}
 use Rattle.grow_asked.specs.declared.window.Window.{Window}
 use Rattle.grow_asked.specs.declared.window.Window.TheVariants.{Closed, Entered, Unsure}

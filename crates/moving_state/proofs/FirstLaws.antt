@@ -14,8 +14,8 @@ use Rattle.layout.specs.Layout.{place}
 use Rattle.superblocks.specs.declared.members.Members.{Members}
 use Rattle.superblocks.proofs.Searches.{least_below-first}
 use Rattle.flat_history.specs.Stands.{covers, shape_for}
-use Rattle.shape_views.specs.Regions.{AreShapesFit, place_by}
-use Rattle.views.specs.Lacking.{lacking, too_many, DoesWithout, LacksTooMany, IsNotResynced}
+use Rattle.course_kept.specs.shape_views_Regions.{AreShapesFit, place_by}
+use Rattle.course_kept.specs.views_Lacking.{lacking, too_many, DoesWithout, LacksTooMany, IsNotResynced}
 use Rattle.region_mends.specs.safe_updates_First.{call_refusal, write_refusal}
 use Rattle.region_mends.proofs.safe_updates_RefusingLaws.{told-few, write-none}
 use Rattle.region_mends.specs.region_rows_Stretches.{IsStretch, relied_rows, IsUnrelied, IsLacked, IsListUnread}

@@ -8,9 +8,9 @@ use Rattle.geometry.specs.Geometry.{stripes, steps_of, window, window_steps, bey
 use Rattle.geometry.proofs.GoingOn.{steps_fall}
 use Rattle.grow_plan.specs.Plans.{phases_steps}
 use Rattle.superblocks.specs.Reading.{is_reshaping, is_backward, shape_of, final_shape}
-use Rattle.shape_views.specs.Regions.{AreShapesFit}
-use Rattle.shape_views.specs.Windows.{moved_past}
-use Rattle.views.specs.Placed.{HaveSameReshape}
+use Rattle.course_kept.specs.shape_views_Regions.{AreShapesFit}
+use Rattle.course_kept.specs.shape_views_Windows.{moved_past}
+use Rattle.course_kept.specs.views_Placed.{HaveSameReshape}
 use Rattle.grow_asked.specs.declared.window.Window.{Window}
 use Rattle.grow_asked.specs.declared.window.Window.TheVariants.{Closed, Entered, Unsure}
 use Rattle.grow_asked.specs.Left.{steps_from, stripes_in, zeroed_by, reshape_left, grow_left, IsPast, IsWindowRight}

@@ -11,3 +11,11 @@ pub use Rattle.array_kept.proofs.ReplyLaws as array_kept_ReplyLaws
 pub use Rattle.course_kept.proofs.reshape_updates_NewRoles
 pub use Rattle.region_mends.proofs.safe_updates_RefusingLaws
 pub use Rattle.region_mends.proofs.safe_updates_Unused
+pub use Rattle.course_kept.proofs.shape_views_BackupLaws
+pub use Rattle.array_kept.proofs.call_entries_PlainLaws
+pub use Rattle.array_kept.proofs.call_entries_CallLaws
+pub use Rattle.array_kept.proofs.call_entries_LosingLaws
+pub use Rattle.course_kept.proofs.views_Fit
+pub use Rattle.course_kept.proofs.views_HeldRows
+pub use Rattle.course_kept.proofs.views_LackingLaws
+pub use Rattle.course_kept.proofs.views_MovedLaws

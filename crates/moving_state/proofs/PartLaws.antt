@@ -4,7 +4,7 @@ use Rattle.std.proofs.lemmas.Bool.Decides.{nat_tests}
 use Rattle.md_base.specs.declared.places.Span.{Span}
 use Rattle.geometry.specs.Geometry.{IsIn}
 use Rattle.flat_history.specs.Stands.{covers}
-use Rattle.shape_views.proofs.UnderWay.{in-or-out}
+use Rattle.course_kept.proofs.shape_views_UnderWay.{in-or-out}
 
 -- it is one of the request, and the span covers it
 abbrev pub IsAskedIn : Option Span → ℕ → ℕ → ℕ → Type 0

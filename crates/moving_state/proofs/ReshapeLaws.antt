@@ -11,9 +11,9 @@ use Rattle.geometry.proofs.Divisions.{quotient}
 use Rattle.geometry.proofs.Valid.{the_unit, bounded_pair}
 use Rattle.superblocks.specs.Reading.{is_reshaping, is_backward, shape_of, final_shape, list_length, next_window}
 use Rattle.flat_history.specs.Stands.{reach_of}
-use Rattle.shape_views.specs.Regions.{AreShapesFit}
-use Rattle.shape_views.proofs.Stands.{window-inside}
-use Rattle.shape_views.proofs.UnderWay.{is-reshaping, window-is}
+use Rattle.course_kept.specs.shape_views_Regions.{AreShapesFit}
+use Rattle.course_kept.proofs.shape_views_Stands.{window-inside}
+use Rattle.course_kept.proofs.shape_views_UnderWay.{is-reshaping, window-is}
 use Rattle.grow_asked.specs.Left.{zeroed_by, IsReshapeUnderWay}
 use Rattle.course_kept.specs.window_steps_Zeroing.{IsThrough}
 

@@ -6,8 +6,8 @@ use Rattle.md_base.specs.declared.answers.Refusal.TheVariants.{NotResynced as Un
 use Rattle.md_base.specs.declared.places.Span.{Span}
 use Rattle.superblocks.specs.declared.members.Members.{Members}
 use Rattle.flat_history.specs.Stands.{covers, shape_for}
-use Rattle.shape_views.specs.Regions.{place_by}
-use Rattle.views.specs.Lacking.{too_many, LacksTooMany}
+use Rattle.course_kept.specs.shape_views_Regions.{place_by}
+use Rattle.course_kept.specs.views_Lacking.{too_many, LacksTooMany}
 use Rattle.region_mends.specs.safe_updates_First.{are_too_many}
 use Rattle.region_mends.specs.region_rows_Stretches.{IsUnrelied}
 

@@ -9,9 +9,9 @@ use Rattle.superblocks.specs.declared.members.Members.{Members}
 use Rattle.superblocks.specs.Reading.{is_reshaping, final_shape, next_window}
 use Rattle.grow_plan.specs.Plans.{phases_steps}
 use Rattle.grow_asked.specs.Left.{stripes_in, zeroed_by, reshape_left, grow_left}
-use Rattle.shape_views.specs.Regions.{AreShapesFit}
-use Rattle.shape_views.specs.Windows.{moved_past}
-use Rattle.views.specs.Moving.{IsMoved}
+use Rattle.course_kept.specs.shape_views_Regions.{AreShapesFit}
+use Rattle.course_kept.specs.shape_views_Windows.{moved_past}
+use Rattle.course_kept.specs.views_Moving.{IsMoved}
 use Rattle.course_kept.specs.window_steps_Zeroing.{IsThrough}
 use Rattle.course_kept.specs.declared.course.Course.{Course}
 use Rattle.course_kept.specs.Laws.{entered, closed, unsure}

@@ -16,3 +16,15 @@ pub use Rattle.region_mends.specs.declared.stripes.Stripe as region_mends_the_St
 pub use Rattle.region_mends.specs.region_writes_Runs
 pub use Rattle.region_mends.specs.safe_updates_First
 pub use Rattle.region_mends.specs.safe_updates_Unused
+pub use Rattle.course_kept.specs.window_rows_Copies
+pub use Rattle.course_kept.specs.shape_views_Regions
+pub use Rattle.array_kept.specs.call_entries_Losing
+pub use Rattle.course_kept.specs.views_Placed
+pub use Rattle.course_kept.specs.views_Moving
+pub use Rattle.course_kept.specs.views_Lacking
+pub use Rattle.course_kept.specs.views_the_Work
+pub use Rattle.course_kept.specs.views_Parts
+pub use Rattle.course_kept.specs.views_Status
+pub use Rattle.course_kept.specs.views_Rebuilding
+pub use Rattle.course_kept.specs.shape_changes_Safety
+pub use Rattle.course_kept.specs.shape_changes_Steady

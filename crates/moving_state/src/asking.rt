@@ -2,7 +2,7 @@
 
 ghost use Rattle.std.specs.Prelude.{◌≡◌, ◌^◌, ◌<◌, ◌≤◌, true, length};
 ghost use Rattle.superblocks.specs.Reading.{is_reshaping, role_count, list_length};
-ghost use Rattle.shape_views.specs.Regions.{AreShapesFit};
+ghost use Rattle.course_kept.specs.shape_views_Regions.{AreShapesFit};
 ghost use Rattle.course_kept.specs.Course.{IsCourseOf};
 ghost use Rattle.moving_state.specs.Left.{visible_by, left_of};
 

@@ -10,7 +10,7 @@ pub mod reshape;
 pub mod stepping;
 pub mod windows;
 
-pub use course_kept;
-pub use course_kept::window_steps;
-pub use region_mends;
-pub use region_mends::{region_writes, safe_updates};
+pub use course_kept::{Course, is_spare};
+pub use region_mends::counting::{mends_at, resync_left};
+pub use region_mends::stripes::{mend_stripes, next_mend, relied_sector};
+pub use region_mends::{final_in, shape_in};

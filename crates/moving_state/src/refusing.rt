@@ -3,8 +3,8 @@
 ghost use Rattle.std.specs.Prelude.{◌≡◌, ◌+◌, ◌^◌, ◌<◌, ◌≤◌, ℕ, false, length, Some, MatchOption, ⊤};
 ghost use Rattle.superblocks.specs.Reading.{list_length, role_count};
 ghost use Rattle.flat_history.specs.Stands.{covers, shape_for};
-ghost use Rattle.shape_views.specs.Regions.{AreShapesFit};
-ghost use Rattle.views.specs.Lacking.{DoesWithout};
+ghost use Rattle.course_kept.specs.shape_views_Regions.{AreShapesFit};
+ghost use Rattle.course_kept.specs.views_Lacking.{DoesWithout};
 ghost use Rattle.region_mends.specs.safe_updates_First.{call_refusal};
 ghost use Rattle.region_mends.specs.region_rows_Stretches.{IsLacked};
 ghost use Rattle.region_mends.specs.region_writes_Runs.{IsListTorn, IsListUnwritten};
@@ -13,10 +13,7 @@ ghost use Rattle.moving_state.specs.First.{list_refusal, IsUnreadAround};
 
 use crate::windows::part_in;
 use md_base::{Refusal, Span};
-use region_mends::region_rows::fetching::unread_list;
-use region_mends::region_rows::stretches::stretch_at;
-use region_mends::region_writes::runs::{runs_of, unwritten_runs};
-use region_mends::safe_updates::refusing::too_many_of;
+use region_mends::{runs_of, stretch_at, too_many_of, unread_list, unwritten_runs};
 use superblocks::Members;
 
 // The refusal of the first of so many sectors from this one on of whose shape more roles are missing than it tolerates.

@@ -4,9 +4,9 @@ ghost use Rattle.std.specs.Prelude.{◌≡◌, ◌+◌, ◌-◌, ◌^◌, ◌<�
 ghost use Rattle.geometry.specs.Geometry.{is_critical};
 ghost use Rattle.superblocks.specs.Reading.{is_reshaping, is_backward, shape_of, final_shape, list_length, next_window};
 ghost use Rattle.flat_history.specs.Stands.{reach_of};
-ghost use Rattle.shape_views.specs.Regions.{AreShapesFit};
+ghost use Rattle.course_kept.specs.shape_views_Regions.{AreShapesFit};
 ghost use Rattle.grow_asked.specs.Left.{stripes_in, zeroed_by};
-ghost use Rattle.window_rows.specs.Copies.{IsStripeOf, IsPastStripe};
+ghost use Rattle.course_kept.specs.window_rows_Copies.{IsStripeOf, IsPastStripe};
 ghost use Rattle.course_kept.specs.window_steps_Zeroing.{IsThrough};
 ghost use Rattle.course_kept.specs.Course.{past_stripe};
 ghost use Rattle.course_kept.specs.Laws.{next_stripe};
@@ -15,7 +15,7 @@ use geometry::{is_critical, list_end, stripe_sectors};
 use grow_asked::left::{next_window, stripes_in};
 use grow_asked::shapes::is_backward;
 use md_base::Span;
-use region_mends::safe_updates::roles::{final_in, shape_in};
+use region_mends::{final_in, shape_in};
 use superblocks::Members;
 
 /// How many sectors the list has while the reshape is active.

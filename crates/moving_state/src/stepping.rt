@@ -2,7 +2,7 @@
 
 ghost use Rattle.std.specs.Prelude.{◌≡◌, ◌≤◌, true, IfSome};
 ghost use Rattle.superblocks.specs.Reading.{is_reshaping};
-ghost use Rattle.shape_views.specs.Regions.{AreShapesFit};
+ghost use Rattle.course_kept.specs.shape_views_Regions.{AreShapesFit};
 ghost use Rattle.region_mends.specs.Mends.{mend_stripes};
 ghost use Rattle.course_kept.specs.Course.{IsCourseOf};
 ghost use Rattle.moving_state.specs.Due.{due_between, due_aside, due_of, IsDue};

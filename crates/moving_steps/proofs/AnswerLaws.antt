@@ -14,15 +14,15 @@ use Rattle.flat_history.specs.Legal.{IsRefusedRight}
 use Rattle.flat_history.specs.Losses.{is_unsynced}
 use Rattle.flat_history.specs.Plain.{entries_of}
 use Rattle.flat_history.specs.World.{World}
-use Rattle.views.specs.declared.work.Work.{Work}
-use Rattle.views.specs.Numbers.{is_carried}
-use Rattle.views.specs.Placed.{IsPlaced}
-use Rattle.views.proofs.Fit.{force-disks}
+use Rattle.moving.specs.views_the_Work.{Work}
+use Rattle.moving.specs.views_Numbers.{is_carried}
+use Rattle.moving.specs.views_Placed.{IsPlaced}
+use Rattle.moving.proofs.views_Fit.{force-disks}
 use Rattle.call_entries.proofs.LeftLaws.{keeps-left}
 use Rattle.still_kept.specs.array_kept_Calls.{IsLossBy}
 use Rattle.grow_asked.specs.declared.window.PhasesLeft.{PhasesLeft}
-use Rattle.kept_history.specs.Recorded.{IsCallGoing, entry_of}
-use Rattle.kept_history.specs.Safe.{world_in}
+use Rattle.moving.specs.kept_history_Recorded.{IsCallGoing, entry_of}
+use Rattle.moving.specs.kept_history_Safe.{world_in}
 use Rattle.still_kept.specs.history_calls_Reliable.{IsReliable, AreToldGone}
 use Rattle.still_kept.proofs.history_calls_Quiet.{IsQuiet}
 use Rattle.moving.specs.course_kept_the_Course.{Course}

@@ -13,7 +13,7 @@ pub use Rattle.moving.proofs.moving_state_DueLaws
 pub use Rattle.moving.proofs.moving_state_ReshapeLaws
 pub use Rattle.moving.proofs.running_words_Called
 pub use Rattle.moving.proofs.running_words_Lengths
-pub use Rattle.moving.proofs.running_words_Visible
+pub use Rattle.moving.proofs.running_words_VisibleLaws
 pub use Rattle.still_kept.proofs.Bridges as still_kept_Bridges
 pub use Rattle.still_kept.proofs.Leaving as still_kept_Leaving
 pub use Rattle.still_kept.proofs.Quiet as still_kept_Quiet
@@ -33,3 +33,18 @@ pub use Rattle.still_kept.proofs.reshape_updates_EndedPlan
 pub use Rattle.still_kept.proofs.reshape_updates_NewRoles
 pub use Rattle.still_kept.proofs.reshape_updates_Taken
 mod Told
+pub use Rattle.moving.proofs.kept_history_Entered
+pub use Rattle.moving.proofs.kept_history_Tests
+pub use Rattle.moving.proofs.kept_history_Ledgers
+pub use Rattle.moving.proofs.shape_changes_Without
+pub use Rattle.moving.proofs.shape_changes_PlannedRoles
+pub use Rattle.moving.proofs.shape_views_Stands
+pub use Rattle.moving.proofs.kept_history_Records
+pub use Rattle.moving.proofs.kept_history_Turned
+pub use Rattle.moving.proofs.kept_history_Lengths
+pub use Rattle.moving.proofs.kept_history_Growing
+pub use Rattle.moving.proofs.shape_changes_Steady
+pub use Rattle.moving.proofs.shape_views_Alike
+pub use Rattle.moving.proofs.kept_history_Marks
+pub use Rattle.moving.proofs.shape_views_Headers
+pub use Rattle.moving.proofs.kept_history_Opened

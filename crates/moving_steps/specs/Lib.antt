@@ -28,3 +28,14 @@ pub use Rattle.still_kept.specs.reshape_ends_Finished
 pub use Rattle.still_kept.specs.reshape_updates_Beginning
 pub use Rattle.still_kept.specs.reshape_updates_Ending
 pub use Rattle.still_kept.specs.safe_updates_Unused
+pub use Rattle.moving.specs.shape_ends_Ends
+pub use Rattle.moving.specs.shape_ends_Plans
+pub use Rattle.moving.specs.kept_history_Recorded
+pub use Rattle.moving.specs.kept_history_Safe
+pub use Rattle.moving.specs.shape_changes_Marking
+pub use Rattle.moving.specs.shape_changes_Changing
+pub use Rattle.moving.specs.shape_changes_Safety
+pub use Rattle.moving.specs.shape_changes_Steady
+pub use Rattle.moving.specs.shape_changes_Updates
+pub use Rattle.moving.specs.shape_views_Regions
+pub use Rattle.moving.specs.shape_views_Views

@@ -2,7 +2,7 @@
 
 ghost use Rattle.std.specs.Prelude.{◌≡◌, ◌≢◌, ◌+◌, ◌≤◌, ◌∷◌, [], length};
 ghost use Rattle.still_kept.specs.array_kept_Calls.{IsEntered};
-ghost use Rattle.kept_history.specs.Recorded.{IsCallGoing};
+ghost use Rattle.moving.specs.kept_history_Recorded.{IsCallGoing};
 ghost use Rattle.moving.specs.running_words_Calls.{IsCalled};
 ghost use Rattle.moving_steps.specs.Replies.{IsReplyInReshape};
 

@@ -16,11 +16,11 @@ use Rattle.flat_history.specs.Sound.{FillsRight}
 use Rattle.flat_history.specs.World.{World, opening_list}
 use Rattle.flat_history.proofs.OneShapeGone.{after-gone, gone-or_lost}
 use Rattle.flat_history.proofs.OneShapeLegal.{found-in, one_shape-legal}
-use Rattle.shape_views.specs.Views.{Ledger}
-use Rattle.shape_changes.specs.Steady.{IsSafeOver, AreGoneTold}
-use Rattle.views.specs.declared.work.Work.{Work}
-use Rattle.views.specs.Numbers.{is_carried}
-use Rattle.call_entries.proofs.CallLaws.{GivesNone}
+use Rattle.array_kept.specs.shape_views_Views.{Ledger}
+use Rattle.array_kept.specs.shape_changes_Steady.{IsSafeOver, AreGoneTold}
+use Rattle.array_kept.specs.views_the_Work.{Work}
+use Rattle.array_kept.specs.views_Numbers.{is_carried}
+use Rattle.array_kept.proofs.call_entries_CallLaws.{GivesNone}
 use Rattle.array_kept.specs.Kept.{ledger_now, AreTold, AreFillsRight, IsRecorded, IsCounted, IsSafe}
 use Rattle.array_kept.proofs.LedgerLaws.{told_by}
 use Rattle.kept_history.specs.Recorded.{IsHistoryKept}

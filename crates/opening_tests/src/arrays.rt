@@ -1,8 +1,9 @@
 //! Openings of arrays that real md wrote, of a reshape and of arrays that are made, against values that were worked out by
 //! hand. The device's uuid was computed by Python.
 
-use array_samples::assemble::{CreateSpec, Opened, refusal_of_create};
-use array_samples::{SHAPE, SPEC, bank_of, made, opened, put_all};
+use array_samples::{
+    CreateSpec, Opened, SHAPE, SPEC, bank_of, made, opened, put_all, refusal_of_create,
+};
 use bank::{Bank, MemoryBank, Op};
 use md_base::{Fault, Refusal, Role, Shape};
 use mdadm_images::{

@@ -21,12 +21,12 @@ use Rattle.superblocks.specs.Reads.{has_spare}
 use Rattle.superblocks.specs.Update.{own_in, is_held_by}
 use Rattle.superblocks.specs.Writing.{AreWritable}
 use Rattle.row_io.specs.Rows.{reading_of}
-use Rattle.shape_views.specs.Regions.{AreShapesFit}
+use Rattle.running_steps.specs.shape_views_Regions.{AreShapesFit}
 use Rattle.views.specs.Parts.{Parts}
 use Rattle.views.specs.Rebuilding.{Held}
 use Rattle.running_steps.specs.array_kept_Adopting.{IsAdopted}
 use Rattle.assemble.specs.declared.spec.CreateSpec.{CreateSpec}
-use Rattle.kept_history.proofs.Tests.{or-right}
+use Rattle.running_steps.proofs.kept_history_Tests.{or-right}
 use Rattle.assemble.specs.declared.opening.Opened.{Opened}
 use Rattle.assemble.specs.Opening.{AreOfGiven, AreCounted, IsFound, IsAside}
 use Rattle.assemble.specs.Creating.{IsLastSlot, member_slots, bad_field, create_refusal}

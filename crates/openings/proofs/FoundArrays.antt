@@ -13,7 +13,7 @@ use Rattle.superblocks.specs.Found.{AreInSectors}
 use Rattle.superblocks.specs.Reading.{is_reshaping}
 use Rattle.superblocks.specs.Writing.{AreWritable}
 use Rattle.flat_history.specs.Stands.{verdict}
-use Rattle.shape_views.specs.Regions.{DoWithout}
+use Rattle.running_steps.specs.shape_views_Regions.{DoWithout}
 use Rattle.views.specs.Flushing.{OnlyItsSlotsFail}
 use Rattle.running_steps.specs.array_kept_Adopting.{IsAdopted}
 use Rattle.grow_asked.specs.Left.{phases_of}

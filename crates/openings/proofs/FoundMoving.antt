@@ -21,7 +21,7 @@ use Rattle.row_io.specs.Rows.{reading_of, is_missing, role_without, members_with
 use Rattle.row_io.proofs.Losses.{state_after}
 use Rattle.flat_history.specs.Left.{opened_role}
 use Rattle.flat_history.specs.Stands.{verdict}
-use Rattle.shape_views.specs.Regions.{DoWithout}
+use Rattle.running_steps.specs.shape_views_Regions.{DoWithout}
 use Rattle.views.specs.Placed.{IsPlaced}
 use Rattle.assemble.specs.declared.opening.Opened.{Opened}
 use Rattle.assemble.specs.Opening.{scope_of, array_of, AreGiven, AreOfGiven, AreCounted, AreFlushed, IsFound, IsAside, IsUnfound}

@@ -8,3 +8,9 @@ mod Told
 pub use Rattle.running_steps.proofs.running_replies_Fitting
 pub use Rattle.running_steps.proofs.running_replies_GoneOn
 pub use Rattle.running_steps.proofs.array_kept_ReplyLaws
+pub use Rattle.running_steps.proofs.call_entries_PlainLaws
+pub use Rattle.running_steps.proofs.call_entries_LosingLaws
+pub use Rattle.running_steps.proofs.call_entries_CallLaws
+pub use Rattle.views.proofs.Flushed as views_Flushed
+pub use Rattle.views.proofs.Still as views_Still
+pub use Rattle.running_steps.proofs.kept_history_Turned

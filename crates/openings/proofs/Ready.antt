@@ -14,7 +14,7 @@ use Rattle.views.specs.Placed.{AreWhole}
 use Rattle.running_steps.specs.array_kept_Kept.{scope_in}
 use Rattle.running_steps.specs.array_kept_Adopting.{opener}
 use Rattle.running_steps.proofs.calls_kept_AdoptingLaws.{found-kept}
-use Rattle.kept_history.specs.Safe.{world_in, TakesNone}
+use Rattle.running_steps.specs.kept_history_Safe.{world_in, TakesNone}
 use Rattle.grow_asked.specs.declared.window.PhasesLeft.{PhasesLeft}
 use Rattle.grow_asked.specs.declared.window.Window.{Window}
 use Rattle.running_steps.specs.moving_state_Due.{unsure_in}

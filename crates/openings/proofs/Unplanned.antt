@@ -17,7 +17,7 @@ use Rattle.flat_history.specs.World.{reading_at}
 use Rattle.views.specs.Parts.{Parts}
 use Rattle.running_steps.specs.array_kept_Kept.{scope_in}
 use Rattle.running_steps.specs.array_kept_Adopting.{opener, absent_losses, IsAdopted}
-use Rattle.kept_history.proofs.Opened.{loss_events}
+use Rattle.running_steps.proofs.kept_history_Opened.{loss_events}
 use Rattle.running_steps.specs.running_words_Parts.{RunningParts}
 use Rattle.running_steps.specs.running_words_Calls.{moving_world}
 use Rattle.running_steps.specs.running_words_Plans.{KeepsShape}

@@ -6,7 +6,7 @@ use Rattle.bank.specs.Tape.{contents}
 use Rattle.superblocks.specs.declared.members.Members.{Members}
 use Rattle.superblocks.specs.Reading.{is_reshaping}
 use Rattle.flat_history.specs.Left.{opened_role}
-use Rattle.shape_views.specs.Regions.{DoWithout}
+use Rattle.running_steps.specs.shape_views_Regions.{DoWithout}
 use Rattle.grow_asked.specs.Left.{phases_of}
 use Rattle.running_steps.specs.running_words_Parts.{RunningParts}
 use Rattle.assemble.specs.Opening.{AreGiven, IsFound}

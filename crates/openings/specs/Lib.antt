@@ -8,7 +8,6 @@ pub use Rattle.assemble.specs.Opening as assemble_Opening
 pub use Rattle.assemble.specs.Running as assemble_Running
 pub use Rattle.moving_opens.specs.reshape_openings_Finding
 pub use Rattle.running_steps.specs.course_kept_the_Course
-pub use Rattle.running_steps.specs.growing_Replied
 pub use Rattle.running_steps.specs.moving_laws_Writing
 pub use Rattle.running_steps.specs.region_mends_Left
 pub use Rattle.running_steps.specs.Steps as running_steps_Steps
@@ -24,3 +23,18 @@ pub use Rattle.running_steps.specs.still_laws_Plain
 pub use Rattle.running_steps.specs.array_kept_Adopting
 pub use Rattle.running_steps.specs.array_kept_Calls
 pub use Rattle.running_steps.specs.history_calls_Reliable
+pub use Rattle.running_steps.specs.growing_Planned
+pub use Rattle.running_steps.specs.running_replies_Limits
+pub use Rattle.running_steps.specs.running_words_Visible
+pub use Rattle.views.specs.Moving as views_Moving
+pub use Rattle.views.specs.Rebuilding as views_Rebuilding
+pub use Rattle.views.specs.Placed as views_Placed
+pub use Rattle.running_steps.specs.call_entries_Losing
+pub use Rattle.views.specs.Parts as views_Parts
+pub use Rattle.views.specs.Status as views_Status
+pub use Rattle.views.specs.Lacking as views_Lacking
+pub use Rattle.views.specs.Flushing as views_Flushing
+pub use Rattle.running_steps.specs.kept_history_Safe
+pub use Rattle.running_steps.specs.kept_history_Recorded
+pub use Rattle.running_steps.specs.shape_views_Regions
+pub use Rattle.views.specs.declared.work.Work as views_the_Work

@@ -6,7 +6,7 @@ ghost use Rattle.bank.specs.Given.{NeverFalls};
 ghost use Rattle.superblocks.specs.Reading.{is_reshaping, role_count, holder, role_state};
 ghost use Rattle.row_io.specs.Rows.{reading_of};
 ghost use Rattle.flat_history.specs.Stands.{reach_of};
-ghost use Rattle.shape_views.specs.Regions.{AreShapesFit};
+ghost use Rattle.running_steps.specs.shape_views_Regions.{AreShapesFit};
 ghost use Rattle.views.specs.Flushing.{OnlyItsSlotsFail};
 ghost use Rattle.running_steps.specs.moving_state_Due.{unsure_in};
 ghost use Rattle.running_steps.specs.moving_laws_Ready.{bytes_in};
@@ -18,7 +18,7 @@ use flat_history::Epoch;
 use geometry::unit;
 use grow_asked::{PhasesLeft, Window};
 use md_base::{Fault, Refusal};
-use moving_opens::reshape_openings::{find_window, lose_recovering};
+use moving_opens::{find_window, lose_recovering};
 use pieces::Pieces;
 use running_steps::{
     Course, Moving, Room, enter_all_absent, final_in, found_numbers, list_sectors, room_for,

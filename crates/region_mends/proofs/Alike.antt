@@ -4,8 +4,8 @@ use Rattle.md_base.specs.Shapes.{stripe_sectors}
 use Rattle.sb1.specs.declared.sb.Sb.{Sb}
 use Rattle.superblocks.specs.Reading.{shape_of}
 use Rattle.flat_history.specs.Stands.{shape_for}
-use Rattle.views.specs.Placed.{HaveSameReshape}
-use Rattle.views.proofs.Fit.{for-alike, list-alike}
+use Rattle.region_writes.specs.views_Placed.{HaveSameReshape}
+use Rattle.region_writes.proofs.views_Fit.{for-alike, list-alike}
 use Rattle.region_mends.specs.Mends.{low_end, high_shape, high_stripe, mend_stripes, stripe_behind, first_sector, relied_sector}
 use Rattle.region_writes.proofs.LowRuns.{end-alike}
 pub use Rattle.region_writes.proofs.LowRuns.{low-alike, low-stripes-alike}

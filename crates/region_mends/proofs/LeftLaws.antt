@@ -15,11 +15,11 @@ use Rattle.geometry.proofs.Valid.{bounded}
 use Rattle.superblocks.specs.declared.members.Members.{Members}
 use Rattle.superblocks.specs.Reading.{is_reshaping, is_backward, shape_of, final_shape}
 use Rattle.flat_history.specs.Stands.{shape_at, shape_for}
-use Rattle.shape_views.specs.Regions.{AreShapesFit}
-use Rattle.shape_views.specs.Windows.{moved_past}
-use Rattle.shape_views.proofs.UnderWay.{shape-on}
-use Rattle.views.specs.Moving.{IsMoved}
-use Rattle.views.proofs.Stripes.{stripes-whole}
+use Rattle.region_writes.specs.shape_views_Regions.{AreShapesFit}
+use Rattle.region_writes.specs.shape_views_Windows.{moved_past}
+use Rattle.region_writes.proofs.shape_views_UnderWay.{shape-on}
+use Rattle.region_writes.specs.views_Moving.{IsMoved}
+use Rattle.region_writes.proofs.views_Stripes.{stripes-whole}
 use Rattle.grow_asked.specs.declared.window.Window.{Window}
 use Rattle.grow_asked.specs.declared.window.Window.TheVariants.{Closed, Entered, Unsure}
 use Rattle.region_mends.specs.Mends.{low_shape, high_shape, low_stripes, high_stripe, mend_stripes}

@@ -16,16 +16,16 @@ use Rattle.row_io.specs.Rows.{reading_of, held_slot}
 use Rattle.row_io.proofs.Losses.{holder-of}
 use Rattle.list_io.specs.Full.{AreWholeIn, DataStands, RowStands}
 use Rattle.flat_history.specs.Stands.{shape_for}
-use Rattle.shape_views.specs.Regions.{place_by}
-use Rattle.shape_views.specs.Views.{IsTail}
-use Rattle.shape_views.specs.Windows.{IsShown, AreTailsStanding}
-use Rattle.shape_views.proofs.Stands.{data-at, data-from}
-use Rattle.views.specs.Placed.{IsPlaced}
-use Rattle.views.specs.Moving.{IsMoved}
-use Rattle.views.specs.Lacking.{IsHeldRowKept, DoesWithout, DataStandsAmong, AreOtherRowsKept}
-use Rattle.views.proofs.Fit.{for-alike, list-alike}
-use Rattle.views.proofs.HeldRows.{held-moved}
-use Rattle.views.proofs.MendedParts.{stripe-within}
+use Rattle.region_writes.specs.shape_views_Regions.{place_by}
+use Rattle.region_writes.specs.shape_views_Views.{IsTail}
+use Rattle.region_writes.specs.shape_views_Windows.{IsShown, AreTailsStanding}
+use Rattle.region_writes.proofs.shape_views_Stands.{data-at, data-from}
+use Rattle.region_writes.specs.views_Placed.{IsPlaced}
+use Rattle.region_writes.specs.views_Moving.{IsMoved}
+use Rattle.region_writes.specs.views_Lacking.{IsHeldRowKept, DoesWithout, DataStandsAmong, AreOtherRowsKept}
+use Rattle.region_writes.proofs.views_Fit.{for-alike, list-alike}
+use Rattle.region_writes.proofs.views_HeldRows.{held-moved}
+use Rattle.region_writes.proofs.views_MendedParts.{stripe-within}
 use Rattle.region_writes.specs.region_rows_Stretches.{ListStandsIn, RowsStandIn}
 use Rattle.region_writes.proofs.Tails.{is_listed, listed-is, tailed-is, listed-or-tail, tail-before}
 use Rattle.region_mends.specs.declared.stripes.Stripe.{Stripe}

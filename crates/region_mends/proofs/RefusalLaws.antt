@@ -7,9 +7,9 @@ use Rattle.md_base.specs.declared.places.Shape.{Shape}
 use Rattle.md_base.specs.declared.answers.Refusal.{Refusal}
 use Rattle.superblocks.specs.declared.members.Members.{Members}
 use Rattle.superblocks.specs.Reading.{shape_of, final_shape}
-use Rattle.shape_views.specs.Regions.{DoWithout}
-use Rattle.views.specs.Placed.{IsInForce}
-use Rattle.views.specs.Lacking.{lacking, too_many, DoesWithout, LacksTooMany, AreTooMany, IsUnwritten}
+use Rattle.region_writes.specs.shape_views_Regions.{DoWithout}
+use Rattle.region_writes.specs.views_Placed.{IsInForce}
+use Rattle.region_writes.specs.views_Lacking.{lacking, too_many, DoesWithout, LacksTooMany, AreTooMany, IsUnwritten}
 use Rattle.region_writes.specs.safe_updates_First.{are_too_many, write_refusal}
 use Rattle.region_writes.proofs.safe_updates_RefusingLaws.{write-cause}
 use Rattle.region_mends.specs.Mends.{lacking_or, mend_refusal, IsNotMended}

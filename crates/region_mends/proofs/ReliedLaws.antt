@@ -12,11 +12,11 @@ use Rattle.geometry.proofs.Divisions.{ceiling_zero, next_multiple}
 use Rattle.geometry.proofs.Valid.{bounded}
 use Rattle.superblocks.specs.Reading.{is_reshaping, shape_of, list_length}
 use Rattle.flat_history.specs.Stands.{shape_for}
-use Rattle.shape_views.specs.Regions.{AreShapesFit, place_by}
-use Rattle.shape_views.proofs.Alike.{valid-for, for-both, row-below}
-use Rattle.shape_views.proofs.Stands.{for-still}
-use Rattle.views.specs.Placed.{IsInForce}
-use Rattle.views.proofs.Stripes.{row-in_stripes}
+use Rattle.region_writes.specs.shape_views_Regions.{AreShapesFit, place_by}
+use Rattle.region_writes.proofs.shape_views_Alike.{valid-for, for-both, row-below}
+use Rattle.region_writes.proofs.shape_views_Stands.{for-still}
+use Rattle.region_writes.specs.views_Placed.{IsInForce}
+use Rattle.region_writes.proofs.views_Stripes.{row-in_stripes}
 use Rattle.region_writes.specs.region_rows_Stretches.{relied_rows}
 use Rattle.region_writes.proofs.region_rows_StretchLaws.{relied-below}
 use Rattle.region_mends.specs.declared.stripes.Stripe.{Stripe}

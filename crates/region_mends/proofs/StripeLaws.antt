@@ -8,7 +8,7 @@ use Rattle.md_base.specs.Shapes.{data_disks, stripe_sectors}
 use Rattle.sb1.specs.declared.sb.Sb.{Sb}
 use Rattle.geometry.proofs.Valid.{bounded}
 use Rattle.superblocks.specs.Reading.{list_length}
-use Rattle.shape_views.specs.Regions.{AreShapesFit}
+use Rattle.region_writes.specs.shape_views_Regions.{AreShapesFit}
 use Rattle.region_mends.specs.declared.stripes.Stripe.{Stripe}
 use Rattle.region_mends.specs.Mends.{low_end, low_shape, high_shape, low_stripes, high_stripe, mend_stripes, stripe_behind, relied_sector}
 use Rattle.region_mends.specs.Laws.{IsMendedNext, MendsGoOn}

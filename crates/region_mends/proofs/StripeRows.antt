@@ -12,12 +12,12 @@ use Rattle.layout.proofs.Places.{chunk_some}
 use Rattle.geometry.specs.Geometry.{side, ceiling}
 use Rattle.superblocks.specs.Reading.{is_reshaping, is_backward, final_shape, list_length}
 use Rattle.flat_history.specs.Stands.{shape_for}
-use Rattle.shape_views.specs.Regions.{AreShapesFit, place_by}
-use Rattle.shape_views.specs.Views.{IsTail}
-use Rattle.shape_views.proofs.UnderWay.{shape-on}
-use Rattle.views.specs.Lacking.{IsOfStripe}
-use Rattle.views.proofs.Fit.{force-valid}
-use Rattle.views.proofs.Stripes.{stripes-multiple, row-beyond, row-in_stripes, sector-in_stripes, of_stripe-touched}
+use Rattle.region_writes.specs.shape_views_Regions.{AreShapesFit, place_by}
+use Rattle.region_writes.specs.shape_views_Views.{IsTail}
+use Rattle.region_writes.proofs.shape_views_UnderWay.{shape-on}
+use Rattle.region_writes.specs.views_Lacking.{IsOfStripe}
+use Rattle.region_writes.proofs.views_Fit.{force-valid}
+use Rattle.region_writes.proofs.views_Stripes.{stripes-multiple, row-beyond, row-in_stripes, sector-in_stripes, of_stripe-touched}
 use Rattle.region_writes.proofs.Together.{rows-together, together-shape}
 use Rattle.region_mends.specs.declared.stripes.Stripe.{Stripe}
 use Rattle.region_mends.specs.Mends.{low_end, low_shape, low_stripes, mend_stripes, stripe_behind, first_sector, relied_sector, IsMendRow}

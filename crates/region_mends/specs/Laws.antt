@@ -5,8 +5,8 @@ use Rattle.sb1.specs.declared.sb.Sb.{Sb}
 use Rattle.geometry.specs.Geometry.{ceiling}
 use Rattle.superblocks.specs.Reading.{is_reshaping, is_backward, shape_of, final_shape, list_length}
 use Rattle.flat_history.specs.Stands.{shape_for}
-use Rattle.shape_views.specs.Regions.{AreShapesFit, place_by}
-use Rattle.views.specs.Placed.{IsInForce}
+use Rattle.region_writes.specs.shape_views_Regions.{AreShapesFit, place_by}
+use Rattle.region_writes.specs.views_Placed.{IsInForce}
 use Rattle.region_writes.specs.region_rows_Stretches.{relied_rows}
 use Rattle.region_mends.specs.declared.stripes.Stripe.{Stripe}
 use Rattle.region_mends.specs.Mends.{mend_stripes, stripe_behind, next_mend, first_sector, relied_sector, IsMendRow}

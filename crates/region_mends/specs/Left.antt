@@ -8,9 +8,9 @@ use Rattle.sb1.specs.declared.sb.Sb.{Sb}
 use Rattle.geometry.specs.Geometry.{ceiling, beyond}
 use Rattle.superblocks.specs.declared.members.Members.{Members}
 use Rattle.superblocks.specs.Reading.{is_reshaping, is_backward, shape_of, final_shape}
-use Rattle.shape_views.specs.Regions.{AreShapesFit}
-use Rattle.shape_views.specs.Windows.{moved_past}
-use Rattle.views.specs.Moving.{IsMoved}
+use Rattle.region_writes.specs.shape_views_Regions.{AreShapesFit}
+use Rattle.region_writes.specs.shape_views_Windows.{moved_past}
+use Rattle.region_writes.specs.views_Moving.{IsMoved}
 use Rattle.grow_asked.specs.declared.window.Window.{Window}
 use Rattle.grow_asked.specs.declared.window.Window.TheVariants.{Closed, Entered, Unsure}
 use Rattle.region_mends.specs.Mends.{mend_stripes}

@@ -8,8 +8,8 @@ use Rattle.bank.specs.Tape.{Contents}
 use Rattle.sb1.specs.declared.sb.Sb.{Sb}
 use Rattle.superblocks.specs.declared.members.Members.{Members}
 use Rattle.superblocks.specs.Reading.{shape_of, final_shape, list_length}
-use Rattle.shape_views.specs.Regions.{DoWithout}
-use Rattle.views.specs.Lacking.{DataStandsAmong, IsOfStripe, too_many, AreTooMany, IsNotResynced}
+use Rattle.region_writes.specs.shape_views_Regions.{DoWithout}
+use Rattle.region_writes.specs.views_Lacking.{DataStandsAmong, IsOfStripe, too_many, AreTooMany, IsNotResynced}
 use Rattle.region_writes.specs.safe_updates_First.{are_too_many, write_refusal}
 pub use Rattle.region_writes.specs.Ends.{low_end, low_shape, high_shape, low_stripes, high_stripe, AreEndsStanding}
 use Rattle.region_mends.specs.declared.stripes.Stripe.{Stripe}

@@ -6,5 +6,9 @@ pub mod laws;
 pub mod mending;
 pub mod stripes;
 
-pub use region_writes;
-pub use region_writes::{region_rows, safe_rows, safe_updates};
+pub use region_writes::runs::{runs_of, unwritten_runs};
+pub use region_writes::writing::put_list;
+pub use region_writes::{
+    Filled, fetch, fill, final_in, mend, mended_rows, put, recovering_slot, shape_in, stretch_at,
+    too_many_of, unread_list,
+};

@@ -13,15 +13,15 @@ ghost use Rattle.list_io.specs.Full.{AreWholeIn, RowStands};
 ghost use Rattle.list_io.specs.Writing.{HasFull};
 ghost use Rattle.flat_history.specs.Sound.{OpensFit};
 ghost use Rattle.flat_history.specs.World.{World};
-ghost use Rattle.shape_views.specs.Regions.{AreShapesFit, DoWithout};
-ghost use Rattle.shape_views.specs.Views.{IsTailZero, Ledger};
-ghost use Rattle.shape_views.specs.Windows.{IsShown, AreTailsStanding};
-ghost use Rattle.shape_changes.specs.Steady.{AreUnlost, IsSafeOver, KeepsSafe, AreGoneTold, AreWritesAllowed};
-ghost use Rattle.shape_changes.specs.Safety.{HasRoomLeft, IsRisen};
-ghost use Rattle.views.specs.Placed.{IsPlaced};
-ghost use Rattle.views.specs.Rebuilding.{AreSparesFree};
-ghost use Rattle.views.specs.Moving.{Grows, IsMoved};
-ghost use Rattle.views.specs.Lacking.{HaveFailedSince, DoesWithout, AreOtherRowsKept};
+ghost use Rattle.region_writes.specs.shape_views_Regions.{AreShapesFit, DoWithout};
+ghost use Rattle.region_writes.specs.shape_views_Views.{IsTailZero, Ledger};
+ghost use Rattle.region_writes.specs.shape_views_Windows.{IsShown, AreTailsStanding};
+ghost use Rattle.region_writes.specs.shape_changes_Steady.{AreUnlost, IsSafeOver, KeepsSafe, AreGoneTold, AreWritesAllowed};
+ghost use Rattle.region_writes.specs.shape_changes_Safety.{HasRoomLeft, IsRisen};
+ghost use Rattle.region_writes.specs.views_Placed.{IsPlaced};
+ghost use Rattle.region_writes.specs.views_Rebuilding.{AreSparesFree};
+ghost use Rattle.region_writes.specs.views_Moving.{Grows, IsMoved};
+ghost use Rattle.region_writes.specs.views_Lacking.{HaveFailedSince, DoesWithout, AreOtherRowsKept};
 ghost use Rattle.region_writes.specs.safe_updates_Unused.{IsUnusedKept};
 ghost use Rattle.region_writes.specs.region_rows_Stretches.{ListStandsIn, RowsStandIn};
 ghost use Rattle.region_mends.specs.Mends.{low_shape, mend_stripes, relied_sector, mend_shape, IsMendRow, MendStands, AreEndsStanding, lacking_or, mend_refusal, IsNotMended};
@@ -29,8 +29,7 @@ ghost use Rattle.region_mends.specs.Mends.{low_shape, mend_stripes, relied_secto
 use crate::stripes::stripe_behind;
 use bank::Bank;
 use md_base::Refusal;
-use region_writes::safe_rows::mending::{Mended, mend};
-use region_writes::safe_updates::refusing::{too_many, unwritten};
+use region_writes::{Mended, mend, too_many, unwritten};
 use superblocks::Members;
 
 // The refusal where more roles of a shape in force are missing than it tolerates, of the old one first, or else the one that was found.

@@ -3,13 +3,12 @@
 ghost use Rattle.std.specs.Prelude.{◌≡◌, ◌*◌, ◌^◌, ◌<◌, ◌≤◌, IfSome};
 ghost use Rattle.md_base.specs.Shapes.{stripe_sectors};
 ghost use Rattle.superblocks.specs.Reading.{list_length};
-ghost use Rattle.shape_views.specs.Regions.{AreShapesFit};
+ghost use Rattle.region_writes.specs.shape_views_Regions.{AreShapesFit};
 ghost use Rattle.region_mends.specs.Mends.{low_end, low_shape, high_shape, low_stripes, high_stripe, mend_stripes, stripe_behind, next_mend, relied_sector};
 
 use geometry::{list_end, stripe_sectors};
 use md_base::Shape;
-use region_writes::region_rows::stretches::shape_for;
-use region_writes::safe_updates::roles::{final_in, shape_in};
+use region_writes::{final_in, shape_for, shape_in};
 use superblocks::Members;
 use superblocks::says::is_reshaping;
 

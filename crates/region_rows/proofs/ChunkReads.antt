@@ -16,7 +16,7 @@ use Rattle.superblocks.specs.declared.members.Members.{Members}
 use Rattle.superblocks.specs.Reading.{role_state, rows_held, holder, data_offset_of}
 use Rattle.row_io.specs.Rows.{reading_of, held_slot}
 use Rattle.list_io.specs.Full.{DataStands}
-use Rattle.shape_views.proofs.Stands.{data-at}
+use Rattle.safe_rows.proofs.shape_views_Stands.{data-at}
 use Rattle.region_rows.specs.Stretches.{IsOneRun}
 use Rattle.region_rows.proofs.StretchReads.{plain}
 

@@ -9,11 +9,11 @@ use Rattle.sb1.specs.declared.sb.Sb.{Sb}
 use Rattle.layout.specs.Layout.{place}
 use Rattle.layout.proofs.Places.{chunk_some, place-sector_below}
 use Rattle.superblocks.specs.Reading.{shape_of, final_shape, list_length}
-use Rattle.shape_views.specs.Regions.{AreShapesFit}
-use Rattle.views.specs.Placed.{IsInForce}
-use Rattle.views.proofs.Fit.{force-valid, force-multiple, fit-short}
+use Rattle.safe_rows.specs.shape_views_Regions.{AreShapesFit}
+use Rattle.safe_rows.specs.views_Placed.{IsInForce}
+use Rattle.safe_rows.proofs.views_Fit.{force-valid, force-multiple, fit-short}
 use Rattle.layout.proofs.Limits.{limited}
-use Rattle.views.proofs.Stripes.{stripes-multiple}
+use Rattle.safe_rows.proofs.views_Stripes.{stripes-multiple}
 use Rattle.region_rows.specs.Stretches.{relied_rows}
 
 -- ---- the rows that are relied on

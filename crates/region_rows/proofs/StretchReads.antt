@@ -18,13 +18,13 @@ use Rattle.superblocks.specs.Reading.{data_offset_of}
 use Rattle.row_io.specs.Rows.{reading_of, held_slot}
 use Rattle.list_io.specs.Full.{DataStands, RowStands}
 use Rattle.flat_history.specs.Stands.{shape_for}
-use Rattle.shape_views.specs.Windows.{IsShown}
-use Rattle.shape_views.proofs.Stands.{data-from}
-use Rattle.views.specs.Placed.{AreWhole, IsPlaced, IsInForce}
-use Rattle.views.specs.Moving.{IsMoved}
-use Rattle.views.proofs.Fit.{force-valid}
-use Rattle.views.proofs.HeldRows.{held-moved}
-use Rattle.views.proofs.LackingLists.{row-moved}
+use Rattle.safe_rows.specs.shape_views_Windows.{IsShown}
+use Rattle.safe_rows.proofs.shape_views_Stands.{data-from}
+use Rattle.safe_rows.specs.views_Placed.{AreWhole, IsPlaced, IsInForce}
+use Rattle.safe_rows.specs.views_Moving.{IsMoved}
+use Rattle.safe_rows.proofs.views_Fit.{force-valid}
+use Rattle.safe_rows.proofs.views_HeldRows.{held-moved}
+use Rattle.safe_rows.proofs.views_LackingLists.{row-moved}
 use Rattle.region_rows.specs.Stretches.{ListStandsIn, RowsStandIn, relied_rows}
 use Rattle.region_rows.proofs.StretchLaws.{relied-below}
 

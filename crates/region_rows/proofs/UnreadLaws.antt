@@ -12,7 +12,7 @@ use Rattle.row_io.specs.Rows.{reading_of, is_missing}
 use Rattle.list_io.specs.declared.outcome.Unavailable.{Unavailable}
 use Rattle.list_io.specs.declared.outcome.Unavailable.TheVariants.{TooManyMissing, NotResynced}
 use Rattle.list_io.specs.Calls.{IsAnswer}
-use Rattle.views.specs.Lacking.{lacking, LacksTooMany, IsAskedBeyond, IsUnread}
+use Rattle.safe_rows.specs.views_Lacking.{lacking, LacksTooMany, IsAskedBeyond, IsUnread}
 use Rattle.safe_rows.specs.safe_updates_First.{read_refusal}
 use Rattle.safe_rows.proofs.safe_updates_RefusingLaws.{read-cause, read-none}
 use Rattle.region_rows.specs.Stretches.{IsStretch, relied_rows, IsUnrelied, IsLacked, IsListUnread}

@@ -14,9 +14,9 @@ use Rattle.superblocks.specs.Reading.{list_length, data_offset_of}
 use Rattle.row_io.specs.Rows.{reading_of, is_missing, held_slot}
 use Rattle.list_io.specs.Full.{RowStands}
 use Rattle.flat_history.specs.Stands.{shape_for}
-use Rattle.shape_views.specs.Regions.{place_by}
-use Rattle.shape_views.specs.Windows.{IsShown}
-use Rattle.views.specs.Lacking.{lacking, LacksTooMany}
+use Rattle.safe_rows.specs.shape_views_Regions.{place_by}
+use Rattle.safe_rows.specs.shape_views_Windows.{IsShown}
+use Rattle.safe_rows.specs.views_Lacking.{lacking, LacksTooMany}
 
 -- each sector from this one up to that one is placed by this shape
 abbrev pub IsStretch : Sb → Shape → ℕ → ℕ → Type 0

@@ -9,9 +9,9 @@ ghost use Rattle.row_io.specs.Rows.{present, reading_of};
 ghost use Rattle.list_io.specs.Calls.{AreLost, IsAnswer};
 ghost use Rattle.list_io.specs.Full.{DataStands, RowStands};
 ghost use Rattle.flat_history.specs.Stands.{shape_for};
-ghost use Rattle.shape_views.specs.Regions.{AreShapesFit};
-ghost use Rattle.views.specs.Placed.{AreWhole, IsPlaced, IsInForce};
-ghost use Rattle.views.specs.Lacking.{IsAskedBeyond};
+ghost use Rattle.safe_rows.specs.shape_views_Regions.{AreShapesFit};
+ghost use Rattle.safe_rows.specs.views_Placed.{AreWhole, IsPlaced, IsInForce};
+ghost use Rattle.safe_rows.specs.views_Lacking.{IsAskedBeyond};
 ghost use Rattle.region_rows.specs.Stretches.{IsStretch, IsOneRun};
 
 use crate::stretches::{Stretch, stretch_at};

@@ -10,17 +10,17 @@ ghost use Rattle.superblocks.specs.Reading.{is_clean, list_length, role_count};
 ghost use Rattle.row_io.specs.Rows.{present, members_without};
 ghost use Rattle.flat_history.specs.Stands.{shape_for};
 ghost use Rattle.flat_history.specs.World.{World};
-ghost use Rattle.shape_views.specs.Regions.{AreShapesFit};
-ghost use Rattle.shape_views.specs.Views.{Ledger};
-ghost use Rattle.shape_views.specs.Windows.{IsShown};
-ghost use Rattle.shape_changes.specs.Steady.{AreUnlost, IsSafeOver, KeepsSafe, AreGoneTold, IsUncleanTold};
-ghost use Rattle.shape_changes.specs.Marking.{AreOthersPresent};
-ghost use Rattle.shape_changes.specs.Safety.{HasRoomLeft, IsRisen};
+ghost use Rattle.safe_rows.specs.shape_views_Regions.{AreShapesFit};
+ghost use Rattle.safe_rows.specs.shape_views_Views.{Ledger};
+ghost use Rattle.safe_rows.specs.shape_views_Windows.{IsShown};
+ghost use Rattle.safe_rows.specs.shape_changes_Steady.{AreUnlost, IsSafeOver, KeepsSafe, AreGoneTold, IsUncleanTold};
+ghost use Rattle.safe_rows.specs.shape_changes_Marking.{AreOthersPresent};
+ghost use Rattle.safe_rows.specs.shape_changes_Safety.{HasRoomLeft, IsRisen};
 ghost use Rattle.safe_rows.specs.safe_updates_Unused.{IsUnusedKept};
-ghost use Rattle.views.specs.Placed.{AreWhole, IsPlaced};
-ghost use Rattle.views.specs.Rebuilding.{AreSparesFree};
-ghost use Rattle.views.specs.Moving.{Grows, IsMoved};
-ghost use Rattle.views.specs.Lacking.{HaveFailedSince, DoesWithout, LacksTooMany};
+ghost use Rattle.safe_rows.specs.views_Placed.{AreWhole, IsPlaced};
+ghost use Rattle.safe_rows.specs.views_Rebuilding.{AreSparesFree};
+ghost use Rattle.safe_rows.specs.views_Moving.{Grows, IsMoved};
+ghost use Rattle.safe_rows.specs.views_Lacking.{HaveFailedSince, DoesWithout, LacksTooMany};
 ghost use Rattle.region_rows.specs.Stretches.{IsShapeOf, ListStandsIn, RowsStandIn, IsLacked, IsListUnread};
 
 use crate::chunks::{read_chunk, run_at};
@@ -28,8 +28,7 @@ use crate::stretches::{relied_rows, stretch_at};
 use bank::Bank;
 use md_base::Refusal;
 use safe_rows::fetching::Fetched;
-use safe_rows::safe_updates::naming::name_missing;
-use safe_rows::safe_updates::refusing::{too_many_of, unread};
+use safe_rows::{name_missing, too_many_of, unread};
 use superblocks::Members;
 
 // The refusal where more roles are missing than a shape tolerates that places one of these sectors: the first of them.

@@ -5,5 +5,8 @@ pub mod chunks;
 pub mod fetching;
 pub mod stretches;
 
-pub use safe_rows;
-pub use safe_rows::safe_updates;
+pub use safe_rows::fetching::{Fetched, fetch};
+pub use safe_rows::filling::{Filled, fill, recovering_slot};
+pub use safe_rows::mending::{Mended, mend, mended_rows};
+pub use safe_rows::putting::{Outcome, put, put_rows};
+pub use safe_rows::{final_in, list_length, raise, shape_in, too_many, too_many_of, unwritten};

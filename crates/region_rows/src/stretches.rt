@@ -5,13 +5,13 @@ ghost use Rattle.std.specs.Int.{bit_at};
 ghost use Rattle.md_base.specs.Shapes.{is_valid_shape, is_multiple};
 ghost use Rattle.superblocks.specs.Reading.{shape_of, is_negative, is_zero, is_reshaping, is_backward};
 ghost use Rattle.flat_history.specs.Stands.{shape_for};
-ghost use Rattle.shape_views.specs.Regions.{AreShapesFit};
-ghost use Rattle.views.specs.Placed.{IsInForce};
+ghost use Rattle.safe_rows.specs.shape_views_Regions.{AreShapesFit};
+ghost use Rattle.safe_rows.specs.views_Placed.{IsInForce};
 ghost use Rattle.region_rows.specs.Stretches.{IsStretch, relied_rows};
 
 use geometry::{side, stripe_sectors};
 use md_base::{Shape, Side};
-use safe_rows::safe_updates::roles::{final_in, shape_in};
+use safe_rows::{final_in, shape_in};
 use sb1::{Features, Sb};
 use superblocks::Members;
 use superblocks::says::{is_reshaping, list_length};

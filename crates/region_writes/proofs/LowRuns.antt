@@ -10,10 +10,10 @@ use Rattle.geometry.specs.Geometry.{ceiling}
 use Rattle.geometry.proofs.Divisions.{quotient}
 use Rattle.superblocks.specs.Reading.{shape_of, list_length}
 use Rattle.flat_history.specs.Stands.{shape_for}
-use Rattle.shape_views.specs.Regions.{AreShapesFit, place_by}
-use Rattle.views.specs.Placed.{HaveSameReshape}
-use Rattle.views.proofs.Fit.{for-alike}
-use Rattle.views.proofs.Stripes.{of_stripe-touched}
+use Rattle.region_rows.specs.shape_views_Regions.{AreShapesFit, place_by}
+use Rattle.region_rows.specs.views_Placed.{HaveSameReshape}
+use Rattle.region_rows.proofs.views_Fit.{for-alike}
+use Rattle.region_rows.proofs.views_Stripes.{of_stripe-touched}
 use Rattle.region_writes.specs.declared.runs.Run.{Run}
 use Rattle.region_writes.specs.Runs.{IsRun}
 use Rattle.region_writes.specs.Ends.{low_end, low_shape, low_stripes}

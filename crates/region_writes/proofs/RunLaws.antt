@@ -16,10 +16,10 @@ use Rattle.superblocks.specs.Reading.{shape_of, list_length}
 use Rattle.row_io.specs.Rows.{reading_of, is_missing}
 use Rattle.list_io.specs.Buffers.{IsTouched}
 use Rattle.flat_history.specs.Stands.{covers, shape_for}
-use Rattle.shape_views.specs.Regions.{AreShapesFit, place_by}
-use Rattle.views.specs.Placed.{IsInForce}
-use Rattle.views.specs.Lacking.{DoesWithout, LacksTooMany, IsNotResynced}
-use Rattle.views.proofs.Fit.{force-valid}
+use Rattle.region_rows.specs.shape_views_Regions.{AreShapesFit, place_by}
+use Rattle.region_rows.specs.views_Placed.{IsInForce}
+use Rattle.region_rows.specs.views_Lacking.{DoesWithout, LacksTooMany, IsNotResynced}
+use Rattle.region_rows.proofs.views_Fit.{force-valid}
 use Rattle.region_rows.specs.safe_updates_First.{write_refusal}
 use Rattle.region_rows.proofs.safe_updates_RefusingLaws.{write-cause}
 use Rattle.region_rows.specs.Stretches.{relied_rows}

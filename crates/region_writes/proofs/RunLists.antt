@@ -22,22 +22,22 @@ use Rattle.list_io.specs.Full.{full_sector, AreWholeIn, RowStands}
 use Rattle.list_io.specs.Writing.{IsWritten, AreDataFrom, HasFull}
 use Rattle.list_io.proofs.FullLaws.{full-data, full-same}
 use Rattle.flat_history.specs.Stands.{covers, shape_for}
-use Rattle.shape_views.specs.Regions.{place_by}
-use Rattle.shape_views.specs.Views.{IsTail}
-use Rattle.shape_views.specs.Windows.{IsShown, AreTailsStanding}
-use Rattle.shape_views.proofs.Alike.{valid-for}
-use Rattle.shape_views.proofs.Stands.{data-at, data-from, for-still, final-still, list-still}
-use Rattle.shape_changes.specs.Marking.{AreOthersPresent}
-use Rattle.shape_changes.specs.Steady.{AreWritesAllowed}
-use Rattle.views.specs.Placed.{AreWhole, IsPlaced, IsInForce}
-use Rattle.views.specs.Moving.{IsMoved}
-use Rattle.views.specs.Lacking.{DataStandsAmong, AreOtherRowsKept, AreRowsRead}
-use Rattle.views.proofs.Elements.{contains_or_not}
-use Rattle.views.proofs.Fit.{fit-multiple, force-valid, list-alike, for-alike}
-use Rattle.views.proofs.HeldRows.{held-moved}
-use Rattle.views.proofs.MovedLaws.{moved-then}
-use Rattle.views.proofs.LackingLists.{data-held}
-use Rattle.views.proofs.LackingWrites.{list-in, list-in-is, list-with, list-with-is}
+use Rattle.region_rows.specs.shape_views_Regions.{place_by}
+use Rattle.region_rows.specs.shape_views_Views.{IsTail}
+use Rattle.region_rows.specs.shape_views_Windows.{IsShown, AreTailsStanding}
+use Rattle.region_rows.proofs.shape_views_Alike.{valid-for}
+use Rattle.region_rows.proofs.shape_views_Stands.{data-at, data-from, for-still, final-still, list-still}
+use Rattle.region_rows.specs.shape_changes_Marking.{AreOthersPresent}
+use Rattle.region_rows.specs.shape_changes_Steady.{AreWritesAllowed}
+use Rattle.region_rows.specs.views_Placed.{AreWhole, IsPlaced, IsInForce}
+use Rattle.region_rows.specs.views_Moving.{IsMoved}
+use Rattle.region_rows.specs.views_Lacking.{DataStandsAmong, AreOtherRowsKept, AreRowsRead}
+use Rattle.region_rows.proofs.views_Elements.{contains_or_not}
+use Rattle.region_rows.proofs.views_Fit.{fit-multiple, force-valid, list-alike, for-alike}
+use Rattle.region_rows.proofs.views_HeldRows.{held-moved}
+use Rattle.region_rows.proofs.views_MovedLaws.{moved-then}
+use Rattle.region_rows.proofs.views_LackingLists.{data-held}
+use Rattle.region_rows.proofs.views_LackingWrites.{list-in, list-in-is, list-with, list-with-is}
 use Rattle.region_rows.proofs.StretchLaws.{relied-below}
 use Rattle.region_writes.specs.declared.runs.Run.{Run}
 use Rattle.region_rows.specs.Stretches.{ListStandsIn, RowsStandIn}

@@ -17,13 +17,13 @@ use Rattle.geometry.proofs.Valid.{bounded, bounded_pair, the_unit}
 use Rattle.region_laws.specs.Regions.{IsDirected}
 use Rattle.superblocks.specs.Reading.{is_reshaping, is_backward, shape_of, final_shape, list_length}
 use Rattle.flat_history.specs.Stands.{shape_at, shape_for}
-use Rattle.shape_views.specs.Regions.{AreShapesFit}
-use Rattle.shape_views.proofs.Alike.{valid-for, for-both}
-use Rattle.shape_views.proofs.Stands.{for-still, list-still}
-use Rattle.shape_views.proofs.UnderWay.{under-way, shape-on}
-use Rattle.views.specs.Placed.{IsInForce}
-use Rattle.views.proofs.Fit.{force-multiple}
-use Rattle.views.proofs.Stripes.{stripes-whole}
+use Rattle.region_rows.specs.shape_views_Regions.{AreShapesFit}
+use Rattle.region_rows.proofs.shape_views_Alike.{valid-for, for-both}
+use Rattle.region_rows.proofs.shape_views_Stands.{for-still, list-still}
+use Rattle.region_rows.proofs.shape_views_UnderWay.{under-way, shape-on}
+use Rattle.region_rows.specs.views_Placed.{IsInForce}
+use Rattle.region_rows.proofs.views_Fit.{force-multiple}
+use Rattle.region_rows.proofs.views_Stripes.{stripes-whole}
 use Rattle.region_rows.proofs.StretchLaws.{list-short}
 use Rattle.region_writes.proofs.Together.{together-shape}
 use Rattle.region_writes.specs.Ends.{low_end, low_shape, high_shape, low_stripes, high_stripe}

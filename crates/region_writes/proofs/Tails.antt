@@ -11,11 +11,11 @@ use Rattle.geometry.specs.Geometry.{side}
 use Rattle.superblocks.specs.declared.members.Members.{Members}
 use Rattle.superblocks.specs.Reading.{is_reshaping, is_backward, final_shape, list_length}
 use Rattle.flat_history.specs.Stands.{shape_for}
-use Rattle.shape_views.specs.Regions.{AreShapesFit}
-use Rattle.shape_views.specs.Views.{IsTail}
-use Rattle.shape_views.proofs.UnderWay.{shape-on}
-use Rattle.views.specs.Moving.{IsMoved}
-use Rattle.views.proofs.Fit.{list-alike}
+use Rattle.region_rows.specs.shape_views_Regions.{AreShapesFit}
+use Rattle.region_rows.specs.shape_views_Views.{IsTail}
+use Rattle.region_rows.proofs.shape_views_UnderWay.{shape-on}
+use Rattle.region_rows.specs.views_Moving.{IsMoved}
+use Rattle.region_rows.proofs.views_Fit.{list-alike}
 use Rattle.region_writes.specs.declared.runs.Run.{Run}
 use Rattle.region_writes.specs.Runs.{IsRun}
 use Rattle.region_writes.proofs.RunLaws.{IsRunRow, run-sector}

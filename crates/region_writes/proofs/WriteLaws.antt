@@ -16,13 +16,13 @@ use Rattle.row_io.proofs.Losses.{holder-of}
 use Rattle.list_io.specs.Buffers.{AreStanding}
 use Rattle.list_io.specs.Full.{full_sector}
 use Rattle.list_io.specs.Writing.{StaysRebuilt}
-use Rattle.views.specs.Placed.{HaveSameReshape}
-use Rattle.views.specs.Moving.{IsMoved}
-use Rattle.views.specs.Lacking.{IsHeldRowKept, AreOtherRowsKept, AreRowsWritten}
-use Rattle.views.proofs.Elements.{contains-at}
-use Rattle.views.proofs.Fit.{list-alike, for-alike, alike-force}
-use Rattle.views.proofs.HeldRows.{held-moved}
-use Rattle.views.proofs.LackingWrites.{recovering-before, full-before}
+use Rattle.region_rows.specs.views_Placed.{HaveSameReshape}
+use Rattle.region_rows.specs.views_Moving.{IsMoved}
+use Rattle.region_rows.specs.views_Lacking.{IsHeldRowKept, AreOtherRowsKept, AreRowsWritten}
+use Rattle.region_rows.proofs.views_Elements.{contains-at}
+use Rattle.region_rows.proofs.views_Fit.{list-alike, for-alike, alike-force}
+use Rattle.region_rows.proofs.views_HeldRows.{held-moved}
+use Rattle.region_rows.proofs.views_LackingWrites.{recovering-before, full-before}
 use Rattle.region_rows.specs.Stretches.{relied_rows}
 use Rattle.region_writes.specs.declared.runs.Run.{Run}
 use Rattle.region_writes.specs.Runs.{IsRun, IsRelied, AreRuns, AreFull, StayRebuilt}

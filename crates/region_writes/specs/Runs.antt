@@ -15,9 +15,9 @@ use Rattle.list_io.specs.Buffers.{AreTouched}
 use Rattle.list_io.specs.Full.{RowStands}
 use Rattle.list_io.specs.Writing.{IsWritten, AreDataFrom, IsFull, StaysRebuilt}
 use Rattle.flat_history.specs.Stands.{covers, shape_for}
-use Rattle.shape_views.specs.Regions.{place_by}
-use Rattle.views.specs.Placed.{IsInForce}
-use Rattle.views.specs.Lacking.{DoesWithout, LacksTooMany, IsNotResynced}
+use Rattle.region_rows.specs.shape_views_Regions.{place_by}
+use Rattle.region_rows.specs.views_Placed.{IsInForce}
+use Rattle.region_rows.specs.views_Lacking.{DoesWithout, LacksTooMany, IsNotResynced}
 use Rattle.region_rows.specs.Stretches.{IsStretch, relied_rows}
 use Rattle.region_writes.specs.declared.runs.Run.{Run}
 

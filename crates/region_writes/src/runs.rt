@@ -3,16 +3,15 @@
 ghost use Rattle.std.specs.Prelude.{◌≡◌, ◌⊎◌, ◌-◌, ◌<◌, ◌≤◌, ℕ, length, None, MatchOption, true, false};
 ghost use Rattle.superblocks.specs.Reading.{is_reshaping, list_length, role_count};
 ghost use Rattle.flat_history.specs.Stands.{covers};
-ghost use Rattle.shape_views.specs.Regions.{AreShapesFit};
-ghost use Rattle.views.specs.Placed.{IsInForce};
-ghost use Rattle.views.specs.Lacking.{DoesWithout};
+ghost use Rattle.region_rows.specs.shape_views_Regions.{AreShapesFit};
+ghost use Rattle.region_rows.specs.views_Placed.{IsInForce};
+ghost use Rattle.region_rows.specs.views_Lacking.{DoesWithout};
 ghost use Rattle.region_rows.specs.safe_updates_First.{write_refusal};
 ghost use Rattle.region_writes.specs.Runs.{IsRun, IsRelied, AreRuns, AreRunsTorn, AreRunsUnwritten};
 
 use md_base::{Refusal, Shape, Span};
-use region_rows::safe_updates::refusing::{too_many_of, unwritten};
-use region_rows::safe_updates::roles::list_length;
 use region_rows::stretches::{relied_rows, stretch_at};
+use region_rows::{list_length, too_many_of, unwritten};
 use superblocks::Members;
 
 /// Sectors of the list that are placed by one shape, from one up to another, and whether parity is relied on in each row that they touch.

@@ -23,25 +23,25 @@ use Rattle.superblocks.specs.Outcome.{live_set, AreGivesOfLive, planned_state, p
 use Rattle.superblock_reads.proofs.SaidLists.{role-holder}
 use Rattle.superblock_reads.proofs.SaidSlots.{below-length}
 use Rattle.row_io.specs.Rows.{reading_of}
-use Rattle.shape_views.specs.Regions.{AreShapesFit, ArePlaced}
-use Rattle.shape_views.specs.Views.{Disk, Ledger}
-use Rattle.shape_views.proofs.Alike.{backup-alike}
-use Rattle.shape_changes.specs.Changing.{IsChanged}
-use Rattle.shape_changes.specs.Giving.{IsToldOf}
-use Rattle.shape_changes.specs.Steady.{IsSteady}
-use Rattle.shape_changes.specs.Updates.{planned_view, IsLessView, HasOneHolder}
-use Rattle.shape_changes.proofs.FitKinds.{taking-live}
-use Rattle.shape_changes.proofs.PlannedRoles.{says-shared, count-planned, held-planned, planned-held}
-use Rattle.shape_ends.specs.Ends.{IsToldWith, IsCleared}
-use Rattle.shape_ends.proofs.EndLaws.{begun-alike, cleared-plain}
-use Rattle.shape_ends.proofs.PlanPlaced.{planned-placed}
+use Rattle.safe_updates.specs.shape_views_Regions.{AreShapesFit, ArePlaced}
+use Rattle.safe_updates.specs.shape_views_Views.{Disk, Ledger}
+use Rattle.safe_updates.proofs.shape_views_Alike.{backup-alike}
+use Rattle.safe_updates.specs.shape_changes_Changing.{IsChanged}
+use Rattle.safe_updates.specs.shape_changes_Giving.{IsToldOf}
+use Rattle.safe_updates.specs.shape_changes_Steady.{IsSteady}
+use Rattle.safe_updates.specs.shape_changes_Updates.{planned_view, IsLessView, HasOneHolder}
+use Rattle.safe_updates.proofs.shape_changes_FitKinds.{taking-live}
+use Rattle.safe_updates.proofs.shape_changes_PlannedRoles.{says-shared, count-planned, held-planned, planned-held}
+use Rattle.reshape_updates.specs.shape_ends_Ends.{IsToldWith, IsCleared}
+use Rattle.reshape_updates.proofs.shape_ends_EndLaws.{begun-alike, cleared-plain}
+use Rattle.reshape_updates.proofs.shape_ends_PlanPlaced.{planned-placed}
 use Rattle.reshape_updates.specs.Beginning.{new_role, give_where, new_give, beginning}
 use Rattle.reshape_updates.proofs.BegunPlan.{taking, is-begun, planned-fits-is}
 use Rattle.reshape_updates.proofs.NewRoles.{new-or, new-given}
 use Rattle.reshape_updates.proofs.Taken.{taking-more}
-use Rattle.views.specs.Placed.{IsPlaced}
-use Rattle.views.specs.Rebuilding.{AreSparesFree}
-use Rattle.views.specs.Lacking.{HaveFailedSince}
+use Rattle.safe_updates.specs.views_Placed.{IsPlaced}
+use Rattle.safe_updates.specs.views_Rebuilding.{AreSparesFree}
+use Rattle.safe_updates.specs.views_Lacking.{HaveFailedSince}
 use Rattle.reshape_ends.specs.Begun.{is_idle_spare, IsBackupOf}
 use Rattle.reshape_ends.proofs.Made.{IsRoomy, HasNoRole, IsMade, plan-offset, spare-planned, planned-spare}
 
@@ -173,6 +173,38 @@ module _ (given : Given) (old : Members) (to : Shape) (still : is_reshaping old.
             where
               lost-there : has_slot lost s ≡ true
               lost-there = lost-is s ∙ (λ i. gone i && not (was.1 i))
+
+      -- who is told as a spare was one by the plan
+      pub begun-spares : (s : ℕ) → has_slot told s ≡ true → has_spare (planned_view old (beginning old to) old.lost).spares s ≡ true
+      begun-spares s has = planned-spare old ch old.lost s (less-of s 32 idle-parts.0) kept so
+        where
+          less-of : (a b : ℕ) → nat_lt a b ≡ true → a < b
+          less-of a b h = grind (arith, nat_tests, h)
+
+          or-so : (b : Bool) → b ≡ true → (b || false) ≡ true
+          or-so true is = refl
+          or-so false is = is
+
+          parts : (has_slot lost s ≡ true) × (has_slot idle s ≡ true)
+          parts = both (has_slot lost s) (has_slot idle s) (sym (told-is s) ∙ has)
+
+          kept : has_slot old.lost s ≡ false
+          kept = flip (has_slot old.lost s) (both (has_slot new.lost s) (not (has_slot old.lost s)) (sym (lost-is s) ∙ parts.0)).1
+
+          idle-parts : (nat_lt s 32 ≡ true) × ((has_spare old.spares s && not (nat_lt (new_role old.spares first s) to.disks)) ≡ true)
+          idle-parts = both (nat_lt s 32) (has_spare old.spares s && not (nat_lt (new_role old.spares first s) to.disks)) (sym (idle-is s) ∙ parts.1)
+
+          spare-parts : (has_spare old.spares s ≡ true) × (not (nat_lt (new_role old.spares first s) to.disks) ≡ true)
+          spare-parts = both (has_spare old.spares s) (not (nat_lt (new_role old.spares first s) to.disks)) idle-parts.1
+
+          past : nat_lt (new_role old.spares first s) to.disks ≡ false
+          past = flip (nat_lt (new_role old.spares first s) to.disks) spare-parts.1
+
+          gets : give_of ch.gives s ≡ give_where false (new_role old.spares first s)
+          gets = get_or-tabulate 32 (new_give old.spares first to.disks) s Same (less-of s 32 idle-parts.0) ∙ (λ i. give_where (spare-parts.0 i && past i) (new_role old.spares first s))
+
+          so : is_planned_spare old.spares ch.added (give_of ch.gives s) s ≡ true
+          so = ap (λ (g : Give). is_planned_spare old.spares None g s) gets ∙ or-so (has_spare old.spares s) spare-parts.0
 
       pub begun-failed : HaveFailedSince (planned_view old (beginning old to) old.lost) new told f0 f2
       begun-failed = record { roles = roles-failed; spares_are = spares-failed; told = spares-told }

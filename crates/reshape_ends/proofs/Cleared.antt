@@ -19,19 +19,19 @@ use Rattle.backup.specs.Section.{is_header_of, names_span}
 use Rattle.backup.specs.Written.{cleared_header}
 use Rattle.backup.specs.Storing.{IsHeading, IsHeaded}
 use Rattle.backup.proofs.WrittenLaws.{cleared-none}
-use Rattle.shape_views.specs.Views.{Disk, Ledger}
-use Rattle.shape_views.specs.Windows.{IsSomewhere}
-use Rattle.shape_views.proofs.BackupLaws.{clearing-right}
-use Rattle.shape_changes.specs.Carried.{AreCarried}
-use Rattle.shape_changes.specs.Safety.{HasLiveSlot, HasRoomLeft}
-use Rattle.shape_changes.specs.Steady.{IsSteady, IsSafeNow, AreViewsRight}
-use Rattle.shape_changes.specs.Changing.{AreEitherRight, IsSafeChange}
-use Rattle.shape_changes.proofs.Drawn.{disk-somewhere}
-use Rattle.shape_changes.proofs.HeldKept.{AreNoNewer, held-fewer}
-use Rattle.shape_changes.proofs.Steady.{steady-seen}
-use Rattle.shape_changes.proofs.Stretch.{seen-own}
-use Rattle.shape_ends.specs.Ends.{IsCleared}
-use Rattle.shape_ends.proofs.EndLaws.{still-plain}
+use Rattle.safe_updates.specs.shape_views_Views.{Disk, Ledger}
+use Rattle.safe_updates.specs.shape_views_Windows.{IsSomewhere}
+use Rattle.safe_updates.proofs.shape_views_BackupLaws.{clearing-right}
+use Rattle.safe_updates.specs.shape_changes_Carried.{AreCarried}
+use Rattle.safe_updates.specs.shape_changes_Safety.{HasLiveSlot, HasRoomLeft}
+use Rattle.safe_updates.specs.shape_changes_Steady.{IsSteady, IsSafeNow, AreViewsRight}
+use Rattle.safe_updates.specs.shape_changes_Changing.{AreEitherRight, IsSafeChange}
+use Rattle.safe_updates.proofs.shape_changes_Drawn.{disk-somewhere}
+use Rattle.safe_updates.proofs.shape_changes_HeldKept.{AreNoNewer, held-fewer}
+use Rattle.safe_updates.proofs.shape_changes_Steady.{steady-seen}
+use Rattle.safe_updates.proofs.shape_changes_Stretch.{seen-own}
+use Rattle.reshape_updates.specs.shape_ends_Ends.{IsCleared}
+use Rattle.reshape_updates.proofs.shape_ends_EndLaws.{still-plain}
 
 -- ---- a header is cleared
 

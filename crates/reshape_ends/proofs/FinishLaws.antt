@@ -33,37 +33,37 @@ use Rattle.row_io.proofs.Losses.{holder-of}
 use Rattle.list_io.specs.Full.{RowStands}
 use Rattle.flat_history.specs.Stands.{has_room, shape_for}
 use Rattle.region_laws.specs.Regions.{IsDirected}
-use Rattle.shape_views.specs.Regions.{AreShapesFit, ArePlaced, DoWithout}
-use Rattle.shape_views.specs.Views.{Disk, Ledger, IsTail}
-use Rattle.shape_views.specs.Windows.{IsFlushedRight, ListStands, RowsStand, AreTailsStanding}
-use Rattle.shape_views.specs.Windows.{AreHoldersFlushed as AreAllFlushed}
-use Rattle.shape_views.proofs.Stands.{for-still, list-still}
-use Rattle.shape_views.proofs.UnderWay.{under-way}
-use Rattle.shape_changes.specs.Changing.{IsChanged}
-use Rattle.shape_changes.specs.Marking.{AreOthersPresent}
-use Rattle.shape_changes.specs.Safety.{HasRoomLeft}
-use Rattle.shape_changes.specs.Steady.{AreUnlost, AreGoneTold, IsUncleanTold}
-use Rattle.shape_changes.specs.Updates.{planned_view, IsLessView, HasOneHolder, IsAtEnd}
-use Rattle.shape_changes.proofs.FitKinds.{dropping-live}
-use Rattle.shape_changes.proofs.LessViews.{ends-place}
-use Rattle.shape_changes.proofs.PlannedRoles.{planned-held}
-use Rattle.shape_changes.proofs.Without.{any-holds, any-held}
-use Rattle.shape_ends.specs.Ends.{AreRolesKept, ArePlacesAlike, IsEnded}
-use Rattle.shape_ends.specs.Grown.{IsPastRow}
-use Rattle.shape_ends.specs.Plans.{HasNoneRecovering}
-use Rattle.shape_ends.proofs.EndLaws.{same-placed, places-alike-stand, still-plain}
-use Rattle.shape_ends.proofs.GrownStanding.{grown-stands}
-use Rattle.shape_ends.proofs.PlanRoles.{planned-or}
+use Rattle.safe_updates.specs.shape_views_Regions.{AreShapesFit, ArePlaced, DoWithout}
+use Rattle.safe_updates.specs.shape_views_Views.{Disk, Ledger, IsTail}
+use Rattle.safe_updates.specs.shape_views_Windows.{IsFlushedRight, ListStands, RowsStand, AreTailsStanding}
+use Rattle.safe_updates.specs.shape_views_Windows.{AreHoldersFlushed as AreAllFlushed}
+use Rattle.safe_updates.proofs.shape_views_Stands.{for-still, list-still}
+use Rattle.safe_updates.proofs.shape_views_UnderWay.{under-way}
+use Rattle.safe_updates.specs.shape_changes_Changing.{IsChanged}
+use Rattle.safe_updates.specs.shape_changes_Marking.{AreOthersPresent}
+use Rattle.safe_updates.specs.shape_changes_Safety.{HasRoomLeft}
+use Rattle.safe_updates.specs.shape_changes_Steady.{AreUnlost, AreGoneTold, IsUncleanTold}
+use Rattle.safe_updates.specs.shape_changes_Updates.{planned_view, IsLessView, HasOneHolder, IsAtEnd}
+use Rattle.safe_updates.proofs.shape_changes_FitKinds.{dropping-live}
+use Rattle.safe_updates.proofs.shape_changes_LessViews.{ends-place}
+use Rattle.safe_updates.proofs.shape_changes_PlannedRoles.{planned-held}
+use Rattle.safe_updates.proofs.shape_changes_Without.{any-holds, any-held}
+use Rattle.reshape_updates.specs.shape_ends_Ends.{AreRolesKept, ArePlacesAlike, IsEnded}
+use Rattle.reshape_updates.specs.shape_ends_Grown.{IsPastRow}
+use Rattle.reshape_updates.specs.shape_ends_Plans.{HasNoneRecovering}
+use Rattle.reshape_updates.proofs.shape_ends_EndLaws.{same-placed, places-alike-stand, still-plain}
+use Rattle.reshape_updates.proofs.shape_ends_GrownStanding.{grown-stands}
+use Rattle.reshape_updates.proofs.shape_ends_PlanRoles.{planned-or}
 use Rattle.reshape_updates.specs.Ending.{holds_from, dropped_give, ending}
 use Rattle.reshape_updates.proofs.EndedPlan.{dropped-or, dropping, dropping-one, disks-are, is-ended, plan-placed-is}
-use Rattle.views.specs.Placed.{is_vacant, IsPlaced}
-use Rattle.views.specs.Moving.{IsMoved}
-use Rattle.views.specs.Lacking.{HaveFailedSince}
-use Rattle.views.specs.Rebuilding.{IsFree, AreSparesFree}
-use Rattle.views.proofs.Fit.{list-alike, count-alike}
-use Rattle.views.proofs.HeldRows.{held-moved, without-before}
-use Rattle.views.proofs.LackingLists.{row-moved}
-use Rattle.views.proofs.Still.{tail-still, untailed}
+use Rattle.safe_updates.specs.views_Placed.{is_vacant, IsPlaced}
+use Rattle.safe_updates.specs.views_Moving.{IsMoved}
+use Rattle.safe_updates.specs.views_Lacking.{HaveFailedSince}
+use Rattle.safe_updates.specs.views_Rebuilding.{IsFree, AreSparesFree}
+use Rattle.safe_updates.proofs.views_Fit.{list-alike, count-alike}
+use Rattle.safe_updates.proofs.views_HeldRows.{held-moved, without-before}
+use Rattle.safe_updates.proofs.views_LackingLists.{row-moved}
+use Rattle.safe_updates.proofs.views_Still.{tail-still, untailed}
 use Rattle.safe_updates.proofs.Under.{shown-moved, shown-rows-moved}
 use Rattle.reshape_ends.specs.Finished.{AreLostInEnd, IsFinishable, IsZeroBehind}
 use Rattle.reshape_ends.proofs.Made.{IsRoomy, HasNoRole, IsMade, planned-spare}

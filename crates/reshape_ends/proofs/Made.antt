@@ -26,16 +26,16 @@ use Rattle.superblocks.proofs.PlannedSb.{planned-of}
 use Rattle.superblocks.proofs.ReadAlike.{count-same}
 use Rattle.superblock_reads.proofs.SaidSlots.{has-slots_below}
 use Rattle.row_io.specs.Rows.{reading_of, is_missing, IsHolder}
-use Rattle.shape_views.specs.Regions.{AreShapesFit}
-use Rattle.shape_views.proofs.Alike.{shape-alike}
-use Rattle.shape_changes.specs.Steady.{AreUnlost}
-use Rattle.shape_changes.specs.Updates.{planned_view, IsLessView}
-use Rattle.shape_changes.proofs.PlannedRoles.{count-planned, held-planned}
-use Rattle.views.specs.Placed.{places_of, AreWhole, IsPlaced}
-use Rattle.views.specs.Moving.{IsMoved}
-use Rattle.views.specs.Rebuilding.{AreSparesFree}
-use Rattle.views.proofs.Fit.{reshape-said}
-use Rattle.views.proofs.MarkLaws.{few-planned}
+use Rattle.safe_updates.specs.shape_views_Regions.{AreShapesFit}
+use Rattle.safe_updates.proofs.shape_views_Alike.{shape-alike}
+use Rattle.safe_updates.specs.shape_changes_Steady.{AreUnlost}
+use Rattle.safe_updates.specs.shape_changes_Updates.{planned_view, IsLessView}
+use Rattle.safe_updates.proofs.shape_changes_PlannedRoles.{count-planned, held-planned}
+use Rattle.safe_updates.specs.views_Placed.{places_of, AreWhole, IsPlaced}
+use Rattle.safe_updates.specs.views_Moving.{IsMoved}
+use Rattle.safe_updates.specs.views_Rebuilding.{AreSparesFree}
+use Rattle.safe_updates.proofs.views_Fit.{reshape-said}
+use Rattle.safe_updates.proofs.views_MarkLaws.{few-planned}
 
 -- the slot has room for the rows of a role, behind its superblock
 pub record IsRoomy (given : Given) (m : Members) (slot : ℕ) : Type 0 where

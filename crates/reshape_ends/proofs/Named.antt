@@ -14,8 +14,8 @@ use Rattle.superblocks.specs.Updating.{AreNamed}
 use Rattle.superblocks.specs.Outcome.{planned_state}
 use Rattle.superblocks.proofs.ValidFields.{few-roles}
 use Rattle.superblock_reads.proofs.PlanFits.{length-any, roles-at, entry-is}
-use Rattle.shape_changes.specs.Updates.{HasOneHolder}
-use Rattle.shape_changes.proofs.PlannedRoles.{planned-held}
+use Rattle.safe_updates.specs.shape_changes_Updates.{HasOneHolder}
+use Rattle.safe_updates.proofs.shape_changes_PlannedRoles.{planned-held}
 use Rattle.safe_updates.specs.Named.{AreNamedMissing}
 use Rattle.reshape_ends.proofs.Made.{IsMade, count-then}
 

@@ -12,16 +12,16 @@ use Rattle.superblocks.specs.Reads.{has_spare}
 use Rattle.row_io.specs.Rows.{reading_of}
 use Rattle.list_io.specs.Full.{RowStands}
 use Rattle.flat_history.specs.World.{World}
-use Rattle.shape_views.specs.Regions.{DoWithout}
-use Rattle.shape_views.specs.Views.{Ledger}
-use Rattle.shape_views.specs.Windows.{ListStands, RowsStand, AreTailsStanding}
-use Rattle.shape_changes.specs.Changing.{IsChanged}
-use Rattle.shape_changes.specs.Safety.{HasRoomLeft, IsRisen}
-use Rattle.shape_changes.specs.Steady.{IsSafeOver, AreGoneTold, IsUncleanTold}
-use Rattle.shape_ends.specs.Grown.{IsZeroPast, IsPastRow}
+use Rattle.safe_updates.specs.shape_views_Regions.{DoWithout}
+use Rattle.safe_updates.specs.shape_views_Views.{Ledger}
+use Rattle.safe_updates.specs.shape_views_Windows.{ListStands, RowsStand, AreTailsStanding}
+use Rattle.safe_updates.specs.shape_changes_Changing.{IsChanged}
+use Rattle.safe_updates.specs.shape_changes_Safety.{HasRoomLeft, IsRisen}
+use Rattle.safe_updates.specs.shape_changes_Steady.{IsSafeOver, AreGoneTold, IsUncleanTold}
+use Rattle.reshape_updates.specs.shape_ends_Grown.{IsZeroPast, IsPastRow}
 use Rattle.reshape_updates.specs.Ending.{ending}
-use Rattle.views.specs.Moving.{IsMoved}
-use Rattle.views.specs.Lacking.{AreHoldersFlushed}
+use Rattle.safe_updates.specs.views_Moving.{IsMoved}
+use Rattle.safe_updates.specs.views_Lacking.{AreHoldersFlushed}
 
 -- What the superblocks say once a reshape is over that was active in the former ones: the new shape alone.
 pub record IsOver (former newest : Sb) : Type 0 where

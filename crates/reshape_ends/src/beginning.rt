@@ -13,17 +13,17 @@ ghost use Rattle.superblocks.specs.Reads.{has_spare};
 ghost use Rattle.row_io.specs.Rows.{present, reading_of};
 ghost use Rattle.flat_history.specs.World.{World};
 ghost use Rattle.flat_history.specs.Sound.{OpensFit};
-ghost use Rattle.shape_views.specs.Regions.{ArePlaced};
-ghost use Rattle.shape_views.specs.Views.{Ledger};
-ghost use Rattle.shape_changes.specs.Safety.{HasLiveSlot, HasRoomLeft, IsRisen};
-ghost use Rattle.shape_changes.specs.Steady.{AreUnlost, IsSafeOver, KeepsSafe, AreGoneTold};
-ghost use Rattle.shape_changes.specs.Changing.{IsSafeChange};
-ghost use Rattle.shape_ends.specs.Ends.{IsCleared, IsToldWith};
+ghost use Rattle.safe_updates.specs.shape_views_Regions.{ArePlaced};
+ghost use Rattle.safe_updates.specs.shape_views_Views.{Ledger};
+ghost use Rattle.safe_updates.specs.shape_changes_Safety.{HasLiveSlot, HasRoomLeft, IsRisen};
+ghost use Rattle.safe_updates.specs.shape_changes_Steady.{AreUnlost, IsSafeOver, KeepsSafe, AreGoneTold};
+ghost use Rattle.safe_updates.specs.shape_changes_Changing.{IsSafeChange};
+ghost use Rattle.reshape_updates.specs.shape_ends_Ends.{IsCleared, IsToldWith};
 ghost use Rattle.reshape_updates.specs.Beginning.{HasBegun};
-ghost use Rattle.views.specs.Placed.{IsPlaced};
-ghost use Rattle.views.specs.Moving.{Grows, IsMoved};
-ghost use Rattle.views.specs.Lacking.{HaveFailedSince};
-ghost use Rattle.views.specs.Rebuilding.{AreSparesFree};
+ghost use Rattle.safe_updates.specs.views_Placed.{IsPlaced};
+ghost use Rattle.safe_updates.specs.views_Moving.{Grows, IsMoved};
+ghost use Rattle.safe_updates.specs.views_Lacking.{HaveFailedSince};
+ghost use Rattle.safe_updates.specs.views_Rebuilding.{AreSparesFree};
 ghost use Rattle.safe_updates.specs.Named.{AreNamedMissing};
 ghost use Rattle.reshape_ends.specs.Begun.{begun_plan, is_idle_spare, IsBackupOf, IsUntouched, IsBegunBehind};
 
@@ -118,6 +118,7 @@ pub fn begin<B: Bank>(
         → (slot : ℕ) × (has_spare members.old.spares slot ≡ true) × (has_slot members.new.lost slot ≡ false → role_state (reading_of members.new) role ≡ Whole slot) }
     ensures moved { result.refusal ≡ None → IsMoved (B.given bank.old) (begun_plan members.old to.now) members.new }
     ensures failed { result.refusal ≡ None → HaveFailedSince (begun_plan members.old to.now) members.new result.spares (B.faults_of bank.old) (B.faults_of bank.new) }
+    ensures spares { result.refusal ≡ None → (s : ℕ) → has_slot result.spares s ≡ true → has_spare (begun_plan members.old to.now).spares s ≡ true }
     ensures free { AreSparesFree (B.given bank.old) members.new }
     ensures named { result.refusal ≡ None → HasLiveSlot members.new → AreNamedMissing members.new }
     ensures plain { result.refusal ≡ None → B.tells → (scope : Scope) → scope.backup ≡ Some backup → scope.uuid ≡ uuid.now

@@ -6,4 +6,4 @@ mod finishing;
 
 pub use beginning::{Begun, begin};
 pub use finishing::{Finished, finish};
-pub use safe_updates;
+pub use safe_updates::flushes::holders;

@@ -7,7 +7,7 @@ use Rattle.sb1.specs.declared.sb.Sb.{Sb}
 use Rattle.bank.specs.Given.{Given, sizes}
 use Rattle.parity.specs.Rows.{sector_of}
 use Rattle.superblocks.specs.Reading.{Scope}
-use Rattle.window_rows.specs.Copies.{IsRoomFor}
+use Rattle.moving_state.specs.window_rows_Copies.{IsRoomFor}
 use Rattle.grow_asked.specs.declared.window.Window.{Window}
 use Rattle.grow_asked.specs.declared.window.Window.TheVariants.{Closed, Entered, Unsure}
 

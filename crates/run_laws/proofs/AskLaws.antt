@@ -23,21 +23,21 @@ use Rattle.md_base.specs.declared.answers.Refusal.TheVariants.{PastEnd, SlotFaul
 use Rattle.superblocks.specs.declared.members.Members.{Members}
 use Rattle.superblocks.specs.Reads.{has_spare}
 use Rattle.bank.specs.Given.{Given}
-use Rattle.views.specs.Parts.{Parts}
-use Rattle.call_entries.specs.Losing.{losses_of}
-use Rattle.call_entries.proofs.CallLaws.{losses-are}
-use Rattle.openings.proofs.array_kept_ReplyLaws.{inside-losses, none-inside, none_before}
+use Rattle.running_calls.specs.views_Parts.{Parts}
+use Rattle.running_calls.specs.call_entries_Losing.{losses_of}
+use Rattle.running_calls.proofs.call_entries_CallLaws.{losses-are}
+use Rattle.running_calls.proofs.array_kept_ReplyLaws.{inside-losses, none-inside, none_before}
 use Rattle.flat_history.specs.declared.events.Request.{Request}
 use Rattle.flat_history.specs.declared.events.Request.TheVariants.{Write as AsksWrite, Add as AsksAdd}
-use Rattle.openings.specs.moving_laws_Writing.{IsRepliedBehind, IsWriteReplied}
+use Rattle.running_calls.specs.moving_laws_Writing.{IsRepliedBehind, IsWriteReplied}
 use Rattle.flat_history.specs.Flat.{rest_of_call, next_number, visible_of}
 use Rattle.flat_history.specs.Plain.{entries_of}
 use Rattle.flat_history.specs.OneShape.{IsOfCall, OneShapeFits}
-use Rattle.views.specs.Lacking.{AreTooMany}
+use Rattle.running_calls.specs.views_Lacking.{AreTooMany}
 use Rattle.flat_history.specs.Legal.{MayBeInner}
-use Rattle.openings.specs.running_replies_Replies.{RunningFits, IsAnsweredWith}
-use Rattle.openings.proofs.running_replies_Fitting.{inside-inner, fits-write}
-use Rattle.openings.specs.array_kept_Calls.{OnNoMemory, StandsInside, IsReplied, IsAnswered, IsAddedFor, IsCausedBy, IsEntered, IsBehind, IsRefusedFor}
+use Rattle.running_calls.specs.running_replies_Replies.{RunningFits, IsAnsweredWith}
+use Rattle.running_calls.proofs.running_replies_Fitting.{inside-inner, fits-write}
+use Rattle.running_calls.specs.array_kept_Calls.{OnNoMemory, StandsInside, IsReplied, IsAnswered, IsAddedFor, IsCausedBy, IsEntered, IsBehind, IsRefusedFor}
 use Rattle.script.specs.declared.lines.Line.TheVariants.{Wait, Stop, Halt}
 use Rattle.script.specs.declared.lines.Line.{Line}
 use Rattle.script.specs.Seeds.{seeded, seed_sector}

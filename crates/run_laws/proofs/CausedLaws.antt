@@ -19,16 +19,16 @@ use Rattle.flat_history.specs.declared.events.Event.TheVariants.{Added, Failed, 
 use Rattle.flat_history.specs.declared.events.Request.TheVariants.{Add as AsksAdd, Fail as AsksFail, Visible as AsksVisible, Steps as AsksSteps}
 use Rattle.flat_history.specs.Plain.{entries_of}
 use Rattle.flat_history.specs.World.{World}
-use Rattle.openings.specs.array_kept_Calls.{IsReplied, IsAnswered, IsAddedFor, IsFailedFor, by_answer}
-use Rattle.growing.specs.Planned.{asked_in, IsGrowJudged, IsGrowAnswered, IsGrowPlanned, IsReplied as IsRepliedTo}
-use Rattle.openings.specs.running_Calls.{running_left, IsShownAs}
-use Rattle.openings.specs.running_steps_Steps.{IsStepCount}
-use Rattle.openings.specs.running_words_Calls.{IsStatusFor}
-use Rattle.openings.specs.running_words_Parts.{RunningParts, visible_size, visible_in, left_in, still_left}
-use Rattle.openings.specs.running_words_Still.{IsStillStatus}
-use Rattle.running_words.specs.Visible.{IsVisibleJudged, IsLimitedAs}
-use Rattle.running_replies.specs.Limits.{limit_refusal}
-use Rattle.openings.specs.running_replies_Replies.{IsAnsweredWith}
+use Rattle.running_calls.specs.array_kept_Calls.{IsReplied, IsAnswered, IsAddedFor, IsFailedFor, by_answer}
+use Rattle.running_calls.specs.growing_Planned.{asked_in, IsGrowJudged, IsGrowAnswered, IsGrowPlanned, IsReplied as IsRepliedTo}
+use Rattle.running_calls.specs.running_Calls.{running_left, IsShownAs}
+use Rattle.running_calls.specs.running_steps_Steps.{IsStepCount}
+use Rattle.running_calls.specs.running_words_Calls.{IsStatusFor}
+use Rattle.running_calls.specs.running_words_Parts.{RunningParts, visible_size, visible_in, left_in, still_left}
+use Rattle.running_calls.specs.running_words_Still.{IsStillStatus}
+use Rattle.running_calls.specs.running_words_Visible.{IsVisibleJudged, IsLimitedAs}
+use Rattle.running_calls.specs.running_replies_Limits.{limit_refusal}
+use Rattle.running_calls.specs.running_replies_Replies.{IsAnsweredWith}
 use Rattle.script.specs.declared.lines.Line.{Line}
 use Rattle.script.specs.declared.lines.Line.TheVariants.{Fail, Add, ArraySize, Grow, Step, Detail, Mdstat}
 use Rattle.run_laws.specs.Asked.{IsAskedAt, IsAsked}

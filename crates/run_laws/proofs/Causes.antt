@@ -15,15 +15,15 @@ use Rattle.bank.specs.declared.bank.Operation.{Operation}
 use Rattle.bank.specs.declared.bank.Operation.TheVariants.{Write, Flush}
 use Rattle.bank.specs.Tape.{Contents, contents, value_after}
 use Rattle.bank.proofs.Laws.{value_after-append}
-use Rattle.views.specs.Flushing.{OnlyFlushesAdded}
-use Rattle.views.specs.Moving.{Grows}
-use Rattle.views.proofs.Flushed.{contents-added}
-use Rattle.openings.specs.assemble_Filling.{AreBelow, OnlyBelow}
+use Rattle.running_calls.specs.views_Flushing.{OnlyFlushesAdded}
+use Rattle.running_calls.specs.views_Moving.{Grows}
+use Rattle.running_calls.proofs.views_Flushed.{contents-added}
+use Rattle.running_calls.specs.assemble_Filling.{AreBelow, OnlyBelow}
 use Rattle.superblocks.specs.Reading.{Scope, of_array, is_seen}
 use Rattle.flat_history.specs.Stands.{verdict}
-use Rattle.openings.specs.assemble_the_CreateSpec.{CreateSpec}
-use Rattle.openings.specs.assemble_Opening.{scope_of, array_of, AreGiven, HasFoundNone}
-use Rattle.openings.specs.assemble_Made.{is_used, used_slot, IsUse, IsLateRefusal, HasCreateCause}
+use Rattle.running_calls.specs.assemble_the_CreateSpec.{CreateSpec}
+use Rattle.running_calls.specs.assemble_Opening.{scope_of, array_of, AreGiven, HasFoundNone}
+use Rattle.running_calls.specs.assemble_Made.{is_used, used_slot, IsUse, IsLateRefusal, HasCreateCause}
 
 -- has failed since every earlier moment, and at every later one
 pub faulted-wider : {first before now last : ℕ → ℕ} (slot : ℕ) → NeverFalls first before → NeverFalls before now → NeverFalls now last → IsFaulted slot before now → IsFaulted slot first last

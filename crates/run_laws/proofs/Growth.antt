@@ -20,20 +20,20 @@ use Rattle.flat_history.specs.World.{World, opening_list}
 use Rattle.flat_history.specs.Epochs.{OpensAlike}
 use Rattle.flat_history.specs.Opened.{OpensSound}
 use Rattle.flat_history.specs.Growing.{grown}
-use Rattle.views.specs.Moving.{Grows}
-use Rattle.openings.specs.assemble_Creating.{create_refusal}
-use Rattle.openings.specs.assemble_Opening.{AreGiven, HasFoundNone, array_of, scope_of}
-use Rattle.openings.specs.assemble_Made.{HasCreateCause, used_slot}
-use Rattle.openings.specs.assemble_Running.{OpensWithZeros}
+use Rattle.running_calls.specs.views_Moving.{Grows}
+use Rattle.running_calls.specs.assemble_Creating.{create_refusal}
+use Rattle.running_calls.specs.assemble_Opening.{AreGiven, HasFoundNone, array_of, scope_of}
+use Rattle.running_calls.specs.assemble_Made.{HasCreateCause, used_slot}
+use Rattle.running_calls.specs.assemble_Running.{OpensWithZeros}
 use Rattle.std.specs.List.{All}
 use Rattle.std.proofs.lemmas.List.Elements.{All-head, All-tail}
-use Rattle.openings.specs.assemble_the_CreateSpec.{CreateSpec}
+use Rattle.running_calls.specs.assemble_the_CreateSpec.{CreateSpec}
 use Rattle.script.specs.declared.lines.Line.TheVariants.{Create, Read, Write, Flush, Fail, Add, ArraySize, Grow, Step, Wait, Stop, Halt, Detail, Mdstat, Examine, Assemble}
 use Rattle.flat_history.specs.declared.events.Entry.{Entry}
 use Rattle.flat_history.specs.declared.events.Event.TheVariants.{Shown}
 use Rattle.flat_history.specs.declared.events.Request.{Request}
 use Rattle.flat_history.specs.Plain.{entries_of}
-use Rattle.openings.specs.array_kept_Adopting.{opener}
+use Rattle.running_calls.specs.array_kept_Adopting.{opener}
 use Rattle.flat_history.specs.Flat.{rest_of_call, is_same_call, number_after, length_of}
 use Rattle.script.specs.declared.lines.Line.{Line}
 use Rattle.script.specs.declared.lines.Numbered.{Numbered}
@@ -48,7 +48,7 @@ use Rattle.run_laws.specs.Histories.{History, entry_at}
 use Rattle.run_laws.specs.Examining.{IsExaminedBy, IsUnexamined}
 use Rattle.run_laws.specs.Making.{Setting, held_at, history_world, IsUncreated, IsUnassembled, IsStoredNew, IsStoredAs, BeginsShown}
 use Rattle.run_laws.specs.Replies.{Course, spec_of, FitsLine, IsMadeBy, IsFoundBy, IsRefusedOutside, with_script, gone_on, course_behind, entries_to, course_after, course_of, leaves_more, leaves_more_at, IsReplyAt, IsWaitedAt, IsRepliedAt, IsAnsweredInside, IsAnswer, most_turns, IsWorkedAt, IsWorked, IsRepliedBeside, IsAnswerBeside, IsAnswerIn, mark_reached, mark_shown, IsEnd, IsReplyTo, AreReplies}
-use Rattle.openings.specs.running_replies_Replies.{RunningFits, MayTellBy}
+use Rattle.running_calls.specs.running_replies_Replies.{RunningFits, MayTellBy}
 use Rattle.running_calls.specs.Turning.{may_be_active, may_be_ahead, IsTellable}
 use Rattle.run_laws.specs.States.{IsGrown, AreGrown, IsNamed, IsWaitingAt, IsCutShort, IsBeside}
 use Rattle.run_laws.proofs.Causes.{faulted-wider, given-wider, create-later, assemble-later}

@@ -12,14 +12,14 @@ use Rattle.flat_history.proofs.OneShapeLegal.{opening-grown}
 use Rattle.history_laws.proofs.OneShapeGrowing.{one_shape-later}
 use Rattle.flat_history.proofs.SoundLaws.{fit-before}
 use Rattle.history_laws.proofs.ReshapedLaws.{reshapes-stay-right}
-use Rattle.kept_history.proofs.Turned.{filled-before}
-use Rattle.kept_history.specs.Safe.{IsFilledRight}
-use Rattle.openings.specs.history_calls_Reliable.{IsReliable}
-use Rattle.openings.specs.running_words_Calls.{IsEpochKept}
-use Rattle.openings.specs.still_laws_Plain.{IsPlainEpoch}
-use Rattle.openings.specs.array_kept_Calls.{IsEndOf}
-use Rattle.views.specs.Moving.{Grows}
-use Rattle.views.specs.Parts.{Parts}
+use Rattle.running_calls.proofs.kept_history_Turned.{filled-before}
+use Rattle.running_calls.specs.kept_history_Safe.{IsFilledRight}
+use Rattle.running_calls.specs.history_calls_Reliable.{IsReliable}
+use Rattle.running_calls.specs.running_words_Calls.{IsEpochKept}
+use Rattle.running_calls.specs.still_laws_Plain.{IsPlainEpoch}
+use Rattle.running_calls.specs.array_kept_Calls.{IsEndOf}
+use Rattle.running_calls.specs.views_Moving.{Grows}
+use Rattle.running_calls.specs.views_Parts.{Parts}
 use Rattle.std.specs.Prelude.{Result, Ok, Err, IfOk, IfErr}
 use Rattle.md_base.specs.declared.answers.NoMemory.{NoMemory}
 use Rattle.std.proofs.lemmas.List.{map-append}

@@ -14,8 +14,8 @@ pub mod Turned
 pub mod Worlds
 pub mod Writing
 pub mod Sizes
-pub use Rattle.openings.proofs.running_replies_Fitting
-pub use Rattle.openings.proofs.running_replies_GoneOn
-pub use Rattle.openings.proofs.array_kept_ReplyLaws
-pub use Rattle.running_calls.proofs.Entered as running_calls_Entered
+pub use Rattle.running_calls.proofs.running_replies_Fitting
+pub use Rattle.running_calls.proofs.running_replies_GoneOn
+pub use Rattle.running_calls.proofs.array_kept_ReplyLaws
 pub use Rattle.running_calls.proofs.GoneOn as running_calls_GoneOn
+pub use Rattle.running_calls.proofs.views_Still

@@ -23,16 +23,16 @@ use Rattle.md_base.specs.declared.status.Role.TheVariants.{Whole, Recovering as 
 use Rattle.superblocks.specs.Reading.{Reading, is_whole, role_state}
 use Rattle.superblocks.specs.Reads.{has_spare}
 use Rattle.row_io.specs.Rows.{is_missing}
-use Rattle.openings.specs.array_kept_Adopting.{opener, found_loss, absent_loss, absent_losses}
-use Rattle.openings.specs.array_kept_Calls.{IsRoleLossBy, IsLossBy, AreLossesBy, AreLossesOf, AreSparesFewer, IsSameArray, IsEntered}
-use Rattle.views.specs.Rebuilding.{Held, MayHold}
-use Rattle.views.specs.Placed.{AreStillHeld}
-use Rattle.openings.specs.running_replies_Going.{may_drop, MayBeDropped, MayHoldBehind, AreHeldBehind, AreLossesAlong}
-use Rattle.views.specs.Moving.{Grows}
+use Rattle.running_calls.specs.array_kept_Adopting.{opener, found_loss, absent_loss, absent_losses}
+use Rattle.running_calls.specs.array_kept_Calls.{IsRoleLossBy, IsLossBy, AreLossesBy, AreLossesOf, AreSparesFewer, IsSameArray, IsEntered}
+use Rattle.running_calls.specs.views_Rebuilding.{Held, MayHold}
+use Rattle.running_calls.specs.views_Placed.{AreStillHeld}
+use Rattle.running_calls.specs.running_replies_Going.{may_drop, MayBeDropped, MayHoldBehind, AreHeldBehind, AreLossesAlong}
+use Rattle.running_calls.specs.views_Moving.{Grows}
 use Rattle.run_laws.specs.Histories.{History}
 use Rattle.run_laws.specs.Making.{Setting, world_at, history_world, HeldAtFirst, MissingAtFirst, SpareAtFirst, is_added, IsSpareSince, MayHaveHeld, AreHeldSince}
 use Rattle.run_laws.specs.States.{running_history, IsRoleLossSince, IsRefusalSince, IsLossSince, with_entries, AreLossesBehind, AreLossesSince, AreLossesFrom, AreGrown}
-use Rattle.views.specs.Parts.{Parts}
+use Rattle.running_calls.specs.views_Parts.{Parts}
 use Rattle.run_laws.proofs.AskLaws.{one, entries_of-append}
 use Rattle.run_laws.proofs.Causes.{faulted-wider}
 use Rattle.run_laws.proofs.Growth.{IsWider, world_stays}

@@ -12,8 +12,8 @@ use Rattle.flat_history.specs.OneShape.{is_lost}
 use Rattle.flat_history.specs.Plain.{loses_role}
 use Rattle.flat_history.specs.Sound.{FillsRight}
 use Rattle.flat_history.specs.World.{World, contents_at, reading_at}
-use Rattle.kept_history.specs.Safe.{is_taken_over, KeepsLevel, IsReshapeFit, IsFilledRight}
-use Rattle.openings.specs.running_words_Plans.{turns_shape, KeepsShape}
+use Rattle.running_calls.specs.kept_history_Safe.{is_taken_over, KeepsLevel, IsReshapeFit, IsFilledRight}
+use Rattle.running_calls.specs.running_words_Plans.{turns_shape, KeepsShape}
 use Rattle.run_laws.proofs.PlainReplies.{neither}
 
 -- an event that tells no reshape takes a role's holder away only where it tells that lost

@@ -16,9 +16,9 @@ use Rattle.flat_history.specs.Fits.{IsReadRefused, IsWriteRefused, is_lost_event
 use Rattle.flat_history.specs.Legal.{call_before}
 use Rattle.flat_history.specs.OneShape.{DidOneShapeSteps, EndsIdleSteps, OneShapeAnswers, OneShapeFits}
 use Rattle.flat_history.specs.Transfers.{IsRefusedAt, IsPastEnd}
-use Rattle.openings.specs.running_words_Plans.{turns_shape}
-use Rattle.openings.specs.running_replies_Replies.{may_end_early, EndsRunningSteps, MayEndBy, MayTellBy, DidRunningSteps, RunningAnswers, RunningFits}
-use Rattle.openings.specs.still_laws_Plain.{MayTellPlainly, AreToldPlainly}
+use Rattle.running_calls.specs.running_words_Plans.{turns_shape}
+use Rattle.running_calls.specs.running_replies_Replies.{may_end_early, EndsRunningSteps, MayEndBy, MayTellBy, DidRunningSteps, RunningAnswers, RunningFits}
+use Rattle.running_calls.specs.still_laws_Plain.{MayTellPlainly, AreToldPlainly}
 use Rattle.run_laws.specs.Plain.{asks_to_turn}
 use Rattle.running_calls.specs.Turning.{may_be_active, may_be_ahead}
 

@@ -1,13 +1,14 @@
 -- What the records of a run rule out.
-use Rattle.std.proofs.Common.{◌≡◌, ◌≢◌, inl, inr, ℕ, ◌+◌, ◌<◌, ◌≤◌, ◌==◌, not, Bool, true, false, is_some, get_or, Option, Some, None, List, refl, sym, ◌∙◌, ap, subst, arith}
+use Rattle.std.proofs.Common.{◌≡◌, ◌≢◌, inl, inr, ℕ, ◌+◌, ◌<◌, ◌≤◌, ◌==◌, not, Bool, true, false, is_some, get_or, Option, Some, None, List, [], ◌∷◌, refl, sym, ◌∙◌, ap, subst, arith}
 use Rattle.std.proofs.lemmas.Bool.{cases_lt}
 use Rattle.std.proofs.lemmas.Bool.Decides.{nat_tests}
 use Rattle.std.proofs.lemmas.List.{get_or_past}
-use Rattle.std.specs.Prelude.{if◌then◌else◌, MatchOption}
+use Rattle.std.specs.Prelude.{if◌then◌else◌, MatchOption, IfSome}
+use Rattle.std.specs.List.{list_any}
 use Rattle.md_base.specs.Search.{tabulate}
 use Rattle.md_base.specs.declared.answers.BusyKind.TheVariants.{Reshape}
 use Rattle.md_base.specs.declared.answers.Refusal.{Refusal}
-use Rattle.md_base.specs.declared.answers.Refusal.TheVariants.{Busy}
+use Rattle.md_base.specs.declared.answers.Refusal.TheVariants.{Busy, SlotFault}
 use Rattle.md_base.specs.declared.places.Shape.{Shape}
 use Rattle.md_base.specs.declared.status.Role.{Role}
 use Rattle.md_base.specs.declared.status.Role.TheVariants.{Whole, Missing}
@@ -15,24 +16,30 @@ use Rattle.md_base.specs.declared.wishes.Phase.{Phase}
 use Rattle.md_base.specs.declared.wishes.Wish.{Wish}
 use Rattle.md_base.proofs.Tabulated.{length-tabulate, get_or-tabulate}
 use Rattle.bank.specs.Given.{Given}
-use Rattle.grow_plan.specs.Plans.{phases, phases_steps}
+use Rattle.grow_plan.specs.Plans.{phases, phases_steps, last_shape}
+use Rattle.grow_plan.proofs.Sound.{phases_lead}
 use Rattle.superblocks.specs.declared.members.Members.{Members}
-use Rattle.superblocks.specs.Reading.{is_reshaping, is_backup, shape_of, role_count, role_state, holder}
+use Rattle.superblocks.specs.Reading.{is_reshaping, is_backup, shape_of, final_shape, role_count, role_state, holder}
 use Rattle.superblocks.specs.Reads.{has_spare}
 use Rattle.row_io.specs.Rows.{reading_of}
-use Rattle.views.specs.Placed.{is_vacant}
-use Rattle.views.specs.Status.{left_of}
-use Rattle.views.proofs.Still.{count-still}
+use Rattle.flat_history.specs.declared.events.Event.TheVariants.{Visible, Planned, Refused}
+use Rattle.running_calls.specs.views_Placed.{is_vacant}
+use Rattle.running_calls.specs.views_Status.{left_of}
+use Rattle.running_calls.proofs.views_Still.{count-still}
 use Rattle.grow_asked.specs.Asked.{IsUngrowable, IsFirst, grow_refusal}
 use Rattle.grow_asked.specs.Left.{phases_of}
 use Rattle.grow_asked.proofs.FirstLaws.{judged}
-use Rattle.growing.specs.Planned.{asked_in}
-use Rattle.openings.specs.array_kept_Calls.{IsTaken}
-use Rattle.openings.specs.running_words_Parts.{left_in, still_left}
+use Rattle.running_calls.specs.Going.{is_added, MayBeNewSpare}
+use Rattle.running_calls.specs.growing_Planned.{asked_in}
+use Rattle.running_calls.specs.array_kept_Calls.{IsTaken}
+use Rattle.running_calls.specs.running_Calls.{running_left}
+use Rattle.running_calls.specs.running_words_Parts.{left_in, still_left}
+use Rattle.running_calls.specs.running_words_Plans.{aim_of}
 use Rattle.script.specs.declared.lines.CreateLine.{CreateLine}
+use Rattle.script.specs.declared.lines.Line.TheVariants.{Fail, Add, ArraySize, Grow, Detail, Mdstat}
 use Rattle.run_laws.specs.Caused.{Record}
-use Rattle.run_laws.specs.Records.{IsNewRecord}
-use Rattle.run_laws.specs.Ruled.{NewRolesFail, UnusedSlotsAreFree, PlansAreStepped}
+use Rattle.run_laws.specs.Records.{AreAllAnswered, IsNewRecord, IsLeftByBlock}
+use Rattle.run_laws.specs.Ruled.{NewRolesFail, UnusedSlotsAreFree, PlansAreStepped, PlansArrive, BlocksLeadOn, ToldStepsAreLeft, SparesStay, FreeSlotsStay}
 
 -- ---- an array that was just made
 
@@ -110,3 +117,78 @@ plans-stepped given before now old planned wish left most refusal judged_so leav
     ap (λ (ps : List Phase). phases_steps (shape_of planned.parts.members.newest) planned.parts.members.newest.size ps) leaves.1
     ∙ ap (λ (m : Members). phases_steps (shape_of m.newest) m.newest.size (phases (shape_of old.parts.members.newest) wish)) was.members ∙ sym judged_so.2 in
     omega (arith, rest, same, some)
+
+-- some requests for steps leave the array on its way
+aims : (before now : ℕ → ℕ) (old new : Record) (others : List Record) → AreAllAnswered before now old others new → aim_of new ≡ aim_of old
+aims before now old new [] was = was.kept.aim
+aims before now old new (next ∷ others) (one, more, rest) = aims before now next new others rest ∙ one.kept.aim
+
+-- and where none is left, there is neither a reshape nor a phase ahead
+rests : (before now : ℕ → ℕ) (old new : Record) (others : List Record) → AreAllAnswered before now old others new → running_left new ≡ 0 → (is_reshaping new.parts.members.newest ≡ false) × (phases_of new.ahead ≡ [])
+rests before now old new [] was none = was.rest none
+rests before now old new (next ∷ others) (one, more, rest) none = rests before now next new others rest none
+
+pub plans-arrived : PlansArrive
+plans-arrived given before now old planned new wish left event judged_so leaves (others, waited) none =
+    let was = leaves.0 in
+    let ends = rests before now planned new others waited none in
+    let still : is_reshaping planned.parts.members.newest ≡ false = ap (λ (m : Members). is_reshaping m.newest) was.members ∙ not-reshaping given old wish judged_so.1 in
+    let there : aim_of new ≡ shape_of new.parts.members.newest = λ i. last_shape (if ends.0 i then final_shape new.parts.members.newest else shape_of new.parts.members.newest) (ends.1 i) in
+    let aimed : aim_of planned ≡ last_shape (shape_of planned.parts.members.newest) (phases (shape_of old.parts.members.newest) wish) =
+    λ i. last_shape (if still i then final_shape planned.parts.members.newest else shape_of planned.parts.members.newest) (leaves.1 i) in
+    sym there ∙ aims before now planned new others waited ∙ aimed
+    ∙ ap (λ (m : Members). last_shape (shape_of m.newest) (phases (shape_of old.parts.members.newest) wish)) was.members ∙ phases_lead (shape_of old.parts.members.newest) wish
+
+pub led-on : BlocksLeadOn
+led-on before now old next new event left untold (others, waited) none =
+    let ends = rests before now next new others waited none in
+    let there : aim_of new ≡ shape_of new.parts.members.newest = λ i. last_shape (if ends.0 i then final_shape new.parts.members.newest else shape_of new.parts.members.newest) (ends.1 i) in
+    sym there ∙ aims before now next new others waited ∙ left.way.aim untold
+
+-- ---- what is told
+
+pub told-steps : ToldStepsAreLeft
+told-steps array given left most refusal told is some none =
+    let same : left ≡ running_left array = subst (λ (o : Option ℕ). IfSome o (λ n. n ≡ running_left array)) is told in
+    omega (arith, same, some, none)
+
+-- ---- spares
+
+spare-same : (slot : ℕ) (old new : Members) → new ≡ old → has_spare old.spares slot ≡ true → has_spare new.spares slot ≡ true
+spare-same slot old new same spare = subst (λ (m : Members). has_spare m.spares slot ≡ true) (sym same) spare
+
+pub kept-spares : SparesStay
+kept-spares before now old new (Fail role) (Refused refusal) slot uses is spare = spare-same slot old.parts.members new.parts.members is.1 spare
+kept-spares before now old new (Add added) (Refused (SlotFault failed)) slot uses is spare = absurd uses
+kept-spares before now old new (Add added) (Refused refusal) slot uses is spare = spare-same slot old.parts.members new.parts.members is.1 spare
+kept-spares before now old new (ArraySize limit) (Visible wished count) slot uses is spare = spare-same slot old.parts.members new.parts.members is.0.members spare
+kept-spares before now old new (ArraySize limit) event slot uses is spare = spare-same slot old.parts.members new.parts.members is.0.members spare
+kept-spares before now old new (Grow wish) (Planned left wished) slot uses is spare = spare-same slot old.parts.members new.parts.members is.0.members spare
+kept-spares before now old new (Grow wish) event slot uses is spare = spare-same slot old.parts.members new.parts.members is.0.members spare
+kept-spares before now old new Detail event slot uses is spare = spare-same slot old.parts.members new.parts.members is.0.members spare
+kept-spares before now old new Mdstat event slot uses is spare = spare-same slot old.parts.members new.parts.members is.0.members spare
+kept-spares before now old new (Fail role) event slot uses is spare = absurd uses
+kept-spares before now old new (Add added) event slot uses is spare = absurd uses
+kept-spares before now old new line event slot uses is spare = absurd uses
+
+-- ---- slots
+
+-- what is taken behind a block was taken before it
+module _ (before now : ℕ → ℕ) (old new : Record) (slot : ℕ) (left : IsLeftByBlock before now old new) (untold : list_any (λ e. is_added slot e.event) left.entered.more ≡ false) where
+  of-spare : MayBeNewSpare old.parts.members left.entered.more slot → IsTaken old.parts.backup old.parts.members slot
+  of-spare (inl told) = absurd (let clash : true ≡ false = sym told ∙ untold in cc)
+  of-spare (inr (dropped, role, held)) = inr (role, inl held)
+
+  taken-before : IsTaken new.parts.backup new.parts.members slot → IsTaken old.parts.backup old.parts.members slot
+  taken-before (inl backup) = inl (sym (ap (λ (b : Option ℕ). is_backup b slot) left.same.backup) ∙ backup)
+  taken-before (inr (role, inl held)) = elim (left.held.roles role slot held) [
+    | inl may ↦ inr (role, may)
+    | inr spare ↦ of-spare spare
+  ]
+  taken-before (inr (role, inr spare)) = elim (left.held.spares slot spare) [
+    | inl same ↦ inr (role, inr same)
+    | inr told ↦ of-spare told
+  ]
+
+pub free-slots : FreeSlotsStay
+free-slots before now old new given slot taken left free untold was = free (taken-before before now old new slot left untold was.2)

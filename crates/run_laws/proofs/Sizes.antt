@@ -15,12 +15,12 @@ use Rattle.flat_history.specs.declared.events.Request.{Request}
 use Rattle.flat_history.specs.Flat.{length_after, length_of}
 use Rattle.flat_history.specs.OneShape.{IsOfCall}
 use Rattle.flat_history.specs.Plain.{entries_of}
-use Rattle.call_entries.specs.Losing.{losses_of}
-use Rattle.call_entries.proofs.CallLaws.{losses-are}
-use Rattle.openings.specs.array_kept_Calls.{StandsInside, IsReplied, IsAnswered, IsBehind, IsEntered}
-use Rattle.openings.proofs.array_kept_ReplyLaws.{inside-losses}
-use Rattle.kept_history.specs.Recorded.{entry_of}
-use Rattle.openings.specs.moving_laws_Writing.{IsRepliedBehind, IsWriteReplied}
+use Rattle.running_calls.specs.call_entries_Losing.{losses_of}
+use Rattle.running_calls.proofs.call_entries_CallLaws.{losses-are}
+use Rattle.running_calls.specs.array_kept_Calls.{StandsInside, IsReplied, IsAnswered, IsBehind, IsEntered}
+use Rattle.running_calls.proofs.array_kept_ReplyLaws.{inside-losses}
+use Rattle.running_calls.specs.kept_history_Recorded.{entry_of}
+use Rattle.running_calls.specs.moving_laws_Writing.{IsRepliedBehind, IsWriteReplied}
 use Rattle.run_laws.specs.Asked.{IsSizedBy}
 use Rattle.run_laws.proofs.AskLaws.{one, entries_of-append}
 

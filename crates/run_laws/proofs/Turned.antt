@@ -29,14 +29,14 @@ use Rattle.flat_history.specs.Fits.{IsReadRefused, FitsStop, FitsHalt}
 use Rattle.flat_history.specs.Legal.{MayBeInner, call_before}
 use Rattle.flat_history.specs.Reshaped.{is_planned}
 use Rattle.flat_history.specs.Transfers.{IsRefusedAt, IsPastEnd}
-use Rattle.kept_history.specs.Recorded.{entry_of}
+use Rattle.running_calls.specs.kept_history_Recorded.{entry_of}
 use Rattle.grow_asked.specs.Left.{phases_of}
-use Rattle.openings.specs.moving_laws_Writing.{IsWriteReplied}
-use Rattle.openings.specs.running_words_Parts.{RunningParts}
-use Rattle.openings.specs.running_replies_Going.{is_begin, HasNoReshape, HasRunOn}
-use Rattle.openings.specs.running_replies_Replies.{MayTellBy, RunningAnswers, RunningFits, IsAnsweredWith}
-use Rattle.openings.proofs.running_replies_Fitting.{tell-more}
-use Rattle.openings.specs.running_Calls.{running_left}
+use Rattle.running_calls.specs.moving_laws_Writing.{IsWriteReplied}
+use Rattle.running_calls.specs.running_words_Parts.{RunningParts}
+use Rattle.running_calls.specs.running_replies_Going.{is_begin, HasNoReshape, HasRunOn}
+use Rattle.running_calls.specs.running_replies_Replies.{MayTellBy, RunningAnswers, RunningFits, IsAnsweredWith}
+use Rattle.running_calls.proofs.running_replies_Fitting.{tell-more}
+use Rattle.running_calls.specs.running_Calls.{running_left}
 use Rattle.script.specs.declared.lines.Line.{Line}
 use Rattle.run_laws.specs.Asked.{script_who, IsAskedAt}
 use Rattle.run_laws.specs.Replies.{FitsLine}

@@ -14,13 +14,13 @@ use Rattle.bank.specs.Stretches.{AreWritesWithin}
 use Rattle.bank.proofs.Laws.{contents-earlier}
 use Rattle.bank.proofs.Images.{drawn-image}
 use Rattle.superblocks.specs.Reading.{Reading, reading, role_count, role_state, is_whole, is_reshaping, is_clean}
-use Rattle.shape_views.specs.Regions.{header_in, open_by}
+use Rattle.running_calls.specs.shape_views_Regions.{header_in, open_by}
 use Rattle.grow_asked.specs.declared.window.Window.{Window}
 use Rattle.grow_asked.specs.Left.{grow_left}
-use Rattle.openings.specs.region_mends_Left.{resync_left}
-use Rattle.openings.specs.reshape_openings_Finding.{window_for}
-use Rattle.openings.specs.array_kept_Adopting.{found_work}
-use Rattle.views.specs.Status.{left_of}
+use Rattle.running_calls.specs.region_mends_Left.{resync_left}
+use Rattle.running_calls.specs.reshape_openings_Finding.{window_for}
+use Rattle.running_calls.specs.array_kept_Adopting.{found_work}
+use Rattle.running_calls.specs.views_Status.{left_of}
 use Rattle.superblocks.specs.Found.{AreLikeNewest}
 use Rattle.md_base.specs.declared.status.Status.{Status}
 use Rattle.flat_history.specs.declared.events.Entry.{Entry}
@@ -39,8 +39,8 @@ use Rattle.flat_history.specs.Growing.{grown, EndBy}
 use Rattle.history_laws.proofs.GrowingLaws.{marks-stay-safe}
 use Rattle.flat_history.proofs.SoundLaws.{fit-before, leaves-later, leaves-flushed}
 use Rattle.flat_history.proofs.StretchLaws.{bounds-serve}
-use Rattle.openings.specs.assemble_the_CreateSpec.{CreateSpec}
-use Rattle.openings.specs.running_words_Plans.{KeepsShape}
+use Rattle.running_calls.specs.assemble_the_CreateSpec.{CreateSpec}
+use Rattle.running_calls.specs.running_words_Plans.{KeepsShape}
 use Rattle.run_laws.specs.Making.{IsStored, IsStoredNew, IsStoredAs, HeldAtFirst, MissingAtFirst, SpareAtFirst, found_members, found_left}
 
 -- ---- the opening

@@ -20,13 +20,13 @@ use Rattle.flat_history.specs.declared.events.Epoch.{Epoch}
 use Rattle.flat_history.specs.declared.events.Event.{Event}
 use Rattle.flat_history.proofs.OneShapeLegal.{last-snoc}
 use Rattle.flat_history.specs.Transfers.{last_end_from}
-use Rattle.views.specs.Flushing.{OnlyFlushesAdded}
-use Rattle.views.specs.Moving.{Grows}
-use Rattle.openings.specs.running_words_Parts.{RunningParts}
-use Rattle.openings.specs.array_kept_Calls.{IsEntered}
-use Rattle.openings.specs.assemble_Creating.{create_refusal}
-use Rattle.openings.specs.assemble_Filling.{AreBelow, OnlyBelow}
-use Rattle.openings.specs.assemble_Made.{HasCreateCause}
+use Rattle.running_calls.specs.views_Flushing.{OnlyFlushesAdded}
+use Rattle.running_calls.specs.views_Moving.{Grows}
+use Rattle.running_calls.specs.running_words_Parts.{RunningParts}
+use Rattle.running_calls.specs.array_kept_Calls.{IsEntered}
+use Rattle.running_calls.specs.assemble_Creating.{create_refusal}
+use Rattle.running_calls.specs.assemble_Filling.{AreBelow, OnlyBelow}
+use Rattle.running_calls.specs.assemble_Made.{HasCreateCause}
 use Rattle.script.specs.declared.lines.CreateLine.{CreateLine}
 use Rattle.script.specs.declared.lines.Line.{Line}
 use Rattle.script.specs.declared.lines.Line.TheVariants.{Create}

@@ -6,7 +6,7 @@ use Rattle.flat_history.specs.declared.events.Request.{Request}
 use Rattle.flat_history.specs.declared.events.Request.TheVariants.{Read as AsksRead, Write as AsksWrite, Flush as AsksFlush, Fail as AsksFail}
 use Rattle.flat_history.specs.Flat.{rest_of_call, next_number}
 use Rattle.flat_history.specs.Seen.{reply_places}
-use Rattle.openings.specs.running_replies_Replies.{RunningFits}
+use Rattle.running_calls.specs.running_replies_Replies.{RunningFits}
 use Rattle.running_calls.specs.Entered.{IsOfNewCall}
 use Rattle.running_calls.specs.declared.reply.Reply.{Reply}
 use Rattle.running_calls.specs.declared.reply.Reply.TheVariants.{Done, NoMemory as Short}

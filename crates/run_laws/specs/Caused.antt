@@ -10,11 +10,11 @@ use Rattle.flat_history.specs.declared.events.Event.{Event}
 use Rattle.flat_history.specs.declared.events.Event.TheVariants.{Visible, Planned, Stepped, Refused}
 use Rattle.flat_history.specs.Flat.{visible_of}
 use Rattle.grow_asked.specs.Asked.{grow_refusal}
-use Rattle.openings.specs.array_kept_Calls.{HasRole, IsUnaddable}
-use Rattle.growing.specs.Planned.{asked_in}
-use Rattle.openings.specs.running_Calls.{running_left}
-use Rattle.running_replies.specs.Limits.{limit_refusal}
-use Rattle.openings.specs.running_words_Parts.{RunningParts, visible_size, visible_in}
+use Rattle.running_calls.specs.array_kept_Calls.{HasRole, IsUnaddable}
+use Rattle.running_calls.specs.growing_Planned.{asked_in}
+use Rattle.running_calls.specs.running_Calls.{running_left}
+use Rattle.running_calls.specs.running_replies_Limits.{limit_refusal}
+use Rattle.running_calls.specs.running_words_Parts.{RunningParts, visible_size, visible_in}
 use Rattle.script.specs.declared.lines.Line.{Line}
 use Rattle.script.specs.declared.lines.Line.TheVariants.{Fail, Add, ArraySize, Grow, Step, Detail, Mdstat}
 use Rattle.run_laws.specs.Showing.{TellsArray}

@@ -11,12 +11,12 @@ use Rattle.flat_history.specs.Growing.{EndBy}
 use Rattle.flat_history.specs.Reopened.{OpensAccepted}
 use Rattle.flat_history.specs.Reshaped.{IsReshaped}
 use Rattle.flat_history.specs.Sound.{OpensFit, FillsRight, StaysSound}
-use Rattle.openings.specs.history_calls_Reliable.{IsReliable}
-use Rattle.openings.specs.running_words_Calls.{IsEpochKept}
-use Rattle.openings.specs.running_words_Plans.{KeepsShape}
-use Rattle.openings.specs.still_laws_Plain.{IsPlainEpoch}
-use Rattle.openings.specs.array_kept_Calls.{IsEndOf}
-use Rattle.views.specs.Parts.{Parts}
+use Rattle.running_calls.specs.history_calls_Reliable.{IsReliable}
+use Rattle.running_calls.specs.running_words_Calls.{IsEpochKept}
+use Rattle.running_calls.specs.running_words_Plans.{KeepsShape}
+use Rattle.running_calls.specs.still_laws_Plain.{IsPlainEpoch}
+use Rattle.running_calls.specs.array_kept_Calls.{IsEndOf}
+use Rattle.running_calls.specs.views_Parts.{Parts}
 use Rattle.run_laws.specs.declared.states.State.{State}
 use Rattle.run_laws.specs.declared.states.State.TheVariants.{Idle, Running}
 use Rattle.run_laws.specs.Histories.{History, histories_of}

@@ -16,23 +16,23 @@ use Rattle.row_io.specs.Rows.{reading_of}
 use Rattle.flat_history.specs.declared.events.Entry.{Entry}
 use Rattle.flat_history.specs.declared.events.Event.{Event}
 use Rattle.flat_history.specs.declared.events.Event.TheVariants.{Added, Shown}
-use Rattle.openings.specs.running_replies_Going.{may_drop}
+use Rattle.running_calls.specs.running_replies_Going.{may_drop}
 use Rattle.flat_history.specs.World.{World, contents_at, reading_at, opening_list}
 use Rattle.flat_history.specs.Left.{opened_roles}
 use Rattle.flat_history.specs.Reopened.{OpensAccepted}
 use Rattle.flat_history.specs.Fits.{IsStatusOf}
 use Rattle.flat_history.specs.Legal.{IsAbsentAtFirst}
 use Rattle.flat_history.specs.Plain.{entries_of}
-use Rattle.openings.specs.assemble_the_CreateSpec.{CreateSpec}
-use Rattle.views.specs.Status.{left_of}
-use Rattle.openings.specs.array_kept_Adopting.{opener, absent_losses, found_losses, found_work}
-use Rattle.openings.specs.assemble_Made.{HasCreateCause}
-use Rattle.openings.specs.assemble_Opening.{HasFoundNone}
-use Rattle.shape_views.specs.Regions.{header_in, open_by}
+use Rattle.running_calls.specs.assemble_the_CreateSpec.{CreateSpec}
+use Rattle.running_calls.specs.views_Status.{left_of}
+use Rattle.running_calls.specs.array_kept_Adopting.{opener, absent_losses, found_losses, found_work}
+use Rattle.running_calls.specs.assemble_Made.{HasCreateCause}
+use Rattle.running_calls.specs.assemble_Opening.{HasFoundNone}
+use Rattle.running_calls.specs.shape_views_Regions.{header_in, open_by}
 use Rattle.grow_asked.specs.declared.window.Window.{Window}
 use Rattle.grow_asked.specs.Left.{grow_left}
-use Rattle.openings.specs.region_mends_Left.{resync_left}
-use Rattle.openings.specs.reshape_openings_Finding.{window_for}
+use Rattle.running_calls.specs.region_mends_Left.{resync_left}
+use Rattle.running_calls.specs.reshape_openings_Finding.{window_for}
 use Rattle.run_laws.specs.Histories.{History}
 
 -- What the bank of a run is: whether it tells its contents, what never changes in it, its tape, its backup slot, how many operations

@@ -7,9 +7,9 @@ use Rattle.flat_history.specs.declared.events.Request.TheVariants.{Visible as As
 use Rattle.flat_history.specs.Flat.{length_of}
 use Rattle.flat_history.specs.Legal.{call_before}
 use Rattle.flat_history.specs.OneShape.{OneShapeFits}
-use Rattle.openings.specs.running_words_Plans.{turns_shape}
-use Rattle.openings.specs.still_laws_Plain.{MayTellPlainly, AreToldPlainly}
-use Rattle.openings.specs.running_replies_Replies.{MayTellBy, RunningFits}
+use Rattle.running_calls.specs.running_words_Plans.{turns_shape}
+use Rattle.running_calls.specs.still_laws_Plain.{MayTellPlainly, AreToldPlainly}
+use Rattle.running_calls.specs.running_replies_Replies.{MayTellBy, RunningFits}
 use Rattle.running_calls.specs.Turning.{may_be_active, may_be_ahead}
 
 -- the request asks for a reshape, or to limit what can be read and written

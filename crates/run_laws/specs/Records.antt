@@ -1,10 +1,12 @@
 -- The record of the array that runs, from line to line: what each line leaves of it. No bank is asked.
-use Rattle.std.specs.Prelude.{◌≡◌, ℕ, ◌+◌, ◌≤◌, ◌++◌, true, false, List, [], ◌∷◌, slice_get, Option, None, MatchOption, IsTrue, ⊤}
+use Rattle.std.specs.Prelude.{◌≡◌, ℕ, ◌+◌, ◌≤◌, ◌++◌, true, false, List, [], ◌∷◌, slice_get, Option, None, MatchOption, IfSome, IsTrue}
 use Rattle.std.specs.List.{list_any}
 use Rattle.md_base.specs.Search.{tabulate}
 use Rattle.md_base.specs.declared.answers.Refusal.{Refusal}
+use Rattle.md_base.specs.declared.answers.Refusal.TheVariants.{SlotFault}
 use Rattle.md_base.specs.declared.status.Role.TheVariants.{Whole}
 use Rattle.md_base.specs.declared.status.Status.{Status}
+use Rattle.bank.specs.Given.{IsFaulted}
 use Rattle.grow_plan.specs.Plans.{phases}
 use Rattle.superblocks.specs.declared.members.Members.{Members}
 use Rattle.superblocks.specs.Reading.{is_reshaping, shape_of, final_shape, list_length}
@@ -13,31 +15,35 @@ use Rattle.row_io.specs.Rows.{reading_of}
 use Rattle.flat_history.specs.declared.events.Entry.{Entry}
 use Rattle.flat_history.specs.declared.events.Event.{Event}
 use Rattle.flat_history.specs.declared.events.Event.TheVariants.{Failed, Added, Visible, Planned, Refused}
-use Rattle.flat_history.specs.Flat.{length_of}
+use Rattle.flat_history.specs.Flat.{length_of, limit_of}
+use Rattle.flat_history.specs.Legal.{told_left}
 use Rattle.flat_history.specs.Reshaped.{is_planned}
-use Rattle.views.specs.Lacking.{AreTooMany, HaveRolesFailed}
-use Rattle.views.specs.Placed.{AreStillHeld, is_vacant}
+use Rattle.running_calls.specs.views_Lacking.{AreTooMany, HaveRolesFailed}
+use Rattle.running_calls.specs.views_Placed.{AreStillHeld, is_vacant}
 use Rattle.grow_asked.specs.Left.{phases_of}
-use Rattle.openings.specs.array_kept_Calls.{IsRefusedFor, AreSparesFewer}
-use Rattle.openings.specs.running_Calls.{running_left, IsReadLacked, IsWriteLackedIn, IsShownAs}
-use Rattle.openings.specs.running_replies_Going.{is_begin, AreHeldBehind}
-use Rattle.openings.specs.running_steps_Steps.{IsStepCount}
-use Rattle.openings.specs.running_words_Adding.{AreSparesBut}
-use Rattle.openings.specs.running_words_Parts.{visible_in}
+use Rattle.running_calls.specs.Going.{AreHeldSince, AreLossesSince, GoesItsWay}
+use Rattle.running_calls.specs.Turning.{IsTurningTold}
+use Rattle.running_calls.specs.array_kept_Calls.{IsRefusedFor, AreSparesFewer}
+use Rattle.running_calls.specs.running_Calls.{running_left, IsReadLacked, IsWriteLackedIn, IsShownAs}
+use Rattle.running_calls.specs.running_replies_Going.{is_begin, AreHeldBehind, IsSameEpoch}
+use Rattle.running_calls.specs.running_steps_Steps.{IsStepCount, KeepsItsWay}
+use Rattle.running_calls.specs.running_words_Adding.{AreSparesBut}
+use Rattle.running_calls.specs.running_words_Parts.{visible_in}
 use Rattle.script.specs.declared.lines.CreateLine.{CreateLine}
 use Rattle.script.specs.declared.lines.Line.{Line}
 use Rattle.script.specs.declared.lines.Line.TheVariants.{Create, Read, Write, Flush, Fail, Add, ArraySize, Grow, Step, Wait, Stop, Halt, Detail, Mdstat, Examine, Assemble}
 use Rattle.script.specs.declared.lines.Numbered.{Numbered}
 use Rattle.script.specs.declared.reply.Lane.{Lane}
-use Rattle.script.specs.declared.reply.Lane.TheVariants.{Script as InScript}
+use Rattle.script.specs.declared.reply.Lane.TheVariants.{Script as InScript, Worker as InWorker}
 use Rattle.run_laws.specs.declared.report.Answered.{Answered}
 use Rattle.run_laws.specs.declared.report.Answered.TheVariants.{Inside, Outside as IsOutside}
 use Rattle.run_laws.specs.declared.report.LineReply.{LineReply}
 use Rattle.run_laws.specs.declared.report.Outside.TheVariants.{Created, Assembled, Examined, Refused as IsRefusedOutside}
+use Rattle.run_laws.specs.Blocks.{IsBlockEntered}
 use Rattle.run_laws.specs.Caused.{Record, IsJudgedBy}
 use Rattle.run_laws.specs.Histories.{History, entry_at, is_end}
 use Rattle.run_laws.specs.Making.{Setting}
-use Rattle.run_laws.specs.Replies.{entries_to, leaves_more}
+use Rattle.run_laws.specs.Replies.{Course, longer_of, entries_to, course_after, leaves_more}
 
 -- ---- what a call leaves
 
@@ -86,11 +92,20 @@ pub record IsAsItWas (old new : Record) : Type 0 where
   pub resync : new.parts.work.resync ≡ old.parts.work.resync
   pub rebuilt : new.parts.work.rebuilt ≡ old.parts.work.rebuilt
 
+-- and so are the phases ahead and its limit
+abbrev pub IsUntouched : Record → Record → Type 0
+IsUntouched old new = IsAsItWas old new × (phases_of new.ahead ≡ phases_of old.ahead) × (new.limit ≡ old.limit)
+
+-- as many steps are left as its entries tell, where they tell it, and neither a loss nor a new spare since
+abbrev pub IsLeftTold : Record → Type 0
+IsLeftTold array = IfSome (told_left array.parts.entries) (λ n. n ≡ running_left array)
+
 -- ---- what steps leave
 
 -- A request for steps was answered by the last of these entries: as many were left as they say, and are now. Each role is on a slot that held it, or that was a spare or may be one since; the list has the length that the
--- entries tell; a reshape is active only if one was or is told to have begun, and phases are ahead only if some were; and where no step is left, there is neither.
-pub record AreStepsAnswered (old new : Record) : Type 0 where
+-- entries tell; a reshape is active only if one was or is told to have begun, and phases are ahead only if some were; and where no step is left, there is neither. The array goes where it went; and by the counts of its slots'
+-- faults before and now, as long as nothing turns, a role is lost without a reshape only by a slot that has failed.
+pub record AreStepsAnswered (before now : ℕ → ℕ) (old new : Record) : Type 0 where
   pub inner : List Entry
   pub reply : Entry
   pub is : new.parts.entries ≡ old.parts.entries ++ (inner ++ reply ∷ [])
@@ -100,16 +115,17 @@ pub record AreStepsAnswered (old new : Record) : Type 0 where
   pub active : is_reshaping old.parts.members.newest ≡ false → list_any (λ e. is_begin e.event) (inner ++ reply ∷ []) ≡ false → is_reshaping new.parts.members.newest ≡ false
   pub ahead : phases_of old.ahead ≡ [] → list_any (λ e. is_planned e.event) (inner ++ reply ∷ []) ≡ false → phases_of new.ahead ≡ []
   pub rest : running_left new ≡ 0 → (is_reshaping new.parts.members.newest ≡ false) × (phases_of new.ahead ≡ [])
+  pub kept : KeepsItsWay before now old new
 
 -- One request after another, with these records between them, each of which leaves more to do.
-abbrev pub AreAllAnswered : Record → List Record → Record → Type 0
-AreAllAnswered old [] new = AreStepsAnswered old new
-AreAllAnswered old (next ∷ others) new = (one : AreStepsAnswered old next) × IsTrue (leaves_more one.reply.event) × AreAllAnswered next others new
+abbrev pub AreAllAnswered : (ℕ → ℕ) → (ℕ → ℕ) → Record → List Record → Record → Type 0
+AreAllAnswered before now old [] new = AreStepsAnswered before now old new
+AreAllAnswered before now old (next ∷ others) new = (one : AreStepsAnswered before now old next) × IsTrue (leaves_more one.reply.event) × AreAllAnswered before now next others new
 
 -- ---- what a line leaves
 
 -- What an answered line leaves of an array, by the counts of its slots' faults before and now. A read, a write, a flush and a stop are refused only for missing roles, for what isn't resynced yet or for the backup, by what is left. A fail that is done takes the role out, and an add makes its slot a spare; where either is refused before a slot is touched, nothing is
--- changed. A limit and a plan change nothing else.
+-- changed, and a slot that failed in an add is no spare. A limit and a plan change nothing else, and to show the array changes nothing.
 abbrev pub IsLeftBy : (ℕ → ℕ) → (ℕ → ℕ) → Record → Record → Line → Event → Type 0
 IsLeftBy before now old new (Read at count) event = IsLessByFaults before now old new × IsDoneOrRefused (visible_in old) (at + count) (IsReadLacked old at count) old new event
 IsLeftBy before now old new (Write at count seed) event = IsLessByFaults before now old new × IsDoneOrRefused (visible_in old) (at + count) (IsWriteLackedIn old at count) old new event
@@ -118,18 +134,44 @@ IsLeftBy before now old new Stop event = IsLessByFaults before now old new × Is
 IsLeftBy before now old new (Fail role) (Failed failed) = IsOnlyLess old new × (is_vacant (reading_of new.parts.members) role ≡ true)
 IsLeftBy before now old new (Fail role) event = IsOnlyLess old new × (new.parts.members ≡ old.parts.members)
 IsLeftBy before now old new (Add slot) (Added added) = IsWithSpare before now slot old new × (has_spare new.parts.members.spares slot ≡ true)
+IsLeftBy before now old new (Add slot) (Refused (SlotFault failed)) = IsWithSpare before now slot old new × (has_spare new.parts.members.spares slot ≡ false) × IsFaulted slot before now
+IsLeftBy before now old new (Add slot) (Refused refusal) = IsWithSpare before now slot old new × (new.parts.members ≡ old.parts.members)
 IsLeftBy before now old new (Add slot) event = IsWithSpare before now slot old new
 IsLeftBy before now old new (ArraySize limit) (Visible wished count) = IsAsItWas old new × (phases_of new.ahead ≡ phases_of old.ahead) × (new.limit ≡ limit)
-IsLeftBy before now old new (ArraySize limit) event = IsAsItWas old new × (phases_of new.ahead ≡ phases_of old.ahead) × (new.limit ≡ old.limit)
+IsLeftBy before now old new (ArraySize limit) event = IsUntouched old new
 IsLeftBy before now old new (Grow wish) (Planned left wished) = IsAsItWas old new × (phases_of new.ahead ≡ phases (shape_of old.parts.members.newest) wish) × (new.limit ≡ old.limit)
-IsLeftBy before now old new (Grow wish) event = IsAsItWas old new × (phases_of new.ahead ≡ phases_of old.ahead) × (new.limit ≡ old.limit)
-IsLeftBy before now old new (Step most) event = AreStepsAnswered old new
-IsLeftBy before now old new Wait event = (others : List Record) × AreAllAnswered old others new
+IsLeftBy before now old new (Grow wish) event = IsUntouched old new
+IsLeftBy before now old new (Step most) event = AreStepsAnswered before now old new
+IsLeftBy before now old new Wait event = (others : List Record) × AreAllAnswered before now old others new
+IsLeftBy before now old new Detail event = IsUntouched old new
+IsLeftBy before now old new Mdstat event = IsUntouched old new
 IsLeftBy before now old new line event = IsLessByFaults before now old new
 
 -- so it is of the reply at this place
 abbrev pub IsLeftAt : (ℕ → ℕ) → (ℕ → ℕ) → Record → Record → Line → List Entry → ℕ → Type 0
 IsLeftAt before now old new line entries place = MatchOption (slice_get entries place) ⊥ (λ e. IsLeftBy before now old new line e.event)
+
+-- ---- what a block leaves
+
+-- What the calls of a block leave of an array, by the counts of its slots' faults before and now. What is entered is of new calls of its lanes and its worker, and tells how long the list is then. Each role is on a slot that held it, or that was a spare or may be one since, and so is each spare; each loss has its
+-- cause; and it is the array of the same epoch, with the same backup. A reshape is active only if one was or is told to have begun, phases are ahead only if some were or a plan is told, and neither where by its entries none may be. As many steps are left as its entries tell, and its limit is the one that they tell. It goes its
+-- way: where they tell no plan, to the shape that it went to.
+pub record IsLeftByBlock (before now : ℕ → ℕ) (old new : Record) : Type 0 where
+  pub entered : IsBlockEntered old.parts.entries new.parts.entries
+  pub sized : list_length new.parts.members.newest ≡ length_of (list_length old.parts.members.newest) entered.more
+  pub held : AreHeldSince old.parts.members new.parts.members entered.more
+  pub losses : AreLossesSince old.parts.members before now [] entered.more
+  pub same : IsSameEpoch old new
+  pub active : is_reshaping old.parts.members.newest ≡ false → list_any (λ e. is_begin e.event) entered.more ≡ false → is_reshaping new.parts.members.newest ≡ false
+  pub ahead : phases_of old.ahead ≡ [] → list_any (λ e. is_planned e.event) entered.more ≡ false → phases_of new.ahead ≡ []
+  pub turning : IsTurningTold (is_reshaping new.parts.members.newest) (phases_of new.ahead) new.parts.entries
+  pub left : IsLeftTold new
+  pub limit : limit_of new.parts.entries ≡ new.limit
+  pub way : GoesItsWay old new entered.more
+
+-- so it is of the array that runs
+abbrev pub IsLeftBeside : Setting → Option Record → Option Record → Type 0
+IsLeftBeside setting old new = MatchOption old ⊥ (λ array. MatchOption new ⊥ (λ next. IsLeftByBlock setting.before setting.now array next))
 
 -- ---- at an opening
 
@@ -175,10 +217,10 @@ pub record IsRecordFound (backup : Option ℕ) (history : History) (status : Sta
 
 -- ---- from line to line
 
--- The record behind an entry that answers a line, the last of these: none where it ends the array; or else that of the same backup, with this history, as the line leaves it.
+-- The record behind an entry that answers a line, the last of these: none where it ends the array; or else that of the same backup, with this history and the steps that it tells, as the line leaves it.
 abbrev pub IsNextRecord : Setting → Line → List Entry → Event → Record → Option Record → Type 0
 IsNextRecord setting line entries event old new =
-    MatchOption new (IsTrue (is_end event)) (λ next. (next.parts.backup ≡ setting.backup) × (next.parts.entries ≡ entries) × IsLeftBy setting.before setting.now old next line event)
+    MatchOption new (IsTrue (is_end event)) (λ next. (next.parts.backup ≡ setting.backup) × (next.parts.entries ≡ entries) × IsLeftTold next × IsLeftBy setting.before setting.now old next line event)
 
 -- the record before it judges so
 abbrev pub IsRecordedBy : Setting → Line → List Entry → Option Entry → Record → Option Record → Type 0
@@ -193,15 +235,23 @@ IsRecorded setting histories line (IsOutside (Assembled epoch status)) old new =
 IsRecorded setting histories line (IsOutside (Examined slot found)) old new = new ≡ old
 IsRecorded setting histories line (IsOutside (IsRefusedOutside refusal)) old new = new ≡ old
 
--- so it is of a line of its own; of one of a block nothing is said
-abbrev pub IsRecordedIn : Setting → List History → Lane → Line → Answered → Option Record → Option Record → Type 0
-IsRecordedIn setting histories InScript line what old new = IsRecorded setting histories line what old new
-IsRecordedIn setting histories lane line what old new = ⊤
+-- The record behind the worker's answer, the last of its block: the block's calls leave it, with the history up to the latest of the block's replies. Where no array runs, none does behind the block.
+abbrev pub IsRecordedBehind : Setting → List History → Course → Answered → Option Record → Option Record → Type 0
+IsRecordedBehind setting histories course (Inside epoch at) old new =
+    IsLeftBeside setting old new × MatchOption new ⊥ (λ next. next.parts.entries ≡ longer_of course.block (entries_to histories epoch at))
+IsRecordedBehind setting histories course (IsOutside outside) old new = (old ≡ None) × (new ≡ None)
+
+-- so it is of a line of its own, and of the worker's. The answers of a block are shown when all of it was done: the record moves with the last of them, and a line of lane a or b leaves it as it is.
+abbrev pub IsRecordedIn : Setting → List History → Course → Lane → Line → Answered → Option Record → Option Record → Type 0
+IsRecordedIn setting histories course InScript line what old new = IsRecorded setting histories line what old new
+IsRecordedIn setting histories course InWorker line what old new = IsRecordedBehind setting histories course what old new
+IsRecordedIn setting histories course lane line what old new = new ≡ old
 
 -- There is such a record before the first line and behind each.
-abbrev pub AreRecorded : Setting → List History → Option Record → List Numbered → List LineReply → Option Record → Type 0
-AreRecorded setting histories old [] [] last = last ≡ old
-AreRecorded setting histories old [] (reply ∷ replies) last = ⊥
-AreRecorded setting histories old (line ∷ lines) [] last = ⊥
-AreRecorded setting histories old (line ∷ lines) (reply ∷ replies) last =
-    (next : Option Record) × IsRecordedIn setting histories line.lane line.line reply.what old next × AreRecorded setting histories next lines replies last
+abbrev pub AreRecorded : Setting → List History → Course → Option Record → List Numbered → List LineReply → Option Record → Type 0
+AreRecorded setting histories course old [] [] last = last ≡ old
+AreRecorded setting histories course old [] (reply ∷ replies) last = ⊥
+AreRecorded setting histories course old (line ∷ lines) [] last = ⊥
+AreRecorded setting histories course old (line ∷ lines) (reply ∷ replies) last =
+    (next : Option Record) × IsRecordedIn setting histories course line.lane line.line reply.what old next
+    × AreRecorded setting histories (course_after histories course line.lane line.line reply.what) next lines replies last

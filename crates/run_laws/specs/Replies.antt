@@ -5,7 +5,7 @@ use Rattle.md_base.specs.declared.answers.Refusal.{Refusal}
 use Rattle.md_base.specs.declared.answers.Refusal.TheVariants.{Running, NotRunning}
 use Rattle.md_base.specs.declared.status.Status.{Status}
 use Rattle.md_base.specs.Shapes.{data_disks, has_slot}
-use Rattle.openings.specs.assemble_the_CreateSpec.{CreateSpec}
+use Rattle.running_calls.specs.assemble_the_CreateSpec.{CreateSpec}
 use Rattle.script.specs.declared.lines.CreateLine.{CreateLine}
 use Rattle.flat_history.specs.declared.events.Entry.{Entry}
 use Rattle.flat_history.specs.declared.events.Event.{Event}
@@ -13,14 +13,14 @@ use Rattle.flat_history.specs.declared.events.Event.TheVariants.{Stepped}
 use Rattle.flat_history.specs.declared.events.Request.TheVariants.{Read as AsksRead, Write as AsksWrite, Flush as AsksFlush, Fail as AsksFail, Add as AsksAdd, Visible as AsksVisible, Grow as AsksGrow, Steps as AsksSteps}
 use Rattle.flat_history.specs.Flat.{rest_of_call, number_after, length_of}
 use Rattle.flat_history.specs.Fits.{FitsStop, FitsHalt}
-use Rattle.openings.specs.running_replies_Replies.{RunningFits}
+use Rattle.running_calls.specs.running_replies_Replies.{RunningFits}
 use Rattle.flat_history.specs.World.{opening_list}
 use Rattle.flat_history.specs.Epochs.{OpensAlike}
 use Rattle.flat_history.specs.Opened.{OpensSound}
-use Rattle.openings.specs.assemble_Creating.{create_refusal}
-use Rattle.openings.specs.assemble_Opening.{AreGiven, array_of, scope_of}
-use Rattle.openings.specs.assemble_Made.{used_slot}
-use Rattle.openings.specs.assemble_Running.{OpensWithZeros}
+use Rattle.running_calls.specs.assemble_Creating.{create_refusal}
+use Rattle.running_calls.specs.assemble_Opening.{AreGiven, array_of, scope_of}
+use Rattle.running_calls.specs.assemble_Made.{used_slot}
+use Rattle.running_calls.specs.assemble_Running.{OpensWithZeros}
 use Rattle.script.specs.declared.lines.Line.{Line}
 use Rattle.script.specs.declared.lines.Line.TheVariants.{Create, Read, Write, Flush, Fail, Add, ArraySize, Grow, Step, Wait, Stop, Halt, Detail, Mdstat, Examine, Assemble}
 use Rattle.script.specs.declared.lines.Numbered.{Numbered}

@@ -1,14 +1,26 @@
 -- What the records of a run rule out.
-use Rattle.std.specs.Prelude.{◌≢◌, ℕ, ◌<◌, ◌≤◌, Option, Some}
+use Rattle.std.specs.Prelude.{◌≡◌, ◌≢◌, ℕ, ◌<◌, ◌≤◌, true, false, Option, Some, ⊤}
+use Rattle.std.specs.List.{list_any}
 use Rattle.md_base.specs.declared.answers.Refusal.{Refusal}
-use Rattle.md_base.specs.declared.answers.Refusal.TheVariants.{SlotTaken}
+use Rattle.md_base.specs.declared.answers.Refusal.TheVariants.{SlotTaken, SlotFault}
 use Rattle.md_base.specs.declared.wishes.Wish.{Wish}
 use Rattle.bank.specs.Given.{Given}
+use Rattle.grow_plan.specs.Plans.{target}
+use Rattle.superblocks.specs.Reading.{shape_of}
+use Rattle.superblocks.specs.Reads.{has_spare}
+use Rattle.flat_history.specs.declared.events.Event.{Event}
 use Rattle.flat_history.specs.declared.events.Event.TheVariants.{Planned, Refused}
+use Rattle.flat_history.specs.Legal.{told_left}
+use Rattle.flat_history.specs.Reshaped.{is_planned}
+use Rattle.running_calls.specs.Going.{is_added}
+use Rattle.running_calls.specs.array_kept_Calls.{IsTaken}
+use Rattle.running_calls.specs.running_Calls.{running_left}
+use Rattle.running_calls.specs.running_words_Plans.{aim_of}
 use Rattle.script.specs.declared.lines.CreateLine.{CreateLine}
-use Rattle.script.specs.declared.lines.Line.TheVariants.{Fail, Add, Grow, Step}
+use Rattle.script.specs.declared.lines.Line.{Line}
+use Rattle.script.specs.declared.lines.Line.TheVariants.{Fail, Add, ArraySize, Grow, Step, Wait, Detail, Mdstat}
 use Rattle.run_laws.specs.Caused.{Record, IsJudgedBy}
-use Rattle.run_laws.specs.Records.{IsNewRecord, IsLeftBy}
+use Rattle.run_laws.specs.Records.{IsLeftTold, IsNewRecord, IsLeftBy, IsLeftByBlock}
 
 -- A fail of a role of an array that was just made isn't refused.
 abbrev pub NewRolesFail : Type 0
@@ -22,3 +34,38 @@ UnusedSlotsAreFree = (backup : Option ℕ) (line : CreateLine) (array : Record) 
 abbrev pub PlansAreStepped : Type 0
 PlansAreStepped = (given : Given) (before now : ℕ → ℕ) (old planned : Record) (wish : Wish) (left most : ℕ) (refusal : Refusal) → IsJudgedBy given old (Grow wish) (Planned left wish) → IsLeftBy before now old planned (Grow wish) (Planned left wish)
     → 0 < left → IsJudgedBy given planned (Step most) (Refused refusal) → ⊥
+
+-- Behind a plan a wait that leaves no step leaves the shape that was wished for.
+abbrev pub PlansArrive : Type 0
+PlansArrive = (given : Given) (before now : ℕ → ℕ) (old planned new : Record) (wish : Wish) (left : ℕ) (event : Event) → IsJudgedBy given old (Grow wish) (Planned left wish) → IsLeftBy before now old planned (Grow wish) (Planned left wish)
+    → IsLeftBy before now planned new Wait event → running_left new ≡ 0 → shape_of new.parts.members.newest ≡ target (shape_of old.parts.members.newest) wish
+
+-- Behind a block whose entries tell no plan a wait that leaves no step leaves the shape that the array went to before the block.
+abbrev pub BlocksLeadOn : Type 0
+BlocksLeadOn = (before now : ℕ → ℕ) (old next new : Record) (event : Event) → (left : IsLeftByBlock before now old next) → list_any (λ e. is_planned e.event) left.entered.more ≡ false → IsLeftBy before now next new Wait event → running_left new ≡ 0
+    → shape_of new.parts.members.newest ≡ aim_of old
+
+-- A step isn't refused as having nothing to do where the history tells that some are left.
+abbrev pub ToldStepsAreLeft : Type 0
+ToldStepsAreLeft = (array : Record) (given : Given) (left most : ℕ) (refusal : Refusal) → IsLeftTold array → told_left array.parts.entries ≡ Some left → 0 < left → IsJudgedBy given array (Step most) (Refused refusal) → ⊥
+
+-- the line uses no member: it shows the array, limits it or plans, or it fails a role or adds a slot and is refused before one is touched
+abbrev pub UsesNoMember : Line → Event → Type 0
+UsesNoMember (Fail role) (Refused refusal) = ⊤
+UsesNoMember (Add slot) (Refused (SlotFault failed)) = ⊥
+UsesNoMember (Add slot) (Refused refusal) = ⊤
+UsesNoMember (ArraySize limit) event = ⊤
+UsesNoMember (Grow wish) event = ⊤
+UsesNoMember Detail event = ⊤
+UsesNoMember Mdstat event = ⊤
+UsesNoMember line event = ⊥
+
+-- A spare stays one by such a line.
+abbrev pub SparesStay : Type 0
+SparesStay = (before now : ℕ → ℕ) (old new : Record) (line : Line) (event : Event) (slot : ℕ) → UsesNoMember line event → IsLeftBy before now old new line event → has_spare old.parts.members.spares slot ≡ true
+    → has_spare new.parts.members.spares slot ≡ true
+
+-- A slot that isn't taken before a block, and that none of the block's entries tells added, isn't taken behind it: an add of it isn't refused so.
+abbrev pub FreeSlotsStay : Type 0
+FreeSlotsStay = (before now : ℕ → ℕ) (old new : Record) (given : Given) (slot taken : ℕ) → (left : IsLeftByBlock before now old new) → (IsTaken old.parts.backup old.parts.members slot → ⊥) → list_any (λ e. is_added slot e.event) left.entered.more ≡ false
+    → IsJudgedBy given new (Add slot) (Refused (SlotTaken taken)) → ⊥

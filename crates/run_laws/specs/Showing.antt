@@ -4,8 +4,8 @@ use Rattle.flat_history.specs.declared.events.Entry.{Entry}
 use Rattle.flat_history.specs.declared.events.Event.{Event}
 use Rattle.flat_history.specs.declared.events.Event.TheVariants.{Shown}
 use Rattle.flat_history.specs.Flat.{visible_of}
-use Rattle.openings.specs.running_words_Parts.{RunningParts}
-use Rattle.openings.specs.running_Calls.{IsShownAs}
+use Rattle.running_calls.specs.running_words_Parts.{RunningParts}
+use Rattle.running_calls.specs.running_Calls.{IsShownAs}
 
 -- the event tells a list of so many sectors, how many of them can be read and written by the entries before it, at most 16 roles and at most 32 spares
 abbrev pub IsShown : ℕ → List Entry → Event → Type 0

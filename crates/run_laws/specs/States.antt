@@ -11,11 +11,11 @@ use Rattle.flat_history.specs.declared.events.Event.TheVariants.{Lost, SpareLost
 use Rattle.flat_history.specs.declared.events.LostCause.{LostCause}
 use Rattle.flat_history.specs.declared.events.LostCause.TheVariants.{Absent, Recovering, Command, Fault}
 use Rattle.flat_history.specs.Flat.{rest_of_call, next_number, length_of}
-use Rattle.views.specs.Parts.{Parts}
+use Rattle.running_calls.specs.views_Parts.{Parts}
 use Rattle.superblocks.specs.Reading.{is_reshaping, list_length}
 use Rattle.grow_asked.specs.Left.{phases_of}
-use Rattle.openings.specs.running_words_Parts.{RunningParts}
-use Rattle.openings.specs.running_replies_Replies.{IsRefusalBy}
+use Rattle.running_calls.specs.running_words_Parts.{RunningParts}
+use Rattle.running_calls.specs.running_replies_Replies.{IsRefusalBy}
 use Rattle.script.specs.declared.lines.Line.{Line}
 use Rattle.script.specs.declared.lines.Line.TheVariants.{Step, Wait}
 use Rattle.script.specs.declared.lines.Numbered.{Numbered}
@@ -28,7 +28,7 @@ use Rattle.run_laws.specs.Blocks.{caller_of, IsOfBlock}
 use Rattle.run_laws.specs.Caused.{Record, record_of}
 use Rattle.run_laws.specs.Histories.{History, histories_of, entry_at, AreGoing, EndsOnce}
 use Rattle.run_laws.specs.Making.{Setting, history_world, MayHaveHeld, MissingAtFirst}
-use Rattle.run_laws.specs.Records.{IsRecorded}
+use Rattle.run_laws.specs.Records.{IsRecorded, IsLeftBeside, IsRecordedIn}
 use Rattle.run_laws.specs.Replies.{Course, with_script, at_rest, gone_on, course_after, steps_at_once, leaves_more_at, IsReplyAt, IsAnswer, IsAnswerBeside}
 use Rattle.running_calls.specs.Turning.{IsTurningTold}
 
@@ -239,12 +239,13 @@ pub record IsBeside (old new : Course) : Type 0 where
   pub script : new.calls InScript ≡ old.calls InScript
 
 -- A block was run, or cut short where memory was short: what was entered is the script's still, each loss and refusal has its cause, and for the script the
--- run stands where it stood.
+-- run stands where it stood. Of the record of the array that runs its calls leave what they may, or it was short before them, and the record is as it was.
 pub record IsBlockTurn {B : Type 0} (setting : Setting) (old new : State B) : Type 0 where
   pub own : RunsOwn new
   pub losses : AreLossesFrom setting (histories_in old) (histories_in new)
   pub grown : AreGrown (histories_in old) (histories_in new)
   pub course : IsBeside (course_in old) (course_in new)
+  pub left : (record_in new ≡ record_in old) ⊎ IsLeftBeside setting (record_in old) (record_in new)
 
 -- the answers to the first lines of a block, each where the run stands behind those before it
 abbrev pub AreAnswersBeside : List History → Course → List Numbered → List Answered → Type 0
@@ -259,18 +260,29 @@ course_beside histories course lines [] = course
 course_beside histories course [] (what ∷ whats) = course
 course_beside histories course (line ∷ lines) (what ∷ whats) = course_beside histories (course_after histories course line.lane line.line what) lines whats
 
+-- the records of the array that runs, from answer to answer
+abbrev pub AreRecordedBeside : Setting → List History → Course → Option Record → List Numbered → List Answered → Option Record → Type 0
+AreRecordedBeside setting histories course old lines [] last = last ≡ old
+AreRecordedBeside setting histories course old [] (what ∷ whats) last = ⊥
+AreRecordedBeside setting histories course old (line ∷ lines) (what ∷ whats) last =
+    (next : Option Record) × IsRecordedIn setting histories course line.lane line.line what old next
+    × AreRecordedBeside setting histories (course_after histories course line.lane line.line what) next lines whats last
+
 -- the entry that an answer names, if it names one, was made at this mark or later
 abbrev pub EndsFrom : ℕ → List History → Answered → Type 0
 EndsFrom low histories (Inside epoch at) = MatchOption (entry_at histories epoch at) ⊥ (λ e. low ≤ e.end)
 EndsFrom low histories (Outside outside) = ⊤
 
--- The lines of a block were answered, or the first of them, up to one for which memory was short. Behind all of them the run stands where the answers tell.
+-- The lines of a block were answered, or the first of them, up to one for which memory was short. Behind all of them the run stands where the answers tell, and the last record is that of the array that runs now.
 pub record IsBlockAnswered {B : Type 0} (setting : Setting) (old new : State B) (lines : List Numbered) (whats : List Answered) : Type 0 where
   pub turn : IsBlockTurn setting old new
   pub few : length whats ≤ length lines
   pub answers : AreAnswersBeside (histories_in new) (course_in old) lines whats
   pub ends : setting.tells → All (EndsFrom setting.began (histories_in new)) whats
   pub course : length whats ≡ length lines → course_in new ≡ course_beside (histories_in new) (course_in old) lines whats
+  pub last : Option Record
+  pub recorded : AreRecordedBeside setting (histories_in new) (course_in old) (record_in old) lines whats last
+  pub recorded_now : length whats ≡ length lines → last ≡ record_in new
 
 -- the answer by the entry at this place
 abbrev pub answer_at : ℕ → Result ℕ NoMemory → Result Answered NoMemory

@@ -6,7 +6,7 @@ use Rattle.md_base.specs.declared.answers.Refusal.TheVariants.{SlotFault}
 use Rattle.bank.specs.Given.{Given}
 use Rattle.bank.specs.declared.bank.Operation.TheVariants.{Write}
 use Rattle.flat_history.specs.Transfers.{last_end_from}
-use Rattle.openings.specs.assemble_Creating.{create_refusal}
+use Rattle.running_calls.specs.assemble_Creating.{create_refusal}
 use Rattle.script.specs.declared.lines.Line.{Line}
 use Rattle.script.specs.declared.lines.Line.TheVariants.{Create}
 use Rattle.run_laws.specs.declared.report.Outside.TheVariants.{Created, Refused}

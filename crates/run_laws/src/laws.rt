@@ -1,7 +1,7 @@
 //! The laws of replies.
 
 ghost use Rattle.run_laws.specs.Plain.{PlainRepliesFit, RestTellsPlainly, PlainListsStay};
-ghost use Rattle.run_laws.specs.Ruled.{NewRolesFail, UnusedSlotsAreFree, PlansAreStepped};
+ghost use Rattle.run_laws.specs.Ruled.{NewRolesFail, UnusedSlotsAreFree, PlansAreStepped, PlansArrive, BlocksLeadOn, ToldStepsAreLeft, SparesStay, FreeSlotsStay};
 
 /// Where neither a limit was told nor a reshape planned, begun or ended in its call before it, a reply that tells no failed backup, and
 /// no refusal of a reshape, fits its request as one of an array of one shape, unless that asks for a limit or a reshape.
@@ -33,4 +33,29 @@ pub fn unused_slots_are_free()
 /// A step behind a plan with steps isn't refused as having nothing to do.
 pub fn plans_are_stepped()
     ensures { PlansAreStepped }
+{}
+
+/// Where a wait behind a plan leaves no step, the array has the shape that was wished for.
+pub fn plans_arrive()
+    ensures { PlansArrive }
+{}
+
+/// Behind a block that tells no plan a wait that leaves no step leaves the shape that the array went to before it.
+pub fn blocks_lead_on()
+    ensures { BlocksLeadOn }
+{}
+
+/// Where the history tells that steps are left, a step isn't refused as having nothing to do.
+pub fn told_steps_are_left()
+    ensures { ToldStepsAreLeft }
+{}
+
+/// A line that uses no member leaves each spare a spare.
+pub fn spares_stay()
+    ensures { SparesStay }
+{}
+
+/// A slot that isn't taken before a block, and that the block doesn't tell added, isn't taken behind it.
+pub fn free_slots_stay()
+    ensures { FreeSlotsStay }
 {}

@@ -6,6 +6,6 @@ pub mod laws;
 mod report;
 mod states;
 
-pub use openings::{CreateSpec, Running, create_array, open_running, steps};
 pub use report::{Answered, LineReply, Outside};
+pub use running_calls::{CreateSpec, Running, create_array, open_running, steps};
 pub use states::State;

@@ -2,7 +2,7 @@
 
 use bank::Bank;
 use flat_history::Epoch;
-use openings::Running;
+use running_calls::Running;
 
 /// The bank where no array runs, or the array, and the epochs of the arrays that ran before.
 #[derive(Drop)]

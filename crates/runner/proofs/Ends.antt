@@ -10,8 +10,8 @@ use Rattle.flat_history.specs.declared.events.Epoch.{Epoch}
 use Rattle.flat_history.specs.declared.events.Event.TheVariants.{Halted}
 use Rattle.flat_history.specs.Flat.{next_number, last_of}
 use Rattle.md_base.specs.declared.answers.Who.{Who}
-use Rattle.line_answers.specs.array_kept_Calls.{IsEntered}
-use Rattle.line_answers.specs.running_words_Parts.{RunningParts}
+use Rattle.block_answers.specs.array_kept_Calls.{IsEntered}
+use Rattle.block_answers.specs.running_words_Parts.{RunningParts}
 use Rattle.superblocks.specs.Reading.{list_length}
 use Rattle.script.specs.declared.lines.Line.TheVariants.{Halt}
 use Rattle.script.specs.declared.lines.Numbered.{Numbered}
@@ -20,29 +20,29 @@ use Rattle.script.specs.declared.reply.Lane.TheVariants.{Script as InScript, A a
 use Rattle.runner.specs.declared.sessions.Session.{Session}
 use Rattle.runner.specs.declared.sessions.Stop.{Stop}
 use Rattle.runner.specs.declared.sessions.Stop.TheVariants.{WriteFault, NoMemory as WantsMemory}
-use Rattle.line_answers.specs.run_laws_the_State_TheVariants.{Idle, Running}
-use Rattle.line_answers.specs.run_laws_Asked.{script_who, IsAskedAt}
-use Rattle.line_answers.specs.run_laws_Histories.{History, history_of, histories_of, is_end}
-use Rattle.line_answers.specs.run_laws_Making.{Setting, setting_of}
+use Rattle.block_answers.specs.run_laws_the_State_TheVariants.{Idle, Running}
+use Rattle.block_answers.specs.run_laws_Asked.{script_who, IsAskedAt}
+use Rattle.block_answers.specs.run_laws_Histories.{History, history_of, histories_of, is_end}
+use Rattle.block_answers.specs.run_laws_Making.{Setting, setting_of}
 use Rattle.bank.specs.declared.bank.Operation.{Operation}
-use Rattle.line_answers.specs.run_laws_Replies.{Course, at_rest, course_of}
+use Rattle.block_answers.specs.run_laws_Replies.{Course, at_rest, course_of}
 use Rattle.runner.specs.Runs.{status_for, stop_of, IsHalted, AreLinesPerformed, AreLossesFailed, IsEnded}
 use Rattle.runner.specs.Sessions.{counted, IsCourse, IsCutIn, IsInBlock, IsCourseBehind, taken_whole, IsTaken, IsPerformed, IsShownTo}
 use Rattle.runner.specs.Shown.{report_text, has_refusal}
-use Rattle.line_answers.specs.run_laws_States.{running_history, histories_in, course_in, RunsOwn, AreLossesBehind, AreLossesFrom}
-use Rattle.line_answers.specs.run_laws_Ended.{AreRising}
+use Rattle.block_answers.specs.run_laws_States.{running_history, histories_in, course_in, RunsOwn, AreLossesBehind, AreLossesFrom}
+use Rattle.block_answers.specs.run_laws_Ended.{AreRising}
 use Rattle.runner.specs.Writes.{AreWritesPlaced}
-use Rattle.line_answers.specs.run_laws_Written.{IsWritten}
-use Rattle.views.specs.Moving.{Grows}
-use Rattle.line_answers.proofs.run_laws_AskLaws.{one, with_reply}
-use Rattle.line_answers.proofs.run_laws_Legal.{grows_longer}
+use Rattle.block_answers.specs.run_laws_Written.{IsWritten}
+use Rattle.block_answers.specs.views_Moving.{Grows}
+use Rattle.block_answers.proofs.run_laws_AskLaws.{one, with_reply}
+use Rattle.block_answers.proofs.run_laws_Legal.{grows_longer}
 use Rattle.runner.proofs.WritesPlaced.{placed-end, quiet-between}
-use Rattle.line_answers.proofs.run_laws_Growth.{IsWider, replies_stay, replies_front, courses_stay, cut_stays}
-use Rattle.line_answers.proofs.run_laws_RecordLaws.{records-stay}
+use Rattle.block_answers.proofs.run_laws_Growth.{IsWider, replies_stay, replies_front, courses_stay, cut_stays}
+use Rattle.block_answers.proofs.run_laws_RecordLaws.{records-stay}
 use Rattle.runner.proofs.ShownLaws.{shown_stays}
-use Rattle.line_answers.proofs.run_laws_Turned.{asked-tellable, halt-told}
-use Rattle.line_answers.proofs.run_laws_Losses.{losses-halted, losses-whole, losses-kept, losses-last, losses_add}
-use Rattle.line_answers.proofs.Turns.{now_are, turn_ended, grown_kept, get_last}
+use Rattle.block_answers.proofs.run_laws_Turned.{asked-tellable, halt-told}
+use Rattle.block_answers.proofs.run_laws_Losses.{losses-halted, losses-whole, losses-kept, losses-last, losses_add}
+use Rattle.block_answers.proofs.line_answers_Turns.{now_are, turn_ended, grown_kept, get_last}
 
 last-snoc : (xs : List Entry) (e : Entry) → last_of (xs ++ e ∷ []) ≡ Some e
 last-snoc [] e = refl
@@ -165,8 +165,8 @@ module _ {B bank_tells : Type 0} {given : Given} {backup : Option ℕ} {tape : L
     replies = replies_stay (setting_of bank_tells given first_tape tape backup start now) (setting_of bank_tells given first_tape tape backup start now) same_setting (histories_in session.state) (histories_of epochs) (at_rest 0) (take (length session.replies.items) lines) session.replies.items
         ended.grown performed.replies;
     last = performed.last;
-    recorded = records-stay (setting_of bank_tells given first_tape tape backup start now) (setting_of bank_tells given first_tape tape backup start now) same_setting (histories_in session.state) (histories_of epochs) ended.grown None (take (length session.replies.items) lines) session.replies.items
-        performed.last performed.recorded;
+    recorded = records-stay (setting_of bank_tells given first_tape tape backup start now) (setting_of bank_tells given first_tape tape backup start now) same_setting (histories_in session.state) (histories_of epochs) ended.grown (at_rest 0) None (take (length session.replies.items) lines)
+        session.replies.items performed.last performed.replies performed.recorded;
     course = course_in session.state;
     told = subst (λ (o : Option Stop). IsCourse o (histories_of epochs) behind (told_by (histories_of epochs)) (course_in session.state)) (sym is_stop) (by_stop session.stopped performed.course);
     halted = ended.halted;

@@ -4,30 +4,30 @@ use Rattle.std.proofs.lemmas.Bool.{cases_eq}
 use Rattle.std.proofs.lemmas.List.Elements.{All-nil, All-cons, All-head, All-tail}
 use Rattle.std.specs.Prelude.{slice_index_or, slice_set, ⊤, slice_get}
 use Rattle.flat_history.specs.declared.events.Epoch.{Epoch}
-use Rattle.line_answers.specs.run_laws_Histories.{History, history_of, histories_of}
+use Rattle.block_answers.specs.run_laws_Histories.{History, history_of, histories_of}
 use Rattle.bank.specs.Given.{Given, sizes}
 use Rattle.bank.specs.declared.bank.Operation.{Operation}
 use Rattle.flat_history.specs.Legal.{IsLegal}
 use Rattle.flat_history.specs.Reshaped.{IsReshaped}
-use Rattle.line_answers.specs.history_calls_Reliable.{IsReliable}
-use Rattle.line_answers.specs.running_words_Plans.{KeepsShape}
-use Rattle.line_answers.specs.still_laws_Plain.{AreToldPlainly}
+use Rattle.block_answers.specs.history_calls_Reliable.{IsReliable}
+use Rattle.block_answers.specs.running_words_Plans.{KeepsShape}
+use Rattle.block_answers.specs.still_laws_Plain.{AreToldPlainly}
 use Rattle.flat_history.specs.Epochs.{world_of}
 use Rattle.flat_history.specs.OneShape.{opening_in, IsOneShapeLegal}
 use Rattle.flat_history.proofs.OneShapeLegal.{found-in, one_shape-legal}
-use Rattle.line_answers.proofs.run_laws_Plain.{kept-fills}
-use Rattle.line_answers.specs.run_laws_the_State.{State}
+use Rattle.block_answers.proofs.run_laws_Plain.{kept-fills}
+use Rattle.block_answers.specs.run_laws_the_State.{State}
 use Rattle.flat_history.specs.World.{World}
 use Rattle.flat_history.specs.CrashSafe.{IsCrashSafe}
 use Rattle.flat_history.specs.Growing.{EndBy}
 use Rattle.flat_history.specs.Reopened.{OpensAccepted}
 use Rattle.flat_history.specs.Sound.{OpensFit, FillsRight, StaysSound}
-use Rattle.line_answers.specs.run_laws_Making.{Setting}
-use Rattle.line_answers.specs.run_laws_Ended.{IsLegalEpoch, AreLegal, IsSafeEpoch, AreSafe, AreRising, AreFormer, IsRightEpoch, AreRight, next_mark}
+use Rattle.block_answers.specs.run_laws_Making.{Setting}
+use Rattle.block_answers.specs.run_laws_Ended.{IsLegalEpoch, AreLegal, IsSafeEpoch, AreSafe, AreRising, AreFormer, IsRightEpoch, AreRight, next_mark}
 use Rattle.runner.specs.Runs.{AreHalted, IsEnded, mark_behind, AreEndedBelow, AreEndedAt}
-use Rattle.line_answers.specs.run_laws_States.{histories_in, course_in, AreOfScript, AreGrown, AreLossesFrom}
+use Rattle.block_answers.specs.run_laws_States.{histories_in, course_in, AreOfScript, AreGrown, AreLossesFrom}
 use Rattle.std.specs.Option.{option_map_or}
-use Rattle.line_answers.proofs.run_laws_Legal.{next_within}
+use Rattle.block_answers.proofs.run_laws_Legal.{next_within}
 
 -- an epoch of the same history in the place of one
 pub kept_set : (epochs : List Epoch) (i : ℕ) (e d : Epoch) → history_of e ≡ history_of (slice_index_or epochs i d) → histories_of (slice_set epochs i e) ≡ histories_of epochs

@@ -17,11 +17,11 @@ use Rattle.flat_history.specs.OneShape.{ShapeOpening, opening_in, IsOneShapeEven
 use Rattle.flat_history.specs.Reopened.{IsFoundLater}
 use Rattle.flat_history.proofs.ReopenedLaws.{settled-found}
 use Rattle.reopened_laws.proofs.Settled.{settled-found-later}
-use Rattle.line_answers.specs.run_laws_Ended.{IsLegalEpoch, IsSafeEpoch, AreFormer}
-use Rattle.line_answers.proofs.run_laws_Plain.{kept-fills}
+use Rattle.block_answers.specs.run_laws_Ended.{IsLegalEpoch, IsSafeEpoch, AreFormer}
+use Rattle.block_answers.proofs.run_laws_Plain.{kept-fills}
 use Rattle.runner.specs.Kept.{IsFoundAgain, IsListKept, IsSoundKept, AreKept}
 use Rattle.reopened_laws.proofs.FewerSound.{sound-found-later}
-use Rattle.line_answers.proofs.run_laws_Legal.{next_within}
+use Rattle.block_answers.proofs.run_laws_Legal.{next_within}
 
 -- ---- an array that keeps its shape
 

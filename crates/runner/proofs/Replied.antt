@@ -3,18 +3,18 @@ use Rattle.std.proofs.Common.{◌≡◌, Bool, length, sym, ◌∙◌, ap, subst
 use Rattle.std.specs.Prelude.{IsTrue}
 use Rattle.md_base.specs.declared.answers.NoMemory.{NoMemory}
 use Rattle.script.specs.declared.lines.Line.{Line}
-use Rattle.line_answers.specs.run_laws_the_Answered.{Answered}
-use Rattle.line_answers.specs.run_laws_the_State.{State}
-use Rattle.line_answers.specs.run_laws_Making.{Setting}
-use Rattle.line_answers.specs.run_laws_Replies.{IsEnd}
+use Rattle.block_answers.specs.run_laws_the_Answered.{Answered}
+use Rattle.block_answers.specs.run_laws_the_State.{State}
+use Rattle.block_answers.specs.run_laws_Making.{Setting}
+use Rattle.block_answers.specs.run_laws_Replies.{IsEnd}
 use Rattle.script.specs.Script.{is_within_limits}
 use Rattle.script.specs.declared.lines.Numbered.{Numbered}
-use Rattle.line_answers.specs.run_laws_the_LineReply.{LineReply}
+use Rattle.block_answers.specs.run_laws_the_LineReply.{LineReply}
 use Rattle.runner.specs.Sessions.{IsEndNow, IsReplied}
-use Rattle.line_answers.specs.run_laws_States.{histories_in, course_in, IsNamed, IsTurn, IsTurnOrNone}
-use Rattle.line_answers.specs.run_laws_Written.{HasWritten, IsWritten, IsWrittenBy}
+use Rattle.block_answers.specs.run_laws_States.{histories_in, course_in, IsNamed, IsTurn, IsTurnOrNone}
+use Rattle.block_answers.specs.run_laws_Written.{HasWritten, IsWritten, IsWrittenBy}
 use Rattle.runner.specs.Shown.{IsAnswerShort, is_refusal}
-use Rattle.line_answers.proofs.run_laws_Growth.{answer_named}
+use Rattle.block_answers.proofs.run_laws_Growth.{answer_named}
 use Rattle.runner.proofs.Shortness.{answer_short}
 
 -- an answer is a turn, which names its entry

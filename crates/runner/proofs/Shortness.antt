@@ -1,5 +1,5 @@
 -- How long the text of an answer may be.
-use Rattle.std.proofs.Common.{ℕ, ◌+◌, ◌≤◌, Option, List, take, [], ◌∷◌, refl, sym, ap, subst, arith}
+use Rattle.std.proofs.Common.{ℕ, ◌+◌, ◌≤◌, Option, List, [], ◌∷◌, take, refl, sym, ap, subst, arith}
 use Rattle.std.proofs.lemmas.Bool.Decides.{nat_tests}
 use Rattle.std.specs.Prelude.{slice_get, MatchOption, IsTrue}
 use Rattle.std.specs.Option.{option_and_then}
@@ -10,8 +10,8 @@ use Rattle.flat_history.specs.declared.events.Request.TheVariants.{Read as AsksR
 use Rattle.flat_history.specs.Fits.{FitsStop, FitsHalt}
 use Rattle.flat_history.specs.Legal.{call_before}
 use Rattle.flat_history.specs.OneShape.{OneShapeAnswers}
-use Rattle.line_answers.specs.running_replies_Replies.{RunningAnswers, RunningFits}
-use Rattle.line_answers.specs.run_laws_Blocks.{request_of, IsCallersReply}
+use Rattle.block_answers.specs.running_replies_Replies.{RunningAnswers, RunningFits}
+use Rattle.block_answers.specs.run_laws_Blocks.{request_of, IsCallersReply}
 use Rattle.md_base.specs.declared.wishes.Wish.{Wish}
 use Rattle.script.specs.Script.{is_within_limits}
 use Rattle.script.specs.Seeds.{seeded}
@@ -19,12 +19,12 @@ use Rattle.script.specs.declared.lines.Line.{Line}
 use Rattle.script.specs.declared.reply.Lane.{Lane}
 use Rattle.script.specs.declared.reply.Lane.TheVariants.{Script as InScript, A as InA, B as InB, Worker as InWorker}
 use Rattle.script.specs.declared.lines.Line.TheVariants.{Create, Read, Write, Flush, Fail, Add, ArraySize, Grow, Step, Wait, Stop, Halt, Detail, Mdstat, Examine, Assemble}
-use Rattle.line_answers.specs.run_laws_the_Answered.{Answered}
-use Rattle.line_answers.specs.run_laws_the_Answered_TheVariants.{Inside, Outside as IsOutside}
-use Rattle.line_answers.specs.run_laws_Histories.{History}
-use Rattle.line_answers.specs.run_laws_Making.{Setting}
-use Rattle.line_answers.specs.run_laws_Replies.{Course, FitsLine, IsReplyAt, IsWaitedAt, IsRepliedAt, IsAnswer, IsWorkedAt, IsRepliedBeside, IsAnswerBeside, steps_at_once}
-use Rattle.line_answers.specs.run_laws_Showing.{IsShown}
+use Rattle.block_answers.specs.run_laws_the_Answered.{Answered}
+use Rattle.block_answers.specs.run_laws_the_Answered_TheVariants.{Inside, Outside as IsOutside}
+use Rattle.block_answers.specs.run_laws_Histories.{History}
+use Rattle.block_answers.specs.run_laws_Making.{Setting}
+use Rattle.block_answers.specs.run_laws_Replies.{Course, FitsLine, IsReplyAt, IsWaitedAt, IsRepliedAt, IsAnswer, IsWorkedAt, IsRepliedBeside, IsAnswerBeside, steps_at_once}
+use Rattle.block_answers.specs.run_laws_Showing.{IsShown}
 use Rattle.runner.specs.Shown.{IsShort, IsAnswerShort}
 
 short_read : (size : ℕ) (before call : List Entry) (at count : ℕ) (event : Event) → count ≤ 128 → OneShapeAnswers size before call (AsksRead at count) event → IsShort event

@@ -7,15 +7,15 @@ use Rattle.script.specs.Texts.{lane_text}
 use Rattle.script.specs.declared.lines.Line.{Line}
 use Rattle.script.specs.declared.lines.Numbered.{Numbered}
 use Rattle.script.specs.declared.reply.Lane.{Lane}
-use Rattle.line_answers.specs.run_laws_the_Answered.{Answered}
-use Rattle.line_answers.specs.run_laws_the_Answered_TheVariants.{Inside, Outside as IsOutside}
-use Rattle.line_answers.specs.run_laws_the_LineReply.{LineReply}
-use Rattle.line_answers.specs.run_laws_Histories.{History, entry_at}
-use Rattle.line_answers.specs.run_laws_Making.{Setting}
-use Rattle.line_answers.specs.run_laws_Replies.{Course, course_after, AreReplies}
+use Rattle.block_answers.specs.run_laws_the_Answered.{Answered}
+use Rattle.block_answers.specs.run_laws_the_Answered_TheVariants.{Inside, Outside as IsOutside}
+use Rattle.block_answers.specs.run_laws_the_LineReply.{LineReply}
+use Rattle.block_answers.specs.run_laws_Histories.{History, entry_at}
+use Rattle.block_answers.specs.run_laws_Making.{Setting}
+use Rattle.block_answers.specs.run_laws_Replies.{Course, course_after, AreReplies}
 use Rattle.runner.specs.Shown.{entry_text, answer_text, reply_text, report_text, tells_refusal, is_refusal, has_refusal}
-use Rattle.line_answers.specs.run_laws_States.{AreGrown, IsNamed}
-use Rattle.line_answers.proofs.run_laws_Growth.{some_named, named_stays, answer_in_named}
+use Rattle.block_answers.specs.run_laws_States.{AreGrown, IsNamed}
+use Rattle.block_answers.proofs.run_laws_Growth.{some_named, named_stays, answer_in_named}
 
 -- what an answer shows stays
 answer_shown : (olds news : List History) (lane : Lane) (line : Line) (what : Answered) → AreGrown olds news → IsNamed olds what → (answer_text news lane line what ≡ answer_text olds lane line what) × (is_refusal news line what ≡ is_refusal olds line what)

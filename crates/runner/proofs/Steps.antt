@@ -1,44 +1,47 @@
 -- One line more was performed and shown.
-use Rattle.std.proofs.Common.{◌≡◌, ℕ, suc, ◌+◌, ◌-◌, ◌<◌, ◌≤◌, ◌||◌, ◌⊎◌, inl, inr, Bool, false, Option, Some, None, List, [], ◌∷◌, ◌++◌, length, take, drop, refl, sym, ◌∙◌, ap, subst, arith, append_assoc, append-nil, length-append}
+use Rattle.std.proofs.Common.{◌≡◌, ◌≢◌, ℕ, zero, suc, ◌+◌, ◌-◌, ◌<◌, ◌≤◌, ◌||◌, ◌⊎◌, inl, inr, Bool, false, Option, Some, None, List, [], ◌∷◌, ◌++◌, length, take, drop, refl, sym, ◌∙◌, ap, subst, arith, append_assoc, append-nil, length-append, length-drop}
 use Rattle.std.specs.Global.{Vec}
+use Rattle.std.proofs.lemmas.Bool.{cases_lt}
 use Rattle.std.proofs.lemmas.Bool.Decides.{nat_tests}
+use Rattle.std.specs.List.{All}
 use Rattle.std.proofs.lemmas.List.Elements.{All-nil}
 use Rattle.std.proofs.lemmas.List.{take_at, length-take-le}
-use Rattle.std.proofs.Math.Seq.{drop-cons, take-suc, take-append-add}
+use Rattle.std.proofs.Math.Seq.{drop-cons, take-suc, take-append-add, take-take, take-add, drop-drop, get_or-take}
 use Rattle.std.proofs.Math.ListN.{get_or}
 use Rattle.std.specs.Prelude.{MatchOption}
 use Rattle.bank.specs.Given.{Given, NeverFalls}
 use Rattle.bank.specs.declared.bank.Operation.{Operation}
-use Rattle.views.specs.Moving.{Grows}
+use Rattle.block_answers.specs.views_Moving.{Grows}
 use Rattle.flat_history.specs.declared.events.Entry.{Entry}
 use Rattle.text_io.specs.Causes.{HasRisen}
 use Rattle.flat_history.specs.declared.events.Epoch.{Epoch}
 use Rattle.script.specs.declared.lines.Numbered.{Numbered}
 use Rattle.script.specs.declared.reply.Lane.{Lane}
-use Rattle.script.specs.declared.reply.Lane.TheVariants.{Script as InScript}
-use Rattle.line_answers.specs.run_laws_the_Answered.{Answered}
-use Rattle.line_answers.specs.run_laws_the_Answered_TheVariants.{Inside, Outside as IsOutside}
-use Rattle.line_answers.specs.run_laws_the_LineReply.{LineReply}
-use Rattle.line_answers.specs.run_laws_the_State.{State}
-use Rattle.line_answers.specs.run_laws_the_State_TheVariants.{Idle}
+use Rattle.script.specs.declared.reply.Lane.TheVariants.{Script as InScript, A as InA, B as InB, Worker as InWorker}
+use Rattle.block_answers.specs.run_laws_the_Answered.{Answered}
+use Rattle.block_answers.specs.run_laws_the_Answered_TheVariants.{Inside, Outside as IsOutside}
+use Rattle.block_answers.specs.run_laws_the_LineReply.{LineReply}
+use Rattle.block_answers.specs.run_laws_the_State.{State}
+use Rattle.block_answers.specs.run_laws_the_State_TheVariants.{Idle}
 use Rattle.runner.specs.declared.sessions.Stop.{Stop}
 use Rattle.runner.specs.declared.sessions.Stop.TheVariants.{WriteFault, NoMemory as WantsMemory}
 use Rattle.runner.specs.declared.sessions.Session.{Session}
-use Rattle.line_answers.specs.run_laws_Histories.{History, histories_of, entry_at}
-use Rattle.line_answers.specs.run_laws_Making.{Setting, setting_of}
-use Rattle.line_answers.proofs.run_laws_Legal.{grows_longer}
-use Rattle.line_answers.specs.run_laws_Replies.{Course, at_rest, course_after, course_of, IsAnswer, IsAnswerIn, mark_reached, mark_shown, IsEnd, IsReplyTo, AreReplies, AreInOrder}
+use Rattle.block_answers.specs.run_laws_Histories.{History, histories_of, entry_at}
+use Rattle.block_answers.specs.run_laws_Making.{Setting, setting_of}
+use Rattle.block_answers.proofs.run_laws_Legal.{grows_longer}
+use Rattle.block_answers.specs.run_laws_Replies.{Course, at_rest, course_after, course_of, IsAnswer, IsAnswerIn, mark_reached, mark_shown, IsEnd, IsReplyTo, AreReplies, AreInOrder}
 use Rattle.runner.specs.Shown.{reply_text, report_text, has_refusal}
-use Rattle.line_answers.specs.run_laws_States.{histories_in, course_in, record_in, RunsOwn, IsOfScript, AreOfScript, AreLossesFrom, AreGrown, EndsBetween, IsCourseShort}
-use Rattle.runner.specs.Sessions.{counted, IsEndNow, IsUnreplied, IsReplyMore, IsStep, IsCourse, IsCutIn, taken_whole, IsTaken, IsStopCause, IsCourseBehind, IsPerformed, IsShownTo}
-use Rattle.line_answers.proofs.run_laws_Growth.{IsWider, answer_wider, replies_stay, replies_more, course_more, courses_stay}
-use Rattle.line_answers.specs.run_laws_Caused.{Record}
-use Rattle.line_answers.specs.run_laws_Records.{IsRecorded, IsRecordedIn, AreRecorded}
-use Rattle.line_answers.proofs.run_laws_RecordLaws.{recorded-wider, records-stay, records-both}
-use Rattle.runner.proofs.ShownLaws.{shown_stays, text_more, refusal_more}
+use Rattle.block_answers.specs.run_laws_States.{histories_in, course_in, record_in, RunsOwn, IsOfScript, AreOfScript, AreLossesFrom, AreGrown, EndsBetween, IsCourseShort, IsBeside, AreAnswersBeside, AreRecordedBeside, course_beside}
+use Rattle.runner.specs.Sessions.{counted, IsEndNow, IsUnreplied, IsReplyMore, IsStep, IsBlockStep, IsTurnStep, AreAllMade, IsCourse, IsCutIn, IsInBlock, taken_whole, IsTaken, IsStopCause, IsCourseBehind, IsPerformed, IsShownTo}
+use Rattle.block_answers.proofs.run_laws_Growth.{IsWider, answer_wider, replies_stay, replies_more, replies_both, course_more, course_both, courses_stay}
+use Rattle.block_answers.specs.run_laws_Caused.{Record}
+use Rattle.block_answers.specs.run_laws_Records.{IsRecorded, IsRecordedIn, AreRecorded}
+use Rattle.block_answers.proofs.run_laws_RecordLaws.{recorded-wider, records-stay, records-both}
+use Rattle.runner.proofs.BlockReplies.{block-lanes, made-few, made-replies, made-records, made-course, made-beside, ordered, order-then, all-at}
+use Rattle.runner.proofs.ShownLaws.{shown_stays, text_more, text_both, text_front, refusal_more, refusal_both, refusal_front}
 use Rattle.runner.specs.Writes.{AreWritesPlaced}
-use Rattle.line_answers.proofs.run_laws_Losses.{losses_add}
-use Rattle.runner.proofs.WritesPlaced.{placed-none, placed-reply, placed-short}
+use Rattle.block_answers.proofs.run_laws_Losses.{losses_add}
+use Rattle.runner.proofs.WritesPlaced.{placed-none, placed-reply, placed-more, placed-short}
 
 -- ---- where the replies were made
 
@@ -98,9 +101,10 @@ module _ {B bank_tells : Type 0} {given : Given} {backup : Option ℕ} {first_ta
       performed.replies
 
   -- and so do the records between them
-  pub records_still : AreGrown (histories_in old.state) (histories_in new.state) → AreRecorded (setting_of bank_tells given first_tape tape backup start now) (histories_in new.state) None lines_before old.replies.items performed.last
+  pub records_still : AreGrown (histories_in old.state) (histories_in new.state) → AreRecorded (setting_of bank_tells given first_tape tape backup start now) (histories_in new.state) (at_rest 0) None lines_before old.replies.items performed.last
   records_still grown =
-      records-stay (setting_of bank_tells given first_tape mid_tape backup start mid) (setting_of bank_tells given first_tape tape backup start now) wider_was (histories_in old.state) (histories_in new.state) grown None lines_before old.replies.items performed.last performed.recorded
+      records-stay (setting_of bank_tells given first_tape mid_tape backup start mid) (setting_of bank_tells given first_tape tape backup start now) wider_was (histories_in old.state) (histories_in new.state) grown (at_rest 0) None lines_before old.replies.items performed.last
+      performed.replies performed.recorded
 
   pub shown_still : AreGrown (histories_in old.state) (histories_in new.state)
       → (report_text (histories_in new.state) lines old.replies.items ≡ report_text (histories_in old.state) lines old.replies.items)
@@ -152,15 +156,15 @@ module _ {B bank_tells : Type 0} {given : Given} {backup : Option ℕ} {first_ta
           (subst (λ (rs : List LineReply). AreReplies (setting_of bank_tells given first_tape tape backup start now) (histories_in new.state) (at_rest 0) (take (length old.replies.items) lines ++ numbered ∷ []) rs) (sym is.more)
           (replies_more (setting_of bank_tells given first_tape tape backup start now) (histories_in new.state) (at_rest 0) (take (length old.replies.items) lines) old.replies.items numbered is.made.reply (replies_still is.replied.turn.grown) reply_to))
 
-      recorded_here : IsRecordedIn (setting_of bank_tells given first_tape tape backup start now) (histories_in new.state) numbered.lane numbered.line is.made.reply.what performed.last (record_in new.state)
-      recorded_here = subst (λ (l : Lane). IsRecordedIn (setting_of bank_tells given first_tape tape backup start now) (histories_in new.state) l numbered.line is.made.reply.what performed.last (record_in new.state)) (sym script)
+      recorded_here : IsRecordedIn (setting_of bank_tells given first_tape tape backup start now) (histories_in new.state) (told_before (histories_in new.state)) numbered.lane numbered.line is.made.reply.what performed.last (record_in new.state)
+      recorded_here = subst (λ (l : Lane). IsRecordedIn (setting_of bank_tells given first_tape tape backup start now) (histories_in new.state) (told_before (histories_in new.state)) l numbered.line is.made.reply.what performed.last (record_in new.state)) (sym script)
           (recorded-wider (setting_of bank_tells given mid_tape tape backup mid now) (setting_of bank_tells given first_tape tape backup start now) wider_step (histories_in new.state) numbered.line is.made.reply.what performed.last (record_in new.state)
           (subst (λ (o : Option Record). IsRecorded (setting_of bank_tells given mid_tape tape backup mid now) (histories_in new.state) numbered.line is.made.reply.what o (record_in new.state)) (sym (performed.recorded_now going)) is.replied.turn.recorded))
 
-      recorded_new : AreRecorded (setting_of bank_tells given first_tape tape backup start now) (histories_in new.state) None (take (length new.replies.items) lines) new.replies.items (record_in new.state)
-      recorded_new = subst (λ (ls : List Numbered). AreRecorded (setting_of bank_tells given first_tape tape backup start now) (histories_in new.state) None ls new.replies.items (record_in new.state)) (sym lines_taken)
-          (subst (λ (rs : List LineReply). AreRecorded (setting_of bank_tells given first_tape tape backup start now) (histories_in new.state) None (take (length old.replies.items) lines ++ numbered ∷ []) rs (record_in new.state)) (sym is.more)
-          (records-both (setting_of bank_tells given first_tape tape backup start now) (histories_in new.state) None performed.last (record_in new.state) (take (length old.replies.items) lines) old.replies.items (numbered ∷ []) (is.made.reply ∷ []) (records_still is.replied.turn.grown)
+      recorded_new : AreRecorded (setting_of bank_tells given first_tape tape backup start now) (histories_in new.state) (at_rest 0) None (take (length new.replies.items) lines) new.replies.items (record_in new.state)
+      recorded_new = subst (λ (ls : List Numbered). AreRecorded (setting_of bank_tells given first_tape tape backup start now) (histories_in new.state) (at_rest 0) None ls new.replies.items (record_in new.state)) (sym lines_taken)
+          (subst (λ (rs : List LineReply). AreRecorded (setting_of bank_tells given first_tape tape backup start now) (histories_in new.state) (at_rest 0) None (take (length old.replies.items) lines ++ numbered ∷ []) rs (record_in new.state)) (sym is.more)
+          (records-both (setting_of bank_tells given first_tape tape backup start now) (histories_in new.state) (at_rest 0) None performed.last (record_in new.state) (take (length old.replies.items) lines) old.replies.items (numbered ∷ []) (is.made.reply ∷ []) (records_still is.replied.turn.grown)
           (record_in new.state, recorded_here, refl)))
 
       course_new : course_in new.state ≡ course_of (histories_in new.state) (at_rest 0) (take (length new.replies.items) lines) new.replies.items
@@ -207,7 +211,7 @@ module _ {B bank_tells : Type 0} {given : Given} {backup : Option ℕ} {first_ta
       course = subst (λ (x : Option Stop). IsCourse x (histories_in new.state) (drop (length new.replies.items) lines) (course_of (histories_in new.state) (at_rest 0) (take (length new.replies.items) lines) new.replies.items) (course_in new.state)) (sym stop)
           (subst (λ (rs : List LineReply). IsCourse (Some WantsMemory) (histories_in new.state) (drop (length rs) lines) (course_of (histories_in new.state) (at_rest 0) (take (length rs) lines) rs) (course_in new.state)) (sym same) (by_course none.course));
       last = performed.last;
-      recorded = subst (λ (rs : List LineReply). AreRecorded (setting_of bank_tells given first_tape tape backup start now) (histories_in new.state) None (take (length rs) lines) rs performed.last) (sym same) (records_still none.grown);
+      recorded = subst (λ (rs : List LineReply). AreRecorded (setting_of bank_tells given first_tape tape backup start now) (histories_in new.state) (at_rest 0) None (take (length rs) lines) rs performed.last) (sym same) (records_still none.grown);
       recorded_now = λ going_on. absurd (let both : Some WantsMemory ≡ None = sym stop ∙ going_on in cc);
       losses = losses_add (setting_of bank_tells given first_tape mid_tape backup start mid) (setting_of bank_tells given mid_tape tape backup mid now) (setting_of bank_tells given first_tape tape backup start now) wider_was wider_step (histories_in old.state) (histories_in new.state) none.grown performed.losses none.losses;
       ends = λ t. subst (λ (rs : List LineReply). AreInOrder (length first_tape) (length tape) rs) (sym same) (order_later (length first_tape) (length mid_tape) (length tape) old.replies.items (grows_longer grew t) (performed.ends t));
@@ -296,11 +300,261 @@ module _ {B bank_tells : Type 0} {given : Given} {backup : Option ℕ} {first_ta
           same_text : report_text (histories_in new.state) lines new.replies.items ≡ report_text (histories_in old.state) lines old.replies.items
           same_text = ap (λ (rs : List LineReply). report_text (histories_in new.state) lines rs) is.same ∙ (shown_still is.none.grown).0
 
+  -- ---- a block
+
+  module _ (count : ℕ) (some : 1 ≤ count) (fits : length old.replies.items + count ≤ length lines) {tells : Type 0} {old_taken new_taken : List ℕ}
+      (did : IsBlockStep tells (setting_of bank_tells given mid_tape tape backup mid now) old new (take count (drop (length old.replies.items) lines)) old_taken new_taken) where
+    abbrev n : ℕ
+    n = length old.replies.items
+
+    abbrev rest : List Numbered
+    rest = drop n lines
+
+    abbrev block : List Numbered
+    block = take count rest
+
+    abbrev hs : List History
+    hs = histories_in new.state
+
+    abbrev made : List LineReply
+    made = did.shown.shown.made
+
+    abbrev m : ℕ
+    m = length made
+
+    abbrev wide : Setting
+    wide = setting_of bank_tells given first_tape tape backup start now
+
+    grown : AreGrown (histories_in old.state) hs
+    grown = did.answered.turn.grown
+
+    rest_long : count ≤ length rest
+    rest_long = let long = length-drop n lines in omega (arith, long, fits)
+
+    block_long : length block ≡ count
+    block_long = length-take-le count rest rest_long
+
+    few : (m ≤ length block) × (m ≤ length did.whats)
+    few = made-few bank_tells (length tape) hs block did.whats made did.shown.shown.told
+
+    few_made : m ≤ count
+    few_made = let le = few.0 in omega (arith, le, block_long)
+
+    lanes : All (λ line. line.lane ≢ InScript) block
+    lanes = block-lanes block did.block
+
+    answers : AreAnswersBeside hs (told_before hs) block did.whats
+    answers = subst (λ (c : Course). AreAnswersBeside hs c block did.whats) (course_still grown) did.answered.answers
+
+    longer : length new.replies.items ≡ n + m
+    longer = ap (λ (l : List LineReply). length l) did.shown.shown.more ∙ length-append old.replies.items made
+
+    front : take m block ≡ take m rest
+    front = take-take m count rest few_made
+
+    lines_are : take (length new.replies.items) lines ≡ take n lines ++ take m rest
+    lines_are = ap (λ (k : ℕ). take k lines) longer ∙ take-add n m lines
+
+    block_replies : AreReplies wide hs (at_rest 0) (take (length new.replies.items) lines) new.replies.items
+    block_replies = subst (λ (ls : List Numbered). AreReplies wide hs (at_rest 0) ls new.replies.items) (sym lines_are)
+        (subst (λ (rs : List LineReply). AreReplies wide hs (at_rest 0) (take n lines ++ take m rest) rs) (sym did.shown.shown.more)
+        (replies_both wide hs (at_rest 0) (take n lines) old.replies.items (take m rest) made (replies_still grown)
+        (subst (λ (ls : List Numbered). AreReplies wide hs (told_before hs) ls made) front (made-replies wide hs (told_before hs) block did.whats made lanes answers did.shown.shown.told))))
+
+    -- the records from one to the next of them
+    made_recorded : (at : Option Record) × AreRecorded wide hs (told_before hs) performed.last (take m block) made at × (m ≡ length did.whats → at ≡ did.answered.last)
+    made_recorded = made-records bank_tells (length tape) (setting_of bank_tells given mid_tape tape backup mid now) wide wider_step hs (told_before hs) performed.last did.answered.last block did.whats made
+        (subst (λ (o : Option Record). AreRecordedBeside (setting_of bank_tells given mid_tape tape backup mid now) hs (told_before hs) o block did.whats did.answered.last) (sym (performed.recorded_now going))
+        (subst (λ (c : Course). AreRecordedBeside (setting_of bank_tells given mid_tape tape backup mid now) hs c (record_in old.state) block did.whats did.answered.last) (course_still grown) did.answered.recorded))
+        did.shown.shown.told
+
+    abbrev last_now : Option Record
+    last_now = made_recorded.0
+
+    block_recorded : AreRecorded wide hs (at_rest 0) None (take (length new.replies.items) lines) new.replies.items last_now
+    block_recorded = subst (λ (ls : List Numbered). AreRecorded wide hs (at_rest 0) None ls new.replies.items last_now) (sym lines_are)
+        (subst (λ (rs : List LineReply). AreRecorded wide hs (at_rest 0) None (take n lines ++ take m rest) rs last_now) (sym did.shown.shown.more)
+        (records-both wide hs (at_rest 0) None performed.last last_now (take n lines) old.replies.items (take m rest) made (records_still grown)
+        (subst (λ (ls : List Numbered). AreRecorded wide hs (told_before hs) performed.last ls made last_now) front made_recorded.1)))
+
+    last_is : (o : Option Stop) → o ≡ None → AreAllMade o (length block) m → last_now ≡ record_in new.state
+    last_is None goes all =
+        let known = few.1 in
+        let most = did.answered.few in
+        made_recorded.2 (omega (arith, all, known, most)) ∙ did.answered.recorded_now (omega (arith, all, known, most))
+    last_is (Some stop) goes all = absurd (cc)
+
+    -- where the run stands by the replies
+    abbrev told_now : Course
+    told_now = course_of hs (at_rest 0) (take (length new.replies.items) lines) new.replies.items
+
+    told_is : told_now ≡ course_of hs (told_before hs) (take m rest) made
+    told_is = ap (λ (ls : List Numbered). course_of hs (at_rest 0) ls new.replies.items) lines_are
+        ∙ ap (λ (rs : List LineReply). course_of hs (at_rest 0) (take n lines ++ take m rest) rs) did.shown.shown.more
+        ∙ course_both hs (at_rest 0) (take n lines) old.replies.items (take m rest) made (length-take-le n lines (omega (arith, fits)))
+
+    -- all replies were made
+    exact : m ≡ count → course_in new.state ≡ told_now
+    exact all =
+        let known = few.1 in
+        let most = did.answered.few in
+        did.answered.course (omega (arith, all, known, most, block_long)) ∙ ap (λ (c : Course). course_beside hs c block did.whats) (course_still grown)
+        ∙ sym (made-course bank_tells (length tape) hs (told_before hs) block did.whats made did.shown.shown.told (omega (arith, all, block_long)) most)
+        ∙ ap (λ (k : ℕ). course_of hs (told_before hs) (take k rest) made) (sym all) ∙ sym told_is
+
+    -- or not all
+    beside : IsBeside told_now (course_in new.state)
+    beside =
+        let was = subst (λ (c : Course). IsBeside c (course_in new.state)) (course_still grown) did.answered.turn.course in
+        let now = subst (λ (ls : List Numbered). IsBeside (told_before hs) (course_of hs (told_before hs) ls made)) front
+        (made-beside bank_tells (length tape) hs (told_before hs) block did.whats made lanes answers did.shown.shown.told) in
+        subst (λ (c : Course). IsBeside c (course_in new.state)) (sym told_is)
+        (record { opened = was.opened ∙ sym now.opened; running = was.running ∙ sym now.running; script = was.script ∙ sym now.script })
+
+    next : m < count → (drop (length new.replies.items) lines ≡ get_or rest m did.block.worker ∷ drop (suc m) rest) × ((get_or rest m did.block.worker).lane ≢ InScript)
+    next lt = (
+      ap (λ (k : ℕ). drop k lines) longer ∙ sym (drop-drop m n lines) ∙ drop-cons rest m did.block.worker (omega (arith, lt, rest_long)),
+      subst (λ (l : Numbered). l.lane ≢ InScript) (get_or-take count rest m did.block.worker lt) (all-at (λ line. line.lane ≢ InScript) block m did.block.worker lanes (omega (arith, lt, block_long))),
+    )
+
+    behind : m < count → IsCourseBehind hs (drop (length new.replies.items) lines) told_now (course_in new.state)
+    behind lt = subst (λ (ls : List Numbered). IsCourseBehind hs ls told_now (course_in new.state)) (sym (next lt).0) (by (get_or rest m did.block.worker).lane (next lt).1)
+      where
+        by : (lane : Lane) → lane ≢ InScript → IsCutIn lane hs told_now (get_or rest m did.block.worker).line (course_in new.state)
+        by InScript ne = absurd (ne refl)
+        by InA ne = beside
+        by InB ne = beside
+        by InWorker ne = beside
+
+    block_course : (o : Option Stop) → AreAllMade o (length block) m → IsCourse o hs (drop (length new.replies.items) lines) told_now (course_in new.state)
+    block_course None all = exact (omega (arith, all, block_long))
+    block_course (Some WriteFault) all = elim (cases_lt m count) [
+      | inl lt ↦ inr (subst (λ (ls : List Numbered). IsInBlock ls told_now (course_in new.state)) (sym (next lt).0) ((next lt).1, beside))
+      | inr past ↦ inl (exact (omega (arith, past, few_made)))
+    ]
+    block_course (Some WantsMemory) all = inr (behind (omega (arith, all, block_long)))
+
+    block_refused : new.refused ≡ has_refusal hs lines new.replies.items
+    block_refused = did.shown.shown.refused ∙ ap (λ (b : Bool). b || has_refusal hs block made) (performed.refused ∙ sym ((shown_still grown).1))
+        ∙ ap (λ (b : Bool). has_refusal hs lines old.replies.items || b) (refusal_front hs count rest made few_made)
+        ∙ sym (refusal_both hs lines old.replies.items made (omega (arith, fits)))
+        ∙ ap (λ (rs : List LineReply). has_refusal hs lines rs) (sym did.shown.shown.more)
+
+    block_ends : bank_tells → AreInOrder (length first_tape) (length tape) new.replies.items
+    block_ends t = subst (λ (rs : List LineReply). AreInOrder (length first_tape) (length tape) rs) (sym did.shown.shown.more)
+        (order-then (length first_tape) (length mid_tape) (length tape) old.replies.items made (performed.ends t)
+        (λ from le. ordered bank_tells hs (length mid_tape) (length tape) t from le (grows_longer grew t) (told_before hs) block did.whats made lanes answers did.shown.shown.told (did.answered.ends t)))
+
+    block_performed : IsPerformed wide lines new
+    block_performed = record {
+      own = did.answered.turn.own;
+      few = omega (arith, longer, few_made, fits);
+      replies = block_replies;
+      course = block_course new.stopped did.shown.all;
+      last = last_now;
+      recorded = block_recorded;
+      recorded_now = λ goes. last_is new.stopped goes did.shown.all;
+      losses = losses_add (setting_of bank_tells given first_tape mid_tape backup start mid) (setting_of bank_tells given mid_tape tape backup mid now) wide wider_was wider_step (histories_in old.state) hs grown performed.losses did.answered.turn.losses;
+      ends = block_ends;
+      refused = block_refused;
+      written = λ t. subst (λ (rs : List LineReply). AreWritesPlaced wide hs new.stopped lines rs) (sym did.shown.shown.more)
+          (placed-more given backup first_tape mid_tape tape start mid now (histories_in old.state) hs lines old.replies.items did.block.worker (get_or lines n did.block.worker) t (grew.more t) (omega (arith, some, fits)) refl (performed.ends t) (written_before t) new.stopped made
+          (did.written t));
+    }
+
+    -- the text of all replies, and of the first of them
+    text_is : (more : List LineReply) → length more ≤ count → report_text hs lines (old.replies.items ++ more) ≡ report_text (histories_in old.state) lines old.replies.items ++ report_text hs block more
+    text_is more le = text_both hs lines old.replies.items more (omega (arith, fits)) ∙ ap (λ (t : List ℕ). t ++ report_text hs rest more) ((shown_still grown).0)
+        ∙ ap (λ (t : List ℕ). report_text (histories_in old.state) lines old.replies.items ++ t) (sym (text_front hs count rest more le))
+
+    whole_is : (o : Option Stop) → AreAllMade o (length block) m → taken_whole o new.replies.items ≡ old.replies.items ++ taken_whole o made
+    whole_is None all = did.shown.shown.more
+    whole_is (Some WriteFault) all = ap (λ (rs : List LineReply). take (length rs - 1) rs) did.shown.shown.more
+        ∙ ap (λ (k : ℕ). take k (old.replies.items ++ made)) {y = n + (m - 1)} (let sum = length-append old.replies.items made in omega (arith, sum, all)) ∙ take-append-add old.replies.items made (m - 1)
+    whole_is (Some WantsMemory) all = did.shown.shown.more
+
+    whole_few : (o : Option Stop) → length (taken_whole o made) ≤ count
+    whole_few None = few_made
+    whole_few (Some WriteFault) = let long = length-take-le (m - 1) made (omega arith) in omega (arith, long, few_made)
+    whole_few (Some WantsMemory) = few_made
+
+    module _ {first : List ℕ} {first_faults before_faults : ℕ} (after_faults : ℕ) (shown : IsShownTo tells lines old first old_taken first_faults before_faults) (cause : IsStopCause new.stopped before_faults after_faults) (falls : before_faults ≤ after_faults) where
+      abbrev text : List ℕ
+      text = report_text (histories_in old.state) lines old.replies.items
+
+      was_taken : tells → old_taken ≡ first ++ text
+      was_taken told = subst (λ (o : Option Stop). IsTaken o first old_taken text) going (shown.taken told)
+
+      was_shown : old.shown ≡ counted (length text)
+      was_shown = subst (λ (o : Option Stop). old.shown ≡ counted (length (report_text (histories_in old.state) lines (taken_whole o old.replies.items)))) going shown.shown
+
+      taken_on : (told : tells) (o : Option Stop) → IsTaken o old_taken new_taken (report_text hs block made) → IsTaken o first new_taken (text ++ report_text hs block made)
+      taken_on told None is = is ∙ ap (λ (t : List ℕ). t ++ report_text hs block made) (was_taken told) ∙ append_assoc first text (report_text hs block made)
+      taken_on told (Some WriteFault) (k, is) = (
+        length text + k,
+        is ∙ ap (λ (t : List ℕ). t ++ take k (report_text hs block made)) (was_taken told) ∙ append_assoc first text (take k (report_text hs block made))
+            ∙ ap (λ (t : List ℕ). first ++ t) (sym (take-append-add text (report_text hs block made) k)),
+      )
+      taken_on told (Some WantsMemory) is = is ∙ ap (λ (t : List ℕ). t ++ report_text hs block made) (was_taken told) ∙ append_assoc first text (report_text hs block made)
+
+      cause_on : (o : Option Stop) → IsStopCause o before_faults after_faults → IsStopCause o first_faults after_faults
+      cause_on None is = tt
+      cause_on (Some WriteFault) is = grind (arith, nat_tests, is, shown.never_falls)
+      cause_on (Some WantsMemory) is = tt
+
+      block_shown : IsShownTo tells lines new first new_taken first_faults after_faults
+      block_shown = record {
+        taken = λ told. subst (λ (t : List ℕ). IsTaken new.stopped first new_taken t) (sym (ap (λ (rs : List LineReply). report_text hs lines rs) did.shown.shown.more ∙ text_is made few_made))
+            (taken_on told new.stopped (did.shown.shown.taken told));
+        shown = did.shown.shown.shown (length text) was_shown
+            ∙ ap counted (sym (ap (λ (rs : List LineReply). length (report_text hs lines rs)) (whole_is new.stopped did.shown.all)
+            ∙ ap (λ (t : List ℕ). length t) (text_is (taken_whole new.stopped made) (whole_few new.stopped)) ∙ length-append text (report_text hs block (taken_whole new.stopped made))));
+        cause = cause_on new.stopped cause;
+        never_falls = omega (arith, falls, shown.never_falls);
+      }
+
+      pub block_step : IsPerformed wide lines new × IsShownTo tells lines new first new_taken first_faults after_faults
+      block_step = (block_performed, block_shown)
+
+  -- ---- a turn
+
+  -- its first line
+  first-is : (others : List Numbered) (count : ℕ) (first numbered : Numbered) → 1 ≤ count → take count (first ∷ others) ≡ numbered ∷ [] → first ≡ numbered
+  first-is others zero first numbered some is = absurd (omega (arith, some))
+  first-is others (suc count) first numbered some is = ap (λ (ls : List Numbered). get_or ls 0 first) is
+
+  module _ (count : ℕ) (some : 1 ≤ count) (fits : length old.replies.items + count ≤ length lines) {tells : Type 0} {old_taken new_taken : List ℕ} where
+    pub turn_step : {first : List ℕ} {first_faults before_faults : ℕ} (after_faults : ℕ) → IsShownTo tells lines old first old_taken first_faults before_faults → IsTurnStep tells (setting_of bank_tells given mid_tape tape backup mid now) old new (take count (drop (length old.replies.items) lines)) old_taken new_taken → IsStopCause new.stopped before_faults after_faults → before_faults ≤ after_faults
+        → IsPerformed (setting_of bank_tells given first_tape tape backup start now) lines new × IsShownTo tells lines new first new_taken first_faults after_faults
+    turn_step after_faults shown (inl line) cause falls =
+        let lt : length old.replies.items < length lines = omega (arith, some, fits) in
+        let here : get_or lines (length old.replies.items) line.numbered ≡ line.numbered =
+        first-is (drop (suc (length old.replies.items)) lines) count (get_or lines (length old.replies.items) line.numbered) line.numbered some
+        (ap (λ (ls : List Numbered). take count ls) (sym (drop-cons lines (length old.replies.items) line.numbered lt)) ∙ line.is) in
+        step line.numbered line.numbered line.script lt here new_taken after_faults shown new.stopped refl line.step cause falls
+    turn_step after_faults shown (inr did) cause falls = block_step count some fits did after_faults shown cause falls
+
+    -- a turn that went on has a reply more for each of its lines
+    pub turn_count : new.stopped ≡ None → IsTurnStep tells (setting_of bank_tells given mid_tape tape backup mid now) old new (take count (drop (length old.replies.items) lines)) old_taken new_taken → length new.replies.items ≡ length old.replies.items + count
+    turn_count going (inl line) =
+        let long = length-drop (length old.replies.items) lines in
+        let whole = length-take-le count (drop (length old.replies.items) lines) (omega (arith, long, fits)) in
+        let one = ap (λ (ls : List Numbered). length ls) line.is in
+        let more = one_reply tells (setting_of bank_tells given mid_tape tape backup mid now) old new line.numbered old_taken new_taken new.stopped going line.step in
+        omega (arith, whole, one, more)
+    turn_count going (inr did) =
+        let all = subst (λ (o : Option Stop). AreAllMade o (length (take count (drop (length old.replies.items) lines))) (length did.shown.shown.made)) going did.shown.all in
+        let long = length-drop (length old.replies.items) lines in
+        let whole = length-take-le count (drop (length old.replies.items) lines) (omega (arith, long, fits)) in
+        let more = ap (λ (l : List LineReply). length l) did.shown.shown.more in
+        let sum = length-append old.replies.items did.shown.shown.made in
+        omega (arith, all, whole, more, sum)
+
 -- where the run stands once all that is told was done
 course_told : (histories : List History) (behind : List Numbered) (told course : Course) (o : Option Stop) → course ≡ told → IsCourse o histories behind told course
-course_told histories behind told course None same = same
-course_told histories behind told course (Some WriteFault) same = inl same
-course_told histories behind told course (Some WantsMemory) same = inl same
+course_told histories others told course None same = same
+course_told histories others told course (Some WriteFault) same = inl same
+course_told histories others told course (Some WantsMemory) same = inl same
 
 -- nothing was performed yet
 pub performed_none : {B bank_tells : Type 0} {given : Given} {backup : Option ℕ} {tape : List Operation} {start : ℕ → ℕ} (lines : List Numbered) (session : Session B) (bank : B) (epochs : Vec Epoch) → session.state ≡ Idle bank epochs → epochs.items ≡ []
@@ -312,7 +566,7 @@ performed_none {B = B} {bank_tells = bank_tells} {given = given} {backup = backu
   course = subst (λ (o : Option Stop). IsCourse o (histories_in session.state) (drop (length session.replies.items) lines) (course_of (histories_in session.state) (at_rest 0) (take (length session.replies.items) lines) session.replies.items) (course_in session.state)) (sym going)
       (course_told _ _ _ _ o (ap (λ (s : State B). course_in s) idle ∙ ap (λ (l : List Epoch). at_rest (length l)) empty ∙ ap (λ (rs : List LineReply). course_of (histories_in session.state) (at_rest 0) (take (length rs) lines) rs) (sym none)));
   last = None;
-  recorded = subst (λ (rs : List LineReply). AreRecorded (setting_of bank_tells given tape tape backup start start) (histories_in session.state) None (take (length rs) lines) rs None) (sym none) refl;
+  recorded = subst (λ (rs : List LineReply). AreRecorded (setting_of bank_tells given tape tape backup start start) (histories_in session.state) (at_rest 0) None (take (length rs) lines) rs None) (sym none) refl;
   recorded_now = λ going_on. sym (ap (λ (s : State B). record_in s) idle);
   losses = subst (λ (s : State B). AreLossesFrom (setting_of bank_tells given tape tape backup start start) [] (histories_in s)) (sym idle) (subst (λ (l : List Epoch). AreLossesFrom (setting_of bank_tells given tape tape backup start start) [] (histories_of l)) (sym empty) tt);
   ends = λ t. subst (λ (rs : List LineReply). AreInOrder (length tape) (length tape) rs) (sym none) (omega arith);

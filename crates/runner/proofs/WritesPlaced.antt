@@ -15,20 +15,20 @@ use Rattle.script.specs.declared.lines.Line.{Line}
 use Rattle.script.specs.declared.lines.Numbered.{Numbered}
 use Rattle.script.specs.declared.reply.Lane.{Lane}
 use Rattle.script.specs.declared.reply.Lane.TheVariants.{Script as InScript, A as InA, B as InB, Worker as InWorker}
-use Rattle.line_answers.specs.run_laws_the_Answered.{Answered}
-use Rattle.line_answers.specs.run_laws_the_Answered_TheVariants.{Inside, Outside as IsOutside}
-use Rattle.line_answers.specs.run_laws_the_LineReply.{LineReply}
+use Rattle.block_answers.specs.run_laws_the_Answered.{Answered}
+use Rattle.block_answers.specs.run_laws_the_Answered_TheVariants.{Inside, Outside as IsOutside}
+use Rattle.block_answers.specs.run_laws_the_LineReply.{LineReply}
 use Rattle.runner.specs.declared.sessions.Stop.{Stop}
 use Rattle.runner.specs.declared.sessions.Stop.TheVariants.{NoMemory as IsShort}
-use Rattle.line_answers.specs.run_laws_Ended.{next_mark, AreRising}
-use Rattle.line_answers.specs.run_laws_Histories.{History, history_of, histories_of}
-use Rattle.line_answers.specs.run_laws_Making.{Setting, setting_of}
-use Rattle.line_answers.specs.run_laws_Replies.{mark_reached, mark_shown, AreInOrder}
+use Rattle.block_answers.specs.run_laws_Ended.{next_mark, AreRising}
+use Rattle.block_answers.specs.run_laws_Histories.{History, history_of, histories_of}
+use Rattle.block_answers.specs.run_laws_Making.{Setting, setting_of}
+use Rattle.block_answers.specs.run_laws_Replies.{mark_reached, mark_shown, AreInOrder}
 use Rattle.runner.specs.Sessions.{IsEndNow}
-use Rattle.line_answers.specs.run_laws_Written.{IsInEpoch, MayWrite, HasWritten, AreSpans, IsWritten}
+use Rattle.block_answers.specs.run_laws_Written.{IsInEpoch, MayWrite, HasWritten, AreSpans, IsWritten}
 use Rattle.runner.specs.Writes.{IsOfCreate, AreWritesPlaced, NoneOfCreate, AreQuiet}
-use Rattle.line_answers.proofs.run_laws_Worlds.{last-within}
-use Rattle.line_answers.proofs.run_laws_Writing.{none-behind, spans-back}
+use Rattle.block_answers.proofs.run_laws_Worlds.{last-within}
+use Rattle.block_answers.proofs.run_laws_Writing.{none-behind, spans-back}
 
 -- the tape's front stays
 front-stays : (old ops : List Operation) (mark : ℕ) (op : Operation) → mark < length old → slice_get (old ++ ops) mark ≡ Some op → slice_get old mark ≡ Some op

@@ -10,7 +10,7 @@ use Rattle.flat_history.specs.Reopened.{EndsSettled, OpensWith, IsSameArray}
 use Rattle.flat_history.specs.Sound.{OpensFit}
 use Rattle.flat_history.specs.Transfers.{last_end_from}
 use Rattle.flat_history.specs.World.{opening_list}
-use Rattle.line_answers.specs.run_laws_Ended.{IfReliable, IfShapeKept, IfFilledRight}
+use Rattle.block_answers.specs.run_laws_Ended.{IfReliable, IfShapeKept, IfFilledRight}
 use Rattle.reopened_laws.specs.Later.{IsLengthKept}
 
 -- The next epoch is of the same array, behind nothing but flushes: in the same slots, or in fewer, where by what they hold those that lack, as

@@ -1,5 +1,4 @@
 pub mod Kept
-pub mod Pace
 pub mod Runs
 pub mod Sessions
 pub mod Shown

@@ -5,22 +5,22 @@ use Rattle.std.specs.Option.{option_map_or}
 use Rattle.flat_history.specs.declared.events.Epoch.{Epoch}
 use Rattle.flat_history.specs.declared.events.Event.TheVariants.{Halted}
 use Rattle.flat_history.specs.Flat.{last_of}
-use Rattle.script.specs.Script.{script_of}
+use Rattle.script.specs.Script.{script_with}
 use Rattle.script.specs.declared.lines.Numbered.{Numbered}
 use Rattle.script.specs.declared.reply.Lane.TheVariants.{Script as InScript}
-use Rattle.line_answers.specs.run_laws_the_LineReply.{LineReply}
+use Rattle.block_answers.specs.run_laws_the_LineReply.{LineReply}
 use Rattle.runner.specs.declared.sessions.Stop.{Stop}
 use Rattle.runner.specs.declared.sessions.Stop.TheVariants.{WriteFault, NoMemory as WantsMemory}
-use Rattle.line_answers.specs.run_laws_the_State.{State}
-use Rattle.line_answers.specs.run_laws_Histories.{History, history_of, histories_of}
-use Rattle.line_answers.specs.run_laws_Making.{Setting}
-use Rattle.line_answers.specs.run_laws_Caused.{Record}
-use Rattle.line_answers.specs.run_laws_Records.{AreRecorded}
-use Rattle.line_answers.specs.run_laws_Replies.{Course, at_rest, course_of, AreReplies, AreInOrder}
+use Rattle.block_answers.specs.run_laws_the_State.{State}
+use Rattle.block_answers.specs.run_laws_Histories.{History, history_of, histories_of}
+use Rattle.block_answers.specs.run_laws_Making.{Setting}
+use Rattle.block_answers.specs.run_laws_Caused.{Record}
+use Rattle.block_answers.specs.run_laws_Records.{AreRecorded}
+use Rattle.block_answers.specs.run_laws_Replies.{Course, at_rest, course_of, AreReplies, AreInOrder}
 use Rattle.runner.specs.Sessions.{IsCourse, counted, taken_whole, IsTaken}
 use Rattle.runner.specs.Shown.{report_text, has_refusal}
-use Rattle.runner.specs.Source.{IsTextOf}
-use Rattle.line_answers.specs.run_laws_States.{histories_in, bank_in, course_in, AreOfScript, AreGrown, AreLossesBehind, AreLossesFrom}
+use Rattle.runner.specs.Source.{IsTextFor}
+use Rattle.block_answers.specs.run_laws_States.{histories_in, bank_in, course_in, AreOfScript, AreGrown, AreLossesBehind, AreLossesFrom}
 use Rattle.runner.specs.Writes.{AreWritesPlaced, AreQuiet}
 
 -- The statuses: 0 done, 1 done with refusals, 2 bad words, 3 a bad line, 4 the source failed, 5 the sink failed, 6 memory was short.
@@ -50,7 +50,7 @@ pub record AreLinesPerformed (setting : Setting) (asked : List Numbered) (stoppe
   pub all : stopped ≡ None → length lines ≡ length asked
   pub replies : AreReplies setting (histories_of epochs) (at_rest 0) (take (length lines) asked) lines
   pub last : Option Record
-  pub recorded : AreRecorded setting (histories_of epochs) None (take (length lines) asked) lines last
+  pub recorded : AreRecorded setting (histories_of epochs) (at_rest 0) None (take (length lines) asked) lines last
   pub course : Course
   pub told : IsCourse stopped (histories_of epochs) (drop (length lines) asked) (course_of (histories_of epochs) (at_rest 0) (take (length lines) asked) lines) course
   pub halted : AreHalted course (histories_of epochs)
@@ -79,20 +79,20 @@ pub record AreShown (sunk : Sunk) (status : ℕ) (asked : List Numbered) (epochs
   pub shown : sunk.shown ≡ counted (length (report_text (histories_of epochs) asked (taken_whole (stop_of status) lines)))
   pub refusals : AreTold status (has_refusal (histories_of epochs) asked lines)
 
--- the whole text of the script was read, and then its lines were performed, and their replies were shown
-pub record IsScriptPerformed (source_tells : Type 0) (old new : List ℕ) (setting : Setting) (sunk : Sunk) (status : ℕ) (epochs : List Epoch) (lines : List LineReply) : Type 0 where
+-- the whole text of the script was there, and then its lines were performed, and their replies were shown
+pub record IsScriptPerformed (demo : Option ℕ) (source_tells : Type 0) (old new : List ℕ) (setting : Setting) (sunk : Sunk) (status : ℕ) (epochs : List Epoch) (lines : List LineReply) : Type 0 where
   pub text : List ℕ
-  pub read : IsTextOf source_tells old new text
+  pub read : IsTextFor demo source_tells old new text
   pub asked : List Numbered
-  pub parsed : script_of text ≡ Ok asked
+  pub parsed : script_with true text ≡ Ok asked
   pub performed : AreLinesPerformed setting asked (stop_of status) epochs lines
   pub shown : AreShown sunk status asked epochs lines
 
--- the whole text was read, or one byte more than it may have, and this is its first bad line
-pub record IsScriptBad (tells : Type 0) (old new : List ℕ) (line : ℕ) : Type 0 where
+-- the whole text was there, or one byte more than it may have, and this is its first bad line
+pub record IsScriptBad (demo : Option ℕ) (tells : Type 0) (old new : List ℕ) (line : ℕ) : Type 0 where
   pub text : List ℕ
-  pub read : IsTextOf tells old new text
-  pub bad : script_of text ≡ Err line
+  pub read : IsTextFor demo tells old new text
+  pub bad : script_with true text ≡ Err line
 
 -- each loss and each refusal that is told has its cause, by the entries before it
 abbrev pub AreLossesFailed : Setting → List Epoch → Type 0

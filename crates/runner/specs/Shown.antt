@@ -11,12 +11,12 @@ use Rattle.script.specs.declared.reply.Lane.{Lane}
 use Rattle.script.specs.Script.{is_of_worker}
 use Rattle.script.specs.Texts.{created_text, assembled_text, refusal_text, event_text, waited_text, worker_text, worker_refusal_text, lane_text}
 use Rattle.status_text.specs.Texts.{detail_text, mdstat_text, examined_text}
-use Rattle.line_answers.specs.run_laws_the_Outside.{Outside}
-use Rattle.line_answers.specs.run_laws_the_Outside_TheVariants.{Created, Assembled, Examined, Refused}
-use Rattle.line_answers.specs.run_laws_the_Answered.{Answered}
-use Rattle.line_answers.specs.run_laws_the_Answered_TheVariants.{Inside, Outside as IsOutside}
-use Rattle.line_answers.specs.run_laws_the_LineReply.{LineReply}
-use Rattle.line_answers.specs.run_laws_Histories.{History, entry_at}
+use Rattle.block_answers.specs.run_laws_the_Outside.{Outside}
+use Rattle.block_answers.specs.run_laws_the_Outside_TheVariants.{Created, Assembled, Examined, Refused}
+use Rattle.block_answers.specs.run_laws_the_Answered.{Answered}
+use Rattle.block_answers.specs.run_laws_the_Answered_TheVariants.{Inside, Outside as IsOutside}
+use Rattle.block_answers.specs.run_laws_the_LineReply.{LineReply}
+use Rattle.block_answers.specs.run_laws_Histories.{History, entry_at}
 
 -- an answer that no entry gives; the worker's refusal has a text of its own
 abbrev pub outside_text : Lane → Outside → List ℕ

@@ -1,6 +1,7 @@
--- The text that is read from a source.
-use Rattle.std.specs.Prelude.{◌≡◌, ℕ, ◌+◌, ◌≤◌, List, [], ◌++◌, length}
+-- The text of a script: what is read from a source, or that of a demo.
+use Rattle.std.specs.Prelude.{◌≡◌, ℕ, ◌+◌, ◌≤◌, List, [], ◌++◌, length, Option, Some, None}
 use Rattle.text_io.specs.Causes.{HasRisen}
+use Rattle.demo_script.specs.Demo.{demo_text}
 use Rattle.runner.specs.declared.text.TextFault.{TextFault}
 use Rattle.runner.specs.declared.text.TextFault.TheVariants.{Failed}
 
@@ -13,6 +14,11 @@ pub record IsTextOf (tells : Type 0) (old new text : List ℕ) : Type 0 where
   pub within : length text ≤ longest_text + 1
   pub moved : tells → old ≡ text ++ new
   pub ended : tells → length text ≤ longest_text → new ≡ []
+
+-- the text of a script: of a demo of this size its own, and else what was read of the source
+abbrev pub IsTextFor : Option ℕ → Type 0 → List ℕ → List ℕ → List ℕ → Type 0
+IsTextFor None tells old new text = IsTextOf tells old new text
+IsTextFor (Some size) tells old new text = text ≡ demo_text size
 
 -- one pull has moved so many bytes from the source to the text's end, and none only at the source's end
 pub record IsPiece (tells : Type 0) (old new text longer : List ℕ) (room pulled : ℕ) : Type 0 where

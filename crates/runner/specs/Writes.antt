@@ -7,13 +7,13 @@ use Rattle.bank.specs.declared.bank.Operation.TheVariants.{Write}
 use Rattle.flat_history.specs.declared.events.Epoch.{Epoch}
 use Rattle.flat_history.specs.Transfers.{last_end_from}
 use Rattle.script.specs.declared.lines.Numbered.{Numbered}
-use Rattle.line_answers.specs.run_laws_the_LineReply.{LineReply}
+use Rattle.block_answers.specs.run_laws_the_LineReply.{LineReply}
 use Rattle.runner.specs.declared.sessions.Stop.{Stop}
 use Rattle.runner.specs.declared.sessions.Stop.TheVariants.{NoMemory as WantsMemory}
-use Rattle.line_answers.specs.run_laws_Histories.{History}
-use Rattle.line_answers.specs.run_laws_Making.{Setting}
-use Rattle.line_answers.specs.run_laws_Replies.{mark_shown}
-use Rattle.line_answers.specs.run_laws_Written.{IsInEpoch, MayWrite, HasWritten, AreSpans}
+use Rattle.block_answers.specs.run_laws_Histories.{History}
+use Rattle.block_answers.specs.run_laws_Making.{Setting}
+use Rattle.block_answers.specs.run_laws_Replies.{mark_shown}
+use Rattle.block_answers.specs.run_laws_Written.{IsInEpoch, MayWrite, HasWritten, AreSpans}
 
 -- The write at this mark, to this slot, is of one of these create lines, the first of which was begun at `low`: it stands between the reply
 -- before and the line's own, or behind the last reply, where memory was short for one more.

@@ -1,13 +1,13 @@
 //! A run: the command's words, the script's text, its lines performed on an array, and the text of their replies.
 #![tactic(auto)]
 
-mod pace;
+mod blocks;
 mod report;
 mod runs;
 mod sessions;
 mod text;
 
-pub use pace::Pace;
+pub use block_answers::Pace;
 pub use report::Report;
 pub use runs::run;
 pub use sessions::{Made, Session, Stop, perform};

@@ -1,7 +1,7 @@
 //! What a run reports.
 
+use block_answers::LineReply;
 use flat_history::Epoch;
-use line_answers::LineReply;
 
 /// How a run ended: the status that the program ends with, the first bad line where one was bad, the bank, the epochs of
 /// its arrays, the replies in the order of the lines, and how many bytes of their text the sink took whole.

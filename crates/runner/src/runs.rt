@@ -1,34 +1,33 @@
 //! A whole run, from the words and the script's text to the replies' text.
 
 ghost use Rattle.std.specs.Prelude.{◌≡◌, ◌≢◌, ◌⊎◌, ◌<◌, ◌≤◌, ◌+◌, ◌-◌, ◌^◌, ℕ, true, List, [], length, map, string_bytes, Option, Some, None, Ok, IfOk, IfSome, IsTrue, vec_len, vec_capacity};
-ghost use Rattle.std.specs.List.{All, AllPass};
+ghost use Rattle.std.specs.List.{AllPass};
 ghost use Rattle.bank.specs.Given.{NeverFalls};
-ghost use Rattle.views.specs.Moving.{Grows};
+ghost use Rattle.block_answers.specs.views_Moving.{Grows};
 ghost use Rattle.text_io.specs.Causes.{HasRisen};
-ghost use Rattle.script.specs.Script.{script_of, is_within_limits};
+ghost use Rattle.script.specs.Script.{is_within_limits, may_ask, are_in_turn};
 ghost use Rattle.script.specs.declared.reply.Lane.TheVariants.{Script as InScript};
-ghost use Rattle.command_words.specs.Words.{asked_by as asked_of, command_in, is_run, slots_for, backup_in};
-ghost use Rattle.runner.specs.Pace.{AnswersSteps, asked_by};
-ghost use Rattle.line_answers.specs.run_laws_Ended.{IsRunKept, AreLegal, AreRight, AreRising, AreFormer};
-ghost use Rattle.line_answers.specs.run_laws_Histories.{history_of, histories_of};
+ghost use Rattle.command_words.specs.Words.{asked_by as asked_of, command_in, is_parsed, slots_for, backup_in, demo_for, demo_in, IsDemoSize};
+ghost use Rattle.block_answers.specs.lanes_Pace.{AnswersSteps, asked_by};
+ghost use Rattle.block_answers.specs.run_laws_Ended.{IsRunKept, AreLegal, AreRight, AreRising, AreFormer};
+ghost use Rattle.block_answers.specs.run_laws_Histories.{history_of, histories_of};
 ghost use Rattle.runner.specs.Kept.{AreKept};
-ghost use Rattle.line_answers.specs.run_laws_Making.{setting_of};
+ghost use Rattle.block_answers.specs.run_laws_Making.{setting_of};
 ghost use Rattle.runner.specs.Runs.{mark_behind, status_for, stop_of, IsAfterLines, IsBeforeLines, IsNothing, sunk_of, AreLinesPerformed, IsScriptPerformed, IsScriptBad, AreLossesFailed, AreEndedAt, IsEnded};
 ghost use Rattle.runner.specs.Sessions.{counted, taken_whole, IsTaken};
 ghost use Rattle.runner.specs.Shown.{report_text, has_refusal};
-ghost use Rattle.runner.specs.Source.{IsTextOf};
-ghost use Rattle.line_answers.specs.run_laws_States.{histories_in, bank_in, RunsOwn, IsFitBank};
-ghost use Rattle.line_answers.specs.run_laws_Written.{IsWritten};
+ghost use Rattle.runner.specs.Source.{IsTextFor};
+ghost use Rattle.block_answers.specs.run_laws_States.{histories_in, bank_in, RunsOwn, IsFitBank};
+ghost use Rattle.block_answers.specs.run_laws_Written.{IsWritten};
 
-use crate::pace::Pace;
 use crate::report::Report;
 use crate::sessions::{Session, Stop, perform};
-use crate::text::{TextFault, read_text};
+use crate::text::{TextFault, script_text};
 use bank::Bank;
+use block_answers::{Pace, State, script_call};
 use command_words::{Command, command_of};
 use flat_history::Epoch;
-use line_answers::{State, script_call};
-use script::{Numbered, ScriptFault, read_script};
+use script::{Numbered, ScriptFault, read_script_with_blocks};
 use std::alloc::Global;
 use std::sync::Wait;
 use std::thread::Threads;
@@ -147,15 +146,25 @@ fn nothing_done<B: Bank>(alloc: Global, bank: B, status: u8, bad_line: u64) -> R
 }
 
 // Performs the lines and halts the array, if one runs.
-fn run_lines<B: Bank, K: Sink>(
+fn run_lines<
+    B: Bank + Drop + Send,
+    K: Sink,
+    F: Fn(u64, u64) -> u64 + Sync,
+    R: Threads + Wait + Sync,
+>(
+    rt: &R,
     alloc: Global,
     bank: B,
     backup: Option<u32>,
     lines: &[Numbered],
+    pace: &Pace<F>,
     out: &mut K,
 ) -> Report<B>
     requires limits { AllPass (λ numbered. is_within_limits numbered.line) lines.now }
-    requires scripts { All (λ numbered. numbered.lane ≡ InScript) lines.now }
+    requires lanes { AllPass (λ numbered. may_ask numbered.lane numbered.line) lines.now }
+    requires turns { IsTrue (are_in_turn InScript lines.now) }
+    requires callable { F.IsAlwaysCallable (asked_by pace.now) }
+    requires answers { AnswersSteps (F.post (asked_by pace.now)) }
     requires bank { IsFitBank (B.given bank) backup }
     ensures status { result.status ≡ status_for (stop_of result.status) (has_refusal (histories_of result.epochs.items) lines.now result.lines.items) }
     ensures performed { AreLinesPerformed (setting_of B.tells (B.given bank) (B.tape bank) (B.tape result.bank) backup (B.faults_of bank) (B.faults_of result.bank)) lines.now (stop_of result.status) result.epochs.items result.lines.items }
@@ -179,7 +188,7 @@ fn run_lines<B: Bank, K: Sink>(
         shown,
         refused,
         stopped,
-    } = perform(alloc, bank, backup, lines, out);
+    } = perform(rt, alloc, bank, backup, lines, pace, out);
     let (bank, epochs) = end_run(state, backup);
     Report {
         status: status_of(stopped, refused),
@@ -191,22 +200,35 @@ fn run_lines<B: Bank, K: Sink>(
     }
 }
 
-// A run of the script that the source gives.
-fn run_script<B: Bank, S: Source, K: Sink>(
+// A run of the script of a demo of this size, or else of the one that the source gives.
+fn run_script<
+    B: Bank + Drop + Send,
+    S: Source,
+    K: Sink,
+    F: Fn(u64, u64) -> u64 + Sync,
+    R: Threads + Wait + Sync,
+>(
+    rt: &R,
     alloc: Global,
+    demo: Option<u64>,
     script: &mut S,
     out: &mut K,
     bank: B,
     backup: Option<u32>,
+    pace: &Pace<F>,
 ) -> Report<B>
+    requires few { IfSome demo IsDemoSize }
     requires bank { IsFitBank (B.given bank) backup }
+    requires callable { F.IsAlwaysCallable (asked_by pace.now) }
+    requires answers { AnswersSteps (F.post (asked_by pace.now)) }
     ensures status { result.status ≤ 6 }
     ensures good_words { result.status ≢ 2 }
-    ensures bad_line { result.status ≡ 3 → IsScriptBad S.tells (S.left script.old) (S.left script.new) result.bad_line }
+    ensures bad_line { result.status ≡ 3 → IsScriptBad demo S.tells (S.left script.old) (S.left script.new) result.bad_line }
+    ensures unread { IfSome demo (λ size. script.new ≡ script.old) }
     ensures read_fault { result.status ≡ 4 → HasRisen (S.faults_of script.old) (S.faults_of script.new) }
     ensures write_fault { result.status ≡ 5 → HasRisen (K.faults_of out.old) (K.faults_of out.new) }
-    ensures performed { IsAfterLines result.status → IsScriptPerformed S.tells (S.left script.old) (S.left script.new) (setting_of B.tells (B.given bank) (B.tape bank) (B.tape result.bank) backup (B.faults_of bank) (B.faults_of result.bank)) (sunk_of K.tells (K.taken out.old) (K.taken out.new) result.shown) result.status result.epochs.items result.lines.items }
-    ensures short { result.status ≡ 6 → IsScriptPerformed S.tells (S.left script.old) (S.left script.new) (setting_of B.tells (B.given bank) (B.tape bank) (B.tape result.bank) backup (B.faults_of bank) (B.faults_of result.bank)) (sunk_of K.tells (K.taken out.old) (K.taken out.new) result.shown) result.status result.epochs.items result.lines.items
+    ensures performed { IsAfterLines result.status → IsScriptPerformed demo S.tells (S.left script.old) (S.left script.new) (setting_of B.tells (B.given bank) (B.tape bank) (B.tape result.bank) backup (B.faults_of bank) (B.faults_of result.bank)) (sunk_of K.tells (K.taken out.old) (K.taken out.new) result.shown) result.status result.epochs.items result.lines.items }
+    ensures short { result.status ≡ 6 → IsScriptPerformed demo S.tells (S.left script.old) (S.left script.new) (setting_of B.tells (B.given bank) (B.tape bank) (B.tape result.bank) backup (B.faults_of bank) (B.faults_of result.bank)) (sunk_of K.tells (K.taken out.old) (K.taken out.new) result.shown) result.status result.epochs.items result.lines.items
         ⊎ (IsNothing (sunk_of K.tells (K.taken out.old) (K.taken out.new) result.shown) result.epochs.items result.lines.items × (result.bank ≡ bank)) }
     ensures nothing { IsBeforeLines result.status → IsNothing (sunk_of K.tells (K.taken out.old) (K.taken out.new) result.shown) result.epochs.items result.lines.items }
     ensures untouched { IsBeforeLines result.status → result.bank ≡ bank }
@@ -221,13 +243,13 @@ fn run_script<B: Bank, S: Source, K: Sink>(
     ensures sink_never_falls { K.faults_of out.old ≤ K.faults_of out.new }
     ensures given { B.given result.bank ≡ B.given bank }
 {
-    let text = match read_text(alloc, script) {
+    let text = match script_text(alloc, demo, script) {
         Ok(text) => text,
         Err(TextFault::Failed) => return nothing_done(alloc, bank, READ_FAULT, 0),
         Err(TextFault::NoMemory) => return nothing_done(alloc, bank, NO_MEMORY, 0),
     };
-    match read_script(alloc, text.as_slice()) {
-        Ok(lines) => run_lines(alloc, bank, backup, lines.as_slice(), out),
+    match read_script_with_blocks(alloc, text.as_slice()) {
+        Ok(lines) => run_lines(rt, alloc, bank, backup, lines.as_slice(), pace, out),
         Err(ScriptFault::BadLine(line)) => nothing_done(alloc, bank, BAD_LINE, line),
         Err(ScriptFault::NoMemory) => nothing_done(alloc, bank, NO_MEMORY, 0),
     }
@@ -242,7 +264,7 @@ fn backup_of<B: Bank>(words: &[String], command: &Command, bank: &B) -> Option<u
 {
     let _ = words;
     match command {
-        Command::Memory => Some(bank.slots() - 1),
+        Command::Memory | Command::Demo(_) => Some(bank.slots() - 1),
         Command::Run(paths) => {
             if paths.has_backup {
                 Some(bank.slots() - 1)
@@ -253,19 +275,33 @@ fn backup_of<B: Bank>(words: &[String], command: &Command, bank: &B) -> Option<u
     }
 }
 
+// The size of the demo that a command performs, where it is one.
+fn demo_of(words: &[String], command: &Command) -> Option<u64>
+    requires asked { command_in (map string_bytes words.now) ≡ Some (asked_of command.now) }
+    requires few { IfSome (demo_for (asked_of command.now)) IsDemoSize }
+    ensures demo { result ≡ demo_in (map string_bytes words.now) }
+    ensures few { IfSome result IsDemoSize }
+{
+    let _ = words;
+    match command {
+        Command::Demo(size) => Some(*size),
+        _ => None,
+    }
+}
+
 /// Reads the words, then the whole script, and then performs its lines, one after another, on the arrays that they make and
 /// find on the bank. Each reply is one piece for the sink, which is pushed before the next line. An array that still runs at the
 /// end is halted. The words are those of the command after the program's name; `memory` wants a bank of eight slots, the
-/// last of which is the backup, and `run` one with a slot for each of its images and for its backup, which is the last. The pace
-/// is that of background work, of which there is none so far.
+/// last of which is the backup, and `run` one with a slot for each of its images and for its backup, which is the last. The lines of a
+/// block are performed at once, in threads, beside a worker that asks for steps as many at a time as the pace answers: `run` may wait.
 pub fn run<
     R: Threads + Wait + Sync,
-    B: Bank + Send,
+    B: Bank + Drop + Send,
     S: Source,
     K: Sink,
     F: Fn(u64, u64) -> u64 + Sync + Drop,
 >(
-    _rt: &R,
+    rt: &R,
     alloc: Global,
     words: &[String],
     script: &mut S,
@@ -278,12 +314,13 @@ pub fn run<
     requires answers { AnswersSteps (F.post (asked_by pace)) }
     ensures status { result.status ≤ 6 }
     ensures bad_words { result.status ≡ 2 → command_in (map string_bytes words.now) ≡ None }
-    ensures no_command { command_in (map string_bytes words.now) ≡ None → (result.status ≡ 2) ⊎ ((result.status ≡ 6) × (is_run (map string_bytes words.now) ≡ true)) }
-    ensures bad_line { result.status ≡ 3 → IsScriptBad S.tells (S.left script.old) (S.left script.new) result.bad_line }
+    ensures no_command { command_in (map string_bytes words.now) ≡ None → (result.status ≡ 2) ⊎ ((result.status ≡ 6) × (is_parsed (map string_bytes words.now) ≡ true)) }
+    ensures bad_line { result.status ≡ 3 → IsScriptBad (demo_in (map string_bytes words.now)) S.tells (S.left script.old) (S.left script.new) result.bad_line }
+    ensures unread { IfSome (demo_in (map string_bytes words.now)) (λ size. script.new ≡ script.old) }
     ensures read_fault { result.status ≡ 4 → HasRisen (S.faults_of script.old) (S.faults_of script.new) }
     ensures write_fault { result.status ≡ 5 → HasRisen (K.faults_of out.old) (K.faults_of out.new) }
-    ensures performed { IsAfterLines result.status → IsScriptPerformed S.tells (S.left script.old) (S.left script.new) (setting_of B.tells (B.given bank) (B.tape bank) (B.tape result.bank) (backup_in (map string_bytes words.now)) (B.faults_of bank) (B.faults_of result.bank)) (sunk_of K.tells (K.taken out.old) (K.taken out.new) result.shown) result.status result.epochs.items result.lines.items }
-    ensures short { result.status ≡ 6 → IsScriptPerformed S.tells (S.left script.old) (S.left script.new) (setting_of B.tells (B.given bank) (B.tape bank) (B.tape result.bank) (backup_in (map string_bytes words.now)) (B.faults_of bank) (B.faults_of result.bank)) (sunk_of K.tells (K.taken out.old) (K.taken out.new) result.shown) result.status result.epochs.items result.lines.items
+    ensures performed { IsAfterLines result.status → IsScriptPerformed (demo_in (map string_bytes words.now)) S.tells (S.left script.old) (S.left script.new) (setting_of B.tells (B.given bank) (B.tape bank) (B.tape result.bank) (backup_in (map string_bytes words.now)) (B.faults_of bank) (B.faults_of result.bank)) (sunk_of K.tells (K.taken out.old) (K.taken out.new) result.shown) result.status result.epochs.items result.lines.items }
+    ensures short { result.status ≡ 6 → IsScriptPerformed (demo_in (map string_bytes words.now)) S.tells (S.left script.old) (S.left script.new) (setting_of B.tells (B.given bank) (B.tape bank) (B.tape result.bank) (backup_in (map string_bytes words.now)) (B.faults_of bank) (B.faults_of result.bank)) (sunk_of K.tells (K.taken out.old) (K.taken out.new) result.shown) result.status result.epochs.items result.lines.items
         ⊎ (IsNothing (sunk_of K.tells (K.taken out.old) (K.taken out.new) result.shown) result.epochs.items result.lines.items × (result.bank ≡ bank)) }
     ensures nothing { IsBeforeLines result.status → IsNothing (sunk_of K.tells (K.taken out.old) (K.taken out.new) result.shown) result.epochs.items result.lines.items }
     ensures untouched { IsBeforeLines result.status → result.bank ≡ bank }
@@ -298,7 +335,6 @@ pub fn run<
     ensures sink_never_falls { K.faults_of out.old ≤ K.faults_of out.new }
     ensures given { B.given result.bank ≡ B.given bank }
 {
-    let _ = pace;
     let command = match command_of(alloc, words) {
         Ok(command) => command,
         Err(_) => return nothing_done(alloc, bank, NO_MEMORY, 0),
@@ -307,5 +343,6 @@ pub fn run<
         return nothing_done(alloc, bank, BAD_WORDS, 0);
     };
     let backup = backup_of(words, &command, &bank);
-    run_script(alloc, script, out, bank, backup)
+    let demo = demo_of(words, &command);
+    run_script(rt, alloc, demo, script, out, bank, backup, &pace)
 }

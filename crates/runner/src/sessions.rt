@@ -1,24 +1,26 @@
 //! The lines of a script performed one after another, each reply shown before the next line.
 
-ghost use Rattle.std.specs.Prelude.{◌≡◌, ◌≤◌, if◌then◌else◌, length, vec_capacity, None, IsTrue};
-ghost use Rattle.std.specs.List.{All, AllPass};
+ghost use Rattle.std.specs.Prelude.{◌≡◌, ◌≤◌, if◌then◌else◌, length, take, drop, vec_capacity, None, IsTrue};
+ghost use Rattle.std.specs.List.{AllPass};
 ghost use Rattle.bank.specs.Given.{NeverFalls};
-ghost use Rattle.views.specs.Moving.{Grows};
+ghost use Rattle.block_answers.specs.views_Moving.{Grows};
 ghost use Rattle.text_io.specs.Causes.{HasRisen};
-ghost use Rattle.script.specs.Script.{is_within_limits, is_of_worker};
+ghost use Rattle.script.specs.Script.{is_within_limits, is_of_worker, may_ask, are_in_turn};
 ghost use Rattle.script.specs.Texts.{refusal_text, waited_text, worker_text, worker_refusal_text};
+ghost use Rattle.block_answers.specs.lanes_Pace.{AnswersSteps, asked_by};
 ghost use Rattle.script.specs.Appends.{Appends, AppendsFew};
 ghost use Rattle.runner.specs.Shown.{longest_answer, longest_reply, IsShort, IsAnswerShort, outside_text, entry_text, answer_text, reply_text, is_refused_outside, is_refusal, tells_refusal};
-ghost use Rattle.line_answers.specs.run_laws_States.{histories_in, bank_in, RunsOwn, IsFitBank, IsNamed};
-ghost use Rattle.runner.specs.Sessions.{IsEndNow, IsRepliedOrNot, IsStep, IsStopCause, IsPerformed, IsShownTo};
-ghost use Rattle.line_answers.specs.run_laws_Ended.{IsRunKept};
-ghost use Rattle.line_answers.specs.run_laws_Making.{setting_of};
-ghost use Rattle.line_answers.specs.run_laws_Replies.{IsEnd};
+ghost use Rattle.block_answers.specs.run_laws_States.{histories_in, bank_in, RunsOwn, IsFitBank, IsNamed};
+ghost use Rattle.runner.specs.Sessions.{IsEndNow, IsRepliedOrNot, IsStep, IsTurnStep, IsStopCause, IsPerformed, IsShownTo};
+ghost use Rattle.block_answers.specs.run_laws_Ended.{IsRunKept};
+ghost use Rattle.block_answers.specs.run_laws_Making.{setting_of};
+ghost use Rattle.block_answers.specs.run_laws_Replies.{IsEnd};
 ghost use Rattle.script.specs.declared.reply.Lane.TheVariants.{Script as InScript};
 
+use crate::blocks::{block_length, perform_block};
 use bank::Bank;
+use block_answers::{Answered, LineReply, Outside, Pace, State, answer, entry_of};
 use flat_history::Event;
-use line_answers::{Answered, LineReply, Outside, State, answer, entry_of};
 use md_base::{NoMemory, Refusal};
 use script::{
     Lane, Line, Numbered, push_assembled, push_created, push_event, push_lane, push_refusal,
@@ -26,6 +28,8 @@ use script::{
 };
 use status_text::{push_detail, push_examined, push_mdstat};
 use std::alloc::{AllocError, Global};
+use std::sync::Wait;
+use std::thread::Threads;
 use text_io::Sink;
 
 // The bytes that the text of a reply takes at most: 128 sectors, each shown by its bytes.
@@ -144,7 +148,7 @@ fn push_answer<B: Bank>(
 }
 
 // Whether an answer is a refusal.
-fn is_answer_refused<B: Bank>(state: &State<B>, line: Line, what: &Answered) -> bool
+pub(crate) fn is_answer_refused<B: Bank>(state: &State<B>, line: Line, what: &Answered) -> bool
     requires named { IsNamed (histories_in state.now) what.now }
     ensures { result ≡ is_refusal (histories_in state.now) line what.now }
 {
@@ -156,7 +160,12 @@ fn is_answer_refused<B: Bank>(state: &State<B>, line: Line, what: &Answered) -> 
 }
 
 // The reply of this answer to a line of the script.
-fn reply_of<B: Bank>(state: &State<B>, line: u64, lane: Lane, what: Answered) -> LineReply
+pub(crate) fn reply_of<B: Bank>(
+    state: &State<B>,
+    line: u64,
+    lane: Lane,
+    what: Answered,
+) -> LineReply
     requires named { IsNamed (histories_in state.now) what }
     ensures line { result.line ≡ line }
     ensures lane { result.lane ≡ lane }
@@ -195,7 +204,7 @@ fn push_reply<B: Bank>(
 }
 
 // Puts the text of a reply in place of what the buffer held, which has room for every reply.
-fn put_text<B: Bank>(text: &mut Vec<u8>, state: &State<B>, line: Line, reply: &LineReply)
+pub(crate) fn put_text<B: Bank>(text: &mut Vec<u8>, state: &State<B>, line: Line, reply: &LineReply)
     requires named { IsNamed (histories_in state.now) reply.now.what }
     requires short { IsAnswerShort (histories_in state.now) reply.now.what }
     requires room { longest_reply ≤ vec_capacity text.old }
@@ -288,17 +297,79 @@ fn perform_line<B: Bank, K: Sink>(
     }
 }
 
-/// Performs the lines on a bank, the replies being shown one by one, up to the first that can't be shown or for which
-/// memory is short. The room for a reply is taken before its line is performed.
-pub fn perform<B: Bank, K: Sink>(
+// Performs the first of these lines, or, where they begin with a block, the whole block, and shows its replies. It tells how many lines these were.
+fn perform_turn<
+    B: Bank + Drop + Send,
+    K: Sink,
+    F: Fn(u64, u64) -> u64 + Sync,
+    R: Threads + Wait + Sync,
+>(
+    rt: &R,
+    alloc: Global,
+    session: Session<B>,
+    backup: Option<u32>,
+    lines: &[Numbered],
+    pace: &Pace<F>,
+    out: &mut K,
+) -> (Session<B>, usize)
+    requires some { 1 ≤ length lines.now }
+    requires limits { AllPass (λ numbered. is_within_limits numbered.line) lines.now }
+    requires lanes { AllPass (λ numbered. may_ask numbered.lane numbered.line) lines.now }
+    requires turns { IsTrue (are_in_turn InScript lines.now) }
+    requires callable { F.IsAlwaysCallable (asked_by pace.now) }
+    requires answers { AnswersSteps (F.post (asked_by pace.now)) }
+    requires bank { IsFitBank (B.given (bank_in session.state)) backup }
+    requires own { RunsOwn session.state }
+    requires former { IsRunKept B.tells (B.given (bank_in session.state)) (B.tape (bank_in session.state)) backup session.state }
+    requires room { longest_reply ≤ vec_capacity session.buffer }
+    ensures some { 1 ≤ result.1 }
+    ensures within { result.1 ≤ length lines.now }
+    ensures turns { IsTrue (are_in_turn InScript (drop result.1 lines.now)) }
+    ensures room { longest_reply ≤ vec_capacity result.0.buffer }
+    ensures former { IsRunKept B.tells (B.given (bank_in session.state)) (B.tape (bank_in result.0.state)) backup result.0.state }
+    ensures step { IsTurnStep K.tells (setting_of B.tells (B.given (bank_in session.state)) (B.tape (bank_in session.state)) (B.tape (bank_in result.0.state)) backup (B.faults_of (bank_in session.state)) (B.faults_of (bank_in result.0.state))) session result.0 (take result.1 lines.now) (K.taken out.old) (K.taken out.new) }
+    ensures cause { IsStopCause result.0.stopped (K.faults_of out.old) (K.faults_of out.new) }
+    ensures sink_never_falls { K.faults_of out.old ≤ K.faults_of out.new }
+    ensures never_falls { NeverFalls (B.faults_of (bank_in session.state)) (B.faults_of (bank_in result.0.state)) }
+    ensures grows { Grows B.tells (B.tape (bank_in session.state)) (B.tape (bank_in result.0.state)) }
+    ensures given { B.given (bank_in result.0.state) ≡ B.given (bank_in session.state) }
+{
+    let first = lines[0];
+    match first.lane {
+        Lane::Script => (perform_line(alloc, session, backup, first, out), 1),
+        _ => {
+            let count = block_length(lines);
+            let block = &lines[..count];
+            (
+                perform_block(rt, alloc, session, backup, block, pace, out),
+                count,
+            )
+        }
+    }
+}
+
+/// Performs the lines on a bank, those of a block at once, in threads, the replies being shown one by one, up to the first that can't be
+/// shown or for which memory is short. The room for a reply is taken before its line is performed. The lines are in the order of their
+/// replies; the worker asks for steps as many at a time as the pace answers. It may wait.
+pub fn perform<
+    B: Bank + Drop + Send,
+    K: Sink,
+    F: Fn(u64, u64) -> u64 + Sync,
+    R: Threads + Wait + Sync,
+>(
+    rt: &R,
     alloc: Global,
     bank: B,
     backup: Option<u32>,
     lines: &[Numbered],
+    pace: &Pace<F>,
     out: &mut K,
 ) -> Session<B>
     requires limits { AllPass (λ numbered. is_within_limits numbered.line) lines.now }
-    requires scripts { All (λ numbered. numbered.lane ≡ InScript) lines.now }
+    requires lanes { AllPass (λ numbered. may_ask numbered.lane numbered.line) lines.now }
+    requires turns { IsTrue (are_in_turn InScript lines.now) }
+    requires callable { F.IsAlwaysCallable (asked_by pace.now) }
+    requires answers { AnswersSteps (F.post (asked_by pace.now)) }
     requires bank { IsFitBank (B.given bank) backup }
     ensures former { IsRunKept B.tells (B.given bank) (B.tape (bank_in result.state)) backup result.state }
     ensures performed { IsPerformed (setting_of B.tells (B.given bank) (B.tape bank) (B.tape (bank_in result.state)) backup (B.faults_of bank) (B.faults_of (bank_in result.state))) lines.now result }
@@ -326,11 +397,14 @@ pub fn perform<B: Bank, K: Sink>(
         refused: false,
         stopped: None,
     };
-    for i in 0..lines.len() {
-        session = perform_line(alloc, session, backup, lines[i], out);
+    let mut next = 0;
+    while next < lines.len() {
+        let (after, count) = perform_turn(rt, alloc, session, backup, &lines[next..], pace, out);
+        session = after;
         if session.stopped.is_some() {
             return session;
         }
+        next += count;
     }
     session
 }

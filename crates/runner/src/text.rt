@@ -1,7 +1,9 @@
 // The text of a script is read whole before any of it is performed.
-ghost use Rattle.std.specs.Prelude.{◌<◌, ◌≤◌, length, IfOk, IfErr};
-ghost use Rattle.runner.specs.Source.{IsTextOf, IsPiece, IsCaused};
+ghost use Rattle.std.specs.Prelude.{◌≡◌, ◌<◌, ◌≤◌, length, IfOk, IfErr, IfSome};
+ghost use Rattle.command_words.specs.Words.{IsDemoSize};
+ghost use Rattle.runner.specs.Source.{IsTextOf, IsTextFor, IsPiece, IsCaused};
 
+use demo_script::demo_text;
 use std::alloc::Global;
 use text_io::Source;
 use thiserror::Error;
@@ -61,4 +63,25 @@ pub fn read_text<S: Source>(alloc: Global, source: &mut S) -> Result<Vec<u8>, Te
         }
     }
     Ok(text)
+}
+
+/// The text of a script: that of a demo of this size, and else what the source has left.
+pub(crate) fn script_text<S: Source>(
+    alloc: Global,
+    demo: Option<u64>,
+    source: &mut S,
+) -> Result<Vec<u8>, TextFault>
+    requires few { IfSome demo IsDemoSize }
+    ensures text { IfOk result (λ text. IsTextFor demo S.tells (S.left source.old) (S.left source.new) text.items) }
+    ensures cause { IfErr result (IsCaused (S.faults_of source.old) (S.faults_of source.new)) }
+    ensures unread { IfSome demo (λ size. source.new ≡ source.old) }
+    ensures never_falls { S.faults_of source.old ≤ S.faults_of source.new }
+{
+    let Some(size) = demo else {
+        return read_text(alloc, source);
+    };
+    match demo_text(alloc, size) {
+        Ok(text) => Ok(text),
+        Err(_) => Err(TextFault::NoMemory),
+    }
 }

@@ -2,6 +2,10 @@
 #![tactic(auto)]
 
 #[cfg(test)]
+mod beside;
+#[cfg(test)]
+mod blocks;
+#[cfg(test)]
 mod grows;
 #[cfg(test)]
 mod parts;

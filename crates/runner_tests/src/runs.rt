@@ -17,8 +17,9 @@ const CREATE: &str =
     "create 6ba7b810-9dad-11d1-80b4-00c04fd430c8 level=5 disks=3 chunk=8 size=40 offset=16\n";
 
 /// A run: its words, whether the line above stands first, the lines behind it, the length of a slot and how many operations
-/// the bank has room for, and the numbers of the calls of bank, source and sink that fail; and then the status, the first bad
-/// line and the replies.
+/// the bank has room for, the numbers of the calls of bank, source and sink that fail, and whether the pace always answers 1; and then
+/// the status, the first bad line and the replies.
+#[derive(Clone, Copy)]
 pub struct Row {
     pub words: &'static [&'static str],
     pub create: bool,
@@ -28,6 +29,7 @@ pub struct Row {
     pub calls: &'static [u64],
     pub pulls: &'static [u64],
     pub pushes: &'static [u64],
+    pub one: bool,
     pub status: u8,
     pub bad_line: u64,
     pub output: &'static [u8],
@@ -42,12 +44,13 @@ pub const PLAIN: Row = Row {
     calls: &[],
     pulls: &[],
     pushes: &[],
+    one: false,
     status: 0,
     bad_line: 0,
     output: b"",
 };
 
-fn words_of(alloc: Global, words: &[&str]) -> Result<Vec<String>, Fail> {
+pub fn words_of(alloc: Global, words: &[&str]) -> Result<Vec<String>, Fail> {
     let mut strings = Vec::new(alloc);
     for word in words {
         strings.push(String::from_str(alloc, word)?)?;
@@ -55,7 +58,7 @@ fn words_of(alloc: Global, words: &[&str]) -> Result<Vec<String>, Fail> {
     Ok(strings)
 }
 
-fn source_of(alloc: Global, row: &Row) -> Result<MemorySource, Fail> {
+pub fn source_of(alloc: Global, row: &Row) -> Result<MemorySource, Fail> {
     let mut text = Vec::new(alloc);
     if row.create {
         text.extend_from_slice(CREATE.as_bytes())?;
@@ -72,11 +75,12 @@ fn slots_of(command: &Command) -> usize
     match command {
         Command::Memory => 8,
         Command::Run(paths) => paths.slots.len(),
+        Command::Demo(_) => 6,
     }
 }
 
 // Those that the words' command needs; words that are none get no slot.
-fn count_of(alloc: Global, words: &[String]) -> Result<usize, Fail>
+pub fn count_of(alloc: Global, words: &[String]) -> Result<usize, Fail>
     ensures { IfOk result (λ slots. IfSome (command_in (map string_bytes words.now)) (λ command. slots ≡ slots_for command)) }
 {
     match command_of(alloc, words) {
@@ -101,11 +105,12 @@ fn bank_of(alloc: Global, row: &Row, slots: usize) -> Result<MemoryBank, Fail>
     Ok(MemoryBank::new(alloc, lengths, row.room, calls)?)
 }
 
-fn steps(_turn: u64, left: u64) -> u64
+// What the pace of the program answers, or one that always answers 1.
+fn steps(one: bool, left: u64) -> u64
     ensures low { 1 ≤ result }
     ensures high { result ≤ 64 }
 {
-    if left < 16 { 1 } else { 16 }
+    if one || left < 16 { 1 } else { 16 }
 }
 
 // The report of a run, and what its sink took.
@@ -119,7 +124,8 @@ fn ran<R: Threads + Wait + Sync>(
     let pushes = Vec::from_slice(alloc, row.pushes)?;
     let mut sink = MemorySink::new(alloc, 4096, pushes)?;
     let bank = bank_of(alloc, row, count_of(alloc, &words)?)?;
-    let pace = Pace::new(|turn, left| steps(turn, left));
+    let one = row.one;
+    let pace = Pace::new(move |_, left| steps(one, left));
     let report = run(rt, alloc, &words, &mut source, &mut sink, bank, pace);
     let taken = Vec::from_slice(alloc, sink.bytes())?;
     Ok((report, taken))
@@ -406,7 +412,7 @@ const EXAMINED: [Row; 3] = [
 ];
 
 // Four slots each, the last of which is the backup or a member.
-const NAMED: [Row; 2] = [
+const NAMED: [Row; 3] = [
     Row {
         words: &["run", "--backup", "k", "s", "a", "b", "c"],
         lines: "add 3\n",
@@ -421,9 +427,24 @@ const NAMED: [Row; 2] = [
         output: b"created\nadded 3\nrefused 30 NoSuchSlot 4\n",
         ..PLAIN
     },
+    // a demo reads nothing
+    Row {
+        words: &["demo", "1"],
+        lines: "a line that is bad\n",
+        length: 104,
+        room: 18432,
+        pulls: &[0],
+        output: b"created\nadded 4\nwrote 0 96\nwrote 96 96\nflushed\nplanned 14\na: wrote 0 96\na: read 0 96: seed 1001 x96\na: wrote 0 48\na: flushed\nb: wrote 96 96\nb: read 96 96: seed 2001 x96\nworker: left 0\nwaited left 0\nstopped\nassembled level 5 disks 5 chunk 8 size 64 layout left-symmetric visible 256 left 0\nread 0 96: seed 1002 x48 seed 1001 x48\nread 96 96: seed 2001 x96\nstopped\n",
+        ..PLAIN
+    },
 ];
 
-const ENDING: [Row; 7] = [
+const ENDING: [Row; 8] = [
+    Row {
+        words: &["demo", "65"],
+        status: 2,
+        ..PLAIN
+    },
     Row {
         words: &["run"],
         status: 2,

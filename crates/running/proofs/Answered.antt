@@ -16,9 +16,9 @@ use Rattle.superblocks.specs.Reads.{has_spare}
 use Rattle.flat_history.specs.declared.events.Event.{Event}
 use Rattle.flat_history.specs.declared.events.Event.TheVariants.{Refused, Stepped}
 use Rattle.flat_history.specs.Plain.{entries_of}
-use Rattle.views.specs.Rebuilding.{Held}
-use Rattle.views.specs.Status.{left_of}
-use Rattle.views.specs.declared.work.Work.{Work}
+use Rattle.growing.specs.views_Rebuilding.{Held}
+use Rattle.growing.specs.views_Status.{left_of}
+use Rattle.growing.specs.views_the_Work.{Work}
 use Rattle.grow_asked.specs.declared.window.PhasesLeft.{PhasesLeft}
 use Rattle.grow_asked.specs.Left.{phases_of}
 use Rattle.growing.proofs.Idle.{some-steps}

@@ -1,21 +1,26 @@
 -- What an array without a reshape and one in it tell of themselves.
-use Rattle.std.proofs.Common.{◌≡◌, ◌≢◌, ℕ, zero, suc, ◌<◌, ◌&&◌, ◌||◌, nat_lt, Bool, true, false, Some, refl, sym, ◌∙◌, subst, arith}
+use Rattle.std.proofs.Common.{◌≡◌, ◌≢◌, ℕ, zero, suc, ◌<◌, ◌&&◌, ◌||◌, nat_lt, Bool, true, false, cond, Option, Some, refl, sym, ◌∙◌, subst, arith}
 use Rattle.std.specs.List.{list_any}
+use Rattle.std.specs.Prelude.{IfSome}
 use Rattle.std.proofs.lemmas.Bool.Decides.{nat_tests}
 use Rattle.bank.specs.Given.{Given}
 use Rattle.superblocks.specs.declared.members.Members.{Members}
 use Rattle.superblocks.specs.Reading.{Scope}
 use Rattle.superblocks.specs.Reads.{has_spare}
 use Rattle.superblocks.specs.Update.{is_held_by}
-use Rattle.shape_views.proofs.Headers.{backup-is}
-use Rattle.shape_changes.proofs.Without.{live-is}
-use Rattle.views.specs.Rebuilding.{Held}
+use Rattle.growing.proofs.shape_views_Headers.{backup-is}
+use Rattle.growing.proofs.shape_changes_Without.{live-is}
+use Rattle.growing.specs.views_Rebuilding.{Held}
 use Rattle.growing.specs.safe_updates_Unused.{IsUnused}
 use Rattle.growing.specs.moving_kept_Moving.{AreReshaping}
 
 pub some-of : (n : ℕ) → n ≢ 0 → 0 < n
 some-of zero none = absurd (none refl)
 some-of (suc n) none = omega arith
+
+-- the steps that are left are those of one state
+pub left-by : (told : Option ℕ) (b c : Bool) (here other : ℕ) → b ≡ c → IfSome told (λ n. n ≡ cond c here other) → IfSome told (λ n. n ≡ cond b here other)
+left-by told b c here other same was = subst (λ (d : Bool). IfSome told (λ n. n ≡ cond d here other)) (sym same) was
 
 -- the backup of a reshape is no spare
 spare-never : (m : Members) (s : ℕ) → s < 32 → IsUnused m s → has_spare m.spares s ≡ true → ⊥

@@ -18,11 +18,11 @@ use Rattle.flat_history.specs.declared.events.Request.TheVariants.{Write as Asks
 use Rattle.flat_history.specs.Growing.{EndBy}
 use Rattle.flat_history.specs.OneShape.{IsOfCall}
 use Rattle.flat_history.specs.Plain.{entries_of}
-use Rattle.views.specs.Lacking.{IsUnread, IsUnwritten, are_mended, mended_rows}
+use Rattle.growing.specs.views_Lacking.{IsUnread, IsUnwritten, are_mended, mended_rows}
 use Rattle.growing.specs.array_kept_Calls.{IsRefusedFor, IsCausedBy, IsAnswered, IsEntered, IsReplied, StandsInside}
 use Rattle.growing.specs.region_mends_Mends.{relied_sector}
-use Rattle.kept_history.specs.Recorded.{entry_of}
-use Rattle.kept_history.proofs.Marks.{ends-call}
+use Rattle.growing.specs.kept_history_Recorded.{entry_of}
+use Rattle.growing.proofs.kept_history_Marks.{ends-call}
 use Rattle.growing.specs.running_words_Parts.{RunningParts, visible_in}
 use Rattle.growing.specs.course_kept_Course.{hidden_in}
 use Rattle.growing.specs.moving_state_First.{IsUnreadAround}

@@ -22,15 +22,15 @@ use Rattle.flat_history.specs.declared.events.StepKind.{StepKind}
 use Rattle.flat_history.specs.declared.events.StepKind.TheVariants.{Finished, TakenOver, RebuildEnded}
 use Rattle.flat_history.specs.Plain.{entries_of}
 use Rattle.flat_history.specs.Reshaped.{is_done, open_plans}
-use Rattle.views.specs.Placed.{is_vacant, AreWhole, IsPlaced}
-use Rattle.views.specs.Lacking.{AreTooMany}
-use Rattle.views.specs.Status.{left_of}
-use Rattle.views.proofs.Fit.{force-disks}
-use Rattle.views.proofs.LackingLaws.{never-too-many}
-use Rattle.call_entries.specs.Losing.{losses_of}
-use Rattle.call_entries.proofs.LosingLaws.{entries-both}
+use Rattle.growing.specs.views_Placed.{is_vacant, AreWhole, IsPlaced}
+use Rattle.growing.specs.views_Lacking.{AreTooMany}
+use Rattle.growing.specs.views_Status.{left_of}
+use Rattle.growing.proofs.views_Fit.{force-disks}
+use Rattle.growing.proofs.views_LackingLaws.{never-too-many}
+use Rattle.growing.specs.call_entries_Losing.{losses_of}
+use Rattle.growing.proofs.call_entries_LosingLaws.{entries-both}
 use Rattle.growing.specs.array_kept_Calls.{IsBehind, IsFailedFor, IsRefusedFor, IsFaultFor, IsCausedBy, IsUnmendable, IsRebuildStepped}
-use Rattle.kept_history.specs.Recorded.{entry_of}
+use Rattle.growing.specs.kept_history_Recorded.{entry_of}
 use Rattle.grow_asked.specs.Left.{phases_of}
 use Rattle.growing.specs.running_words_Parts.{RunningParts, still_left}
 use Rattle.growing.specs.running_words_Calls.{IsStepTaken}

@@ -13,10 +13,10 @@ use Rattle.superblocks.specs.declared.members.Members.{Members}
 use Rattle.superblocks.specs.Reading.{is_reshaping, shape_of, final_shape, list_length, next_window}
 use Rattle.flat_history.specs.declared.events.Entry.{Entry}
 use Rattle.flat_history.specs.declared.events.StepKind.{StepKind}
-use Rattle.views.specs.declared.work.Work.{Work}
-use Rattle.shape_views.proofs.Alike.{for-both}
-use Rattle.views.specs.Placed.{IsInForce}
-use Rattle.views.specs.Lacking.{AreTooMany}
+use Rattle.growing.specs.views_the_Work.{Work}
+use Rattle.growing.proofs.shape_views_Alike.{for-both}
+use Rattle.growing.specs.views_Placed.{IsInForce}
+use Rattle.growing.specs.views_Lacking.{AreTooMany}
 use Rattle.growing.specs.region_mends_the_Stripe.{Stripe}
 use Rattle.growing.specs.region_mends_Mends.{low_end, low_shape, high_shape, low_stripes, high_stripe, mend_shape, IsNotMended}
 use Rattle.growing.specs.array_kept_Calls.{by_answer, IsCausedBy}

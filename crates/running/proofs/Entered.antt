@@ -23,12 +23,12 @@ use Rattle.flat_history.specs.OneShape.{IsOfCall}
 use Rattle.flat_history.specs.Plain.{entries_of}
 use Rattle.flat_history.specs.Reshaped.{is_planned}
 use Rattle.flat_history.specs.World.{World}
-use Rattle.views.specs.declared.work.Work.{Work}
-use Rattle.call_entries.specs.Losing.{losses_of}
-use Rattle.call_entries.proofs.LosingLaws.{entries-both}
+use Rattle.growing.specs.views_the_Work.{Work}
+use Rattle.growing.specs.call_entries_Losing.{losses_of}
+use Rattle.growing.proofs.call_entries_LosingLaws.{entries-both}
 use Rattle.growing.specs.array_kept_Calls.{IsEntered, StandsInside, IsRebuildStepped, IsUnsettled}
-use Rattle.kept_history.specs.Recorded.{entry_of}
-use Rattle.kept_history.proofs.Tests.{neither}
+use Rattle.growing.specs.kept_history_Recorded.{entry_of}
+use Rattle.growing.proofs.kept_history_Tests.{neither}
 use Rattle.growing.specs.running_words_Parts.{RunningParts}
 use Rattle.growing.specs.running_words_Calls.{IsStepTaken}
 use Rattle.growing.specs.running_words_Plans.{turns_shape, KeepsShape}

@@ -27,15 +27,15 @@ use Rattle.flat_history.specs.Growing.{grown}
 use Rattle.flat_history.specs.Plain.{entries_of}
 use Rattle.flat_history.specs.Reshaped.{open_plans}
 use Rattle.flat_history.specs.World.{World}
-use Rattle.views.specs.Moving.{Grows}
-use Rattle.views.proofs.MovedLaws.{grows-none}
-use Rattle.views.specs.Rebuilding.{Held, MayHold}
-use Rattle.views.specs.Placed.{AreWhole}
-use Rattle.views.specs.declared.work.Work.{Work}
+use Rattle.growing.specs.views_Moving.{Grows}
+use Rattle.growing.proofs.views_MovedLaws.{grows-none}
+use Rattle.growing.specs.views_Rebuilding.{Held, MayHold}
+use Rattle.growing.specs.views_Placed.{AreWhole}
+use Rattle.growing.specs.views_the_Work.{Work}
 use Rattle.growing.specs.array_kept_Kept.{scope_in}
 use Rattle.growing.specs.array_kept_Calls.{AreHeldOrSpare, IsAddedFor, IsUnaddable}
-use Rattle.kept_history.proofs.Growing.{reading-grown}
-use Rattle.kept_history.proofs.Tests.{neither}
+use Rattle.growing.proofs.kept_history_Growing.{reading-grown}
+use Rattle.growing.proofs.kept_history_Tests.{neither}
 use Rattle.grow_asked.specs.declared.window.PhasesLeft.{PhasesLeft}
 use Rattle.grow_asked.specs.Left.{phases_of}
 use Rattle.growing.specs.running_words_Adding.{IsAddCalled}
@@ -109,7 +109,7 @@ turned-out given tape old bank epoch given_is grows uuid slots first added was t
     absurd (turned-on given tape old (handed old bank epoch) (record { given_is = given_is; grows = grows; uuid = uuid; slots = slots; first = first; backup = refl; added = added }) was.within was.turned t keeps)
 
 -- the aim of an array that is in the same shapes
-aim-same : {B : Type 0} (old new : RunningParts B) → is_reshaping new.parts.members.newest ≡ is_reshaping old.parts.members.newest → final_shape new.parts.members.newest ≡ final_shape old.parts.members.newest
+pub aim-same : {B : Type 0} (old new : RunningParts B) → is_reshaping new.parts.members.newest ≡ is_reshaping old.parts.members.newest → final_shape new.parts.members.newest ≡ final_shape old.parts.members.newest
     → shape_of new.parts.members.newest ≡ shape_of old.parts.members.newest → new.ahead ≡ old.ahead → aim_of new ≡ aim_of old
 aim-same old new active final shape ahead = λ i. last_shape (if active i then final i else shape i) (phases_of (ahead i))
 
@@ -356,7 +356,7 @@ module _ {B : Type 0} {tells : Type 0} (given : B → Given) (tape : B → List 
       → IsAtRest tells (given old.parts.bank) (tape old.parts.bank) window old → IsAtRest tells (given new.parts.bank) (tape new.parts.bank) window new
   roomy-rest (Ok x) same none was = subst (λ p. IsAtRest tells (given p.parts.bank) (tape p.parts.bank) window p) (sym same) (record {
     now = record { still = was.now.still; course = was.now.course };
-    within = record { begun = was.within.begun; ends = was.within.ends; sized = was.within.sized; limited = was.within.limited };
+    within = record { begun = was.within.begun; ends = was.within.ends; sized = was.within.sized; limited = was.within.limited; told = was.within.told };
     one = was.one;
     next = was.next;
     aside = was.aside;
@@ -369,7 +369,7 @@ module _ {B : Type 0} {tells : Type 0} (given : B → Given) (tape : B → List 
       → IsInReshape tells (given old.parts.bank) (tape old.parts.bank) old → IsInReshape tells (given new.parts.bank) (tape new.parts.bank) new
   roomy-reshape (Ok x) same none was = subst (λ p. IsInReshape tells (given p.parts.bank) (tape p.parts.bank) p) (sym same) (record {
     active = was.active;
-    within = record { begun = was.within.begun; ends = was.within.ends; sized = was.within.sized; limited = was.within.limited };
+    within = record { begun = was.within.begun; ends = was.within.ends; sized = was.within.sized; limited = was.within.limited; told = was.within.told };
     last = was.last;
     turned = was.turned;
     plans = was.plans;
@@ -472,7 +472,7 @@ lead-behind : (now to : Shape) (phases more : List Phase) → IsTakeoverNext pha
 lead-behind now to phases more (inl up) = sym (ap (λ (l : List Phase). last_shape now l) up)
 lead-behind now to phases more (inr down) = sym (ap (λ (l : List Phase). last_shape now l) down)
 
-aim-taken : {B : Type 0} (old new : RunningParts B) (to : Shape) (behind : PhasesLeft) → is_reshaping old.parts.members.newest ≡ false → is_reshaping new.parts.members.newest ≡ false → shape_of new.parts.members.newest ≡ to
+pub aim-taken : {B : Type 0} (old new : RunningParts B) (to : Shape) (behind : PhasesLeft) → is_reshaping old.parts.members.newest ≡ false → is_reshaping new.parts.members.newest ≡ false → shape_of new.parts.members.newest ≡ to
     → new.ahead ≡ behind → IsTakeoverNext (phases_of old.ahead) to (phases_of behind) → aim_of new ≡ aim_of old
 aim-taken old new to behind before after shape ahead next =
     (λ i. last_shape (if after i then final_shape new.parts.members.newest else shape i) (phases_of (ahead i)))

@@ -10,6 +10,7 @@ pub mod Planning
 pub use Rattle.growing.proofs.running_replies_Fitting
 pub use Rattle.growing.proofs.running_replies_GoneOn
 pub use Rattle.growing.proofs.still_kept_Whole
+pub use Rattle.growing.proofs.still_laws_PlansKept
 pub use Rattle.growing.proofs.still_steps_NextLaws
 pub use Rattle.growing.proofs.turning_Begun
 pub use Rattle.growing.proofs.array_kept_LossLaws
@@ -17,3 +18,13 @@ pub use Rattle.growing.proofs.array_kept_ReadyLaws
 pub use Rattle.growing.proofs.array_kept_ReplyLaws
 pub use Rattle.growing.proofs.calls_kept_AdoptingLaws
 pub use Rattle.growing.proofs.reshape_updates_NewRoles
+pub use Rattle.takeover.proofs.TakenFrom as takeover_TakenFrom
+pub use Rattle.growing.proofs.call_entries_PlainLaws
+pub use Rattle.growing.proofs.call_entries_CallLaws
+pub use Rattle.growing.proofs.views_MovedLaws
+pub use Rattle.growing.proofs.shape_changes_PlannedRoles
+pub use Rattle.growing.proofs.shape_views_Stands
+pub use Rattle.growing.proofs.kept_history_Tests
+pub use Rattle.growing.proofs.kept_history_Opened
+pub use Rattle.growing.proofs.call_entries_LosingLaws
+pub use Rattle.growing.proofs.kept_history_Turned

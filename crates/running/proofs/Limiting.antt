@@ -17,8 +17,8 @@ use Rattle.flat_history.specs.declared.events.Event.TheVariants.{Visible, Refuse
 use Rattle.flat_history.specs.declared.events.Request.TheVariants.{Visible as AsksVisible}
 use Rattle.flat_history.specs.Plain.{entries_of}
 use Rattle.flat_history.specs.World.{World}
-use Rattle.views.specs.declared.work.Work.{Work}
-use Rattle.views.specs.Placed.{AreWhole}
+use Rattle.growing.specs.views_the_Work.{Work}
+use Rattle.growing.specs.views_Placed.{AreWhole}
 use Rattle.growing.specs.array_kept_Calls.{by_answer}
 use Rattle.growing.specs.running_words_Parts.{RunningParts}
 use Rattle.growing.specs.running_words_Visible.{still_refusal, IsVisibleJudged, IsVisibleAnswered, IsLimitedAs}

@@ -21,10 +21,10 @@ use Rattle.flat_history.specs.declared.events.Request.TheVariants.{Grow as AsksG
 use Rattle.flat_history.specs.Flat.{next_number, visible_of}
 use Rattle.flat_history.specs.Plain.{entries_of}
 use Rattle.flat_history.specs.World.{World}
-use Rattle.views.specs.declared.work.Work.{Work}
-use Rattle.views.specs.Placed.{AreWhole}
-use Rattle.views.specs.Rebuilding.{Held}
-use Rattle.views.proofs.MovedLaws.{grows-none}
+use Rattle.growing.specs.views_the_Work.{Work}
+use Rattle.growing.specs.views_Placed.{AreWhole}
+use Rattle.growing.specs.views_Rebuilding.{Held}
+use Rattle.growing.proofs.views_MovedLaws.{grows-none}
 use Rattle.grow_asked.specs.Asked.{Asked, grow_refusal}
 use Rattle.grow_asked.specs.Left.{phases_of}
 use Rattle.growing.specs.running_words_Parts.{RunningParts, visible_in, left_in, still_left}

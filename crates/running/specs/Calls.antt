@@ -13,11 +13,11 @@ use Rattle.flat_history.specs.World.{World}
 use Rattle.flat_history.specs.declared.events.Entry.{Entry}
 use Rattle.flat_history.specs.declared.events.Event.{Event}
 use Rattle.flat_history.specs.declared.events.Event.TheVariants.{Refused, Stepped}
-use Rattle.views.specs.Lacking.{IsUnread, IsUnwritten, are_mended, mended_rows}
+use Rattle.growing.specs.views_Lacking.{IsUnread, IsUnwritten, are_mended, mended_rows}
 use Rattle.growing.specs.region_mends_Mends.{relied_sector}
-use Rattle.views.specs.Status.{left_of}
+use Rattle.growing.specs.views_Status.{left_of}
 use Rattle.grow_asked.specs.Left.{phases_of}
-use Rattle.kept_history.specs.Safe.{IsFilledRight}
+use Rattle.growing.specs.kept_history_Safe.{IsFilledRight}
 use Rattle.growing.specs.history_calls_Reliable.{IsReliable}
 use Rattle.growing.specs.running_words_Parts.{RunningParts, left_in, still_left}
 use Rattle.growing.specs.running_words_Calls.{IsStatusFor}

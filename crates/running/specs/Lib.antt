@@ -1,6 +1,5 @@
 pub mod Calls
 pub mod State
-pub use Rattle.growing.specs.Replied as growing_Replied
 pub use Rattle.growing.specs.course_kept_the_Course
 pub use Rattle.growing.specs.moving_laws_Mending
 pub use Rattle.growing.specs.moving_laws_Ready
@@ -34,3 +33,16 @@ pub use Rattle.growing.specs.array_kept_Kept
 pub use Rattle.growing.specs.history_calls_Reliable
 pub use Rattle.growing.specs.reshape_ends_Begun
 pub use Rattle.growing.specs.reshape_updates_Beginning
+pub use Rattle.takeover.specs.TakenOver as takeover_TakenOver
+pub use Rattle.growing.specs.Planned as growing_Planned
+pub use Rattle.takeover.specs.takeover_updates_TakingOver
+pub use Rattle.growing.specs.call_entries_Losing
+pub use Rattle.growing.specs.views_Status
+pub use Rattle.growing.specs.views_Lacking
+pub use Rattle.growing.specs.views_Moving
+pub use Rattle.growing.specs.views_Placed
+pub use Rattle.growing.specs.views_Rebuilding
+pub use Rattle.growing.specs.views_the_Work
+pub use Rattle.growing.specs.kept_history_Recorded
+pub use Rattle.growing.specs.kept_history_Safe
+pub use Rattle.growing.specs.shape_views_Regions

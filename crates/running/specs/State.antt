@@ -1,5 +1,5 @@
 -- What a running array keeps, by whether a reshape is active in it.
-use Rattle.std.specs.Prelude.{◌≡◌, ℕ, ◌+◌, ◌*◌, ◌<◌, ◌≤◌, true, false, List, [], ◌∷◌, length, Option, Some, None, ⊤}
+use Rattle.std.specs.Prelude.{◌≡◌, ℕ, ◌+◌, ◌*◌, ◌<◌, ◌≤◌, true, false, List, [], ◌∷◌, length, Option, Some, None, IfSome, ⊤}
 use Rattle.md_base.specs.declared.places.Shape.{Shape}
 use Rattle.md_base.specs.declared.wishes.Phase.{Phase}
 use Rattle.md_base.specs.declared.wishes.Phase.TheVariants.{Reshape}
@@ -10,14 +10,16 @@ use Rattle.superblocks.specs.Reading.{is_reshaping, shape_of, list_length}
 use Rattle.superblocks.specs.Reads.{has_spare}
 use Rattle.flat_history.specs.Flat.{length_of, limit_of}
 use Rattle.flat_history.specs.Growing.{EndBy}
+use Rattle.flat_history.specs.Legal.{told_left}
 use Rattle.flat_history.specs.Reshaped.{open_plans}
-use Rattle.views.specs.Placed.{AreWhole}
-use Rattle.views.specs.Rebuilding.{Held}
+use Rattle.growing.specs.views_Placed.{AreWhole}
+use Rattle.growing.specs.views_Rebuilding.{Held}
 use Rattle.grow_asked.specs.Left.{phases_of}
 use Rattle.growing.specs.course_kept_Laws.{closed}
 use Rattle.growing.specs.running_words_Parts.{RunningParts}
 use Rattle.growing.specs.running_words_Calls.{moving_world}
 use Rattle.growing.specs.running_words_Plans.{ArePlansKept, KeepsShape}
+use Rattle.running.specs.Calls.{running_left}
 use Rattle.running.specs.declared.state.State.{State}
 use Rattle.running.specs.declared.state.State.TheVariants.{Still, Moving}
 
@@ -67,12 +69,13 @@ IsNextBacked given window array =
 
 -- ---- what it keeps
 
--- its epoch began within the tape, where its entries end too; they tell how long its list is, and its limit
+-- its epoch began within the tape, where its entries end too; they tell how long its list is, and its limit; and the steps that they tell are left are left
 pub record IsWithin {B : Type 0} (tells : Type 0) (tape : List Operation) (array : RunningParts B) : Type 0 where
   pub begun : tells → array.parts.first ≤ length tape
   pub ends : tells → EndBy (length tape) array.parts.entries
   pub sized : length_of (list_length array.parts.members.newest) array.parts.entries ≡ list_length array.parts.members.newest
   pub limited : limit_of array.parts.entries ≡ array.limit
+  pub told : IfSome (told_left array.parts.entries) (λ n. n ≡ running_left array)
 
 -- the backup, if there is one, holds no role and is no spare
 abbrev pub IsBackupAside : {B : Type 0} → RunningParts B → Type 0

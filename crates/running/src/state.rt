@@ -3,7 +3,7 @@
 ghost use Rattle.std.specs.Prelude.{◌≡◌, ◌<◌, true, [], IsSome};
 ghost use Rattle.superblocks.specs.Reading.{is_reshaping};
 ghost use Rattle.flat_history.specs.Reshaped.{open_plans};
-ghost use Rattle.views.specs.Placed.{IsPlaced};
+ghost use Rattle.growing.specs.views_Placed.{IsPlaced};
 ghost use Rattle.grow_asked.specs.Left.{phases_of};
 ghost use Rattle.growing.specs.running_words_Parts.{left_in};
 ghost use Rattle.growing.specs.running_words_Calls.{moving_world};

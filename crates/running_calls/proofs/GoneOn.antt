@@ -13,7 +13,7 @@ use Rattle.md_base.specs.declared.status.Status.{Status}
 use Rattle.bank.specs.declared.bank.Operation.{Operation}
 use Rattle.bank.specs.Given.{Given, NeverFalls}
 use Rattle.superblocks.specs.declared.members.Members.{Members}
-use Rattle.superblocks.specs.Reading.{is_reshaping, list_length}
+use Rattle.superblocks.specs.Reading.{is_reshaping, shape_of, final_shape, list_length}
 use Rattle.superblocks.specs.Reads.{has_spare}
 use Rattle.flat_history.specs.declared.events.Entry.{Entry}
 use Rattle.flat_history.specs.declared.events.Event.{Event}
@@ -25,10 +25,10 @@ use Rattle.flat_history.specs.Legal.{call_before}
 use Rattle.flat_history.specs.Reshaped.{is_planned}
 use Rattle.flat_history.specs.World.{World}
 use Rattle.call_entries.proofs.PlainLaws.{one}
-use Rattle.views.specs.Moving.{Grows}
-use Rattle.views.specs.Placed.{AreStillHeld}
-use Rattle.views.specs.Rebuilding.{Held}
-use Rattle.array_kept.specs.Calls.{AreSparesFewer, AreLossesBy, IsAddedFor, IsEntered}
+use Rattle.openings.specs.views_Moving.{Grows}
+use Rattle.openings.specs.views_Placed.{AreStillHeld}
+use Rattle.openings.specs.views_Rebuilding.{Held}
+use Rattle.openings.specs.array_kept_Calls.{AreSparesFewer, AreLossesBy, IsAddedFor, IsEntered}
 use Rattle.grow_asked.specs.declared.window.PhasesLeft.{PhasesLeft}
 use Rattle.grow_asked.specs.Left.{phases_of}
 use Rattle.openings.specs.running_words_Parts.{RunningParts}
@@ -37,11 +37,12 @@ use Rattle.openings.specs.running_words_Adding.{IsAddCalled}
 use Rattle.openings.specs.running_replies_Replies.{HasToldBy}
 use Rattle.openings.specs.running_replies_Going.{is_begin, IsSameEpoch, HasRunOn}
 use Rattle.running_replies.proofs.GoneOn.{has-told-wider, told-then}
-use Rattle.running_calls.specs.Going.{is_added, AreLossesSince, HasGoneOn}
+use Rattle.running_calls.specs.Going.{is_added, AreLossesSince, GoesItsWay, HasGoneOn}
 use Rattle.running_calls.proofs.Leaving.{call-leaves}
 use Rattle.running_calls.proofs.Plain.{IsCallEntered, IsCallAnswered, inside-of}
 use Rattle.running_calls.proofs.Held.{any-right, none-left, none-right, may-then, spares-then, losses-later, since-append, since-wider, held-behind, losses-behind, held-kept, losses-of}
 use Rattle.running_calls.proofs.Told.{told-none, told-entered}
+use Rattle.running_calls.proofs.Ways.{way-none, way-then, way-plain, way-same}
 
 module _ {B : Type 0} (tells : Type 0) (given : B → Given) (tape : B → List Operation) (faults : B → ℕ → ℕ) where
   -- nothing
@@ -59,6 +60,7 @@ module _ {B : Type 0} (tells : Type 0) (given : B → Given) (tape : B → List 
     same = record { uuid = refl; given = refl; first = refl; backup = refl };
     active = λ still none. still;
     ahead = λ empty none. empty;
+    way = way-none array;
   }
 
   pub gone-same : (old new : RunningParts B) → new ≡ old → HasGoneOn tells given tape faults old new
@@ -92,11 +94,12 @@ module _ {B : Type 0} (tells : Type 0) (given : B → Given) (tape : B → List 
     same = record { uuid = two.same.uuid ∙ one.same.uuid; given = two.same.given ∙ one.same.given; first = two.same.first ∙ one.same.first; backup = two.same.backup ∙ one.same.backup };
     active = λ still none. two.active (one.active still (none-left is_begin one.more two.more none)) (none-right is_begin one.more two.more none);
     ahead = λ empty none. two.ahead (one.ahead empty (none-left is_planned one.more two.more none)) (none-right is_planned one.more two.more none);
+    way = way-then old mid new one.more two.more one.way two.way;
   }
 
   -- steps
-  pub gone-run : (old new : RunningParts B) → HasRunOn tells given tape faults old new → HasGoneOn tells given tape faults old new
-  gone-run old new was = record {
+  pub gone-run : (old new : RunningParts B) → (was : HasRunOn tells given tape faults old new) → GoesItsWay old new was.more → HasGoneOn tells given tape faults old new
+  gone-run old new was way = record {
     more = was.more;
     grown = was.grown;
     sized = was.sized;
@@ -109,6 +112,7 @@ module _ {B : Type 0} (tells : Type 0) (given : B → Given) (tape : B → List 
     same = was.same;
     active = was.active;
     ahead = was.ahead;
+    way = way;
   }
 
 -- ---- one call
@@ -130,6 +134,9 @@ module _ {B : Type 0} (tells : Type 0) (given : B → Given) (tape : B → List 
     pub never_falls : NeverFalls (faults old.parts.bank) (faults new.parts.bank)
     pub given_is : given new.parts.bank ≡ given old.parts.bank
     pub epoch : IsSameEpoch old new
+    pub size : new.parts.members.newest.size ≡ old.parts.members.newest.size
+    pub shape : shape_of new.parts.members.newest ≡ shape_of old.parts.members.newest
+    pub final : final_shape new.parts.members.newest ≡ final_shape old.parts.members.newest
     pub active : is_reshaping new.parts.members.newest ≡ is_reshaping old.parts.members.newest
     pub ahead : new.ahead ≡ old.ahead
 
@@ -143,6 +150,9 @@ module _ {B : Type 0} (tells : Type 0) (given : B → Given) (tape : B → List 
     never_falls = was.never_falls;
     given_is = given_is;
     epoch = epoch-of old new was.same;
+    size = was.same.array.size;
+    shape = was.same.array.shape;
+    final = was.same.final;
     active = active;
     ahead = was.same.ahead;
   }
@@ -157,6 +167,9 @@ module _ {B : Type 0} (tells : Type 0) (given : B → Given) (tape : B → List 
     never_falls = was.never_falls;
     given_is = given_is;
     epoch = epoch-of old new was.same;
+    size = was.same.array.size;
+    shape = was.same.array.shape;
+    final = was.same.final;
     active = active;
     ahead = was.same.ahead;
   }
@@ -180,6 +193,7 @@ module _ {B : Type 0} (tells : Type 0) (given : B → Given) (tape : B → List 
     same = did.epoch;
     active = λ still none. did.active ∙ still;
     ahead = λ empty none. ap (λ (p : PhasesLeft). phases_of p) did.ahead ∙ empty;
+    way = way-plain old new more did.size did.active did.shape did.final did.ahead;
   }
 
   gone-entered : {size : ℕ} {request : Request} {who : Who} {event : Event} → (was : IsCallEntered size request who old.parts.entries new.parts.entries event) → IsPlainCall
@@ -246,4 +260,5 @@ module _ {B : Type 0} (tells : Type 0) (given : B → Given) (tape : B → List 
     same = epoch;
     active = λ still none. ap (λ (m : Members). is_reshaping m.newest) members ∙ still;
     ahead = λ empty none. ap (λ (p : PhasesLeft). phases_of p) ahead ∙ empty;
+    way = way-same old new (one who was.end (Shown status) ∷ []) members ahead;
   }

@@ -14,9 +14,9 @@ use Rattle.flat_history.specs.declared.events.Event.{Event}
 use Rattle.flat_history.specs.declared.events.Event.TheVariants.{Lost, SpareLost}
 use Rattle.flat_history.specs.declared.events.LostCause.{LostCause}
 use Rattle.flat_history.specs.declared.events.LostCause.TheVariants.{Absent, Recovering, Command, Fault}
-use Rattle.views.specs.Placed.{AreStillHeld}
-use Rattle.views.specs.Rebuilding.{Held}
-use Rattle.array_kept.specs.Calls.{IsRoleLossBy, IsLossBy, AreLossesBy}
+use Rattle.openings.specs.views_Placed.{AreStillHeld}
+use Rattle.openings.specs.views_Rebuilding.{Held}
+use Rattle.openings.specs.array_kept_Calls.{IsRoleLossBy, IsLossBy, AreLossesBy}
 use Rattle.openings.specs.running_replies_Going.{may_drop, MayBeDropped, MayHoldBehind, AreHeldBehind, AreLossesAlong}
 use Rattle.running_calls.specs.Going.{is_added, MayBeNewSpare, MayHoldSince, AreHeldSince, AreLossesSince}
 

@@ -8,7 +8,7 @@ use Rattle.flat_history.specs.declared.events.Event.TheVariants.{Resized}
 use Rattle.flat_history.specs.declared.events.Request.{Request}
 use Rattle.flat_history.specs.declared.events.Request.TheVariants.{Read as AsksRead, Write as AsksWrite, Flush as AsksFlush, Fail as AsksFail, Add as AsksAdd, Visible as AsksVisible, Grow as AsksGrow, Steps as AsksSteps, Show as AsksShow}
 use Rattle.flat_history.specs.Flat.{length_after, length_of}
-use Rattle.array_kept.specs.Calls.{StandsInside}
+use Rattle.openings.specs.array_kept_Calls.{StandsInside}
 use Rattle.openings.specs.running_replies_Replies.{RunningAnswers}
 
 -- ---- lengths

@@ -3,7 +3,15 @@ pub mod Sizes
 mod Plain
 mod Told
 mod Held
+mod Ways
 pub mod GoneOn
 mod Done
 pub mod Turned
 pub mod Entered
+pub use Rattle.array_kept.proofs.ReplyLaws as array_kept_ReplyLaws
+pub use Rattle.running_replies.proofs.Fitting as running_replies_Fitting
+pub use Rattle.running_replies.proofs.GoneOn as running_replies_GoneOn
+pub use Rattle.call_entries.proofs.CallLaws as call_entries_CallLaws
+pub use Rattle.openings.proofs.views_Flushed
+pub use Rattle.openings.proofs.views_Still
+pub use Rattle.openings.proofs.kept_history_Turned

@@ -22,7 +22,7 @@ use Rattle.flat_history.specs.Plain.{entries_of}
 use Rattle.flat_history.specs.Transfers.{IsPastEnd}
 use Rattle.call_entries.proofs.PlainLaws.{one}
 use Rattle.call_entries.proofs.LosingLaws.{entries-both}
-use Rattle.array_kept.specs.Calls.{StandsInside, IsReplied, IsAnswered}
+use Rattle.openings.specs.array_kept_Calls.{StandsInside, IsReplied, IsAnswered}
 use Rattle.array_kept.proofs.ReplyLaws.{none_before}
 use Rattle.openings.specs.moving_laws_Writing.{IsRepliedBehind, IsWriteReplied}
 use Rattle.openings.specs.running_replies_Replies.{RunningFits, IsAnsweredWith}

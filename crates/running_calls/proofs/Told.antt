@@ -21,7 +21,7 @@ use Rattle.flat_history.specs.Legal.{call_before}
 use Rattle.flat_history.specs.Transfers.{IsRefusedAt, IsPastEnd}
 use Rattle.flat_history.specs.OneShape.{IsOfCall, EndsIdleSteps}
 use Rattle.call_entries.proofs.PlainLaws.{one}
-use Rattle.array_kept.specs.Calls.{StandsInside, IsAddedFor, IsEntered}
+use Rattle.openings.specs.array_kept_Calls.{StandsInside, IsAddedFor, IsEntered}
 use Rattle.openings.specs.running_replies_Replies.{RunningAnswers, IsRefusalBy, IsRefusalToldBy, HasToldBy}
 use Rattle.running_calls.proofs.Plain.{IsCallEntered, IsCallAnswered}
 

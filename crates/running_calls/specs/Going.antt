@@ -11,13 +11,15 @@ use Rattle.flat_history.specs.declared.events.Event.{Event}
 use Rattle.flat_history.specs.declared.events.Event.TheVariants.{Added}
 use Rattle.flat_history.specs.Flat.{length_of}
 use Rattle.flat_history.specs.Reshaped.{is_planned}
-use Rattle.views.specs.Moving.{Grows}
-use Rattle.views.specs.Rebuilding.{Held, MayHold}
-use Rattle.array_kept.specs.Calls.{IsLossBy}
+use Rattle.openings.specs.views_Moving.{Grows}
+use Rattle.openings.specs.views_Rebuilding.{Held, MayHold}
+use Rattle.openings.specs.array_kept_Calls.{IsLossBy}
 use Rattle.grow_asked.specs.Left.{phases_of}
 use Rattle.openings.specs.running_words_Parts.{RunningParts}
+use Rattle.openings.specs.running_words_Plans.{aim_of}
 use Rattle.openings.specs.running_replies_Replies.{HasToldBy}
 use Rattle.openings.specs.running_replies_Going.{is_begin, MayBeDropped, IsSameEpoch}
+use Rattle.openings.specs.running_steps_Steps.{is_turn, IsUnturned}
 
 -- the event tells that the slot was made a spare
 abbrev pub is_added : ℕ → Event → Bool
@@ -42,8 +44,15 @@ abbrev pub AreLossesSince : Members → (ℕ → ℕ) → (ℕ → ℕ) → List
 AreLossesSince members before now done [] = ⊤
 AreLossesSince members before now done (e ∷ entries) = IsLossBy (MayHoldSince members done) before now e.event × AreLossesSince members before now (done ++ e ∷ []) entries
 
+-- An array goes its way: it keeps its size; where these entries tell no plan, it goes to the shape that it went to; and as long as they tell no begin, no end of a reshape and no takeover either, the same shapes are in
+-- force, and the same phases ahead.
+pub record GoesItsWay {B : Type 0} (old new : RunningParts B) (entries : List Entry) : Type 0 where
+  pub size : new.parts.members.newest.size ≡ old.parts.members.newest.size
+  pub aim : list_any (λ e. is_planned e.event) entries ≡ false → aim_of new ≡ aim_of old
+  pub unturned : list_any (λ e. is_planned e.event) entries ≡ false → list_any (λ e. is_turn e.event) entries ≡ false → IsUnturned old new
+
 -- What callers' calls leave of an array over its bank: more is entered, which tells what the list's length is then; roles are lost, or given to spares, each loss and refusal has its cause, and
--- it is the array of the same epoch. A reshape is active then only if one was, or is told to have begun; and one is ahead only if one was, or is told to be planned.
+-- it is the array of the same epoch. A reshape is active then only if one was, or is told to have begun; and one is ahead only if one was, or is told to be planned; and it goes its way.
 pub record HasGoneOn {B : Type 0} (tells : Type 0) (given : B → Given) (tape : B → List Operation) (faults : B → ℕ → ℕ) (old new : RunningParts B) : Type 0 where
   pub more : List Entry
   pub grown : new.parts.entries ≡ old.parts.entries ++ more
@@ -57,3 +66,4 @@ pub record HasGoneOn {B : Type 0} (tells : Type 0) (given : B → Given) (tape :
   pub same : IsSameEpoch old new
   pub active : is_reshaping old.parts.members.newest ≡ false → list_any (λ e. is_begin e.event) more ≡ false → is_reshaping new.parts.members.newest ≡ false
   pub ahead : phases_of old.ahead ≡ [] → list_any (λ e. is_planned e.event) more ≡ false → phases_of new.ahead ≡ []
+  pub way : GoesItsWay old new more

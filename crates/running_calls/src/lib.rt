@@ -4,6 +4,6 @@
 mod performing;
 mod reply;
 
-pub use openings::Running;
+pub use openings::{CreateSpec, Running, create_array, open_running, steps};
 pub use performing::{perform, tells_sizes};
 pub use reply::Reply;

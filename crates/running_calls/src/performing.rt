@@ -4,7 +4,7 @@ ghost use Rattle.std.specs.Prelude.{◌≡◌, ◌≢◌, IfOk, IfErr};
 ghost use Rattle.superblocks.specs.Reading.{list_length};
 ghost use Rattle.flat_history.specs.Flat.{next_number};
 ghost use Rattle.flat_history.specs.declared.events.Request.TheVariants.{Read as AsksRead, Write as AsksWrite, Flush as AsksFlush, Fail as AsksFail, Add as AsksAdd, Visible as AsksVisible, Grow as AsksGrow};
-ghost use Rattle.array_kept.specs.Calls.{IsEndOf};
+ghost use Rattle.openings.specs.array_kept_Calls.{IsEndOf};
 ghost use Rattle.openings.specs.running_replies_Replies.{IsAnsweredWith};
 ghost use Rattle.running_calls.specs.Entered.{HasEntered, RestsBehind};
 ghost use Rattle.running_calls.specs.Going.{HasGoneOn};

@@ -12,8 +12,8 @@ use Rattle.flat_history.specs.declared.events.Event.TheVariants.{Step}
 use Rattle.flat_history.specs.declared.events.StepKind.TheVariants.{Begun, Finished, TakenOver}
 use Rattle.flat_history.specs.Flat.{length_of}
 use Rattle.flat_history.specs.Reshaped.{is_planned}
-use Rattle.views.specs.Moving.{Grows}
-use Rattle.views.specs.Rebuilding.{Held, MayHold}
+use Rattle.running_words.specs.views_Moving.{Grows}
+use Rattle.running_words.specs.views_Rebuilding.{Held, MayHold}
 use Rattle.grow_asked.specs.Left.{phases_of}
 use Rattle.running_words.specs.array_kept_Calls.{IsLossBy}
 use Rattle.running_words.specs.Parts.{RunningParts}

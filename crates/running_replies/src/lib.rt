@@ -1,4 +1,4 @@
 //! What a running array replies to a caller, and what its steps leave, whether a reshape is active in it or not. Definitions alone.
 #![tactic(auto)]
 
-pub use running_words::safe_updates;
+pub use running_words::{final_in, is_spare, shape_in};

@@ -32,13 +32,13 @@ use Rattle.flat_history.specs.declared.events.Event.TheVariants.{Resized, Step, 
 use Rattle.flat_history.specs.declared.events.StepKind.TheVariants.{Begun}
 use Rattle.flat_history.specs.Flat.{length_of}
 use Rattle.flat_history.specs.Plain.{entries_of}
-use Rattle.call_entries.specs.Losing.{losses_of}
-use Rattle.call_entries.proofs.PlainLaws.{one}
-use Rattle.shape_changes.proofs.PlannedRoles.{planned-holds}
-use Rattle.shape_views.proofs.Stands.{final-still}
-use Rattle.views.specs.Moving.{Grows}
-use Rattle.views.specs.Placed.{AreStillHeld}
-use Rattle.views.specs.Rebuilding.{Held, MayHold}
+use Rattle.running.specs.call_entries_Losing.{losses_of}
+use Rattle.running.proofs.call_entries_PlainLaws.{one}
+use Rattle.running.proofs.shape_changes_PlannedRoles.{planned-holds}
+use Rattle.running.proofs.shape_views_Stands.{final-still}
+use Rattle.running.specs.views_Moving.{Grows}
+use Rattle.running.specs.views_Placed.{AreStillHeld}
+use Rattle.running.specs.views_Rebuilding.{Held, MayHold}
 use Rattle.running.specs.array_kept_Calls.{AreHeldOrSpare, AreSparesFewer, IsLossBy}
 use Rattle.running.proofs.array_kept_LossLaws.{behind-alone}
 use Rattle.running.specs.reshape_updates_Beginning.{beginning, goes_back}
@@ -46,7 +46,7 @@ use Rattle.running.proofs.reshape_updates_NewRoles.{new-or}
 use Rattle.running.specs.reshape_ends_Begun.{begun_plan}
 use Rattle.grow_asked.specs.declared.window.PhasesLeft.{PhasesLeft}
 use Rattle.grow_asked.specs.Left.{IsAtStartOf, phases_of}
-use Rattle.kept_history.specs.Recorded.{MayGoOn, IsCallGoing}
+use Rattle.running.specs.kept_history_Recorded.{MayGoOn, IsCallGoing}
 use Rattle.running.specs.running_words_Parts.{RunningParts, left_in}
 use Rattle.running.specs.turning_Begun.{is_resize, begun_length, IsReshapeBegun, IsGivenBack, IsBeginRefused}
 use Rattle.running.specs.running_replies_Replies.{EndsRunningSteps, IsRefusalBy, IsRefusalToldBy}
@@ -55,6 +55,8 @@ use Rattle.running.specs.Calls.{running_left, MayEndSteps}
 use Rattle.running_steps.specs.Steps.{TellsLeft, IsStepDone, IsStepRefused}
 use Rattle.running_steps.proofs.Events.{EachOf, each-losses, each-entry, each-own, any-none, count-one, IsNoStep, long-kept, going-more}
 use Rattle.running_steps.proofs.Went.{epoch-itself, held-behind, held-same, losses-along}
+use Rattle.running.proofs.still_laws_PlansKept.{aim-begun}
+use Rattle.running_steps.proofs.Ways.{turn-told, way-members}
 use Rattle.running_steps.proofs.Plain.{open-moving, still-runs, active-runs, plain-refused}
 use Rattle.running_steps.proofs.Refusals.{faulted-in}
 
@@ -177,6 +179,13 @@ module _ {B : Type 0} (tells : Type 0) (given : B → Given) (tape : B → List 
       active = λ none begun. absurd (let clash : true ≡ false = begun in cc);
       ahead = λ none unplanned. absurd (let clash : ◌≡◌ {A = List Phase} [] (Reshape to ∷ phases_of behind) = sym none ∙ next in cc);
     };
+    kept = record {
+      aim = aim-begun old new to (phases_of behind) still was.start.active was.start.final next (ap (λ (p : PhasesLeft). phases_of p) was.ahead);
+      size = was.start.size;
+      limit = was.same.limit;
+      unturned = turn-told old.parts.entries new.parts.entries inner was.entered.is refl;
+      roles = λ before. turn-told old.parts.entries new.parts.entries inner was.entered.is refl;
+    };
     ended = was.ended;
   }
     where
@@ -249,6 +258,7 @@ module _ {B : Type 0} (tells : Type 0) (given : B → Given) (tape : B → List 
         epoch = epoch-itself old new back.same;
         active = λ still. ap (λ (m : Members). is_reshaping m.newest) back.members ∙ still;
         ahead = back.ahead;
+        kept = way-members (faults old.parts.bank) (faults new.parts.bank) old new back.members back.ahead back.same.limit;
         ended = back.ended;
       })
       (behind-alone who back.end (Refused refusal) refl back.entered) goes (begin-ends (faults old.parts.bank) (faults new.parts.bank) to refusal caused)

@@ -10,22 +10,23 @@ use Rattle.bank.specs.Given.{Given}
 use Rattle.superblocks.specs.Reading.{is_reshaping}
 use Rattle.flat_history.specs.declared.events.Entry.{Entry}
 use Rattle.running.specs.array_kept_Calls.{IsEndOf}
-use Rattle.kept_history.specs.Recorded.{IsCallGoing}
+use Rattle.running.specs.kept_history_Recorded.{IsCallGoing}
 use Rattle.running.specs.running_words_Parts.{RunningParts}
 use Rattle.running.specs.still_laws_Steps.{IsClosable}
 use Rattle.running.specs.running_replies_Replies.{EndsRunningSteps, IsRefusalBy}
 use Rattle.running.specs.running_replies_Going.{is_finish, HasRunOn}
 use Rattle.running.specs.Calls.{MayEndSteps}
 use Rattle.running.proofs.running_replies_GoneOn.{gone-then}
-use Rattle.running_steps.specs.Steps.{IsStepDone, IsStepRefused, AreStepsOf, IsGoneOn, has_finished}
+use Rattle.running_steps.specs.Steps.{KeepsItsWay, IsStepDone, IsStepRefused, AreStepsOf, IsGoneOn, has_finished}
 use Rattle.running_steps.proofs.StepsOf.{steps-more, steps-refused, any-late}
-use Rattle.running_steps.proofs.Replies.{cause-later}
+use Rattle.running_steps.proofs.Replies.{cause-later, way-on}
 
 -- so many steps of a call, in which a reshape ended, and what refused the next one
 pub record IsOver {B : Type 0} (tells : Type 0) (given : B → Given) (tape : B → List Operation) (faults : B → ℕ → ℕ) (who : Who) (old new : RunningParts B) (done : ℕ) (ended : Option Refusal) : Type 0 where
   pub entered : AreStepsOf who old.parts.entries new.parts.entries done
   pub over : has_finished old.parts.entries new.parts.entries ≡ true
   pub went : HasRunOn tells given tape faults old new
+  pub kept : KeepsItsWay (faults old.parts.bank) (faults new.parts.bank) old new
   pub going : IsCallGoing new.parts.entries who
   pub closable : ended ≡ None → is_reshaping new.parts.members.newest ≡ false → IsClosable new
   pub at_end : IsEndOf tells new.parts.first new.parts.entries (tape new.parts.bank)
@@ -35,12 +36,15 @@ pub record IsOver {B : Type 0} (tells : Type 0) (given : B → Given) (tape : B 
 
 -- steps, and the end of a reshape
 module _ {B : Type 0} (tells : Type 0) (given : B → Given) (tape : B → List Operation) (faults : B → ℕ → ℕ) (who : Who) (old at mid : RunningParts B) (k : ℕ)
-    (so : AreStepsOf who old.parts.entries at.parts.entries k) (ran : HasRunOn tells given tape faults old at) (s : IsStepDone tells given tape faults who at mid true) where
+    (so : AreStepsOf who old.parts.entries at.parts.entries k) (ran : HasRunOn tells given tape faults old at) (kept_so : KeepsItsWay (faults old.parts.bank) (faults at.parts.bank) old at) (s : IsStepDone tells given tape faults who at mid true) where
   steps : AreStepsOf who old.parts.entries mid.parts.entries (k + 1)
   steps = steps-more so s.inner s.is s.own s.one
 
   run : HasRunOn tells given tape faults old mid
   run = gone-then tells given tape faults old at mid ran s.went
+
+  way : KeepsItsWay (faults old.parts.bank) (faults mid.parts.bank) old mid
+  way = way-on tells given tape faults old at mid ran s.went kept_so s.kept
 
   over-early : (new : RunningParts B) (rest : List Entry) → new.parts.entries ≡ mid.parts.entries ++ rest → has_finished old.parts.entries new.parts.entries ≡ true
   over-early new rest is =
@@ -52,7 +56,7 @@ module _ {B : Type 0} (tells : Type 0) (given : B → Given) (tape : B → List 
 
   -- nothing more
   over-alone : IsOver tells given tape faults who old mid (k + 1) None
-  over-alone = record { entered = steps; over = over-here; went = run; going = s.going; closable = λ none. s.closable; at_end = s.ended; why = tt; cause = tt; right = tt }
+  over-alone = record { entered = steps; over = over-here; went = run; kept = way; going = s.going; closable = λ none. s.closable; at_end = s.ended; why = tt; cause = tt; right = tt }
 
   -- one step more
   over-done : (new : RunningParts B) → IsStepDone tells given tape faults who mid new false → IsOver tells given tape faults who old new (k + 1 + 1) None
@@ -60,6 +64,7 @@ module _ {B : Type 0} (tells : Type 0) (given : B → Given) (tape : B → List 
     entered = steps-more steps was.inner was.is was.own was.one;
     over = over-early new was.inner was.is;
     went = gone-then tells given tape faults old mid new run was.went;
+    kept = way-on tells given tape faults old mid new run was.went way was.kept;
     going = was.going;
     closable = λ none. was.closable;
     at_end = was.ended;
@@ -74,6 +79,7 @@ module _ {B : Type 0} (tells : Type 0) (given : B → Given) (tape : B → List 
     entered = steps-refused refusal steps was.behind;
     over = over-early new _ was.behind.is;
     went = gone-then tells given tape faults old mid new run was.went;
+    kept = way-on tells given tape faults old mid new run was.went way was.kept;
     going = was.going;
     closable = λ none. absurd (cc);
     at_end = was.ended;

@@ -10,7 +10,7 @@ use Rattle.bank.specs.declared.bank.Operation.{Operation}
 use Rattle.bank.specs.Given.{Given}
 use Rattle.sb1.specs.declared.sb.Sb.{Sb}
 use Rattle.superblocks.specs.declared.members.Members.{Members}
-use Rattle.superblocks.specs.Reading.{shape_of, final_shape, list_length}
+use Rattle.superblocks.specs.Reading.{is_reshaping, shape_of, final_shape, list_length}
 use Rattle.superblocks.specs.Reads.{has_spare}
 use Rattle.flat_history.specs.declared.events.Entry.{Entry}
 use Rattle.flat_history.specs.declared.events.Event.{Event}
@@ -19,22 +19,24 @@ use Rattle.flat_history.specs.declared.events.LostCause.TheVariants.{Fault}
 use Rattle.flat_history.specs.declared.events.StepKind.TheVariants.{Finished}
 use Rattle.flat_history.specs.Flat.{length_of}
 use Rattle.flat_history.specs.Plain.{entries_of}
-use Rattle.call_entries.specs.Losing.{losses_of}
-use Rattle.call_entries.proofs.CallLaws.{losses-are, length-losses}
-use Rattle.views.specs.Placed.{AreStillHeld}
-use Rattle.views.specs.Rebuilding.{Held}
+use Rattle.running.specs.call_entries_Losing.{losses_of}
+use Rattle.running.proofs.call_entries_CallLaws.{losses-are, length-losses}
+use Rattle.running.specs.views_Placed.{AreStillHeld}
+use Rattle.running.specs.views_Rebuilding.{Held}
 use Rattle.grow_asked.specs.Left.{phases_of}
 use Rattle.grow_asked.specs.declared.window.PhasesLeft.{PhasesLeft}
-use Rattle.kept_history.specs.Recorded.{MayGoOn, IsCallGoing}
+use Rattle.running.specs.kept_history_Recorded.{MayGoOn, IsCallGoing}
 use Rattle.running.specs.running_words_Parts.{RunningParts, still_left}
 use Rattle.running.specs.still_laws_Steps.{IsClosable}
 use Rattle.running.specs.turning_Ended.{ended_length, AreSparesOrDropped, IsReshapeEnded}
 use Rattle.running.specs.running_replies_Replies.{IsRefusalToldBy}
 use Rattle.running.specs.running_replies_Going.{is_finish, may_drop, MayBeDropped, AreHeldBehind}
 use Rattle.running.specs.Calls.{running_left}
-use Rattle.running_steps.specs.Steps.{TellsLeft, IsStepDone}
+use Rattle.running_steps.specs.Steps.{is_turn, TellsLeft, IsStepDone}
 use Rattle.running_steps.proofs.Events.{EachOf, each-behind, each-losses, each-entry, each-own, count-one, IsNoStep, going-more}
 use Rattle.running_steps.proofs.Went.{epoch-itself, losses-along}
+use Rattle.running.proofs.still_laws_PlansKept.{aim-ended}
+use Rattle.running_steps.proofs.Ways.{turn-told}
 use Rattle.running_steps.proofs.Plain.{still-runs}
 use Rattle.running_steps.proofs.Begun.{losses-long}
 
@@ -93,10 +95,10 @@ dropped-behind old new entries told held spares = record { roles = λ role slot 
     by slot (inr (role, past, had)) = inr (told, role, had)
 
 module _ {B : Type 0} (tells : Type 0) (given : B → Given) (tape : B → List Operation) (faults : B → ℕ → ℕ) (who : Who) (old new : RunningParts B) where
-  pub finish-done : IsCallGoing old.parts.entries who
+  pub finish-done : IsCallGoing old.parts.entries who → is_reshaping old.parts.members.newest ≡ true
       → IsReshapeEnded tells (given old.parts.bank) (tape old.parts.bank) (tape new.parts.bank) (faults old.parts.bank) (faults new.parts.bank) who old new → given new.parts.bank ≡ given old.parts.bank
       → IsClosable new → IsStepDone tells given tape faults who old new true
-  finish-done goes was given_is closes = record {
+  finish-done goes before_active was given_is closes = record {
     inner = inner;
     is = was.entered.is;
     own = each-own MayGoOn who end events (each MayGoOn (λ role. tt) (λ slot. tt) tt tt);
@@ -125,6 +127,13 @@ module _ {B : Type 0} (tells : Type 0) (given : B → Given) (tape : B → List 
       same = epoch-itself old new was.same;
       active = λ still none. was.over.still;
       ahead = λ empty none. ap (λ (p : PhasesLeft). phases_of p) was.ahead ∙ empty;
+    };
+    kept = record {
+      aim = aim-ended old new before_active was.over.still was.over.shape was.ahead;
+      size = was.over.size;
+      limit = was.same.limit;
+      unturned = turn-told old.parts.entries new.parts.entries inner was.entered.is turns;
+      roles = λ still. turn-told old.parts.entries new.parts.entries inner was.entered.is turns;
     };
     ended = was.ended;
   }
@@ -171,3 +180,6 @@ module _ {B : Type 0} (tells : Type 0) (given : B → Given) (tape : B → List 
 
       drops : list_any (λ e. may_drop e.event) inner ≡ true
       drops = finish-told may_drop (λ n. refl) who end left (losses_of roles spares) (ended_length before size ++ losses_of late late_spares)
+
+      turns : list_any (λ e. is_turn e.event) inner ≡ true
+      turns = finish-told is_turn (λ n. refl) who end left (losses_of roles spares) (ended_length before size ++ losses_of late late_spares)

@@ -19,11 +19,11 @@ use Rattle.flat_history.specs.Flat.{length_of}
 use Rattle.flat_history.specs.OneShape.{IsOfCall}
 use Rattle.flat_history.specs.Plain.{entries_of}
 use Rattle.flat_history.specs.Reshaped.{is_done}
-use Rattle.call_entries.specs.Losing.{losses_of}
-use Rattle.call_entries.proofs.PlainLaws.{one}
-use Rattle.call_entries.proofs.CallLaws.{AreLossEvents, losses-are}
+use Rattle.running.specs.call_entries_Losing.{losses_of}
+use Rattle.running.proofs.call_entries_PlainLaws.{one}
+use Rattle.running.proofs.call_entries_CallLaws.{AreLossEvents, losses-are}
 use Rattle.running.specs.array_kept_Calls.{IsRoleLost}
-use Rattle.kept_history.specs.Recorded.{MayGoOn, IsCallGoing}
+use Rattle.running.specs.kept_history_Recorded.{MayGoOn, IsCallGoing}
 use Rattle.running.specs.turning_Begun.{is_resize, HasKeptLength}
 use Rattle.running.specs.running_replies_Replies.{IsRefusalToldBy}
 use Rattle.running.specs.running_replies_Going.{is_finish}

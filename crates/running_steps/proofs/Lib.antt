@@ -1,5 +1,6 @@
 mod Events
 mod Went
+mod Ways
 mod Plain
 mod Refusals
 mod Own
@@ -16,3 +17,9 @@ pub use Rattle.running.proofs.still_kept_Whole
 pub use Rattle.running.proofs.array_kept_ReadyLaws
 pub use Rattle.running.proofs.array_kept_ReplyLaws
 pub use Rattle.running.proofs.calls_kept_AdoptingLaws
+pub use Rattle.running.proofs.kept_history_Tests
+pub use Rattle.running.proofs.kept_history_Opened
+pub use Rattle.running.proofs.call_entries_PlainLaws
+pub use Rattle.running.proofs.call_entries_LosingLaws
+pub use Rattle.running.proofs.call_entries_CallLaws
+pub use Rattle.running.proofs.kept_history_Turned

@@ -6,11 +6,11 @@ use Rattle.bank.specs.declared.bank.Operation.{Operation}
 use Rattle.bank.specs.Given.{Given}
 use Rattle.superblocks.specs.Reading.{is_reshaping}
 use Rattle.flat_history.specs.declared.events.Event.TheVariants.{Step, Refused}
-use Rattle.call_entries.proofs.PlainLaws.{one}
-use Rattle.views.specs.Lacking.{AreTooMany}
-use Rattle.views.specs.Rebuilding.{Held}
+use Rattle.running.proofs.call_entries_PlainLaws.{one}
+use Rattle.running.specs.views_Lacking.{AreTooMany}
+use Rattle.running.specs.views_Rebuilding.{Held}
 use Rattle.running.specs.array_kept_Calls.{IsBehind}
-use Rattle.kept_history.specs.Recorded.{IsCallGoing}
+use Rattle.running.specs.kept_history_Recorded.{IsCallGoing}
 use Rattle.running.specs.moving_state_the_Due.{Due}
 use Rattle.running.specs.moving_state_the_Due_TheVariants.{Finish}
 use Rattle.running.specs.running_words_Parts.{RunningParts, left_in}
@@ -23,14 +23,15 @@ use Rattle.running.specs.Calls.{running_left, MayEndSteps}
 use Rattle.running_steps.specs.Steps.{IsStepDone, IsStepRefused}
 use Rattle.running_steps.proofs.Events.{IsStepEntries}
 use Rattle.running_steps.proofs.Went.{epoch-of, long-same, held-only}
+use Rattle.running_steps.proofs.Ways.{way-shaped, way-same}
 use Rattle.running_steps.proofs.Plain.{active-runs, fewer-as, IsPlainStep, plain-done, plain-refused}
 use Rattle.running_steps.proofs.Refusals.{many-so, moved-ends}
 use Rattle.running_steps.proofs.Own.{step-entries}
 
 pub moved-did : {B : Type 0} (tells : Type 0) (given : B → Given) (tape : B → List Operation) (faults : B → ℕ → ℕ) (old new : RunningParts B)
     → IsMendCalled tells (given old.parts.bank) (tape old.parts.bank) (tape new.parts.bank) (faults old.parts.bank) (faults new.parts.bank) old new → given new.parts.bank ≡ given old.parts.bank
-    → is_reshaping old.parts.members.newest ≡ true → IsPlainStep tells given tape faults (Held old.parts.members) old new
-moved-did tells given tape faults old new was given_is active = record {
+    → is_reshaping old.parts.members.newest ≡ true → is_reshaping new.parts.members.newest ≡ true → IsPlainStep tells given tape faults (Held old.parts.members) old new
+moved-did tells given tape faults old new was given_is active later = record {
   long = long-same old (record new { parts = record new.parts { work = old.parts.work } }) was.same;
   held = held-only old.parts.members new.parts.members was.held was.spares;
   had = λ role slot has. inl has;
@@ -41,6 +42,7 @@ moved-did tells given tape faults old new was given_is active = record {
   epoch = record { uuid = was.same.array.uuid; given = was.same.array.given; first = was.same.array.first; backup = was.same.array.backup };
   active = λ still. absurd (let clash : true ≡ false = sym active ∙ still in cc);
   ahead = was.same.ahead;
+  kept = way-shaped (faults old.parts.bank) (faults new.parts.bank) old new (later ∙ sym active) was.same.array.shape was.same.final was.same.array.size was.same.ahead was.same.limit (λ still. absurd (let clash : true ≡ false = sym active ∙ still in cc));
   ended = was.ended;
 }
 
@@ -54,7 +56,7 @@ module _ {B : Type 0} (tells : Type 0) (given : B → Given) (tape : B → List 
       → IsBehind who old.parts.entries new.parts.entries (Step (kind_of due) (left_in new.parts.work new.parts.members new.course new.ahead))
       → left_in new.parts.work new.parts.members new.course new.ahead + 1 ≡ left_in old.parts.work old.parts.members old.course old.ahead → IsStepDone tells given tape faults who old new false
   moved-done due ne was given_is behind one =
-      plain-done tells given tape faults who old new (Held old.parts.members) (moved-did tells given tape faults old new was given_is active)
+      plain-done tells given tape faults who old new (Held old.parts.members) (moved-did tells given tape faults old new was given_is active later)
       (subst (λ (n : ℕ). IsStepEntries who old.parts.entries new.parts.entries n) (sym (active-runs new later))
       (step-entries who old.parts.entries new.parts.entries (kind_of due) (left_in new.parts.work new.parts.members new.course new.ahead) (due-kind due (left_in new.parts.work new.parts.members new.course new.ahead) ne) behind))
       goes (later ∙ sym active)
@@ -83,6 +85,7 @@ ended-refused tells given tape faults who old new goes active later was given_is
       epoch = epoch-of old new was.same;
       active = λ still. absurd (let clash : true ≡ false = sym active ∙ still in cc);
       ahead = was.same.ahead;
+      kept = way-same (faults old.parts.bank) (faults new.parts.bank) old new was.same (later ∙ sym active) (λ still. absurd (let clash : true ≡ false = sym active ∙ still in cc));
       ended = was.ended;
     })
     behind goes (moved-ends new refusal later right) (many-so (IsRefusalBy old.parts.backup (faults old.parts.bank) (faults new.parts.bank)) (λ count most. tt) new.parts.members refusal many) right

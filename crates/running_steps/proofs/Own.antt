@@ -13,8 +13,8 @@ use Rattle.flat_history.specs.declared.events.Entry.{Entry}
 use Rattle.flat_history.specs.declared.events.Event.TheVariants.{Rebuilt, Step, Refused}
 use Rattle.flat_history.specs.declared.events.StepKind.{StepKind}
 use Rattle.flat_history.specs.declared.events.StepKind.TheVariants.{Finished, RebuildTaken, RebuildStripe, RebuildEnded, ResyncStripe, ResyncEnded}
-use Rattle.views.specs.declared.work.Work.{Work}
-use Rattle.views.specs.Status.{stripes_of, rebuilt_of}
+use Rattle.running.specs.views_the_Work.{Work}
+use Rattle.running.specs.views_Status.{stripes_of, rebuilt_of}
 use Rattle.running.specs.array_kept_Calls.{AreHeldOrSpare, AreStepsFewer, IsBehind, IsBehindAll, IsRebuildStepped, IsRefusedFor}
 use Rattle.running.specs.running_words_Parts.{RunningParts, still_left}
 use Rattle.running.specs.running_words_Calls.{IsStepTaken}
@@ -24,19 +24,21 @@ use Rattle.running.specs.still_steps_Resyncing.{is_at_end}
 use Rattle.running.specs.still_steps_Resyncing as resync
 use Rattle.running.specs.still_steps_Stepping.{IsUndone, IsHeldOrDue, IsStepEntered}
 use Rattle.running.proofs.still_steps_NextLaws.{due-may}
-use Rattle.kept_history.specs.Recorded.{IsCallGoing}
+use Rattle.running.specs.kept_history_Recorded.{IsCallGoing}
 use Rattle.running.specs.running_replies_Going.{is_finish}
 use Rattle.running.specs.Calls.{running_left, MayEndSteps}
 use Rattle.running_steps.specs.Steps.{IsStepDone, IsStepRefused}
 use Rattle.running_steps.proofs.Events.{IsOfStep, IsStepEntries, entries-behind, entries-lost}
 use Rattle.running_steps.proofs.Went.{epoch-of, long-same}
+use Rattle.running_steps.proofs.Ways.{way-same}
 use Rattle.running_steps.proofs.Plain.{still-runs, fewer-as, IsPlainStep, plain-done, plain-refused}
 use Rattle.running_steps.proofs.Refusals.{own-ends, own-cause}
 
 own-did : {B : Type 0} (tells : Type 0) (given : B → Given) (tape : B → List Operation) (faults : B → ℕ → ℕ) (old new : RunningParts B)
     → IsStepped tells (given old.parts.bank) (tape old.parts.bank) (tape new.parts.bank) (IsHeldOrDue old.parts.work old.parts.members) (faults old.parts.bank) (faults new.parts.bank) old new
-    → AreHeldOrSpare old.parts.members new.parts.members → given new.parts.bank ≡ given old.parts.bank → is_reshaping new.parts.members.newest ≡ false → IsPlainStep tells given tape faults (IsHeldOrDue old.parts.work old.parts.members) old new
-own-did tells given tape faults old new was held given_is later = record {
+    → AreHeldOrSpare old.parts.members new.parts.members → given new.parts.bank ≡ given old.parts.bank → is_reshaping old.parts.members.newest ≡ false → is_reshaping new.parts.members.newest ≡ false
+    → IsPlainStep tells given tape faults (IsHeldOrDue old.parts.work old.parts.members) old new
+own-did tells given tape faults old new was held given_is still later = record {
   long = long-same old new was.same;
   held = held;
   had = due-may old.parts.work old.parts.members;
@@ -47,6 +49,7 @@ own-did tells given tape faults old new was held given_is later = record {
   epoch = epoch-of old new was.same;
   active = λ still. later;
   ahead = was.same.ahead;
+  kept = way-same (faults old.parts.bank) (faults new.parts.bank) old new was.same (later ∙ sym still) (λ none. was.failed);
   ended = was.ended;
 }
 
@@ -108,7 +111,7 @@ module _ {B : Type 0} (tells : Type 0) (given : B → Given) (tape : B → List 
   pub own-done : {T : Type 0} (x : T) → IsStepEntered {T = T} who old.parts.entries new.parts.entries old.parts.work old.parts.members new.parts.members (still_left new.parts.work new.parts.members new.ahead) (Ok x)
       → AreStepsFewer old.parts.entries new.parts.entries (still_left old.parts.work old.parts.members old.ahead) (still_left new.parts.work new.parts.members new.ahead) → IsClosable new → IsStepDone tells given tape faults who old new false
   own-done x entered fewer closes =
-      plain-done tells given tape faults who old new (IsHeldOrDue old.parts.work old.parts.members) (own-did tells given tape faults old new was held given_is later)
+      plain-done tells given tape faults who old new (IsHeldOrDue old.parts.work old.parts.members) (own-did tells given tape faults old new was held given_is still later)
       (subst (λ (n : ℕ). IsStepEntries who old.parts.entries new.parts.entries n) (sym (still-runs new later))
       (own-entries who old.parts.entries new.parts.entries old.parts.work old.parts.members new.parts.members (still_left new.parts.work new.parts.members new.ahead) x entered))
       goes (later ∙ sym still)
@@ -117,7 +120,7 @@ module _ {B : Type 0} (tells : Type 0) (given : B → Given) (tape : B → List 
   pub own-refused : (T : Type 0) (refusal : Refusal) → IsStepEntered {T = T} who old.parts.entries new.parts.entries old.parts.work old.parts.members new.parts.members (still_left new.parts.work new.parts.members new.ahead) (Err (IsRefusedWith refusal))
       → IsRefusedFor (list_length old.parts.members.newest) 0 (IsUndone old.parts.work old.parts.members) old.parts.members new.parts.members refusal → MayEndSteps new refusal → IsStepRefused tells given tape faults who old new refusal
   own-refused T refusal entered caused right =
-      plain-refused tells given tape faults who old new (IsHeldOrDue old.parts.work old.parts.members) refusal (own-did tells given tape faults old new was held given_is later)
+      plain-refused tells given tape faults who old new (IsHeldOrDue old.parts.work old.parts.members) refusal (own-did tells given tape faults old new was held given_is still later)
       (own-behind T who old.parts.entries new.parts.entries old.parts.work old.parts.members new.parts.members (still_left new.parts.work new.parts.members new.ahead) refusal entered) goes
       (own-ends (list_length old.parts.members.newest) old.parts.work old.parts.members new.parts.members refusal caused)
       (own-cause (list_length old.parts.members.newest) old.parts.work old.parts.members new.parts.members refusal old.parts.backup (faults old.parts.bank) (faults new.parts.bank) caused) right

@@ -14,20 +14,20 @@ use Rattle.flat_history.specs.Flat.{next_number}
 use Rattle.flat_history.specs.OneShape.{IsOfCall}
 use Rattle.flat_history.specs.Plain.{entries_of}
 use Rattle.flat_history.specs.Reshaped.{is_done}
-use Rattle.call_entries.specs.Losing.{losses_of}
-use Rattle.views.specs.Moving.{Grows}
-use Rattle.views.specs.Rebuilding.{MayHold}
+use Rattle.running.specs.call_entries_Losing.{losses_of}
+use Rattle.running.specs.views_Moving.{Grows}
+use Rattle.running.specs.views_Rebuilding.{MayHold}
 use Rattle.running.specs.array_kept_Calls.{AreHeldOrSpare, AreLossesBy, AreStepsFewer, IsBehind, IsEndOf}
 use Rattle.grow_asked.specs.Left.{phases_of}
 use Rattle.grow_asked.specs.declared.window.PhasesLeft.{PhasesLeft}
-use Rattle.kept_history.specs.Recorded.{MayGoOn, IsCallGoing}
+use Rattle.running.specs.kept_history_Recorded.{MayGoOn, IsCallGoing}
 use Rattle.running.specs.running_words_Parts.{RunningParts, left_in, still_left}
 use Rattle.running.specs.still_laws_Steps.{IsClosable}
 use Rattle.running.specs.turning_Begun.{is_resize, HasKeptLength}
 use Rattle.running.specs.running_replies_Replies.{EndsRunningSteps, IsRefusalBy, IsRefusalToldBy}
 use Rattle.running.specs.running_replies_Going.{is_finish, IsSameEpoch}
 use Rattle.running.specs.Calls.{running_left, MayEndSteps}
-use Rattle.running_steps.specs.Steps.{IsOpenFor, TellsLeft, IsStepDone, IsStepRefused}
+use Rattle.running_steps.specs.Steps.{IsOpenFor, TellsLeft, KeepsItsWay, IsStepDone, IsStepRefused}
 use Rattle.running_steps.proofs.Events.{each-behind, each-entry, any-none, IsOfStep, of-goes, of-told, of-lengthless, of-unfinished, of-undone, of-unrefused, IsStepEntries, long-kept, going-more, kept-more, refused-own}
 use Rattle.running_steps.proofs.Went.{held-behind, losses-along}
 
@@ -85,6 +85,7 @@ pub record IsPlainStep {B : Type 0} (tells : Type 0) (given : B → Given) (tape
   pub epoch : IsSameEpoch old new
   pub active : is_reshaping old.parts.members.newest ≡ false → is_reshaping new.parts.members.newest ≡ false
   pub ahead : new.ahead ≡ old.ahead
+  pub kept : KeepsItsWay (faults old.parts.bank) (faults new.parts.bank) old new
   pub ended : IsEndOf tells new.parts.first new.parts.entries (tape new.parts.bank)
 
 module _ {B : Type 0} (tells : Type 0) (given : B → Given) (tape : B → List Operation) (faults : B → ℕ → ℕ) (who : Who) (old new : RunningParts B) where
@@ -121,6 +122,7 @@ module _ {B : Type 0} (tells : Type 0) (given : B → Given) (tape : B → List 
       active = λ still none. did.active still;
       ahead = λ empty none. ap (λ (p : PhasesLeft). phases_of p) did.ahead ∙ empty;
     };
+    kept = did.kept;
     ended = did.ended;
   }
     where
@@ -167,6 +169,7 @@ module _ {B : Type 0} (tells : Type 0) (given : B → Given) (tape : B → List 
       active = λ still none. did.active still;
       ahead = λ empty none. ap (λ (p : PhasesLeft). phases_of p) did.ahead ∙ empty;
     };
+    kept = did.kept;
     ended = did.ended;
   }
     where

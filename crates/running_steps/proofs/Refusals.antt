@@ -9,8 +9,8 @@ use Rattle.bank.specs.Given.{IsFaulted}
 use Rattle.sb1.specs.declared.sb.Sb.{Sb}
 use Rattle.superblocks.specs.declared.members.Members.{Members}
 use Rattle.superblocks.specs.Reading.{is_reshaping, shape_of, next_window}
-use Rattle.views.specs.declared.work.Work.{Work}
-use Rattle.views.specs.Lacking.{AreTooMany, IsNotResynced}
+use Rattle.running.specs.views_the_Work.{Work}
+use Rattle.running.specs.views_Lacking.{AreTooMany, IsNotResynced}
 use Rattle.running.specs.array_kept_Calls.{IsRefusedFor, IsUnmendable}
 use Rattle.grow_asked.specs.declared.window.Window.{Window}
 use Rattle.grow_asked.specs.declared.window.Window.TheVariants.{Closed, Entered, Unsure}

@@ -29,25 +29,26 @@ use Rattle.flat_history.specs.Legal.{MayBeInner, call_before}
 use Rattle.flat_history.specs.OneShape.{IsOfCall}
 use Rattle.flat_history.specs.Plain.{entries_of}
 use Rattle.flat_history.specs.Reshaped.{is_planned}
-use Rattle.call_entries.proofs.PlainLaws.{one}
-use Rattle.call_entries.proofs.CallLaws.{torn-reverse}
-use Rattle.views.specs.declared.work.Work.{Work}
-use Rattle.views.specs.Moving.{Grows}
-use Rattle.views.specs.Rebuilding.{Held}
+use Rattle.running.proofs.call_entries_PlainLaws.{one}
+use Rattle.running.proofs.call_entries_CallLaws.{torn-reverse}
+use Rattle.running.specs.views_the_Work.{Work}
+use Rattle.running.specs.views_Moving.{Grows}
+use Rattle.running.specs.views_Rebuilding.{Held}
 use Rattle.running.specs.array_kept_Calls.{IsEntered, IsLossBy, AreStepsFewer, IsBehind, TellNoRoleLoss}
 use Rattle.running.proofs.array_kept_ReplyLaws.{none_before}
 use Rattle.grow_asked.specs.Left.{phases_of}
 use Rattle.grow_asked.specs.declared.window.PhasesLeft.{PhasesLeft}
 use Rattle.running.specs.course_kept_the_Course.{Course}
-use Rattle.kept_history.specs.Recorded.{MayGoOn}
+use Rattle.running.specs.kept_history_Recorded.{MayGoOn}
 use Rattle.running.specs.running_words_Parts.{RunningParts, left_in, still_left}
 use Rattle.running.specs.still_laws_Steps.{MayAnswer}
 use Rattle.running.specs.running_replies_Replies.{may_end_early, DidRunningSteps, EndsRunningSteps, IsRefusalBy, IsRefusalToldBy, HasToldBy, IsAnsweredWith}
 use Rattle.running.specs.running_replies_Going.{is_finish, is_begin, MayHoldBehind, AreLossesAlong, HasNoReshape, HasRunOn, IsSameEpoch}
 use Rattle.running.proofs.running_replies_GoneOn.{refusal-wider, told-then, along-append, may-then, spares-then, none-first, gone-then}
 use Rattle.running.specs.Calls.{running_left}
-use Rattle.running_steps.specs.Steps.{IsOpenFor, IsStepDone, IsStepRefused, IsStepAnswered, AreStepsOf, has_finished}
+use Rattle.running_steps.specs.Steps.{IsOpenFor, KeepsItsWay, IsStepDone, IsStepRefused, IsStepAnswered, AreStepsOf, has_finished}
 use Rattle.running_steps.proofs.Events.{count-both}
+use Rattle.running_steps.proofs.Ways.{way-then, way-roomy, way-members}
 
 -- ---- what stands in a call before its reply
 
@@ -324,11 +325,25 @@ cause-later tells given tape faults old mid new one two refusal was =
     refusal-wider one.never_falls two.never_falls (λ s. omega arith) old.parts.backup refusal
     (subst (λ (b : Option ℕ). IsRefusalBy b (faults mid.parts.bank) (faults new.parts.bank) refusal) one.same.backup was)
 
+-- some steps and more of them keep what both do
+pub way-on : {B : Type 0} (tells : Type 0) (given : B → Given) (tape : B → List Operation) (faults : B → ℕ → ℕ) (old mid new : RunningParts B) → HasRunOn tells given tape faults old mid → HasRunOn tells given tape faults mid new
+    → KeepsItsWay (faults old.parts.bank) (faults mid.parts.bank) old mid → KeepsItsWay (faults mid.parts.bank) (faults new.parts.bank) mid new → KeepsItsWay (faults old.parts.bank) (faults new.parts.bank) old new
+way-on tells given tape faults old mid new one two = way-then old mid new (faults old.parts.bank) (faults mid.parts.bank) (faults new.parts.bank) one.more two.more one.grown two.grown one.never_falls two.never_falls
+
+-- and so does the reply behind them
+pub way-answered : {B : Type 0} (faults : B → ℕ → ℕ) (old mid new : RunningParts B) (more last : List Entry) → mid.parts.entries ≡ old.parts.entries ++ more → new.parts.entries ≡ mid.parts.entries ++ last → NeverFalls (faults old.parts.bank) (faults mid.parts.bank)
+    → new.parts.bank ≡ mid.parts.bank → new.parts.members ≡ mid.parts.members → new.ahead ≡ mid.ahead → new.limit ≡ mid.limit → KeepsItsWay (faults old.parts.bank) (faults mid.parts.bank) old mid → KeepsItsWay (faults old.parts.bank) (faults new.parts.bank) old new
+way-answered {B = B} faults old mid new more last grown entered rises bank members ahead limit was = subst (λ (b : B). KeepsItsWay (faults old.parts.bank) (faults b) old new) (sym bank)
+    (way-then old mid new (faults old.parts.bank) (faults mid.parts.bank) (faults mid.parts.bank) more last grown entered rises (λ s. omega arith) was (way-members (faults mid.parts.bank) (faults mid.parts.bank) mid new members ahead limit))
+
 -- ---- a step, or some, that had room made for them
 
 module _ {B : Type 0} (tells : Type 0) (given : B → Given) (tape : B → List Operation) (faults : B → ℕ → ℕ) (old mid new : RunningParts B) (n : ℕ) (room : mid ≡ record old { parts = record old.parts { steps = n } }) where
   pub gone-behind : HasRunOn tells given tape faults mid new → HasRunOn tells given tape faults old new
   gone-behind was = gone-then tells given tape faults old mid new (gone-room tells given tape faults old mid n room) was
+
+  pub way-behind : KeepsItsWay (faults mid.parts.bank) (faults new.parts.bank) mid new → KeepsItsWay (faults old.parts.bank) (faults new.parts.bank) old new
+  way-behind was = way-roomy (faults old.parts.bank) (faults new.parts.bank) old mid new n room (subst (λ (a : RunningParts B). KeepsItsWay (faults a.parts.bank) (faults new.parts.bank) mid new) room was)
 
   pub done-behind : (who : Who) (over : Bool) → IsStepDone tells given tape faults who mid new over → IsStepDone tells given tape faults who old new over
   done-behind who over was = record {
@@ -343,6 +358,7 @@ module _ {B : Type 0} (tells : Type 0) (given : B → Given) (tape : B → List 
     going = was.going;
     closable = was.closable;
     went = gone-behind was.went;
+    kept = way-behind was.kept;
     ended = was.ended;
   }
 
@@ -354,6 +370,7 @@ module _ {B : Type 0} (tells : Type 0) (given : B → Given) (tape : B → List 
     right = was.right;
     going = was.going;
     went = gone-behind was.went;
+    kept = way-behind was.kept;
     ended = was.ended;
   }
 

@@ -13,10 +13,10 @@ use Rattle.flat_history.specs.declared.events.Event.TheVariants.{Refused}
 use Rattle.flat_history.specs.Fits.{is_step_event, is_lost_event}
 use Rattle.flat_history.specs.OneShape.{IsOfCall}
 use Rattle.flat_history.specs.Plain.{entries_of}
-use Rattle.call_entries.specs.Losing.{losses_of}
-use Rattle.call_entries.proofs.PlainLaws.{one}
+use Rattle.running.specs.call_entries_Losing.{losses_of}
+use Rattle.running.proofs.call_entries_PlainLaws.{one}
 use Rattle.running.specs.array_kept_Calls.{IsBehind}
-use Rattle.kept_history.specs.Recorded.{MayGoOn}
+use Rattle.running.specs.kept_history_Recorded.{MayGoOn}
 use Rattle.running_steps.specs.Steps.{TellOneStep, AreStepsOf}
 use Rattle.running_steps.proofs.Events.{each-behind, count-both, count-none, IsNoStep, refused-own}
 

@@ -20,18 +20,18 @@ use Rattle.flat_history.specs.declared.events.StepKind.TheVariants.{TakenOver}
 use Rattle.flat_history.specs.OneShape.{IsOfCall}
 use Rattle.flat_history.specs.Plain.{entries_of}
 use Rattle.flat_history.specs.Reshaped.{is_done}
-use Rattle.takeover_updates.specs.TakingOver.{taken_plan}
-use Rattle.takeover.specs.TakenOver.{IsTakeoverNext, IsUntaken, IsLevelTaken, IsUntouched, StaysItself}
-use Rattle.takeover.proofs.TakenFrom.{WasSpareOrHeld, plan-may, taken-roles, taken-spares}
-use Rattle.call_entries.specs.Losing.{losses_of}
-use Rattle.call_entries.proofs.PlainLaws.{one}
-use Rattle.views.proofs.MovedLaws.{grows-none}
-use Rattle.views.specs.Rebuilding.{Held}
+use Rattle.running.specs.takeover_updates_TakingOver.{taken_plan}
+use Rattle.running.specs.takeover_TakenOver.{IsTakeoverNext, IsUntaken, IsLevelTaken, IsUntouched, StaysItself}
+use Rattle.running.proofs.takeover_TakenFrom.{WasSpareOrHeld, plan-may, taken-roles, taken-spares}
+use Rattle.running.specs.call_entries_Losing.{losses_of}
+use Rattle.running.proofs.call_entries_PlainLaws.{one}
+use Rattle.running.proofs.views_MovedLaws.{grows-none}
+use Rattle.running.specs.views_Rebuilding.{Held}
 use Rattle.running.specs.array_kept_Calls.{IsLossBy, IsEndOf}
 use Rattle.running.proofs.array_kept_LossLaws.{behind-alone}
 use Rattle.grow_asked.specs.declared.window.PhasesLeft.{PhasesLeft}
 use Rattle.grow_asked.specs.Left.{phases_of}
-use Rattle.kept_history.specs.Recorded.{MayGoOn, IsCallGoing}
+use Rattle.running.specs.kept_history_Recorded.{MayGoOn, IsCallGoing}
 use Rattle.running.specs.running_words_Parts.{RunningParts, still_left}
 use Rattle.running.specs.still_laws_Steps.{IsClosable}
 use Rattle.running.specs.turning_Begun.{is_resize, HasKeptLength}
@@ -41,6 +41,8 @@ use Rattle.running.specs.Calls.{running_left, MayEndSteps}
 use Rattle.running_steps.specs.Steps.{TellsLeft, IsOpenFor, IsStepDone, IsStepRefused}
 use Rattle.running_steps.proofs.Events.{EachOf, each-losses, each-own, any-none, count-one, IsNoStep, IsOfStep, of-goes, of-told, of-lengthless, of-unfinished, of-undone, of-unrefused, long-kept, going-more, kept-more}
 use Rattle.running_steps.proofs.Went.{held-same, losses-along}
+use Rattle.running.proofs.Kept.{aim-taken}
+use Rattle.running_steps.proofs.Ways.{turn-told, way-members}
 use Rattle.running_steps.proofs.Plain.{open-still, still-runs, fewer-as, plain-refused}
 
 epoch-taken : {B : Type 0} (old new : RunningParts B) → StaysItself old new → IsSameEpoch old new
@@ -91,6 +93,13 @@ module _ {B : Type 0} (tells : Type 0) (given : B → Given) (tape : B → List 
       same = epoch-taken old new was.same;
       active = λ none begun. was.newest.still;
       ahead = λ none unplanned. absurd (ahead-some next none);
+    };
+    kept = record {
+      aim = aim-taken old new to behind still was.newest.still was.newest.shape was.ahead next;
+      size = was.newest.size;
+      limit = was.same.limit;
+      unturned = turn-told old.parts.entries new.parts.entries inner was.entered.is refl;
+      roles = λ before. turn-told old.parts.entries new.parts.entries inner was.entered.is refl;
     };
     ended = was.ended;
   }
@@ -169,6 +178,7 @@ module _ {B : Type 0} (tells : Type 0) (given : B → Given) (tape : B → List 
         epoch = epoch-taken old new back.same;
         active = λ still. ap (λ (m : Members). is_reshaping m.newest) back.members ∙ still;
         ahead = back.ahead;
+        kept = way-members (faults old.parts.bank) (faults new.parts.bank) old new back.members back.ahead back.same.limit;
         ended = later back.bank back.ended;
       })
       (behind-alone who back.end (Refused refusal) refl back.entered) goes (take-ends to refusal caused) (take-cause (faults old.parts.bank) (faults new.parts.bank) to refusal caused) right

@@ -11,8 +11,8 @@ use Rattle.flat_history.specs.declared.events.Event.{Event}
 use Rattle.flat_history.specs.declared.events.Event.TheVariants.{Lost}
 use Rattle.flat_history.specs.declared.events.LostCause.TheVariants.{Fault, Command}
 use Rattle.flat_history.specs.World.{World}
-use Rattle.views.specs.Placed.{AreStillHeld}
-use Rattle.views.specs.Rebuilding.{Held, MayHold}
+use Rattle.running.specs.views_Placed.{AreStillHeld}
+use Rattle.running.specs.views_Rebuilding.{Held, MayHold}
 use Rattle.running.specs.array_kept_Calls.{AreHeldOrSpare, AreSparesFewer, IsLossBy, AreLossesBy}
 use Rattle.running.specs.running_words_Parts.{RunningParts}
 use Rattle.running.specs.running_words_Calls.{IsSameReshape}

@@ -1,5 +1,5 @@
 -- The background steps of an array that may be in a reshape: one of them, and as many as a caller asks for.
-use Rattle.std.specs.Prelude.{◌≡◌, ◌⊎◌, ℕ, ◌+◌, ◌<◌, ◌≤◌, ◌++◌, Bool, false, List, length, drop, count_by, Option, Some, None, MatchBool, Result, Ok, Err, ⊤}
+use Rattle.std.specs.Prelude.{◌≡◌, ◌⊎◌, ℕ, ◌+◌, ◌<◌, ◌≤◌, ◌++◌, Bool, true, false, List, length, drop, count_by, Option, Some, None, MatchBool, Result, Ok, Err, ⊤}
 use Rattle.std.specs.List.{list_any, All}
 use Rattle.md_base.specs.declared.answers.Fault.{Fault}
 use Rattle.md_base.specs.declared.answers.Fault.TheVariants.{Refused as IsRefusedWith, NoMemory}
@@ -8,15 +8,18 @@ use Rattle.md_base.specs.declared.answers.Refusal.TheVariants.{Nothing}
 use Rattle.md_base.specs.declared.answers.Who.{Who}
 use Rattle.bank.specs.declared.bank.Operation.{Operation}
 use Rattle.bank.specs.Given.{Given}
-use Rattle.superblocks.specs.Reading.{is_reshaping}
+use Rattle.superblocks.specs.Reading.{is_reshaping, shape_of, final_shape}
 use Rattle.flat_history.specs.declared.events.Entry.{Entry}
 use Rattle.flat_history.specs.declared.events.Event.{Event}
 use Rattle.flat_history.specs.declared.events.Event.TheVariants.{Step, Stepped, Refused}
+use Rattle.flat_history.specs.declared.events.StepKind.TheVariants.{Begun, Finished, TakenOver}
 use Rattle.flat_history.specs.Fits.{is_step_event, is_lost_event}
 use Rattle.flat_history.specs.OneShape.{IsOfCall}
+use Rattle.running.specs.views_Lacking.{HaveRolesFailed}
 use Rattle.running.specs.array_kept_Calls.{IsBehind, IsEndOf, AreStepsFewer, TellNoLoss}
-use Rattle.kept_history.specs.Recorded.{MayGoOn, IsCallGoing}
+use Rattle.running.specs.kept_history_Recorded.{MayGoOn, IsCallGoing}
 use Rattle.running.specs.running_words_Parts.{RunningParts}
+use Rattle.running.specs.running_words_Plans.{aim_of}
 use Rattle.running.specs.running_replies_Replies.{EndsRunningSteps, IsRefusalBy}
 use Rattle.running.specs.running_replies_Going.{is_finish, HasRunOn}
 use Rattle.running.specs.still_laws_Steps.{IsClosable}
@@ -28,6 +31,35 @@ use Rattle.running.specs.Calls.{running_left, MayEndSteps}
 -- The call goes on; and where no reshape is active, it has changed no length so far and told of steps that are left wherever it told of steps, so that a reshape may begin in it.
 abbrev pub IsOpenFor : {B : Type 0} → RunningParts B → Who → Type 0
 IsOpenFor array who = MatchBool (is_reshaping array.parts.members.newest) (IsCallGoing array.parts.entries who) (HasKeptLength array.parts.entries who)
+
+-- ---- what steps keep
+
+-- the event tells that a reshape began or ended, or that the level was taken over
+abbrev pub is_turn : Event → Bool
+is_turn (Step Begun left) = true
+is_turn (Step Finished left) = true
+is_turn (Step TakenOver left) = true
+is_turn event = false
+
+-- one of the entries behind the old ones tells so
+abbrev pub has_turned : List Entry → List Entry → Bool
+has_turned old new = list_any (λ e. is_turn e.event) (drop (length old) new)
+
+-- the same shapes are in force, and the same phases are ahead
+pub record IsUnturned {B : Type 0} (old new : RunningParts B) : Type 0 where
+  pub active : is_reshaping new.parts.members.newest ≡ is_reshaping old.parts.members.newest
+  pub shape : shape_of new.parts.members.newest ≡ shape_of old.parts.members.newest
+  pub final : final_shape new.parts.members.newest ≡ final_shape old.parts.members.newest
+  pub ahead : new.ahead ≡ old.ahead
+
+-- Steps leave an array on its way: it goes to the same shape, and has its size and its limit. As long as they tell no begin, no end of a reshape and no takeover, the same shapes are in force and the same phases ahead; and of
+-- an array without a reshape each role then has the slot that held it, or that slot has failed since.
+pub record KeepsItsWay {B : Type 0} (before now : ℕ → ℕ) (old new : RunningParts B) : Type 0 where
+  pub aim : aim_of new ≡ aim_of old
+  pub size : new.parts.members.newest.size ≡ old.parts.members.newest.size
+  pub limit : new.limit ≡ old.limit
+  pub unturned : has_turned old.parts.entries new.parts.entries ≡ false → IsUnturned old new
+  pub roles : is_reshaping old.parts.members.newest ≡ false → has_turned old.parts.entries new.parts.entries ≡ false → HaveRolesFailed old.parts.members new.parts.members before now
 
 -- ---- one step
 
@@ -41,7 +73,7 @@ abbrev pub TellOneStep : List Entry → Type 0
 TellOneStep entries = (count_by (λ e. is_step_event e.event) entries ≡ 1)
     ⊎ ((count_by (λ e. is_step_event e.event) entries ≡ 0) × (1 ≤ count_by (λ e. is_lost_event e.event) entries))
 
--- What a step leaves that is done, whether a reshape ended by it (`over`) or not: what it entered, with the steps that are left, which are one fewer, that the call goes on, and that a reply may close its plans.
+-- What a step leaves that is done, whether a reshape ended by it (`over`) or not: what it entered, with the steps that are left, which are one fewer, that the call goes on, that a reply may close its plans, and what it keeps.
 pub record IsStepDone {B : Type 0} (tells : Type 0) (given : B → Given) (tape : B → List Operation) (faults : B → ℕ → ℕ) (who : Who) (old new : RunningParts B) (over : Bool) : Type 0 where
   pub inner : List Entry
   pub is : new.parts.entries ≡ old.parts.entries ++ inner
@@ -54,6 +86,7 @@ pub record IsStepDone {B : Type 0} (tells : Type 0) (given : B → Given) (tape 
   pub going : IsCallGoing new.parts.entries who
   pub closable : is_reshaping new.parts.members.newest ≡ false → IsClosable new
   pub went : HasRunOn tells given tape faults old new
+  pub kept : KeepsItsWay (faults old.parts.bank) (faults new.parts.bank) old new
   pub ended : IsEndOf tells new.parts.first new.parts.entries (tape new.parts.bank)
 
 -- What a step leaves that is refused: the refusal is its last entry, for a slot or the backup only where that failed.
@@ -64,6 +97,7 @@ pub record IsStepRefused {B : Type 0} (tells : Type 0) (given : B → Given) (ta
   pub right : MayEndSteps new refusal
   pub going : IsCallGoing new.parts.entries who
   pub went : HasRunOn tells given tape faults old new
+  pub kept : KeepsItsWay (faults old.parts.bank) (faults new.parts.bank) old new
   pub ended : IsEndOf tells new.parts.first new.parts.entries (tape new.parts.bank)
 
 -- what a step leaves

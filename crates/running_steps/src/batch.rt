@@ -6,12 +6,12 @@ ghost use Rattle.flat_history.specs.Flat.{next_number};
 ghost use Rattle.flat_history.specs.declared.events.Request.TheVariants.{Steps as AsksSteps};
 ghost use Rattle.running.specs.array_kept_Calls.{IsEndOf, TellNoLoss, TellNoRoleLoss};
 ghost use Rattle.grow_asked.specs.Left.{phases_of};
-ghost use Rattle.kept_history.specs.Recorded.{IsCallGoing};
+ghost use Rattle.running.specs.kept_history_Recorded.{IsCallGoing};
 ghost use Rattle.running.specs.still_laws_Steps.{IsClosable};
 ghost use Rattle.running.specs.running_replies_Replies.{IsAnsweredWith, EndsRunningSteps, MayTellBy, IsRefusalBy};
 ghost use Rattle.running.specs.running_replies_Going.{HasNoReshape, HasRunOn};
 ghost use Rattle.running.specs.Calls.{running_left, MayEndSteps};
-ghost use Rattle.running_steps.specs.Steps.{IsOpenFor, AreStepsOf, IsCountedBehind, IsGoneOn, IsStepCount, has_finished};
+ghost use Rattle.running_steps.specs.Steps.{IsOpenFor, KeepsItsWay, AreStepsOf, IsCountedBehind, IsGoneOn, IsStepCount, has_finished};
 
 use crate::stepping::take_step;
 use crate::turns::{own_step, take};
@@ -96,6 +96,7 @@ fn take_steps<B: Bank>(array: &mut Running<B>, who: Who, count: u64) -> Batch
     ensures room { 1 ≤ array.new.parts.steps }
     ensures ended { IsEndOf B.tells array.new.parts.first array.new.parts.entries (B.tape array.new.parts.bank) }
     ensures went { HasRunOn B.tells B.given B.tape B.faults_of array.old array.new }
+    ensures kept { KeepsItsWay (B.faults_of array.old.parts.bank) (B.faults_of array.new.parts.bank) array.old array.new }
 {
     for done in 0..count {
         if array.left() == 0 {
@@ -119,7 +120,8 @@ fn take_steps<B: Bank>(array: &mut Running<B>, who: Who, count: u64) -> Batch
 /// Answers the request for at most so many background steps: does them until so many are done, or as many as were left at its start;
 /// until none is left, one is refused, or a reshape has ended, and one step behind it: the takeover of the level, or the first step of the
 /// rebuild of a role that was lost on the way. Ok is a copy of the reply's event, which tells `Nothing` where none was left. Memory is wanted before the first step alone. A backup ends steps only in a reshape or where phases are ahead,
-/// and a missing role or want of spares only where some are; and where none is left, there is neither.
+/// and a missing role or want of spares only where some are; and where none is left, there is neither. The array goes where it went, to the
+/// same shape, with its size and its limit.
 pub fn steps<B: Bank>(array: &mut Running<B>, who: Who, most: u64) -> Result<Event, NoMemory>
     requires next { who.number ≡ next_number who.caller array.old.parts.entries }
     requires caller { who.caller ≢ 254 }
@@ -131,6 +133,7 @@ pub fn steps<B: Bank>(array: &mut Running<B>, who: Who, most: u64) -> Result<Eve
     ensures unchanged { IfErr result (λ none. array.new ≡ array.old) }
     ensures ended { IfOk result (λ event. IsEndOf B.tells array.new.parts.first array.new.parts.entries (B.tape array.new.parts.bank)) }
     ensures went { HasRunOn B.tells B.given B.tape B.faults_of array.old array.new }
+    ensures kept { KeepsItsWay (B.faults_of array.old.parts.bank) (B.faults_of array.new.parts.bank) array.old array.new }
 {
     let count = most.min(array.left());
     let Some(room) = count.checked_add(2) else {

@@ -5,14 +5,14 @@ ghost use Rattle.md_base.specs.declared.wishes.Phase.{Phase};
 ghost use Rattle.md_base.specs.declared.wishes.Phase.TheVariants.{Reshape};
 ghost use Rattle.superblocks.specs.Reading.{is_reshaping};
 ghost use Rattle.flat_history.specs.declared.events.StepKind.TheVariants.{RebuildEnded as EndsRebuild};
-ghost use Rattle.views.specs.Status.{left_of};
+ghost use Rattle.running.specs.views_Status.{left_of};
 ghost use Rattle.grow_asked.specs.Left.{phases_of};
-ghost use Rattle.kept_history.specs.Recorded.{IsCallGoing};
+ghost use Rattle.running.specs.kept_history_Recorded.{IsCallGoing};
 ghost use Rattle.running.specs.moving_state_Due.{due_of};
 ghost use Rattle.running.specs.moving_state_the_Due_TheVariants.{Finish as EndsReshape};
 ghost use Rattle.running.specs.still_steps_Stepping.{next_kind};
 ghost use Rattle.running.specs.turning_Begun.{HasKeptLength};
-ghost use Rattle.takeover.specs.TakenOver.{IsTakeoverNext};
+ghost use Rattle.running.specs.takeover_TakenOver.{IsTakeoverNext};
 ghost use Rattle.running_steps.specs.Steps.{IsStepTaken};
 
 use bank::Bank;

@@ -11,11 +11,11 @@ use Rattle.superblocks.specs.declared.members.Members.{Members}
 use Rattle.flat_history.specs.declared.events.Entry.{Entry}
 use Rattle.flat_history.specs.declared.events.Event.{Event}
 use Rattle.flat_history.specs.Plain.{entries_of}
-use Rattle.call_entries.proofs.PlainLaws.{one}
-use Rattle.shape_changes.specs.Safety.{IsRisen}
-use Rattle.views.specs.Lacking.{AreTooMany}
-use Rattle.views.specs.Rebuilding.{Held}
-use Rattle.views.specs.Moving.{Grows, IsMoved}
+use Rattle.moving_state.proofs.call_entries_PlainLaws.{one}
+use Rattle.moving_state.specs.shape_changes_Safety.{IsRisen}
+use Rattle.moving_state.specs.views_Lacking.{AreTooMany}
+use Rattle.moving_state.specs.views_Rebuilding.{Held}
+use Rattle.moving_state.specs.views_Moving.{Grows, IsMoved}
 use Rattle.moving_state.specs.array_kept_Kept.{scope_in}
 use Rattle.moving_state.specs.array_kept_Calls.{IsLossBy, AreLossesOf, IsEndOf}
 use Rattle.moving_state.proofs.array_kept_ReadyLaws.{list-same}

@@ -9,8 +9,8 @@ use Rattle.flat_history.specs.declared.events.Event.{Event}
 use Rattle.flat_history.specs.declared.events.Event.TheVariants.{Torn, Refused}
 use Rattle.flat_history.specs.Flat.{length_after, limit_after}
 use Rattle.flat_history.specs.Plain.{entries_of}
-use Rattle.call_entries.specs.Losing.{losses_of, failure_events}
-use Rattle.call_entries.proofs.CallLaws.{losses-are, length-losses, limit-losses}
+use Rattle.moving_state.specs.call_entries_Losing.{losses_of, failure_events}
+use Rattle.moving_state.proofs.call_entries_CallLaws.{losses-are, length-losses, limit-losses}
 
 -- these entries change neither
 pub record IsLengthKept (added : List Entry) : Type 0 where

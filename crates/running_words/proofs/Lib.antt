@@ -1,6 +1,6 @@
 pub mod Called
 pub mod Lengths
-pub mod Visible
+pub mod VisibleLaws
 pub mod Replies
 pub mod TakenOut
 pub use Rattle.calls_kept.proofs.AddLaws as calls_kept_AddLaws

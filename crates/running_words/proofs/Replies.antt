@@ -19,15 +19,15 @@ use Rattle.flat_history.specs.Transfers.{IsRefusedAt, IsPastEnd}
 use Rattle.flat_history.specs.Fits.{AreTornOf, IsReadRefused}
 use Rattle.flat_history.specs.Plain.{entries_of}
 use Rattle.flat_history.specs.OneShape.{OneShapeAnswers}
-use Rattle.call_entries.specs.Losing.{losses_of, failure_events}
-use Rattle.call_entries.proofs.PlainLaws.{one}
-use Rattle.call_entries.proofs.LosingLaws.{entries-both}
-use Rattle.call_entries.proofs.CallLaws.{losses-are, length-losses, limit-losses, torn-losses, torn-both}
+use Rattle.moving_state.specs.call_entries_Losing.{losses_of, failure_events}
+use Rattle.moving_state.proofs.call_entries_PlainLaws.{one}
+use Rattle.moving_state.proofs.call_entries_LosingLaws.{entries-both}
+use Rattle.moving_state.proofs.call_entries_CallLaws.{losses-are, length-losses, limit-losses, torn-losses, torn-both}
 use Rattle.moving_state.specs.array_kept_Calls.{StandsInside, IsReplied, IsRefusedFor}
 use Rattle.moving_state.proofs.array_kept_NowLaws.{length-more}
 use Rattle.moving_state.proofs.array_kept_ReplyLaws.{replied, inside-losses, none-inside, IsOfMissing}
 use Rattle.moving_state.specs.Left.{visible_by}
-use Rattle.running_words.proofs.Visible.{visible-is, limit-kept}
+use Rattle.running_words.proofs.VisibleLaws.{visible-is, limit-kept}
 
 -- ---- refusals
 

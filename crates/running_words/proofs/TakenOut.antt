@@ -9,15 +9,15 @@ use Rattle.row_io.specs.Rows.{reading_of, is_missing, members_without}
 use Rattle.flat_history.specs.declared.events.Entry.{Entry}
 use Rattle.flat_history.specs.declared.events.Event.{Event}
 use Rattle.flat_history.specs.Plain.{entries_of}
-use Rattle.shape_changes.specs.Steady.{AreUnlost}
-use Rattle.views.specs.Lacking.{HaveFailedSince, AreLostSince}
-use Rattle.views.specs.Moving.{IsMoved}
-use Rattle.views.specs.Placed.{IsPlaced}
-use Rattle.views.proofs.Fit.{count-alike}
-use Rattle.views.proofs.HeldRows.{missing-before, vacant-missing}
-use Rattle.views.proofs.LackingLaws.{AreVacant, AreNewlyVacant, lost-since}
-use Rattle.views.proofs.MovedLaws.{moved-then}
-use Rattle.call_entries.proofs.PlainLaws.{one}
+use Rattle.moving_state.specs.shape_changes_Steady.{AreUnlost}
+use Rattle.moving_state.specs.views_Lacking.{HaveFailedSince, AreLostSince}
+use Rattle.moving_state.specs.views_Moving.{IsMoved}
+use Rattle.moving_state.specs.views_Placed.{IsPlaced}
+use Rattle.moving_state.proofs.views_Fit.{count-alike}
+use Rattle.moving_state.proofs.views_HeldRows.{missing-before, vacant-missing}
+use Rattle.moving_state.proofs.views_LackingLaws.{AreVacant, AreNewlyVacant, lost-since}
+use Rattle.moving_state.proofs.views_MovedLaws.{moved-then}
+use Rattle.moving_state.proofs.call_entries_PlainLaws.{one}
 use Rattle.calls_kept.proofs.FailedLaws.{placed-out, moved-out, out-only}
 use Rattle.history_calls.proofs.Failed.{IsFailedOrAmong}
 

@@ -4,8 +4,8 @@ use Rattle.bank.specs.declared.bank.Operation.{Operation}
 use Rattle.bank.specs.Given.{Given, NeverFalls}
 use Rattle.superblocks.specs.declared.members.Members.{Members}
 use Rattle.superblocks.specs.Reads.{has_spare}
-use Rattle.views.specs.Placed.{AreStillHeld}
-use Rattle.views.specs.Moving.{Grows}
+use Rattle.moving_state.specs.views_Placed.{AreStillHeld}
+use Rattle.moving_state.specs.views_Moving.{Grows}
 use Rattle.moving_state.specs.array_kept_Calls.{AreLossesOf, IsEndOf, IsWorkAdded}
 use Rattle.running_words.specs.Parts.{RunningParts}
 use Rattle.running_words.specs.Calls.{moving_world, IsSameReshape}

@@ -22,9 +22,9 @@ use Rattle.flat_history.specs.Legal.{IsLegal}
 use Rattle.flat_history.specs.Reshaped.{IsReshaped}
 use Rattle.flat_history.specs.Sound.{OpensFit, StaysSound}
 use Rattle.flat_history.specs.World.{World}
-use Rattle.views.specs.Placed.{AreStillHeld}
-use Rattle.views.specs.Lacking.{AreTooMany}
-use Rattle.views.specs.Moving.{Grows}
+use Rattle.moving_state.specs.views_Placed.{AreStillHeld}
+use Rattle.moving_state.specs.views_Lacking.{AreTooMany}
+use Rattle.moving_state.specs.views_Moving.{Grows}
 use Rattle.moving_state.specs.array_kept_Calls.{world_for, IsBehind, AreSparesFewer, AreLossesOf, IsEndOf, IsSameArray}
 use Rattle.moving_state.specs.course_kept_Laws.{entered, closed, unsure}
 use Rattle.running_words.specs.Parts.{RunningParts, visible_in, left_in}

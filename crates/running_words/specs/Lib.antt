@@ -25,3 +25,5 @@ pub use Rattle.moving_state.specs.reshape_updates_Beginning
 pub use Rattle.moving_state.specs.safe_updates_First
 pub use Rattle.moving_state.specs.safe_updates_Unused
 pub use Rattle.moving_state.specs.window_steps_Zeroing
+pub use Rattle.moving_state.specs.views_Moving
+pub use Rattle.moving_state.specs.views_Rebuilding

@@ -3,9 +3,9 @@ use Rattle.std.specs.Prelude.{ℕ, ◌+◌, Option}
 use Rattle.grow_plan.specs.Plans.{phases_steps}
 use Rattle.superblocks.specs.declared.members.Members.{Members}
 use Rattle.superblocks.specs.Reading.{shape_of, list_length}
-use Rattle.views.specs.declared.work.Work.{Work}
-use Rattle.views.specs.Parts.{Parts}
-use Rattle.views.specs.Status.{left_of}
+use Rattle.moving_state.specs.views_the_Work.{Work}
+use Rattle.moving_state.specs.views_Parts.{Parts}
+use Rattle.moving_state.specs.views_Status.{left_of}
 use Rattle.grow_asked.specs.declared.window.PhasesLeft.{PhasesLeft}
 use Rattle.grow_asked.specs.Left.{phases_of, grow_left}
 use Rattle.moving_state.specs.region_mends_Left.{resync_left}

@@ -16,7 +16,7 @@ use Rattle.flat_history.specs.Fits.{Fits, phases_left}
 use Rattle.flat_history.specs.Plain.{entries_of}
 use Rattle.flat_history.specs.World.{World}
 use Rattle.grow_asked.specs.Left.{phases_of}
-use Rattle.kept_history.specs.Recorded.{entry_of}
+use Rattle.history_calls.specs.kept_history_Recorded.{entry_of}
 use Rattle.running_words.specs.Parts.{RunningParts}
 
 -- why a list of so many sectors isn't limited so, with so many phases ahead: a plan is pending, or else the limit is past its end

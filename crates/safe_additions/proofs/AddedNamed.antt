@@ -15,15 +15,15 @@ use Rattle.superblocks.specs.Stages.{AreLeft}
 use Rattle.superblock_reads.proofs.StageReads.{held-reads}
 use Rattle.superblock_reads.proofs.RoundsRead.{more-held}
 use Rattle.row_io.specs.Rows.{role_without, members_without}
-use Rattle.shape_changes.specs.Held.{IsHeldBy}
+use Rattle.safe_updates.specs.shape_changes_Held.{IsHeldBy}
 use Rattle.views.specs.Lacking.{AreUnnamed}
-use Rattle.shape_changes.specs.Marking.{marking}
+use Rattle.safe_updates.specs.shape_changes_Marking.{marking}
 use Rattle.views.specs.Placed.{IsPlaced}
-use Rattle.shape_changes.specs.Steady.{AreUnlost, IsSteady, IsNamedNow}
+use Rattle.safe_updates.specs.shape_changes_Steady.{AreUnlost, IsSteady, IsNamedNow}
 use Rattle.views.specs.Rebuilding.{AreSparesFree}
-use Rattle.shape_views.specs.Views.{Ledger}
+use Rattle.safe_updates.specs.shape_views_Views.{Ledger}
 use Rattle.safe_updates.proofs.RolesNamed.{unnamed-named}
-use Rattle.shape_changes.proofs.Without.{in-both, any-holds, live-is}
+use Rattle.safe_updates.proofs.shape_changes_Without.{in-both, any-holds, live-is}
 
 -- a slot that is live wasn't lost
 pub live-unlost : (given : Given) (m : Members) → AreUnlost m → AreSparesFree given m → (clean : Bool) (s : ℕ) → has_slot (live_set m (marking m clean)) s ≡ true → has_slot m.lost s ≡ false

@@ -23,16 +23,16 @@ use Rattle.superblocks.specs.Crash.{IsWithin}
 use Rattle.row_io.specs.Rows.{reading_of, members_without}
 use Rattle.views.specs.Placed.{IsPlaced, AreLess}
 use Rattle.views.specs.Rebuilding.{with_spare, AreSparesFree}
-use Rattle.shape_changes.specs.Steady.{AreUnlost, AreGoneTold, with_number, IsSteady, IsSpent, IsSafeStretch, AreViewsRight}
+use Rattle.safe_updates.specs.shape_changes_Steady.{AreUnlost, AreGoneTold, with_number, IsSteady, IsSpent, IsSafeStretch, AreViewsRight}
 use Rattle.views.specs.Lacking.{AreUnnamed}
-use Rattle.shape_changes.specs.Marking.{adding, marking}
+use Rattle.safe_updates.specs.shape_changes_Marking.{adding, marking}
 use Rattle.views.specs.Numbers.{IsSpareSb, IsOfScope}
 use Rattle.views.specs.Moving.{IsMoved}
-use Rattle.shape_views.specs.Regions.{IsReadOf}
-use Rattle.shape_views.specs.Views.{Disk, Ledger, IsViewRight}
-use Rattle.shape_views.specs.Windows.{IsUpdating}
-use Rattle.shape_views.proofs.Alike.{backup-alike}
-use Rattle.shape_views.proofs.WindowLaws.{updating-right}
+use Rattle.safe_updates.specs.shape_views_Regions.{IsReadOf}
+use Rattle.safe_updates.specs.shape_views_Views.{Disk, Ledger, IsViewRight}
+use Rattle.safe_updates.specs.shape_views_Windows.{IsUpdating}
+use Rattle.safe_updates.proofs.shape_views_Alike.{backup-alike}
+use Rattle.safe_updates.proofs.shape_views_WindowLaws.{updating-right}
 use Rattle.sb1.specs.Superblock.{checksum}
 use Rattle.superblocks.specs.declared.change.Give.{Give}
 use Rattle.superblocks.specs.declared.change.Give.TheVariants.{Same}
@@ -53,9 +53,9 @@ use Rattle.superblocks.proofs.HeldReads.{known_at}
 use Rattle.superblock_reads.proofs.UpTo.{rounds-parts, end-room}
 use Rattle.superblock_laws.proofs.AddedReads.{added-before, added-fit}
 use Rattle.superblock_laws.proofs.AddedRounds.{in-first-reads, rounds-read, rounds-end, wider}
-use Rattle.shape_changes.specs.Held.{IsHeldBy}
-use Rattle.shape_changes.specs.Carried.{AreCarried}
-use Rattle.shape_changes.specs.Safety.{HasMarkRoom}
+use Rattle.safe_updates.specs.shape_changes_Held.{IsHeldBy}
+use Rattle.safe_updates.specs.shape_changes_Carried.{AreCarried}
+use Rattle.safe_updates.specs.shape_changes_Safety.{HasMarkRoom}
 use Rattle.views.proofs.AddedMembers.{own-here, own-other, live-with, placed-with}
 use Rattle.safe_additions.proofs.AddedNamed.{named-held}
 use Rattle.safe_additions.proofs.AddedSaid.{said-added, roles-are, spares-are}
@@ -64,17 +64,17 @@ use Rattle.safe_additions.proofs.AddedViews.{with-less, less-view}
 use Rattle.safe_updates.proofs.MissingLaws.{missing-more}
 use Rattle.safe_additions.proofs.SaidReads.{read-of}
 use Rattle.safe_additions.proofs.AddedUpdates.{IsAddedBy, added-less, added-spares, added-moved, left-in-adding}
-use Rattle.shape_changes.proofs.Carried.{IsRewritable, known-rewritable, numbers-touched}
+use Rattle.safe_updates.proofs.shape_changes_Carried.{IsRewritable, known-rewritable, numbers-touched}
 use Rattle.views.proofs.MarkEnds.{some-or-none as mark-left}
-use Rattle.shape_changes.proofs.Without.{state-without, without-none, in-both, any-without, live-is}
+use Rattle.safe_updates.proofs.shape_changes_Without.{state-without, without-none, in-both, any-without, live-is}
 use Rattle.views.proofs.SafeStretch.{gone-before}
-use Rattle.shape_changes.proofs.Stretch.{seen-own}
-use Rattle.shape_changes.proofs.ChangeViews.{known-read, placed-less}
-use Rattle.shape_changes.proofs.Drawn.{disk-somewhere, views-right}
-use Rattle.shape_changes.proofs.KeptSafe.{fits-alike, without-right, steady-right}
-use Rattle.shape_changes.proofs.LessViews.{less-right}
-use Rattle.shape_changes.proofs.Since.{since-none}
-use Rattle.shape_changes.specs.Updates.{IsLessView}
+use Rattle.safe_updates.proofs.shape_changes_Stretch.{seen-own}
+use Rattle.safe_updates.proofs.shape_changes_ChangeViews.{known-read, placed-less}
+use Rattle.safe_updates.proofs.shape_changes_Drawn.{disk-somewhere, views-right}
+use Rattle.safe_updates.proofs.shape_changes_KeptSafe.{fits-alike, without-right, steady-right}
+use Rattle.safe_updates.proofs.shape_changes_LessViews.{less-right}
+use Rattle.safe_updates.proofs.shape_changes_Since.{since-none}
+use Rattle.safe_updates.specs.shape_changes_Updates.{IsLessView}
 use Rattle.safe_updates.proofs.SparesLaws.{spares-are as mark-spares}
 
 -- The array is read there, as one of these members say.

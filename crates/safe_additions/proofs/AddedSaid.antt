@@ -41,20 +41,20 @@ use Rattle.superblock_laws.proofs.AddedReads.{put, put_ninth, of_put, none_read,
 use Rattle.superblocks.proofs.UpdateReads.{fresh_less}
 use Rattle.superblock_reads.proofs.Tied.{IsPlannedNewest, planned-said, held-other}
 use Rattle.row_io.specs.Rows.{reading_of, role_without, members_without}
-use Rattle.shape_changes.specs.Held.{IsHeldBy}
-use Rattle.shape_changes.specs.Marking.{adding}
+use Rattle.safe_updates.specs.shape_changes_Held.{IsHeldBy}
+use Rattle.safe_updates.specs.shape_changes_Marking.{adding}
 use Rattle.views.specs.Numbers.{IsSpareSb}
 use Rattle.views.specs.Placed.{IsPlaced}
 use Rattle.views.specs.Rebuilding.{with_spare}
 use Rattle.views.proofs.AddedMembers.{own-here, own-other, lost-with}
 use Rattle.safe_additions.proofs.AddedStarts.{says-still, says-later, count-still}
 use Rattle.views.proofs.MarkLaws.{roles-kept}
-use Rattle.shape_changes.proofs.Kept.{give_of-same}
+use Rattle.safe_updates.proofs.shape_changes_Kept.{give_of-same}
 use Rattle.safe_additions.proofs.Planned.{apart, small}
 use Rattle.safe_additions.proofs.Ready.{gone-lost}
-use Rattle.shape_changes.proofs.Without.{any-without, from-without, without-twice}
+use Rattle.safe_updates.proofs.shape_changes_Without.{any-without, from-without, without-twice}
 use Rattle.superblocks.proofs.ValidFields.{few-roles as valid-few}
-use Rattle.shape_changes.proofs.UpdateViews.{said-recovering}
+use Rattle.safe_updates.proofs.shape_changes_UpdateViews.{said-recovering}
 use Rattle.safe_additions.proofs.SaidReads.{IsSaidOf}
 
 abbrev Disk : Type 0

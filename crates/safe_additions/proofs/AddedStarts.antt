@@ -40,18 +40,18 @@ use Rattle.superblock_reads.proofs.RoundReads.{left_set, left-are}
 use Rattle.superblock_reads.proofs.RoundsRead.{more-held}
 use Rattle.superblock_laws.proofs.AddingStarts.{adding-ready}
 use Rattle.row_io.specs.Rows.{role_without, members_without}
-use Rattle.shape_changes.specs.Held.{IsHeldBy}
-use Rattle.shape_changes.specs.Marking.{adding, marking}
-use Rattle.shape_changes.specs.Carried.{AreCarried}
+use Rattle.safe_updates.specs.shape_changes_Held.{IsHeldBy}
+use Rattle.safe_updates.specs.shape_changes_Marking.{adding, marking}
+use Rattle.safe_updates.specs.shape_changes_Carried.{AreCarried}
 use Rattle.views.specs.Numbers.{IsSpareSb, IsOfScope, spare_sb}
 use Rattle.views.specs.Placed.{IsPlaced}
 use Rattle.views.specs.Rebuilding.{AreSparesFree, with_spare}
 use Rattle.views.proofs.AddedMembers.{lost-with, live-here}
-use Rattle.shape_changes.proofs.Kept.{give_of-same}
-use Rattle.shape_changes.proofs.Without.{state-without, any-holds, live-is, live-without}
+use Rattle.safe_updates.proofs.shape_changes_Kept.{give_of-same}
+use Rattle.safe_updates.proofs.shape_changes_Without.{state-without, any-holds, live-is, live-without}
 use Rattle.safe_additions.proofs.Planned.{without-holder}
 use Rattle.safe_additions.proofs.Ready.{none-judged, gone-lost, first-lost, live-known as first-live-known, known-live as first-known-live}
-use Rattle.shape_changes.proofs.Spent.{live-holder}
+use Rattle.safe_updates.proofs.shape_changes_Spent.{live-holder}
 
 -- ---- tests
 

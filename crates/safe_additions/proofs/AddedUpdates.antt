@@ -24,20 +24,20 @@ use Rattle.superblocks.proofs.PlannedSb.{planned-of}
 use Rattle.superblocks.proofs.SlotSets.{slots-same}
 use Rattle.row_io.specs.Rows.{reading_of}
 use Rattle.views.specs.Placed.{IsPlaced, AreLess, HaveSameReshape}
-use Rattle.shape_changes.specs.Steady.{AreUnlost}
+use Rattle.safe_updates.specs.shape_changes_Steady.{AreUnlost}
 use Rattle.views.specs.Flushing.{AreHolders}
 use Rattle.views.specs.Lacking.{HaveFailedSince}
-use Rattle.shape_changes.specs.Marking.{adding, marking}
+use Rattle.safe_updates.specs.shape_changes_Marking.{adding, marking}
 use Rattle.views.specs.Moving.{IsMoved}
 use Rattle.views.specs.Rebuilding.{AreSparesFree, IfOwn, with_spare}
 use Rattle.views.specs.Under.{IsRestKept}
-use Rattle.shape_changes.specs.Safety.{HasLiveSlot, IsRisen}
+use Rattle.safe_updates.specs.shape_changes_Safety.{HasLiveSlot, IsRisen}
 use Rattle.views.proofs.AddedMembers.{own-here, spares-with, live-with}
 use Rattle.views.proofs.HeldRows.{rows-same}
 use Rattle.views.proofs.LackingLaws.{since-less}
 use Rattle.views.proofs.MarkEnds.{left-in-mark}
 use Rattle.views.proofs.MarkLaws.{roles-kept, few-planned}
-use Rattle.shape_changes.proofs.Kept.{give_of-same}
+use Rattle.safe_updates.proofs.shape_changes_Kept.{give_of-same}
 use Rattle.views.proofs.MarkedSafe.{told-marks}
 use Rattle.views.proofs.MovedLaws.{moved-less}
 use Rattle.views.proofs.PlacedLaws.{placed-less, less-unlost}

@@ -8,10 +8,10 @@ use Rattle.superblocks.specs.declared.members.Members.{Members}
 use Rattle.superblocks.specs.Reading.{is_whole, role_state, holder}
 use Rattle.superblocks.specs.Reads.{SaysSame}
 use Rattle.row_io.specs.Rows.{reading_of, role_without}
-use Rattle.shape_changes.specs.Updates.{IsLessView}
-use Rattle.shape_changes.proofs.ChangeViews.{says-itself}
-use Rattle.shape_changes.proofs.Kept.{still-missing}
-use Rattle.shape_changes.proofs.Without.{without-holder, state-without}
+use Rattle.safe_updates.specs.shape_changes_Updates.{IsLessView}
+use Rattle.safe_updates.proofs.shape_changes_ChangeViews.{says-itself}
+use Rattle.safe_updates.proofs.shape_changes_Kept.{still-missing}
+use Rattle.safe_updates.proofs.shape_changes_Without.{without-holder, state-without}
 use Rattle.views.specs.Placed.{AreLess}
 use Rattle.views.specs.Rebuilding.{with_spare}
 use Rattle.views.proofs.AddedRows.{offset-with, rows-as}

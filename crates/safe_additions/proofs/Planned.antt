@@ -14,7 +14,7 @@ use Rattle.superblocks.specs.Held.{known_of}
 use Rattle.superblock_reads.proofs.SaidLists.{state-here}
 use Rattle.superblock_reads.proofs.SaidSlots.{role-said, role-below, role-known}
 use Rattle.row_io.specs.Rows.{role_without}
-use Rattle.shape_changes.specs.Held.{IsHeldBy}
+use Rattle.safe_updates.specs.shape_changes_Held.{IsHeldBy}
 use Rattle.safe_additions.proofs.Ready.{known-small}
 
 both : (a b : Bool) → (a && b) ≡ true → (a ≡ true) × (b ≡ true)

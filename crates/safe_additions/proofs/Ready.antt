@@ -20,9 +20,9 @@ use Rattle.superblocks.specs.Reads.{has_spare}
 use Rattle.superblocks.proofs.ReadLists.{by_bool}
 use Rattle.superblock_reads.proofs.SaidSlots.{role-known, spare-known}
 use Rattle.row_io.specs.Rows.{members_without}
-use Rattle.shape_changes.specs.Marking.{marking}
-use Rattle.shape_changes.specs.Held.{IsHeldBy}
-use Rattle.shape_changes.proofs.Without.{in-both, any-holds, live-is, live-before}
+use Rattle.safe_updates.specs.shape_changes_Marking.{marking}
+use Rattle.safe_updates.specs.shape_changes_Held.{IsHeldBy}
+use Rattle.safe_updates.proofs.shape_changes_Without.{in-both, any-holds, live-is, live-before}
 
 both : (a b : Bool) → (a && b) ≡ true → (a ≡ true) × (b ≡ true)
 both true b e = (refl, e)

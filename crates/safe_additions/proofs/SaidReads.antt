@@ -11,7 +11,7 @@ use Rattle.superblocks.specs.Reads.{SaysSame, IsReadAs, roles_refusal}
 use Rattle.superblocks.proofs.ReadAlike.{refused-same}
 use Rattle.superblock_reads.proofs.SaidSlots.{read-own}
 use Rattle.row_io.specs.Rows.{reading_of}
-use Rattle.shape_views.specs.Regions.{IsReadOf}
+use Rattle.safe_updates.specs.shape_views_Regions.{IsReadOf}
 
 -- a reading of superblocks says what these members do
 pub record IsSaidOf (m : Members) (q : Reading) : Type 0 where

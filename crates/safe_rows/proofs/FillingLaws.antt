@@ -29,11 +29,11 @@ use Rattle.list_io.specs.Writing.{AreDataOf, AreSuperblocksKept, HasFull}
 use Rattle.list_io.specs.Buffers.{buffered, AreDistinct}
 use Rattle.list_io.proofs.FullLaws.{full-data, new-full}
 use Rattle.list_io.proofs.PartBytes.{sector-part}
-use Rattle.views.specs.Placed.{IsPlaced}
-use Rattle.views.specs.Rebuilding.{IsUnheld, IsFilling, IsFilledAmong}
+use Rattle.safe_updates.specs.views_Placed.{IsPlaced}
+use Rattle.safe_updates.specs.views_Rebuilding.{IsUnheld, IsFilling, IsFilledAmong}
 use Rattle.safe_updates.specs.Named.{AreDataKept}
 use Rattle.safe_rows.specs.Filled.{IsNamedFirst}
-use Rattle.views.proofs.LackingWrites.{marks-here}
+use Rattle.safe_updates.proofs.views_LackingWrites.{marks-here}
 
 -- ---- a role's sector
 

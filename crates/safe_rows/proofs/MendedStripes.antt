@@ -8,10 +8,10 @@ use Rattle.superblocks.specs.declared.members.Members.{Members}
 use Rattle.superblocks.specs.Reading.{role_state, holder, data_offset_of}
 use Rattle.row_io.specs.Rows.{reading_of, present}
 use Rattle.row_io.proofs.Losses.{holder-of}
-use Rattle.views.specs.Moving.{IsMoved}
-use Rattle.views.specs.Lacking.{DataStandsAmong}
-use Rattle.views.proofs.MendedParts.{ArePut}
-use Rattle.views.proofs.HeldRows.{held-moved}
+use Rattle.safe_updates.specs.views_Moving.{IsMoved}
+use Rattle.safe_updates.specs.views_Lacking.{DataStandsAmong}
+use Rattle.safe_updates.proofs.views_MendedParts.{ArePut}
+use Rattle.safe_updates.proofs.views_HeldRows.{held-moved}
 
 -- Where rows were put and the others of a region are as they were, it is so of the region.
 module _ (given : Given) (shape : Shape) (put region : ℕ → Type 0) (old new : Members) (before after : List Operation) (moved : IsMoved given old new)

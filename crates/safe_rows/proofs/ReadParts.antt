@@ -17,8 +17,8 @@ use Rattle.row_io.proofs.Lacks.{lacking-missing}
 use Rattle.list_io.specs.Calls.{IsListed}
 use Rattle.list_io.specs.Full.{DataStands, RowStands}
 use Rattle.list_io.proofs.ListLaws.{listed_since, lacks_by}
-use Rattle.views.specs.Placed.{AreWhole, IsPlaced, IsInForce}
-use Rattle.views.proofs.Fit.{force-valid, force-multiple, force-disks}
+use Rattle.safe_updates.specs.views_Placed.{AreWhole, IsPlaced, IsInForce}
+use Rattle.safe_updates.proofs.views_Fit.{force-valid, force-multiple, force-disks}
 
 -- ---- the bytes
 

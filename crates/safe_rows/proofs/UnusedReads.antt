@@ -4,8 +4,8 @@ use Rattle.bank.specs.declared.bank.Operation.{Operation}
 use Rattle.bank.specs.Given.{Given}
 use Rattle.bank.specs.Tape.{Contents, disk}
 use Rattle.superblocks.specs.declared.members.Members.{Members}
-use Rattle.views.specs.Moving.{IsMoved}
-use Rattle.views.specs.Under.{IsRestKept}
+use Rattle.safe_updates.specs.views_Moving.{IsMoved}
+use Rattle.safe_updates.specs.views_Under.{IsRestKept}
 use Rattle.safe_updates.specs.Unused.{IsUnusedKept}
 use Rattle.safe_updates.proofs.Unused.{rest-unused, unused-then}
 

@@ -6,4 +6,6 @@ pub mod filling;
 pub mod mending;
 pub mod putting;
 
-pub use safe_updates;
+pub use safe_updates::naming::{name_missing, raise};
+pub use safe_updates::refusing::{too_many, too_many_of, unread, unwritten};
+pub use safe_updates::roles::{final_in, list_length, shape_in};

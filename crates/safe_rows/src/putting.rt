@@ -11,19 +11,19 @@ ghost use Rattle.list_io.specs.Buffers.{buffered, AreDistinct, AreStanding, AreT
 ghost use Rattle.list_io.specs.Full.{AreWholeIn, RowStands};
 ghost use Rattle.list_io.specs.Writing.{IsWritten, AreDataFrom, HasFull};
 ghost use Rattle.md_base.specs.Shapes.{data_disks};
-ghost use Rattle.views.specs.Placed.{AreWhole, IsPlaced, IsInForce};
-ghost use Rattle.shape_changes.specs.Steady.{AreUnlost, IsSafeOver, KeepsSafe, AreGoneTold, AreWritesAllowed};
-ghost use Rattle.views.specs.Rebuilding.{AreSparesFree};
-ghost use Rattle.views.specs.Moving.{Grows, IsMoved};
-ghost use Rattle.shape_changes.specs.Marking.{AreOthersPresent};
-ghost use Rattle.shape_changes.specs.Safety.{HasRoomLeft, IsRisen};
-ghost use Rattle.shape_views.specs.Windows.{IsOfRegion};
-ghost use Rattle.views.specs.Lacking.{HaveFailedSince, LacksTooMany, IsUnwritten, DataStandsAmong, RowsStandAmong, AreOtherRowsKept, AreBytes, AreRowsRead, AreRowsWritten};
+ghost use Rattle.safe_updates.specs.views_Placed.{AreWhole, IsPlaced, IsInForce};
+ghost use Rattle.safe_updates.specs.shape_changes_Steady.{AreUnlost, IsSafeOver, KeepsSafe, AreGoneTold, AreWritesAllowed};
+ghost use Rattle.safe_updates.specs.views_Rebuilding.{AreSparesFree};
+ghost use Rattle.safe_updates.specs.views_Moving.{Grows, IsMoved};
+ghost use Rattle.safe_updates.specs.shape_changes_Marking.{AreOthersPresent};
+ghost use Rattle.safe_updates.specs.shape_changes_Safety.{HasRoomLeft, IsRisen};
+ghost use Rattle.safe_updates.specs.shape_views_Windows.{IsOfRegion};
+ghost use Rattle.safe_updates.specs.views_Lacking.{HaveFailedSince, LacksTooMany, IsUnwritten, DataStandsAmong, RowsStandAmong, AreOtherRowsKept, AreBytes, AreRowsRead, AreRowsWritten};
 ghost use Rattle.safe_updates.specs.First.{write_refusal};
 ghost use Rattle.safe_updates.specs.Unused.{IsUnusedKept};
 ghost use Rattle.flat_history.specs.World.{World};
 ghost use Rattle.flat_history.specs.Sound.{OpensFit};
-ghost use Rattle.shape_views.specs.Views.{Ledger, IsTailZero};
+ghost use Rattle.safe_updates.specs.shape_views_Views.{Ledger, IsTailZero};
 
 use bank::Bank;
 use list_io::{read_touched, write_touched};

@@ -25,8 +25,8 @@ use Rattle.superblock_reads.proofs.SaidSlots.{has-slots_below}
 use Rattle.row_io.specs.Rows.{reading_of, is_missing, role_without}
 use Rattle.views.specs.Flushing.{AreHolders}
 use Rattle.views.specs.Placed.{IsPlaced, AreLess, HaveSameReshape}
-use Rattle.shape_changes.specs.Steady.{AreUnlost}
-use Rattle.shape_changes.specs.Marking.{giving}
+use Rattle.views.specs.shape_changes_Steady.{AreUnlost}
+use Rattle.views.specs.shape_changes_Marking.{giving}
 use Rattle.views.specs.Moving.{IsMoved}
 use Rattle.views.specs.Lacking.{HaveFailedSince}
 use Rattle.views.specs.Rebuilding.{AreSparesFree}
@@ -35,7 +35,7 @@ use Rattle.views.proofs.LackingLaws.{holder-without}
 use Rattle.views.proofs.MarkLaws.{few-planned}
 use Rattle.views.proofs.MovedLaws.{moved-less}
 use Rattle.views.proofs.PlacedLaws.{placed-less, less-unlost}
-use Rattle.shape_changes.proofs.Without.{state-without, live-is}
+use Rattle.views.proofs.shape_changes_Without.{state-without, live-is}
 use Rattle.safe_updates.proofs.SparesLaws.{free-told}
 use Rattle.views.proofs.Gives.{holder-given, gives_of, give-here, give-other, roles-given, given-lost}
 use Rattle.safe_updates.proofs.GivenAway.{moved-away}

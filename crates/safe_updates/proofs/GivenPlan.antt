@@ -20,15 +20,15 @@ use Rattle.superblocks.proofs.ReadAlike.{shape-same}
 use Rattle.row_io.specs.Rows.{reading_of, role_without}
 use Rattle.views.specs.Placed.{is_vacant, IsPlaced, HaveSameReshape}
 use Rattle.views.specs.Rebuilding.{AreSparesFree}
-use Rattle.shape_changes.specs.Marking.{giving}
-use Rattle.shape_changes.specs.Updates.{planned_view, IsLessView}
-use Rattle.shape_changes.specs.Giving as law
+use Rattle.views.specs.shape_changes_Marking.{giving}
+use Rattle.views.specs.shape_changes_Updates.{planned_view, IsLessView}
+use Rattle.views.specs.shape_changes_Giving as law
 use Rattle.views.proofs.Gives.{give-here, give-other, roles-given}
 use Rattle.views.proofs.GivenMembers.{IsReceiver, W, givable, own-here, own-other, placed-given}
-use Rattle.shape_changes.proofs.Without.{state-without, without-holder}
-use Rattle.shape_changes.proofs.ChangeViews.{planned-live}
-use Rattle.shape_changes.proofs.Kept.{without-less, still-missing}
-use Rattle.shape_changes.proofs.PlannedRoles.{says-shared}
+use Rattle.views.proofs.shape_changes_Without.{state-without, without-holder}
+use Rattle.views.proofs.shape_changes_ChangeViews.{planned-live}
+use Rattle.views.proofs.shape_changes_Kept.{without-less, still-missing}
+use Rattle.views.proofs.shape_changes_PlannedRoles.{says-shared}
 use Rattle.views.proofs.Fit.{reshape-said, fit-alike, count-alike}
 
 -- ---- a view that loses roles is placed, if its live slots can be written

@@ -6,8 +6,8 @@ use Rattle.superblocks.specs.declared.change.Change.{Change}
 use Rattle.superblocks.specs.declared.members.Members.{Members}
 use Rattle.superblocks.specs.Updating.{AreLosses}
 use Rattle.superblocks.specs.Outcome.{with_added, live_set}
-use Rattle.shape_changes.specs.Marking.{giving}
-use Rattle.shape_changes.specs.Changing.{IsChanged}
+use Rattle.views.specs.shape_changes_Marking.{giving}
+use Rattle.views.specs.shape_changes_Changing.{IsChanged}
 use Rattle.safe_updates.proofs.GivenMoved.{IsGiven}
 
 -- what it leaves of the members

@@ -14,3 +14,57 @@ pub mod WholeFlushed
 pub mod Widest
 pub mod Under
 pub mod Unused
+pub use Rattle.views.proofs.shape_changes_Without
+pub use Rattle.views.proofs.shape_changes_Carried
+pub use Rattle.views.proofs.shape_changes_Stretch
+pub use Rattle.views.proofs.shape_changes_ChangeViews
+pub use Rattle.views.proofs.shape_changes_Drawn
+pub use Rattle.views.proofs.shape_changes_KeptSafe
+pub use Rattle.views.proofs.shape_changes_LessViews
+pub use Rattle.views.proofs.shape_changes_Since
+pub use Rattle.views.proofs.shape_changes_Kept
+pub use Rattle.views.proofs.shape_changes_UpdateViews
+pub use Rattle.views.proofs.shape_changes_Spent
+pub use Rattle.views.proofs.shape_views_Alike
+pub use Rattle.views.proofs.shape_views_WindowLaws
+pub use Rattle.views.proofs.LackingWrites as views_LackingWrites
+pub use Rattle.views.proofs.MendedParts as views_MendedParts
+pub use Rattle.views.proofs.HeldRows as views_HeldRows
+pub use Rattle.views.proofs.Fit as views_Fit
+pub use Rattle.views.proofs.MovedLaws as views_MovedLaws
+pub use Rattle.views.proofs.LackingLaws as views_LackingLaws
+pub use Rattle.views.proofs.LackingLists as views_LackingLists
+pub use Rattle.views.proofs.SafeStretch as views_SafeStretch
+pub use Rattle.views.proofs.PutLists as views_PutLists
+pub use Rattle.views.proofs.FilledParts as views_FilledParts
+pub use Rattle.views.proofs.Stripes as views_Stripes
+pub use Rattle.views.proofs.Elements as views_Elements
+pub use Rattle.views.proofs.LiveLeft as views_LiveLeft
+pub use Rattle.views.proofs.MemberLaws as views_MemberLaws
+pub use Rattle.views.proofs.MarkedLaws as views_MarkedLaws
+pub use Rattle.views.proofs.shape_changes_Risen
+pub use Rattle.views.proofs.shape_views_Stands
+pub use Rattle.views.proofs.Still as views_Still
+pub use Rattle.views.proofs.MarkLaws as views_MarkLaws
+pub use Rattle.views.proofs.shape_changes_FitKinds
+pub use Rattle.views.proofs.shape_changes_PlannedRoles
+pub use Rattle.views.proofs.shape_changes_HeldKept
+pub use Rattle.views.proofs.shape_changes_Steady
+pub use Rattle.views.proofs.shape_views_BackupLaws
+pub use Rattle.views.proofs.shape_views_UnderWay
+pub use Rattle.views.proofs.PlacedLaws as views_PlacedLaws
+pub use Rattle.views.proofs.shape_changes_ChangeSafe
+pub use Rattle.views.proofs.shape_views_Headers
+pub use Rattle.views.proofs.shape_views_Tails
+pub use Rattle.views.proofs.shape_changes_CalledLaws
+pub use Rattle.views.proofs.shape_changes_PlansLose
+pub use Rattle.views.proofs.AddedMembers as views_AddedMembers
+pub use Rattle.views.proofs.Flushed as views_Flushed
+pub use Rattle.views.proofs.MarkedSafe as views_MarkedSafe
+pub use Rattle.views.proofs.SoundViews as views_SoundViews
+pub use Rattle.views.proofs.shape_changes_Started
+pub use Rattle.views.proofs.MarkEnds as views_MarkEnds
+pub use Rattle.views.proofs.shape_views_SoundViews
+pub use Rattle.views.proofs.shape_views_Standing
+pub use Rattle.views.proofs.GivenMembers as views_GivenMembers
+pub use Rattle.views.proofs.AddedRows as views_AddedRows

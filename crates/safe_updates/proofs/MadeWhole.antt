@@ -28,30 +28,30 @@ use Rattle.row_io.proofs.Losses.{holder-of, state_kept, state_after}
 use Rattle.list_io.specs.Full.{RowStands, full_sector}
 use Rattle.list_io.proofs.FullLaws.{places-are-full, standing-is-full}
 use Rattle.views.specs.Placed.{IsPlaced}
-use Rattle.shape_changes.specs.Steady.{AreUnlost, IsSteady, AreGoneTold, AreWritesAllowed, given_back}
-use Rattle.shape_changes.specs.Held.{IsHeldBy}
+use Rattle.views.specs.shape_changes_Steady.{AreUnlost, IsSteady, AreGoneTold, AreWritesAllowed, given_back}
+use Rattle.views.specs.shape_changes_Held.{IsHeldBy}
 use Rattle.views.specs.Lacking.{RowsStand}
-use Rattle.shape_changes.specs.Marking.{giving}
+use Rattle.views.specs.shape_changes_Marking.{giving}
 use Rattle.views.specs.Rebuilding.{IsFlushedFull}
-use Rattle.shape_views.specs.Regions.{ArePlaced, DoWithout}
-use Rattle.shape_views.specs.Views.{Ledger, IsSettled, IsViewRight}
+use Rattle.views.specs.shape_views_Regions.{ArePlaced, DoWithout}
+use Rattle.views.specs.shape_views_Views.{Ledger, IsSettled, IsViewRight}
 use Rattle.views.proofs.Still.{untailed, length-still, settled-still, still-settled}
 use Rattle.views.specs.Flushing.{AreHolders}
 use Rattle.views.proofs.Fit.{valid, disks-within}
 use Rattle.views.proofs.MarkLaws.{roles-kept, role_from-found, held-holder, holder-held}
-use Rattle.shape_changes.proofs.Kept.{give_of-same, still-missing, kept-less}
-use Rattle.shape_changes.proofs.Without.{state-without, any-held}
+use Rattle.views.proofs.shape_changes_Kept.{give_of-same, still-missing, kept-less}
+use Rattle.views.proofs.shape_changes_Without.{state-without, any-held}
 use Rattle.views.proofs.Gives.{give-here, give-other}
 use Rattle.safe_updates.proofs.GivenPlan.{given-state, given-less}
 use Rattle.views.proofs.GivenMembers.{IsReceiver, W, state-here, state-other, holder-then, offset-same, rows-other, placed-given}
-use Rattle.shape_changes.specs.Updates.{planned_view, IsLessView}
-use Rattle.shape_changes.specs.Changing.{IsChanged}
+use Rattle.views.specs.shape_changes_Updates.{planned_view, IsLessView}
+use Rattle.views.specs.shape_changes_Changing.{IsChanged}
 use Rattle.role_changes.specs.Making.{IsMakable}
-use Rattle.shape_changes.proofs.ChangeViews.{placed-less}
-use Rattle.shape_changes.proofs.KeptSafe.{planned-fits, planned-backup, told-plan, steady-right}
-use Rattle.shape_changes.proofs.LessViews.{less-right}
-use Rattle.shape_changes.proofs.PlannedRoles.{count-planned}
-use Rattle.shape_changes.proofs.UpdateViews.{said-recovering}
+use Rattle.views.proofs.shape_changes_ChangeViews.{placed-less}
+use Rattle.views.proofs.shape_changes_KeptSafe.{planned-fits, planned-backup, told-plan, steady-right}
+use Rattle.views.proofs.shape_changes_LessViews.{less-right}
+use Rattle.views.proofs.shape_changes_PlannedRoles.{count-planned}
+use Rattle.views.proofs.shape_changes_UpdateViews.{said-recovering}
 use Rattle.safe_updates.proofs.MissingLaws.{missing-more}
 use Rattle.safe_updates.proofs.StillHeld.{AreRowsAllowed, held-still, still-held}
 

@@ -17,11 +17,11 @@ use Rattle.superblock_reads.proofs.PlanFits.{length-any, roles-at, entry-is}
 use Rattle.superblock_reads.proofs.SaidLists.{role-holder}
 use Rattle.row_io.specs.Rows.{role_without}
 use Rattle.safe_updates.specs.Named.{AreNamedMissing}
-use Rattle.shape_changes.specs.Marking.{marking}
+use Rattle.views.specs.shape_changes_Marking.{marking}
 use Rattle.views.specs.Placed.{IsPlaced, AreLess}
 use Rattle.views.proofs.Fit.{count-alike}
-use Rattle.shape_changes.proofs.Kept.{give_of-same}
-use Rattle.shape_changes.proofs.Without.{state-without}
+use Rattle.views.proofs.shape_changes_Kept.{give_of-same}
+use Rattle.views.proofs.shape_changes_Without.{state-without}
 
 -- an entry that is a role's stands in the table
 in-table : (newest : Sb) (dev role : ℕ) → role < 16 → entry_of newest dev ≡ role → get_or newest.dev_roles dev 0xfffe ≡ role

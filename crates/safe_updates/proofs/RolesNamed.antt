@@ -18,13 +18,13 @@ use Rattle.superblocks.specs.Held.{known_of, IsKnown}
 use Rattle.superblocks.proofs.ReadLists.{held-here}
 use Rattle.superblock_reads.proofs.SaidSlots.{below-length, role-below, role-known, role-said}
 use Rattle.row_io.specs.Rows.{role_without, members_without}
-use Rattle.shape_changes.specs.Held.{IsHeldBy}
+use Rattle.views.specs.shape_changes_Held.{IsHeldBy}
 use Rattle.views.specs.Lacking.{IsNamed, AreUnnamed}
 use Rattle.views.specs.Placed.{IsPlaced}
-use Rattle.shape_views.specs.Views.{Ledger}
-use Rattle.shape_changes.specs.Steady.{IsSteady, IsNamedNow}
+use Rattle.views.specs.shape_views_Views.{Ledger}
+use Rattle.views.specs.shape_changes_Steady.{IsSteady, IsNamedNow}
 use Rattle.views.proofs.PlacedLaws.{kept-roles}
-use Rattle.shape_changes.proofs.Without.{state-without}
+use Rattle.views.proofs.shape_changes_Without.{state-without}
 
 -- a slot's superblock that holds a role has the role's entry
 holds-entry : (newest : Sb) (role slot : ℕ) (sb : Sb) (state : Role) → held_in newest role slot (Some sb) ≡ Some state → entry_of newest sb.dev_number ≡ role

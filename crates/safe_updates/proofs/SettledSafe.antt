@@ -9,12 +9,12 @@ use Rattle.superblocks.specs.Reading.{Scope, Reading, is_clean, shape_of, final_
 use Rattle.row_io.specs.Rows.{reading_of, present, IsTolerated}
 use Rattle.row_io.proofs.Losses.{holder-of}
 use Rattle.views.specs.Placed.{IsPlaced}
-use Rattle.shape_views.specs.Regions.{DoWithout}
+use Rattle.views.specs.shape_views_Regions.{DoWithout}
 use Rattle.views.specs.Lacking.{AreHoldersFlushed}
 use Rattle.views.specs.Under.{StandsUnder, RowsStandUnder}
-use Rattle.shape_views.specs.Regions.{place_by}
-use Rattle.shape_views.specs.Views.{Ledger, AreHeldAllowed, AreSectionsAllowed, IsSettled}
-use Rattle.shape_changes.specs.Steady.{IsSafeNow, IsNamedNow, settled_ledger}
+use Rattle.views.specs.shape_views_Regions.{place_by}
+use Rattle.views.specs.shape_views_Views.{Ledger, AreHeldAllowed, AreSectionsAllowed, IsSettled}
+use Rattle.views.specs.shape_changes_Steady.{IsSafeNow, IsNamedNow, settled_ledger}
 use Rattle.views.proofs.Still.{flushed-is-settled}
 
 -- a sector that a slot holds has the list's value alone, where no active section covers it

@@ -13,9 +13,9 @@ use Rattle.superblocks.specs.Update.{is_planned_spare, give_of}
 use Rattle.superblock_reads.proofs.SaidSlots.{has-slots_below}
 use Rattle.row_io.specs.Rows.{reading_of}
 use Rattle.views.specs.Flushing.{AreHolders}
-use Rattle.shape_changes.specs.Marking.{marking}
+use Rattle.views.specs.shape_changes_Marking.{marking}
 use Rattle.views.specs.Rebuilding.{IsFree}
-use Rattle.shape_changes.proofs.Kept.{give_of-same}
+use Rattle.views.proofs.shape_changes_Kept.{give_of-same}
 
 -- a mark leaves those that aren't lost
 module _ (old : Members) (clean : Bool) (lost : ℕ) (slots : List ℕ) (is : slots ≡ planned_spares old (marking old clean) lost) where

@@ -7,9 +7,9 @@ use Rattle.layout.specs.Layout.{place}
 use Rattle.superblocks.specs.declared.members.Members.{Members}
 use Rattle.superblocks.specs.Reading.{Scope, Reading, is_reshaping, shape_of, data_offset_of}
 use Rattle.row_io.specs.Rows.{reading_of, held_slot}
-use Rattle.shape_views.specs.Regions.{backup_of}
-use Rattle.shape_views.specs.Views.{Disk, AreHeldAllowed}
-use Rattle.shape_views.proofs.Stands.{for-still}
+use Rattle.views.specs.shape_views_Regions.{backup_of}
+use Rattle.views.specs.shape_views_Views.{Disk, AreHeldAllowed}
+use Rattle.views.proofs.shape_views_Stands.{for-still}
 use Rattle.views.specs.Whole.{list_size}
 use Rattle.views.specs.Placed.{places_by}
 use Rattle.views.proofs.Still.{length-still, outside-still}

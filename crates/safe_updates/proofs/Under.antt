@@ -19,16 +19,16 @@ use Rattle.row_io.proofs.Losses.{holder-of}
 use Rattle.list_io.specs.Full.{RowStands}
 use Rattle.flat_history.specs.Stands.{shape_for}
 use Rattle.flat_history.specs.ActiveSection.{section_for}
-use Rattle.shape_views.specs.Regions.{backup_of, open_by, place_by}
-use Rattle.shape_views.specs.Views.{Disk, Ledger}
-use Rattle.shape_views.specs.Windows.{IsShown}
-use Rattle.shape_views.specs.Windows.{ListStands as IsListShown, RowsStand as AreRowsShown}
-use Rattle.shape_views.proofs.Alike.{row-below}
-use Rattle.shape_views.proofs.Stands.{for-still, data-at, StandsAt}
-use Rattle.shape_changes.specs.Marking.{marking, AreOthersPresent}
-use Rattle.shape_changes.specs.Steady.{IsSafeNow}
-use Rattle.shape_changes.proofs.Carried.{live-known}
-use Rattle.shape_changes.proofs.Stretch.{seen-own}
+use Rattle.views.specs.shape_views_Regions.{backup_of, open_by, place_by}
+use Rattle.views.specs.shape_views_Views.{Disk, Ledger}
+use Rattle.views.specs.shape_views_Windows.{IsShown}
+use Rattle.views.specs.shape_views_Windows.{ListStands as IsListShown, RowsStand as AreRowsShown}
+use Rattle.views.proofs.shape_views_Alike.{row-below}
+use Rattle.views.proofs.shape_views_Stands.{for-still, data-at, StandsAt}
+use Rattle.views.specs.shape_changes_Marking.{marking, AreOthersPresent}
+use Rattle.views.specs.shape_changes_Steady.{IsSafeNow}
+use Rattle.views.proofs.shape_changes_Carried.{live-known}
+use Rattle.views.proofs.shape_changes_Stretch.{seen-own}
 use Rattle.std.specs.List.{list_any}
 use Rattle.bank.specs.declared.bank.Operation.{Operation}
 use Rattle.bank.specs.declared.bank.Operation.TheVariants.{Write, Flush}
@@ -37,7 +37,7 @@ use Rattle.superblocks.specs.Updating.{IsTouched}
 use Rattle.superblocks.specs.Update.{is_held_by}
 use Rattle.superblocks.specs.Reads.{has_spare}
 use Rattle.views.specs.Flushing.{OnlyFlushesAdded}
-use Rattle.shape_changes.proofs.Without.{live-is, any-without, in-both}
+use Rattle.views.proofs.shape_changes_Without.{live-is, any-without, in-both}
 use Rattle.views.specs.Placed.{IsPlaced, HaveSameReshape}
 use Rattle.views.specs.Moving.{IsMoved}
 use Rattle.views.specs.Lacking.{ListStands, RowsStand}

@@ -8,8 +8,8 @@ use Rattle.superblocks.specs.Reading.{role_state, holder}
 use Rattle.superblocks.specs.Reads.{has_spare}
 use Rattle.superblocks.specs.Update.{is_held_by}
 use Rattle.row_io.specs.Rows.{reading_of}
-use Rattle.shape_views.specs.Views.{Disk}
-use Rattle.shape_changes.proofs.Without.{live-is, any-holds, any-held}
+use Rattle.views.specs.shape_views_Views.{Disk}
+use Rattle.views.proofs.shape_changes_Without.{live-is, any-holds, any-held}
 use Rattle.views.specs.Moving.{IsMoved}
 use Rattle.views.specs.Placed.{IsPlaced}
 use Rattle.views.specs.Under.{IsRestKept}

@@ -19,7 +19,7 @@ use Rattle.superblocks.specs.Reads.{has_spare}
 use Rattle.row_io.specs.Rows.{reading_of, present, role_without, members_without}
 use Rattle.row_io.proofs.Losses.{state_after, state_kept}
 use Rattle.views.specs.Placed.{IsPlaced}
-use Rattle.shape_changes.specs.Steady.{AreUnlost}
+use Rattle.views.specs.shape_changes_Steady.{AreUnlost}
 use Rattle.views.specs.Flushing.{OnlyFlushesAdded}
 use Rattle.views.specs.Moving.{IsMoved}
 use Rattle.views.specs.Lacking.{HaveFailedSince}

@@ -5,8 +5,8 @@ use Rattle.md_base.specs.Shapes.{has_slot}
 use Rattle.bank.specs.Tape.{IsIn}
 use Rattle.superblocks.specs.declared.members.Members.{Members}
 use Rattle.superblocks.specs.Outcome.{live_set}
-use Rattle.shape_views.specs.Views.{Disk}
-use Rattle.shape_changes.specs.Marking.{marking}
+use Rattle.views.specs.shape_views_Views.{Disk}
+use Rattle.views.specs.shape_changes_Marking.{marking}
 
 -- the slot holds no role and is no spare
 abbrev pub IsUnused : Members → ℕ → Type 0

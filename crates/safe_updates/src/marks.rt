@@ -8,9 +8,9 @@ ghost use Rattle.superblocks.specs.Reading.{is_clean};
 ghost use Rattle.superblocks.specs.Outcome.{live_set};
 ghost use Rattle.superblocks.specs.Updating.{ArePlanned, AreLosses};
 ghost use Rattle.views.specs.Placed.{IsPlaced, AreLess};
-ghost use Rattle.shape_changes.specs.Steady.{AreUnlost};
-ghost use Rattle.shape_changes.specs.Marking.{marking};
-ghost use Rattle.shape_changes.specs.Changing.{IsChanged};
+ghost use Rattle.views.specs.shape_changes_Steady.{AreUnlost};
+ghost use Rattle.views.specs.shape_changes_Marking.{marking};
+ghost use Rattle.views.specs.shape_changes_Changing.{IsChanged};
 
 use bank::Bank;
 use sb1::Sb;

@@ -4,7 +4,7 @@ ghost use Rattle.std.specs.Prelude.{◌≡◌, ◌+◌, ◌*◌, ◌^◌, ◌<�
 ghost use Rattle.md_base.specs.Shapes.{is_valid_shape, is_multiple, data_disks};
 ghost use Rattle.superblocks.specs.Reading.{role_count};
 ghost use Rattle.superblocks.specs.Verdict.{AreValidShapes};
-ghost use Rattle.shape_views.specs.Regions.{DoWithout};
+ghost use Rattle.views.specs.shape_views_Regions.{DoWithout};
 ghost use Rattle.views.specs.Refusals.{lowest_missing};
 ghost use Rattle.safe_updates.specs.First.{first_lacking, read_refusal, write_refusal};
 ghost use Rattle.views.specs.Lacking.{DoesWithout, LacksTooMany, AreTooMany, refusal_for, refused_by};

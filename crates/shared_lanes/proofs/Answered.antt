@@ -4,14 +4,14 @@ use Rattle.std.proofs.lemmas.List.{map-append}
 use Rattle.bank.specs.declared.bank.Operation.{Operation}
 use Rattle.bank.specs.Given.{Given}
 use Rattle.flat_history.specs.declared.events.Request.{Request}
-use Rattle.running_calls.specs.running_words_Parts.{RunningParts}
-use Rattle.lanes.specs.running_calls_the_Reply.{Reply}
-use Rattle.lanes.specs.running_calls_the_Reply_TheVariants.{Done, NoMemory as Short}
+use Rattle.lane_threads.specs.running_words_Parts.{RunningParts}
+use Rattle.lane_threads.specs.running_calls_the_Reply.{Reply}
+use Rattle.lane_threads.specs.running_calls_the_Reply_TheVariants.{Done, NoMemory as Short}
 use Rattle.turn_lock.specs.declared.call.Call.{Call}
 use Rattle.turn_lock.specs.declared.view.Known.{Known}
 use Rattle.turn_lock.specs.declared.lock.Pass.{Pass}
 use Rattle.turn_lock.specs.Turns.{Called, mine_of}
-use Rattle.shared_lanes.specs.Serving.{most_entries, size_of, requests_of, array_ways}
+use Rattle.lane_threads.specs.lanes_Serving.{most_entries, size_of, requests_of, array_ways}
 use Rattle.shared_lanes.specs.Lanes.{own_requests, IsToldBy, IsAnswered}
 
 module _ {B : Type 0} (tells : Type 0) (given : B → Given) (tape : B → List Operation) (faults : B → ℕ → ℕ) (pass pass' : Pass (RunningParts B) Request) (request : Request) where

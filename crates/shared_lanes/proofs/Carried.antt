@@ -6,16 +6,16 @@ use Rattle.bank.specs.Given.{Given}
 use Rattle.flat_history.specs.declared.events.Entry.{Entry}
 use Rattle.flat_history.specs.declared.events.Event.{Event}
 use Rattle.flat_history.specs.declared.events.Request.{Request}
-use Rattle.running_calls.specs.running_words_Parts.{RunningParts}
-use Rattle.lanes.specs.running_calls_the_Reply.{Reply}
-use Rattle.lanes.specs.running_calls_the_Reply_TheVariants.{Done, NoMemory as Short}
+use Rattle.lane_threads.specs.running_words_Parts.{RunningParts}
+use Rattle.lane_threads.specs.running_calls_the_Reply.{Reply}
+use Rattle.lane_threads.specs.running_calls_the_Reply_TheVariants.{Done, NoMemory as Short}
 use Rattle.turn_lock.specs.declared.view.Known.{Known}
 use Rattle.turn_lock.specs.declared.lock.Pass.{Pass}
 use Rattle.seen_laws.specs.Callers.{IsReplyTo, IsCalled, HasCalled}
 use Rattle.seen_laws.proofs.BeforeLaws.{seen-self}
-use Rattle.lanes.specs.Carried.{GoesOn, IsOwn, next_call, IsEntered, IsAnswered as IsRepliedTo}
-use Rattle.shared_lanes.specs.Serving.{most_entries, sectors_of, seen_of, IsEarlier}
-use Rattle.shared_lanes.specs.ServingLaws.{performed-called, sized-since, earlier-on, earlier}
+use Rattle.lane_threads.specs.lanes_Carried.{GoesOn, IsOwn, next_call, IsEntered, IsAnswered as IsRepliedTo}
+use Rattle.lane_threads.specs.lanes_Serving.{most_entries, sectors_of, seen_of, IsEarlier}
+use Rattle.lane_threads.specs.lanes_ServingLaws.{performed-called, sized-since, earlier-on, earlier}
 use Rattle.shared_lanes.specs.Lanes.{own_requests, known_of, carried_by, IsToldBy, IsAnswered}
 
 -- what holds of what is known

@@ -4,13 +4,13 @@ use Rattle.std.specs.Prelude.{◌≡◌, ℕ, ◌<◌, List, [], ◌∷◌, ◌+
 use Rattle.bank.specs.declared.bank.Operation.{Operation}
 use Rattle.bank.specs.Given.{Given}
 use Rattle.flat_history.specs.declared.events.Request.{Request}
-use Rattle.running_calls.specs.running_words_Parts.{RunningParts}
-use Rattle.lanes.specs.running_calls_the_Reply.{Reply}
-use Rattle.lanes.specs.running_calls_the_Reply_TheVariants.{Done, NoMemory as Short}
+use Rattle.lane_threads.specs.running_words_Parts.{RunningParts}
+use Rattle.lane_threads.specs.running_calls_the_Reply.{Reply}
+use Rattle.lane_threads.specs.running_calls_the_Reply_TheVariants.{Done, NoMemory as Short}
 use Rattle.turn_lock.specs.declared.lock.Pass.{Pass}
 use Rattle.turn_lock.specs.Turns.{OnKnown, OnSeen, mine_of}
-use Rattle.lanes.specs.Carried.{Carried}
-use Rattle.shared_lanes.specs.Serving.{most_entries, sectors_of, seen_of, IsEarlier, IsServed, HasMade, requests_of}
+use Rattle.lane_threads.specs.lanes_Carried.{Carried}
+use Rattle.lane_threads.specs.lanes_Serving.{most_entries, sectors_of, seen_of, IsEarlier, IsServed, HasMade, requests_of}
 
 -- the pass has seen an array of which this holds
 abbrev pub Sees : {B : Type 0} → Pass (RunningParts B) Request → (RunningParts B → Type 0) → Type 0

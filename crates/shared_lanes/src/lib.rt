@@ -4,6 +4,9 @@
 mod serving;
 mod sharing;
 
-pub use lanes::{Pace, Reply, Running, Worked};
+pub use lane_threads::{
+    CreateSpec, Pace, Reply, Running, Service, Worked, at_once, create_array, open_running,
+    perform, run_lane, run_worker,
+};
 pub use serving::Answering;
 pub use sharing::{Pass, Shared};

@@ -3,7 +3,7 @@ ghost use Rattle.std.specs.Prelude.{◌≡◌};
 
 use bank::Bank;
 use flat_history::Request;
-use lanes::{Reply, Running, perform, tells_sizes};
+use lane_threads::{Reply, Running, perform, tells_sizes};
 use md_base::Who;
 use std::alloc::Global;
 use std::marker::Model;
@@ -16,7 +16,7 @@ pub struct Answering<B: Bank> {
 }
 
 impl<B: Bank> Model for Answering<B> {
-    ghost use Rattle.running_calls.specs.running_words_Parts.{RunningParts};
+    ghost use Rattle.lane_threads.specs.running_words_Parts.{RunningParts};
 
     ghost Value = { RunningParts B };
 
@@ -39,8 +39,8 @@ impl<B: Bank> Answering<B> {
 }
 
 impl<B: Bank> Served<Request, Reply> for Answering<B> {
-    ghost use Rattle.shared_lanes.specs.Serving.{array_ways};
-    ghost use Rattle.shared_lanes.specs.ServingLaws.{array_lawful};
+    ghost use Rattle.lane_threads.specs.lanes_Serving.{array_ways};
+    ghost use Rattle.lane_threads.specs.lanes_ServingLaws.{array_lawful};
 
     ghost ways = { array_ways B.tells B.given B.tape B.faults_of };
 

@@ -1,15 +1,15 @@
 //! The lock round a running array, and the passes by which callers use it.
 ghost use Rattle.std.specs.Prelude.{◌≡◌, ◌<◌, length, IfOk, IfErr};
-ghost use Rattle.lanes.specs.array_kept_Calls.{IsEndOf};
+ghost use Rattle.lane_threads.specs.array_kept_Calls.{IsEndOf};
 ghost use Rattle.turn_lock.specs.Turns.{AreDistinct, Met};
 ghost use Rattle.turn_lock.specs.Passes.{AreNew, EachPass, Ended};
-ghost use Rattle.shared_lanes.specs.Serving.{array_ways};
+ghost use Rattle.lane_threads.specs.lanes_Serving.{array_ways};
 ghost use Rattle.shared_lanes.specs.Lanes.{own_requests};
 
 use crate::serving::Answering;
 use bank::Bank;
 use flat_history::Request;
-use lanes::{Reply, Running, Service};
+use lane_threads::{Reply, Running, Service};
 use std::alloc::Global;
 use std::sync::Wait;
 use turn_lock::Lock;

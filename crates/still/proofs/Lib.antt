@@ -7,27 +7,18 @@ pub use Rattle.still_laws.proofs.Plain as still_laws_Plain
 pub use Rattle.still_laws.proofs.PlainBehind as still_laws_PlainBehind
 pub use Rattle.still_laws.proofs.PlansKept as still_laws_PlansKept
 pub use Rattle.still_laws.proofs.StepLaws as still_laws_StepLaws
-pub use Rattle.still_laws.proofs.course_mends_Mended
-pub use Rattle.still_laws.proofs.moving_kept_BegunCall
-pub use Rattle.still_laws.proofs.moving_kept_BegunMembers
-pub use Rattle.still_laws.proofs.moving_kept_Refusals
-pub use Rattle.still_laws.proofs.moving_kept_Resting
-pub use Rattle.still_laws.proofs.moving_kept_Shortened
-pub use Rattle.still_laws.proofs.moving_kept_Staying
-pub use Rattle.still_laws.proofs.moving_kept_Steps
 pub use Rattle.still_laws.proofs.running_words_Called
 pub use Rattle.still_laws.proofs.running_words_Lengths
-pub use Rattle.still_laws.proofs.still_kept_Bridges
-pub use Rattle.still_laws.proofs.still_kept_Leaving
-pub use Rattle.still_laws.proofs.still_kept_Quiet
 pub use Rattle.still_laws.proofs.still_kept_Refusals
 pub use Rattle.still_laws.proofs.still_kept_Resting
-pub use Rattle.still_laws.proofs.still_kept_Stood
-pub use Rattle.still_laws.proofs.still_kept_Whole
 pub use Rattle.still_laws.proofs.array_kept_KeptLaws
 pub use Rattle.still_laws.proofs.array_kept_NowLaws
 pub use Rattle.still_laws.proofs.array_kept_ReadyLaws
 pub use Rattle.still_laws.proofs.array_kept_StepsLeft
 pub use Rattle.still_laws.proofs.history_calls_Behind
 pub use Rattle.still_laws.proofs.history_calls_Plans
-pub use Rattle.still_laws.proofs.running_words_Visible
+pub use Rattle.still_laws.proofs.running_words_VisibleLaws
+pub use Rattle.call_entries.proofs.CallLaws as call_entries_CallLaws
+pub use Rattle.still_laws.proofs.shape_changes_PlannedRoles
+pub use Rattle.still_laws.proofs.shape_changes_Kept
+pub use Rattle.still_laws.proofs.shape_views_Stands

@@ -1,16 +1,27 @@
 pub use Rattle.still_laws.specs.Plain as still_laws_Plain
 pub use Rattle.still_laws.specs.Ready as still_laws_Ready
 pub use Rattle.still_laws.specs.Steps as still_laws_Steps
-pub use Rattle.still_laws.specs.course_kept_the_Course
-pub use Rattle.still_laws.specs.moving_kept_Moving
-pub use Rattle.still_laws.specs.region_mends_Mends
-pub use Rattle.still_laws.specs.running_words_Adding
 pub use Rattle.still_laws.specs.running_words_Calls
 pub use Rattle.still_laws.specs.running_words_Parts
 pub use Rattle.still_laws.specs.running_words_Plans
 pub use Rattle.still_laws.specs.still_kept_Still
-pub use Rattle.still_laws.specs.window_steps_Zeroing
 pub use Rattle.still_laws.specs.array_kept_Calls
 pub use Rattle.still_laws.specs.array_kept_Kept
 pub use Rattle.still_laws.specs.history_calls_Reliable
 pub use Rattle.still_laws.specs.course_kept_Laws as still_kept_course_kept_Laws
+pub use Rattle.call_entries.specs.Losing as call_entries_Losing
+pub use Rattle.views.specs.Lacking as views_Lacking
+pub use Rattle.views.specs.Placed as views_Placed
+pub use Rattle.views.specs.Rebuilding as views_Rebuilding
+pub use Rattle.views.specs.Status as views_Status
+pub use Rattle.views.specs.declared.work.Work as views_the_Work
+pub use Rattle.still_laws.specs.kept_history_Recorded
+pub use Rattle.still_laws.specs.shape_views_Regions
+pub use Rattle.still_laws.specs.shape_ends_Ends
+pub use Rattle.still_laws.specs.shape_ends_Takeovers
+pub use Rattle.still_laws.specs.kept_history_Safe
+pub use Rattle.still_laws.specs.shape_changes_Marking
+pub use Rattle.still_laws.specs.shape_changes_Safety
+pub use Rattle.still_laws.specs.shape_changes_Steady
+pub use Rattle.still_laws.specs.shape_changes_Changing
+pub use Rattle.still_laws.specs.shape_views_Views

@@ -4,6 +4,7 @@
 mod naming;
 mod state;
 
-pub use array_state;
+pub use array_state::asking::steps_left;
+pub use array_state::work::set_rebuilt;
 pub use state::{Opened, Still};
-pub use still_laws::safe_updates;
+pub use still_laws::{is_spare, vacant_roles};

@@ -10,11 +10,11 @@ ghost use Rattle.row_io.specs.Rows.{reading_of, present};
 ghost use Rattle.list_io.specs.Writing.{HasFull};
 ghost use Rattle.flat_history.specs.World.{World};
 ghost use Rattle.flat_history.specs.Sound.{OpensFit};
-ghost use Rattle.shape_views.specs.Regions.{DoWithout};
-ghost use Rattle.shape_views.specs.Views.{Ledger};
-ghost use Rattle.shape_changes.specs.Marking.{AreOthersPresent};
-ghost use Rattle.shape_changes.specs.Safety.{HasLiveSlot, HasRoomLeft, IsRisen};
-ghost use Rattle.shape_changes.specs.Steady.{AreUnlost, IsSafeOver, KeepsSafe, AreGoneTold, IsUncleanTold, AreWritesAllowed, given_back};
+ghost use Rattle.still_laws.specs.shape_views_Regions.{DoWithout};
+ghost use Rattle.still_laws.specs.shape_views_Views.{Ledger};
+ghost use Rattle.still_laws.specs.shape_changes_Marking.{AreOthersPresent};
+ghost use Rattle.still_laws.specs.shape_changes_Safety.{HasLiveSlot, HasRoomLeft, IsRisen};
+ghost use Rattle.still_laws.specs.shape_changes_Steady.{AreUnlost, IsSafeOver, KeepsSafe, AreGoneTold, IsUncleanTold, AreWritesAllowed, given_back};
 ghost use Rattle.views.specs.Lacking.{HaveFailedSince, RowsStand, LacksTooMany, DataStandsAmong, RowsStandAmong, IsOfStripe};
 ghost use Rattle.views.specs.Moving.{Grows, IsMoved};
 ghost use Rattle.views.specs.Placed.{is_vacant, IsPlaced};
@@ -24,10 +24,7 @@ ghost use Rattle.still_laws.specs.safe_updates_Named.{AreNamedMissing};
 
 use bank::Bank;
 use md_base::Shape;
-use still_laws::safe_rows::filling::{Filled, fill};
-use still_laws::safe_updates::giving::{flush_and_record, give_role};
-use still_laws::safe_updates::naming::name_missing;
-use still_laws::safe_updates::roles::is_vacant;
+use still_laws::{Filled, fill, flush_and_record, give_role, is_vacant, name_missing};
 use superblocks::Members;
 
 // Gives a role that no slot holds to a spare, which has nothing of it yet, and names the roles that no slot holds. The other spares

@@ -31,7 +31,7 @@ use flat_history::Epoch;
 use grow_asked::{PhasesLeft, planned_left};
 use std::alloc::Global;
 use std::marker::Model;
-use still_laws::safe_updates::roles::shape_in;
+use still_laws::shape_in;
 use superblocks::Members;
 use views::Work;
 

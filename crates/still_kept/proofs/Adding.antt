@@ -18,16 +18,16 @@ use Rattle.flat_history.specs.Losses.{is_resync_end, unsettles}
 use Rattle.flat_history.specs.Plain.{entries_of}
 use Rattle.flat_history.specs.Sound.{OpensFit}
 use Rattle.flat_history.specs.World.{opening_list}
-use Rattle.shape_views.specs.Regions.{DoWithout}
-use Rattle.shape_changes.specs.Safety.{HasLiveSlot}
-use Rattle.views.specs.declared.work.Work.{Work}
-use Rattle.views.specs.Moving.{Grows, IsMoved}
-use Rattle.views.specs.Numbers.{is_carried}
-use Rattle.views.proofs.Fit.{list-alike}
-use Rattle.kept_history.specs.Recorded.{IsCallGoing}
-use Rattle.kept_history.specs.Safe.{world_in, IsFilledRight}
-use Rattle.kept_history.proofs.Entered.{adds_only, settle-none}
-use Rattle.kept_history.proofs.Ledgers.{unsynced-still, none-ends}
+use Rattle.moving_kept.specs.shape_views_Regions.{DoWithout}
+use Rattle.moving_kept.specs.shape_changes_Safety.{HasLiveSlot}
+use Rattle.moving_kept.specs.views_the_Work.{Work}
+use Rattle.moving_kept.specs.views_Moving.{Grows, IsMoved}
+use Rattle.moving_kept.specs.views_Numbers.{is_carried}
+use Rattle.moving_kept.proofs.views_Fit.{list-alike}
+use Rattle.moving_kept.specs.kept_history_Recorded.{IsCallGoing}
+use Rattle.moving_kept.specs.kept_history_Safe.{world_in, IsFilledRight}
+use Rattle.moving_kept.proofs.kept_history_Entered.{adds_only, settle-none}
+use Rattle.moving_kept.proofs.kept_history_Ledgers.{unsynced-still, none-ends}
 use Rattle.moving_kept.proofs.history_calls_Behind.{AreFirst, AreLostOrMissing, and-true}
 use Rattle.moving_kept.proofs.history_calls_Quiet.{IsLeftBehind}
 use Rattle.moving_kept.proofs.history_calls_Adding.{IsAdding, ChangesEarly, changing-leaves}

@@ -16,19 +16,19 @@ use Rattle.flat_history.specs.Legal.{told_left}
 use Rattle.flat_history.specs.Losses.{is_unsynced}
 use Rattle.flat_history.specs.Sound.{OpensFit}
 use Rattle.flat_history.specs.World.{opening_list}
-use Rattle.shape_views.specs.Regions.{DoWithout}
-use Rattle.shape_changes.specs.Steady.{AreUnlost}
-use Rattle.shape_ends.specs.Plans.{HasNoneRecovering}
-use Rattle.shape_ends.proofs.GrownLaws.{row-list}
-use Rattle.views.specs.declared.work.Work.{Work}
-use Rattle.views.specs.Lacking.{mended_rows}
-use Rattle.views.specs.Numbers.{is_carried}
-use Rattle.views.specs.Rebuilding.{AreSparesFree}
-use Rattle.views.specs.Status.{stripes_of}
-use Rattle.views.proofs.Fit.{valid}
-use Rattle.kept_history.specs.Safe.{TakesNone, KeepsLevel}
+use Rattle.moving_kept.specs.shape_views_Regions.{DoWithout}
+use Rattle.moving_kept.specs.shape_changes_Steady.{AreUnlost}
+use Rattle.moving_kept.specs.shape_ends_Plans.{HasNoneRecovering}
+use Rattle.moving_kept.proofs.shape_ends_GrownLaws.{row-list}
+use Rattle.moving_kept.specs.views_the_Work.{Work}
+use Rattle.moving_kept.specs.views_Lacking.{mended_rows}
+use Rattle.moving_kept.specs.views_Numbers.{is_carried}
+use Rattle.moving_kept.specs.views_Rebuilding.{AreSparesFree}
+use Rattle.moving_kept.specs.views_Status.{stripes_of}
+use Rattle.moving_kept.proofs.views_Fit.{valid}
+use Rattle.moving_kept.specs.kept_history_Safe.{TakesNone, KeepsLevel}
 use Rattle.still_kept.specs.Still.{AreNoneMissing}
-use Rattle.kept_history.specs.Safe.{world_in, IsFilledRight, IsSafeHistory}
+use Rattle.moving_kept.specs.kept_history_Safe.{world_in, IsFilledRight, IsSafeHistory}
 use Rattle.moving_kept.specs.Moving.{HasListStill, IsStillKept}
 use Rattle.still_kept.specs.Still.{AreAtRest, HasListStood, IsStill}
 use Rattle.still_kept.proofs.Stood.{list-shown, shown-list, rows-shown, shown-rows, sector-inside}

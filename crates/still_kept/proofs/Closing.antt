@@ -22,22 +22,22 @@ use Rattle.flat_history.specs.Losses.{is_gone_after}
 use Rattle.flat_history.specs.Reshaped.{IsConsistent, IsConsistentBy, IsConsistentAt}
 use Rattle.flat_history.specs.Sound.{OpensFit}
 use Rattle.flat_history.specs.Stands.{held_row, held_sector}
-use Rattle.shape_views.specs.Regions.{DoWithout, IsReadOf, header_in}
-use Rattle.shape_views.specs.Views.{Ledger, IsSettled}
-use Rattle.shape_views.specs.Windows.{RowsStand}
-use Rattle.shape_views.proofs.Alike.{shape-alike}
-use Rattle.shape_views.proofs.SoundViews.{good-row}
-use Rattle.shape_views.proofs.Standing.{held-same}
-use Rattle.shape_views.proofs.Stands.{still-stands}
-use Rattle.shape_changes.specs.Steady.{IsSteady}
-use Rattle.shape_changes.proofs.Steady.{held-read}
-use Rattle.shape_changes.proofs.Without.{state-without}
-use Rattle.shape_ends.proofs.EndLaws.{fewer-pass}
-use Rattle.views.specs.Lacking.{RowsStandBelow}
-use Rattle.views.proofs.LiveLeft.{left-steady, without-left}
-use Rattle.views.proofs.Still.{count-still, without-still, outside-still}
-use Rattle.kept_history.specs.Safe.{world_in, IsSafeHistory, IsNowRight}
-use Rattle.kept_history.proofs.Lengths.{now-drawn}
+use Rattle.moving_kept.specs.shape_views_Regions.{DoWithout, IsReadOf, header_in}
+use Rattle.moving_kept.specs.shape_views_Views.{Ledger, IsSettled}
+use Rattle.moving_kept.specs.shape_views_Windows.{RowsStand}
+use Rattle.moving_kept.proofs.shape_views_Alike.{shape-alike}
+use Rattle.moving_kept.proofs.shape_views_SoundViews.{good-row}
+use Rattle.moving_kept.proofs.shape_views_Standing.{held-same}
+use Rattle.moving_kept.proofs.shape_views_Stands.{still-stands}
+use Rattle.moving_kept.specs.shape_changes_Steady.{IsSteady}
+use Rattle.moving_kept.proofs.shape_changes_Steady.{held-read}
+use Rattle.moving_kept.proofs.shape_changes_Without.{state-without}
+use Rattle.moving_kept.proofs.shape_ends_EndLaws.{fewer-pass}
+use Rattle.moving_kept.specs.views_Lacking.{RowsStandBelow}
+use Rattle.moving_kept.proofs.views_LiveLeft.{left-steady, without-left}
+use Rattle.moving_kept.proofs.views_Still.{count-still, without-still, outside-still}
+use Rattle.moving_kept.specs.kept_history_Safe.{world_in, IsSafeHistory, IsNowRight}
+use Rattle.moving_kept.proofs.kept_history_Lengths.{now-drawn}
 use Rattle.moving_kept.specs.history_calls_Reliable.{AreToldGone}
 use Rattle.still_kept.specs.Still.{AreAtRest, IsNamedOrClean}
 use Rattle.still_kept.proofs.Named.{missing-named}

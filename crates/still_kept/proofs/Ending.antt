@@ -18,7 +18,7 @@ use Rattle.superblocks.proofs.ValidFields.{few-roles}
 use Rattle.moving_kept.proofs.array_kept_DegradedLaws.{count-moved}
 use Rattle.moving_kept.proofs.array_kept_ToldLosses.{role-told}
 use Rattle.calls_kept.proofs.RebuildLaws.{losses-end, some-lost}
-use Rattle.kept_history.specs.Recorded.{IsLegalCall}
+use Rattle.moving_kept.specs.kept_history_Recorded.{IsLegalCall}
 use Rattle.moving_kept.proofs.history_calls_Quiet.{quiet-none, numbers-kept}
 use Rattle.flat_history.specs.Transfers.{last_end_from}
 use Rattle.flat_history.specs.Legal.{told_left}
@@ -30,29 +30,29 @@ use Rattle.flat_history.specs.Flat.{now}
 use Rattle.flat_history.specs.Plain.{entries_of}
 use Rattle.flat_history.specs.Sound.{OpensFit}
 use Rattle.flat_history.specs.World.{World, opening_list}
-use Rattle.shape_views.specs.Regions.{DoWithout}
-use Rattle.shape_views.specs.Views.{Ledger}
-use Rattle.shape_changes.specs.Marking.{AreOthersPresent}
-use Rattle.shape_changes.specs.Safety.{HasLiveSlot, HasRoomLeft, IsRisen}
-use Rattle.shape_changes.specs.Steady.{IsSafeOver, KeepsSafe, AreGoneTold, IsUncleanTold}
-use Rattle.views.specs.declared.work.Work.{Work}
+use Rattle.moving_kept.specs.shape_views_Regions.{DoWithout}
+use Rattle.moving_kept.specs.shape_views_Views.{Ledger}
+use Rattle.moving_kept.specs.shape_changes_Marking.{AreOthersPresent}
+use Rattle.moving_kept.specs.shape_changes_Safety.{HasLiveSlot, HasRoomLeft, IsRisen}
+use Rattle.moving_kept.specs.shape_changes_Steady.{IsSafeOver, KeepsSafe, AreGoneTold, IsUncleanTold}
+use Rattle.moving_kept.specs.views_the_Work.{Work}
 use Rattle.moving_kept.specs.safe_updates_Named.{AreNamedMissing}
-use Rattle.views.specs.Lacking.{AreLostSince, RowsStandBelow, mended_rows}
-use Rattle.views.specs.Moving.{Grows, IsMoved}
-use Rattle.views.specs.Numbers.{is_carried}
-use Rattle.views.specs.Placed.{IsPlaced, is_vacant}
-use Rattle.views.specs.Status.{stripes_of, rebuilt_of}
-use Rattle.views.proofs.Fit.{list-alike}
-use Rattle.views.proofs.GivenMembers.{IsReceiver, state-here, placed-given}
-use Rattle.views.proofs.LackingLaws.{since-missing}
-use Rattle.views.proofs.LiveLeft.{without-left}
-use Rattle.call_entries.specs.Losing.{losses_of}
-use Rattle.call_entries.proofs.CallLaws.{losses-are}
+use Rattle.moving_kept.specs.views_Lacking.{AreLostSince, RowsStandBelow, mended_rows}
+use Rattle.moving_kept.specs.views_Moving.{Grows, IsMoved}
+use Rattle.moving_kept.specs.views_Numbers.{is_carried}
+use Rattle.moving_kept.specs.views_Placed.{IsPlaced, is_vacant}
+use Rattle.moving_kept.specs.views_Status.{stripes_of, rebuilt_of}
+use Rattle.moving_kept.proofs.views_Fit.{list-alike}
+use Rattle.moving_kept.proofs.views_GivenMembers.{IsReceiver, state-here, placed-given}
+use Rattle.moving_kept.proofs.views_LackingLaws.{since-missing}
+use Rattle.moving_kept.proofs.views_LiveLeft.{without-left}
+use Rattle.moving_kept.specs.call_entries_Losing.{losses_of}
+use Rattle.moving_kept.proofs.call_entries_CallLaws.{losses-are}
 use Rattle.moving_kept.proofs.array_kept_DegradedLaws.{count-moved}
 use Rattle.moving_kept.proofs.array_kept_KeptLaws.{left-lost}
 use Rattle.calls_kept.proofs.RebuildGiven.{few-given, free-then, missing-given, list-given, among-given, rebuilt-given}
-use Rattle.kept_history.specs.Recorded.{IsCallGoing}
-use Rattle.kept_history.specs.Safe.{world_in, IsFilledRight}
+use Rattle.moving_kept.specs.kept_history_Recorded.{IsCallGoing}
+use Rattle.moving_kept.specs.kept_history_Safe.{world_in, IsFilledRight}
 use Rattle.moving_kept.proofs.history_calls_LastStep.{AreWithin, losses-within}
 use Rattle.moving_kept.proofs.history_calls_Behind.{AreLostOrMissing, IsAmong, early-losses, legal-losses}
 use Rattle.still_kept.specs.Still.{AreAtRest, HasListStood, IsStill}
@@ -63,16 +63,16 @@ use Rattle.flat_history.specs.declared.events.Event.TheVariants.{Rebuilt}
 use Rattle.flat_history.specs.declared.events.StepKind.TheVariants.{RebuildEnded}
 use Rattle.flat_history.specs.Legal.{told_left}
 use Rattle.flat_history.specs.Losses.{is_resync_end}
-use Rattle.shape_changes.specs.Steady.{IsMoreTold, AreWritesAllowed, given_back}
-use Rattle.views.specs.Lacking.{RowsStand}
-use Rattle.views.specs.Rebuilding.{with_whole, AreRowsFull}
+use Rattle.moving_kept.specs.shape_changes_Steady.{IsMoreTold, AreWritesAllowed, given_back}
+use Rattle.moving_kept.specs.views_Lacking.{RowsStand}
+use Rattle.moving_kept.specs.views_Rebuilding.{with_whole, AreRowsFull}
 use Rattle.calls_kept.proofs.RebuildGiven.{receiver-recovering, whole-here}
 use Rattle.calls_kept.proofs.RebuildEnded.{rows-full, moved-vacant}
-use Rattle.kept_history.specs.Recorded.{IsOpenBehind}
-use Rattle.kept_history.specs.Told.{told_now}
-use Rattle.kept_history.proofs.Lists.{newest-in}
-use Rattle.kept_history.proofs.Reshapes.{call-ends_none}
-use Rattle.kept_history.proofs.Ledgers.{unsynced-still}
+use Rattle.moving_kept.specs.kept_history_Recorded.{IsOpenBehind}
+use Rattle.moving_kept.specs.kept_history_Told.{told_now}
+use Rattle.moving_kept.proofs.kept_history_Lists.{newest-in}
+use Rattle.moving_kept.proofs.kept_history_Reshapes.{call-ends_none}
+use Rattle.moving_kept.proofs.kept_history_Ledgers.{unsynced-still}
 use Rattle.moving_kept.specs.history_calls_Reliable.{IsReliable}
 use Rattle.moving_kept.proofs.history_calls_Behind.{telling-of, first-of}
 use Rattle.moving_kept.proofs.history_calls_Quiet.{IsLeftBehind, EndsRight, quiet-none}
@@ -87,14 +87,14 @@ use Rattle.std.specs.Prelude.{fold, slice_index_or, is_some}
 use Rattle.superblocks.specs.Reading.{holder}
 use Rattle.flat_history.specs.Flat.{values_of, values_after}
 use Rattle.flat_history.specs.Losses.{loses}
-use Rattle.kept_history.specs.Safe.{TakesNone, is_taken_over}
-use Rattle.kept_history.proofs.Entered.{values-more}
-use Rattle.kept_history.proofs.Growing.{takes-grown}
-use Rattle.kept_history.proofs.Tests.{none-before}
-use Rattle.call_entries.proofs.CallLaws.{values-losses, ends-losses}
-use Rattle.call_entries.proofs.LosingLaws.{entries-both}
-use Rattle.call_entries.proofs.LeftLaws.{fold-left}
-use Rattle.call_entries.proofs.StepLaws.{left-stepped}
+use Rattle.moving_kept.specs.kept_history_Safe.{TakesNone, is_taken_over}
+use Rattle.moving_kept.proofs.kept_history_Entered.{values-more}
+use Rattle.moving_kept.proofs.kept_history_Growing.{takes-grown}
+use Rattle.moving_kept.proofs.kept_history_Tests.{none-before}
+use Rattle.moving_kept.proofs.call_entries_CallLaws.{values-losses, ends-losses}
+use Rattle.moving_kept.proofs.call_entries_LosingLaws.{entries-both}
+use Rattle.moving_kept.proofs.call_entries_LeftLaws.{fold-left}
+use Rattle.moving_kept.proofs.call_entries_StepLaws.{left-stepped}
 
 -- What `flush_and_record` leaves: the role is whole on the slot that has every row of it, unless that was lost, and what is missing is named.
 pub record IsMadeWhole (tells : Type 0) (given : Given) (tape tape' : List Operation) (old new : Members) (role slot roles spares : ℕ) (before after : ℕ → ℕ) : Type 0 where

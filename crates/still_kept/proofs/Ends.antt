@@ -20,18 +20,18 @@ use Rattle.flat_history.specs.Reshaped.{behind, comes_with_finish, comes_with_st
 use Rattle.flat_history.specs.Sound.{OpensFit}
 use Rattle.flat_history.specs.World.{World}
 use Rattle.flat_history.proofs.SoundLaws.{fit-before}
-use Rattle.shape_views.specs.Regions.{DoWithout}
-use Rattle.views.specs.declared.work.Work.{Work}
-use Rattle.views.specs.Lacking.{RowsStandBelow, mended_rows}
-use Rattle.views.specs.Moving.{Grows}
-use Rattle.call_entries.proofs.CallLaws.{AreLossEvents}
-use Rattle.call_entries.proofs.LosingLaws.{entries-both}
-use Rattle.call_entries.proofs.StepLaws.{faults-are}
-use Rattle.kept_history.specs.Recorded.{IsReshapedCall, entry_of, ends_reshape}
-use Rattle.kept_history.specs.Safe.{world_in, IsSafeHistory}
-use Rattle.kept_history.proofs.Growing.{alike-before, room-before}
-use Rattle.kept_history.proofs.Reshapes.{call-ends_none, ends-none, reshaped-losses, unplanned}
-use Rattle.kept_history.proofs.Turned.{filled-before}
+use Rattle.moving_kept.specs.shape_views_Regions.{DoWithout}
+use Rattle.moving_kept.specs.views_the_Work.{Work}
+use Rattle.moving_kept.specs.views_Lacking.{RowsStandBelow, mended_rows}
+use Rattle.moving_kept.specs.views_Moving.{Grows}
+use Rattle.moving_kept.proofs.call_entries_CallLaws.{AreLossEvents}
+use Rattle.moving_kept.proofs.call_entries_LosingLaws.{entries-both}
+use Rattle.moving_kept.proofs.call_entries_StepLaws.{faults-are}
+use Rattle.moving_kept.specs.kept_history_Recorded.{IsReshapedCall, entry_of, ends_reshape}
+use Rattle.moving_kept.specs.kept_history_Safe.{world_in, IsSafeHistory}
+use Rattle.moving_kept.proofs.kept_history_Growing.{alike-before, room-before}
+use Rattle.moving_kept.proofs.kept_history_Reshapes.{call-ends_none, ends-none, reshaped-losses, unplanned}
+use Rattle.moving_kept.proofs.kept_history_Turned.{filled-before}
 use Rattle.moving_kept.specs.history_calls_Reliable.{IsReliable, AreToldGone}
 use Rattle.moving_kept.proofs.history_calls_Quiet.{EndsRight}
 use Rattle.moving_kept.proofs.history_calls_Plans.{ArePlannedTo, behind-all, plans-behind, plans-done}

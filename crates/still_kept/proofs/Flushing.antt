@@ -24,29 +24,29 @@ use Rattle.flat_history.specs.Losses.{was_dirty, is_resync_end, is_unsynced, uns
 use Rattle.flat_history.specs.Plain.{entries_of}
 use Rattle.flat_history.specs.Sound.{OpensFit}
 use Rattle.flat_history.specs.World.{World, opening_list}
-use Rattle.shape_views.specs.Regions.{DoWithout}
-use Rattle.shape_views.specs.Views.{Ledger}
-use Rattle.shape_changes.specs.Marking.{AreOthersPresent}
-use Rattle.shape_changes.specs.Safety.{HasLiveSlot, HasRoomLeft, IsRisen}
-use Rattle.shape_changes.specs.Steady.{IsSafeOver, KeepsSafe, AreGoneTold, IsUncleanTold, AreWritesAllowed, settled_ledger}
-use Rattle.views.specs.declared.work.Work.{Work}
-use Rattle.views.specs.Lacking.{AreLostSince, AreTooMany, mended_rows}
-use Rattle.views.specs.Moving.{Grows, IsMoved}
-use Rattle.views.specs.Numbers.{is_carried}
-use Rattle.views.specs.Status.{stripes_of}
-use Rattle.views.specs.Under.{StandsUnder, RowsStandUnder}
-use Rattle.views.proofs.Fit.{list-alike}
-use Rattle.views.proofs.HeldRows.{without-before}
-use Rattle.views.proofs.LackingLaws.{never-both}
-use Rattle.call_entries.specs.Losing.{losses_of}
-use Rattle.call_entries.proofs.CallLaws.{losses-are, ends-losses, values-losses}
-use Rattle.call_entries.proofs.LeftLaws.{TellLeft}
+use Rattle.moving_kept.specs.shape_views_Regions.{DoWithout}
+use Rattle.moving_kept.specs.shape_views_Views.{Ledger}
+use Rattle.moving_kept.specs.shape_changes_Marking.{AreOthersPresent}
+use Rattle.moving_kept.specs.shape_changes_Safety.{HasLiveSlot, HasRoomLeft, IsRisen}
+use Rattle.moving_kept.specs.shape_changes_Steady.{IsSafeOver, KeepsSafe, AreGoneTold, IsUncleanTold, AreWritesAllowed, settled_ledger}
+use Rattle.moving_kept.specs.views_the_Work.{Work}
+use Rattle.moving_kept.specs.views_Lacking.{AreLostSince, AreTooMany, mended_rows}
+use Rattle.moving_kept.specs.views_Moving.{Grows, IsMoved}
+use Rattle.moving_kept.specs.views_Numbers.{is_carried}
+use Rattle.moving_kept.specs.views_Status.{stripes_of}
+use Rattle.moving_kept.specs.views_Under.{StandsUnder, RowsStandUnder}
+use Rattle.moving_kept.proofs.views_Fit.{list-alike}
+use Rattle.moving_kept.proofs.views_HeldRows.{without-before}
+use Rattle.moving_kept.proofs.views_LackingLaws.{never-both}
+use Rattle.moving_kept.specs.call_entries_Losing.{losses_of}
+use Rattle.moving_kept.proofs.call_entries_CallLaws.{losses-are, ends-losses, values-losses}
+use Rattle.moving_kept.proofs.call_entries_LeftLaws.{TellLeft}
 use Rattle.moving_kept.proofs.array_kept_KeptLaws.{left-lost}
 use Rattle.moving_kept.proofs.safe_updates_Under.{still-under, still-rows-under}
-use Rattle.kept_history.specs.Recorded.{IsCallGoing, entry_of, ends_reshape}
-use Rattle.kept_history.specs.Safe.{world_in, IsFilledRight}
-use Rattle.kept_history.proofs.Entered.{values-more}
-use Rattle.kept_history.proofs.Lists.{newest-in}
+use Rattle.moving_kept.specs.kept_history_Recorded.{IsCallGoing, entry_of, ends_reshape}
+use Rattle.moving_kept.specs.kept_history_Safe.{world_in, IsFilledRight}
+use Rattle.moving_kept.proofs.kept_history_Entered.{values-more}
+use Rattle.moving_kept.proofs.kept_history_Lists.{newest-in}
 use Rattle.moving_kept.proofs.history_calls_LastStep.{losses-within}
 use Rattle.moving_kept.proofs.history_calls_Behind.{IsAmong, first-of, early-losses, legal-losses}
 use Rattle.moving_kept.proofs.history_calls_Quiet.{IsLeftBehind}

@@ -22,20 +22,20 @@ use Rattle.flat_history.specs.Sound.{FillsRight, OpensFit}
 use Rattle.flat_history.specs.World.{World, reading_at, opening_list}
 use Rattle.flat_history.proofs.OneShapeGone.{after-gone}
 use Rattle.flat_history.proofs.OneShapeLegal.{entries-keep, found-in, one_shape-legal}
-use Rattle.shape_views.specs.Regions.{DoWithout}
-use Rattle.views.specs.declared.work.Work.{Work}
-use Rattle.views.specs.Status.{left_of}
-use Rattle.views.proofs.Still.{length-still}
+use Rattle.moving_kept.specs.shape_views_Regions.{DoWithout}
+use Rattle.moving_kept.specs.views_the_Work.{Work}
+use Rattle.moving_kept.specs.views_Status.{left_of}
+use Rattle.moving_kept.proofs.views_Still.{length-still}
 use Rattle.moving_kept.specs.array_kept_Kept.{AreRebuildsRight, IsKept}
 use Rattle.moving_kept.proofs.array_kept_ReadyLaws.{kept-legal}
-use Rattle.kept_history.specs.Recorded.{IsHistoryKept}
-use Rattle.kept_history.proofs.Lists.{past-none}
+use Rattle.moving_kept.specs.kept_history_Recorded.{IsHistoryKept}
+use Rattle.moving_kept.proofs.kept_history_Lists.{past-none}
 use Rattle.std.proofs.Common.{◌<◌, append-nil, subst, []}
 use Rattle.row_io.specs.Rows.{reading_of, is_missing}
 use Rattle.calls_kept.proofs.RebuildEnded.{role-lost}
-use Rattle.kept_history.specs.Safe.{TakesNone, KeepsLevel}
+use Rattle.moving_kept.specs.kept_history_Safe.{TakesNone, KeepsLevel}
 use Rattle.still_kept.specs.Still.{AreNoneMissing}
-use Rattle.kept_history.specs.Safe.{world_in, IsFilledRight}
+use Rattle.moving_kept.specs.kept_history_Safe.{world_in, IsFilledRight}
 use Rattle.one_shape_history.proofs.Kept.{safe-alike, recorded-alike}
 use Rattle.moving_kept.specs.history_calls_Reliable.{IsReliable, IsNonePast}
 use Rattle.still_kept.specs.Still.{HasListStood, IsStill}

@@ -16,13 +16,13 @@ use Rattle.flat_history.specs.Losses.{is_unsynced}
 use Rattle.flat_history.specs.Sound.{OpensFit}
 use Rattle.flat_history.specs.World.{opening_list}
 use Rattle.flat_history.proofs.SoundLaws.{fit-before}
-use Rattle.shape_views.specs.Regions.{DoWithout}
-use Rattle.shape_changes.specs.Safety.{HasLiveSlot}
-use Rattle.shape_changes.specs.Steady.{IsSafeOver}
-use Rattle.views.specs.declared.work.Work.{Work}
-use Rattle.views.specs.Moving.{Grows, IsMoved}
-use Rattle.views.specs.Numbers.{is_carried}
-use Rattle.views.specs.Status.{stripes_of}
+use Rattle.moving_kept.specs.shape_views_Regions.{DoWithout}
+use Rattle.moving_kept.specs.shape_changes_Safety.{HasLiveSlot}
+use Rattle.moving_kept.specs.shape_changes_Steady.{IsSafeOver}
+use Rattle.moving_kept.specs.views_the_Work.{Work}
+use Rattle.moving_kept.specs.views_Moving.{Grows, IsMoved}
+use Rattle.moving_kept.specs.views_Numbers.{is_carried}
+use Rattle.moving_kept.specs.views_Status.{stripes_of}
 use Rattle.std.specs.List.{list_any}
 use Rattle.std.proofs.lemmas.List.Folds.{list_any-append}
 use Rattle.md_base.specs.declared.answers.Who.{Who}
@@ -34,17 +34,17 @@ use Rattle.flat_history.specs.Losses.{loses}
 use Rattle.flat_history.specs.OneShape.{is_lost}
 use Rattle.flat_history.specs.Plain.{entries_of}
 use Rattle.flat_history.specs.World.{World}
-use Rattle.kept_history.proofs.Tests.{neither, none-before}
-use Rattle.kept_history.proofs.Entered.{lost-taken}
-use Rattle.kept_history.proofs.Growing.{takes-grown}
+use Rattle.moving_kept.proofs.kept_history_Tests.{neither, none-before}
+use Rattle.moving_kept.proofs.kept_history_Entered.{lost-taken}
+use Rattle.moving_kept.proofs.kept_history_Growing.{takes-grown}
 use Rattle.moving_kept.proofs.history_calls_Behind.{AreLostOrMissing}
 use Rattle.std.proofs.Common.{inl, inr, ◌<◌, ◌++◌, Bool, true, false, arith, refl}
-use Rattle.kept_history.specs.Safe.{TakesNone, KeepsLevel, is_taken_over, IsSafeHistory}
+use Rattle.moving_kept.specs.kept_history_Safe.{TakesNone, KeepsLevel, is_taken_over, IsSafeHistory}
 use Rattle.still_kept.specs.Still.{AreNoneMissing}
-use Rattle.kept_history.specs.Safe.{world_in, IsFilledRight}
-use Rattle.kept_history.specs.Told.{told_now}
-use Rattle.kept_history.proofs.Calls.{now-live}
-use Rattle.kept_history.proofs.Growing.{opening-grown, unsynced-grown}
+use Rattle.moving_kept.specs.kept_history_Safe.{world_in, IsFilledRight}
+use Rattle.moving_kept.specs.kept_history_Told.{told_now}
+use Rattle.moving_kept.proofs.kept_history_Calls.{now-live}
+use Rattle.moving_kept.proofs.kept_history_Growing.{opening-grown, unsynced-grown}
 use Rattle.moving_kept.specs.history_calls_Reliable.{IsNonePast}
 use Rattle.moving_kept.proofs.history_calls_Quiet.{IsLeftBehind, fit-later}
 use Rattle.still_kept.specs.Still.{AreAtRest, HasListStood, IsStill}

@@ -19,14 +19,6 @@ pub mod Sparing
 pub mod Bridges
 pub mod Rebuilding
 pub mod Ending
-pub use Rattle.moving_kept.proofs.BegunCall as moving_kept_BegunCall
-pub use Rattle.moving_kept.proofs.BegunMembers as moving_kept_BegunMembers
-pub use Rattle.moving_kept.proofs.Refusals as moving_kept_Refusals
-pub use Rattle.moving_kept.proofs.Resting as moving_kept_Resting
-pub use Rattle.moving_kept.proofs.Shortened as moving_kept_Shortened
-pub use Rattle.moving_kept.proofs.Staying as moving_kept_Staying
-pub use Rattle.moving_kept.proofs.Steps as moving_kept_Steps
-pub use Rattle.moving_kept.proofs.course_mends_Mended
 pub use Rattle.calls_kept.proofs.AbsentLaws as calls_kept_AbsentLaws
 pub use Rattle.calls_kept.proofs.AddLaws as calls_kept_AddLaws
 pub use Rattle.calls_kept.proofs.AddedKept as calls_kept_AddedKept
@@ -61,3 +53,41 @@ pub use Rattle.moving_kept.proofs.reshape_updates_EndedPlan
 pub use Rattle.moving_kept.proofs.reshape_updates_NewRoles
 pub use Rattle.moving_kept.proofs.reshape_updates_Taken
 pub use Rattle.one_shape_history.proofs.Kept as one_shape_history_Kept
+pub use Rattle.moving_kept.proofs.call_entries_CallLaws
+pub use Rattle.moving_kept.proofs.call_entries_LeftLaws
+pub use Rattle.moving_kept.proofs.call_entries_PlainLaws
+pub use Rattle.moving_kept.proofs.shape_ends_EndLaws
+pub use Rattle.moving_kept.proofs.shape_ends_TakenShapes
+pub use Rattle.moving_kept.proofs.shape_ends_Takeovers
+pub use Rattle.moving_kept.proofs.shape_ends_GrownLaws
+pub use Rattle.moving_kept.proofs.views_HeldRows
+pub use Rattle.moving_kept.proofs.views_MovedLaws
+pub use Rattle.moving_kept.proofs.views_Still
+pub use Rattle.moving_kept.proofs.views_Fit
+pub use Rattle.moving_kept.proofs.views_SoundViews
+pub use Rattle.moving_kept.proofs.kept_history_Calls
+pub use Rattle.moving_kept.proofs.kept_history_Entered
+pub use Rattle.moving_kept.proofs.kept_history_Growing
+pub use Rattle.moving_kept.proofs.kept_history_KeptCalls
+pub use Rattle.moving_kept.proofs.kept_history_Ledgers
+pub use Rattle.moving_kept.proofs.kept_history_Lengths
+pub use Rattle.moving_kept.proofs.kept_history_Longer
+pub use Rattle.moving_kept.proofs.kept_history_Reshapes
+pub use Rattle.moving_kept.proofs.kept_history_Tests
+pub use Rattle.moving_kept.proofs.kept_history_Turned
+pub use Rattle.moving_kept.proofs.kept_history_Turns
+pub use Rattle.moving_kept.proofs.shape_changes_Steady
+pub use Rattle.moving_kept.proofs.shape_views_Stands
+pub use Rattle.moving_kept.proofs.shape_views_Alike
+pub use Rattle.moving_kept.proofs.call_entries_LosingLaws
+pub use Rattle.moving_kept.proofs.call_entries_StepLaws
+pub use Rattle.moving_kept.proofs.views_Flushed
+pub use Rattle.moving_kept.proofs.views_MarkedSafe
+pub use Rattle.moving_kept.proofs.views_LackingLaws
+pub use Rattle.moving_kept.proofs.views_LiveLeft
+pub use Rattle.moving_kept.proofs.views_LackingLists
+pub use Rattle.moving_kept.proofs.views_GivenMembers
+pub use Rattle.moving_kept.proofs.kept_history_Records
+pub use Rattle.moving_kept.proofs.shape_changes_Risen
+pub use Rattle.moving_kept.proofs.shape_changes_PlannedRoles
+pub use Rattle.moving_kept.proofs.shape_changes_Kept

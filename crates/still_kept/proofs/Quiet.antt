@@ -21,20 +21,20 @@ use Rattle.flat_history.specs.Losses.{is_resync_end}
 use Rattle.flat_history.specs.Plain.{entries_of}
 use Rattle.flat_history.specs.Sound.{OpensFit}
 use Rattle.flat_history.specs.World.{opening_list}
-use Rattle.shape_views.specs.Regions.{DoWithout}
-use Rattle.shape_views.proofs.Stands.{list-still}
-use Rattle.shape_changes.specs.Safety.{HasLiveSlot}
-use Rattle.views.specs.declared.work.Work.{Work}
-use Rattle.views.specs.Moving.{Grows, IsMoved}
-use Rattle.views.specs.Numbers.{is_carried}
-use Rattle.views.specs.Status.{stripes_of}
-use Rattle.views.proofs.HeldRows.{without-before}
-use Rattle.call_entries.proofs.CallLaws.{last_end-behind}
-use Rattle.kept_history.proofs.Reshapes.{call-ends_none}
-use Rattle.kept_history.specs.Recorded.{IsCallGoing, ends_reshape}
-use Rattle.kept_history.specs.Safe.{world_in, IsFilledRight}
-use Rattle.kept_history.proofs.Entered.{settle-none}
-use Rattle.kept_history.proofs.Ledgers.{unsynced-still, none-ends}
+use Rattle.moving_kept.specs.shape_views_Regions.{DoWithout}
+use Rattle.moving_kept.proofs.shape_views_Stands.{list-still}
+use Rattle.moving_kept.specs.shape_changes_Safety.{HasLiveSlot}
+use Rattle.moving_kept.specs.views_the_Work.{Work}
+use Rattle.moving_kept.specs.views_Moving.{Grows, IsMoved}
+use Rattle.moving_kept.specs.views_Numbers.{is_carried}
+use Rattle.moving_kept.specs.views_Status.{stripes_of}
+use Rattle.moving_kept.proofs.views_HeldRows.{without-before}
+use Rattle.moving_kept.proofs.call_entries_CallLaws.{last_end-behind}
+use Rattle.moving_kept.proofs.kept_history_Reshapes.{call-ends_none}
+use Rattle.moving_kept.specs.kept_history_Recorded.{IsCallGoing, ends_reshape}
+use Rattle.moving_kept.specs.kept_history_Safe.{world_in, IsFilledRight}
+use Rattle.moving_kept.proofs.kept_history_Entered.{settle-none}
+use Rattle.moving_kept.proofs.kept_history_Ledgers.{unsynced-still, none-ends}
 use Rattle.moving_kept.proofs.history_calls_Behind.{or-false, AreEarly, AreLostOrMissing}
 use Rattle.moving_kept.proofs.history_calls_Quiet.{IsQuiet, AreQuietLast, quiet-last, LeavesNumbers, LeavesList, IsLeftBehind, EndsRight, numbers-leaves, numbers-of, last-now}
 use Rattle.still_kept.specs.Still.{AreAtRest, HasListStood, IsStill}

@@ -29,22 +29,22 @@ use Rattle.flat_history.specs.Plain.{entries_of}
 use Rattle.flat_history.specs.Sound.{OpensFit}
 use Rattle.flat_history.specs.Transfers.{IsReadOver}
 use Rattle.flat_history.specs.World.{opening_list}
-use Rattle.shape_views.specs.Regions.{DoWithout}
-use Rattle.shape_views.proofs.Stands.{for-still, list-still}
-use Rattle.views.specs.declared.work.Work.{Work}
-use Rattle.views.specs.Lacking.{LacksTooMany, ListStands, RowsStandBelow, mended_rows}
-use Rattle.views.specs.Moving.{IsMoved}
-use Rattle.views.specs.Placed.{AreWhole}
-use Rattle.views.proofs.Fit.{valid}
-use Rattle.views.proofs.LackingLists.{row-sector}
-use Rattle.views.proofs.LiveLeft.{without-left}
-use Rattle.call_entries.specs.Losing.{losses_of}
-use Rattle.call_entries.proofs.CallLaws.{losses-are, length-losses, limit-losses, values-losses}
+use Rattle.moving_kept.specs.shape_views_Regions.{DoWithout}
+use Rattle.moving_kept.proofs.shape_views_Stands.{for-still, list-still}
+use Rattle.moving_kept.specs.views_the_Work.{Work}
+use Rattle.moving_kept.specs.views_Lacking.{LacksTooMany, ListStands, RowsStandBelow, mended_rows}
+use Rattle.moving_kept.specs.views_Moving.{IsMoved}
+use Rattle.moving_kept.specs.views_Placed.{AreWhole}
+use Rattle.moving_kept.proofs.views_Fit.{valid}
+use Rattle.moving_kept.proofs.views_LackingLists.{row-sector}
+use Rattle.moving_kept.proofs.views_LiveLeft.{without-left}
+use Rattle.moving_kept.specs.call_entries_Losing.{losses_of}
+use Rattle.moving_kept.proofs.call_entries_CallLaws.{losses-are, length-losses, limit-losses, values-losses}
 use Rattle.moving_kept.proofs.array_kept_NowLaws.{sectors_of-at}
 use Rattle.moving_kept.specs.region_rows_Stretches.{relied_rows, IsListUnread}
-use Rattle.kept_history.specs.Recorded.{IsCallGoing}
-use Rattle.kept_history.specs.Safe.{world_in}
-use Rattle.kept_history.proofs.Entered.{values-more, length-more}
+use Rattle.moving_kept.specs.kept_history_Recorded.{IsCallGoing}
+use Rattle.moving_kept.specs.kept_history_Safe.{world_in}
+use Rattle.moving_kept.proofs.kept_history_Entered.{values-more, length-more}
 use Rattle.moving_kept.specs.history_calls_Reliable.{IsReliable, AreToldGone}
 use Rattle.still_kept.specs.Still.{AreAtRest, relied_list, HasListStood, IsStill}
 use Rattle.still_kept.proofs.Leaving.{list-later, fit-earlier, rest-moved}

@@ -22,20 +22,20 @@ use Rattle.std.specs.List.{Contains}
 use Rattle.superblocks.proofs.ValidFields.{few-roles}
 use Rattle.moving_kept.proofs.array_kept_DegradedLaws.{count-moved}
 use Rattle.moving_kept.proofs.array_kept_ToldLosses.{role-told}
-use Rattle.call_entries.proofs.CallLaws.{last_end-behind}
+use Rattle.moving_kept.proofs.call_entries_CallLaws.{last_end-behind}
 use Rattle.calls_kept.proofs.RebuildLaws.{losses-end, some-lost}
 use Rattle.calls_kept.proofs.RebuildFilled.{not-vacant}
-use Rattle.kept_history.specs.Recorded.{IsLegalCall}
+use Rattle.moving_kept.specs.kept_history_Recorded.{IsLegalCall}
 use Rattle.moving_kept.proofs.history_calls_Quiet.{AreQuietLast, quiet-none, numbers-kept, numbers-of}
 use Rattle.flat_history.specs.Transfers.{last_end_from}
-use Rattle.kept_history.specs.Recorded.{ends_reshape}
+use Rattle.moving_kept.specs.kept_history_Recorded.{ends_reshape}
 use Rattle.std.specs.List.{list_any}
-use Rattle.kept_history.proofs.Reshapes.{call-ends_none}
+use Rattle.moving_kept.proofs.kept_history_Reshapes.{call-ends_none}
 use Rattle.still_kept.proofs.Ends.{EndsPlans, ends-right}
 use Rattle.flat_history.specs.Legal.{told_left}
 use Rattle.still_kept.proofs.Quiet.{tail-stands}
 use Rattle.still_kept.proofs.Leaving.{rest-moved}
-use Rattle.views.proofs.HeldRows.{without-before}
+use Rattle.moving_kept.proofs.views_HeldRows.{without-before}
 use Rattle.flat_history.specs.declared.events.Event.{Event}
 use Rattle.flat_history.specs.declared.events.Event.TheVariants.{Lost}
 use Rattle.flat_history.specs.declared.events.LostCause.TheVariants.{Fault}
@@ -43,35 +43,35 @@ use Rattle.flat_history.specs.Flat.{now}
 use Rattle.flat_history.specs.Plain.{entries_of}
 use Rattle.flat_history.specs.Sound.{OpensFit}
 use Rattle.flat_history.specs.World.{World, opening_list}
-use Rattle.shape_views.specs.Regions.{DoWithout}
-use Rattle.shape_views.specs.Views.{Ledger}
-use Rattle.shape_changes.specs.Marking.{AreOthersPresent}
-use Rattle.shape_changes.specs.Safety.{HasLiveSlot, HasRoomLeft, IsRisen}
-use Rattle.shape_changes.specs.Steady.{IsSafeOver, KeepsSafe, AreGoneTold, IsUncleanTold}
-use Rattle.views.specs.declared.work.Work.{Work}
+use Rattle.moving_kept.specs.shape_views_Regions.{DoWithout}
+use Rattle.moving_kept.specs.shape_views_Views.{Ledger}
+use Rattle.moving_kept.specs.shape_changes_Marking.{AreOthersPresent}
+use Rattle.moving_kept.specs.shape_changes_Safety.{HasLiveSlot, HasRoomLeft, IsRisen}
+use Rattle.moving_kept.specs.shape_changes_Steady.{IsSafeOver, KeepsSafe, AreGoneTold, IsUncleanTold}
+use Rattle.moving_kept.specs.views_the_Work.{Work}
 use Rattle.moving_kept.specs.safe_updates_Named.{AreNamedMissing}
-use Rattle.views.specs.Lacking.{AreLostSince, LacksTooMany, AreTooMany, RowsStandBelow, RowsStandAmong, DataStandsAmong, IsOfStripe, mended_rows}
-use Rattle.views.specs.Moving.{Grows, IsMoved}
-use Rattle.views.specs.Numbers.{is_carried}
-use Rattle.views.specs.Placed.{IsPlaced, is_vacant}
-use Rattle.views.specs.Rebuilding.{with_recovering, IsFilledAmong}
-use Rattle.views.specs.Status.{stripes_of, rebuilt_of}
-use Rattle.views.proofs.Fit.{list-alike}
-use Rattle.views.proofs.GivenMembers.{IsReceiver, state-here, placed-given}
-use Rattle.views.proofs.HeldRows.{missing-moved, vacant-missing}
-use Rattle.views.proofs.LackingLaws.{since-missing, never-both}
-use Rattle.views.proofs.LackingLists.{list-moved, among-moved}
-use Rattle.views.proofs.LiveLeft.{without-left}
-use Rattle.call_entries.specs.Losing.{losses_of}
-use Rattle.call_entries.proofs.CallLaws.{losses-are}
+use Rattle.moving_kept.specs.views_Lacking.{AreLostSince, LacksTooMany, AreTooMany, RowsStandBelow, RowsStandAmong, DataStandsAmong, IsOfStripe, mended_rows}
+use Rattle.moving_kept.specs.views_Moving.{Grows, IsMoved}
+use Rattle.moving_kept.specs.views_Numbers.{is_carried}
+use Rattle.moving_kept.specs.views_Placed.{IsPlaced, is_vacant}
+use Rattle.moving_kept.specs.views_Rebuilding.{with_recovering, IsFilledAmong}
+use Rattle.moving_kept.specs.views_Status.{stripes_of, rebuilt_of}
+use Rattle.moving_kept.proofs.views_Fit.{list-alike}
+use Rattle.moving_kept.proofs.views_GivenMembers.{IsReceiver, state-here, placed-given}
+use Rattle.moving_kept.proofs.views_HeldRows.{missing-moved, vacant-missing}
+use Rattle.moving_kept.proofs.views_LackingLaws.{since-missing, never-both}
+use Rattle.moving_kept.proofs.views_LackingLists.{list-moved, among-moved}
+use Rattle.moving_kept.proofs.views_LiveLeft.{without-left}
+use Rattle.moving_kept.specs.call_entries_Losing.{losses_of}
+use Rattle.moving_kept.proofs.call_entries_CallLaws.{losses-are}
 use Rattle.moving_kept.specs.array_kept_Calls.{with_rebuilt}
 use Rattle.moving_kept.proofs.array_kept_DegradedLaws.{count-moved, rebuilt-moved}
 use Rattle.moving_kept.proofs.array_kept_KeptLaws.{left-lost}
 use Rattle.calls_kept.proofs.RebuildFilled.{rebuilt-here, rebuilt-other, good-filled, list-filled, rebuilt-filled}
 use Rattle.calls_kept.proofs.RebuildGiven.{receiver-spare, few-given, free-then, missing-given, list-given, among-given, rebuilt-given, none-recovered}
 use Rattle.calls_kept.proofs.TouchedLaws.{full-filled}
-use Rattle.kept_history.specs.Recorded.{IsCallGoing}
-use Rattle.kept_history.specs.Safe.{world_in, IsFilledRight}
+use Rattle.moving_kept.specs.kept_history_Recorded.{IsCallGoing}
+use Rattle.moving_kept.specs.kept_history_Safe.{world_in, IsFilledRight}
 use Rattle.moving_kept.proofs.history_calls_Behind.{or-false, AreLostOrMissing, IsAmong, early-losses, legal-losses}
 use Rattle.still_kept.specs.Still.{AreAtRest, HasListStood, IsStill}
 use Rattle.still_kept.proofs.Quiet.{early-stands}

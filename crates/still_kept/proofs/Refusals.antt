@@ -22,14 +22,14 @@ use Rattle.flat_history.specs.Losses.{is_gone_after, is_resync_end, is_unsynced}
 use Rattle.flat_history.specs.Plain.{entries_of}
 use Rattle.flat_history.specs.World.{World}
 use Rattle.flat_history.proofs.GoneCounts.{few_missing}
-use Rattle.views.specs.Placed.{IsPlaced, IsInForce}
-use Rattle.views.specs.Lacking.{lacking, LacksTooMany, AreTooMany}
-use Rattle.views.specs.Moving.{Grows}
-use Rattle.views.proofs.Fit.{force-disks}
-use Rattle.call_entries.specs.Losing.{losses_of}
-use Rattle.call_entries.proofs.CallLaws.{losses-are, ends-losses}
-use Rattle.kept_history.specs.Safe.{world_in}
-use Rattle.kept_history.proofs.Ledgers.{unsynced-still}
+use Rattle.moving_kept.specs.views_Placed.{IsPlaced, IsInForce}
+use Rattle.moving_kept.specs.views_Lacking.{lacking, LacksTooMany, AreTooMany}
+use Rattle.moving_kept.specs.views_Moving.{Grows}
+use Rattle.moving_kept.proofs.views_Fit.{force-disks}
+use Rattle.moving_kept.specs.call_entries_Losing.{losses_of}
+use Rattle.moving_kept.proofs.call_entries_CallLaws.{losses-are, ends-losses}
+use Rattle.moving_kept.specs.kept_history_Safe.{world_in}
+use Rattle.moving_kept.proofs.kept_history_Ledgers.{unsynced-still}
 use Rattle.moving_kept.specs.history_calls_Reliable.{AreToldGone}
 use Rattle.moving_kept.proofs.history_calls_Quiet.{IsQuiet}
 use Rattle.still_kept.proofs.Leaving.{unsynced-later}

@@ -19,18 +19,18 @@ use Rattle.flat_history.specs.Legal.{told_left, level_at, level_after, IsLegalEv
 use Rattle.flat_history.specs.Plain.{entries_of}
 use Rattle.flat_history.specs.Sound.{OpensFit}
 use Rattle.flat_history.specs.World.{World, opening_list}
-use Rattle.views.specs.declared.work.Work.{Work}
-use Rattle.views.specs.Numbers.{is_carried}
-use Rattle.call_entries.proofs.CallLaws.{last_end-behind}
-use Rattle.kept_history.specs.Recorded.{IsHistoryKept, IsCallGoing, entry_of, gives_some}
-use Rattle.kept_history.proofs.Tests.{none-before}
+use Rattle.moving_kept.specs.views_the_Work.{Work}
+use Rattle.moving_kept.specs.views_Numbers.{is_carried}
+use Rattle.moving_kept.proofs.call_entries_CallLaws.{last_end-behind}
+use Rattle.moving_kept.specs.kept_history_Recorded.{IsHistoryKept, IsCallGoing, entry_of, gives_some}
+use Rattle.moving_kept.proofs.kept_history_Tests.{none-before}
 use Rattle.flat_history.specs.Losses.{loses}
-use Rattle.kept_history.specs.Safe.{world_in, is_taken_over, IsFilledRight, IsSafeHistory}
-use Rattle.kept_history.specs.Told.{told_now}
-use Rattle.kept_history.proofs.Entered.{adds_only, AreAdding, values-more, length-adding, settle-none}
-use Rattle.kept_history.proofs.Idle.{now-adding, idle-call}
-use Rattle.kept_history.proofs.KeptCalls.{kept-call}
-use Rattle.kept_history.proofs.Ledgers.{unsynced-still, none-ends}
+use Rattle.moving_kept.specs.kept_history_Safe.{world_in, is_taken_over, IsFilledRight, IsSafeHistory}
+use Rattle.moving_kept.specs.kept_history_Told.{told_now}
+use Rattle.moving_kept.proofs.kept_history_Entered.{adds_only, AreAdding, values-more, length-adding, settle-none}
+use Rattle.moving_kept.proofs.kept_history_Idle.{now-adding, idle-call}
+use Rattle.moving_kept.proofs.kept_history_KeptCalls.{kept-call}
+use Rattle.moving_kept.proofs.kept_history_Ledgers.{unsynced-still, none-ends}
 use Rattle.moving_kept.specs.history_calls_Reliable.{IsReliable, AreToldGone}
 use Rattle.moving_kept.proofs.history_calls_Quiet.{EndsRight}
 use Rattle.moving_kept.proofs.history_calls_Behind.{first-of, IsBehind, is-behind, and-true, or-false, early-none, telling-of}

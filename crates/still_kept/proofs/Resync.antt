@@ -29,31 +29,31 @@ use Rattle.flat_history.specs.Losses.{is_unsynced}
 use Rattle.flat_history.specs.Plain.{entries_of}
 use Rattle.flat_history.specs.Sound.{OpensFit}
 use Rattle.flat_history.specs.World.{World, opening_list}
-use Rattle.shape_views.specs.Regions.{DoWithout}
-use Rattle.shape_views.specs.Views.{Ledger, IsTailZero}
-use Rattle.shape_views.specs.Windows.{IsOfRegion}
-use Rattle.shape_changes.specs.Safety.{HasRoomLeft, IsRisen}
-use Rattle.shape_changes.specs.Steady.{IsMoreTold, IsSafeOver, KeepsSafe, AreGoneTold, IsUncleanTold, AreWritesAllowed}
-use Rattle.views.specs.declared.work.Work.{Work}
-use Rattle.views.specs.Lacking.{AreLostSince, DoesWithout, IsUnwritten, DataStandsAmong, AreOtherRowsKept, IsOfStripe, ListStands, mended_rows}
-use Rattle.views.specs.Moving.{Grows, IsMoved}
-use Rattle.views.specs.Numbers.{is_carried}
-use Rattle.views.specs.Rebuilding.{AreRebuilt}
-use Rattle.views.specs.Status.{stripes_of, rebuilt_of}
-use Rattle.views.proofs.Fit.{multiple, list-alike}
-use Rattle.views.proofs.LackingWrites.{recovering-before}
-use Rattle.views.proofs.LiveLeft.{without-left}
-use Rattle.views.proofs.Stripes.{stripes-whole}
-use Rattle.call_entries.specs.Losing.{losses_of}
-use Rattle.call_entries.proofs.CallLaws.{losses-are}
-use Rattle.call_entries.proofs.StepLaws.{left-stepped}
+use Rattle.moving_kept.specs.shape_views_Regions.{DoWithout}
+use Rattle.moving_kept.specs.shape_views_Views.{Ledger, IsTailZero}
+use Rattle.moving_kept.specs.shape_views_Windows.{IsOfRegion}
+use Rattle.moving_kept.specs.shape_changes_Safety.{HasRoomLeft, IsRisen}
+use Rattle.moving_kept.specs.shape_changes_Steady.{IsMoreTold, IsSafeOver, KeepsSafe, AreGoneTold, IsUncleanTold, AreWritesAllowed}
+use Rattle.moving_kept.specs.views_the_Work.{Work}
+use Rattle.moving_kept.specs.views_Lacking.{AreLostSince, DoesWithout, IsUnwritten, DataStandsAmong, AreOtherRowsKept, IsOfStripe, ListStands, mended_rows}
+use Rattle.moving_kept.specs.views_Moving.{Grows, IsMoved}
+use Rattle.moving_kept.specs.views_Numbers.{is_carried}
+use Rattle.moving_kept.specs.views_Rebuilding.{AreRebuilt}
+use Rattle.moving_kept.specs.views_Status.{stripes_of, rebuilt_of}
+use Rattle.moving_kept.proofs.views_Fit.{multiple, list-alike}
+use Rattle.moving_kept.proofs.views_LackingWrites.{recovering-before}
+use Rattle.moving_kept.proofs.views_LiveLeft.{without-left}
+use Rattle.moving_kept.proofs.views_Stripes.{stripes-whole}
+use Rattle.moving_kept.specs.call_entries_Losing.{losses_of}
+use Rattle.moving_kept.proofs.call_entries_CallLaws.{losses-are}
+use Rattle.moving_kept.proofs.call_entries_StepLaws.{left-stepped}
 use Rattle.moving_kept.proofs.array_kept_DegradedLaws.{rows-same}
 use Rattle.moving_kept.proofs.array_kept_KeptLaws.{left-lost}
 use Rattle.calls_kept.proofs.TouchedLaws.{safe-mend, rows-mended, list-mended, rows-stay, rebuilt-stays}
-use Rattle.kept_history.specs.Recorded.{IsCallGoing, entry_of}
-use Rattle.kept_history.specs.Safe.{world_in, IsFilledRight}
-use Rattle.kept_history.specs.Told.{told_now}
-use Rattle.kept_history.proofs.Lists.{newest-in}
+use Rattle.moving_kept.specs.kept_history_Recorded.{IsCallGoing, entry_of}
+use Rattle.moving_kept.specs.kept_history_Safe.{world_in, IsFilledRight}
+use Rattle.moving_kept.specs.kept_history_Told.{told_now}
+use Rattle.moving_kept.proofs.kept_history_Lists.{newest-in}
 use Rattle.moving_kept.proofs.history_calls_Behind.{IsAmong, early-losses, legal-losses}
 use Rattle.still_kept.specs.Still.{AreAtRest, HasListStood, IsStill}
 use Rattle.still_kept.proofs.Ends.{EndsPlans}

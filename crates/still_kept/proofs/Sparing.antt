@@ -24,34 +24,34 @@ use Rattle.flat_history.specs.Legal.{told_left, IsLegalEvent}
 use Rattle.flat_history.specs.Plain.{entries_of}
 use Rattle.flat_history.specs.Sound.{OpensFit}
 use Rattle.flat_history.specs.World.{opening_list}
-use Rattle.shape_views.specs.Regions.{DoWithout}
-use Rattle.shape_views.specs.Views.{Ledger}
-use Rattle.shape_changes.specs.Marking.{AreOthersPresent}
-use Rattle.shape_changes.specs.Safety.{HasLiveSlot, HasRoomLeft, IsRisen}
-use Rattle.shape_changes.specs.Steady.{AreViewsRight, IsMoreTold, IsSafeStretch, IsSafeOver, KeepsSafe, AreGoneTold, IsUncleanTold, with_number}
-use Rattle.shape_changes.proofs.Steady.{views-told}
-use Rattle.views.specs.declared.work.Work.{Work}
-use Rattle.views.specs.Flushing.{OnlyFlushesAdded}
-use Rattle.views.specs.Lacking.{AreLostSince, RowsStandBelow, mended_rows}
-use Rattle.views.specs.Moving.{Grows}
-use Rattle.views.specs.Numbers.{is_carried, IsOfScope}
-use Rattle.views.specs.Rebuilding.{with_spare}
-use Rattle.views.specs.Status.{stripes_of}
-use Rattle.views.proofs.AddedRows.{list-with, among-with, rebuilt-with}
-use Rattle.views.proofs.Flushed.{contents-added}
-use Rattle.views.proofs.HeldRows.{missing-before, vacant-missing}
-use Rattle.views.proofs.MarkedSafe.{added-longer, flushed-safe}
-use Rattle.views.proofs.MovedLaws.{grows-then}
-use Rattle.views.proofs.SafeStretch.{safe-then}
-use Rattle.call_entries.specs.Losing.{losses_of}
-use Rattle.call_entries.proofs.CallLaws.{losses-are}
+use Rattle.moving_kept.specs.shape_views_Regions.{DoWithout}
+use Rattle.moving_kept.specs.shape_views_Views.{Ledger}
+use Rattle.moving_kept.specs.shape_changes_Marking.{AreOthersPresent}
+use Rattle.moving_kept.specs.shape_changes_Safety.{HasLiveSlot, HasRoomLeft, IsRisen}
+use Rattle.moving_kept.specs.shape_changes_Steady.{AreViewsRight, IsMoreTold, IsSafeStretch, IsSafeOver, KeepsSafe, AreGoneTold, IsUncleanTold, with_number}
+use Rattle.moving_kept.proofs.shape_changes_Steady.{views-told}
+use Rattle.moving_kept.specs.views_the_Work.{Work}
+use Rattle.moving_kept.specs.views_Flushing.{OnlyFlushesAdded}
+use Rattle.moving_kept.specs.views_Lacking.{AreLostSince, RowsStandBelow, mended_rows}
+use Rattle.moving_kept.specs.views_Moving.{Grows}
+use Rattle.moving_kept.specs.views_Numbers.{is_carried, IsOfScope}
+use Rattle.moving_kept.specs.views_Rebuilding.{with_spare}
+use Rattle.moving_kept.specs.views_Status.{stripes_of}
+use Rattle.moving_kept.proofs.views_AddedRows.{list-with, among-with, rebuilt-with}
+use Rattle.moving_kept.proofs.views_Flushed.{contents-added}
+use Rattle.moving_kept.proofs.views_HeldRows.{missing-before, vacant-missing}
+use Rattle.moving_kept.proofs.views_MarkedSafe.{added-longer, flushed-safe}
+use Rattle.moving_kept.proofs.views_MovedLaws.{grows-then}
+use Rattle.moving_kept.proofs.views_SafeStretch.{safe-then}
+use Rattle.moving_kept.specs.call_entries_Losing.{losses_of}
+use Rattle.moving_kept.proofs.call_entries_CallLaws.{losses-are}
 use Rattle.moving_kept.proofs.array_kept_DegradedLaws.{count-moved}
 use Rattle.moving_kept.proofs.array_kept_KeptLaws.{left-lost}
 use Rattle.calls_kept.proofs.AddedKept.{with_carried, carries-number, AddsSafe}
 use Rattle.calls_kept.proofs.AddedLosses.{IsAddDone, with-placed, stays-added, does-added, left-added}
-use Rattle.kept_history.specs.Recorded.{IsCallGoing, entry_of}
-use Rattle.kept_history.specs.Safe.{world_in, IsFilledRight}
-use Rattle.kept_history.proofs.Seen.{now-more}
+use Rattle.moving_kept.specs.kept_history_Recorded.{IsCallGoing, entry_of}
+use Rattle.moving_kept.specs.kept_history_Safe.{world_in, IsFilledRight}
+use Rattle.moving_kept.proofs.kept_history_Seen.{now-more}
 use Rattle.moving_kept.proofs.history_calls_Behind.{AreLostOrMissing, IsAmong, early-losses, legal-losses}
 use Rattle.moving_kept.proofs.history_calls_Quiet.{IsQuiet, LeavesNumbers}
 use Rattle.still_kept.specs.Still.{AreAtRest, HasListStood, IsStill}

@@ -17,23 +17,23 @@ use Rattle.flat_history.specs.Legal.{level_at, IsLegalEvent}
 use Rattle.flat_history.specs.Plain.{entries_of}
 use Rattle.flat_history.specs.Sound.{OpensFit}
 use Rattle.flat_history.specs.World.{World, opening_list}
-use Rattle.shape_views.specs.Views.{Ledger}
-use Rattle.shape_changes.specs.Marking.{AreOthersPresent}
-use Rattle.shape_changes.specs.Safety.{HasLiveSlot, HasRoomLeft, IsRisen}
-use Rattle.shape_changes.specs.Steady.{IsSafeOver, KeepsSafe, AreGoneTold, IsUncleanTold}
-use Rattle.views.specs.declared.work.Work.{Work}
-use Rattle.views.specs.Lacking.{AreLostSince}
-use Rattle.views.specs.Moving.{Grows, IsMoved}
-use Rattle.views.specs.Status.{stripes_of}
-use Rattle.views.proofs.Fit.{count-alike}
-use Rattle.views.proofs.HeldRows.{without-before}
-use Rattle.views.proofs.LackingLaws.{since-missing}
-use Rattle.call_entries.specs.Losing.{losses_of}
-use Rattle.call_entries.proofs.CallLaws.{losses-are}
-use Rattle.call_entries.proofs.LeftLaws.{TellLeft}
+use Rattle.moving_kept.specs.shape_views_Views.{Ledger}
+use Rattle.moving_kept.specs.shape_changes_Marking.{AreOthersPresent}
+use Rattle.moving_kept.specs.shape_changes_Safety.{HasLiveSlot, HasRoomLeft, IsRisen}
+use Rattle.moving_kept.specs.shape_changes_Steady.{IsSafeOver, KeepsSafe, AreGoneTold, IsUncleanTold}
+use Rattle.moving_kept.specs.views_the_Work.{Work}
+use Rattle.moving_kept.specs.views_Lacking.{AreLostSince}
+use Rattle.moving_kept.specs.views_Moving.{Grows, IsMoved}
+use Rattle.moving_kept.specs.views_Status.{stripes_of}
+use Rattle.moving_kept.proofs.views_Fit.{count-alike}
+use Rattle.moving_kept.proofs.views_HeldRows.{without-before}
+use Rattle.moving_kept.proofs.views_LackingLaws.{since-missing}
+use Rattle.moving_kept.specs.call_entries_Losing.{losses_of}
+use Rattle.moving_kept.proofs.call_entries_CallLaws.{losses-are}
+use Rattle.moving_kept.proofs.call_entries_LeftLaws.{TellLeft}
 use Rattle.moving_kept.proofs.array_kept_KeptLaws.{left-lost}
-use Rattle.kept_history.specs.Recorded.{IsCallGoing, entry_of}
-use Rattle.kept_history.specs.Safe.{world_in}
+use Rattle.moving_kept.specs.kept_history_Recorded.{IsCallGoing, entry_of}
+use Rattle.moving_kept.specs.kept_history_Safe.{world_in}
 use Rattle.moving_kept.specs.history_calls_Reliable.{IsReliable, AreToldGone}
 use Rattle.moving_kept.proofs.history_calls_Behind.{AreLostOrMissing, IsAmong, early-losses, legal-losses}
 use Rattle.moving_kept.proofs.history_calls_Quiet.{IsQuiet}

@@ -14,18 +14,18 @@ use Rattle.superblocks.specs.declared.members.Members.{Members}
 use Rattle.superblocks.specs.Reading.{Scope, shape_of, list_length, role_count}
 use Rattle.row_io.specs.Rows.{reading_of}
 use Rattle.list_io.specs.Full.{RowStands}
-use Rattle.shape_views.specs.Regions.{ArePlaced}
-use Rattle.shape_views.specs.Windows.{ListStands as ListIsShown, RowsStand as RowsAreShown}
-use Rattle.shape_views.proofs.Stands.{for-still, list-still, still-stands}
-use Rattle.shape_changes.specs.Marking.{AreOthersPresent}
-use Rattle.views.specs.declared.work.Work.{Work}
-use Rattle.views.specs.Lacking.{ListStands, RowsStand, RowsStandAmong, RowsStandBelow, mended_rows}
-use Rattle.views.specs.Moving.{IsMoved}
-use Rattle.views.specs.Placed.{IsPlaced}
-use Rattle.views.proofs.Fit.{valid, multiple, list-alike, force-disks}
-use Rattle.views.proofs.LackingLists.{list-moved, among-moved}
-use Rattle.views.proofs.Still.{placed-two, backup-still}
-use Rattle.views.proofs.Stripes.{stripes-multiple}
+use Rattle.moving_kept.specs.shape_views_Regions.{ArePlaced}
+use Rattle.moving_kept.specs.shape_views_Windows.{ListStands as ListIsShown, RowsStand as RowsAreShown}
+use Rattle.moving_kept.proofs.shape_views_Stands.{for-still, list-still, still-stands}
+use Rattle.moving_kept.specs.shape_changes_Marking.{AreOthersPresent}
+use Rattle.moving_kept.specs.views_the_Work.{Work}
+use Rattle.moving_kept.specs.views_Lacking.{ListStands, RowsStand, RowsStandAmong, RowsStandBelow, mended_rows}
+use Rattle.moving_kept.specs.views_Moving.{IsMoved}
+use Rattle.moving_kept.specs.views_Placed.{IsPlaced}
+use Rattle.moving_kept.proofs.views_Fit.{valid, multiple, list-alike, force-disks}
+use Rattle.moving_kept.proofs.views_LackingLists.{list-moved, among-moved}
+use Rattle.moving_kept.proofs.views_Still.{placed-two, backup-still}
+use Rattle.moving_kept.proofs.views_Stripes.{stripes-multiple}
 use Rattle.moving_kept.proofs.array_kept_DegradedLaws.{rebuilt-moved}
 use Rattle.moving_kept.specs.region_rows_Stretches.{RowsStandTo}
 use Rattle.still_kept.specs.Still.{AreAtRest, HasListStood, relied_list}

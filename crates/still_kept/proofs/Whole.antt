@@ -9,11 +9,11 @@ use Rattle.flat_history.specs.declared.events.Event.{Event}
 use Rattle.flat_history.specs.Losses.{is_gone_after, loses}
 use Rattle.flat_history.specs.Plain.{entries_of}
 use Rattle.flat_history.specs.World.{World}
-use Rattle.views.specs.Placed.{AreWhole}
-use Rattle.call_entries.proofs.LosingLaws.{entries-both}
-use Rattle.kept_history.specs.Safe.{TakesNone}
-use Rattle.kept_history.proofs.Ledgers.{gone-any}
-use Rattle.kept_history.proofs.Tests.{none-before}
+use Rattle.moving_kept.specs.views_Placed.{AreWhole}
+use Rattle.moving_kept.proofs.call_entries_LosingLaws.{entries-both}
+use Rattle.moving_kept.specs.kept_history_Safe.{TakesNone}
+use Rattle.moving_kept.proofs.kept_history_Ledgers.{gone-any}
+use Rattle.moving_kept.proofs.kept_history_Tests.{none-before}
 use Rattle.moving_kept.specs.history_calls_Reliable.{AreToldGone}
 
 -- what is gone was taken

@@ -28,34 +28,34 @@ use Rattle.flat_history.specs.Plain.{entries_of}
 use Rattle.flat_history.specs.Sound.{OpensFit}
 use Rattle.flat_history.specs.Transfers.{IsTooMany}
 use Rattle.flat_history.specs.World.{World, opening_list}
-use Rattle.shape_views.specs.Regions.{DoWithout}
-use Rattle.shape_views.specs.Views.{Ledger}
-use Rattle.shape_changes.specs.Marking.{AreOthersPresent}
-use Rattle.shape_changes.specs.Safety.{HasRoomLeft, IsRisen}
-use Rattle.shape_changes.specs.Steady.{IsSafeOver, KeepsSafe, AreGoneTold, AreWritesAllowed}
-use Rattle.views.specs.declared.work.Work.{Work}
-use Rattle.views.specs.Lacking.{AreLostSince, AreTooMany, AreBytes, ListStands, RowsStandBelow, mended_rows}
-use Rattle.views.specs.Moving.{Grows, IsMoved}
-use Rattle.views.specs.Placed.{AreWhole}
-use Rattle.views.specs.Status.{rebuilt_of}
-use Rattle.views.proofs.Fit.{list-alike}
-use Rattle.views.proofs.HeldRows.{without-before}
-use Rattle.views.proofs.LackingLaws.{never-both}
-use Rattle.views.proofs.LackingLists.{sectors-whole, row-sector}
-use Rattle.views.proofs.LackingWrites.{list-with, list-with-is, recovering-before}
-use Rattle.views.proofs.LiveLeft.{without-left}
-use Rattle.call_entries.specs.Losing.{losses_of}
-use Rattle.call_entries.proofs.CallLaws.{losses-are, values-losses, ends-losses}
-use Rattle.call_entries.proofs.LosingLaws.{entries-both}
+use Rattle.moving_kept.specs.shape_views_Regions.{DoWithout}
+use Rattle.moving_kept.specs.shape_views_Views.{Ledger}
+use Rattle.moving_kept.specs.shape_changes_Marking.{AreOthersPresent}
+use Rattle.moving_kept.specs.shape_changes_Safety.{HasRoomLeft, IsRisen}
+use Rattle.moving_kept.specs.shape_changes_Steady.{IsSafeOver, KeepsSafe, AreGoneTold, AreWritesAllowed}
+use Rattle.moving_kept.specs.views_the_Work.{Work}
+use Rattle.moving_kept.specs.views_Lacking.{AreLostSince, AreTooMany, AreBytes, ListStands, RowsStandBelow, mended_rows}
+use Rattle.moving_kept.specs.views_Moving.{Grows, IsMoved}
+use Rattle.moving_kept.specs.views_Placed.{AreWhole}
+use Rattle.moving_kept.specs.views_Status.{rebuilt_of}
+use Rattle.moving_kept.proofs.views_Fit.{list-alike}
+use Rattle.moving_kept.proofs.views_HeldRows.{without-before}
+use Rattle.moving_kept.proofs.views_LackingLaws.{never-both}
+use Rattle.moving_kept.proofs.views_LackingLists.{sectors-whole, row-sector}
+use Rattle.moving_kept.proofs.views_LackingWrites.{list-with, list-with-is, recovering-before}
+use Rattle.moving_kept.proofs.views_LiveLeft.{without-left}
+use Rattle.moving_kept.specs.call_entries_Losing.{losses_of}
+use Rattle.moving_kept.proofs.call_entries_CallLaws.{losses-are, values-losses, ends-losses}
+use Rattle.moving_kept.proofs.call_entries_LosingLaws.{entries-both}
 use Rattle.moving_kept.proofs.array_kept_DegradedLaws.{written-whole, rows-same}
 use Rattle.moving_kept.proofs.array_kept_KeptLaws.{left-lost}
 use Rattle.moving_kept.proofs.array_kept_LedgerLaws.{torn-adds, written-allowed, torn-in}
 use Rattle.moving_kept.proofs.array_kept_NowLaws.{wrote-is}
-use Rattle.kept_history.specs.Recorded.{IsCallGoing, IsLegalCall, entry_of, ends_reshape, gives_some}
-use Rattle.kept_history.specs.Safe.{world_in, IsFilledRight}
-use Rattle.kept_history.proofs.Entered.{AreAdding, values-more, length-adding}
-use Rattle.kept_history.proofs.Ledgers.{unsynced-still}
-use Rattle.kept_history.proofs.Lists.{newest-in}
+use Rattle.moving_kept.specs.kept_history_Recorded.{IsCallGoing, IsLegalCall, entry_of, ends_reshape, gives_some}
+use Rattle.moving_kept.specs.kept_history_Safe.{world_in, IsFilledRight}
+use Rattle.moving_kept.proofs.kept_history_Entered.{AreAdding, values-more, length-adding}
+use Rattle.moving_kept.proofs.kept_history_Ledgers.{unsynced-still}
+use Rattle.moving_kept.proofs.kept_history_Lists.{newest-in}
 use Rattle.moving_kept.specs.history_calls_Reliable.{IsReliable, AreToldGone}
 use Rattle.moving_kept.proofs.history_calls_LastStep.{AreWithin, losses-within}
 use Rattle.moving_kept.proofs.history_calls_Behind.{AreFirst, IsAmong, first-of, early-losses, legal-losses, inner-of}

@@ -1,9 +1,5 @@
 pub mod Still
-pub use Rattle.moving_kept.specs.Moving as moving_kept_Moving
 pub use Rattle.moving_kept.specs.course_kept_Laws
-pub use Rattle.moving_kept.specs.course_kept_the_Course
-pub use Rattle.moving_kept.specs.region_mends_Mends
-pub use Rattle.moving_kept.specs.window_steps_Zeroing
 pub use Rattle.moving_kept.specs.array_kept_Adopting
 pub use Rattle.moving_kept.specs.array_kept_Calls
 pub use Rattle.moving_kept.specs.array_kept_Kept
@@ -15,3 +11,25 @@ pub use Rattle.moving_kept.specs.reshape_updates_Ending
 pub use Rattle.moving_kept.specs.safe_updates_First
 pub use Rattle.moving_kept.specs.safe_updates_Named
 pub use Rattle.moving_kept.specs.safe_updates_Unused
+pub use Rattle.moving_kept.specs.call_entries_Losing
+pub use Rattle.moving_kept.specs.shape_ends_Ends
+pub use Rattle.moving_kept.specs.shape_ends_Takeovers
+pub use Rattle.moving_kept.specs.views_Moving
+pub use Rattle.moving_kept.specs.views_Placed
+pub use Rattle.moving_kept.specs.views_the_Work
+pub use Rattle.moving_kept.specs.views_Numbers
+pub use Rattle.moving_kept.specs.views_Rebuilding
+pub use Rattle.moving_kept.specs.views_Status
+pub use Rattle.moving_kept.specs.kept_history_Recorded
+pub use Rattle.moving_kept.specs.kept_history_Safe
+pub use Rattle.moving_kept.specs.kept_history_Told
+pub use Rattle.moving_kept.specs.shape_changes_Marking
+pub use Rattle.moving_kept.specs.shape_changes_Steady
+pub use Rattle.moving_kept.specs.shape_changes_Changing
+pub use Rattle.moving_kept.specs.shape_changes_Safety
+pub use Rattle.moving_kept.specs.shape_views_Regions
+pub use Rattle.moving_kept.specs.shape_views_Windows
+pub use Rattle.moving_kept.specs.shape_views_Views
+pub use Rattle.moving_kept.specs.views_Lacking
+pub use Rattle.moving_kept.specs.views_Flushing
+pub use Rattle.moving_kept.specs.views_Whole

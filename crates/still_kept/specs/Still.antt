@@ -16,19 +16,19 @@ use Rattle.flat_history.specs.Losses.{is_unsynced}
 use Rattle.flat_history.specs.OneShape.{is_unsettled}
 use Rattle.flat_history.specs.Sound.{OpensFit}
 use Rattle.flat_history.specs.World.{opening_list}
-use Rattle.shape_views.specs.Regions.{DoWithout}
-use Rattle.shape_changes.specs.Safety.{HasLiveSlot}
-use Rattle.shape_changes.specs.Steady.{AreUnlost}
-use Rattle.views.specs.declared.work.Work.{Work}
-use Rattle.views.specs.Lacking.{ListStands, RowsStandBelow, mended_rows}
-use Rattle.views.specs.Numbers.{is_carried}
-use Rattle.views.specs.Placed.{IsPlaced}
-use Rattle.views.specs.Rebuilding.{AreSparesFree, AreRebuilt}
-use Rattle.views.specs.Status.{stripes_of}
+use Rattle.moving_kept.specs.shape_views_Regions.{DoWithout}
+use Rattle.moving_kept.specs.shape_changes_Safety.{HasLiveSlot}
+use Rattle.moving_kept.specs.shape_changes_Steady.{AreUnlost}
+use Rattle.moving_kept.specs.views_the_Work.{Work}
+use Rattle.moving_kept.specs.views_Lacking.{ListStands, RowsStandBelow, mended_rows}
+use Rattle.moving_kept.specs.views_Numbers.{is_carried}
+use Rattle.moving_kept.specs.views_Placed.{IsPlaced}
+use Rattle.moving_kept.specs.views_Rebuilding.{AreSparesFree, AreRebuilt}
+use Rattle.moving_kept.specs.views_Status.{stripes_of}
 use Rattle.moving_kept.specs.safe_updates_Named.{AreNamedMissing}
 use Rattle.moving_kept.specs.array_kept_Kept.{AreSectorsWhole}
-use Rattle.kept_history.specs.Recorded.{IsHistoryKept}
-use Rattle.kept_history.specs.Safe.{world_in, TakesNone, KeepsLevel, IsFilledRight, IsSafeHistory}
+use Rattle.moving_kept.specs.kept_history_Recorded.{IsHistoryKept}
+use Rattle.moving_kept.specs.kept_history_Safe.{world_in, TakesNone, KeepsLevel, IsFilledRight, IsSafeHistory}
 use Rattle.moving_kept.specs.history_calls_Reliable.{IsReliable, AreToldGone, IsNonePast}
 
 -- The members of an array without an active reshape: each has its place, no slot that holds a role was lost, and each spare is free.

@@ -1,4 +1,8 @@
 //! What an array keeps from call to call that has no active reshape, whatever its history: definitions, and laws of its record.
 #![tactic(auto)]
 
-pub use moving_kept::{reshape_ends, safe_rows, safe_updates};
+pub use moving_kept::{
+    Filled, fetch, fill, flush_and_record, give_role, has_unnamed, is_vacant, mend, mended_rows,
+    name_missing, newly_vacant, put, recovering_slot, settle, shape_in, too_many, unread,
+    unwritten, vacant_roles,
+};

@@ -22,23 +22,23 @@ use Rattle.flat_history.specs.Epochs.{HasRoomForEvents, OpensAlike}
 use Rattle.flat_history.specs.Flat.{next_number}
 use Rattle.flat_history.specs.Plain.{entries_of}
 use Rattle.flat_history.specs.Sound.{OpensFit}
-use Rattle.shape_changes.specs.Safety.{HasLiveSlot}
-use Rattle.views.specs.declared.work.Work.{Work}
-use Rattle.views.specs.Flushing.{OnlyFlushesAdded}
-use Rattle.views.specs.Lacking.{AreLostSince}
-use Rattle.views.specs.Numbers.{is_carried, IsOfScope}
-use Rattle.views.proofs.Flushed.{contents-added}
-use Rattle.views.proofs.MarkedSafe.{added-longer, flushed-safe}
-use Rattle.views.proofs.MovedLaws.{moved-same}
-use Rattle.call_entries.specs.Losing.{losses_of}
-use Rattle.call_entries.proofs.LosingLaws.{no-losses}
+use Rattle.still_kept.specs.shape_changes_Safety.{HasLiveSlot}
+use Rattle.still_kept.specs.views_the_Work.{Work}
+use Rattle.still_kept.specs.views_Flushing.{OnlyFlushesAdded}
+use Rattle.still_kept.specs.views_Lacking.{AreLostSince}
+use Rattle.still_kept.specs.views_Numbers.{is_carried, IsOfScope}
+use Rattle.still_kept.proofs.views_Flushed.{contents-added}
+use Rattle.still_kept.proofs.views_MarkedSafe.{added-longer, flushed-safe}
+use Rattle.still_kept.proofs.views_MovedLaws.{moved-same}
+use Rattle.still_kept.specs.call_entries_Losing.{losses_of}
+use Rattle.still_kept.proofs.call_entries_LosingLaws.{no-losses}
 use Rattle.still_kept.specs.array_kept_Kept.{scope_in}
 use Rattle.still_kept.specs.array_kept_Calls.{IsUnaddable}
 use Rattle.still_kept.proofs.calls_kept_AddedKept.{with_carried, AddsSafe}
 use Rattle.still_kept.proofs.calls_kept_AddedLosses.{IsAddDone, left-carried, left-refused}
 use Rattle.grow_asked.specs.declared.window.PhasesLeft.{PhasesLeft}
-use Rattle.kept_history.specs.Safe.{world_in, IsFilledRight, IsSafeHistory}
-use Rattle.kept_history.proofs.Records.{begins-going}
+use Rattle.still_kept.specs.kept_history_Safe.{world_in, IsFilledRight, IsSafeHistory}
+use Rattle.still_kept.proofs.kept_history_Records.{begins-going}
 use Rattle.still_kept.specs.Still.{IsStill}
 use Rattle.still_kept.proofs.Refusals.{IsRefusedStill}
 use Rattle.still_kept.proofs.Sparing.{added-stands, lost-stands}

@@ -13,10 +13,10 @@ use Rattle.flat_history.specs.declared.events.Event.TheVariants.{Lost}
 use Rattle.flat_history.specs.declared.events.LostCause.TheVariants.{Absent, Recovering}
 use Rattle.flat_history.specs.Flat.{length_of}
 use Rattle.flat_history.specs.Plain.{entries_of}
-use Rattle.views.specs.declared.work.Work.{Work}
-use Rattle.views.specs.Status.{left_of}
-use Rattle.views.proofs.Still.{length-still}
-use Rattle.call_entries.proofs.PlainLaws.{one}
+use Rattle.still_kept.specs.views_the_Work.{Work}
+use Rattle.still_kept.specs.views_Status.{left_of}
+use Rattle.still_kept.proofs.views_Still.{length-still}
+use Rattle.still_kept.proofs.call_entries_PlainLaws.{one}
 use Rattle.still_kept.specs.array_kept_Adopting.{opener, found_losses}
 use Rattle.still_kept.specs.array_kept_Kept as kept
 use Rattle.still_kept.proofs.array_kept_ReadyLaws.{kept-legal}

@@ -15,15 +15,15 @@ use Rattle.flat_history.specs.declared.events.Event.TheVariants.{Refused, Steppe
 use Rattle.flat_history.specs.Legal.{IsRefusedRight}
 use Rattle.flat_history.specs.Plain.{entries_of}
 use Rattle.flat_history.specs.World.{World}
-use Rattle.views.specs.declared.work.Work.{Work}
-use Rattle.views.specs.Status.{left_of}
+use Rattle.still_kept.specs.views_the_Work.{Work}
+use Rattle.still_kept.specs.views_Status.{left_of}
 use Rattle.grow_asked.specs.Left.{phases_of}
-use Rattle.views.proofs.LackingLaws.{never-both}
-use Rattle.call_entries.proofs.LeftLaws.{left-more, keeps-left}
+use Rattle.still_kept.proofs.views_LackingLaws.{never-both}
+use Rattle.still_kept.proofs.call_entries_LeftLaws.{left-more, keeps-left}
 use Rattle.still_kept.specs.array_kept_Calls.{IsLossBy}
 use Rattle.grow_asked.specs.declared.window.PhasesLeft.{PhasesLeft}
-use Rattle.kept_history.specs.Recorded.{IsCallGoing, entry_of}
-use Rattle.kept_history.specs.Safe.{world_in}
+use Rattle.still_kept.specs.kept_history_Recorded.{IsCallGoing, entry_of}
+use Rattle.still_kept.specs.kept_history_Safe.{world_in}
 use Rattle.still_kept.specs.history_calls_Reliable.{IsReliable}
 use Rattle.still_kept.specs.Still.{IsStill}
 use Rattle.still_kept.proofs.Ends.{EndsPlans}

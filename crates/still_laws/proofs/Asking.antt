@@ -16,13 +16,13 @@ use Rattle.flat_history.specs.Legal.{IsRefusedRight}
 use Rattle.flat_history.specs.Plain.{entries_of}
 use Rattle.flat_history.proofs.SoundLaws.{stays-throughout}
 use Rattle.history_laws.proofs.NumberLaws.{safe-throughout}
-use Rattle.views.specs.declared.work.Work.{Work}
-use Rattle.views.specs.Lacking.{AreTooMany}
-use Rattle.call_entries.proofs.LeftLaws.{left-more, keeps-left}
+use Rattle.still_kept.specs.views_the_Work.{Work}
+use Rattle.still_kept.specs.views_Lacking.{AreTooMany}
+use Rattle.still_kept.proofs.call_entries_LeftLaws.{left-more, keeps-left}
 use Rattle.still_kept.specs.array_kept_Kept.{scope_in}
-use Rattle.kept_history.specs.Recorded.{entry_of}
-use Rattle.kept_history.specs.Safe.{world_in}
-use Rattle.kept_history.proofs.Records.{begins-going}
+use Rattle.still_kept.specs.kept_history_Recorded.{entry_of}
+use Rattle.still_kept.specs.kept_history_Safe.{world_in}
+use Rattle.still_kept.proofs.kept_history_Records.{begins-going}
 use Rattle.still_kept.specs.history_calls_Reliable.{IsReliable}
 use Rattle.still_kept.specs.Still.{IsStill}
 use Rattle.still_kept.proofs.Refusals.{too-many-refused, refused-right}

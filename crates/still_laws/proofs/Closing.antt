@@ -14,12 +14,12 @@ use Rattle.flat_history.specs.declared.events.Entry.{Entry}
 use Rattle.flat_history.specs.declared.events.Event.{Event}
 use Rattle.flat_history.specs.Reshaped.{open_plans, planned_shape}
 use Rattle.flat_history.specs.World.{World}
-use Rattle.shape_views.specs.Regions.{DoWithout}
-use Rattle.views.specs.declared.work.Work.{Work}
-use Rattle.views.specs.Status.{stripes_of, vacant_count, spare_count, resync_left, recovery_left}
+use Rattle.still_kept.specs.shape_views_Regions.{DoWithout}
+use Rattle.still_kept.specs.views_the_Work.{Work}
+use Rattle.still_kept.specs.views_Status.{stripes_of, vacant_count, spare_count, resync_left, recovery_left}
 use Rattle.grow_asked.specs.declared.window.PhasesLeft.{PhasesLeft}
 use Rattle.grow_asked.specs.Left.{phases_of}
-use Rattle.kept_history.specs.Recorded.{ends_reshape}
+use Rattle.still_kept.specs.kept_history_Recorded.{ends_reshape}
 use Rattle.still_kept.specs.history_calls_Reliable.{IsReliable}
 use Rattle.still_kept.proofs.history_calls_Plans.{ArePlannedTo}
 use Rattle.still_kept.specs.Still.{IsNamedOrClean}

@@ -12,12 +12,12 @@ use Rattle.flat_history.specs.declared.events.Event.TheVariants.{Resized}
 use Rattle.flat_history.specs.Flat.{next_number, number_after}
 use Rattle.flat_history.specs.OneShape.{IsOfCall, GoesOnBehind}
 use Rattle.flat_history.specs.Plain.{entries_of}
-use Rattle.call_entries.specs.Losing.{losses_of}
-use Rattle.call_entries.proofs.CallLaws.{losses-are}
-use Rattle.call_entries.proofs.PlainLaws.{one}
-use Rattle.call_entries.proofs.StepLaws.{GoOnBehind, losses-go_on}
-use Rattle.kept_history.specs.Recorded.{IsCallGoing, MayGoOn}
-use Rattle.kept_history.proofs.Records.{going-more}
+use Rattle.still_kept.specs.call_entries_Losing.{losses_of}
+use Rattle.still_kept.proofs.call_entries_CallLaws.{losses-are}
+use Rattle.still_kept.proofs.call_entries_PlainLaws.{one}
+use Rattle.still_kept.proofs.call_entries_StepLaws.{GoOnBehind, losses-go_on}
+use Rattle.still_kept.specs.kept_history_Recorded.{IsCallGoing, MayGoOn}
+use Rattle.still_kept.proofs.kept_history_Records.{going-more}
 
 -- behind entries of one call the caller's next number is one more than the call's
 own-next : (who : Who) (start : ℕ) (x : Entry) (call : List Entry) → All (λ e. IsOfCall who e × MayGoOn e.event) (x ∷ call)

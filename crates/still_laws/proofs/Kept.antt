@@ -11,18 +11,18 @@ use Rattle.superblocks.specs.declared.members.Members.{Members}
 use Rattle.superblocks.specs.Reading.{Scope, shape_of, list_length}
 use Rattle.flat_history.specs.declared.events.Entry.{Entry}
 use Rattle.flat_history.specs.Flat.{length_of}
-use Rattle.views.specs.declared.work.Work.{Work}
-use Rattle.views.specs.Moving.{IsMoved}
-use Rattle.views.proofs.Fit.{list-alike}
+use Rattle.still_kept.specs.views_the_Work.{Work}
+use Rattle.still_kept.specs.views_Moving.{IsMoved}
+use Rattle.still_kept.proofs.views_Fit.{list-alike}
 use Rattle.still_kept.proofs.array_kept_NowLaws.{length-more}
 use Rattle.grow_asked.specs.declared.window.PhasesLeft.{PhasesLeft}
 use Rattle.grow_asked.specs.Left.{phases_of}
-use Rattle.kept_history.proofs.Tests.{none-before}
+use Rattle.still_kept.proofs.kept_history_Tests.{none-before}
 use Rattle.still_kept.specs.Still.{IsStill}
 use Rattle.running_words.specs.Parts.{still_left}
 use Rattle.running_words.specs.Plans.{turns_shape}
 use Rattle.running_words.proofs.Lengths.{IsLengthKept}
-use Rattle.running_words.proofs.Visible.{limit-kept}
+use Rattle.running_words.proofs.VisibleLaws.{limit-kept}
 use Rattle.still_laws.specs.Plain.{MayTellPlainly, AreToldPlainly}
 use Rattle.still_laws.specs.Ready.{IsReady}
 use Rattle.still_laws.proofs.Plain.{IsLeftPlain, turns-first}

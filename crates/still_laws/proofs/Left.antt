@@ -12,12 +12,12 @@ use Rattle.superblocks.specs.declared.members.Members.{Members}
 use Rattle.superblocks.specs.Reading.{shape_of, role_state}
 use Rattle.row_io.specs.Rows.{reading_of}
 use Rattle.row_io.proofs.Tables.{count_below-le}
-use Rattle.views.specs.declared.work.Work.{Work}
-use Rattle.views.specs.Lacking.{AreLostSince}
-use Rattle.views.specs.Moving.{IsMoved}
-use Rattle.views.specs.Placed.{is_vacant}
-use Rattle.views.specs.Status.{stripes_of, rebuilt_of, vacant_count, spare_count, resync_left, role_left, recovery_left, left_of}
-use Rattle.call_entries.specs.Losing.{losses_of}
+use Rattle.still_kept.specs.views_the_Work.{Work}
+use Rattle.still_kept.specs.views_Lacking.{AreLostSince}
+use Rattle.still_kept.specs.views_Moving.{IsMoved}
+use Rattle.still_kept.specs.views_Placed.{is_vacant}
+use Rattle.still_kept.specs.views_Status.{stripes_of, rebuilt_of, vacant_count, spare_count, resync_left, role_left, recovery_left, left_of}
+use Rattle.still_kept.specs.call_entries_Losing.{losses_of}
 use Rattle.still_kept.proofs.array_kept_StepsLeft.{left-moved}
 use Rattle.grow_asked.specs.declared.window.PhasesLeft.{PhasesLeft}
 use Rattle.grow_asked.specs.Left.{phases_of}

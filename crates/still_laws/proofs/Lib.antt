@@ -22,13 +22,11 @@ pub use Rattle.running_words.proofs.Called as running_words_Called
 pub use Rattle.running_words.proofs.Lengths as running_words_Lengths
 pub use Rattle.running_words.proofs.Replies as running_words_Replies
 pub use Rattle.running_words.proofs.TakenOut as running_words_TakenOut
-pub use Rattle.running_words.proofs.Visible as running_words_Visible
-pub use Rattle.still_kept.proofs.Bridges as still_kept_Bridges
+pub use Rattle.running_words.proofs.VisibleLaws as running_words_VisibleLaws
 pub use Rattle.still_kept.proofs.Ending as still_kept_Ending
 pub use Rattle.still_kept.proofs.Failing as still_kept_Failing
 pub use Rattle.still_kept.proofs.Flushing as still_kept_Flushing
 pub use Rattle.still_kept.proofs.Leaving as still_kept_Leaving
-pub use Rattle.still_kept.proofs.Quiet as still_kept_Quiet
 pub use Rattle.still_kept.proofs.Reading as still_kept_Reading
 pub use Rattle.still_kept.proofs.Rebuilding as still_kept_Rebuilding
 pub use Rattle.still_kept.proofs.Refusals as still_kept_Refusals
@@ -36,16 +34,7 @@ pub use Rattle.still_kept.proofs.Resting as still_kept_Resting
 pub use Rattle.still_kept.proofs.Resync as still_kept_Resync
 pub use Rattle.still_kept.proofs.Staying as still_kept_Staying
 pub use Rattle.still_kept.proofs.Stood as still_kept_Stood
-pub use Rattle.still_kept.proofs.Whole as still_kept_Whole
 pub use Rattle.still_kept.proofs.Writing as still_kept_Writing
-pub use Rattle.still_kept.proofs.course_mends_Mended
-pub use Rattle.still_kept.proofs.moving_kept_BegunCall
-pub use Rattle.still_kept.proofs.moving_kept_BegunMembers
-pub use Rattle.still_kept.proofs.moving_kept_Refusals
-pub use Rattle.still_kept.proofs.moving_kept_Resting
-pub use Rattle.still_kept.proofs.moving_kept_Shortened
-pub use Rattle.still_kept.proofs.moving_kept_Staying
-pub use Rattle.still_kept.proofs.moving_kept_Steps
 pub use Rattle.still_kept.proofs.array_kept_DegradedLaws
 pub use Rattle.still_kept.proofs.array_kept_KeptLaws
 pub use Rattle.still_kept.proofs.array_kept_LossLaws
@@ -65,3 +54,8 @@ pub use Rattle.still_kept.proofs.calls_kept_RebuildGiven
 pub use Rattle.still_kept.proofs.calls_kept_RebuildLaws
 pub use Rattle.still_kept.proofs.history_calls_Behind
 pub use Rattle.still_kept.proofs.history_calls_Plans
+pub use Rattle.still_kept.proofs.kept_history_Records
+pub use Rattle.still_kept.proofs.shape_changes_Risen
+pub use Rattle.still_kept.proofs.shape_views_Stands
+pub use Rattle.still_kept.proofs.shape_changes_PlannedRoles
+pub use Rattle.still_kept.proofs.shape_changes_Kept

@@ -22,21 +22,21 @@ use Rattle.flat_history.specs.Legal.{visible_at, IsRefusedRight}
 use Rattle.flat_history.specs.OneShape.{opening_in, IsOneShapeRefusal}
 use Rattle.flat_history.specs.Plain.{entries_of}
 use Rattle.flat_history.specs.World.{World, until, opening_list}
-use Rattle.views.specs.declared.work.Work.{Work}
-use Rattle.views.specs.Moving.{Grows}
-use Rattle.call_entries.proofs.LeftLaws.{left-more}
+use Rattle.still_kept.specs.views_the_Work.{Work}
+use Rattle.still_kept.specs.views_Moving.{Grows}
+use Rattle.still_kept.proofs.call_entries_LeftLaws.{left-more}
 use Rattle.still_kept.proofs.array_kept_NowLaws.{length-more}
 use Rattle.still_kept.proofs.array_kept_ReplyLaws.{none_before}
 use Rattle.grow_asked.specs.declared.window.PhasesLeft.{PhasesLeft}
-use Rattle.kept_history.specs.Recorded.{IsCallGoing, entry_of}
-use Rattle.kept_history.specs.Safe.{world_in}
-use Rattle.kept_history.proofs.Records.{begins-going, until-all}
+use Rattle.still_kept.specs.kept_history_Recorded.{IsCallGoing, entry_of}
+use Rattle.still_kept.specs.kept_history_Safe.{world_in}
+use Rattle.still_kept.proofs.kept_history_Records.{begins-going, until-all}
 use Rattle.still_kept.specs.Still.{IsStill}
 use Rattle.still_kept.proofs.Resting.{resting-stands}
 use Rattle.running_words.specs.Parts.{visible_size}
 use Rattle.running_words.specs.Visible.{visible_refusal}
 use Rattle.running_words.proofs.Called.{not_254}
-use Rattle.running_words.proofs.Visible.{visible-is, limit-behind}
+use Rattle.running_words.proofs.VisibleLaws.{visible-is, limit-behind}
 use Rattle.still_laws.specs.Plain.{MayTellPlainly}
 use Rattle.still_laws.specs.Ready.{IsReady}
 use Rattle.still_laws.proofs.Asking.{refused-alone}

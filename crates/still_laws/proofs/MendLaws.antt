@@ -15,18 +15,18 @@ use Rattle.flat_history.specs.declared.events.Entry.{Entry}
 use Rattle.flat_history.specs.declared.events.Event.TheVariants.{Step, Refused}
 use Rattle.flat_history.specs.declared.events.StepKind.TheVariants.{ResyncStripe, ResyncEnded}
 use Rattle.flat_history.specs.Plain.{entries_of}
-use Rattle.shape_views.specs.Regions.{DoWithout}
-use Rattle.views.specs.declared.work.Work.{Work}
-use Rattle.views.specs.Lacking.{AreTooMany, IsUnwritten, IsOfStripe, DataStandsAmong}
-use Rattle.views.specs.Status.{stripes_of, vacant_count, spare_count, recovery_left, left_of}
-use Rattle.views.proofs.LiveLeft.{without-left}
-use Rattle.call_entries.specs.Losing.{losses_of}
+use Rattle.still_kept.specs.shape_views_Regions.{DoWithout}
+use Rattle.still_kept.specs.views_the_Work.{Work}
+use Rattle.still_kept.specs.views_Lacking.{AreTooMany, IsUnwritten, IsOfStripe, DataStandsAmong}
+use Rattle.still_kept.specs.views_Status.{stripes_of, vacant_count, spare_count, recovery_left, left_of}
+use Rattle.still_kept.proofs.views_LiveLeft.{without-left}
+use Rattle.still_kept.specs.call_entries_Losing.{losses_of}
 use Rattle.still_kept.proofs.array_kept_StepsLeft.{left-mended, left-ended}
 use Rattle.still_kept.proofs.calls_kept_EndLaws.{enough-mended}
 use Rattle.grow_asked.specs.declared.window.PhasesLeft.{PhasesLeft}
 use Rattle.grow_asked.specs.Left.{phases_of}
-use Rattle.kept_history.specs.Recorded.{IsCallGoing}
-use Rattle.kept_history.specs.Safe.{world_in}
+use Rattle.still_kept.specs.kept_history_Recorded.{IsCallGoing}
+use Rattle.still_kept.specs.kept_history_Safe.{world_in}
 use Rattle.still_kept.specs.Still.{IsStill}
 use Rattle.still_kept.proofs.Flushing.{IsFlushedStill, IsSettledStill, unflushed-stands}
 use Rattle.still_kept.proofs.Resync.{IsMendingStill, mended-stands, unmended-stands, resynced-stands}

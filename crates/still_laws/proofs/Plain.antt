@@ -24,16 +24,16 @@ use Rattle.flat_history.specs.Sound.{FillsRight}
 use Rattle.flat_history.specs.World.{World, contents_at, reading_at}
 use Rattle.flat_history.proofs.OneShapeLegal.{opening-grown}
 use Rattle.history_laws.proofs.OneShapeGrowing.{IsOneShapeCall}
-use Rattle.views.specs.declared.work.Work.{Work}
-use Rattle.views.specs.Moving.{Grows}
-use Rattle.call_entries.proofs.StepLaws.{call-goes_on, used-more}
+use Rattle.still_kept.specs.views_the_Work.{Work}
+use Rattle.still_kept.specs.views_Moving.{Grows}
+use Rattle.still_kept.proofs.call_entries_StepLaws.{call-goes_on, used-more}
 use Rattle.still_kept.specs.array_kept_Kept.{scope_in, AreTold}
 use Rattle.still_kept.proofs.array_kept_LedgerLaws.{none-lost-before}
 use Rattle.still_kept.proofs.array_kept_OnlyLaws.{TellsOnly}
-use Rattle.kept_history.specs.Recorded.{IsCallGoing, MayGoOn}
-use Rattle.kept_history.specs.Safe.{world_in, IsReshapeFit, OpensOnCourse, IsFilledRight}
-use Rattle.kept_history.proofs.Growing.{reading-grown}
-use Rattle.kept_history.proofs.Tests.{neither, none-before, or-left, or-right}
+use Rattle.still_kept.specs.kept_history_Recorded.{IsCallGoing, MayGoOn}
+use Rattle.still_kept.specs.kept_history_Safe.{world_in, IsReshapeFit, OpensOnCourse, IsFilledRight}
+use Rattle.still_kept.proofs.kept_history_Growing.{reading-grown}
+use Rattle.still_kept.proofs.kept_history_Tests.{neither, none-before, or-left, or-right}
 use Rattle.still_kept.proofs.one_shape_history_Kept.{filled-alike}
 use Rattle.still_kept.specs.Still.{IsStill}
 use Rattle.still_kept.proofs.Leaving.{fit-earlier}

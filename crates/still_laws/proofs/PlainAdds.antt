@@ -25,20 +25,20 @@ use Rattle.flat_history.specs.OneShape.{opening_in, is_lost, is_gone_now, is_spa
 use Rattle.flat_history.specs.Plain.{loses_role, entries_of}
 use Rattle.flat_history.specs.Sound.{LosesNoRole}
 use Rattle.history_laws.proofs.OneShapeGrowing.{IsOneShapeCall, call-faults, call-fails}
-use Rattle.views.specs.declared.work.Work.{Work}
-use Rattle.views.specs.Flushing.{OnlyFlushesAdded}
-use Rattle.views.specs.Lacking.{AreLostSince}
-use Rattle.views.specs.Moving.{Grows, IsMoved}
-use Rattle.views.specs.Placed.{is_vacant}
-use Rattle.views.specs.Rebuilding.{MayHold}
-use Rattle.views.proofs.Fit.{valid}
-use Rattle.views.proofs.HeldRows.{missing-before, missing-moved, vacant-missing}
-use Rattle.views.proofs.MovedLaws.{grows-none, grows-then}
-use Rattle.call_entries.specs.Losing.{losses_of}
-use Rattle.call_entries.proofs.CallLaws.{GivesNone, losses-are, gives-losses, told-losses, all-losses}
-use Rattle.call_entries.proofs.LosingLaws.{entries-both}
-use Rattle.call_entries.proofs.PlainLaws.{one}
-use Rattle.call_entries.proofs.StepLaws.{faults-are}
+use Rattle.still_kept.specs.views_the_Work.{Work}
+use Rattle.still_kept.specs.views_Flushing.{OnlyFlushesAdded}
+use Rattle.still_kept.specs.views_Lacking.{AreLostSince}
+use Rattle.still_kept.specs.views_Moving.{Grows, IsMoved}
+use Rattle.still_kept.specs.views_Placed.{is_vacant}
+use Rattle.still_kept.specs.views_Rebuilding.{MayHold}
+use Rattle.still_kept.proofs.views_Fit.{valid}
+use Rattle.still_kept.proofs.views_HeldRows.{missing-before, missing-moved, vacant-missing}
+use Rattle.still_kept.proofs.views_MovedLaws.{grows-none, grows-then}
+use Rattle.still_kept.specs.call_entries_Losing.{losses_of}
+use Rattle.still_kept.proofs.call_entries_CallLaws.{GivesNone, losses-are, gives-losses, told-losses, all-losses}
+use Rattle.still_kept.proofs.call_entries_LosingLaws.{entries-both}
+use Rattle.still_kept.proofs.call_entries_PlainLaws.{one}
+use Rattle.still_kept.proofs.call_entries_StepLaws.{faults-are}
 use Rattle.still_kept.specs.array_kept_Calls.{IsTaken, IsUnaddable}
 use Rattle.still_kept.specs.array_kept_Kept.{AreTold, AreOnlyTold}
 use Rattle.still_kept.proofs.array_kept_DegradedLaws.{count-moved, too-many-here}
@@ -47,8 +47,8 @@ use Rattle.still_kept.proofs.array_kept_RecordLaws.{told-more, gone-lately}
 use Rattle.still_kept.proofs.calls_kept_AddedLosses.{IsAddDone, told-added, spares-added}
 use Rattle.still_kept.proofs.calls_kept_AddLaws.{lowest}
 use Rattle.grow_asked.specs.declared.window.PhasesLeft.{PhasesLeft}
-use Rattle.kept_history.specs.Recorded.{IsCallGoing}
-use Rattle.kept_history.specs.Safe.{world_in}
+use Rattle.still_kept.specs.kept_history_Recorded.{IsCallGoing}
+use Rattle.still_kept.specs.kept_history_Safe.{world_in}
 use Rattle.still_laws.specs.Plain.{MayTellPlainly, IsPlainKept}
 use Rattle.running_words.specs.Parts.{visible_size}
 use Rattle.still_laws.specs.Ready.{IsReady}

@@ -37,21 +37,21 @@ use Rattle.flat_history.specs.Plain.{entries_of}
 use Rattle.flat_history.specs.Sound.{FillsRight, LosesNoRole}
 use Rattle.flat_history.specs.World.{World, opening_list}
 use Rattle.history_laws.proofs.OneShapeGrowing.{IsOneShapeCall, call-faults}
-use Rattle.shape_views.specs.Regions.{DoWithout}
-use Rattle.views.specs.declared.work.Work.{Work}
-use Rattle.views.specs.Lacking.{lacking, AreLostSince, AreTooMany, LacksTooMany, IsUnread, IsUnwritten, ListStands, RowsStandBelow, are_mended, mended_rows}
-use Rattle.views.specs.Moving.{Grows, IsMoved}
-use Rattle.views.specs.Placed.{AreWhole, IsPlaced, is_vacant, places_of}
-use Rattle.views.specs.Status.{stripes_of, rebuilt_of, vacant_count, spare_count, resync_left, role_left, recovery_left, left_of}
-use Rattle.views.specs.Whole.{list_size}
-use Rattle.views.proofs.Fit.{valid}
-use Rattle.views.proofs.LackingLists.{row-sector}
-use Rattle.shape_views.proofs.Stands.{list-still}
-use Rattle.call_entries.specs.Losing.{losses_of, failure_events}
-use Rattle.call_entries.proofs.CallLaws.{GivesNone, losses-are, all-losses, ends-losses}
-use Rattle.call_entries.proofs.LeftLaws.{keeps-left}
-use Rattle.call_entries.proofs.PlainLaws.{one}
-use Rattle.call_entries.proofs.StepLaws.{faults-are, call-stepped}
+use Rattle.still_kept.specs.shape_views_Regions.{DoWithout}
+use Rattle.still_kept.specs.views_the_Work.{Work}
+use Rattle.still_kept.specs.views_Lacking.{lacking, AreLostSince, AreTooMany, LacksTooMany, IsUnread, IsUnwritten, ListStands, RowsStandBelow, are_mended, mended_rows}
+use Rattle.still_kept.specs.views_Moving.{Grows, IsMoved}
+use Rattle.still_kept.specs.views_Placed.{AreWhole, IsPlaced, is_vacant, places_of}
+use Rattle.still_kept.specs.views_Status.{stripes_of, rebuilt_of, vacant_count, spare_count, resync_left, role_left, recovery_left, left_of}
+use Rattle.still_kept.specs.views_Whole.{list_size}
+use Rattle.still_kept.proofs.views_Fit.{valid}
+use Rattle.still_kept.proofs.views_LackingLists.{row-sector}
+use Rattle.still_kept.proofs.shape_views_Stands.{list-still}
+use Rattle.still_kept.specs.call_entries_Losing.{losses_of, failure_events}
+use Rattle.still_kept.proofs.call_entries_CallLaws.{GivesNone, losses-are, all-losses, ends-losses}
+use Rattle.still_kept.proofs.call_entries_LeftLaws.{keeps-left}
+use Rattle.still_kept.proofs.call_entries_PlainLaws.{one}
+use Rattle.still_kept.proofs.call_entries_StepLaws.{faults-are, call-stepped}
 use Rattle.still_kept.specs.array_kept_Calls.{IsSettling, IsRefusedHere, IsRefusedFor, IsUnmendable}
 use Rattle.still_kept.specs.array_kept_Kept.{AreTold}
 use Rattle.still_kept.proofs.array_kept_DegradedLaws.{told-since, refusal-right, too-many-here, unread-here, unwritten-here, refused-here, pending-of}
@@ -62,12 +62,12 @@ use Rattle.still_kept.proofs.array_kept_ReadyLaws.{settles-of}
 use Rattle.still_kept.proofs.array_kept_RecordLaws.{told-more}
 use Rattle.grow_asked.specs.declared.window.PhasesLeft.{PhasesLeft}
 use Rattle.grow_asked.specs.Left.{phases_of}
-use Rattle.kept_history.specs.Recorded.{IsCallGoing}
-use Rattle.kept_history.specs.Safe.{world_in}
-use Rattle.kept_history.proofs.Ledgers.{unsynced-still}
+use Rattle.still_kept.specs.kept_history_Recorded.{IsCallGoing}
+use Rattle.still_kept.specs.kept_history_Safe.{world_in}
+use Rattle.still_kept.proofs.kept_history_Ledgers.{unsynced-still}
 use Rattle.running_words.specs.Parts.{visible_size, still_left}
 use Rattle.running_words.specs.Plans.{turns_shape, KeepsShape}
-use Rattle.running_words.proofs.Visible.{visible-within}
+use Rattle.running_words.proofs.VisibleLaws.{visible-within}
 use Rattle.still_kept.specs.Still.{AreAtRest}
 use Rattle.still_kept.proofs.Reading.{visible-behind, now-behind}
 use Rattle.still_kept.proofs.Stood.{within-count}

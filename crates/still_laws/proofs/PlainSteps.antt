@@ -24,21 +24,21 @@ use Rattle.flat_history.specs.Legal.{told_left}
 use Rattle.flat_history.specs.OneShape.{opening_in, gives_role, is_gone_now, is_gone_with, is_spare_now}
 use Rattle.flat_history.specs.Plain.{entries_of}
 use Rattle.history_laws.proofs.OneShapeGrowing.{gone-more}
-use Rattle.shape_views.specs.Regions.{DoWithout}
-use Rattle.views.specs.declared.work.Work.{Work}
-use Rattle.views.specs.Lacking.{AreLostSince}
-use Rattle.views.specs.Moving.{Grows, IsMoved}
-use Rattle.views.specs.Placed.{is_vacant}
-use Rattle.views.specs.Rebuilding.{with_recovering, with_whole, MayHold}
-use Rattle.views.specs.Status.{stripes_of, rebuilt_of, left_of}
-use Rattle.views.proofs.GivenMembers.{IsReceiver, state-here, state-other, spare-before}
-use Rattle.views.proofs.HeldRows.{missing-moved, vacant-missing}
-use Rattle.views.proofs.LackingLaws.{since-missing}
-use Rattle.call_entries.specs.Losing.{losses_of}
-use Rattle.call_entries.proofs.CallLaws.{losses-are, gives-losses, told-losses, all-losses}
-use Rattle.call_entries.proofs.LosingLaws.{entries-both}
-use Rattle.call_entries.proofs.PlainLaws.{one}
-use Rattle.call_entries.proofs.StepLaws.{call-stepped}
+use Rattle.still_kept.specs.shape_views_Regions.{DoWithout}
+use Rattle.still_kept.specs.views_the_Work.{Work}
+use Rattle.still_kept.specs.views_Lacking.{AreLostSince}
+use Rattle.still_kept.specs.views_Moving.{Grows, IsMoved}
+use Rattle.still_kept.specs.views_Placed.{is_vacant}
+use Rattle.still_kept.specs.views_Rebuilding.{with_recovering, with_whole, MayHold}
+use Rattle.still_kept.specs.views_Status.{stripes_of, rebuilt_of, left_of}
+use Rattle.still_kept.proofs.views_GivenMembers.{IsReceiver, state-here, state-other, spare-before}
+use Rattle.still_kept.proofs.views_HeldRows.{missing-moved, vacant-missing}
+use Rattle.still_kept.proofs.views_LackingLaws.{since-missing}
+use Rattle.still_kept.specs.call_entries_Losing.{losses_of}
+use Rattle.still_kept.proofs.call_entries_CallLaws.{losses-are, gives-losses, told-losses, all-losses}
+use Rattle.still_kept.proofs.call_entries_LosingLaws.{entries-both}
+use Rattle.still_kept.proofs.call_entries_PlainLaws.{one}
+use Rattle.still_kept.proofs.call_entries_StepLaws.{call-stepped}
 use Rattle.still_kept.specs.array_kept_Calls.{with_rebuilt}
 use Rattle.still_kept.specs.array_kept_Kept.{AreTold, AreOnlyTold}
 use Rattle.still_kept.proofs.array_kept_DegradedLaws.{count-moved}
@@ -50,8 +50,8 @@ use Rattle.still_kept.proofs.calls_kept_RebuildEnded.{holder-before, holder-stil
 use Rattle.still_kept.proofs.calls_kept_RebuildGiven.{receiver-spare, receiver-recovering, missing-given}
 use Rattle.still_kept.proofs.calls_kept_RebuildLaws.{call-stepped_on}
 use Rattle.grow_asked.specs.declared.window.PhasesLeft.{PhasesLeft}
-use Rattle.kept_history.specs.Recorded.{IsCallGoing}
-use Rattle.kept_history.specs.Safe.{world_in}
+use Rattle.still_kept.specs.kept_history_Recorded.{IsCallGoing}
+use Rattle.still_kept.specs.kept_history_Safe.{world_in}
 use Rattle.running_words.specs.Parts.{still_left}
 use Rattle.still_kept.proofs.Ending.{IsMadeWhole}
 use Rattle.still_kept.proofs.Rebuilding.{IsTaken}

@@ -25,18 +25,18 @@ use Rattle.flat_history.specs.Growing.{grown, EndBy}
 use Rattle.flat_history.specs.Plain.{entries_of}
 use Rattle.flat_history.specs.Reshaped.{is_done, is_planned, plans_after, open_plans, planned_shape}
 use Rattle.flat_history.specs.World.{World}
-use Rattle.views.specs.Moving.{Grows}
-use Rattle.call_entries.specs.Losing.{losses_of}
-use Rattle.call_entries.proofs.CallLaws.{AreLossEvents, losses-are}
-use Rattle.call_entries.proofs.LosingLaws.{entries-both}
+use Rattle.still_kept.specs.views_Moving.{Grows}
+use Rattle.still_kept.specs.call_entries_Losing.{losses_of}
+use Rattle.still_kept.proofs.call_entries_CallLaws.{AreLossEvents, losses-are}
+use Rattle.still_kept.proofs.call_entries_LosingLaws.{entries-both}
 use Rattle.still_kept.specs.array_kept_Kept.{scope_in}
 use Rattle.still_kept.specs.array_kept_Calls.{IsEntered, StandsInside, IsReplied, IsAnswered, IsBehind, IsBehindAll}
 use Rattle.grow_asked.specs.Left.{phases_of}
-use Rattle.kept_history.specs.Recorded.{entry_of}
-use Rattle.kept_history.specs.Safe.{world_in}
-use Rattle.kept_history.proofs.Growing.{alike-before, room-before}
-use Rattle.kept_history.proofs.Turned.{filled-before}
-use Rattle.kept_history.proofs.Tests.{neither}
+use Rattle.still_kept.specs.kept_history_Recorded.{entry_of}
+use Rattle.still_kept.specs.kept_history_Safe.{world_in}
+use Rattle.still_kept.proofs.kept_history_Growing.{alike-before, room-before}
+use Rattle.still_kept.proofs.kept_history_Turned.{filled-before}
+use Rattle.still_kept.proofs.kept_history_Tests.{neither}
 use Rattle.still_kept.specs.history_calls_Reliable.{IsReliable}
 use Rattle.still_kept.proofs.history_calls_Plans.{planned-grown}
 use Rattle.running_words.specs.Parts.{RunningParts}

@@ -21,20 +21,20 @@ use Rattle.flat_history.specs.Legal.{visible_at, IsRefusedRight}
 use Rattle.flat_history.specs.Losses.{loses}
 use Rattle.flat_history.specs.Plain.{entries_of}
 use Rattle.flat_history.specs.World.{opening_list}
-use Rattle.shape_views.specs.Regions.{DoWithout}
-use Rattle.shape_views.proofs.Stands.{list-still}
-use Rattle.views.specs.declared.work.Work.{Work}
-use Rattle.views.specs.Lacking.{AreLostSince, IsUnread, IsUnwritten, ListStands, RowsStandBelow, DataStandsAmong, RowsStandAmong, are_mended, mended_rows}
-use Rattle.views.specs.Moving.{IsMoved}
-use Rattle.views.specs.Placed.{AreWhole, places_of}
-use Rattle.views.specs.Whole.{list_size}
-use Rattle.views.proofs.MovedLaws.{grows-none}
-use Rattle.call_entries.specs.Losing.{losses_of}
+use Rattle.still_kept.specs.shape_views_Regions.{DoWithout}
+use Rattle.still_kept.proofs.shape_views_Stands.{list-still}
+use Rattle.still_kept.specs.views_the_Work.{Work}
+use Rattle.still_kept.specs.views_Lacking.{AreLostSince, IsUnread, IsUnwritten, ListStands, RowsStandBelow, DataStandsAmong, RowsStandAmong, are_mended, mended_rows}
+use Rattle.still_kept.specs.views_Moving.{IsMoved}
+use Rattle.still_kept.specs.views_Placed.{AreWhole, places_of}
+use Rattle.still_kept.specs.views_Whole.{list_size}
+use Rattle.still_kept.proofs.views_MovedLaws.{grows-none}
+use Rattle.still_kept.specs.call_entries_Losing.{losses_of}
 use Rattle.still_kept.specs.array_kept_Calls.{IsRefusedHere, IsRefusedFor}
 use Rattle.still_kept.proofs.array_kept_DegradedLaws.{unread-here, unwritten-here, pending-of}
 use Rattle.still_kept.proofs.calls_kept_TouchedLaws.{holds-fetched}
-use Rattle.kept_history.specs.Safe.{world_in, is_taken_over, IsFilledRight}
-use Rattle.kept_history.proofs.Tests.{none-before}
+use Rattle.still_kept.specs.kept_history_Safe.{world_in, is_taken_over, IsFilledRight}
+use Rattle.still_kept.proofs.kept_history_Tests.{none-before}
 use Rattle.still_kept.specs.history_calls_Reliable.{IsReliable}
 use Rattle.still_kept.proofs.history_calls_Behind.{IsAmong, early-losses}
 use Rattle.still_kept.specs.Still.{AreAtRest, IsStill}
@@ -43,7 +43,7 @@ use Rattle.still_kept.proofs.Refusals.{IsRefusedStill, too-many-refused, refused
 use Rattle.still_kept.proofs.Staying.{missing-since}
 use Rattle.running_words.specs.moving_state_Left.{visible_by}
 use Rattle.running_words.specs.Parts.{visible_size}
-use Rattle.running_words.proofs.Visible.{visible-is, visible-within}
+use Rattle.running_words.proofs.VisibleLaws.{visible-is, visible-within}
 
 -- ---- why it isn't done
 

@@ -24,18 +24,18 @@ use Rattle.flat_history.specs.declared.events.LostCause.TheVariants.{Fault}
 use Rattle.flat_history.specs.declared.events.StepKind.TheVariants.{RebuildTaken, RebuildStripe, RebuildEnded}
 use Rattle.flat_history.specs.Growing.{EndBy}
 use Rattle.flat_history.specs.Plain.{entries_of}
-use Rattle.shape_views.specs.Regions.{DoWithout}
-use Rattle.views.specs.declared.work.Work.{Work}
-use Rattle.views.specs.Lacking.{AreLostSince, LacksTooMany, IsOfStripe, DataStandsAmong, RowsStandAmong}
-use Rattle.views.specs.Moving.{Grows, IsMoved}
-use Rattle.views.specs.Placed.{IsPlaced, is_vacant}
-use Rattle.views.specs.Rebuilding.{with_recovering, with_whole}
-use Rattle.views.specs.Status.{stripes_of, rebuilt_of, vacant_count, spare_count, resync_left, role_left, recovery_left, left_of}
-use Rattle.views.proofs.GivenMembers.{IsReceiver, state-here}
-use Rattle.views.proofs.Still.{count-still}
-use Rattle.call_entries.specs.Losing.{losses_of}
-use Rattle.call_entries.proofs.LosingLaws.{entries-both}
-use Rattle.call_entries.proofs.PlainLaws.{one}
+use Rattle.still_kept.specs.shape_views_Regions.{DoWithout}
+use Rattle.still_kept.specs.views_the_Work.{Work}
+use Rattle.still_kept.specs.views_Lacking.{AreLostSince, LacksTooMany, IsOfStripe, DataStandsAmong, RowsStandAmong}
+use Rattle.still_kept.specs.views_Moving.{Grows, IsMoved}
+use Rattle.still_kept.specs.views_Placed.{IsPlaced, is_vacant}
+use Rattle.still_kept.specs.views_Rebuilding.{with_recovering, with_whole}
+use Rattle.still_kept.specs.views_Status.{stripes_of, rebuilt_of, vacant_count, spare_count, resync_left, role_left, recovery_left, left_of}
+use Rattle.still_kept.proofs.views_GivenMembers.{IsReceiver, state-here}
+use Rattle.still_kept.proofs.views_Still.{count-still}
+use Rattle.still_kept.specs.call_entries_Losing.{losses_of}
+use Rattle.still_kept.proofs.call_entries_LosingLaws.{entries-both}
+use Rattle.still_kept.proofs.call_entries_PlainLaws.{one}
 use Rattle.still_kept.specs.array_kept_Calls.{with_rebuilt}
 use Rattle.still_kept.proofs.array_kept_DegradedLaws.{count-moved}
 use Rattle.still_kept.proofs.array_kept_ToldLosses.{role-told}
@@ -44,11 +44,11 @@ use Rattle.still_kept.proofs.calls_kept_RebuildEnded.{whole-spare}
 use Rattle.still_kept.proofs.calls_kept_RebuildGiven.{receiver-spare}
 use Rattle.grow_asked.specs.declared.window.PhasesLeft.{PhasesLeft}
 use Rattle.grow_asked.specs.Left.{phases_of}
-use Rattle.kept_history.specs.Recorded.{IsCallGoing, IsLengthKept, IsOpenBehind}
-use Rattle.kept_history.specs.Safe.{world_in}
-use Rattle.kept_history.proofs.Growing.{alike-before, room-before}
-use Rattle.kept_history.proofs.Lengths.{open-more}
-use Rattle.kept_history.proofs.Turned.{filled-before}
+use Rattle.still_kept.specs.kept_history_Recorded.{IsCallGoing, IsLengthKept, IsOpenBehind}
+use Rattle.still_kept.specs.kept_history_Safe.{world_in}
+use Rattle.still_kept.proofs.kept_history_Growing.{alike-before, room-before}
+use Rattle.still_kept.proofs.kept_history_Lengths.{open-more}
+use Rattle.still_kept.proofs.kept_history_Turned.{filled-before}
 use Rattle.still_kept.specs.history_calls_Reliable.{IsReliable}
 use Rattle.still_kept.specs.Still.{IsStill}
 use Rattle.still_kept.proofs.Ending.{IsMadeWhole, whole-stands, ended-stands}

@@ -17,16 +17,16 @@ use Rattle.flat_history.specs.declared.events.Event.{Event}
 use Rattle.flat_history.specs.declared.events.Event.TheVariants.{Flushed, Stopped}
 use Rattle.flat_history.specs.OneShape.{is_lost}
 use Rattle.flat_history.specs.Plain.{entries_of}
-use Rattle.shape_changes.specs.Safety.{HasLiveSlot}
-use Rattle.views.specs.declared.work.Work.{Work}
-use Rattle.views.specs.Lacking.{AreLostSince, AreHoldersFlushed}
-use Rattle.views.specs.Moving.{IsMoved}
-use Rattle.views.specs.Placed.{IsPlaced}
-use Rattle.views.proofs.Fit.{count-alike}
-use Rattle.call_entries.specs.Losing.{losses_of}
-use Rattle.call_entries.proofs.CallLaws.{told-losses}
+use Rattle.still_kept.specs.shape_changes_Safety.{HasLiveSlot}
+use Rattle.still_kept.specs.views_the_Work.{Work}
+use Rattle.still_kept.specs.views_Lacking.{AreLostSince, AreHoldersFlushed}
+use Rattle.still_kept.specs.views_Moving.{IsMoved}
+use Rattle.still_kept.specs.views_Placed.{IsPlaced}
+use Rattle.still_kept.proofs.views_Fit.{count-alike}
+use Rattle.still_kept.specs.call_entries_Losing.{losses_of}
+use Rattle.still_kept.proofs.call_entries_CallLaws.{told-losses}
 use Rattle.still_kept.specs.array_kept_Calls.{IsSettling}
-use Rattle.kept_history.specs.Recorded.{IsCallGoing}
+use Rattle.still_kept.specs.kept_history_Recorded.{IsCallGoing}
 use Rattle.still_kept.specs.Still.{IsStill}
 use Rattle.still_kept.proofs.Flushing.{IsFlushedStill, IsSettledStill, all-mended, flushed-stands, stopped-stands}
 use Rattle.running_words.specs.Still.{AreLeftSettled}

@@ -16,12 +16,12 @@ use Rattle.flat_history.specs.declared.events.Event.{Event}
 use Rattle.flat_history.specs.declared.events.Event.TheVariants.{Lost, Refused}
 use Rattle.flat_history.specs.declared.events.LostCause.TheVariants.{Fault, Command}
 use Rattle.flat_history.specs.Plain.{entries_of}
-use Rattle.views.specs.declared.work.Work.{Work}
-use Rattle.views.specs.Lacking.{AreLostSince, AreTooMany, HaveRolesFailed}
-use Rattle.views.specs.Moving.{Grows, IsMoved}
-use Rattle.views.specs.Placed.{IsPlaced}
-use Rattle.views.specs.Status.{left_of}
-use Rattle.call_entries.specs.Losing.{losses_of}
+use Rattle.still_kept.specs.views_the_Work.{Work}
+use Rattle.still_kept.specs.views_Lacking.{AreLostSince, AreTooMany, HaveRolesFailed}
+use Rattle.still_kept.specs.views_Moving.{Grows, IsMoved}
+use Rattle.still_kept.specs.views_Placed.{IsPlaced}
+use Rattle.still_kept.specs.views_Status.{left_of}
+use Rattle.still_kept.specs.call_entries_Losing.{losses_of}
 use Rattle.still_kept.specs.array_kept_Kept.{scope_in}
 use Rattle.still_kept.specs.array_kept_Calls.{IsLossBy, AreLossesBy, AreStepsFewer, AreStepsKept, IsEndOf, IsUnmendable}
 use Rattle.still_kept.proofs.array_kept_KeptLaws.{left-lost}
@@ -29,8 +29,8 @@ use Rattle.still_kept.proofs.array_kept_ReadyLaws.{list-same}
 use Rattle.still_kept.proofs.array_kept_StepsLeft.{left-moved}
 use Rattle.grow_asked.specs.declared.window.PhasesLeft.{PhasesLeft}
 use Rattle.grow_asked.specs.Left.{phases_of}
-use Rattle.kept_history.specs.Recorded.{IsCallGoing}
-use Rattle.kept_history.specs.Safe.{world_in}
+use Rattle.still_kept.specs.kept_history_Recorded.{IsCallGoing}
+use Rattle.still_kept.specs.kept_history_Safe.{world_in}
 use Rattle.still_kept.specs.Still.{IsStill}
 use Rattle.still_kept.proofs.Refusals.{IsRefusedStill, too-many-refused, refused-right}
 use Rattle.still_kept.proofs.Resting.{resting-stands}

@@ -25,23 +25,23 @@ use Rattle.flat_history.specs.Losses.{unsettles}
 use Rattle.flat_history.specs.Plain.{entries_of}
 use Rattle.flat_history.specs.Sound.{OpensFit}
 use Rattle.flat_history.specs.World.{World}
-use Rattle.shape_views.specs.Regions.{DoWithout}
-use Rattle.shape_views.specs.Views.{Ledger, IsTailZero}
-use Rattle.shape_views.specs.Windows.{IsOfRegion}
-use Rattle.shape_views.proofs.Stands.{list-still}
-use Rattle.shape_changes.specs.Marking.{AreOthersPresent}
-use Rattle.shape_changes.specs.Safety.{HasRoomLeft, IsRisen}
-use Rattle.shape_changes.specs.Steady.{IsSafeOver, KeepsSafe, AreGoneTold, AreWritesAllowed}
-use Rattle.views.specs.declared.work.Work.{Work}
-use Rattle.views.specs.Lacking.{AreLostSince, LacksTooMany, IsUnwritten, RowsStandBelow, DataStandsAmong, RowsStandAmong, AreOtherRowsKept, are_mended, mended_rows}
-use Rattle.views.specs.Moving.{Grows, IsMoved}
-use Rattle.views.specs.Placed.{AreWhole}
-use Rattle.views.proofs.Fit.{valid, list-alike}
-use Rattle.call_entries.specs.Losing.{losses_of, failure_events}
+use Rattle.still_kept.specs.shape_views_Regions.{DoWithout}
+use Rattle.still_kept.specs.shape_views_Views.{Ledger, IsTailZero}
+use Rattle.still_kept.specs.shape_views_Windows.{IsOfRegion}
+use Rattle.still_kept.proofs.shape_views_Stands.{list-still}
+use Rattle.still_kept.specs.shape_changes_Marking.{AreOthersPresent}
+use Rattle.still_kept.specs.shape_changes_Safety.{HasRoomLeft, IsRisen}
+use Rattle.still_kept.specs.shape_changes_Steady.{IsSafeOver, KeepsSafe, AreGoneTold, AreWritesAllowed}
+use Rattle.still_kept.specs.views_the_Work.{Work}
+use Rattle.still_kept.specs.views_Lacking.{AreLostSince, LacksTooMany, IsUnwritten, RowsStandBelow, DataStandsAmong, RowsStandAmong, AreOtherRowsKept, are_mended, mended_rows}
+use Rattle.still_kept.specs.views_Moving.{Grows, IsMoved}
+use Rattle.still_kept.specs.views_Placed.{AreWhole}
+use Rattle.still_kept.proofs.views_Fit.{valid, list-alike}
+use Rattle.still_kept.specs.call_entries_Losing.{losses_of, failure_events}
 use Rattle.still_kept.proofs.array_kept_DegradedLaws.{pending-of}
 use Rattle.still_kept.proofs.calls_kept_TouchedLaws.{safe-put, list-written, rows-written, rebuilt-written}
-use Rattle.kept_history.specs.Recorded.{IsCallGoing}
-use Rattle.kept_history.specs.Safe.{world_in}
+use Rattle.still_kept.specs.kept_history_Recorded.{IsCallGoing}
+use Rattle.still_kept.specs.kept_history_Safe.{world_in}
 use Rattle.still_kept.specs.Still.{AreAtRest, IsStill}
 use Rattle.still_kept.proofs.Leaving.{rest-moved}
 use Rattle.still_kept.proofs.Stood.{mended-moved, mended-multiple}

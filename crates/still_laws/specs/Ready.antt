@@ -9,10 +9,10 @@ use Rattle.superblocks.specs.declared.members.Members.{Members}
 use Rattle.superblocks.specs.Reading.{Scope, shape_of, list_length}
 use Rattle.flat_history.specs.declared.events.Entry.{Entry}
 use Rattle.flat_history.specs.Flat.{length_of, limit_of}
-use Rattle.views.specs.declared.work.Work.{Work}
+use Rattle.still_kept.specs.views_the_Work.{Work}
 use Rattle.grow_asked.specs.declared.window.PhasesLeft.{PhasesLeft}
 use Rattle.grow_asked.specs.Left.{phases_of}
-use Rattle.kept_history.specs.Safe.{world_in}
+use Rattle.still_kept.specs.kept_history_Safe.{world_in}
 use Rattle.still_kept.specs.Still.{IsStill}
 use Rattle.running_words.specs.Parts.{still_left}
 use Rattle.running_words.specs.Plans.{turns_shape, KeepsShape}

@@ -11,13 +11,13 @@ use Rattle.flat_history.specs.declared.events.Event.{Event}
 use Rattle.flat_history.specs.declared.events.Event.TheVariants.{Refused, Stepped}
 use Rattle.flat_history.specs.Reshaped.{open_plans}
 use Rattle.flat_history.specs.World.{World}
-use Rattle.views.specs.declared.work.Work.{Work}
-use Rattle.views.specs.Lacking.{AreTooMany, HaveRolesFailed}
-use Rattle.views.specs.Moving.{Grows}
+use Rattle.still_kept.specs.views_the_Work.{Work}
+use Rattle.still_kept.specs.views_Lacking.{AreTooMany, HaveRolesFailed}
+use Rattle.still_kept.specs.views_Moving.{Grows}
 use Rattle.grow_asked.specs.declared.window.PhasesLeft.{PhasesLeft}
 use Rattle.grow_asked.specs.Left.{phases_of}
 use Rattle.still_kept.specs.array_kept_Calls.{AreLossesBy, IsEndOf, IsUnmendable}
-use Rattle.kept_history.specs.Recorded.{IsCallGoing, IsOpenBehind}
+use Rattle.still_kept.specs.kept_history_Recorded.{IsCallGoing, IsOpenBehind}
 use Rattle.still_kept.specs.history_calls_Reliable.{IsReliable}
 use Rattle.still_kept.specs.Still.{IsNamedOrClean}
 use Rattle.running_words.specs.Parts.{RunningParts, still_left}

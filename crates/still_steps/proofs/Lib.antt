@@ -19,6 +19,9 @@ pub use Rattle.still.proofs.history_calls_Behind
 pub use Rattle.still.proofs.history_calls_Plans
 pub use Rattle.still.proofs.running_words_Called
 pub use Rattle.still.proofs.running_words_Lengths
-pub use Rattle.still.proofs.running_words_Visible
+pub use Rattle.still.proofs.running_words_VisibleLaws
 pub use Rattle.still.proofs.still_kept_Refusals
 pub use Rattle.still.proofs.still_kept_Resting
+pub use Rattle.still.proofs.shape_changes_PlannedRoles
+pub use Rattle.still.proofs.shape_changes_Kept
+pub use Rattle.still.proofs.shape_views_Stands

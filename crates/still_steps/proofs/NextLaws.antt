@@ -15,12 +15,12 @@ use Rattle.superblocks.specs.Reads.{has_spare}
 use Rattle.row_io.specs.Rows.{reading_of}
 use Rattle.flat_history.specs.declared.events.StepKind.{StepKind}
 use Rattle.flat_history.specs.declared.events.StepKind.TheVariants.{RebuildTaken, RebuildStripe, RebuildEnded, ResyncStripe, ResyncEnded}
-use Rattle.views.specs.declared.work.Work.{Work}
-use Rattle.views.specs.Placed.{is_vacant}
-use Rattle.views.specs.Status.{stripes_of, rebuilt_of, vacant_count, spare_count, resync_left, role_left, recovery_left, left_of}
-use Rattle.views.specs.Lacking.{AreTooMany}
+use Rattle.still.specs.views_the_Work.{Work}
+use Rattle.still.specs.views_Placed.{is_vacant}
+use Rattle.still.specs.views_Status.{stripes_of, rebuilt_of, vacant_count, spare_count, resync_left, role_left, recovery_left, left_of}
+use Rattle.still.specs.views_Lacking.{AreTooMany}
 use Rattle.still.specs.array_kept_Calls.{IsCausedBy, IsUnmendable}
-use Rattle.views.specs.Rebuilding.{MayHold}
+use Rattle.still.specs.views_Rebuilding.{MayHold}
 use Rattle.still.specs.running_words_Parts.{RunningParts}
 use Rattle.still.specs.still_laws_Steps.{IsStepped}
 use Rattle.still_steps.specs.Resyncing.{is_at_end, IsUnmended}

@@ -24,12 +24,12 @@ use Rattle.flat_history.specs.declared.events.StepKind.{StepKind}
 use Rattle.flat_history.specs.declared.events.StepKind.TheVariants.{RebuildTaken, RebuildStripe, RebuildEnded}
 use Rattle.flat_history.specs.Flat.{values_after, values_of}
 use Rattle.flat_history.specs.Plain.{entries_of}
-use Rattle.views.specs.declared.work.Work.{Work}
-use Rattle.call_entries.specs.Losing.{losses_of}
-use Rattle.views.specs.Placed.{is_vacant}
-use Rattle.views.specs.Status.{stripes_of, rebuilt_of}
+use Rattle.still.specs.views_the_Work.{Work}
+use Rattle.still.specs.call_entries_Losing.{losses_of}
+use Rattle.still.specs.views_Placed.{is_vacant}
+use Rattle.still.specs.views_Status.{stripes_of, rebuilt_of}
 use Rattle.still.specs.array_kept_Calls.{IsRecovered, IsRecoveredOrLost, IsRebuildStepped, AreValuesKept, IsRoleLossBy, IsLossBy, AreLossesBy}
-use Rattle.call_entries.proofs.CallLaws.{losses-are, values-losses}
+use Rattle.still.proofs.call_entries_CallLaws.{losses-are, values-losses}
 use Rattle.still.proofs.array_kept_NowLaws.{values-more}
 use Rattle.still_steps.specs.Rebuilding.{recovers, first_recovering, first_vacant, first_spare, IsRebuildNext, rebuilt_role, rebuild_kind, rebuild_events, IsGivenToSpare}
 use Rattle.still_steps.proofs.Lowest.{lowest-found}

@@ -12,10 +12,10 @@ use Rattle.flat_history.specs.declared.events.Event.TheVariants.{Step, Refused}
 use Rattle.flat_history.specs.declared.events.StepKind.{StepKind}
 use Rattle.flat_history.specs.Flat.{values_after, values_of}
 use Rattle.flat_history.specs.Plain.{entries_of}
-use Rattle.call_entries.specs.Losing.{losses_of}
-use Rattle.views.specs.Status.{stripes_of}
+use Rattle.still.specs.call_entries_Losing.{losses_of}
+use Rattle.still.specs.views_Status.{stripes_of}
 use Rattle.still.specs.array_kept_Calls.{IsBehind, IsCausedBy, AreValuesKept}
-use Rattle.call_entries.proofs.CallLaws.{losses-are, values-losses}
+use Rattle.still.proofs.call_entries_CallLaws.{losses-are, values-losses}
 use Rattle.still.proofs.array_kept_NowLaws.{values-more}
 use Rattle.still.specs.running_words_Calls.{IsStepTaken}
 use Rattle.still_steps.specs.Resyncing.{is_at_end, IsUnmended}

@@ -12,11 +12,11 @@ use Rattle.flat_history.specs.declared.events.Event.{Event}
 use Rattle.flat_history.specs.declared.events.Event.TheVariants.{Step, Rebuilt}
 use Rattle.flat_history.specs.declared.events.StepKind.{StepKind}
 use Rattle.flat_history.specs.declared.events.StepKind.TheVariants.{RebuildTaken, RebuildStripe, RebuildEnded}
-use Rattle.views.specs.declared.work.Work.{Work}
-use Rattle.views.specs.Placed.{is_vacant}
-use Rattle.views.specs.Status.{stripes_of, rebuilt_of}
+use Rattle.still.specs.views_the_Work.{Work}
+use Rattle.still.specs.views_Placed.{is_vacant}
+use Rattle.still.specs.views_Status.{stripes_of, rebuilt_of}
 use Rattle.still.specs.array_kept_Calls.{IsRecoveredOrLost, with_rebuilt}
-use Rattle.views.specs.Rebuilding.{Held}
+use Rattle.still.specs.views_Rebuilding.{Held}
 
 -- a slot recovers the role
 abbrev pub recovers : Role → Bool

@@ -4,8 +4,8 @@ use Rattle.md_base.specs.declared.answers.Refusal.{Refusal}
 use Rattle.superblocks.specs.declared.members.Members.{Members}
 use Rattle.flat_history.specs.declared.events.StepKind.{StepKind}
 use Rattle.flat_history.specs.declared.events.StepKind.TheVariants.{ResyncStripe, ResyncEnded}
-use Rattle.views.specs.Status.{stripes_of}
-use Rattle.views.specs.Lacking.{AreTooMany}
+use Rattle.still.specs.views_Status.{stripes_of}
+use Rattle.still.specs.views_Lacking.{AreTooMany}
 use Rattle.still.specs.array_kept_Calls.{one_more, IsUnmendable}
 
 -- a resync is pending, and has mended every stripe: its next step is its last

@@ -8,9 +8,9 @@ use Rattle.superblocks.specs.declared.members.Members.{Members}
 use Rattle.flat_history.specs.declared.events.Entry.{Entry}
 use Rattle.flat_history.specs.declared.events.StepKind.{StepKind}
 use Rattle.flat_history.specs.declared.events.StepKind.TheVariants.{ResyncEnded, RebuildTaken, RebuildEnded}
-use Rattle.views.specs.declared.work.Work.{Work}
-use Rattle.views.specs.Lacking.{AreTooMany}
-use Rattle.views.specs.Rebuilding.{Held}
+use Rattle.still.specs.views_the_Work.{Work}
+use Rattle.still.specs.views_Lacking.{AreTooMany}
+use Rattle.still.specs.views_Rebuilding.{Held}
 use Rattle.still.specs.array_kept_Calls.{IsRebuildStepped}
 use Rattle.still.specs.running_words_Calls.{IsStepTaken}
 use Rattle.still_steps.specs.Resyncing.{is_at_end, IsUnmended}

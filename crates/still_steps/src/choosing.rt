@@ -5,7 +5,7 @@ ghost use Rattle.superblocks.specs.Reading.{shape_of};
 ghost use Rattle.still_steps.specs.Rebuilding.{first_recovering, first_vacant, first_spare};
 
 use md_base::Role;
-use still::safe_updates::roles::is_spare;
+use still::is_spare;
 use superblocks::Members;
 
 /// The lowest role that a slot recovers, of so many.

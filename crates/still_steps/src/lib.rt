@@ -8,5 +8,4 @@ mod stepping;
 
 pub use choosing::{first_recovering, first_spare};
 pub use stepping::still_step;
-pub use still;
-pub use still::{array_state, safe_updates};
+pub use still::{Opened, Still, set_rebuilt, steps_left, vacant_roles};

@@ -23,9 +23,9 @@ use Rattle.superblock_reads.proofs.SaidLists.{held-holder}
 use Rattle.superblock_reads.proofs.SaidSlots.{below-length}
 use Rattle.superblocks.proofs.ValidFields.{few-roles}
 use Rattle.row_io.specs.Rows.{reading_of, is_missing}
-use Rattle.shape_changes.specs.Safety.{HasLiveSlot}
-use Rattle.shape_changes.specs.Steady.{AreUnlost}
-use Rattle.shape_changes.proofs.PlannedRoles.{planned-held, held-planned}
+use Rattle.still_steps.specs.shape_changes_Safety.{HasLiveSlot}
+use Rattle.still_steps.specs.shape_changes_Steady.{AreUnlost}
+use Rattle.still_steps.proofs.shape_changes_PlannedRoles.{planned-held, held-planned}
 use Rattle.views.specs.Lacking.{AreLostSince, HaveFailedSince}
 use Rattle.views.specs.Moving.{IsMoved}
 use Rattle.views.specs.Placed.{is_vacant, IsPlaced}

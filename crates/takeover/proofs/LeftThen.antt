@@ -20,8 +20,8 @@ use Rattle.flat_history.specs.declared.events.Event.{Event}
 use Rattle.flat_history.specs.declared.events.Event.TheVariants.{Lost}
 use Rattle.flat_history.specs.declared.events.LostCause.TheVariants.{Fault}
 use Rattle.flat_history.specs.Plain.{entries_of}
-use Rattle.shape_views.specs.Regions.{DoWithout}
-use Rattle.shape_views.proofs.Stands.{final-still}
+use Rattle.still_steps.specs.shape_views_Regions.{DoWithout}
+use Rattle.still_steps.proofs.shape_views_Stands.{final-still}
 use Rattle.views.specs.declared.work.Work.{Work}
 use Rattle.views.specs.Placed.{is_vacant}
 use Rattle.views.specs.Status.{stripes_of, rebuilt_of, vacant_count, spare_count, resync_left, role_left, recovery_left, left_of}

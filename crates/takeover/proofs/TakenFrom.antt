@@ -18,8 +18,8 @@ use Rattle.superblocks.specs.Reads.{has_spare}
 use Rattle.superblocks.specs.Update.{give_of, planned_role, is_planned_spare}
 use Rattle.superblock_reads.proofs.SaidLists.{role-holder}
 use Rattle.superblock_reads.proofs.SaidSlots.{has-slots_below}
-use Rattle.shape_changes.proofs.Kept.{give_of-same}
-use Rattle.shape_changes.proofs.PlannedRoles.{planned-holds}
+use Rattle.still_steps.proofs.shape_changes_Kept.{give_of-same}
+use Rattle.still_steps.proofs.shape_changes_PlannedRoles.{planned-holds}
 use Rattle.takeover_updates.specs.TakingOver.{level_give, taking_over, taken_plan}
 use Rattle.views.specs.Placed.{AreStillHeld}
 use Rattle.views.specs.Rebuilding.{Held, MayHold}

@@ -29,13 +29,13 @@ use Rattle.flat_history.specs.Plain.{entries_of}
 use Rattle.flat_history.specs.Reshaped.{open_plans}
 use Rattle.flat_history.specs.Sound.{OpensFit}
 use Rattle.flat_history.specs.World.{World}
-use Rattle.shape_views.specs.Views.{Ledger}
-use Rattle.shape_changes.specs.Changing.{IsSafeChange}
-use Rattle.shape_changes.specs.Marking.{AreOthersPresent}
-use Rattle.shape_changes.specs.Safety.{HasRoomLeft, IsRisen}
-use Rattle.shape_changes.specs.Steady.{IsSafeOver, AreGoneTold}
-use Rattle.shape_ends.specs.Ends.{IsToldWith}
-use Rattle.shape_ends.specs.Takeovers.{IsTakenUp, IsTakenDown}
+use Rattle.still_steps.specs.shape_views_Views.{Ledger}
+use Rattle.still_steps.specs.shape_changes_Changing.{IsSafeChange}
+use Rattle.still_steps.specs.shape_changes_Marking.{AreOthersPresent}
+use Rattle.still_steps.specs.shape_changes_Safety.{HasRoomLeft, IsRisen}
+use Rattle.still_steps.specs.shape_changes_Steady.{IsSafeOver, AreGoneTold}
+use Rattle.still_steps.specs.shape_ends_Ends.{IsToldWith}
+use Rattle.still_steps.specs.shape_ends_Takeovers.{IsTakenUp, IsTakenDown}
 use Rattle.takeover_updates.specs.TakingOver.{IsTakenTo, CanTakeUp, CanTakeOver, taking_over, taken_plan}
 use Rattle.takeover_kept.proofs.TakenMembers.{taken-then, taken-long}
 use Rattle.takeover_kept.proofs.TakenStill.{IsTakenBy, taken-keeps}
@@ -55,15 +55,15 @@ use Rattle.still_steps.specs.array_kept_Calls.{AreLossesOf, AreStepsFewer, IsLos
 use Rattle.still_steps.proofs.array_kept_NowLaws.{length-more}
 use Rattle.grow_asked.specs.declared.window.PhasesLeft.{PhasesLeft}
 use Rattle.grow_asked.specs.Left.{phases_of}
-use Rattle.kept_history.specs.Recorded.{IsCallGoing}
-use Rattle.kept_history.specs.Safe.{world_in}
+use Rattle.still_steps.specs.kept_history_Recorded.{IsCallGoing}
+use Rattle.still_steps.specs.kept_history_Safe.{world_in}
 use Rattle.still_steps.specs.history_calls_Reliable.{IsReliable}
 use Rattle.still_steps.proofs.history_calls_Plans.{ArePlannedTo}
 use Rattle.still_steps.specs.running_words_Parts.{still_left}
 use Rattle.still_steps.specs.running_words_Plans.{GoTo, turns_shape}
 use Rattle.still_steps.proofs.running_words_Called.{not_254}
 use Rattle.still_steps.proofs.running_words_Lengths.{IsLengthKept, behind-keeps}
-use Rattle.still_steps.proofs.running_words_Visible.{limit-kept}
+use Rattle.still_steps.proofs.running_words_VisibleLaws.{limit-kept}
 use Rattle.still_steps.specs.still_kept_Still.{AreNoneMissing}
 use Rattle.still_steps.specs.still_laws_Ready.{IsReady}
 use Rattle.still_steps.proofs.still_laws_Closing.{LeadTo, plans-of, ahead-none}

@@ -12,8 +12,8 @@ use Rattle.flat_history.specs.declared.events.Event.TheVariants.{Refused}
 use Rattle.flat_history.specs.Plain.{entries_of}
 use Rattle.views.specs.declared.work.Work.{Work}
 use Rattle.still_steps.proofs.array_kept_KeptLaws.{left-lost}
-use Rattle.kept_history.specs.Recorded.{IsCallGoing}
-use Rattle.kept_history.specs.Safe.{world_in}
+use Rattle.still_steps.specs.kept_history_Recorded.{IsCallGoing}
+use Rattle.still_steps.specs.kept_history_Safe.{world_in}
 use Rattle.still_steps.proofs.running_words_Called.{not_254}
 use Rattle.still_steps.specs.still_kept_Still.{IsStill}
 use Rattle.still_steps.proofs.still_kept_Refusals.{IsRefusedStill, refused-right}

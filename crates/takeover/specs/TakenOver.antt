@@ -18,7 +18,7 @@ use Rattle.flat_history.specs.declared.events.Entry.{Entry}
 use Rattle.flat_history.specs.declared.events.Event.TheVariants.{Step, Refused}
 use Rattle.flat_history.specs.declared.events.StepKind.TheVariants.{TakenOver}
 use Rattle.flat_history.specs.Plain.{entries_of}
-use Rattle.shape_changes.specs.Marking.{AreOthersPresent}
+use Rattle.still_steps.specs.shape_changes_Marking.{AreOthersPresent}
 use Rattle.takeover_updates.specs.TakingOver.{IsTakenTo, taken_plan}
 use Rattle.views.specs.declared.work.Work.{Work}
 use Rattle.views.specs.Lacking.{HaveRolesFailed}
@@ -61,13 +61,15 @@ pub record StaysItself {B : Type 0} (old new : RunningParts B) : Type 0 where
   pub backup : new.parts.backup ≡ old.parts.backup
   pub limit : new.limit ≡ old.limit
 
--- A call entered that the level was taken over, with so many steps left, and behind it what its update lost: each role that no slot holds then, and each spare of the plan that is none then.
+-- A call entered that the level was taken over, with so many steps left, and behind it what its update lost: each role that no slot holds then, and each spare of the plan that is none then, and no
+-- other slot as a spare.
 pub record IsTakenWith (who : Who) (plan later : Members) (old new : List Entry) (left : ℕ) : Type 0 where
   pub roles : ℕ
   pub spares : ℕ
   pub end : ℕ
   pub roles_told : (role : ℕ) → role < role_count later.newest → is_vacant (reading_of later) role ≡ true → has_slot roles role ≡ true
   pub spares_told : (slot : ℕ) → has_spare plan.spares slot ≡ true → (has_spare later.spares slot ≡ true) ⊎ (has_slot spares slot ≡ true)
+  pub spares_were : (slot : ℕ) → has_slot spares slot ≡ true → has_spare plan.spares slot ≡ true
   pub is : new ≡ old ++ entries_of who end (Step TakenOver left ∷ losses_of roles spares)
 
 -- The level is taken over to this shape: no role was missing. To level 6 the lowest spare has the last role, of which it recovers the first row on; to level 5 the slot of the last role is a

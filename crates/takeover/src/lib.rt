@@ -4,5 +4,4 @@
 mod choosing;
 mod taking;
 
-pub use still_steps;
 pub use taking::take_over;

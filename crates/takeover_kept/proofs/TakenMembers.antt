@@ -10,22 +10,22 @@ use Rattle.bank.specs.Tape.{Contents}
 use Rattle.grow_plan.specs.Plans.{taken_up}
 use Rattle.superblocks.specs.declared.members.Members.{Members}
 use Rattle.superblocks.specs.Reading.{Scope, is_reshaping, shape_of, list_length, role_count}
-use Rattle.shape_views.specs.Regions.{ArePlaced}
-use Rattle.shape_views.specs.Windows.{ListStands, RowsStand}
-use Rattle.shape_views.proofs.Stands.{list-still}
-use Rattle.shape_changes.specs.Marking.{AreOthersPresent}
-use Rattle.shape_changes.specs.Steady.{AreUnlost}
-use Rattle.shape_ends.specs.Ends.{ArePlacesAlike}
-use Rattle.shape_ends.specs.Takeovers.{IsTakenUp, IsTakenDown}
-use Rattle.shape_ends.proofs.EndLaws.{places-alike-stand}
-use Rattle.shape_ends.proofs.TakenShapes.{taken-over}
-use Rattle.shape_ends.proofs.Takeovers.{place-alike}
+use Rattle.still_kept.specs.shape_views_Regions.{ArePlaced}
+use Rattle.still_kept.specs.shape_views_Windows.{ListStands, RowsStand}
+use Rattle.still_kept.proofs.shape_views_Stands.{list-still}
+use Rattle.still_kept.specs.shape_changes_Marking.{AreOthersPresent}
+use Rattle.still_kept.specs.shape_changes_Steady.{AreUnlost}
+use Rattle.still_kept.specs.shape_ends_Ends.{ArePlacesAlike}
+use Rattle.still_kept.specs.shape_ends_Takeovers.{IsTakenUp, IsTakenDown}
+use Rattle.still_kept.proofs.shape_ends_EndLaws.{places-alike-stand}
+use Rattle.still_kept.proofs.shape_ends_TakenShapes.{taken-over}
+use Rattle.still_kept.proofs.shape_ends_Takeovers.{place-alike}
 use Rattle.moving_ends.proofs.safe_updates_Under.{shown-moved, shown-rows-moved}
-use Rattle.views.specs.Moving.{IsMoved}
-use Rattle.views.specs.Placed.{IsPlaced}
-use Rattle.views.proofs.HeldRows.{held-moved, missing-moved}
-use Rattle.views.proofs.MovedLaws.{moved-same}
-use Rattle.views.proofs.Still.{count-still}
+use Rattle.still_kept.specs.views_Moving.{IsMoved}
+use Rattle.still_kept.specs.views_Placed.{IsPlaced}
+use Rattle.still_kept.proofs.views_HeldRows.{held-moved, missing-moved}
+use Rattle.still_kept.proofs.views_MovedLaws.{moved-same}
+use Rattle.still_kept.proofs.views_Still.{count-still}
 use Rattle.moving_ends.proofs.EndedRows.{alone_of, alone-placed}
 
 -- it goes one way or the other

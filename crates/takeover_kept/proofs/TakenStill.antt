@@ -23,25 +23,25 @@ use Rattle.flat_history.specs.Plain.{entries_of}
 use Rattle.flat_history.specs.Reshaped.{open_plans}
 use Rattle.flat_history.specs.Sound.{OpensFit}
 use Rattle.flat_history.specs.World.{World, opening_list}
-use Rattle.shape_views.specs.Regions.{DoWithout}
-use Rattle.shape_views.specs.Views.{Ledger}
-use Rattle.shape_changes.specs.Changing.{IsSafeChange}
-use Rattle.shape_changes.specs.Marking.{AreOthersPresent}
-use Rattle.shape_changes.specs.Safety.{HasLiveSlot, HasRoomLeft, IsRisen}
-use Rattle.shape_changes.specs.Steady.{IsSafeOver, AreGoneTold}
-use Rattle.shape_ends.specs.Ends.{IsToldWith}
-use Rattle.shape_ends.proofs.GrownLaws.{row-list}
-use Rattle.views.specs.declared.work.Work.{Work}
-use Rattle.views.specs.Moving.{Grows, IsMoved}
-use Rattle.views.specs.Numbers.{is_carried}
-use Rattle.views.specs.Rebuilding.{AreSparesFree}
-use Rattle.views.specs.Status.{rebuilt_of, stripes_of}
-use Rattle.views.proofs.Fit.{valid}
-use Rattle.call_entries.specs.Losing.{losses_of}
-use Rattle.call_entries.proofs.CallLaws.{losses-are}
-use Rattle.call_entries.proofs.LeftLaws.{left-behind, fold-left}
-use Rattle.kept_history.specs.Recorded.{IsCallGoing}
-use Rattle.kept_history.specs.Safe.{world_in, is_taken_over, IsFilledRight, IsSafeHistory}
+use Rattle.still_kept.specs.shape_views_Regions.{DoWithout}
+use Rattle.still_kept.specs.shape_views_Views.{Ledger}
+use Rattle.still_kept.specs.shape_changes_Changing.{IsSafeChange}
+use Rattle.still_kept.specs.shape_changes_Marking.{AreOthersPresent}
+use Rattle.still_kept.specs.shape_changes_Safety.{HasLiveSlot, HasRoomLeft, IsRisen}
+use Rattle.still_kept.specs.shape_changes_Steady.{IsSafeOver, AreGoneTold}
+use Rattle.still_kept.specs.shape_ends_Ends.{IsToldWith}
+use Rattle.still_kept.proofs.shape_ends_GrownLaws.{row-list}
+use Rattle.still_kept.specs.views_the_Work.{Work}
+use Rattle.still_kept.specs.views_Moving.{Grows, IsMoved}
+use Rattle.still_kept.specs.views_Numbers.{is_carried}
+use Rattle.still_kept.specs.views_Rebuilding.{AreSparesFree}
+use Rattle.still_kept.specs.views_Status.{rebuilt_of, stripes_of}
+use Rattle.still_kept.proofs.views_Fit.{valid}
+use Rattle.still_kept.specs.call_entries_Losing.{losses_of}
+use Rattle.still_kept.proofs.call_entries_CallLaws.{losses-are}
+use Rattle.still_kept.proofs.call_entries_LeftLaws.{left-behind, fold-left}
+use Rattle.still_kept.specs.kept_history_Recorded.{IsCallGoing}
+use Rattle.still_kept.specs.kept_history_Safe.{world_in, is_taken_over, IsFilledRight, IsSafeHistory}
 use Rattle.moving_ends.specs.history_calls_Reliable.{IsReliable}
 use Rattle.moving_ends.proofs.history_calls_Behind.{IsAmong}
 use Rattle.moving_ends.proofs.history_calls_Plans.{ArePlannedTo}

@@ -34,37 +34,37 @@ use Rattle.flat_history.specs.Reshaped.{behind, comes_with_step, open_plans, Are
 use Rattle.flat_history.specs.Sound.{OpensFit}
 use Rattle.flat_history.specs.World.{World, reading_at, opening_list}
 use Rattle.flat_history.proofs.SoundLaws.{fit-before}
-use Rattle.shape_views.specs.Regions.{DoWithout}
-use Rattle.shape_views.specs.Views.{Ledger}
-use Rattle.shape_views.proofs.Alike.{shape-alike}
-use Rattle.shape_views.proofs.Stands.{final-still}
-use Rattle.shape_changes.specs.Changing.{IsSafeChange}
-use Rattle.shape_changes.specs.Marking.{AreOthersPresent}
-use Rattle.shape_changes.specs.Safety.{HasLiveSlot, HasRoomLeft, IsRisen}
-use Rattle.shape_changes.specs.Steady.{AreUnlost, IsMoreTold, IsSafeOver, IsNamedNow, AreGoneTold}
-use Rattle.shape_changes.proofs.Steady.{held-read}
-use Rattle.shape_ends.specs.Ends.{IsToldWith}
-use Rattle.views.specs.Moving.{IsMoved}
-use Rattle.views.proofs.Fit.{list-alike, count-alike, valid}
-use Rattle.views.proofs.HeldRows.{missing-moved}
-use Rattle.views.proofs.SoundViews.{throughout-changed}
-use Rattle.call_entries.specs.Losing.{losses_of}
-use Rattle.call_entries.proofs.CallLaws.{AreLossEvents, losses-are}
-use Rattle.call_entries.proofs.PlainLaws.{last_end-call}
-use Rattle.kept_history.specs.Recorded.{IsHistoryKept, IsLegalCall, IsReshapedCall, IsCallGoing, entry_of, ends_reshape, gives_some}
-use Rattle.kept_history.specs.Safe.{world_in, IsFilledRight, IsSafeHistory}
-use Rattle.kept_history.specs.Told.{told_now, told_by}
-use Rattle.kept_history.proofs.Calls.{now-live}
-use Rattle.kept_history.proofs.Entered.{AreAdding, told-adding, settle-none, values-more, values-adding, length-adding, gone-was, gone-lost}
-use Rattle.kept_history.proofs.Growing.{reading-grown, opening-grown, gone-grown, unsynced-grown, now-grown, alike-before, room-before, room-now}
-use Rattle.kept_history.proofs.KeptCalls.{kept-call}
-use Rattle.kept_history.proofs.Ledgers.{any-gone, unclean-now, unsynced-still, none-ends}
-use Rattle.kept_history.proofs.Lengths.{now-drawn}
-use Rattle.kept_history.proofs.Longer.{regains-none}
-use Rattle.kept_history.proofs.Reshapes.{call-ends_none}
-use Rattle.kept_history.proofs.Tests.{or-left, or-right}
-use Rattle.kept_history.proofs.Turned.{filled-before}
-use Rattle.kept_history.proofs.Turns.{either-call}
+use Rattle.still_kept.specs.shape_views_Regions.{DoWithout}
+use Rattle.still_kept.specs.shape_views_Views.{Ledger}
+use Rattle.still_kept.proofs.shape_views_Alike.{shape-alike}
+use Rattle.still_kept.proofs.shape_views_Stands.{final-still}
+use Rattle.still_kept.specs.shape_changes_Changing.{IsSafeChange}
+use Rattle.still_kept.specs.shape_changes_Marking.{AreOthersPresent}
+use Rattle.still_kept.specs.shape_changes_Safety.{HasLiveSlot, HasRoomLeft, IsRisen}
+use Rattle.still_kept.specs.shape_changes_Steady.{AreUnlost, IsMoreTold, IsSafeOver, IsNamedNow, AreGoneTold}
+use Rattle.still_kept.proofs.shape_changes_Steady.{held-read}
+use Rattle.still_kept.specs.shape_ends_Ends.{IsToldWith}
+use Rattle.still_kept.specs.views_Moving.{IsMoved}
+use Rattle.still_kept.proofs.views_Fit.{list-alike, count-alike, valid}
+use Rattle.still_kept.proofs.views_HeldRows.{missing-moved}
+use Rattle.still_kept.proofs.views_SoundViews.{throughout-changed}
+use Rattle.still_kept.specs.call_entries_Losing.{losses_of}
+use Rattle.still_kept.proofs.call_entries_CallLaws.{AreLossEvents, losses-are}
+use Rattle.still_kept.proofs.call_entries_PlainLaws.{last_end-call}
+use Rattle.still_kept.specs.kept_history_Recorded.{IsHistoryKept, IsLegalCall, IsReshapedCall, IsCallGoing, entry_of, ends_reshape, gives_some}
+use Rattle.still_kept.specs.kept_history_Safe.{world_in, IsFilledRight, IsSafeHistory}
+use Rattle.still_kept.specs.kept_history_Told.{told_now, told_by}
+use Rattle.still_kept.proofs.kept_history_Calls.{now-live}
+use Rattle.still_kept.proofs.kept_history_Entered.{AreAdding, told-adding, settle-none, values-more, values-adding, length-adding, gone-was, gone-lost}
+use Rattle.still_kept.proofs.kept_history_Growing.{reading-grown, opening-grown, gone-grown, unsynced-grown, now-grown, alike-before, room-before, room-now}
+use Rattle.still_kept.proofs.kept_history_KeptCalls.{kept-call}
+use Rattle.still_kept.proofs.kept_history_Ledgers.{any-gone, unclean-now, unsynced-still, none-ends}
+use Rattle.still_kept.proofs.kept_history_Lengths.{now-drawn}
+use Rattle.still_kept.proofs.kept_history_Longer.{regains-none}
+use Rattle.still_kept.proofs.kept_history_Reshapes.{call-ends_none}
+use Rattle.still_kept.proofs.kept_history_Tests.{or-left, or-right}
+use Rattle.still_kept.proofs.kept_history_Turned.{filled-before}
+use Rattle.still_kept.proofs.kept_history_Turns.{either-call}
 use Rattle.moving_ends.specs.history_calls_Reliable.{IsReliable, AreToldGone, IsNonePast}
 use Rattle.moving_ends.proofs.history_calls_Behind.{IsAmong, early-losses, inner-of, legal-losses}
 use Rattle.moving_ends.proofs.history_calls_Plans.{behind-all, ArePlannedTo, plans-done}

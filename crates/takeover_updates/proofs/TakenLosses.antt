@@ -1,6 +1,8 @@
 -- What was lost in the update that takes a level over.
-use Rattle.std.proofs.Common.{◌≡◌, ◌⊎◌, inl, inr, ℕ, ◌<◌, ◌&&◌, Bool, true, false, not, Some, List, get_or, refl, sym, ◌∙◌, ap, arith}
+use Rattle.std.proofs.Common.{◌≡◌, ◌⊎◌, inl, inr, ℕ, ◌<◌, ◌&&◌, ◌||◌, nat_lt, Bool, true, false, not, Option, None, Some, is_some, List, get_or, refl, sym, ◌∙◌, ap, arith}
 use Rattle.std.specs.Prelude.{IsTrue}
+use Rattle.std.specs.List.{list_any}
+use Rattle.std.proofs.lemmas.Bool.Decides.{nat_tests}
 use Rattle.md_base.specs.Shapes.{has_slot, is_valid_shape}
 use Rattle.md_base.specs.declared.places.Shape.{Shape}
 use Rattle.md_base.specs.declared.status.Role.{Role}
@@ -9,23 +11,26 @@ use Rattle.md_base.proofs.Tabulated.{length-tabulate, get_or-tabulate}
 use Rattle.bank.specs.declared.bank.Operation.{Operation}
 use Rattle.bank.specs.Given.{Given, IsFaulted}
 use Rattle.superblocks.specs.declared.change.Change.{Change}
+use Rattle.superblocks.specs.declared.change.Give.{Give}
 use Rattle.superblocks.specs.declared.members.Members.{Members}
-use Rattle.superblocks.specs.Reading.{is_reshaping, role_count, role_state, holder}
+use Rattle.superblocks.specs.Reading.{is_reshaping, shape_of, role_count, role_state, holder}
 use Rattle.superblocks.specs.Reads.{has_spare}
-use Rattle.superblocks.specs.Update.{give_of, planned_role, is_planned_spare}
+use Rattle.superblocks.specs.Update.{give_of, is_held_by, is_live, role_from, planned_role, is_planned_spare}
 use Rattle.superblocks.specs.Updating.{AreLosses}
 use Rattle.superblocks.specs.Outcome.{live_set, planned_state, planned_roles}
+use Rattle.superblocks.proofs.SlotSets.{some_role}
 use Rattle.superblock_reads.proofs.SaidSlots.{below-length}
 use Rattle.row_io.specs.Rows.{reading_of}
-use Rattle.shape_changes.specs.Changing.{IsChanged}
-use Rattle.shape_changes.specs.Updates.{planned_view}
-use Rattle.shape_changes.proofs.PlannedRoles.{held-planned, planned-held}
-use Rattle.views.specs.Placed.{IsPlaced}
-use Rattle.views.specs.Rebuilding.{AreSparesFree}
-use Rattle.views.specs.Lacking.{HaveFailedSince}
+use Rattle.reshape_ends.specs.shape_changes_Changing.{IsChanged}
+use Rattle.reshape_ends.specs.shape_changes_Updates.{planned_view}
+use Rattle.reshape_ends.proofs.shape_changes_PlannedRoles.{held-planned, planned-held}
+use Rattle.reshape_ends.proofs.shape_changes_Without.{live-of}
+use Rattle.reshape_ends.specs.views_Placed.{IsPlaced}
+use Rattle.reshape_ends.specs.views_Rebuilding.{AreSparesFree}
+use Rattle.reshape_ends.specs.views_Lacking.{HaveFailedSince}
 use Rattle.reshape_ends.proofs.Made.{spare-planned, planned-spare}
 use Rattle.takeover_updates.specs.TakingOver.{CanTakeOver, taking_over}
-use Rattle.takeover_updates.proofs.TakenPlan.{live, one-holder, spare-roomy}
+use Rattle.takeover_updates.proofs.TakenPlan.{live, one-holder, spare-roomy, gives-or}
 
 flip : (b : Bool) → not b ≡ true → b ≡ false
 flip true e = absurd (cc)
@@ -35,11 +40,27 @@ both : (a b : Bool) → (a && b) ≡ true → (a ≡ true) × (b ≡ true)
 both true b e = (refl, e)
 both false b e = absurd (cc)
 
+second : (a b : Bool) → (a || b) ≡ true → a ≡ false → b ≡ true
+second false b is none = is
+second true b is none = absurd (cc)
+
+or-so : (b : Bool) → b ≡ true → (b || false) ≡ true
+or-so true is = refl
+or-so false is = is
+
+below-of : (a b : ℕ) → nat_lt a b ≡ true → a < b
+below-of a b is = grind (arith, nat_tests, is)
+
+from-some : (o : Option ℕ) → is_some o ≡ true → (role : ℕ) × (o ≡ Some role)
+from-some None is = absurd (cc)
+from-some (Some role) is = (role, refl)
+
 module _ (given : Given) (old : Members) (to : Shape) (slot : ℕ) (placed : IsPlaced given old) (free : AreSparesFree given old) (still : is_reshaping old.newest ≡ false) (valid : IsTrue (is_valid_shape to))
     (can : CanTakeOver old to slot) (new : Members) {tells : Type 0} {before after : List Operation} (done : IsChanged tells given (taking_over old to slot) old new before after)
     (lost held told : ℕ) (f g : ℕ → ℕ) (losses : AreLosses (live_set old (taking_over old to slot)) old.lost new.lost f g)
     (lost-is : (s : ℕ) → has_slot lost s ≡ (has_slot new.lost s && not (has_slot old.lost s)))
     (held-is : (s : ℕ) → has_slot held s ≡ true → (role : ℕ) × (planned_role old.roles (give_of (taking_over old to slot).gives s) s ≡ Some role))
+    (held-all : (s role : ℕ) → s < 32 → planned_role old.roles (give_of (taking_over old to slot).gives s) s ≡ Some role → has_slot held s ≡ true)
     (told-is : (s : ℕ) → has_slot told s ≡ (has_slot lost s && not (has_slot held s))) where
   abbrev ch : Change
   ch = taking_over old to slot
@@ -88,6 +109,42 @@ module _ (given : Given) (old : Members) (to : Shape) (slot : ℕ) (placed : IsP
         where
           lost-there : has_slot lost s ≡ true
           lost-there = lost-is s ∙ (λ i. gone i && not (was.1 i))
+
+  -- who is told as a spare was one by the plan
+  pub spares-were : (s : ℕ) → has_slot told s ≡ true → has_spare (planned_view old (taking_over old to slot) old.lost).spares s ≡ true
+  spares-were s has = planned-spare old ch old.lost s below kept so
+    where
+      parts : (has_slot lost s ≡ true) × (not (has_slot held s) ≡ true)
+      parts = both (has_slot lost s) (not (has_slot held s)) (sym (told-is s) ∙ has)
+
+      gone : (has_slot new.lost s ≡ true) × (not (has_slot old.lost s) ≡ true)
+      gone = both (has_slot new.lost s) (not (has_slot old.lost s)) (sym (lost-is s) ∙ parts.0)
+
+      kept : has_slot old.lost s ≡ false
+      kept = flip (has_slot old.lost s) gone.1
+
+      was : (nat_lt s 32 ≡ true) × (is_live old.roles old.spares s ≡ true)
+      was = both (nat_lt s 32) (is_live old.roles old.spares s) (sym (live-of old ch refl s) ∙ losses.live s gone.0 kept)
+
+      below : s < 32
+      below = below-of s 32 was.0
+
+      no-role : (role : ℕ) → planned_role old.roles (give_of ch.gives s) s ≡ Some role → ⊥
+      no-role role is = absurd (let none = flip (has_slot held s) parts.1 in let there = held-all s role below is in let clash = sym none ∙ there in cc)
+
+      none-held : (b : Bool) → list_any (is_held_by s) old.roles ≡ b → planned_role old.roles (give_of ch.gives s) s ≡ role_from s 0 old.roles → b ≡ false
+      none-held false is gets = refl
+      none-held true is gets = absurd (let found = from-some (role_from s 0 old.roles) (some_role s 0 old.roles ∙ is) in no-role found.0 (gets ∙ found.1))
+
+      so : is_planned_spare old.spares ch.added (give_of ch.gives s) s ≡ true
+      so = elim (gives-or given old to slot placed free still valid can s) [
+        | inl (same, up, gets) ↦ absurd (no-role (shape_of old.newest).disks (ap (λ (g : Give). planned_role old.roles g s) gets))
+        | inr (inl (same, down, gets)) ↦ ap (λ (g : Give). is_planned_spare old.spares None g s) gets
+        | inr (inr (apart, gets)) ↦ ap (λ (g : Give). is_planned_spare old.spares None g s) gets
+            ∙ or-so (has_spare old.spares s)
+            (second (list_any (is_held_by s) old.roles) (has_spare old.spares s) was.1
+            (none-held (list_any (is_held_by s) old.roles) refl (ap (λ (g : Give). planned_role old.roles g s) gets)))
+      ]
 
   pub taken-failed : HaveFailedSince (planned_view old (taking_over old to slot) old.lost) new told f g
   taken-failed = record { roles = roles-failed; spares_are = spares-failed; told = spares-told }

@@ -28,26 +28,26 @@ use Rattle.superblocks.proofs.SlotSets.{some_role}
 use Rattle.superblock_reads.proofs.SaidLists.{role-holder}
 use Rattle.superblock_reads.proofs.SaidSlots.{below-length}
 use Rattle.row_io.specs.Rows.{reading_of}
-use Rattle.shape_views.specs.Regions.{AreShapesFit, ArePlaced}
-use Rattle.shape_views.specs.Views.{Disk}
-use Rattle.shape_views.proofs.Alike.{shape-alike}
-use Rattle.shape_changes.specs.Changing.{IsChanged, IsFitUpdate}
-use Rattle.shape_changes.specs.Kinds.{IsTaking, IsDropping}
-use Rattle.shape_changes.specs.Rounds.{IsHeldSince}
-use Rattle.shape_changes.specs.Updates.{planned_view, IsLessView, HasOneHolder}
-use Rattle.shape_changes.proofs.FitKinds.{taking-is-fit, dropping-is-fit, taking-live, dropping-live}
-use Rattle.shape_changes.proofs.Kept.{give_of-same}
-use Rattle.shape_changes.proofs.KeptSafe.{fits-alike}
-use Rattle.shape_changes.proofs.PlannedRoles.{says-shared, count-planned}
-use Rattle.shape_changes.proofs.Without.{any-held}
-use Rattle.shape_ends.specs.Takeovers.{IsTakenUp, IsTakenDown}
-use Rattle.shape_ends.proofs.PlanPlaced.{planned-placed}
-use Rattle.shape_ends.proofs.PlanRoles.{planned-up, planned-down}
+use Rattle.reshape_ends.specs.shape_views_Regions.{AreShapesFit, ArePlaced}
+use Rattle.reshape_ends.specs.shape_views_Views.{Disk}
+use Rattle.reshape_ends.proofs.shape_views_Alike.{shape-alike}
+use Rattle.reshape_ends.specs.shape_changes_Changing.{IsChanged, IsFitUpdate}
+use Rattle.reshape_ends.specs.shape_changes_Kinds.{IsTaking, IsDropping}
+use Rattle.reshape_ends.specs.shape_changes_Rounds.{IsHeldSince}
+use Rattle.reshape_ends.specs.shape_changes_Updates.{planned_view, IsLessView, HasOneHolder}
+use Rattle.reshape_ends.proofs.shape_changes_FitKinds.{taking-is-fit, dropping-is-fit, taking-live, dropping-live}
+use Rattle.reshape_ends.proofs.shape_changes_Kept.{give_of-same}
+use Rattle.reshape_ends.proofs.shape_changes_KeptSafe.{fits-alike}
+use Rattle.reshape_ends.proofs.shape_changes_PlannedRoles.{says-shared, count-planned}
+use Rattle.reshape_ends.proofs.shape_changes_Without.{any-held}
+use Rattle.reshape_ends.specs.shape_ends_Takeovers.{IsTakenUp, IsTakenDown}
+use Rattle.reshape_ends.proofs.shape_ends_PlanPlaced.{planned-placed}
+use Rattle.reshape_ends.proofs.shape_ends_PlanRoles.{planned-up, planned-down}
 use Rattle.reshape_ends.proofs.reshape_updates_Taken.{taking-more}
-use Rattle.views.specs.Placed.{IsPlaced}
-use Rattle.views.specs.Rebuilding.{AreSparesFree}
-use Rattle.views.proofs.Fit.{roles-still}
-use Rattle.views.proofs.Still.{count-still, backup-still}
+use Rattle.reshape_ends.specs.views_Placed.{IsPlaced}
+use Rattle.reshape_ends.specs.views_Rebuilding.{AreSparesFree}
+use Rattle.reshape_ends.proofs.views_Fit.{roles-still}
+use Rattle.reshape_ends.proofs.views_Still.{count-still, backup-still}
 use Rattle.reshape_ends.proofs.Made.{IsRoomy, HasNoRole, IsMade, plan-offset}
 use Rattle.takeover_updates.specs.TakingOver.{with_level, IsTakenTo, CanTakeUp, CanTakeDown, CanTakeOver, level_give, taking_over}
 
@@ -370,3 +370,12 @@ module _ (m : Members) (to : Shape) (slot : ℕ) (small : slot < 32) where
     to.disks - 1,
     ap (λ (g : Give). planned_role m.roles g s) (ap (give_of gives) same ∙ at-slot ∙ ap (λ (b : Bool). cond b (give.Role (to.disks - 1) (Some 0)) Spare) six),
   )
+
+  -- another slot that holds one then held it
+  pub other-held : (s role : ℕ) → s ≢ slot → planned_role m.roles (give_of (taking_over m to slot).gives s) s ≡ Some role → holder (role_state (reading_of m) role) ≡ Some s
+  other-held s role apart is = role-holder s m.roles role (sym (ap (λ (g : Give). planned_role m.roles g s) (at-other s apart)) ∙ is)
+
+  -- at level 5 the slot holds none
+  pub slot-idle : (to.level == 6) ≡ false → (s role : ℕ) → s ≡ slot → planned_role m.roles (give_of (taking_over m to slot).gives s) s ≡ Some role → ⊥
+  slot-idle five s role same is =
+      none-some role (sym (ap (λ (g : Give). planned_role m.roles g s) (ap (give_of gives) same ∙ at-slot ∙ ap (λ (b : Bool). cond b (give.Role (to.disks - 1) (Some 0)) Spare) five)) ∙ is)

@@ -4,27 +4,28 @@ ghost use Rattle.std.specs.Prelude.{◌≡◌, ◌⊎◌, ◌<◌, ◌≤◌, �
 ghost use Rattle.bank.specs.Given.{NeverFalls};
 ghost use Rattle.md_base.specs.Shapes.{has_slot, is_valid_shape};
 ghost use Rattle.superblocks.specs.Reading.{is_reshaping, role_state, holder};
+ghost use Rattle.superblocks.specs.Reads.{has_spare};
 ghost use Rattle.superblocks.specs.Update.{give_of, planned_role};
 ghost use Rattle.row_io.specs.Rows.{present, reading_of};
 ghost use Rattle.flat_history.specs.World.{World};
 ghost use Rattle.flat_history.specs.Sound.{OpensFit};
-ghost use Rattle.shape_views.specs.Views.{Ledger};
-ghost use Rattle.shape_changes.specs.Safety.{HasLiveSlot, HasRoomLeft, IsRisen};
-ghost use Rattle.shape_changes.specs.Marking.{AreOthersPresent};
-ghost use Rattle.shape_changes.specs.Steady.{AreUnlost, IsSafeOver, AreGoneTold};
-ghost use Rattle.shape_changes.specs.Changing.{IsChanged, IsSafeChange};
-ghost use Rattle.shape_ends.specs.Ends.{IsToldWith};
-ghost use Rattle.shape_ends.specs.Takeovers.{IsTakenUp, IsTakenDown};
-ghost use Rattle.views.specs.Placed.{IsPlaced};
-ghost use Rattle.views.specs.Moving.{Grows, IsMoved};
-ghost use Rattle.views.specs.Lacking.{HaveFailedSince};
-ghost use Rattle.views.specs.Rebuilding.{AreSparesFree};
+ghost use Rattle.reshape_ends.specs.shape_views_Views.{Ledger};
+ghost use Rattle.reshape_ends.specs.shape_changes_Safety.{HasLiveSlot, HasRoomLeft, IsRisen};
+ghost use Rattle.reshape_ends.specs.shape_changes_Marking.{AreOthersPresent};
+ghost use Rattle.reshape_ends.specs.shape_changes_Steady.{AreUnlost, IsSafeOver, AreGoneTold};
+ghost use Rattle.reshape_ends.specs.shape_changes_Changing.{IsChanged, IsSafeChange};
+ghost use Rattle.reshape_ends.specs.shape_ends_Ends.{IsToldWith};
+ghost use Rattle.reshape_ends.specs.shape_ends_Takeovers.{IsTakenUp, IsTakenDown};
+ghost use Rattle.reshape_ends.specs.views_Placed.{IsPlaced};
+ghost use Rattle.reshape_ends.specs.views_Moving.{Grows, IsMoved};
+ghost use Rattle.reshape_ends.specs.views_Lacking.{HaveFailedSince};
+ghost use Rattle.reshape_ends.specs.views_Rebuilding.{AreSparesFree};
 ghost use Rattle.reshape_ends.specs.safe_updates_Named.{AreNamedMissing};
 ghost use Rattle.takeover_updates.specs.TakingOver.{with_level, IsTakenTo, CanTakeOver, level_give, taking_over, taken_plan};
 
 use bank::Bank;
 use md_base::Shape;
-use reshape_ends::safe_updates::flushes::holders;
+use reshape_ends::holders;
 use sb1::Sb;
 use superblock_updates::update;
 use superblocks::sets::{with, without};
@@ -76,7 +77,8 @@ fn holders_then(members: &Members, to: &Shape, slot: u32) -> u32
     requires slot { slot < 32 }
     requires few { length members.now.roles < 2 ^ 32 }
     requires small { (role slot : ℕ) → holder (role_state (reading_of members.now) role) ≡ Some slot → slot < 32 }
-    ensures { (s : ℕ) → has_slot result s ≡ true → (role : ℕ) × (planned_role members.now.roles (give_of (taking_over members.now to.now slot).gives s) s ≡ Some role) }
+    ensures only { (s : ℕ) → has_slot result s ≡ true → (role : ℕ) × (planned_role members.now.roles (give_of (taking_over members.now to.now slot).gives s) s ≡ Some role) }
+    ensures all { (s role : ℕ) → s < 32 → planned_role members.now.roles (give_of (taking_over members.now to.now slot).gives s) s ≡ Some role → has_slot result s ≡ true }
 {
     let held = holders(members);
     if to.level == 6 {
@@ -116,6 +118,7 @@ pub fn take_over<B: Bank>(members: &mut Members, bank: &mut B, to: &Shape, slot:
     ensures plan { IsTakenUp members.old (taken_plan members.old to.now slot) ⊎ IsTakenDown members.old (taken_plan members.old to.now slot) }
     ensures moved { IsMoved (B.given bank.old) (taken_plan members.old to.now slot) members.new }
     ensures failed { HaveFailedSince (taken_plan members.old to.now slot) members.new result (B.faults_of bank.old) (B.faults_of bank.new) }
+    ensures spares { (s : ℕ) → has_slot result s ≡ true → has_spare (taken_plan members.old to.now slot).spares s ≡ true }
     ensures free { AreSparesFree (B.given bank.old) members.new }
     ensures named { HasLiveSlot members.new → AreNamedMissing members.new }
     ensures others { B.tells → AreOthersPresent (present (B.given bank.old) (B.tape bank.old)) (present (B.given bank.old) (B.tape bank.new)) }

@@ -35,13 +35,13 @@ use Rattle.flat_history.specs.Plain.{entries_of}
 use Rattle.flat_history.specs.Sound.{OpensFit}
 use Rattle.flat_history.specs.Stands.{reach_of}
 use Rattle.flat_history.specs.World.{World}
-use Rattle.shape_views.specs.Regions.{ArePlaced}
-use Rattle.shape_views.specs.Views.{Ledger}
-use Rattle.shape_views.proofs.Stands.{final-still}
-use Rattle.shape_changes.specs.Changing.{IsSafeChange}
-use Rattle.shape_changes.specs.Safety.{HasLiveSlot, HasRoomLeft, IsRisen}
-use Rattle.shape_changes.specs.Steady.{IsSafeOver, AreGoneTold}
-use Rattle.shape_ends.specs.Ends.{IsCleared, IsToldWith}
+use Rattle.moving_steps.specs.shape_views_Regions.{ArePlaced}
+use Rattle.moving_steps.specs.shape_views_Views.{Ledger}
+use Rattle.moving_steps.proofs.shape_views_Stands.{final-still}
+use Rattle.moving_steps.specs.shape_changes_Changing.{IsSafeChange}
+use Rattle.moving_steps.specs.shape_changes_Safety.{HasLiveSlot, HasRoomLeft, IsRisen}
+use Rattle.moving_steps.specs.shape_changes_Steady.{IsSafeOver, AreGoneTold}
+use Rattle.moving_steps.specs.shape_ends_Ends.{IsCleared, IsToldWith}
 use Rattle.moving_steps.specs.reshape_updates_Beginning.{HasBegun, goes_back, with_reshape, beginning}
 use Rattle.moving_steps.proofs.reshape_updates_BegunNewest.{has-begun}
 use Rattle.moving_steps.specs.reshape_ends_Begun.{IsBackupOf, IsBegunBehind, begun_plan}
@@ -64,10 +64,10 @@ use Rattle.grow_asked.specs.declared.window.PhasesLeft.{PhasesLeft}
 use Rattle.grow_asked.specs.declared.window.Window.TheVariants.{Closed}
 use Rattle.grow_asked.specs.Left.{IsAtStartOf, IsReshapeUnderWay, phases_of, grow_left, reshape_left, steps_from}
 use Rattle.grow_asked.proofs.LeftLaws.{beginning as beginning-left}
-use Rattle.kept_history.specs.Recorded.{IsOpenBehind, IsLengthKept as IsResizeKept}
-use Rattle.kept_history.specs.Safe.{world_in, TakesNone}
-use Rattle.kept_history.proofs.Entered.{lost-taken}
-use Rattle.kept_history.proofs.Tests.{neither}
+use Rattle.moving_steps.specs.kept_history_Recorded.{IsOpenBehind, IsLengthKept as IsResizeKept}
+use Rattle.moving_steps.specs.kept_history_Safe.{world_in, TakesNone}
+use Rattle.moving_steps.proofs.kept_history_Entered.{lost-taken}
+use Rattle.moving_steps.proofs.kept_history_Tests.{neither}
 use Rattle.moving_steps.proofs.history_calls_Behind.{IsAmong, early-losses}
 use Rattle.moving_steps.specs.course_kept_Laws.{closed}
 use Rattle.moving_steps.specs.moving_kept_Moving.{IsMoving}
@@ -78,7 +78,7 @@ use Rattle.moving_steps.proofs.still_kept_Bridges.{stands-kept}
 use Rattle.moving_steps.specs.running_words_Parts.{still_left}
 use Rattle.moving_steps.proofs.running_words_Called.{not_254}
 use Rattle.moving_steps.proofs.running_words_Lengths.{IsLengthKept, behind-keeps}
-use Rattle.moving_steps.proofs.running_words_Visible.{limit-kept}
+use Rattle.moving_steps.proofs.running_words_VisibleLaws.{limit-kept}
 use Rattle.still_steps.specs.still_laws_Ready.{IsReady as IsReadyStill}
 use Rattle.moving_steps.specs.moving_laws_Ready.{IsReady as IsReadyMoving}
 use Rattle.moving_steps.proofs.moving_laws_Kept.{left_by}

@@ -21,7 +21,7 @@ use Rattle.flat_history.specs.declared.events.StepKind.TheVariants.{Finished}
 use Rattle.flat_history.specs.Losses.{is_unsynced}
 use Rattle.flat_history.specs.Plain.{entries_of}
 use Rattle.flat_history.specs.Reshaped.{open_plans}
-use Rattle.shape_changes.specs.Updates.{IsAtEnd}
+use Rattle.moving_steps.specs.shape_changes_Updates.{IsAtEnd}
 use Rattle.moving_steps.specs.reshape_ends_Finished.{AreLostInEnd}
 use Rattle.views.specs.declared.work.Work.{Work}
 use Rattle.views.specs.Numbers.{is_carried}
@@ -34,8 +34,8 @@ use Rattle.call_entries.proofs.PlainLaws.{one}
 use Rattle.moving_steps.specs.array_kept_Calls.{AreLossesOf, IsLossBy}
 use Rattle.grow_asked.specs.declared.window.PhasesLeft.{PhasesLeft}
 use Rattle.grow_asked.specs.Left.{phases_of, zeroed_by}
-use Rattle.kept_history.specs.Recorded.{IsCallGoing}
-use Rattle.kept_history.specs.Safe.{world_in}
+use Rattle.moving_steps.specs.kept_history_Recorded.{IsCallGoing}
+use Rattle.moving_steps.specs.kept_history_Safe.{world_in}
 use Rattle.moving_steps.specs.course_kept_the_Course.{Course}
 use Rattle.moving_steps.specs.course_kept_Laws.{closed}
 use Rattle.moving_steps.specs.moving_kept_Moving.{IsMoving}
@@ -45,7 +45,7 @@ use Rattle.moving_steps.specs.running_words_Parts.{left_in, still_left}
 use Rattle.moving_steps.specs.running_words_Plans.{GoTo, turns_shape}
 use Rattle.still_steps.proofs.still_laws_Closing.{LeadTo, plans-of, ahead-none}
 use Rattle.moving_steps.proofs.running_words_Called.{not_254}
-use Rattle.moving_steps.proofs.running_words_Visible.{limit-kept}
+use Rattle.moving_steps.proofs.running_words_VisibleLaws.{limit-kept}
 use Rattle.still_steps.specs.still_laws_Ready.{IsReady as IsReadyStill}
 use Rattle.still_steps.proofs.still_laws_Plain.{IsLeftPlain, turned-plain, turns-behind}
 use Rattle.moving_steps.specs.moving_laws_Ready.{IsReady as IsReadyMoving, bytes_in}

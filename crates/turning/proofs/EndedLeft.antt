@@ -16,8 +16,8 @@ use Rattle.flat_history.specs.declared.events.Event.{Event}
 use Rattle.flat_history.specs.declared.events.Event.TheVariants.{Lost}
 use Rattle.flat_history.specs.Legal.{disturbs}
 use Rattle.flat_history.specs.Plain.{entries_of, loses_role}
-use Rattle.shape_views.proofs.Stands.{final-still}
-use Rattle.shape_ends.specs.Plans.{HasNoneRecovering}
+use Rattle.moving_steps.proofs.shape_views_Stands.{final-still}
+use Rattle.moving_steps.specs.shape_ends_Plans.{HasNoneRecovering}
 use Rattle.moving_steps.specs.reshape_ends_Finished.{IsOver}
 use Rattle.views.specs.declared.work.Work.{Work}
 use Rattle.views.specs.Placed.{is_vacant, AreWhole}

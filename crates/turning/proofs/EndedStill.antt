@@ -28,15 +28,15 @@ use Rattle.flat_history.specs.Losses.{is_resync_end, is_unsynced, loses}
 use Rattle.flat_history.specs.Plain.{entries_of}
 use Rattle.flat_history.specs.Sound.{OpensFit}
 use Rattle.flat_history.specs.World.{World}
-use Rattle.shape_views.specs.Regions.{ArePlaced}
-use Rattle.shape_views.specs.Views.{Ledger}
-use Rattle.shape_views.proofs.Stands.{final-still}
-use Rattle.shape_changes.specs.Changing.{IsSafeChange}
-use Rattle.shape_changes.specs.Marking.{AreOthersPresent}
-use Rattle.shape_changes.specs.Safety.{HasRoomLeft, IsRisen}
-use Rattle.shape_changes.specs.Steady.{AreUnlost, IsSafeOver, AreGoneTold, IsUncleanTold}
-use Rattle.shape_changes.specs.Updates.{IsAtEnd}
-use Rattle.shape_ends.specs.Plans.{HasNoneRecovering}
+use Rattle.moving_steps.specs.shape_views_Regions.{ArePlaced}
+use Rattle.moving_steps.specs.shape_views_Views.{Ledger}
+use Rattle.moving_steps.proofs.shape_views_Stands.{final-still}
+use Rattle.moving_steps.specs.shape_changes_Changing.{IsSafeChange}
+use Rattle.moving_steps.specs.shape_changes_Marking.{AreOthersPresent}
+use Rattle.moving_steps.specs.shape_changes_Safety.{HasRoomLeft, IsRisen}
+use Rattle.moving_steps.specs.shape_changes_Steady.{AreUnlost, IsSafeOver, AreGoneTold, IsUncleanTold}
+use Rattle.moving_steps.specs.shape_changes_Updates.{IsAtEnd}
+use Rattle.moving_steps.specs.shape_ends_Plans.{HasNoneRecovering}
 use Rattle.moving_steps.specs.reshape_updates_Ending.{ending}
 use Rattle.moving_steps.specs.reshape_ends_Finished.{IsOver, IsEndedBehind, AreLostInEnd, IsFinishable}
 use Rattle.views.specs.declared.work.Work.{Work}
@@ -50,11 +50,11 @@ use Rattle.call_entries.specs.Losing.{losses_of}
 use Rattle.call_entries.proofs.CallLaws.{AreLossEvents, losses-are, ends-losses, limit-losses}
 use Rattle.grow_asked.specs.declared.window.PhasesLeft.{PhasesLeft}
 use Rattle.grow_asked.specs.Left.{zeroed_by}
-use Rattle.kept_history.specs.Recorded.{IsCallGoing}
-use Rattle.kept_history.specs.Safe.{world_in, TakesNone, KeepsLevel}
-use Rattle.kept_history.proofs.Entered.{lost-taken}
-use Rattle.kept_history.proofs.Ledgers.{unsynced-still}
-use Rattle.kept_history.proofs.Tests.{neither}
+use Rattle.moving_steps.specs.kept_history_Recorded.{IsCallGoing}
+use Rattle.moving_steps.specs.kept_history_Safe.{world_in, TakesNone, KeepsLevel}
+use Rattle.moving_steps.proofs.kept_history_Entered.{lost-taken}
+use Rattle.moving_steps.proofs.kept_history_Ledgers.{unsynced-still}
+use Rattle.moving_steps.proofs.kept_history_Tests.{neither}
 use Rattle.moving_steps.proofs.history_calls_Behind.{IsAmong}
 use Rattle.moving_steps.specs.course_kept_Laws.{closed}
 use Rattle.moving_steps.specs.moving_kept_Moving.{IsMoving, IsStillKept}

@@ -33,13 +33,13 @@ use Rattle.flat_history.specs.declared.events.StepKind.TheVariants.{Finished}
 use Rattle.flat_history.specs.Legal.{disturbs}
 use Rattle.flat_history.specs.Plain.{entries_of}
 use Rattle.flat_history.specs.World.{World}
-use Rattle.shape_views.specs.Regions.{AreShapesFit, DoWithout}
-use Rattle.shape_views.specs.Views.{Ledger}
-use Rattle.shape_changes.specs.Marking.{AreOthersPresent}
-use Rattle.shape_changes.specs.Safety.{HasRoomLeft, IsRisen}
-use Rattle.shape_changes.specs.Steady.{IsSafeOver, KeepsSafe, AreGoneTold, IsUncleanTold}
-use Rattle.shape_ends.specs.Plans.{HasNoneRecovering}
-use Rattle.shape_changes.proofs.Without.{any-holds}
+use Rattle.moving_steps.specs.shape_views_Regions.{AreShapesFit, DoWithout}
+use Rattle.moving_steps.specs.shape_views_Views.{Ledger}
+use Rattle.moving_steps.specs.shape_changes_Marking.{AreOthersPresent}
+use Rattle.moving_steps.specs.shape_changes_Safety.{HasRoomLeft, IsRisen}
+use Rattle.moving_steps.specs.shape_changes_Steady.{IsSafeOver, KeepsSafe, AreGoneTold, IsUncleanTold}
+use Rattle.moving_steps.specs.shape_ends_Plans.{HasNoneRecovering}
+use Rattle.moving_steps.proofs.shape_changes_Without.{any-holds}
 use Rattle.moving_steps.specs.reshape_updates_Ending.{holds_from, dropped_give, ending}
 use Rattle.moving_steps.proofs.reshape_updates_EndedPlan.{disks-are}
 use Rattle.moving_steps.specs.reshape_ends_Finished.{AreLostInEnd, IsEndedBehind, IsOver}
@@ -57,8 +57,8 @@ use Rattle.call_entries.specs.Losing.{losses_of}
 use Rattle.moving_steps.specs.array_kept_Calls.{TellNoLoss}
 use Rattle.grow_asked.specs.declared.window.PhasesLeft.{PhasesLeft}
 use Rattle.grow_asked.specs.Left.{zeroed_by}
-use Rattle.kept_history.specs.Recorded.{IsCallGoing}
-use Rattle.kept_history.specs.Safe.{world_in}
+use Rattle.moving_steps.specs.kept_history_Recorded.{IsCallGoing}
+use Rattle.moving_steps.specs.kept_history_Safe.{world_in}
 use Rattle.moving_steps.proofs.history_calls_Behind.{IsAmong}
 use Rattle.moving_steps.specs.course_kept_the_Course.{Course}
 use Rattle.moving_steps.specs.course_kept_Course.{IsCourseOf}

@@ -20,16 +20,16 @@ use Rattle.flat_history.specs.Flat.{now}
 use Rattle.flat_history.specs.Plain.{entries_of}
 use Rattle.flat_history.specs.Sound.{OpensFit}
 use Rattle.flat_history.specs.World.{World, opening_list}
-use Rattle.shape_views.specs.Views.{Ledger}
-use Rattle.shape_changes.specs.Safety.{HasLiveSlot, IsRisen}
-use Rattle.shape_changes.specs.Steady.{IsSafeOver, KeepsSafe}
-use Rattle.shape_ends.specs.Plans.{HasNoneRecovering}
+use Rattle.moving_steps.specs.shape_views_Views.{Ledger}
+use Rattle.moving_steps.specs.shape_changes_Safety.{HasLiveSlot, IsRisen}
+use Rattle.moving_steps.specs.shape_changes_Steady.{IsSafeOver, KeepsSafe}
+use Rattle.moving_steps.specs.shape_ends_Plans.{HasNoneRecovering}
 use Rattle.views.specs.declared.work.Work.{Work}
 use Rattle.views.specs.Moving.{Grows}
 use Rattle.views.proofs.MovedLaws.{moved-same}
 use Rattle.moving_steps.proofs.array_kept_KeptLaws.{left-lost}
-use Rattle.kept_history.specs.Recorded.{IsCallGoing}
-use Rattle.kept_history.specs.Safe.{world_in}
+use Rattle.moving_steps.specs.kept_history_Recorded.{IsCallGoing}
+use Rattle.moving_steps.specs.kept_history_Safe.{world_in}
 use Rattle.moving_steps.proofs.history_calls_Behind.{AreEarly}
 use Rattle.moving_steps.specs.still_kept_Still.{HasListStood, IsStill}
 use Rattle.moving_steps.proofs.still_kept_Quiet.{early-stands}

@@ -22,11 +22,11 @@ use Rattle.superblocks.specs.Reading.{is_reshaping, is_whole, shape_of, role_cou
 use Rattle.superblocks.specs.Update.{give_of, is_held_by, planned_role}
 use Rattle.superblock_reads.proofs.SaidLists.{held-holder}
 use Rattle.row_io.specs.Rows.{reading_of, is_missing}
-use Rattle.shape_changes.specs.Safety.{HasLiveSlot}
-use Rattle.shape_changes.specs.Steady.{AreUnlost}
-use Rattle.shape_changes.specs.Updates.{HasOneHolder}
-use Rattle.shape_changes.proofs.PlannedRoles.{count-planned, planned-held}
-use Rattle.shape_ends.specs.Plans.{HasNoneRecovering}
+use Rattle.moving_steps.specs.shape_changes_Safety.{HasLiveSlot}
+use Rattle.moving_steps.specs.shape_changes_Steady.{AreUnlost}
+use Rattle.moving_steps.specs.shape_changes_Updates.{HasOneHolder}
+use Rattle.moving_steps.proofs.shape_changes_PlannedRoles.{count-planned, planned-held}
+use Rattle.moving_steps.specs.shape_ends_Plans.{HasNoneRecovering}
 use Rattle.moving_steps.specs.reshape_updates_Beginning.{beginning}
 use Rattle.moving_steps.proofs.reshape_updates_BegunPlan.{new-count, taking}
 use Rattle.moving_steps.proofs.reshape_updates_NewRoles.{new-or, new-taken}

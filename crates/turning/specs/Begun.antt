@@ -33,7 +33,7 @@ use Rattle.moving_steps.specs.reshape_ends_Begun.{begun_plan}
 use Rattle.grow_asked.specs.declared.window.PhasesLeft.{PhasesLeft}
 use Rattle.grow_asked.specs.Left.{IsAtStartOf}
 use Rattle.grow_asked.specs.Asked.{lowest_missing}
-use Rattle.kept_history.specs.Recorded.{IsCallGoing}
+use Rattle.moving_steps.specs.kept_history_Recorded.{IsCallGoing}
 use Rattle.moving_steps.specs.course_kept_Laws.{closed}
 use Rattle.moving_steps.specs.still_kept_Still.{AreNoneMissing}
 use Rattle.moving_steps.specs.running_words_Parts.{RunningParts, left_in, still_left}
@@ -101,13 +101,14 @@ abbrev pub begun_length : Bool → ℕ → List Event
 begun_length back size = if back then Resized size ∷ [] else []
 
 -- A call entered that the reshape began, with so many steps left, and behind it the new length, where the list gets shorter, and what its update lost: each role that no slot holds then, and each
--- spare of the plan that is none then.
+-- spare of the plan that is none then, and no other slot as a spare.
 pub record IsBegunWith (who : Who) (back : Bool) (size : ℕ) (plan later : Members) (old new : List Entry) (left : ℕ) : Type 0 where
   pub roles : ℕ
   pub spares : ℕ
   pub end : ℕ
   pub roles_told : (role : ℕ) → role < role_count later.newest → is_vacant (reading_of later) role ≡ true → has_slot roles role ≡ true
   pub spares_told : (slot : ℕ) → has_spare plan.spares slot ≡ true → (has_spare later.spares slot ≡ true) ⊎ (has_slot spares slot ≡ true)
+  pub spares_were : (slot : ℕ) → has_slot spares slot ≡ true → has_spare plan.spares slot ≡ true
   pub is : new ≡ old ++ entries_of who end (Step Begun left ∷ begun_length back size ++ losses_of roles spares)
 
 -- The reshape to this shape has begun: no role was missing, and the lowest spares have the new roles, but those slots that failed in it; the list is as long as both shapes have room

@@ -15,7 +15,7 @@ use Rattle.flat_history.specs.declared.events.Event.TheVariants.{Step, Resized}
 use Rattle.flat_history.specs.declared.events.StepKind.TheVariants.{Finished}
 use Rattle.flat_history.specs.Plain.{entries_of}
 use Rattle.call_entries.specs.Losing.{losses_of}
-use Rattle.shape_changes.specs.Marking.{AreOthersPresent}
+use Rattle.moving_steps.specs.shape_changes_Marking.{AreOthersPresent}
 use Rattle.moving_steps.specs.reshape_ends_Finished.{IsOver}
 use Rattle.views.specs.Lacking.{AreTooMany}
 use Rattle.views.specs.Moving.{Grows}

@@ -28,3 +28,14 @@ pub use Rattle.still_steps.specs.Stepping as still_steps_Stepping
 pub use Rattle.still_steps.specs.still_laws_Plain
 pub use Rattle.still_steps.specs.still_laws_Ready
 pub use Rattle.still_steps.specs.still_laws_Steps
+pub use Rattle.views.specs.Status as views_Status
+pub use Rattle.views.specs.Rebuilding as views_Rebuilding
+pub use Rattle.views.specs.Placed as views_Placed
+pub use Rattle.views.specs.declared.work.Work as views_the_Work
+pub use Rattle.moving_steps.specs.kept_history_Recorded
+pub use Rattle.moving_steps.specs.kept_history_Safe
+pub use Rattle.moving_steps.specs.shape_changes_Safety
+pub use Rattle.views.specs.Lacking as views_Lacking
+pub use Rattle.views.specs.Moving as views_Moving
+pub use Rattle.moving_steps.specs.shape_changes_Marking
+pub use Rattle.moving_steps.specs.shape_views_Regions

@@ -8,7 +8,7 @@ ghost use Rattle.row_io.specs.Rows.{reading_of};
 ghost use Rattle.flat_history.specs.declared.events.Event.TheVariants.{Step, Refused};
 ghost use Rattle.flat_history.specs.declared.events.StepKind.TheVariants.{Finished as HasFinished};
 ghost use Rattle.flat_history.specs.Plain.{entries_of};
-ghost use Rattle.shape_views.specs.Regions.{AreShapesFit};
+ghost use Rattle.moving_steps.specs.shape_views_Regions.{AreShapesFit};
 ghost use Rattle.views.specs.Lacking.{AreTooMany};
 ghost use Rattle.views.specs.Placed.{is_vacant};
 ghost use Rattle.views.specs.Status.{stripes_of};
@@ -17,7 +17,7 @@ ghost use Rattle.moving_steps.specs.array_kept_Calls.{IsBehind};
 ghost use Rattle.grow_asked.specs.Left.{phases_of};
 ghost use Rattle.moving_steps.specs.moving_state_Due.{due_of};
 ghost use Rattle.moving_steps.specs.moving_state_the_Due_TheVariants.{Finish};
-ghost use Rattle.kept_history.specs.Recorded.{IsCallGoing};
+ghost use Rattle.moving_steps.specs.kept_history_Recorded.{IsCallGoing};
 ghost use Rattle.moving_steps.specs.running_words_Calls.{IsCalled, moving_world};
 ghost use Rattle.moving_steps.specs.running_words_Parts.{still_left};
 ghost use Rattle.moving_steps.specs.running_words_Plans.{ArePlansKept};
@@ -29,14 +29,11 @@ use call_entries::calls::{enter, enter_behind, enter_lost};
 use flat_history::{Epoch, Event, StepKind};
 use grow_asked::{PhasesLeft, planned_left};
 use md_base::{Refusal, Role, Who};
-use moving_steps::array_state::asking::steps_left;
-use moving_steps::moving::Moving;
-use moving_steps::moving_state::reshape::list_sectors;
-use moving_steps::reshape_ends::{Finished, finish};
-use moving_steps::safe_updates::naming::newly_vacant;
-use moving_steps::safe_updates::refusing::too_many;
-use moving_steps::safe_updates::roles::{final_in, list_length, shape_in, vacant_roles};
-use still_steps::still::Still;
+use moving_steps::{
+    Finished, Moving, final_in, finish, list_length, list_sectors, newly_vacant, shape_in,
+    steps_left, too_many, vacant_roles,
+};
+use still_steps::Still;
 use superblocks::Members;
 use superblocks::sets::{with, without};
 use views::Work;

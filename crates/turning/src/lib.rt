@@ -7,15 +7,8 @@ mod refusing;
 
 pub use beginning::begin_reshape;
 pub use ending::finish_reshape;
-pub use moving_steps::array_state::absent::enter_all_absent;
-pub use moving_steps::array_state::asking::steps_left;
-pub use moving_steps::array_state::holders::holds_role;
-pub use moving_steps::array_state::room::{Room, room_for, zeros};
-pub use moving_steps::array_state::work::found_numbers;
-pub use moving_steps::course_kept::Course;
-pub use moving_steps::moving::Moving;
-pub use moving_steps::moving_state::reshape::list_sectors;
-pub use moving_steps::moving_state::stepping::{Due, due_step};
-pub use moving_steps::{answer, make_room};
-pub use still_steps::still::{Opened, Still};
-pub use still_steps::{first_recovering, still_step};
+pub use moving_steps::{
+    Course, Due, Moving, Room, answer, due_step, enter_all_absent, found_numbers, holds_role,
+    list_sectors, make_room, room_for, steps_left, zeros,
+};
+pub use still_steps::{Opened, Still, first_recovering, still_step};

@@ -9,7 +9,7 @@ ghost use Rattle.moving_steps.specs.still_kept_Still.{AreNoneMissing};
 ghost use Rattle.turning.specs.Begun.{CanBegin, IsUnbegun};
 
 use md_base::{Refusal, Shape};
-use moving_steps::safe_updates::roles::{is_spare, shape_in};
+use moving_steps::{is_spare, shape_in};
 use row_io::is_missing;
 use superblocks::Members;
 

@@ -27,3 +27,33 @@ pub mod FilledParts
 pub mod Gives
 pub mod GivenMembers
 pub mod Still
+pub use Rattle.shape_changes.proofs.Without as shape_changes_Without
+pub use Rattle.shape_changes.proofs.ChangeViews as shape_changes_ChangeViews
+pub use Rattle.shape_changes.proofs.Kept as shape_changes_Kept
+pub use Rattle.shape_changes.proofs.PlannedRoles as shape_changes_PlannedRoles
+pub use Rattle.shape_changes.proofs.KeptSafe as shape_changes_KeptSafe
+pub use Rattle.shape_changes.proofs.LessViews as shape_changes_LessViews
+pub use Rattle.shape_changes.proofs.UpdateViews as shape_changes_UpdateViews
+pub use Rattle.shape_changes.proofs.Carried as shape_changes_Carried
+pub use Rattle.shape_changes.proofs.Stretch as shape_changes_Stretch
+pub use Rattle.shape_changes.proofs.CalledLaws as shape_changes_CalledLaws
+pub use Rattle.shape_changes.proofs.ChangeSafe as shape_changes_ChangeSafe
+pub use Rattle.shape_changes.proofs.Risen as shape_changes_Risen
+pub use Rattle.shape_views.proofs.Stands as shape_views_Stands
+pub use Rattle.shape_views.proofs.Alike as shape_views_Alike
+pub use Rattle.shape_changes.proofs.Steady as shape_changes_Steady
+pub use Rattle.shape_views.proofs.Judged as shape_views_Judged
+pub use Rattle.shape_changes.proofs.Drawn as shape_changes_Drawn
+pub use Rattle.shape_changes.proofs.Since as shape_changes_Since
+pub use Rattle.shape_changes.proofs.Spent as shape_changes_Spent
+pub use Rattle.shape_views.proofs.WindowLaws as shape_views_WindowLaws
+pub use Rattle.shape_changes.proofs.FitKinds as shape_changes_FitKinds
+pub use Rattle.shape_changes.proofs.HeldKept as shape_changes_HeldKept
+pub use Rattle.shape_views.proofs.BackupLaws as shape_views_BackupLaws
+pub use Rattle.shape_views.proofs.UnderWay as shape_views_UnderWay
+pub use Rattle.shape_views.proofs.Headers as shape_views_Headers
+pub use Rattle.shape_views.proofs.Tails as shape_views_Tails
+pub use Rattle.shape_changes.proofs.PlansLose as shape_changes_PlansLose
+pub use Rattle.shape_changes.proofs.Started as shape_changes_Started
+pub use Rattle.shape_views.proofs.SoundViews as shape_views_SoundViews
+pub use Rattle.shape_views.proofs.Standing as shape_views_Standing

@@ -16,14 +16,14 @@ use Rattle.superblocks.specs.Reading.{data_offset_of}
 use Rattle.row_io.specs.Rows.{reading_of, held_slot}
 use Rattle.list_io.specs.Full.{RowStands}
 use Rattle.flat_history.specs.Stands.{covers, shape_for}
-use Rattle.shape_views.specs.Regions.{place_by}
-use Rattle.shape_views.specs.Windows.{IsShown}
-use Rattle.shape_views.proofs.UnderWay.{in-or-out}
-use Rattle.views.specs.Placed.{IsPlaced}
-use Rattle.views.specs.Moving.{IsMoved}
-use Rattle.views.proofs.Fit.{list-alike, for-alike}
-use Rattle.views.proofs.HeldRows.{held-moved}
-use Rattle.views.proofs.LackingLists.{row-moved}
+use Rattle.window_steps.specs.shape_views_Regions.{place_by}
+use Rattle.window_steps.specs.shape_views_Windows.{IsShown}
+use Rattle.window_steps.proofs.shape_views_UnderWay.{in-or-out}
+use Rattle.window_steps.specs.views_Placed.{IsPlaced}
+use Rattle.window_steps.specs.views_Moving.{IsMoved}
+use Rattle.window_steps.proofs.views_Fit.{list-alike, for-alike}
+use Rattle.window_steps.proofs.views_HeldRows.{held-moved}
+use Rattle.window_steps.proofs.views_LackingLists.{row-moved}
 use Rattle.region_rows.specs.Stretches.{IsShapeOf, ListStandsIn, RowsStandIn, IsListUnread}
 use Rattle.region_rows.proofs.StretchReads.{part-long, sector-here, sector-before}
 use Rattle.window_calls.specs.Fetching.{IsShapeBeside, IsUnreadBeside}

@@ -21,21 +21,21 @@ use Rattle.row_io.specs.Rows.{reading_of, held_slot}
 use Rattle.row_io.proofs.Losses.{holder-of}
 use Rattle.list_io.specs.Full.{RowStands}
 use Rattle.flat_history.specs.Stands.{shape_for, has_room, backup_absent}
-use Rattle.shape_views.specs.Regions.{backup_of, place_by, ArePlaced}
-use Rattle.shape_views.specs.Views.{AreHeadersFit, Disk, Ledger}
-use Rattle.shape_views.specs.Windows.{IsShown, IsCopyable, ListStands, RowsStand, moved_past}
-use Rattle.shape_views.proofs.Stands.{StandsAt, moved-stands, moved-rows-stand}
-use Rattle.shape_views.proofs.UnderWay.{row-apart}
-use Rattle.shape_changes.specs.Marking.{AreOthersPresent}
-use Rattle.shape_changes.specs.Steady.{AreGoneTold}
-use Rattle.views.specs.Placed.{IsPlaced, AreStillHeld}
-use Rattle.views.specs.Moving.{IsMoved}
-use Rattle.views.specs.Lacking.{IsOfStripe, AreOtherRowsKept}
-use Rattle.views.proofs.Fit.{list-alike, for-alike}
-use Rattle.views.proofs.HeldRows.{held-moved, without-before}
-use Rattle.views.proofs.LackingLists.{row-moved}
-use Rattle.views.proofs.LackingWrites.{others-then}
-use Rattle.views.proofs.SafeStretch.{allowed-later, zeros-later, gone-before}
+use Rattle.window_steps.specs.shape_views_Regions.{backup_of, place_by, ArePlaced}
+use Rattle.window_steps.specs.shape_views_Views.{AreHeadersFit, Disk, Ledger}
+use Rattle.window_steps.specs.shape_views_Windows.{IsShown, IsCopyable, ListStands, RowsStand, moved_past}
+use Rattle.window_steps.proofs.shape_views_Stands.{StandsAt, moved-stands, moved-rows-stand}
+use Rattle.window_steps.proofs.shape_views_UnderWay.{row-apart}
+use Rattle.window_steps.specs.shape_changes_Marking.{AreOthersPresent}
+use Rattle.window_steps.specs.shape_changes_Steady.{AreGoneTold}
+use Rattle.window_steps.specs.views_Placed.{IsPlaced, AreStillHeld}
+use Rattle.window_steps.specs.views_Moving.{IsMoved}
+use Rattle.window_steps.specs.views_Lacking.{IsOfStripe, AreOtherRowsKept}
+use Rattle.window_steps.proofs.views_Fit.{list-alike, for-alike}
+use Rattle.window_steps.proofs.views_HeldRows.{held-moved, without-before}
+use Rattle.window_steps.proofs.views_LackingLists.{row-moved}
+use Rattle.window_steps.proofs.views_LackingWrites.{others-then}
+use Rattle.window_steps.proofs.views_SafeStretch.{allowed-later, zeros-later, gone-before}
 use Rattle.window_steps.proofs.safe_updates_Under.{shown-moved, shown-rows-moved}
 use Rattle.window_steps.specs.Copying.{AreHeadersKept}
 use Rattle.window_steps.specs.Recording.{AreOthersFewer, IsCopiedWindow}

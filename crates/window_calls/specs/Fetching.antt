@@ -7,8 +7,8 @@ use Rattle.md_base.specs.declared.answers.Refusal.TheVariants.{NotResynced as Un
 use Rattle.sb1.specs.declared.sb.Sb.{Sb}
 use Rattle.superblocks.specs.declared.members.Members.{Members}
 use Rattle.flat_history.specs.Stands.{shape_for, covers}
-use Rattle.shape_views.specs.Regions.{place_by}
-use Rattle.views.specs.Lacking.{LacksTooMany}
+use Rattle.window_steps.specs.shape_views_Regions.{place_by}
+use Rattle.window_steps.specs.views_Lacking.{LacksTooMany}
 use Rattle.region_rows.specs.Stretches.{IsUnrelied}
 
 -- one of them outside the window is placed by this shape

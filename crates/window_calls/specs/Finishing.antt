@@ -10,11 +10,11 @@ use Rattle.superblocks.specs.declared.members.Members.{Members}
 use Rattle.superblocks.specs.Reading.{Scope, is_clean, final_shape}
 use Rattle.row_io.specs.Rows.{reading_of}
 use Rattle.list_io.specs.Full.{RowStands}
-use Rattle.shape_views.specs.Regions.{DoWithout}
-use Rattle.shape_views.specs.Views.{AreHeadersFit, IsTailZero, Disk, Ledger}
-use Rattle.shape_views.specs.Windows.{IsCopyable, ListStands, RowsStand, moved_past}
-use Rattle.shape_changes.specs.Steady.{AreWritesAllowed}
-use Rattle.window_rows.specs.Copies.{tail_of, IsCopied}
+use Rattle.window_steps.specs.shape_views_Regions.{DoWithout}
+use Rattle.window_steps.specs.shape_views_Views.{AreHeadersFit, IsTailZero, Disk, Ledger}
+use Rattle.window_steps.specs.shape_views_Windows.{IsCopyable, ListStands, RowsStand, moved_past}
+use Rattle.window_steps.specs.shape_changes_Steady.{AreWritesAllowed}
+use Rattle.window_steps.specs.window_rows_Copies.{tail_of, IsCopied}
 
 -- ---- the stripes of a window
 

@@ -9,25 +9,25 @@ ghost use Rattle.superblocks.specs.Reading.{is_clean, list_length};
 ghost use Rattle.row_io.specs.Rows.{present, members_without};
 ghost use Rattle.flat_history.specs.Stands.{covers};
 ghost use Rattle.flat_history.specs.World.{World};
-ghost use Rattle.shape_views.specs.Views.{Ledger};
-ghost use Rattle.shape_changes.specs.Steady.{AreUnlost, IsSafeOver, KeepsSafe, AreGoneTold, IsUncleanTold};
-ghost use Rattle.shape_changes.specs.Marking.{AreOthersPresent};
-ghost use Rattle.shape_changes.specs.Safety.{HasRoomLeft, IsRisen};
+ghost use Rattle.window_steps.specs.shape_views_Views.{Ledger};
+ghost use Rattle.window_steps.specs.shape_changes_Steady.{AreUnlost, IsSafeOver, KeepsSafe, AreGoneTold, IsUncleanTold};
+ghost use Rattle.window_steps.specs.shape_changes_Marking.{AreOthersPresent};
+ghost use Rattle.window_steps.specs.shape_changes_Safety.{HasRoomLeft, IsRisen};
 ghost use Rattle.window_steps.specs.safe_updates_Unused.{IsUnusedKept};
-ghost use Rattle.views.specs.Placed.{AreWhole, IsPlaced};
-ghost use Rattle.views.specs.Rebuilding.{AreSparesFree};
-ghost use Rattle.views.specs.Moving.{Grows, IsMoved};
-ghost use Rattle.views.specs.Lacking.{HaveFailedSince};
-ghost use Rattle.window_rows.specs.Copies.{HasWindow, IsRoomFor};
+ghost use Rattle.window_steps.specs.views_Placed.{AreWhole, IsPlaced};
+ghost use Rattle.window_steps.specs.views_Rebuilding.{AreSparesFree};
+ghost use Rattle.window_steps.specs.views_Moving.{Grows, IsMoved};
+ghost use Rattle.window_steps.specs.views_Lacking.{HaveFailedSince};
+ghost use Rattle.window_steps.specs.window_rows_Copies.{HasWindow, IsRoomFor};
 ghost use Rattle.region_rows.specs.Stretches.{ListStandsIn, RowsStandIn};
 ghost use Rattle.window_calls.specs.Fetching.{IsShapeBeside, IsUnreadBeside};
 
 use bank::Bank;
 use md_base::{Refusal, Span};
+use region_rows::Fetched;
 use region_rows::fetching::{fetch_list, read_regions};
-use region_rows::safe_rows::fetching::Fetched;
 use superblocks::Members;
-use window_steps::safe_updates::naming::name_missing;
+use window_steps::name_missing;
 
 // The window's part of the sectors from `first` up to `to`, which may be empty.
 fn part_of(span: &Span, first: u64, to: u64) -> Span

@@ -12,18 +12,18 @@ use Rattle.superblocks.specs.Reading.{Scope, list_length, next_window}
 use Rattle.backup.specs.Written.{header_of, cleared_header}
 use Rattle.backup.specs.Storing.{nth_sector, IsHeading, IsStoringOrNaming}
 use Rattle.backup.specs.Storing as backup
-use Rattle.shape_views.specs.Regions.{backup_of, open_by, AreShapesFit}
-use Rattle.shape_views.specs.Views.{Disk, Ledger}
-use Rattle.shape_views.specs.Windows.{HasNoSection}
-use Rattle.shape_views.specs.Backups.{IsSectionOf, IsOpenUnderAll, IsOpenOrNot, HasSectors}
-use Rattle.shape_views.proofs.BackupLaws.{cleared-shut, naming-unsure, named-is-open}
-use Rattle.shape_views.proofs.Headers.{backup-is, window-filled, window-short}
-use Rattle.shape_views.proofs.Stands.{window-inside}
-use Rattle.shape_changes.specs.Safety.{HasLiveSlot}
-use Rattle.shape_changes.specs.Steady.{IsSteady, IsSafeNow, IsSafeStretch}
-use Rattle.shape_changes.proofs.Drawn.{disk-somewhere}
-use Rattle.shape_changes.proofs.Steady.{steady-seen}
-use Rattle.window_rows.specs.Copies.{HasWindow, IsRoomFor}
+use Rattle.course_kept.specs.shape_views_Regions.{backup_of, open_by, AreShapesFit}
+use Rattle.course_kept.specs.shape_views_Views.{Disk, Ledger}
+use Rattle.course_kept.specs.shape_views_Windows.{HasNoSection}
+use Rattle.course_kept.specs.shape_views_Backups.{IsSectionOf, IsOpenUnderAll, IsOpenOrNot, HasSectors}
+use Rattle.course_kept.proofs.shape_views_BackupLaws.{cleared-shut, naming-unsure, named-is-open}
+use Rattle.course_kept.proofs.shape_views_Headers.{backup-is, window-filled, window-short}
+use Rattle.course_kept.proofs.shape_views_Stands.{window-inside}
+use Rattle.course_kept.specs.shape_changes_Safety.{HasLiveSlot}
+use Rattle.course_kept.specs.shape_changes_Steady.{IsSteady, IsSafeNow, IsSafeStretch}
+use Rattle.course_kept.proofs.shape_changes_Drawn.{disk-somewhere}
+use Rattle.course_kept.proofs.shape_changes_Steady.{steady-seen}
+use Rattle.course_kept.specs.window_rows_Copies.{HasWindow, IsRoomFor}
 use Rattle.window_entering.specs.Backup.{IsBackupFor}
 use Rattle.course_kept.proofs.window_steps_SteadyLaws.{sections-steady, clearing-steady}
 

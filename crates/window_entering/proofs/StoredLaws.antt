@@ -14,16 +14,16 @@ use Rattle.backup.specs.declared.section.SectionFault.{SectionFault}
 use Rattle.backup.specs.declared.section.SectionFault.TheVariants.{Before, Attempted}
 use Rattle.backup.specs.Written.{header_of}
 use Rattle.backup.specs.Storing.{IsStoringOrNaming}
-use Rattle.shape_views.specs.Regions.{backup_of, AreShapesFit}
-use Rattle.shape_views.specs.Views.{Disk, AreHeadersFit, IsHeaderFit}
-use Rattle.shape_views.specs.Windows.{HasNoSection}
-use Rattle.shape_views.specs.Backups.{HasSectors, IsOpenOrNot, IsOpenUnderAll}
-use Rattle.shape_views.proofs.Headers.{backup-is, own-header}
-use Rattle.shape_views.proofs.Stands.{alone}
-use Rattle.views.specs.Moving.{IsMoved}
-use Rattle.views.proofs.LackingLists.{row-sector}
+use Rattle.course_kept.specs.shape_views_Regions.{backup_of, AreShapesFit}
+use Rattle.course_kept.specs.shape_views_Views.{Disk, AreHeadersFit, IsHeaderFit}
+use Rattle.course_kept.specs.shape_views_Windows.{HasNoSection}
+use Rattle.course_kept.specs.shape_views_Backups.{HasSectors, IsOpenOrNot, IsOpenUnderAll}
+use Rattle.course_kept.proofs.shape_views_Headers.{backup-is, own-header}
+use Rattle.course_kept.proofs.shape_views_Stands.{alone}
+use Rattle.course_kept.specs.views_Moving.{IsMoved}
+use Rattle.course_kept.proofs.views_LackingLists.{row-sector}
 use Rattle.course_kept.specs.safe_updates_Unused.{IsUnused, IsUnusedKept}
-use Rattle.window_rows.specs.Copies.{IsRoomFor}
+use Rattle.course_kept.specs.window_rows_Copies.{IsRoomFor}
 use Rattle.grow_asked.specs.declared.window.Window.TheVariants.{Closed, Entered}
 use Rattle.course_kept.specs.Course.{IsStored}
 use Rattle.course_kept.proofs.Courses.{stored-moves}

@@ -15,18 +15,18 @@ use Rattle.row_io.specs.Rows.{present, reading_of}
 use Rattle.row_io.proofs.Written.{present-same}
 use Rattle.backup.specs.declared.section.SectionFault.{SectionFault}
 use Rattle.backup.specs.declared.section.SectionFault.TheVariants.{Before, Attempted}
-use Rattle.shape_views.specs.Regions.{backup_of, DoWithout}
-use Rattle.shape_views.specs.Views.{Disk}
-use Rattle.shape_views.specs.Windows.{HasNoSection}
-use Rattle.shape_views.proofs.Headers.{backup-is}
-use Rattle.shape_changes.specs.Marking.{AreOthersPresent}
-use Rattle.views.specs.Lacking.{AreOtherRowsKept, AreTooMany}
-use Rattle.views.specs.Moving.{IsMoved}
-use Rattle.views.specs.Placed.{IsPlaced}
-use Rattle.views.proofs.LackingWrites.{others-same}
+use Rattle.course_kept.specs.shape_views_Regions.{backup_of, DoWithout}
+use Rattle.course_kept.specs.shape_views_Views.{Disk}
+use Rattle.course_kept.specs.shape_views_Windows.{HasNoSection}
+use Rattle.course_kept.proofs.shape_views_Headers.{backup-is}
+use Rattle.course_kept.specs.shape_changes_Marking.{AreOthersPresent}
+use Rattle.course_kept.specs.views_Lacking.{AreOtherRowsKept, AreTooMany}
+use Rattle.course_kept.specs.views_Moving.{IsMoved}
+use Rattle.course_kept.specs.views_Placed.{IsPlaced}
+use Rattle.course_kept.proofs.views_LackingWrites.{others-same}
 use Rattle.course_kept.specs.safe_updates_Unused.{IsUnused, IsUnusedKept}
 use Rattle.course_kept.proofs.safe_updates_Unused.{unused-moved, unused-role}
-use Rattle.window_rows.specs.Copies.{HasWindow, IsRoomFor}
+use Rattle.course_kept.specs.window_rows_Copies.{HasWindow, IsRoomFor}
 use Rattle.course_kept.proofs.window_steps_CopyLaws.{open-alike}
 use Rattle.grow_asked.specs.declared.window.Window.{Window}
 use Rattle.grow_asked.specs.declared.window.Window.TheVariants.{Closed, Entered, Unsure}

@@ -16,14 +16,14 @@ use Rattle.geometry.specs.Geometry as geometry
 use Rattle.superblocks.specs.declared.members.Members.{Members}
 use Rattle.superblocks.specs.Reading.{shape_of, list_length, next_window}
 use Rattle.flat_history.specs.Stands.{shape_for}
-use Rattle.shape_views.specs.Regions.{AreShapesFit, DoWithout}
-use Rattle.shape_views.specs.Windows.{IsShown, ListStands, RowsStand}
-use Rattle.shape_views.proofs.Alike.{row-below}
-use Rattle.shape_views.proofs.UnderWay.{is-reshaping, shape-on}
-use Rattle.views.specs.Lacking.{AreTooMany, LacksTooMany, AreLostSince}
+use Rattle.course_kept.specs.shape_views_Regions.{AreShapesFit, DoWithout}
+use Rattle.course_kept.specs.shape_views_Windows.{IsShown, ListStands, RowsStand}
+use Rattle.course_kept.proofs.shape_views_Alike.{row-below}
+use Rattle.course_kept.proofs.shape_views_UnderWay.{is-reshaping, shape-on}
+use Rattle.course_kept.specs.views_Lacking.{AreTooMany, LacksTooMany, AreLostSince}
 use Rattle.region_rows.specs.Stretches.{relied_rows, IsListUnread, ListStandsIn, RowsStandIn, IsUnrelied}
-use Rattle.window_rows.specs.Copies.{HasWindow, IsRoomFor}
-use Rattle.window_rows.proofs.ReadLaws.{the-window}
+use Rattle.course_kept.specs.window_rows_Copies.{HasWindow, IsRoomFor}
+use Rattle.course_kept.proofs.window_rows_ReadLaws.{the-window}
 
 -- ---- the window's sectors
 

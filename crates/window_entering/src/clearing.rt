@@ -10,12 +10,12 @@ ghost use Rattle.superblocks.specs.declared.members.Members.{Members};
 ghost use Rattle.backup.specs.Written.{cleared_header};
 ghost use Rattle.backup.specs.Storing.{IsHeading};
 ghost use Rattle.flat_history.specs.World.{World};
-ghost use Rattle.shape_views.specs.Regions.{open_by};
-ghost use Rattle.shape_views.specs.Views.{Ledger};
-ghost use Rattle.shape_views.specs.Windows.{HasNoSection};
-ghost use Rattle.shape_views.specs.Backups.{IsOpenOrNot};
-ghost use Rattle.shape_changes.specs.Safety.{HasLiveSlot};
-ghost use Rattle.shape_changes.specs.Steady.{IsSafeOver, KeepsSafe};
+ghost use Rattle.course_kept.specs.shape_views_Regions.{open_by};
+ghost use Rattle.course_kept.specs.shape_views_Views.{Ledger};
+ghost use Rattle.course_kept.specs.shape_views_Windows.{HasNoSection};
+ghost use Rattle.course_kept.specs.shape_views_Backups.{IsOpenOrNot};
+ghost use Rattle.course_kept.specs.shape_changes_Safety.{HasLiveSlot};
+ghost use Rattle.course_kept.specs.shape_changes_Steady.{IsSafeOver, KeepsSafe};
 
 use backup::clear_section;
 use bank::{Bank, BankFault};

@@ -9,13 +9,13 @@ ghost use Rattle.backup.specs.declared.section.SectionFault.TheVariants.{Before,
 ghost use Rattle.backup.specs.Written.{header_of};
 ghost use Rattle.backup.specs.Storing.{IsStoringOrNaming};
 ghost use Rattle.flat_history.specs.World.{World};
-ghost use Rattle.shape_views.specs.Regions.{AreShapesFit};
-ghost use Rattle.shape_views.specs.Views.{Ledger};
-ghost use Rattle.shape_views.specs.Windows.{HasNoSection};
-ghost use Rattle.shape_views.specs.Backups.{IsSectionOf, IsOpenUnderAll, IsOpenOrNot, HasSectors};
-ghost use Rattle.shape_changes.specs.Safety.{HasLiveSlot};
-ghost use Rattle.shape_changes.specs.Steady.{IsSafeOver, KeepsSafe};
-ghost use Rattle.window_rows.specs.Copies.{IsRoomFor};
+ghost use Rattle.course_kept.specs.shape_views_Regions.{AreShapesFit};
+ghost use Rattle.course_kept.specs.shape_views_Views.{Ledger};
+ghost use Rattle.course_kept.specs.shape_views_Windows.{HasNoSection};
+ghost use Rattle.course_kept.specs.shape_views_Backups.{IsSectionOf, IsOpenUnderAll, IsOpenOrNot, HasSectors};
+ghost use Rattle.course_kept.specs.shape_changes_Safety.{HasLiveSlot};
+ghost use Rattle.course_kept.specs.shape_changes_Steady.{IsSafeOver, KeepsSafe};
+ghost use Rattle.course_kept.specs.window_rows_Copies.{IsRoomFor};
 ghost use Rattle.window_entering.specs.Backup.{IsBackupFor};
 
 use backup::{SectionFault, write_section};

@@ -12,9 +12,9 @@ use Rattle.sb1.specs.declared.sb.Sb.{Sb}
 use Rattle.geometry.specs.Geometry.{window, is_critical, IsIn as IsIn_span}
 use Rattle.md_base.specs.Shapes.{data_disks}
 use Rattle.md_base.specs.declared.answers.Refusal.{Refusal}
-use Rattle.shape_views.specs.Regions.{DoWithout}
-use Rattle.views.specs.Lacking.{AreTooMany}
-use Rattle.views.proofs.Fit.{list-alike}
+use Rattle.safe_updates.specs.shape_views_Regions.{DoWithout}
+use Rattle.safe_updates.specs.views_Lacking.{AreTooMany}
+use Rattle.safe_updates.proofs.views_Fit.{list-alike}
 use Rattle.window_rows.specs.Copies.{tail_of, IsCopied}
 use Rattle.superblocks.specs.declared.members.Members.{Members}
 use Rattle.superblocks.specs.Reading.{Scope, is_backward, shape_of, final_shape, next_window, data_offset_of}
@@ -23,16 +23,16 @@ use Rattle.row_io.proofs.Losses.{holder-of}
 use Rattle.list_io.specs.Full.{RowStands}
 use Rattle.list_io.specs.Writing.{AreSuperblocksKept}
 use Rattle.flat_history.specs.ActiveSection.{section_for}
-use Rattle.shape_views.specs.Regions.{backup_of, open_by}
-use Rattle.shape_views.specs.Views.{Disk, Ledger}
-use Rattle.shape_views.specs.Windows.{IsCopying, IsCopyable}
-use Rattle.shape_changes.specs.Steady.{AreHolders, AreUnlost, IsSafeNow, IsSafeStretch}
-use Rattle.shape_changes.proofs.Drawn.{disk-somewhere}
-use Rattle.shape_changes.proofs.Steady.{safe-is-seen}
-use Rattle.views.specs.Placed.{HaveSameReshape}
-use Rattle.views.specs.Moving.{IsMoved}
-use Rattle.views.specs.Lacking.{IsHeldRowKept, AreOtherRowsKept}
-use Rattle.views.proofs.HeldRows.{held-moved}
+use Rattle.safe_updates.specs.shape_views_Regions.{backup_of, open_by}
+use Rattle.safe_updates.specs.shape_views_Views.{Disk, Ledger}
+use Rattle.safe_updates.specs.shape_views_Windows.{IsCopying, IsCopyable}
+use Rattle.safe_updates.specs.shape_changes_Steady.{AreHolders, AreUnlost, IsSafeNow, IsSafeStretch}
+use Rattle.safe_updates.proofs.shape_changes_Drawn.{disk-somewhere}
+use Rattle.safe_updates.proofs.shape_changes_Steady.{safe-is-seen}
+use Rattle.safe_updates.specs.views_Placed.{HaveSameReshape}
+use Rattle.safe_updates.specs.views_Moving.{IsMoved}
+use Rattle.safe_updates.specs.views_Lacking.{IsHeldRowKept, AreOtherRowsKept}
+use Rattle.safe_updates.proofs.views_HeldRows.{held-moved}
 use Rattle.window_steps.proofs.SteadyLaws.{copying-safe}
 use Rattle.window_steps.specs.Copying.{IsOfStripeFrom}
 

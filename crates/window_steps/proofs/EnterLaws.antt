@@ -24,19 +24,19 @@ use Rattle.list_io.specs.Calls.{AreLost, IsAnswer}
 use Rattle.backup.specs.Written.{header_of}
 use Rattle.backup.specs.Storing.{nth_sector, IsStoringOrNaming}
 use Rattle.backup.specs.Storing as backup
-use Rattle.shape_views.specs.Regions.{open_by, AreShapesFit}
-use Rattle.shape_views.specs.Views.{Disk, Ledger}
-use Rattle.shape_views.specs.Windows.{HasNoSection, IsCopyable}
-use Rattle.shape_views.specs.Backups.{IsSectionOf, IsOpenUnderAll, IsOpenOrNot, HasSectors}
-use Rattle.shape_views.proofs.BackupLaws.{naming-unsure, named-is-open}
-use Rattle.shape_views.proofs.Stands.{window-inside}
-use Rattle.shape_changes.specs.Safety.{HasLiveSlot}
-use Rattle.shape_changes.specs.Steady.{IsSteady, IsSafeNow, IsSafeStretch, AreHolders, AreUnlost}
-use Rattle.shape_changes.proofs.Drawn.{disk-somewhere}
-use Rattle.shape_changes.proofs.Spent.{live-holder}
-use Rattle.shape_changes.proofs.Steady.{steady-seen, safe-is-seen, losing-stays-safe}
-use Rattle.views.proofs.LiveLeft.{some-held}
-use Rattle.views.proofs.MemberLaws.{unlost-without}
+use Rattle.safe_updates.specs.shape_views_Regions.{open_by, AreShapesFit}
+use Rattle.safe_updates.specs.shape_views_Views.{Disk, Ledger}
+use Rattle.safe_updates.specs.shape_views_Windows.{HasNoSection, IsCopyable}
+use Rattle.safe_updates.specs.shape_views_Backups.{IsSectionOf, IsOpenUnderAll, IsOpenOrNot, HasSectors}
+use Rattle.safe_updates.proofs.shape_views_BackupLaws.{naming-unsure, named-is-open}
+use Rattle.safe_updates.proofs.shape_views_Stands.{window-inside}
+use Rattle.safe_updates.specs.shape_changes_Safety.{HasLiveSlot}
+use Rattle.safe_updates.specs.shape_changes_Steady.{IsSteady, IsSafeNow, IsSafeStretch, AreHolders, AreUnlost}
+use Rattle.safe_updates.proofs.shape_changes_Drawn.{disk-somewhere}
+use Rattle.safe_updates.proofs.shape_changes_Spent.{live-holder}
+use Rattle.safe_updates.proofs.shape_changes_Steady.{steady-seen, safe-is-seen, losing-stays-safe}
+use Rattle.safe_updates.proofs.views_LiveLeft.{some-held}
+use Rattle.safe_updates.proofs.views_MemberLaws.{unlost-without}
 use Rattle.window_rows.specs.Copies.{HasWindow, IsRoomFor}
 use Rattle.window_steps.specs.declared.entering.NotEntered.{NotEntered}
 use Rattle.window_steps.specs.declared.entering.NotEntered.TheVariants.{Unread, Unsaved}

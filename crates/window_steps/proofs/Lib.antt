@@ -11,3 +11,51 @@ pub use Rattle.reshape_updates.proofs.NewRoles as reshape_updates_NewRoles
 pub use Rattle.reshape_updates.proofs.Taken as reshape_updates_Taken
 pub use Rattle.safe_updates.proofs.Under as safe_updates_Under
 pub use Rattle.safe_updates.proofs.Unused as safe_updates_Unused
+pub use Rattle.reshape_updates.proofs.shape_ends_EndLaws
+pub use Rattle.reshape_updates.proofs.shape_ends_GrownLaws
+pub use Rattle.safe_updates.proofs.views_LackingWrites
+pub use Rattle.safe_updates.proofs.views_Fit
+pub use Rattle.safe_updates.proofs.views_MovedLaws
+pub use Rattle.safe_updates.proofs.views_HeldRows
+pub use Rattle.safe_updates.proofs.views_AddedMembers
+pub use Rattle.safe_updates.proofs.shape_changes_LessViews
+pub use Rattle.safe_updates.proofs.shape_views_Headers
+pub use Rattle.safe_updates.proofs.shape_views_Tails
+pub use Rattle.safe_updates.proofs.shape_views_Stands
+pub use Rattle.safe_updates.proofs.shape_views_UnderWay
+pub use Rattle.safe_updates.proofs.shape_views_WindowLaws
+pub use Rattle.safe_updates.proofs.views_LackingLists
+pub use Rattle.safe_updates.proofs.views_SafeStretch
+pub use Rattle.safe_updates.proofs.views_LackingLaws
+pub use Rattle.safe_updates.proofs.views_MendedParts
+pub use Rattle.safe_updates.proofs.shape_changes_Risen
+pub use Rattle.safe_updates.proofs.views_MarkedLaws
+pub use Rattle.safe_updates.proofs.views_LiveLeft
+pub use Rattle.window_rows.proofs.ReadLaws as window_rows_ReadLaws
+pub use Rattle.safe_updates.proofs.shape_changes_Drawn
+pub use Rattle.safe_updates.proofs.shape_changes_Steady
+pub use Rattle.safe_updates.proofs.shape_views_BackupLaws
+pub use Rattle.safe_updates.proofs.shape_views_Alike
+pub use Rattle.safe_updates.proofs.views_Stripes
+pub use Rattle.safe_updates.proofs.views_Flushed
+pub use Rattle.safe_updates.proofs.views_MarkedSafe
+pub use Rattle.safe_updates.proofs.views_MarkLaws
+pub use Rattle.safe_updates.proofs.views_SoundViews
+pub use Rattle.safe_updates.proofs.views_Still
+pub use Rattle.safe_updates.proofs.shape_changes_Without
+pub use Rattle.safe_updates.proofs.shape_changes_PlannedRoles
+pub use Rattle.safe_updates.proofs.shape_changes_ChangeSafe
+pub use Rattle.safe_updates.proofs.shape_changes_FitKinds
+pub use Rattle.safe_updates.proofs.shape_changes_ChangeViews
+pub use Rattle.safe_updates.proofs.shape_changes_Started
+pub use Rattle.reshape_updates.proofs.shape_ends_GrownStanding
+pub use Rattle.safe_updates.proofs.views_MarkEnds
+pub use Rattle.safe_updates.proofs.shape_views_SoundViews
+pub use Rattle.safe_updates.proofs.shape_views_Standing
+pub use Rattle.safe_updates.proofs.views_GivenMembers
+pub use Rattle.safe_updates.proofs.views_PlacedLaws
+pub use Rattle.safe_updates.proofs.views_AddedRows
+pub use Rattle.safe_updates.proofs.views_MemberLaws
+pub use Rattle.reshape_updates.proofs.shape_ends_TakenShapes
+pub use Rattle.reshape_updates.proofs.shape_ends_Takeovers
+pub use Rattle.safe_updates.proofs.shape_changes_Kept

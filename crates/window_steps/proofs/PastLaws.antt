@@ -26,27 +26,27 @@ use Rattle.row_io.specs.Rows.{present, reading_of}
 use Rattle.list_io.specs.Full.{RowStands}
 use Rattle.flat_history.specs.ActiveSection.{section_for}
 use Rattle.flat_history.specs.Stands.{reach_of}
-use Rattle.shape_views.specs.Regions.{backup_of, open_by, ArePlaced}
-use Rattle.shape_views.specs.Views.{Disk, Ledger, IsHeaderFit, AreHeadersFit, IsViewRight}
-use Rattle.shape_views.specs.Windows.{HasNoSection, moved_past}
-use Rattle.shape_views.proofs.Alike.{shape-alike, final-alike}
-use Rattle.shape_views.proofs.Headers.{backup-is}
-use Rattle.shape_views.proofs.Tails.{moved-tails}
-use Rattle.shape_views.proofs.Stands.{moved-is-placed, moved-stands, moved-rows-stand, flushed-right}
-use Rattle.shape_changes.specs.Kinds.{recording}
-use Rattle.shape_changes.specs.Marking.{AreOthersPresent}
-use Rattle.shape_changes.specs.Steady.{IsSteady, AreGoneTold}
-use Rattle.shape_changes.proofs.Kept.{give_of-same}
-use Rattle.shape_changes.proofs.KeptSafe.{steady-right}
-use Rattle.shape_ends.proofs.CopyRuns.{fit-headers-plain}
-use Rattle.views.specs.Placed.{IsPlaced, HaveSameReshape, AreLess}
-use Rattle.views.specs.Moving.{IsMoved}
-use Rattle.views.specs.Rebuilding.{AreSparesFree}
-use Rattle.views.specs.Lacking.{HaveFailedSince, AreHoldersFlushed}
-use Rattle.views.proofs.HeldRows.{rows-same, without-before}
-use Rattle.views.proofs.LackingLists.{row-moved}
-use Rattle.views.proofs.MarkLaws.{roles-kept}
-use Rattle.views.proofs.SafeStretch.{gone-before, allowed-later, zeros-alike}
+use Rattle.safe_updates.specs.shape_views_Regions.{backup_of, open_by, ArePlaced}
+use Rattle.safe_updates.specs.shape_views_Views.{Disk, Ledger, IsHeaderFit, AreHeadersFit, IsViewRight}
+use Rattle.safe_updates.specs.shape_views_Windows.{HasNoSection, moved_past}
+use Rattle.safe_updates.proofs.shape_views_Alike.{shape-alike, final-alike}
+use Rattle.safe_updates.proofs.shape_views_Headers.{backup-is}
+use Rattle.safe_updates.proofs.shape_views_Tails.{moved-tails}
+use Rattle.safe_updates.proofs.shape_views_Stands.{moved-is-placed, moved-stands, moved-rows-stand, flushed-right}
+use Rattle.safe_updates.specs.shape_changes_Kinds.{recording}
+use Rattle.safe_updates.specs.shape_changes_Marking.{AreOthersPresent}
+use Rattle.safe_updates.specs.shape_changes_Steady.{IsSteady, AreGoneTold}
+use Rattle.safe_updates.proofs.shape_changes_Kept.{give_of-same}
+use Rattle.safe_updates.proofs.shape_changes_KeptSafe.{steady-right}
+use Rattle.reshape_updates.proofs.shape_ends_CopyRuns.{fit-headers-plain}
+use Rattle.safe_updates.specs.views_Placed.{IsPlaced, HaveSameReshape, AreLess}
+use Rattle.safe_updates.specs.views_Moving.{IsMoved}
+use Rattle.safe_updates.specs.views_Rebuilding.{AreSparesFree}
+use Rattle.safe_updates.specs.views_Lacking.{HaveFailedSince, AreHoldersFlushed}
+use Rattle.safe_updates.proofs.views_HeldRows.{rows-same, without-before}
+use Rattle.safe_updates.proofs.views_LackingLists.{row-moved}
+use Rattle.safe_updates.proofs.views_MarkLaws.{roles-kept}
+use Rattle.safe_updates.proofs.views_SafeStretch.{gone-before, allowed-later, zeros-alike}
 use Rattle.safe_updates.proofs.Under.{shown-moved, shown-rows-moved}
 use Rattle.window_steps.proofs.CopyLaws.{window-alike, open-alike}
 use Rattle.window_steps.specs.Recording.{AreOthersFewer, IsCopiedWindow}

@@ -14,22 +14,22 @@ use Rattle.row_io.specs.Rows.{reading_of, members_without}
 use Rattle.row_io.proofs.Losses.{holder-after}
 use Rattle.backup.specs.Written.{header_of}
 use Rattle.backup.specs.Storing.{IsStoringOrNaming}
-use Rattle.shape_views.specs.Regions.{open_by, ArePlaced}
-use Rattle.shape_views.specs.Views.{Disk, Ledger, IsViewRight}
-use Rattle.shape_views.specs.Windows.{IsSomewhere, AreFewer, IsWrittenAt, HasNoSection, IsWindowPlace, IsCopying, IsCopyable}
-use Rattle.shape_views.specs.Backups.{IsSectionOf}
-use Rattle.shape_views.proofs.BackupLaws.{sections-right, clearing-right}
-use Rattle.shape_views.proofs.WindowLaws.{copying-right}
-use Rattle.shape_changes.specs.Carried.{AreCarried}
-use Rattle.shape_changes.specs.Safety.{HasLiveSlot}
-use Rattle.shape_changes.specs.Steady.{IsSteady, IsMoreTold, AreHolders, AreUnlost}
-use Rattle.shape_changes.specs.Updates.{IsAtEnd, IsPastPlace}
-use Rattle.shape_changes.proofs.HeldKept.{AreNoNewer, held-fewer}
-use Rattle.shape_ends.proofs.PastWindows.{zeroing-right}
-use Rattle.shape_changes.proofs.Since.{since-more}
-use Rattle.shape_changes.proofs.Spent.{live-holder}
-use Rattle.shape_changes.proofs.Steady.{losing-stays-safe, views-fewer}
-use Rattle.shape_changes.proofs.Stretch.{seen-own}
+use Rattle.safe_updates.specs.shape_views_Regions.{open_by, ArePlaced}
+use Rattle.safe_updates.specs.shape_views_Views.{Disk, Ledger, IsViewRight}
+use Rattle.safe_updates.specs.shape_views_Windows.{IsSomewhere, AreFewer, IsWrittenAt, HasNoSection, IsWindowPlace, IsCopying, IsCopyable}
+use Rattle.safe_updates.specs.shape_views_Backups.{IsSectionOf}
+use Rattle.safe_updates.proofs.shape_views_BackupLaws.{sections-right, clearing-right}
+use Rattle.safe_updates.proofs.shape_views_WindowLaws.{copying-right}
+use Rattle.safe_updates.specs.shape_changes_Carried.{AreCarried}
+use Rattle.safe_updates.specs.shape_changes_Safety.{HasLiveSlot}
+use Rattle.safe_updates.specs.shape_changes_Steady.{IsSteady, IsMoreTold, AreHolders, AreUnlost}
+use Rattle.safe_updates.specs.shape_changes_Updates.{IsAtEnd, IsPastPlace}
+use Rattle.safe_updates.proofs.shape_changes_HeldKept.{AreNoNewer, held-fewer}
+use Rattle.reshape_updates.proofs.shape_ends_PastWindows.{zeroing-right}
+use Rattle.safe_updates.proofs.shape_changes_Since.{since-more}
+use Rattle.safe_updates.proofs.shape_changes_Spent.{live-holder}
+use Rattle.safe_updates.proofs.shape_changes_Steady.{losing-stays-safe, views-fewer}
+use Rattle.safe_updates.proofs.shape_changes_Stretch.{seen-own}
 use Rattle.window_steps.specs.Laws.{SectionsStaySteady, ClearingStaysSteady, CopyingStaysSteady, ZeroingStaysSteady, CopyingStaysSafe, ZeroingStaysSafe}
 
 -- ---- the superblocks

@@ -12,14 +12,14 @@ use Rattle.superblocks.specs.declared.members.Members.{Members}
 use Rattle.superblocks.specs.Reading.{Scope, list_length}
 use Rattle.row_io.specs.Rows.{members_without}
 use Rattle.list_io.specs.Writing.{AreSuperblocksKept}
-use Rattle.shape_views.specs.Views.{Ledger}
-use Rattle.shape_views.specs.Windows.{IsWrittenAt}
-use Rattle.shape_changes.specs.Steady.{AreHolders, AreUnlost, IsSafeNow, IsSafeStretch}
-use Rattle.shape_changes.specs.Updates.{IsPastPlace}
-use Rattle.shape_changes.proofs.Drawn.{disk-somewhere}
-use Rattle.shape_changes.proofs.Steady.{safe-is-seen}
-use Rattle.views.specs.Moving.{IsMoved}
-use Rattle.views.proofs.Fit.{list-alike}
+use Rattle.safe_updates.specs.shape_views_Views.{Ledger}
+use Rattle.safe_updates.specs.shape_views_Windows.{IsWrittenAt}
+use Rattle.safe_updates.specs.shape_changes_Steady.{AreHolders, AreUnlost, IsSafeNow, IsSafeStretch}
+use Rattle.safe_updates.specs.shape_changes_Updates.{IsPastPlace}
+use Rattle.safe_updates.proofs.shape_changes_Drawn.{disk-somewhere}
+use Rattle.safe_updates.proofs.shape_changes_Steady.{safe-is-seen}
+use Rattle.safe_updates.specs.views_Moving.{IsMoved}
+use Rattle.safe_updates.proofs.views_Fit.{list-alike}
 use Rattle.window_rows.specs.Copies.{tail_of, IsZeroIn, IsPastStripe}
 use Rattle.window_steps.specs.Zeroing.{IsThrough}
 use Rattle.window_steps.proofs.CopyLaws.{window-alike, same-tail}

@@ -3,7 +3,7 @@ use Rattle.std.specs.Prelude.{ℕ, ◌+◌, ◌*◌, ◌<◌, ◌≤◌}
 use Rattle.md_base.specs.declared.places.Shape.{Shape}
 use Rattle.md_base.specs.Sectors.{Sector}
 use Rattle.bank.specs.Tape.{IsIn}
-use Rattle.shape_views.specs.Views.{Disk}
+use Rattle.safe_updates.specs.shape_views_Views.{Disk}
 
 -- the row is one of the stripe's, from this one of them up to that
 abbrev pub IsOfStripeFrom : Shape → ℕ → ℕ → ℕ → ℕ → Type 0

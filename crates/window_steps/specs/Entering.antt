@@ -10,9 +10,9 @@ use Rattle.superblocks.specs.Reading.{Scope, Reading, shape_of}
 use Rattle.row_io.specs.Rows.{reading_of, missing_count, is_missing, IsTolerated}
 use Rattle.list_io.specs.declared.outcome.Unavailable.{Unavailable}
 use Rattle.list_io.specs.declared.outcome.Unavailable.TheVariants.{TooManyMissing, NotResynced}
-use Rattle.shape_views.specs.Views.{Disk, Ledger}
-use Rattle.shape_views.specs.Windows.{HasNoSection, ListStands}
-use Rattle.shape_changes.specs.Steady.{AreWritesAllowed}
+use Rattle.safe_updates.specs.shape_views_Views.{Disk, Ledger}
+use Rattle.safe_updates.specs.shape_views_Windows.{HasNoSection, ListStands}
+use Rattle.safe_updates.specs.shape_changes_Steady.{AreWritesAllowed}
 use Rattle.window_rows.specs.Copies.{AreLackingGood}
 use Rattle.window_steps.specs.declared.entering.NotEntered.{NotEntered}
 use Rattle.window_steps.specs.declared.entering.NotEntered.TheVariants.{Unread, Unsaved}

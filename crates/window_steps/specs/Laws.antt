@@ -13,13 +13,13 @@ use Rattle.superblocks.specs.Reading.{Scope, is_reshaping, next_window}
 use Rattle.row_io.specs.Rows.{members_without}
 use Rattle.backup.specs.Written.{header_of, cleared_header}
 use Rattle.backup.specs.Storing.{IsStoringOrNaming, IsHeading}
-use Rattle.shape_views.specs.Regions.{open_by}
-use Rattle.shape_views.specs.Views.{Disk, Ledger}
-use Rattle.shape_views.specs.Windows.{IsSomewhere, IsWrittenAt, HasNoSection, IsCopying, IsCopyable}
-use Rattle.shape_views.specs.Backups.{IsSectionOf}
-use Rattle.shape_changes.specs.Updates.{IsAtEnd, IsPastPlace}
-use Rattle.shape_changes.specs.Steady.{IsSteady, IsSafeNow, AreHolders, AreUnlost}
-use Rattle.views.specs.Lacking.{IsOfStripe}
+use Rattle.safe_updates.specs.shape_views_Regions.{open_by}
+use Rattle.safe_updates.specs.shape_views_Views.{Disk, Ledger}
+use Rattle.safe_updates.specs.shape_views_Windows.{IsSomewhere, IsWrittenAt, HasNoSection, IsCopying, IsCopyable}
+use Rattle.safe_updates.specs.shape_views_Backups.{IsSectionOf}
+use Rattle.safe_updates.specs.shape_changes_Updates.{IsAtEnd, IsPastPlace}
+use Rattle.safe_updates.specs.shape_changes_Steady.{IsSteady, IsSafeNow, AreHolders, AreUnlost}
+use Rattle.safe_updates.specs.views_Lacking.{IsOfStripe}
 use Rattle.window_rows.specs.Copies.{IsStripeOf, IsPastStripe}
 
 -- ---- the backup

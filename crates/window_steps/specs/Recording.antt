@@ -11,13 +11,13 @@ use Rattle.superblocks.specs.declared.members.Members.{Members}
 use Rattle.superblocks.specs.Reading.{Scope, is_clean, final_shape}
 use Rattle.row_io.specs.Rows.{reading_of}
 use Rattle.list_io.specs.Full.{RowStands}
-use Rattle.shape_views.specs.Regions.{DoWithout}
-use Rattle.shape_views.specs.Views.{Disk, Ledger, AreHeadersFit, IsTailZero}
-use Rattle.shape_views.specs.Windows.{ListStands, RowsStand, moved_past}
-use Rattle.shape_changes.specs.Safety.{HasLiveSlot}
-use Rattle.shape_changes.specs.Steady.{AreWritesAllowed}
-use Rattle.views.specs.Lacking.{AreHoldersFlushed}
-use Rattle.views.specs.Moving.{Grows, IsMoved}
+use Rattle.safe_updates.specs.shape_views_Regions.{DoWithout}
+use Rattle.safe_updates.specs.shape_views_Views.{Disk, Ledger, AreHeadersFit, IsTailZero}
+use Rattle.safe_updates.specs.shape_views_Windows.{ListStands, RowsStand, moved_past}
+use Rattle.safe_updates.specs.shape_changes_Safety.{HasLiveSlot}
+use Rattle.safe_updates.specs.shape_changes_Steady.{AreWritesAllowed}
+use Rattle.safe_updates.specs.views_Lacking.{AreHoldersFlushed}
+use Rattle.safe_updates.specs.views_Moving.{Grows, IsMoved}
 use Rattle.safe_updates.specs.Named.{AreNamedMissing}
 
 -- a stop leaves nothing new of any sector but superblocks

@@ -2,7 +2,7 @@
 use Rattle.std.specs.Prelude.{◌≡◌, true, None}
 use Rattle.sb1.specs.declared.sb.Sb.{Sb}
 use Rattle.superblocks.specs.Reading.{is_reshaping, next_window}
-use Rattle.shape_changes.specs.Updates.{IsAtEnd}
+use Rattle.safe_updates.specs.shape_changes_Updates.{IsAtEnd}
 
 -- A reshape has gone through the list: it is active, no window is left, and its position is the last one.
 pub record IsThrough (newest : Sb) : Type 0 where

@@ -15,8 +15,7 @@ use call_entries::calls::{check_number, enter};
 use flat_history::Event;
 use geometry::list_end;
 use md_base::{NoMemory, Status, Who};
-use moving_laws::moving_state::asking::visible;
-use moving_laws::safe_updates::roles::{final_in, shape_in};
+use moving_laws::{final_in, shape_in, visible};
 use superblocks::says::is_clean;
 
 impl<B: Bank> Moving<B> {

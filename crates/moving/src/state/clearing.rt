@@ -11,7 +11,7 @@ ghost use Rattle.flat_history.specs.Flat.{next_number};
 ghost use Rattle.views.specs.Lacking.{HaveRolesFailed};
 ghost use Rattle.moving_laws.specs.array_kept_Calls.{IsCausedBy, OnNoMemory};
 ghost use Rattle.grow_asked.specs.declared.window.Window.TheVariants.{Unsure as IsUnsureWindow};
-ghost use Rattle.kept_history.specs.Recorded.{IsCallGoing};
+ghost use Rattle.moving_laws.specs.kept_history_Recorded.{IsCallGoing};
 ghost use Rattle.moving_laws.specs.region_mends_Mends.{relied_sector};
 ghost use Rattle.moving_laws.specs.running_words_Calls.{IsCalled};
 ghost use Rattle.moving_laws.specs.running_words_Parts.{visible_in, left_in};
@@ -25,9 +25,7 @@ use bank::Bank;
 use call_entries::calls::enter;
 use flat_history::Event;
 use md_base::{Fault, Refusal, Who};
-use moving_laws::moving_state::windows::open_span;
-use moving_laws::region_mends::stripes::relied_sector;
-use moving_laws::window_entering::clear_window;
+use moving_laws::{clear_window, open_span, relied_sector};
 
 impl<B: Bank> Moving<B> {
     // Tries to make the header of an unsure window plain. It is refused `BackupFault`, and nothing is written: the backup failed when the

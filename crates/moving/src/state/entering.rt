@@ -6,10 +6,10 @@ ghost use Rattle.md_base.specs.declared.places.Span.{Span as AnySpan};
 ghost use Rattle.superblocks.specs.Reading.{is_clean, role_count};
 ghost use Rattle.superblocks.specs.Verdict.{AreValidShapes};
 ghost use Rattle.flat_history.specs.declared.events.StepKind.TheVariants.{Entered as EntersWindow};
-ghost use Rattle.shape_views.specs.Regions.{DoWithout};
+ghost use Rattle.moving_laws.specs.shape_views_Regions.{DoWithout};
 ghost use Rattle.views.specs.Lacking.{AreTooMany};
 ghost use Rattle.grow_asked.specs.declared.window.Window.TheVariants.{Unsure as IsUnsureWindow};
-ghost use Rattle.kept_history.specs.Recorded.{IsCallGoing};
+ghost use Rattle.moving_laws.specs.kept_history_Recorded.{IsCallGoing};
 ghost use Rattle.moving_laws.specs.running_words_Parts.{left_in};
 ghost use Rattle.moving_laws.specs.running_words_Calls.{IsCalled, IsStepTaken, IsEnterDue, IsEnterCaused, IsNextOpen, IsNextUnsure};
 
@@ -20,10 +20,7 @@ use call_entries::calls::{enter, enter_behind};
 use flat_history::{Event, StepKind};
 use grow_asked::Window;
 use md_base::{Fault, Who};
-use moving_laws::course_kept::Course;
-use moving_laws::moving_state::reshape::{is_window_critical, list_sectors, next_window_of};
-use moving_laws::safe_updates::refusing::too_many;
-use moving_laws::window_entering::enter_next;
+use moving_laws::{Course, enter_next, is_window_critical, list_sectors, next_window_of, too_many};
 use superblocks::Members;
 
 // Whether a window is unsure, and no more roles are missing than the shapes in force tolerate.

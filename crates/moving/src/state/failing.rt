@@ -6,7 +6,7 @@ ghost use Rattle.row_io.specs.Rows.{reading_of, present};
 ghost use Rattle.flat_history.specs.Flat.{next_number};
 ghost use Rattle.flat_history.specs.declared.events.Event.TheVariants.{Failed};
 ghost use Rattle.flat_history.specs.declared.events.Request.TheVariants.{Fail as AsksFail};
-ghost use Rattle.shape_changes.specs.Marking.{AreOthersPresent};
+ghost use Rattle.moving_laws.specs.shape_changes_Marking.{AreOthersPresent};
 ghost use Rattle.moving_laws.specs.array_kept_Calls.{HasRole, IsAnswered, IsFailedFor, OnNoMemory};
 ghost use Rattle.moving_laws.specs.running_words_Calls.{IsCalled};
 
@@ -15,8 +15,7 @@ use bank::Bank;
 use call_entries::calls::{check_number, enter, enter_behind};
 use flat_history::{Event, LostCause};
 use md_base::{Fault, Refusal, Role, Who};
-use moving_laws::safe_updates::naming::{name_missing, newly_vacant};
-use moving_laws::safe_updates::roles::vacant_roles;
+use moving_laws::{name_missing, newly_vacant, vacant_roles};
 use row_io::lose_slot;
 use superblocks::Members;
 

@@ -11,7 +11,7 @@ ghost use Rattle.views.specs.Lacking.{AreHoldersFlushed, AreTooMany};
 ghost use Rattle.moving_laws.specs.safe_updates_First.{IsFirstRefused};
 ghost use Rattle.moving_laws.specs.region_mends_Mends.{mend_shape, mend_refusal, IsNotMended};
 ghost use Rattle.moving_laws.specs.array_kept_Calls.{one_more, by_answer, IsCausedBy};
-ghost use Rattle.kept_history.specs.Recorded.{IsCallGoing};
+ghost use Rattle.moving_laws.specs.kept_history_Recorded.{IsCallGoing};
 ghost use Rattle.moving_laws.specs.running_words_Parts.{left_in};
 ghost use Rattle.moving_laws.specs.running_words_Calls.{moving_world, IsStepTaken};
 ghost use Rattle.moving_laws.specs.Mending.{IsMendDue, IsResyncEndDue, IsMendCalled, AreRowsGood};
@@ -22,11 +22,7 @@ use bank::Bank;
 use call_entries::calls::{enter, enter_behind};
 use flat_history::{Event, StepKind};
 use md_base::{Fault, Who};
-use moving_laws::region_mends::mending::{mend_list, unmended};
-use moving_laws::safe_updates::naming::newly_vacant;
-use moving_laws::safe_updates::refusing::too_many;
-use moving_laws::safe_updates::roles::vacant_roles;
-use moving_laws::safe_updates::settles::settle;
+use moving_laws::{mend_list, newly_vacant, settle, too_many, unmended, vacant_roles};
 
 impl<B: Bank> Moving<B> {
     /// A step of the pending resync, while no window is entered: makes the parity of its next stripe fit the data, by the shape of its

@@ -6,7 +6,7 @@ ghost use Rattle.moving_laws.specs.Ready.{IsReady};
 
 use super::Moving;
 use bank::Bank;
-use moving_laws::course_kept::Course;
+use moving_laws::Course;
 use pieces::Pieces;
 
 impl<B: Bank> Moving<B> {

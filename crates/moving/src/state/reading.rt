@@ -9,7 +9,7 @@ ghost use Rattle.flat_history.specs.World.{opening_list};
 ghost use Rattle.flat_history.specs.Flat.{next_number, now};
 ghost use Rattle.flat_history.specs.declared.events.Event.TheVariants.{Read};
 ghost use Rattle.flat_history.specs.declared.events.Request.TheVariants.{Read as AsksRead};
-ghost use Rattle.shape_changes.specs.Marking.{AreOthersPresent};
+ghost use Rattle.moving_laws.specs.shape_changes_Marking.{AreOthersPresent};
 ghost use Rattle.views.specs.Lacking.{HaveRolesFailed};
 ghost use Rattle.moving_laws.specs.array_kept_Calls.{IsAnswered, IsCausedBy, IsRefusalOf, OnNoMemory};
 ghost use Rattle.moving_laws.specs.region_mends_Mends.{relied_sector};
@@ -26,13 +26,9 @@ use bank::Bank;
 use call_entries::calls::{check_number, enter, enter_behind};
 use flat_history::Event;
 use md_base::{Fault, Sectors, Span, Who};
-use moving_laws::moving_state::asking::visible;
-use moving_laws::moving_state::refusing::unread_from;
-use moving_laws::moving_state::windows::hidden_span;
-use moving_laws::region_mends::stripes::relied_sector;
-use moving_laws::safe_updates::naming::newly_vacant;
-use moving_laws::safe_updates::roles::vacant_roles;
-use moving_laws::window_calls::fetch_beside;
+use moving_laws::{
+    fetch_beside, hidden_span, newly_vacant, relied_sector, unread_from, vacant_roles, visible,
+};
 
 // How many bytes the sectors of this window have; none where there is none.
 fn bytes_of(hidden: Option<Span>, most: usize) -> usize

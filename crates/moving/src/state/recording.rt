@@ -5,7 +5,7 @@ ghost use Rattle.flat_history.specs.declared.events.StepKind.TheVariants.{Checkp
 ghost use Rattle.superblocks.specs.Reading.{is_clean, list_length};
 ghost use Rattle.views.specs.Lacking.{AreTooMany};
 ghost use Rattle.moving_laws.specs.array_kept_Calls.{IsCausedBy};
-ghost use Rattle.kept_history.specs.Recorded.{IsCallGoing};
+ghost use Rattle.moving_laws.specs.kept_history_Recorded.{IsCallGoing};
 ghost use Rattle.moving_laws.specs.course_kept_Laws.{closed};
 ghost use Rattle.moving_laws.specs.running_words_Parts.{left_in};
 ghost use Rattle.moving_laws.specs.running_words_Calls.{IsCalled, IsStepTaken, IsRecordDue};
@@ -17,11 +17,7 @@ use call_entries::calls::{enter, enter_behind};
 use flat_history::{Event, StepKind};
 use grow_asked::Window;
 use md_base::{Fault, Who};
-use moving_laws::course_kept::Course;
-use moving_laws::safe_updates::naming::newly_vacant;
-use moving_laws::safe_updates::refusing::too_many;
-use moving_laws::safe_updates::roles::vacant_roles;
-use moving_laws::window_steps::record;
+use moving_laws::{Course, newly_vacant, record, too_many, vacant_roles};
 
 impl<B: Bank> Moving<B> {
     /// A step of the reshape: the open window, whose stripes are all copied, is recorded. Refusals: `TooManyMissing`. It takes no

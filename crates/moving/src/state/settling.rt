@@ -6,7 +6,7 @@ ghost use Rattle.row_io.specs.Rows.{reading_of, present};
 ghost use Rattle.flat_history.specs.Flat.{next_number};
 ghost use Rattle.flat_history.specs.declared.events.Event.TheVariants.{Flushed};
 ghost use Rattle.flat_history.specs.declared.events.Request.TheVariants.{Flush as AsksFlush};
-ghost use Rattle.shape_changes.specs.Marking.{AreOthersPresent};
+ghost use Rattle.moving_laws.specs.shape_changes_Marking.{AreOthersPresent};
 ghost use Rattle.views.specs.Lacking.{HaveRolesFailed, AreHoldersFlushed, AreTooMany};
 ghost use Rattle.moving_laws.specs.array_kept_Calls.{IsSettled, IsSettling, IsAnswered, IsCausedBy, OnNoMemory};
 ghost use Rattle.moving_laws.specs.running_words_Calls.{IsCalled};
@@ -16,10 +16,7 @@ use bank::Bank;
 use call_entries::calls::{check_number, enter, enter_behind};
 use flat_history::Event;
 use md_base::{Fault, Who};
-use moving_laws::safe_updates::naming::newly_vacant;
-use moving_laws::safe_updates::refusing::too_many;
-use moving_laws::safe_updates::roles::vacant_roles;
-use moving_laws::safe_updates::settles::settle;
+use moving_laws::{newly_vacant, settle, too_many, vacant_roles};
 
 impl<B: Bank> Moving<B> {
     // Flushes the members, marks the array clean, unless a resync is pending, and enters this event, `Flushed` or `Stopped`.

@@ -2,7 +2,7 @@
 
 ghost use Rattle.std.specs.Prelude.{◌≡◌, ◌≢◌, ◌⊎◌, ◌+◌, ◌≤◌, OnOk, OnErr};
 ghost use Rattle.moving_laws.specs.array_kept_Calls.{by_answer};
-ghost use Rattle.kept_history.specs.Recorded.{IsCallGoing};
+ghost use Rattle.moving_laws.specs.kept_history_Recorded.{IsCallGoing};
 ghost use Rattle.moving_laws.specs.moving_state_Due.{due_of};
 ghost use Rattle.moving_laws.specs.moving_state_the_Due_TheVariants.{Finish as EndsReshape};
 ghost use Rattle.moving_laws.specs.running_words_Parts.{left_in};
@@ -13,7 +13,7 @@ ghost use Rattle.moving_laws.specs.Steps.{kind_of, resync_behind, IsMarkedBehind
 use crate::state::Moving;
 use bank::Bank;
 use md_base::{Fault, Who};
-use moving_laws::moving_state::stepping::{Due, due_step};
+use moving_laws::{Due, due_step};
 
 impl<B: Bank> Moving<B> {
     /// The step that is due, but for the end of the reshape: a stripe of the entered window is copied, or it is recorded; of a pending

@@ -11,11 +11,11 @@ ghost use Rattle.flat_history.specs.Flat.{next_number};
 ghost use Rattle.flat_history.specs.Stands.{covers};
 ghost use Rattle.flat_history.specs.declared.events.StepKind.TheVariants.{WindowFinished as FinishesWindow};
 ghost use Rattle.views.specs.Lacking.{HaveRolesFailed, AreTooMany};
-ghost use Rattle.shape_views.specs.Regions.{AreShapesFit};
+ghost use Rattle.moving_laws.specs.shape_views_Regions.{AreShapesFit};
 ghost use Rattle.moving_laws.specs.array_kept_Calls.{IsCausedBy, IsRefusalOf, OnNoMemory};
 ghost use Rattle.moving_laws.specs.region_writes_Runs.{IsListUnwritten};
 ghost use Rattle.moving_laws.specs.region_mends_Mends.{relied_sector};
-ghost use Rattle.kept_history.specs.Recorded.{IsCallGoing};
+ghost use Rattle.moving_laws.specs.kept_history_Recorded.{IsCallGoing};
 ghost use Rattle.moving_laws.specs.course_kept_Course.{span_in};
 ghost use Rattle.moving_laws.specs.course_kept_Laws.{closed};
 ghost use Rattle.moving_laws.specs.moving_kept_Moving.{IsWindowStanding};
@@ -33,13 +33,10 @@ use bank::Bank;
 use call_entries::calls::{enter, enter_behind, enter_failure};
 use flat_history::Event;
 use md_base::{Fault, Refusal, Sectors, Span, Who};
-use moving_laws::moving_state::asking::visible;
-use moving_laws::moving_state::refusing::unwritten_from;
-use moving_laws::moving_state::windows::{meets, open_span, unsure_span};
-use moving_laws::region_mends::stripes::relied_sector;
-use moving_laws::region_writes::writing::put_list;
-use moving_laws::safe_updates::naming::newly_vacant;
-use moving_laws::safe_updates::roles::vacant_roles;
+use moving_laws::{
+    meets, newly_vacant, open_span, put_list, relied_sector, unsure_span, unwritten_from,
+    vacant_roles, visible,
+};
 use superblocks::Members;
 
 // Why so many sectors from one on aren't written, before any row is read, where those below the limit are visible and parity is to be relied

@@ -5,7 +5,7 @@ ghost use Rattle.flat_history.specs.declared.events.StepKind.TheVariants.{Zeroed
 ghost use Rattle.superblocks.specs.Reading.{is_clean, list_length};
 ghost use Rattle.views.specs.Lacking.{AreTooMany};
 ghost use Rattle.moving_laws.specs.array_kept_Calls.{IsCausedBy};
-ghost use Rattle.kept_history.specs.Recorded.{IsCallGoing};
+ghost use Rattle.moving_laws.specs.kept_history_Recorded.{IsCallGoing};
 ghost use Rattle.moving_laws.specs.course_kept_Laws.{closed};
 ghost use Rattle.moving_laws.specs.running_words_Parts.{left_in};
 ghost use Rattle.moving_laws.specs.running_words_Calls.{IsCalled, IsStepTaken, IsZeroDue};
@@ -16,11 +16,7 @@ use bank::Bank;
 use call_entries::calls::{enter, enter_behind};
 use flat_history::{Event, StepKind};
 use md_base::{Fault, Who};
-use moving_laws::moving_state::reshape::stripe_to_zero;
-use moving_laws::safe_updates::naming::newly_vacant;
-use moving_laws::safe_updates::refusing::too_many;
-use moving_laws::safe_updates::roles::{final_in, vacant_roles};
-use moving_laws::window_steps::zero;
+use moving_laws::{final_in, newly_vacant, stripe_to_zero, too_many, vacant_roles, zero};
 
 impl<B: Bank> Moving<B> {
     /// A step of the reshape, which has gone through the list, where no resync is pending: the next stripe behind it is zeroed. Refusals: `TooManyMissing`. It

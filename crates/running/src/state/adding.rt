@@ -6,8 +6,8 @@ ghost use Rattle.row_io.specs.Rows.{present};
 ghost use Rattle.flat_history.specs.Flat.{next_number};
 ghost use Rattle.flat_history.specs.declared.events.Event.TheVariants.{Added};
 ghost use Rattle.flat_history.specs.declared.events.Request.TheVariants.{Add as AsksAdd};
-ghost use Rattle.shape_changes.specs.Marking.{AreOthersPresent};
-ghost use Rattle.views.specs.Lacking.{HaveRolesFailed};
+ghost use Rattle.growing.specs.shape_changes_Marking.{AreOthersPresent};
+ghost use Rattle.growing.specs.views_Lacking.{HaveRolesFailed};
 ghost use Rattle.growing.specs.array_kept_Calls.{IsAddedFor, IsAddedAs, IsAnswered, OnNoMemory};
 ghost use Rattle.growing.specs.running_words_Adding.{IsAddCalled};
 

@@ -3,7 +3,7 @@
 ghost use Rattle.std.specs.Prelude.{◌≡◌, ◌≢◌, ◌+◌, ◌≤◌, ◌∷◌, [], false};
 ghost use Rattle.superblocks.specs.Reading.{is_reshaping};
 ghost use Rattle.growing.specs.array_kept_Calls.{IsEntered};
-ghost use Rattle.kept_history.specs.Recorded.{IsCallGoing};
+ghost use Rattle.growing.specs.kept_history_Recorded.{IsCallGoing};
 ghost use Rattle.growing.specs.running_words_Calls.{IsCalled};
 ghost use Rattle.growing.specs.still_laws_Steps.{MayAnswer};
 ghost use Rattle.growing.specs.moving_steps_Replies.{IsReplyInReshape};

@@ -1,8 +1,9 @@
 //! What a running array tells of itself.
 
-ghost use Rattle.std.specs.Prelude.{◌≡◌, ◌≢◌, ◌≤◌, [], ◌∷◌, length, IfOk, IfErr};
+ghost use Rattle.std.specs.Prelude.{◌≡◌, ◌≢◌, ◌≤◌, [], ◌∷◌, length, IfOk, IfErr, IfSome};
 ghost use Rattle.superblocks.specs.Reading.{is_reshaping, list_length};
 ghost use Rattle.flat_history.specs.Flat.{next_number, length_of, limit_of};
+ghost use Rattle.flat_history.specs.Legal.{told_left};
 ghost use Rattle.flat_history.specs.declared.events.Event.TheVariants.{Shown};
 ghost use Rattle.growing.specs.array_kept_Calls.{IsEntered, IsEndOf};
 ghost use Rattle.growing.specs.running_words_Parts.{visible_in};
@@ -70,9 +71,11 @@ impl<B: Bank> Running<B> {
         }
     }
 
-    /// How many background steps are left, those of the phases of a plan among them.
+    /// How many background steps are left, those of the phases of a plan among them; as many as the history tells, where it tells them and
+    /// no loss or new spare since.
     pub fn left(&self) -> u64
-        ensures { result ≡ running_left self.now }
+        ensures exact { result ≡ running_left self.now }
+        ensures told { IfSome (told_left self.now.parts.entries) (λ n. n ≡ running_left self.now) }
     {
         match &self.state {
             State::Still(still) => still.left(),

@@ -6,7 +6,7 @@ ghost use Rattle.row_io.specs.Rows.{present};
 ghost use Rattle.flat_history.specs.Flat.{next_number};
 ghost use Rattle.flat_history.specs.declared.events.Event.TheVariants.{Failed};
 ghost use Rattle.flat_history.specs.declared.events.Request.TheVariants.{Fail as AsksFail};
-ghost use Rattle.shape_changes.specs.Marking.{AreOthersPresent};
+ghost use Rattle.growing.specs.shape_changes_Marking.{AreOthersPresent};
 ghost use Rattle.growing.specs.array_kept_Calls.{IsAnswered, IsFailedFor, OnNoMemory};
 ghost use Rattle.growing.specs.running_words_Calls.{IsCalled};
 

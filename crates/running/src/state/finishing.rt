@@ -3,9 +3,9 @@
 ghost use Rattle.std.specs.Prelude.{◌≡◌, ◌≢◌, ◌+◌, ◌≤◌, true, IfOk, IfErr};
 ghost use Rattle.superblocks.specs.Reading.{is_reshaping};
 ghost use Rattle.flat_history.specs.declared.events.Event.TheVariants.{Refused};
-ghost use Rattle.views.specs.Lacking.{AreTooMany};
+ghost use Rattle.growing.specs.views_Lacking.{AreTooMany};
 ghost use Rattle.growing.specs.array_kept_Calls.{IsBehind};
-ghost use Rattle.kept_history.specs.Recorded.{IsCallGoing};
+ghost use Rattle.growing.specs.kept_history_Recorded.{IsCallGoing};
 ghost use Rattle.growing.specs.moving_state_Due.{due_of};
 ghost use Rattle.growing.specs.moving_state_the_Due_TheVariants.{Finish};
 ghost use Rattle.growing.specs.running_words_Calls.{IsCalled};

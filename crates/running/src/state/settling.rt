@@ -6,8 +6,8 @@ ghost use Rattle.row_io.specs.Rows.{reading_of, present};
 ghost use Rattle.flat_history.specs.Flat.{next_number};
 ghost use Rattle.flat_history.specs.declared.events.Event.TheVariants.{Flushed};
 ghost use Rattle.flat_history.specs.declared.events.Request.TheVariants.{Flush as AsksFlush};
-ghost use Rattle.shape_changes.specs.Marking.{AreOthersPresent};
-ghost use Rattle.views.specs.Lacking.{HaveRolesFailed, AreHoldersFlushed, AreTooMany};
+ghost use Rattle.growing.specs.shape_changes_Marking.{AreOthersPresent};
+ghost use Rattle.growing.specs.views_Lacking.{HaveRolesFailed, AreHoldersFlushed, AreTooMany};
 ghost use Rattle.growing.specs.array_kept_Calls.{IsAnswered, IsCausedBy, OnNoMemory};
 ghost use Rattle.growing.specs.running_words_Calls.{IsCalled};
 

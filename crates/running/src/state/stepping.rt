@@ -3,7 +3,7 @@
 ghost use Rattle.std.specs.Prelude.{◌≡◌, ◌≢◌, ◌⊎◌, ◌+◌, ◌≤◌, true, OnOk, OnErr, IsSome};
 ghost use Rattle.superblocks.specs.Reading.{is_reshaping};
 ghost use Rattle.growing.specs.array_kept_Calls.{by_answer};
-ghost use Rattle.kept_history.specs.Recorded.{IsCallGoing};
+ghost use Rattle.growing.specs.kept_history_Recorded.{IsCallGoing};
 ghost use Rattle.growing.specs.moving_state_Due.{due_of};
 ghost use Rattle.growing.specs.moving_state_the_Due_TheVariants.{Finish as EndsReshape};
 ghost use Rattle.growing.specs.running_words_Parts.{left_in};

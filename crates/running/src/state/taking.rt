@@ -3,10 +3,10 @@
 ghost use Rattle.std.specs.Prelude.{◌≡◌, ◌≢◌, ◌≤◌, List, false, IfOk, IfErr};
 ghost use Rattle.md_base.specs.declared.wishes.Phase.{Phase};
 ghost use Rattle.superblocks.specs.Reading.{is_reshaping};
-ghost use Rattle.views.specs.Status.{left_of};
+ghost use Rattle.growing.specs.views_Status.{left_of};
 ghost use Rattle.grow_asked.specs.declared.window.PhasesLeft.{PhasesLeft};
 ghost use Rattle.grow_asked.specs.Left.{phases_of};
-ghost use Rattle.kept_history.specs.Recorded.{IsCallGoing};
+ghost use Rattle.growing.specs.kept_history_Recorded.{IsCallGoing};
 ghost use Rattle.growing.specs.still_laws_Steps.{IsClosable};
 ghost use Rattle.takeover.specs.TakenOver.{IsTakeoverNext, IsUntaken, IsUntouched, IsLevelTaken};
 ghost use Rattle.running.specs.Calls.{MayEndSteps};

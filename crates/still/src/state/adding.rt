@@ -9,7 +9,7 @@ ghost use Rattle.row_io.specs.Rows.{present};
 ghost use Rattle.flat_history.specs.Flat.{next_number};
 ghost use Rattle.flat_history.specs.declared.events.Event.TheVariants.{Added};
 ghost use Rattle.flat_history.specs.declared.events.Request.TheVariants.{Add as AsksAdd};
-ghost use Rattle.shape_changes.specs.Marking.{AreOthersPresent};
+ghost use Rattle.still_laws.specs.shape_changes_Marking.{AreOthersPresent};
 ghost use Rattle.views.specs.Lacking.{AreUnnamed};
 ghost use Rattle.views.specs.Numbers.{free_number};
 ghost use Rattle.views.specs.Placed.{AreWhole, AreStillHeld};
@@ -19,14 +19,12 @@ ghost use Rattle.still_laws.specs.Steps.{IsStepped};
 
 use crate::state::Still;
 use array_state::adding::{spare_for, unaddable};
-use array_state::safe_additions::adding::{add_member, look_at};
-use array_state::safe_additions::device::free_number;
+use array_state::{add_member, free_number, look_at};
 use bank::Bank;
 use call_entries::calls::{check_number, enter, enter_behind};
 use flat_history::Event;
 use md_base::{Fault, Refusal, Who};
-use still_laws::safe_updates::naming::{has_unnamed, newly_vacant};
-use still_laws::safe_updates::roles::{shape_in, vacant_roles};
+use still_laws::{has_unnamed, newly_vacant, shape_in, vacant_roles};
 use superblocks::sets::{contains, with, without};
 
 impl<B: Bank> Still<B> {

@@ -15,7 +15,7 @@ use flat_history::Epoch;
 use grow_asked::PhasesLeft;
 use md_base::NoMemory;
 use std::alloc::Global;
-use still_laws::safe_updates::roles::shape_in;
+use still_laws::shape_in;
 use superblocks::Members;
 
 /// What an opening found: the backup slot, the members, and a bit for each slot that was looked at.

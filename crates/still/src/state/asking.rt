@@ -11,12 +11,12 @@ ghost use Rattle.still_laws.specs.running_words_Still.{IsStillStatus};
 
 use crate::state::Still;
 use array_state::asking::{copy_roles, copy_slots, visible as list_sectors};
+use array_state::stripes;
 use bank::Bank;
 use call_entries::calls::{check_number, enter};
 use flat_history::Event;
 use md_base::{NoMemory, Status, Who};
-use still_laws::safe_rows::mending::stripes;
-use still_laws::safe_updates::roles::shape_in;
+use still_laws::shape_in;
 use superblocks::says::is_clean;
 
 impl<B: Bank> Still<B> {

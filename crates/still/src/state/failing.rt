@@ -6,7 +6,7 @@ ghost use Rattle.row_io.specs.Rows.{present};
 ghost use Rattle.flat_history.specs.Flat.{next_number};
 ghost use Rattle.flat_history.specs.declared.events.Event.TheVariants.{Failed};
 ghost use Rattle.flat_history.specs.declared.events.Request.TheVariants.{Fail as AsksFail};
-ghost use Rattle.shape_changes.specs.Marking.{AreOthersPresent};
+ghost use Rattle.still_laws.specs.shape_changes_Marking.{AreOthersPresent};
 ghost use Rattle.still_laws.specs.array_kept_Calls.{IsAnswered, IsFailedFor, OnNoMemory};
 ghost use Rattle.still_laws.specs.running_words_Calls.{IsCalled};
 
@@ -17,8 +17,7 @@ use call_entries::calls::{check_number, enter, enter_behind};
 use flat_history::{Event, LostCause};
 use md_base::{Fault, Refusal, Who};
 use row_io::lose_slot;
-use still_laws::safe_updates::naming::{name_missing, newly_vacant};
-use still_laws::safe_updates::roles::vacant_roles;
+use still_laws::{name_missing, newly_vacant, vacant_roles};
 
 impl<B: Bank> Still<B> {
     /// Takes the slot of this role out of the array, and names the role missing in the superblocks of the others. Refusals:

@@ -15,7 +15,7 @@ use call_entries::calls::{check_number, enter};
 use flat_history::Event;
 use grow_asked::PhasesLeft;
 use md_base::{BusyKind, Fault, Refusal, Who};
-use still_laws::moving_state::asking::visible_of;
+use still_laws::visible_of;
 
 // Whether a phase of a plan hasn't begun.
 fn is_planned(ahead: &PhasesLeft) -> bool

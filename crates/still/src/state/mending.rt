@@ -8,12 +8,12 @@ ghost use Rattle.flat_history.specs.Sound.{OpensFit};
 ghost use Rattle.flat_history.specs.World.{opening_list};
 ghost use Rattle.flat_history.specs.declared.events.StepKind.TheVariants.{ResyncStripe as MendsStripe, ResyncEnded as EndsResync};
 ghost use Rattle.views.specs.Lacking.{AreHoldersFlushed, AreTooMany, RowsStand};
-ghost use Rattle.shape_views.specs.Regions.{DoWithout};
+ghost use Rattle.still_laws.specs.shape_views_Regions.{DoWithout};
 ghost use Rattle.views.specs.Placed.{AreStillHeld};
 ghost use Rattle.views.specs.Rebuilding.{Held};
 ghost use Rattle.still_laws.specs.safe_updates_First.{write_refusal, IsFirstRefused};
 ghost use Rattle.still_laws.specs.array_kept_Calls.{AreSparesFewer, HasStripeLeft, IsAllMended, one_more, AreStepsFewer, AreStepsKept, by_answer, IsCausedBy, IsUnmendable};
-ghost use Rattle.kept_history.specs.Recorded.{IsCallGoing};
+ghost use Rattle.still_laws.specs.kept_history_Recorded.{IsCallGoing};
 ghost use Rattle.still_laws.specs.running_words_Parts.{still_left};
 ghost use Rattle.still_laws.specs.running_words_Calls.{moving_world, IsStepTaken};
 ghost use Rattle.still_laws.specs.running_words_Plans.{ArePlansKept};
@@ -26,11 +26,7 @@ use bank::Bank;
 use call_entries::calls::enter_behind;
 use flat_history::{Event, StepKind};
 use md_base::{Fault, Who};
-use still_laws::safe_rows::mending::mend;
-use still_laws::safe_updates::naming::newly_vacant;
-use still_laws::safe_updates::refusing::too_many;
-use still_laws::safe_updates::roles::{shape_in, vacant_roles};
-use still_laws::safe_updates::settles::settle;
+use still_laws::{mend, newly_vacant, settle, shape_in, too_many, vacant_roles};
 
 impl<B: Bank> Still<B> {
     /// A step of the pending resync: makes the parity of its next stripe fit the data. Every role that has data must be there.

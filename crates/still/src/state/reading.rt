@@ -10,13 +10,13 @@ ghost use Rattle.flat_history.specs.Flat.{next_number, now};
 ghost use Rattle.flat_history.specs.World.{opening_list};
 ghost use Rattle.flat_history.specs.declared.events.Event.TheVariants.{Read};
 ghost use Rattle.flat_history.specs.declared.events.Request.TheVariants.{Read as AsksRead};
-ghost use Rattle.shape_changes.specs.Marking.{AreOthersPresent};
+ghost use Rattle.still_laws.specs.shape_changes_Marking.{AreOthersPresent};
 ghost use Rattle.views.specs.Lacking.{HaveRolesFailed, IsUnread, mended_rows};
 ghost use Rattle.views.specs.Placed.{AreWhole};
 ghost use Rattle.views.specs.Status.{stripes_of};
 ghost use Rattle.still_laws.specs.safe_updates_First.{read_refusal, call_refusal, IsFirstRefused};
 ghost use Rattle.still_laws.specs.array_kept_Calls.{IsAnswered, IsCausedBy, IsRefusalOf, OnNoMemory};
-ghost use Rattle.kept_history.specs.Safe.{IsFilledRight};
+ghost use Rattle.still_laws.specs.kept_history_Safe.{IsFilledRight};
 ghost use Rattle.still_laws.specs.running_words_Calls.{moving_world, IsCalled};
 ghost use Rattle.still_laws.specs.running_words_Parts.{visible_size, visible_in};
 
@@ -27,12 +27,7 @@ use bank::Bank;
 use call_entries::calls::{check_number, enter, enter_behind};
 use flat_history::Event;
 use md_base::{Fault, Refusal, Sectors, Who};
-use still_laws::moving_state::asking::visible_of;
-use still_laws::safe_rows::fetching::fetch;
-use still_laws::safe_rows::mending::mended_rows;
-use still_laws::safe_updates::naming::newly_vacant;
-use still_laws::safe_updates::refusing::unread;
-use still_laws::safe_updates::roles::{shape_in, vacant_roles};
+use still_laws::{fetch, mended_rows, newly_vacant, shape_in, unread, vacant_roles, visible_of};
 use superblocks::Members;
 
 // Why so many sectors from one on aren't read, before any is: the first of `PastEnd`, `TooManyMissing` and `NotResynced`.

@@ -10,13 +10,13 @@ ghost use Rattle.flat_history.specs.Sound.{OpensFit};
 ghost use Rattle.flat_history.specs.World.{opening_list};
 ghost use Rattle.flat_history.specs.declared.events.Event.TheVariants.{Step, Rebuilt as IsRebuilt};
 ghost use Rattle.flat_history.specs.declared.events.StepKind.TheVariants.{RebuildTaken as TakesRole, RebuildStripe as FillsStripe, RebuildEnded as EndsRebuild};
-ghost use Rattle.shape_views.specs.Regions.{DoWithout};
+ghost use Rattle.still_laws.specs.shape_views_Regions.{DoWithout};
 ghost use Rattle.views.specs.Lacking.{AreTooMany, RowsStand};
 ghost use Rattle.views.specs.Placed.{is_vacant, AreStillHeld};
 ghost use Rattle.views.specs.Rebuilding.{Held};
 ghost use Rattle.views.specs.Status.{rebuilt_of};
 ghost use Rattle.still_laws.specs.array_kept_Calls.{AreSparesFewer, IsHeldOrGiven, AreHeldOrSpare, HasStripeUnbuilt, AreStripesRebuilt, IsWholeOrLost, IsRecoveredOrLost, with_rebuilt, by_answer, AreStepsFewer, AreStepsKept, IsRebuildStepped, IsCausedBy};
-ghost use Rattle.kept_history.specs.Recorded.{IsCallGoing};
+ghost use Rattle.still_laws.specs.kept_history_Recorded.{IsCallGoing};
 ghost use Rattle.still_laws.specs.running_words_Parts.{still_left};
 ghost use Rattle.still_laws.specs.running_words_Calls.{moving_world};
 ghost use Rattle.still_laws.specs.running_words_Plans.{ArePlansKept};
@@ -30,10 +30,7 @@ use bank::Bank;
 use call_entries::calls::{enter, enter_behind, enter_lost};
 use flat_history::{Event, StepKind};
 use md_base::{Fault, Who};
-use still_laws::safe_rows::filling::recovering_slot;
-use still_laws::safe_updates::naming::newly_vacant;
-use still_laws::safe_updates::refusing::too_many;
-use still_laws::safe_updates::roles::{is_vacant, shape_in, vacant_roles};
+use still_laws::{is_vacant, newly_vacant, recovering_slot, shape_in, too_many, vacant_roles};
 use superblocks::sets::{with, without};
 
 impl<B: Bank> Still<B> {

@@ -6,7 +6,7 @@ ghost use Rattle.views.specs.Placed.{AreStillHeld};
 ghost use Rattle.views.specs.Rebuilding.{Held};
 ghost use Rattle.views.specs.Lacking.{AreTooMany};
 ghost use Rattle.still_laws.specs.array_kept_Calls.{IsBehind, IsEntered, IsUnmendable, AreSparesFewer, AreStepsKept};
-ghost use Rattle.kept_history.specs.Recorded.{IsCallGoing};
+ghost use Rattle.still_laws.specs.kept_history_Recorded.{IsCallGoing};
 ghost use Rattle.still_laws.specs.running_words_Parts.{still_left};
 ghost use Rattle.still_laws.specs.running_words_Calls.{moving_world};
 ghost use Rattle.still_laws.specs.running_words_Plans.{ArePlansKept};

@@ -8,7 +8,7 @@ ghost use Rattle.row_io.specs.Rows.{present};
 ghost use Rattle.flat_history.specs.Flat.{next_number};
 ghost use Rattle.flat_history.specs.declared.events.Event.TheVariants.{Wrote};
 ghost use Rattle.flat_history.specs.declared.events.Request.TheVariants.{Write as AsksWrite};
-ghost use Rattle.shape_changes.specs.Marking.{AreOthersPresent};
+ghost use Rattle.still_laws.specs.shape_changes_Marking.{AreOthersPresent};
 ghost use Rattle.views.specs.Lacking.{HaveRolesFailed, IsUnwritten, are_mended, mended_rows};
 ghost use Rattle.views.specs.Placed.{AreWhole};
 ghost use Rattle.views.specs.Status.{stripes_of};
@@ -24,11 +24,7 @@ use bank::Bank;
 use call_entries::calls::{check_number, enter, enter_behind, enter_failure};
 use flat_history::Event;
 use md_base::{Fault, Refusal, Sectors, Who};
-use still_laws::moving_state::asking::visible_of;
-use still_laws::safe_rows::putting::put;
-use still_laws::safe_updates::naming::newly_vacant;
-use still_laws::safe_updates::refusing::unwritten;
-use still_laws::safe_updates::roles::{shape_in, vacant_roles};
+use still_laws::{newly_vacant, put, shape_in, unwritten, vacant_roles, visible_of};
 use superblocks::Members;
 
 // Why so many sectors from one on aren't written, before any row is read: the first of `PastEnd`, `TooManyMissing` and `NotResynced`.

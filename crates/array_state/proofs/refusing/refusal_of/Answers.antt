@@ -1,7 +1,7 @@
 use Rattle.std.proofs.Common.{ℕ, ◌≤◌, Option, Some, None, arith, MatchOption}
 use Rattle.md_base.specs.declared.answers.Refusal.{Refusal}
 use Rattle.superblocks.specs.declared.members.Members.{Members}
-use Rattle.shape_views.specs.Regions.{DoWithout}
+use Rattle.safe_additions.specs.shape_views_Regions.{DoWithout}
 use Rattle.views.specs.Lacking.{AreTooMany}
 use Rattle.views.proofs.LackingLaws.{never-both}
 use Rattle.calls_kept.specs.array_kept_Calls.{IsRefusalOf}

@@ -4,7 +4,7 @@ use Rattle.bank.specs.Given.{Given}
 use Rattle.bank.specs.Tape.{contents}
 use Rattle.election.proofs.Elected.{lengths-taken}
 use Rattle.assemble.specs.Opening.{AreFlushed}
-use Rattle.views.proofs.Flushed.{contents-added}
+use Rattle.safe_additions.proofs.views_Flushed.{contents-added}
 use Rattle.assemble.proofs.Judged.{ok-found, ok-aside, err-caused, ok-writable, ok-own, ok-named, ok-sectors, given-as, on-ok, counted-by}
 use Rattle.assemble.proofs.opening.find.Goals as goal
 

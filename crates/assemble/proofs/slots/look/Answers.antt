@@ -5,8 +5,8 @@ use Rattle.bank.specs.declared.bank.Operation.{Operation}
 use Rattle.bank.specs.Given.{Given}
 use Rattle.bank.specs.Tape.{Contents, contents}
 use Rattle.superblocks.specs.Found.{AreInSectors}
-use Rattle.views.specs.Flushing.{AreTried, OnlyFlushesAdded, OnlyItsSlotsFail}
-use Rattle.views.proofs.Flushed.{contents-added}
+use Rattle.safe_additions.specs.views_Flushing.{AreTried, OnlyFlushesAdded, OnlyItsSlotsFail}
+use Rattle.safe_additions.proofs.views_Flushed.{contents-added}
 use Rattle.assemble.proofs.LookedAt.{aside-left, writable-left, sectors-left, seen-given, rest-none}
 use Rattle.assemble.proofs.slots.look.Goals as goal
 

@@ -5,7 +5,7 @@ use Rattle.superblocks.specs.Reading.{list_length}
 use Rattle.grow_asked.specs.Asked.{asked_of, grow_refusal}
 use Rattle.grow_asked.specs.Left.{phases_of}
 use Rattle.turning.specs.running_words_Parts.{visible_size, visible_in}
-use Rattle.turning.proofs.running_words_Visible.{visible-is}
+use Rattle.turning.proofs.running_words_VisibleLaws.{visible-is}
 use Rattle.growing.proofs.Told.{first-as, visible-as}
 use Rattle.growing.proofs.judging.judge.Goals as goal
 

@@ -5,12 +5,12 @@ use Rattle.flat_history.specs.declared.events.Event.TheVariants.{Refused}
 use Rattle.flat_history.specs.Flat.{next_number}
 use Rattle.flat_history.specs.OneShape.{opening_in}
 use Rattle.flat_history.specs.Plain.{entries_of}
-use Rattle.views.proofs.MovedLaws.{grows-none}
+use Rattle.turning.proofs.views_MovedLaws.{grows-none}
 use Rattle.running_replies.specs.array_kept_Kept.{scope_in, world_in}
 use Rattle.running_replies.proofs.array_kept_ReadyLaws.{scope-same}
 use Rattle.grow_asked.specs.Asked.{asked_of, grow_refusal}
 use Rattle.grow_asked.specs.Left.{phases_of}
-use Rattle.kept_history.proofs.Records.{begins-going}
+use Rattle.turning.proofs.kept_history_Records.{begins-going}
 use Rattle.turning.specs.running_words_Parts.{visible_size}
 use Rattle.turning.proofs.running_words_Lengths.{alone-keeps}
 use Rattle.turning.proofs.still_laws_Kept.{ready, rows-same}

@@ -6,12 +6,12 @@ use Rattle.flat_history.specs.declared.events.Entry.{Entry}
 use Rattle.flat_history.specs.declared.events.Event.TheVariants.{Refused}
 use Rattle.flat_history.specs.Flat.{next_number}
 use Rattle.flat_history.specs.Plain.{entries_of}
-use Rattle.views.proofs.MovedLaws.{grows-none}
+use Rattle.turning.proofs.views_MovedLaws.{grows-none}
 use Rattle.running_replies.specs.array_kept_Kept.{scope_in, world_in}
 use Rattle.running_replies.proofs.array_kept_LossLaws.{ended-behind}
 use Rattle.running_replies.proofs.array_kept_ReadyLaws.{scope-same}
 use Rattle.turning.proofs.moving_laws_Kept.{ready, roomier, shapes-same, alone-keeps}
-use Rattle.turning.proofs.running_words_Visible.{visible-is}
+use Rattle.turning.proofs.running_words_VisibleLaws.{visible-is}
 use Rattle.growing.proofs.Busy.{busy-fits, busy-moves}
 use Rattle.growing.proofs.Told.{replied-as, end-as, visible-as}
 use Rattle.growing.proofs.refusing.enter_busy.Goals as goal

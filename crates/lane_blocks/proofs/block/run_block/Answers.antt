@@ -13,7 +13,7 @@ told g c =
     let ends = run.result in
     all-told start.shared.lock.table.shared.table_id start.shared.lock.table.shared.key.value c.args.array c.closed.result start.passes.0 start.passes.1 start.passes.2 ends.0.0 ends.0.1 ends.0.2
     c.args.first.items c.args.second.items ends.1.0.items ends.1.1.items (goal.F-post g (asked_by c.args.pace.now)) c.left-left.result (running_left c.args.array) ends.1.2
-    start.ensures.lock start.ensures.passes c.closed.ensures run.ensures.first run.ensures.second c.left-left.ensures run.ensures.worked
+    start.ensures.lock start.ensures.passes c.closed.ensures run.ensures.first run.ensures.second c.left-left.ensures.exact run.ensures.worked
 
 pub returns-clause-later : goal.returns-clause-later
 returns-clause-later g c = (told g c).later

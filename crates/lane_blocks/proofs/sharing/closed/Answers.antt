@@ -1,5 +1,5 @@
 use Rattle.std.proofs.Common.{[], ◌∷◌}
-use Rattle.shared_lanes.specs.Serving.{array_ways}
+use Rattle.shared_lanes.specs.lanes_Serving.{array_ways}
 use Rattle.lane_blocks.proofs.RowLaws.{ended-as}
 use Rattle.lane_blocks.proofs.sharing.closed.Goals as goal
 

@@ -4,7 +4,7 @@ use Rattle.flat_history.specs.declared.events.Epoch.{Epoch}
 use Rattle.flat_history.specs.declared.events.Event.{Event}
 use Rattle.run_laws.specs.Histories.{history_of, is_end}
 use Rattle.superblocks.specs.Reading.{list_length}
-use Rattle.views.specs.Lacking.{AreTooMany}
+use Rattle.run_laws.specs.views_Lacking.{AreTooMany}
 use Rattle.run_laws.specs.array_kept_Calls.{IsUnsettled, IsFaultFor}
 use Rattle.script.specs.declared.lines.Line.TheVariants.{Stop as AsksStop}
 use Rattle.run_laws.specs.Making.{setting_of}
@@ -62,7 +62,7 @@ returns-in-NoMemory-clause-answered g c =
     let setting = setting_of g.B.Bank.tells (g.B.Bank.given array.parts.bank) (g.B.Bank.tape array.parts.bank) (g.B.Bank.tape left.parts.bank) c.args.backup (g.B.Bank.faults_of array.parts.bank) (g.B.Bank.faults_of left.parts.bank) in
     let same = did.called.same.array in
     no_turn setting array left c.args.epochs c.requires.own (losses-of setting (running_history left.parts) (held-before (g.B.Bank.given array.parts.bank) c.args.backup (running_history array.parts) (running_history left.parts) array.parts.members did.called.grows (epoch-opening (same-epoch did.called.same)) c.requires.former.held) did.called.losses (told_none c.args.backup (g.B.Bank.faults_of array.parts.bank) (g.B.Bank.faults_of left.parts.bank) (subst (λ (f : Fault). IsUnsettled c.script_call-who.result array.parts.entries left.parts.entries f) c.in-NoMemory.is did.refused))) same.uuid same.given same.first (sized-none (called-length did.called) (subst (λ (f : Fault). IsUnsettled c.script_call-who.result array.parts.entries left.parts.entries f) c.in-NoMemory.is did.refused))
-    (told-alike (subst (λ (f : Fault). IsUnsettled c.script_call-who.result array.parts.entries left.parts.entries f) c.in-NoMemory.is did.refused) did.left_active (ap (λ (p : PhasesLeft). phases_of p) did.called.same.ahead) c.requires.own.turning) AsksStop
+    (told-alike (subst (λ (f : Fault). IsUnsettled c.script_call-who.result array.parts.entries left.parts.entries f) c.in-NoMemory.is did.refused) did.left_active (ap (λ (p : PhasesLeft). phases_of p) did.called.same.ahead) c.requires.own.turning) c.left.ensures.told AsksStop
     (subst (λ (f : Fault). IsUnsettled c.script_call-who.result array.parts.entries left.parts.entries f) c.in-NoMemory.is did.refused)
 
 pub returns-in-Refused-clause-answered : goal.returns-in-Refused-clause-answered
@@ -78,7 +78,7 @@ returns-in-Refused-clause-answered g c =
     (subst (λ (f : Fault). IsFaultFor size 0 AreTooMany array.parts.members left.parts.members f) c.in-Refused.is did.caused) c.last_place.ensures in
     subst (λ (what : Answered). IsTurn setting (IsRunning array c.args.epochs) (IsRunning left c.args.epochs) AsksStop what) (sym c.inside-what-in-Refused.ensures)
     (turn_asked setting array left c.args.epochs c.requires.own (losses-of setting (running_history left.parts) (held-before (g.B.Bank.given array.parts.bank) c.args.backup (running_history array.parts) (running_history left.parts) array.parts.members did.called.grows (epoch-opening (same-epoch did.called.same)) c.requires.former.held) did.called.losses (told_behind c.args.backup (g.B.Bank.faults_of array.parts.bank) (g.B.Bank.faults_of left.parts.bank) was (subst (λ (e : Event). IsRefusalToldBy c.args.backup (g.B.Bank.faults_of array.parts.bank) (g.B.Bank.faults_of left.parts.bank) e) (asked.1) (stop_told c.args.backup (g.B.Bank.faults_of array.parts.bank) (g.B.Bank.faults_of left.parts.bank) asked.0.event asked.0.fits)))) same.uuid same.given same.first (sized-behind (called-length did.called) (λ n. refl) was)
-    (told-same asked.0 (stop-unstepped asked.0.event asked.0.fits) did.left_active (ap (λ (p : PhasesLeft). phases_of p) did.called.same.ahead) c.requires.own.turning) AsksStop c.last_place.result asked.0
+    (told-same asked.0 (stop-unstepped asked.0.event asked.0.fits) did.left_active (ap (λ (p : PhasesLeft). phases_of p) did.called.same.ahead) c.requires.own.turning) c.left.ensures.told AsksStop c.last_place.result asked.0
     (asked-tellable asked.0 (stop-told asked.0.event asked.0.fits)) (same.backup ∙ c.requires.former.backup_is)
     (unjudged-asked size AsksStop array.parts.entries left.parts.entries setting.given (record_of array) (Ok c.last_place.result) asked.0 (λ event. tt))
     (left-unstopped setting.before setting.now array left asked.0 _ asked.1 (left-called did.called did.left_active did.left_failed)

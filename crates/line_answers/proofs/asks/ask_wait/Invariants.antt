@@ -15,7 +15,7 @@ invariant-loop-at g l = record {
   waiting : (earlier : List ℕ) × IsStillWaiting (list_length l.fn.array.parts.members.newest) l.fn.array.parts.entries earlier l.array.parts.entries;
   ended : IsEndOf g.B.Bank.tells l.array.parts.first l.array.parts.entries (g.B.Bank.tape l.array.parts.bank);
   turning : IsTurningTold (is_reshaping l.array.parts.members.newest) (phases_of l.array.ahead) l.array.parts.entries;
-  stepped : (others : List Record) × AreAnsweredSo (record_of l.fn.array) others (record_of l.array);
+  stepped : (others : List Record) × AreAnsweredSo (g.B.Bank.faults_of l.fn.array.parts.bank) (g.B.Bank.faults_of l.array.parts.bank) (record_of l.fn.array) others (record_of l.array);
   went : HasRunOn g.B.Bank.tells g.B.Bank.given g.B.Bank.tape g.B.Bank.faults_of l.fn.array l.array;
 }
 

@@ -9,7 +9,7 @@ use Rattle.superblocks.specs.Reading.{is_reshaping, list_length}
 use Rattle.grow_asked.specs.Left.{phases_of}
 use Rattle.grow_asked.specs.declared.window.PhasesLeft.{PhasesLeft}
 use Rattle.run_laws.proofs.Turned.{told-same, told-still, asked-tellable, shown-unstepped, shown-told}
-use Rattle.line_answers.proofs.Lefts.{left-same}
+use Rattle.line_answers.proofs.Lefts.{left-untouched}
 use Rattle.line_answers.proofs.shows.ask_show.Goals as goal
 
 pub returns-clause-asked : goal.returns-clause-asked
@@ -57,4 +57,4 @@ returns-in-Err-clause-turning g c = told-still c.in-Err.ensures.unchanged c.requ
 pub returns-clause-left : goal.returns-clause-left
 returns-clause-left g c =
     let did = c.in-Ok.ensures in
-    left-same (g.B.Bank.faults_of c.args.array.now.parts.bank) (g.B.Bank.faults_of c.status.new.self.parts.bank) did.same did.members did.work
+    left-untouched did.same did.members did.work

@@ -1,6 +1,6 @@
 use Rattle.std.proofs.Common.{◌-◌, ◌<◌, ◌≤◌, ℕ}
 use Rattle.flat_history.specs.Stands.{shape_for}
-use Rattle.views.specs.Lacking.{DoesWithout}
+use Rattle.course_kept.specs.views_Lacking.{DoesWithout}
 use Rattle.moving_state.proofs.refusing.lacking_from.Given as goal
 
 abbrev pub decreases-loop-at : goal.decreases-loop-at

@@ -1,6 +1,6 @@
 use Rattle.std.proofs.Common.{◌≤◌, ℕ, sym, subst}
-use Rattle.shape_views.proofs.Headers.{window-filled}
-use Rattle.shape_views.proofs.Stands.{window-inside}
+use Rattle.course_kept.proofs.shape_views_Headers.{window-filled}
+use Rattle.course_kept.proofs.shape_views_Stands.{window-inside}
 use Rattle.moving_state.proofs.ReshapeLaws.{forced-by, end-by}
 use Rattle.moving_state.proofs.reshape.is_window_critical.Goals as goal
 

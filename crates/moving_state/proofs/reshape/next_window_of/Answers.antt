@@ -2,8 +2,8 @@ use Rattle.std.proofs.Common.{◌<◌, ◌≤◌, ◌-◌}
 use Rattle.md_base.specs.declared.places.Span.{Span}
 use Rattle.superblocks.specs.Reading.{list_length}
 use Rattle.flat_history.specs.Stands.{reach_of}
-use Rattle.shape_views.proofs.Headers.{window-filled}
-use Rattle.shape_views.proofs.Stands.{window-inside}
+use Rattle.course_kept.proofs.shape_views_Headers.{window-filled}
+use Rattle.course_kept.proofs.shape_views_Stands.{window-inside}
 use Rattle.course_kept.specs.window_steps_Zeroing.{IsThrough}
 use Rattle.moving_state.proofs.ReshapeLaws.{under-way-of, of-window, no-window, window-reach, through-of}
 use Rattle.moving_state.proofs.reshape.next_window_of.Goals as goal

@@ -4,7 +4,7 @@ use Rattle.md_base.specs.declared.places.Shape.{Shape}
 use Rattle.geometry.specs.Geometry.{ceiling}
 use Rattle.geometry.proofs.ClosedForms.{ceiling_below}
 use Rattle.superblocks.specs.Reading.{final_shape}
-use Rattle.shape_views.proofs.Stands.{window-inside}
+use Rattle.course_kept.proofs.shape_views_Stands.{window-inside}
 use Rattle.moving_state.proofs.ReshapeLaws.{valid-by, list-short, copy-of}
 use Rattle.moving_state.proofs.reshape.stripe_to_copy.Goals as goal
 

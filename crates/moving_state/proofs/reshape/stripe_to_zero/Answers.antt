@@ -1,7 +1,7 @@
 use Rattle.std.proofs.Common.{◌≤◌, ◌<◌, ◌+◌, ◌/◌, ℕ, ap, sym, subst, arith}
 use Rattle.std.proofs.Math.Nat.{div-le_self}
 use Rattle.superblocks.specs.Reading.{is_backward, final_shape}
-use Rattle.views.proofs.Fit.{fit-short}
+use Rattle.course_kept.proofs.views_Fit.{fit-short}
 use Rattle.course_kept.specs.Course.{past_stripe}
 use Rattle.moving_state.proofs.ReshapeLaws.{zero-of}
 use Rattle.moving_state.proofs.reshape.stripe_to_zero.Goals as goal

@@ -1,10 +1,10 @@
 use Rattle.std.proofs.Common.{◌≤◌, [], ◌∷◌, refl, subst, arith}
-use Rattle.views.proofs.MovedLaws.{grows-none, moved-same}
+use Rattle.moving.proofs.views_MovedLaws.{grows-none, moved-same}
 use Rattle.flat_history.specs.Plain.{entries_of}
 use Rattle.still_kept.proofs.array_kept_LossLaws.{ended-behind}
 use Rattle.still_kept.proofs.array_kept_ReadyLaws.{scope-same}
-use Rattle.views.specs.Rebuilding.{Held}
-use Rattle.kept_history.specs.Recorded.{IsCallGoing}
+use Rattle.moving.specs.views_Rebuilding.{Held}
+use Rattle.moving.specs.kept_history_Recorded.{IsCallGoing}
 use Rattle.moving.proofs.running_words_Called.{called, alone-lossless}
 use Rattle.moving.proofs.moving_laws_Kept.{ready, shapes-same}
 use Rattle.moving_steps.specs.Replies.{IsReplyInReshape}

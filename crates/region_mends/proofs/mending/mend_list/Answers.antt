@@ -9,11 +9,11 @@ use Rattle.superblocks.specs.Reading.{role_state}
 use Rattle.row_io.specs.Rows.{reading_of, present}
 use Rattle.list_io.specs.Full.{AreWholeIn, RowStands}
 use Rattle.list_io.specs.Writing.{HasFull}
-use Rattle.shape_views.specs.Regions.{DoWithout}
-use Rattle.shape_views.specs.Windows.{IsOfRegion}
-use Rattle.views.specs.Placed.{IsInForce}
-use Rattle.views.specs.Lacking.{DoesWithout, DataStandsAmong, AreOtherRowsKept, IsOfStripe}
-use Rattle.views.proofs.Fit.{alike-force}
+use Rattle.region_writes.specs.shape_views_Regions.{DoWithout}
+use Rattle.region_writes.specs.shape_views_Windows.{IsOfRegion}
+use Rattle.region_writes.specs.views_Placed.{IsInForce}
+use Rattle.region_writes.specs.views_Lacking.{DoesWithout, DataStandsAmong, AreOtherRowsKept, IsOfStripe}
+use Rattle.region_writes.proofs.views_Fit.{alike-force}
 use Rattle.region_mends.specs.declared.stripes.Stripe.{Stripe}
 use Rattle.region_mends.specs.Mends.{lacking_or, mend_refusal, IsNotMended, stripe_behind}
 use Rattle.region_mends.proofs.StripeLaws.{is-next}

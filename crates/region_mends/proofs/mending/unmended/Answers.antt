@@ -2,7 +2,7 @@ use Rattle.std.proofs.Common.{◌≤◌, false, Option, sym, ◌∙◌, ap, subs
 use Rattle.std.specs.Prelude.{IsTrue, length}
 use Rattle.md_base.specs.Shapes.{is_valid_shape}
 use Rattle.md_base.specs.declared.answers.Refusal.{Refusal}
-use Rattle.views.proofs.Fit.{force-valid, force-disks}
+use Rattle.region_writes.proofs.views_Fit.{force-valid, force-disks}
 use Rattle.region_writes.specs.safe_updates_First.{write_refusal}
 use Rattle.region_mends.specs.declared.stripes.Stripe.{Stripe}
 use Rattle.region_mends.specs.Mends.{lacking_or, mend_shape}

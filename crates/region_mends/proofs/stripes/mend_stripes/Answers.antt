@@ -2,7 +2,7 @@ use Rattle.std.proofs.Common.{◌≡◌, ◌+◌, ◌-◌, ◌/◌, ℕ, ap, ◌
 use Rattle.std.proofs.Math.Nat.{div-le_self}
 use Rattle.md_base.specs.declared.places.Shape.{Shape}
 use Rattle.sb1.specs.declared.sb.Sb.{Sb}
-use Rattle.views.proofs.Fit.{fit-short}
+use Rattle.region_writes.proofs.views_Fit.{fit-short}
 use Rattle.region_mends.specs.Mends.{high_shape, low_stripes}
 use Rattle.region_writes.proofs.Sides.{high-few}
 use Rattle.region_mends.proofs.stripes.mend_stripes.Goals as goal

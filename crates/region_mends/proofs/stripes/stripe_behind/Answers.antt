@@ -1,7 +1,7 @@
 use Rattle.std.proofs.Common.{◌+◌, ◌-◌, ℕ, ap, sym, ◌∙◌, arith}
 use Rattle.std.proofs.Math.Nat.{div-le_self}
 use Rattle.md_base.specs.declared.places.Shape.{Shape}
-use Rattle.views.proofs.Fit.{fit-short}
+use Rattle.region_writes.proofs.views_Fit.{fit-short}
 use Rattle.region_mends.specs.Mends.{high_shape, high_stripe}
 use Rattle.region_writes.proofs.Sides.{high-few}
 use Rattle.region_mends.proofs.StripeLaws.{stripe-at, behind-low, behind-high}

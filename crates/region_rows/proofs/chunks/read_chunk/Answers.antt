@@ -10,9 +10,9 @@ use Rattle.list_io.specs.Calls.{AreLost}
 use Rattle.list_io.specs.Full.{DataStands, RowStands}
 use Rattle.list_io.proofs.LossLaws.{none_lost, lost_then}
 use Rattle.list_io.proofs.ListLaws.{data_by, row_by, present_same}
-use Rattle.views.specs.Placed.{IsPlaced, IsInForce}
-use Rattle.views.proofs.Fit.{disks-within}
-use Rattle.views.proofs.LackingWrites.{lost-of}
+use Rattle.safe_rows.specs.views_Placed.{IsPlaced, IsInForce}
+use Rattle.safe_rows.proofs.views_Fit.{disks-within}
+use Rattle.safe_rows.proofs.views_LackingWrites.{lost-of}
 use Rattle.region_rows.proofs.chunks.read_chunk.Goals as goal
 
 pub are_too_many-requires : goal.are_too_many-requires

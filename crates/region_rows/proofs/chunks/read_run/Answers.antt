@@ -7,7 +7,7 @@ use Rattle.layout.specs.Layout.{place}
 use Rattle.superblocks.specs.Reading.{role_state, holder, data_offset_of}
 use Rattle.row_io.specs.Rows.{reading_of, present}
 use Rattle.list_io.proofs.LossLaws.{none_lost, slot_lost}
-use Rattle.views.proofs.Fit.{force-valid, force-multiple, disks-within, few}
+use Rattle.safe_rows.proofs.views_Fit.{force-valid, force-multiple, disks-within, few}
 use Rattle.region_rows.proofs.ChunkReads.{run-listed, run-within}
 use Rattle.region_rows.proofs.chunks.read_run.Goals as goal
 

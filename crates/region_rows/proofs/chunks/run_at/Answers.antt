@@ -1,5 +1,5 @@
 use Rattle.std.proofs.Common.{arith}
-use Rattle.views.proofs.Fit.{force-valid}
+use Rattle.safe_rows.proofs.views_Fit.{force-valid}
 use Rattle.region_rows.proofs.ChunkReads.{chunk-run}
 use Rattle.region_rows.proofs.chunks.run_at.Goals as goal
 

@@ -5,14 +5,14 @@ use Rattle.md_base.specs.declared.answers.Refusal.{Refusal}
 use Rattle.superblocks.specs.declared.members.Members.{Members}
 use Rattle.row_io.specs.Rows.{present}
 use Rattle.flat_history.specs.Sound.{OpensFit}
-use Rattle.shape_changes.specs.Steady.{IsUncleanTold}
-use Rattle.shape_changes.specs.Marking.{AreOthersPresent}
-use Rattle.shape_changes.proofs.Risen.{risen-then, risen-lost, room-then}
-use Rattle.views.specs.Rebuilding.{AreSparesFree}
-use Rattle.views.proofs.MovedLaws.{moved-then, moved-from, grows-none}
-use Rattle.views.proofs.LackingLaws.{since-then, in-second}
-use Rattle.views.proofs.SafeStretch.{safe-then, safe-lost, over-at, keeps-from}
-use Rattle.views.proofs.LackingLists.{none-of}
+use Rattle.safe_rows.specs.shape_changes_Steady.{IsUncleanTold}
+use Rattle.safe_rows.specs.shape_changes_Marking.{AreOthersPresent}
+use Rattle.safe_rows.proofs.shape_changes_Risen.{risen-then, risen-lost, room-then}
+use Rattle.safe_rows.specs.views_Rebuilding.{AreSparesFree}
+use Rattle.safe_rows.proofs.views_MovedLaws.{moved-then, moved-from, grows-none}
+use Rattle.safe_rows.proofs.views_LackingLaws.{since-then, in-second}
+use Rattle.safe_rows.proofs.views_SafeStretch.{safe-then, safe-lost, over-at, keeps-from}
+use Rattle.safe_rows.proofs.views_LackingLists.{none-of}
 use Rattle.safe_rows.proofs.UnusedReads.{read-unused, named-unused}
 use Rattle.region_rows.proofs.fetching.fetch_list.Goals as goal
 

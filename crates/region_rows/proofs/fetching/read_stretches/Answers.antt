@@ -15,11 +15,11 @@ use Rattle.row_io.proofs.Written.{members_without-none}
 use Rattle.list_io.proofs.LossLaws.{members_then}
 use Rattle.list_io.proofs.ListLaws.{present_same}
 use Rattle.flat_history.specs.Stands.{shape_for}
-use Rattle.views.specs.Placed.{AreWhole, AreLost, IsInForce}
-use Rattle.views.specs.Moving.{IsMoved}
-use Rattle.views.proofs.MovedLaws.{moved-same, moved-lost, moved-then, lost-none}
-use Rattle.views.proofs.LackingLaws.{since-same, since-lost, since-then, in-second}
-use Rattle.views.proofs.LackingWrites.{lost-of}
+use Rattle.safe_rows.specs.views_Placed.{AreWhole, AreLost, IsInForce}
+use Rattle.safe_rows.specs.views_Moving.{IsMoved}
+use Rattle.safe_rows.proofs.views_MovedLaws.{moved-same, moved-lost, moved-then, lost-none}
+use Rattle.safe_rows.proofs.views_LackingLaws.{since-same, since-lost, since-then, in-second}
+use Rattle.safe_rows.proofs.views_LackingWrites.{lost-of}
 use Rattle.safe_rows.proofs.safe_updates_RefusingLaws.{not-err}
 use Rattle.region_rows.specs.Stretches.{IsStretch, IsOneRun, IsShapeOf, relied_rows}
 use Rattle.region_rows.proofs.StretchLaws.{list-short, data-few}

@@ -4,10 +4,10 @@ use Rattle.md_base.specs.Sectors.{Sector}
 use Rattle.md_base.specs.declared.places.Span.{Span}
 use Rattle.parity.specs.Rows.{sector_of}
 use Rattle.row_io.specs.Rows.{present, members_without}
-use Rattle.shape_views.specs.Windows.{IsShown}
-use Rattle.views.specs.Placed.{AreWhole}
-use Rattle.views.specs.Moving.{IsMoved}
-use Rattle.views.specs.Lacking.{HaveFailedSince}
+use Rattle.safe_rows.specs.shape_views_Windows.{IsShown}
+use Rattle.safe_rows.specs.views_Placed.{AreWhole}
+use Rattle.safe_rows.specs.views_Moving.{IsMoved}
+use Rattle.safe_rows.specs.views_Lacking.{HaveFailedSince}
 use Rattle.region_rows.specs.Stretches.{IsShapeOf, ListStandsIn, RowsStandIn}
 use Rattle.region_rows.proofs.fetching.read_stretches.Given as goal
 

@@ -1,6 +1,6 @@
 use Rattle.std.proofs.Common.{◌-◌, ◌<◌, ◌≤◌, ℕ}
 use Rattle.flat_history.specs.Stands.{shape_for}
-use Rattle.views.specs.Lacking.{DoesWithout}
+use Rattle.safe_rows.specs.views_Lacking.{DoesWithout}
 use Rattle.region_rows.proofs.fetching.too_many_in.Given as goal
 
 abbrev pub decreases-loop-at : goal.decreases-loop-at

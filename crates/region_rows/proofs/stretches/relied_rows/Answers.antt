@@ -4,7 +4,7 @@ use Rattle.md_base.specs.Shapes.{is_multiple, stripe_sectors}
 use Rattle.md_base.specs.declared.places.Shape.{Shape}
 use Rattle.sb1.specs.declared.sb.Sb.{Sb}
 use Rattle.superblocks.specs.Reading.{list_length}
-use Rattle.views.proofs.Fit.{fit-short}
+use Rattle.safe_rows.proofs.views_Fit.{fit-short}
 use Rattle.region_rows.specs.Stretches.{relied_rows}
 use Rattle.region_rows.proofs.StretchLaws.{relied-within, relied-stripes}
 use Rattle.region_rows.proofs.stretches.relied_rows.Goals as goal

@@ -3,7 +3,7 @@ use Rattle.std.proofs.lemmas.Bool.{cases_lt}
 use Rattle.std.proofs.lemmas.Bool.Decides.{nat_tests}
 use Rattle.layout.proofs.Places.{place-row_below, place-sector_below}
 use Rattle.layout.specs.Layout.{place}
-use Rattle.views.proofs.Fit.{force-valid, fit-short}
+use Rattle.region_rows.proofs.views_Fit.{force-valid, fit-short}
 use Rattle.region_writes.proofs.runs.run_at.Goals as goal
 
 le-of : (a b : ℕ) → nat_le a b ≡ true → a ≤ b

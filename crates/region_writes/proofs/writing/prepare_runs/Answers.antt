@@ -5,17 +5,17 @@ use Rattle.superblocks.specs.declared.members.Members.{Members}
 use Rattle.superblocks.specs.Reading.{is_clean}
 use Rattle.row_io.specs.Rows.{present}
 use Rattle.list_io.specs.Buffers.{buffered}
-use Rattle.views.specs.Placed.{IsPlaced}
-use Rattle.views.specs.Moving.{Grows, IsMoved}
-use Rattle.views.specs.Rebuilding.{AreSparesFree}
-use Rattle.views.proofs.MovedLaws.{moved-then, moved-from, grows-none, grows-then}
-use Rattle.views.proofs.Fit.{alike-force}
-use Rattle.views.proofs.LackingLaws.{since-then, in-second}
-use Rattle.views.proofs.LackingWrites.{standing-later}
-use Rattle.views.proofs.SafeStretch.{safe-then, safe-lost, over-at, keeps-from}
+use Rattle.region_rows.specs.views_Placed.{IsPlaced}
+use Rattle.region_rows.specs.views_Moving.{Grows, IsMoved}
+use Rattle.region_rows.specs.views_Rebuilding.{AreSparesFree}
+use Rattle.region_rows.proofs.views_MovedLaws.{moved-then, moved-from, grows-none, grows-then}
+use Rattle.region_rows.proofs.views_Fit.{alike-force}
+use Rattle.region_rows.proofs.views_LackingLaws.{since-then, in-second}
+use Rattle.region_rows.proofs.views_LackingWrites.{standing-later}
+use Rattle.region_rows.proofs.views_SafeStretch.{safe-then, safe-lost, over-at, keeps-from}
 use Rattle.flat_history.specs.Sound.{OpensFit}
-use Rattle.shape_changes.specs.Marking.{AreOthersPresent}
-use Rattle.shape_changes.proofs.Risen.{risen-then, risen-lost, room-then}
+use Rattle.region_rows.specs.shape_changes_Marking.{AreOthersPresent}
+use Rattle.region_rows.proofs.shape_changes_Risen.{risen-then, risen-lost, room-then}
 use Rattle.region_rows.proofs.safe_rows_UnusedReads.{read-unused, named-unused}
 use Rattle.region_writes.proofs.RunLaws.{told-as, told-never, told-no}
 use Rattle.region_writes.proofs.writing.prepare_runs.Goals as goal

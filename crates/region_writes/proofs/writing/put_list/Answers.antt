@@ -7,21 +7,21 @@ use Rattle.bank.specs.Tape.{disk}
 use Rattle.row_io.specs.Rows.{reading_of, present}
 use Rattle.list_io.specs.Buffers.{buffered, AreStanding}
 use Rattle.list_io.specs.Writing.{AreDataFrom}
-use Rattle.shape_views.specs.Regions.{place_by}
-use Rattle.shape_views.specs.Windows.{IsOfRegion, IsShown}
-use Rattle.views.specs.Moving.{IsMoved}
-use Rattle.views.specs.Rebuilding.{AreSparesFree}
-use Rattle.views.specs.Lacking.{DoesWithout, LacksTooMany, AreOtherRowsKept}
-use Rattle.views.proofs.Fit.{alike-force}
-use Rattle.views.proofs.HeldRows.{shape-without-before}
-use Rattle.views.proofs.MovedLaws.{moved-then, moved-same, moved-from, grows-then}
-use Rattle.views.proofs.LackingLaws.{since-then, in-either}
-use Rattle.views.proofs.LackingLists.{none-of, sectors-whole}
-use Rattle.views.proofs.LackingWrites.{standing-later, others-same, others-then}
-use Rattle.views.proofs.SafeStretch.{gone-before, safe-then, allowed-later, zeros-later, region-later, grows-longer, over-at, keeps-from}
+use Rattle.region_rows.specs.shape_views_Regions.{place_by}
+use Rattle.region_rows.specs.shape_views_Windows.{IsOfRegion, IsShown}
+use Rattle.region_rows.specs.views_Moving.{IsMoved}
+use Rattle.region_rows.specs.views_Rebuilding.{AreSparesFree}
+use Rattle.region_rows.specs.views_Lacking.{DoesWithout, LacksTooMany, AreOtherRowsKept}
+use Rattle.region_rows.proofs.views_Fit.{alike-force}
+use Rattle.region_rows.proofs.views_HeldRows.{shape-without-before}
+use Rattle.region_rows.proofs.views_MovedLaws.{moved-then, moved-same, moved-from, grows-then}
+use Rattle.region_rows.proofs.views_LackingLaws.{since-then, in-either}
+use Rattle.region_rows.proofs.views_LackingLists.{none-of, sectors-whole}
+use Rattle.region_rows.proofs.views_LackingWrites.{standing-later, others-same, others-then}
+use Rattle.region_rows.proofs.views_SafeStretch.{gone-before, safe-then, allowed-later, zeros-later, region-later, grows-longer, over-at, keeps-from}
 use Rattle.superblocks.specs.Reading.{list_length}
 use Rattle.flat_history.specs.Sound.{OpensFit}
-use Rattle.shape_changes.proofs.Risen.{risen-then, room-first, room-then}
+use Rattle.region_rows.proofs.shape_changes_Risen.{risen-then, room-first, room-then}
 use Rattle.region_rows.proofs.StretchLaws.{list-short, data-few}
 use Rattle.region_rows.specs.Stretches.{IsShapeOf}
 use Rattle.region_writes.specs.Runs.{AreRowsOf, AreFull, StayRebuilt, IsListTouched, IsTornTouched}

@@ -10,13 +10,13 @@ use Rattle.list_io.specs.Buffers.{buffered, AreRead}
 use Rattle.list_io.proofs.BufferLaws.{data_read}
 use Rattle.list_io.proofs.ListLaws.{present_same}
 use Rattle.list_io.proofs.LossLaws.{members_then}
-use Rattle.views.specs.Placed.{AreLost, IsInForce}
-use Rattle.views.specs.Moving.{IsMoved}
-use Rattle.views.proofs.MovedLaws.{moved-lost, moved-then}
-use Rattle.views.proofs.Fit.{has-rows}
-use Rattle.views.proofs.LackingLaws.{since-lost, since-then, in-second}
-use Rattle.views.proofs.LackingLists.{data-among-moved, among-moved}
-use Rattle.views.proofs.LackingWrites.{lost-of, standing-later}
+use Rattle.region_rows.specs.views_Placed.{AreLost, IsInForce}
+use Rattle.region_rows.specs.views_Moving.{IsMoved}
+use Rattle.region_rows.proofs.views_MovedLaws.{moved-lost, moved-then}
+use Rattle.region_rows.proofs.views_Fit.{has-rows}
+use Rattle.region_rows.proofs.views_LackingLaws.{since-lost, since-then, in-second}
+use Rattle.region_rows.proofs.views_LackingLists.{data-among-moved, among-moved}
+use Rattle.region_rows.proofs.views_LackingWrites.{lost-of, standing-later}
 use Rattle.region_rows.proofs.safe_updates_RefusingLaws.{write-told, not-err}
 use Rattle.region_writes.specs.Runs.{IsRun}
 use Rattle.region_writes.proofs.RunLaws.{run-within, run-short, ok-err, err-ok}

@@ -4,18 +4,18 @@ use Rattle.bank.specs.Given.{Given}
 use Rattle.bank.specs.Tape.{disk}
 use Rattle.row_io.specs.Rows.{reading_of, present}
 use Rattle.list_io.specs.Buffers.{buffered, AreStanding}
-use Rattle.views.specs.Moving.{IsMoved}
-use Rattle.views.specs.Rebuilding.{AreSparesFree}
-use Rattle.views.specs.Lacking.{AreRowsWritten}
-use Rattle.views.proofs.Elements.{contains-at}
-use Rattle.views.proofs.Fit.{alike-force}
-use Rattle.views.proofs.MovedLaws.{moved-then, moved-from, grows-then}
-use Rattle.views.proofs.LackingLaws.{since-then, in-either}
-use Rattle.views.proofs.LackingLists.{none-of}
-use Rattle.views.proofs.LackingWrites.{others-then}
-use Rattle.views.proofs.SafeStretch.{gone-before, safe-then, allowed-later, zeros-later, region-later, grows-longer, over-at, keeps-from}
+use Rattle.region_rows.specs.views_Moving.{IsMoved}
+use Rattle.region_rows.specs.views_Rebuilding.{AreSparesFree}
+use Rattle.region_rows.specs.views_Lacking.{AreRowsWritten}
+use Rattle.region_rows.proofs.views_Elements.{contains-at}
+use Rattle.region_rows.proofs.views_Fit.{alike-force}
+use Rattle.region_rows.proofs.views_MovedLaws.{moved-then, moved-from, grows-then}
+use Rattle.region_rows.proofs.views_LackingLaws.{since-then, in-either}
+use Rattle.region_rows.proofs.views_LackingLists.{none-of}
+use Rattle.region_rows.proofs.views_LackingWrites.{others-then}
+use Rattle.region_rows.proofs.views_SafeStretch.{gone-before, safe-then, allowed-later, zeros-later, region-later, grows-longer, over-at, keeps-from}
 use Rattle.flat_history.specs.Sound.{OpensFit}
-use Rattle.shape_changes.proofs.Risen.{risen-then, room-first, room-then}
+use Rattle.region_rows.proofs.shape_changes_Risen.{risen-then, room-first, room-then}
 use Rattle.region_writes.proofs.RunLaws.{told-as}
 use Rattle.region_writes.proofs.WriteLaws.{some-none, row-apart, rows-apart, standing-apart, full-done, full-kept, rebuilt-kept}
 use Rattle.region_rows.specs.safe_updates_Unused.{IsUnusedKept}

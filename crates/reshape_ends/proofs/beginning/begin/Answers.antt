@@ -11,24 +11,24 @@ use Rattle.superblocks.specs.Reading.{Scope, shape_of}
 use Rattle.superblocks.specs.Outcome.{AreLive}
 use Rattle.superblocks.proofs.SlotSets.{none_above}
 use Rattle.flat_history.specs.Sound.{OpensFit}
-use Rattle.shape_views.specs.Regions.{ArePlaced}
-use Rattle.shape_changes.specs.Giving.{IsToldOf}
-use Rattle.shape_changes.specs.Steady.{IsSafeOver}
-use Rattle.shape_changes.specs.Updates.{planned_view}
-use Rattle.shape_ends.specs.Ends.{IsCleared}
+use Rattle.safe_updates.specs.shape_views_Regions.{ArePlaced}
+use Rattle.safe_updates.specs.shape_changes_Giving.{IsToldOf}
+use Rattle.safe_updates.specs.shape_changes_Steady.{IsSafeOver}
+use Rattle.safe_updates.specs.shape_changes_Updates.{planned_view}
+use Rattle.reshape_updates.specs.shape_ends_Ends.{IsCleared}
 use Rattle.reshape_ends.specs.Begun.{is_idle_spare}
-use Rattle.shape_changes.specs.Changing.{IsChanged, IsSafeChange}
-use Rattle.shape_changes.proofs.PlannedRoles.{live-before}
+use Rattle.safe_updates.specs.shape_changes_Changing.{IsChanged, IsSafeChange}
+use Rattle.safe_updates.proofs.shape_changes_PlannedRoles.{live-before}
 use Rattle.backup.specs.Written.{cleared_header}
 use Rattle.backup.specs.Storing.{IsHeaded}
 use Rattle.reshape_updates.specs.Beginning.{beginning}
-use Rattle.views.proofs.Fit.{roles-still}
-use Rattle.views.proofs.MarkedLaws.{grows-marks, others-updated}
-use Rattle.views.proofs.MovedLaws.{grows-then}
+use Rattle.safe_updates.proofs.views_Fit.{roles-still}
+use Rattle.safe_updates.proofs.views_MarkedLaws.{grows-marks, others-updated}
+use Rattle.safe_updates.proofs.views_MovedLaws.{grows-then}
 use Rattle.reshape_ends.proofs.Made.{IsMade, new-moved, new-free}
 use Rattle.reshape_ends.proofs.Named.{names-all}
 use Rattle.reshape_ends.proofs.Cleared.{at-end, heading-kept, present-kept, marks-of, change-then, room-longer, cleared-then, steady-before, steady-then, views-cleared}
-use Rattle.reshape_ends.proofs.BeginLaws.{gives-live, begun-made, begun-one, begun-failed, begun-placed, begun-told}
+use Rattle.reshape_ends.proofs.BeginLaws.{gives-live, begun-made, begun-one, begun-failed, begun-spares, begun-placed, begun-told}
 use Rattle.reshape_ends.proofs.beginning.begin.Given.{Over}
 use Rattle.reshape_ends.proofs.beginning.begin.Goals.{After-without-2}
 use Rattle.reshape_ends.proofs.beginning.begin.Goals as goal
@@ -69,6 +69,9 @@ returns-in-Err-clause-moved g c = λ none. absurd (cc)
 
 pub returns-in-Err-clause-failed : goal.returns-in-Err-clause-failed
 returns-in-Err-clause-failed g c = λ none. absurd (cc)
+
+pub returns-in-Err-clause-spares : goal.returns-in-Err-clause-spares
+returns-in-Err-clause-spares g c = λ none. absurd (cc)
 
 pub returns-in-Err-clause-free : goal.returns-in-Err-clause-free
 returns-in-Err-clause-free g c = c.requires.free
@@ -181,6 +184,15 @@ returns-clause-moved g c = λ none. new-moved (first_given g c) c.args.members.n
 pub returns-clause-failed : goal.returns-clause-failed
 returns-clause-failed g c = λ none.
     begun-failed (first_given g c) c.args.members.now c.args.to.now c.requires.still (roles g c) c.requires.in_force c.requires.level c.requires.placed c.requires.free c.begin_update-lost.new.members (done g c)
+    c.begin_update-lost.ensures.less c.begin_update-lost.ensures.fit c.check_counts.ensures.own c.begin_update-lost.result c.idle_spares-idle.result c.without-2.result
+    (g.B.Bank.faults_of c.args.bank.now) (g.B.Bank.faults_of c.clear_section.new.bank) (g.B.Bank.faults_of c.begin_update-lost.new.bank)
+    c.clear_section.ensures.cause.never_falls c.begin_update-lost.ensures.counts c.begin_update-lost.ensures.losses c.begin_update-lost.ensures.result
+    (λ s. subst (λ (k : ℕ). has_slot c.idle_spares-idle.result s ≡ is_idle_spare c.args.members.now.spares k c.args.to.now.disks s)
+    (ap (λ (z : Shape). z.disks) c.shape_in-first.ensures) (c.idle_spares-idle.ensures s)) (told-is g c)
+
+pub returns-clause-spares : goal.returns-clause-spares
+returns-clause-spares g c = λ none.
+    begun-spares (first_given g c) c.args.members.now c.args.to.now c.requires.still (roles g c) c.requires.in_force c.requires.level c.requires.placed c.requires.free c.begin_update-lost.new.members (done g c)
     c.begin_update-lost.ensures.less c.begin_update-lost.ensures.fit c.check_counts.ensures.own c.begin_update-lost.result c.idle_spares-idle.result c.without-2.result
     (g.B.Bank.faults_of c.args.bank.now) (g.B.Bank.faults_of c.clear_section.new.bank) (g.B.Bank.faults_of c.begin_update-lost.new.bank)
     c.clear_section.ensures.cause.never_falls c.begin_update-lost.ensures.counts c.begin_update-lost.ensures.losses c.begin_update-lost.ensures.result

@@ -9,19 +9,19 @@ use Rattle.superblocks.proofs.ReadAlike.{count-same}
 use Rattle.superblocks.specs.Updating.{planned_newest}
 use Rattle.row_io.specs.Rows.{reading_of, present}
 use Rattle.flat_history.specs.Sound.{OpensFit}
-use Rattle.shape_views.specs.Windows.{IsFlushedRight}
-use Rattle.shape_changes.specs.Changing.{IsChanged, IsSafeChange}
-use Rattle.shape_changes.specs.Steady.{IsSteady, IsSafeOver}
-use Rattle.shape_changes.specs.Updates.{planned_view}
-use Rattle.shape_changes.proofs.PlannedRoles.{live-before}
-use Rattle.shape_changes.proofs.Risen.{risen-then, room-then}
+use Rattle.safe_updates.specs.shape_views_Windows.{IsFlushedRight}
+use Rattle.safe_updates.specs.shape_changes_Changing.{IsChanged, IsSafeChange}
+use Rattle.safe_updates.specs.shape_changes_Steady.{IsSteady, IsSafeOver}
+use Rattle.safe_updates.specs.shape_changes_Updates.{planned_view}
+use Rattle.safe_updates.proofs.shape_changes_PlannedRoles.{live-before}
+use Rattle.safe_updates.proofs.shape_changes_Risen.{risen-then, room-then}
 use Rattle.safe_updates.proofs.Unused.{rest-unused}
 use Rattle.reshape_updates.specs.Ending.{ending}
-use Rattle.views.proofs.Fit.{few, count-alike}
-use Rattle.views.proofs.LackingLaws.{holders-updated, holders-fewer}
-use Rattle.views.proofs.MarkedLaws.{grows-marks, others-updated}
-use Rattle.views.proofs.MovedLaws.{grows-then}
-use Rattle.views.specs.Moving.{IsMoved}
+use Rattle.safe_updates.proofs.views_Fit.{few, count-alike}
+use Rattle.safe_updates.proofs.views_LackingLaws.{holders-updated, holders-fewer}
+use Rattle.safe_updates.proofs.views_MarkedLaws.{grows-marks, others-updated}
+use Rattle.safe_updates.proofs.views_MovedLaws.{grows-then}
+use Rattle.safe_updates.specs.views_Moving.{IsMoved}
 use Rattle.reshape_ends.proofs.Made.{IsMade, offset-kept, new-placed, new-unlost, new-free}
 use Rattle.reshape_ends.proofs.Named.{names-all}
 use Rattle.reshape_ends.proofs.Cleared.{change-then}

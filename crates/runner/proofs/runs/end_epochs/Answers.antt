@@ -1,6 +1,6 @@
 use Rattle.std.proofs.Common.{rules, ◌<◌, List, length, ◌∙◌, ap}
 use Rattle.flat_history.specs.declared.events.Epoch.{Epoch}
-use Rattle.line_answers.specs.run_laws_Histories.{history_of, histories_of}
+use Rattle.block_answers.specs.run_laws_Histories.{history_of, histories_of}
 use Rattle.runner.specs.Runs.{mark_behind}
 use Rattle.runner.proofs.Marks.{kept_set, ended_more}
 use Rattle.runner.proofs.runs.end_epochs.Goals as goal

@@ -1,6 +1,6 @@
 -- The epochs so far reach up to the next one's first mark.
 use Rattle.std.proofs.Common.{◌≡◌}
-use Rattle.line_answers.specs.run_laws_Histories.{histories_of}
+use Rattle.block_answers.specs.run_laws_Histories.{histories_of}
 use Rattle.runner.specs.Runs.{AreEndedBelow}
 use Rattle.runner.proofs.runs.end_epochs.Given as goal
 

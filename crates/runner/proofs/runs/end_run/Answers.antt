@@ -1,11 +1,11 @@
 use Rattle.std.proofs.Common.{ℕ, List, length, sym, subst}
 use Rattle.runner.specs.Runs.{AreEndedAt}
-use Rattle.line_answers.specs.run_laws_States.{histories_in, bank_in}
+use Rattle.block_answers.specs.run_laws_States.{histories_in, bank_in}
 use Rattle.runner.proofs.Marks.{all_right, ended_to, ended_kept, former_kept}
 use Rattle.runner.proofs.Reopening.{all_kept}
-use Rattle.line_answers.specs.run_laws_Histories.{History}
-use Rattle.line_answers.specs.run_laws_Making.{setting_of}
-use Rattle.line_answers.specs.run_laws_Written.{IsWritten}
+use Rattle.block_answers.specs.run_laws_Histories.{History}
+use Rattle.block_answers.specs.run_laws_Making.{setting_of}
+use Rattle.block_answers.specs.run_laws_Written.{IsWritten}
 use Rattle.runner.proofs.runs.end_run.Goals as goal
 
 pub returns-clause-ended : goal.returns-clause-ended

@@ -1,19 +1,19 @@
 use Rattle.std.proofs.Common.{rules, ◌≡◌, ◌-◌, [], ◌∷◌, ◌++◌, length, refl, sym, ap, subst, arith}
 use Rattle.flat_history.specs.declared.events.Epoch.{Epoch}
 use Rattle.superblocks.specs.Reading.{list_length}
-use Rattle.line_answers.specs.run_laws_Ended.{IsRunKept, AreFormer}
-use Rattle.line_answers.specs.run_laws_States.{histories_in, bank_in, RunsOwn}
-use Rattle.line_answers.proofs.run_laws_Legal.{former_halted}
-use Rattle.line_answers.specs.run_laws_Making.{setting_of}
+use Rattle.block_answers.specs.run_laws_Ended.{IsRunKept, AreFormer}
+use Rattle.block_answers.specs.run_laws_States.{histories_in, bank_in, RunsOwn}
+use Rattle.block_answers.proofs.run_laws_Legal.{former_halted}
+use Rattle.block_answers.specs.run_laws_Making.{setting_of}
 use Rattle.runner.specs.Runs.{IsEnded}
-use Rattle.line_answers.specs.run_laws_the_State.{State}
-use Rattle.line_answers.specs.run_laws_the_State_TheVariants.{Running}
-use Rattle.line_answers.proofs.run_laws_AskLaws.{asked_halt, halt_grew}
+use Rattle.block_answers.specs.run_laws_the_State.{State}
+use Rattle.block_answers.specs.run_laws_the_State_TheVariants.{Running}
+use Rattle.block_answers.proofs.run_laws_AskLaws.{asked_halt, halt_grew}
 use Rattle.runner.proofs.Ends.{ended_idle, ended_running}
 use Rattle.flat_history.specs.declared.events.Event.TheVariants.{Halted}
-use Rattle.line_answers.specs.run_laws_Histories.{histories_of}
-use Rattle.line_answers.specs.run_laws_Written.{IsWritten}
-use Rattle.line_answers.proofs.run_laws_Writing.{entered_end, written_idle, written_ended}
+use Rattle.block_answers.specs.run_laws_Histories.{histories_of}
+use Rattle.block_answers.specs.run_laws_Written.{IsWritten}
+use Rattle.block_answers.proofs.run_laws_Writing.{entered_end, written_idle, written_ended}
 use Rattle.runner.proofs.runs.halt.Goals as goal
 
 pub returns-in-Idle-clause-ended : goal.returns-in-Idle-clause-ended

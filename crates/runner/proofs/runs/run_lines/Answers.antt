@@ -1,14 +1,14 @@
 use Rattle.std.proofs.Common.{sym, subst}
 use Rattle.bank.specs.Given.{Given, NeverFalls}
-use Rattle.line_answers.specs.run_laws_Ended.{AreLegal, AreRight}
-use Rattle.views.specs.Moving.{Grows}
+use Rattle.block_answers.specs.run_laws_Ended.{AreLegal, AreRight}
+use Rattle.block_answers.specs.views_Moving.{Grows}
 use Rattle.runner.specs.Kept.{AreKept}
-use Rattle.line_answers.specs.run_laws_Making.{setting_of}
+use Rattle.block_answers.specs.run_laws_Making.{setting_of}
 use Rattle.runner.specs.Runs.{IsEnded}
 use Rattle.runner.specs.Sessions.{IsPerformed}
-use Rattle.line_answers.specs.run_laws_Histories.{histories_of}
-use Rattle.line_answers.specs.run_laws_States.{histories_in}
-use Rattle.line_answers.specs.run_laws_Written.{IsWritten}
+use Rattle.block_answers.specs.run_laws_Histories.{histories_of}
+use Rattle.block_answers.specs.run_laws_States.{histories_in}
+use Rattle.block_answers.specs.run_laws_Written.{IsWritten}
 use Rattle.runner.proofs.Ends.{end_status, end_performed, end_losses, end_taken, end_shown}
 use Rattle.runner.proofs.runs.run_lines.Goals as goal
 

@@ -1,16 +1,16 @@
 use Rattle.std.proofs.Common.{take, ◌+◌, ◌≡◌, ℕ, [], ◌++◌, ◌∷◌, length, List, Result, inl, refl, ◌∙◌, ap, subst, arith}
 use Rattle.md_base.specs.declared.answers.NoMemory.{NoMemory}
-use Rattle.line_answers.specs.run_laws_the_LineReply.{LineReply}
+use Rattle.block_answers.specs.run_laws_the_LineReply.{LineReply}
 use Rattle.runner.specs.declared.sessions.Made.{Made}
 use Rattle.runner.specs.Shown.{reply_text}
-use Rattle.line_answers.specs.run_laws_Making.{setting_of}
-use Rattle.line_answers.specs.run_laws_States.{histories_in, bank_in}
+use Rattle.block_answers.specs.run_laws_Making.{setting_of}
+use Rattle.block_answers.specs.run_laws_States.{histories_in, bank_in}
 use Rattle.runner.specs.Sessions.{counted, IsRepliedOrNot}
-use Rattle.line_answers.proofs.run_laws_Causes.{grows-none}
-use Rattle.line_answers.proofs.run_laws_Losses.{losses-kept}
-use Rattle.line_answers.proofs.Turns.{grown_kept}
-use Rattle.line_answers.specs.run_laws_Written.{MayWrite}
-use Rattle.line_answers.proofs.run_laws_Writing.{written-nothing}
+use Rattle.block_answers.proofs.run_laws_Causes.{grows-none}
+use Rattle.block_answers.proofs.run_laws_Losses.{losses-kept}
+use Rattle.block_answers.proofs.line_answers_Turns.{grown_kept}
+use Rattle.block_answers.specs.run_laws_Written.{MayWrite}
+use Rattle.block_answers.proofs.run_laws_Writing.{written-nothing}
 use Rattle.runner.proofs.sessions.perform_line.Goals as goal
 
 pub returns-then-is_err-clause-step : goal.returns-then-is_err-clause-step

@@ -1,8 +1,8 @@
 use Rattle.std.proofs.Common.{sym, subst}
-use Rattle.line_answers.specs.run_laws_the_Answered.{Answered}
-use Rattle.line_answers.specs.run_laws_Making.{setting_of}
+use Rattle.block_answers.specs.run_laws_the_Answered.{Answered}
+use Rattle.block_answers.specs.run_laws_Making.{setting_of}
 use Rattle.runner.specs.Shown.{IsAnswerShort}
-use Rattle.line_answers.specs.run_laws_States.{histories_in, bank_in, IsNamed}
+use Rattle.block_answers.specs.run_laws_States.{histories_in, bank_in, IsNamed}
 use Rattle.runner.proofs.Replied.{turn_named, turn_short, turn_replied}
 use Rattle.runner.proofs.sessions.reply_to.Goals as goal
 

@@ -1,6 +1,10 @@
+use Rattle.std.proofs.Common.{true}
+use Rattle.superblocks.specs.Reading.{is_reshaping}
+use Rattle.flat_history.specs.Legal.{told_left}
 use Rattle.growing.specs.array_kept_Kept.{scope_in}
+use Rattle.growing.specs.running_words_Parts.{left_in, still_left}
 use Rattle.growing.proofs.moving_laws_MendLaws.{left-some}
-use Rattle.running.proofs.Checked.{some-of, aside-moving}
+use Rattle.running.proofs.Checked.{some-of, left-by, aside-moving}
 use Rattle.running.proofs.state.moving_again.Goals as goal
 
 pub returns-clause-some : goal.returns-clause-some
@@ -12,7 +16,15 @@ returns-clause-some g c =
 pub returns-clause-within : goal.returns-clause-within
 returns-clause-within g c =
     let was = c.take_apart-pieces.ensures.ready in
-    rw c.take_apart-pieces.ensures.same (record { begun = λ t. (was.kept.recorded t).begun; ends = λ t. (was.kept.recorded t).ends; sized = was.sized; limited = was.limited })
+    let p = c.take_apart-pieces.result.0 in
+    let course = c.take_apart-pieces.result.1 in
+    rw c.take_apart-pieces.ensures.same (record {
+      begun = λ t. (was.kept.recorded t).begun;
+      ends = λ t. (was.kept.recorded t).ends;
+      sized = was.sized;
+      limited = was.limited;
+      told = left-by (told_left p.epoch.entries.items) (is_reshaping p.members.newest) true (left_in p.work p.members course p.ahead) (still_left p.work p.members p.ahead) was.kept.members_are.active was.kept.left_told;
+    })
 
 pub returns-clause-aside : goal.returns-clause-aside
 returns-clause-aside g c =

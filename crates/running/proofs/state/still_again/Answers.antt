@@ -1,9 +1,22 @@
+use Rattle.std.proofs.Common.{false}
+use Rattle.superblocks.specs.Reading.{is_reshaping}
+use Rattle.flat_history.specs.Legal.{told_left}
+use Rattle.growing.specs.course_kept_Laws.{closed}
+use Rattle.growing.specs.running_words_Parts.{left_in, still_left}
+use Rattle.running.proofs.Checked.{left-by}
 use Rattle.running.proofs.state.still_again.Goals as goal
 
 pub returns-clause-within : goal.returns-clause-within
 returns-clause-within g c =
     let was = c.take_apart.ensures.ready in
-    rw c.take_apart.ensures.same (record { begun = λ t. (was.kept.recorded t).begun; ends = λ t. (was.kept.recorded t).ends; sized = was.sized; limited = was.limited })
+    let p = c.take_apart.result in
+    rw c.take_apart.ensures.same (record {
+      begun = λ t. (was.kept.recorded t).begun;
+      ends = λ t. (was.kept.recorded t).ends;
+      sized = was.sized;
+      limited = was.limited;
+      told = left-by (told_left p.epoch.entries.items) (is_reshaping p.members.newest) false (left_in p.work p.members (closed 0) p.ahead) (still_left p.work p.members p.ahead) was.kept.members_are.still was.kept.left_told;
+    })
 
 pub returns-clause-placed : goal.returns-clause-placed
 returns-clause-placed g c = let was = c.take_apart.ensures.ready in rw c.take_apart.ensures.same was.kept.members_are.placed

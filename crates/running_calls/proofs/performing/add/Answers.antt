@@ -1,7 +1,7 @@
 use Rattle.superblocks.specs.Reading.{list_length}
 use Rattle.flat_history.specs.declared.events.Event.TheVariants.{Added}
 use Rattle.flat_history.specs.declared.events.Request.TheVariants.{Add as AsksAdd}
-use Rattle.openings.proofs.running_replies_Fitting.{fits-add}
+use Rattle.running_replies.proofs.Fitting.{fits-add}
 use Rattle.running_calls.proofs.Plain.{IsCallAnswered, answered-so, told-answer}
 use Rattle.running_calls.proofs.Told.{told-answered, add-told}
 use Rattle.running_calls.proofs.GoneOn.{plain-added, gone-added}

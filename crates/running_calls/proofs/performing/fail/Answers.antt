@@ -1,7 +1,7 @@
 use Rattle.superblocks.specs.Reading.{list_length}
 use Rattle.flat_history.specs.declared.events.Event.TheVariants.{Failed}
 use Rattle.flat_history.specs.declared.events.Request.TheVariants.{Fail as AsksFail}
-use Rattle.openings.proofs.running_replies_Fitting.{fits-fail}
+use Rattle.running_replies.proofs.Fitting.{fits-fail}
 use Rattle.running_calls.proofs.Plain.{IsCallAnswered, answered-so, told-answer}
 use Rattle.running_calls.proofs.Told.{told-answered, fail-told}
 use Rattle.running_calls.proofs.GoneOn.{plain-called, gone-answered}

@@ -1,7 +1,7 @@
 use Rattle.superblocks.specs.Reading.{list_length}
 use Rattle.flat_history.specs.declared.events.Event.TheVariants.{Flushed}
 use Rattle.flat_history.specs.declared.events.Request.TheVariants.{Flush as AsksFlush}
-use Rattle.openings.proofs.running_replies_Fitting.{fits-flush}
+use Rattle.running_replies.proofs.Fitting.{fits-flush}
 use Rattle.running_calls.proofs.Plain.{IsCallAnswered, answered-so, told-answer}
 use Rattle.running_calls.proofs.Told.{told-answered, flush-told}
 use Rattle.running_calls.proofs.GoneOn.{plain-called, gone-answered}

@@ -4,8 +4,8 @@ use Rattle.md_base.specs.Sectors.{Sector, sectors_of}
 use Rattle.superblocks.specs.Reading.{list_length}
 use Rattle.flat_history.specs.declared.events.Event.TheVariants.{Read}
 use Rattle.flat_history.specs.declared.events.Request.TheVariants.{Read as AsksRead}
-use Rattle.array_kept.specs.Calls.{IsAnswered}
-use Rattle.openings.proofs.running_replies_Fitting.{fits-read}
+use Rattle.openings.specs.array_kept_Calls.{IsAnswered}
+use Rattle.running_replies.proofs.Fitting.{fits-read}
 use Rattle.running_calls.proofs.Plain.{IsCallAnswered, answered-so, told-answer}
 use Rattle.running_calls.proofs.Told.{told-answered, read-told}
 use Rattle.running_calls.proofs.GoneOn.{gone-none, plain-called, gone-answered}

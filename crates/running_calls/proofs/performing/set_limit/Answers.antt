@@ -4,6 +4,7 @@ use Rattle.flat_history.specs.declared.events.Event.TheVariants.{Visible}
 use Rattle.flat_history.specs.declared.events.Request.TheVariants.{Visible as AsksVisible}
 use Rattle.openings.specs.running_replies_Replies.{IsAnsweredWith}
 use Rattle.running_calls.proofs.GoneOn.{gone-run}
+use Rattle.running_calls.proofs.Ways.{way-same}
 use Rattle.running_calls.proofs.performing.set_limit.Goals as goal
 
 pub returns-in-Ok-clause-replied : goal.returns-in-Ok-clause-replied
@@ -13,10 +14,19 @@ returns-in-Ok-clause-replied g c =
     (sym did.judged.1) did.answered
 
 pub returns-in-Ok-clause-went : goal.returns-in-Ok-clause-went
-returns-in-Ok-clause-went g c = gone-run g.B.Bank.tells g.B.Bank.given g.B.Bank.tape g.B.Bank.faults_of c.args.array.now c.set_visible.new.self c.in-Ok.ensures.went
+returns-in-Ok-clause-went g c =
+    let did = c.in-Ok.ensures in
+    gone-run g.B.Bank.tells g.B.Bank.given g.B.Bank.tape g.B.Bank.faults_of c.args.array.now c.set_visible.new.self did.went
+    (way-same c.args.array.now c.set_visible.new.self did.went.more did.limited.members did.limited.ahead)
 
 pub returns-in-Err-Refused-clause-went : goal.returns-in-Err-Refused-clause-went
-returns-in-Err-Refused-clause-went g c = gone-run g.B.Bank.tells g.B.Bank.given g.B.Bank.tape g.B.Bank.faults_of c.args.array.now c.set_visible.new.self c.in-Err-Refused.ensures.went
+returns-in-Err-Refused-clause-went g c =
+    let did = c.in-Err-Refused.ensures in
+    gone-run g.B.Bank.tells g.B.Bank.given g.B.Bank.tape g.B.Bank.faults_of c.args.array.now c.set_visible.new.self did.went
+    (way-same c.args.array.now c.set_visible.new.self did.went.more did.limited.members did.limited.ahead)
 
 pub returns-in-Err-NoMemory-clause-went : goal.returns-in-Err-NoMemory-clause-went
-returns-in-Err-NoMemory-clause-went g c = gone-run g.B.Bank.tells g.B.Bank.given g.B.Bank.tape g.B.Bank.faults_of c.args.array.now c.set_visible.new.self c.in-Err-NoMemory.ensures.went
+returns-in-Err-NoMemory-clause-went g c =
+    let did = c.in-Err-NoMemory.ensures in
+    gone-run g.B.Bank.tells g.B.Bank.given g.B.Bank.tape g.B.Bank.faults_of c.args.array.now c.set_visible.new.self did.went
+    (way-same c.args.array.now c.set_visible.new.self did.went.more did.limited.members did.limited.ahead)

@@ -13,7 +13,7 @@ use Rattle.flat_history.specs.declared.events.Entry.{Entry}
 use Rattle.flat_history.specs.declared.events.Event.TheVariants.{Wrote}
 use Rattle.flat_history.specs.declared.events.Request.TheVariants.{Write as AsksWrite}
 use Rattle.flat_history.specs.Flat.{length_of, limit_of, visible_of}
-use Rattle.array_kept.specs.Calls.{IsCausedBy}
+use Rattle.openings.specs.array_kept_Calls.{IsCausedBy}
 use Rattle.openings.specs.running_words_Parts.{visible_in}
 use Rattle.openings.specs.running_Calls.{IsWriteLackedIn}
 use Rattle.openings.specs.moving_laws_Writing.{IsWriteReplied}

@@ -1,4 +1,4 @@
-use Rattle.std.proofs.Common.{◌≡◌, ◌⊎◌, ℕ, min, inl, inr, refl, ap, subst, arith}
+use Rattle.std.proofs.Common.{◌≡◌, ◌⊎◌, ℕ, min, inl, inr, [], refl, sym, ap, subst, arith, append-nil}
 use Rattle.std.proofs.lemmas.Bool.{cases_lt}
 use Rattle.std.specs.Prelude.{IfSome}
 use Rattle.md_base.specs.declared.answers.Refusal.TheVariants.{Nothing}
@@ -10,7 +10,8 @@ use Rattle.running.specs.Calls.{running_left}
 use Rattle.running_steps.proofs.Went.{epoch-of}
 use Rattle.running_steps.proofs.Plain.{open-begins}
 use Rattle.running_steps.proofs.Refusals.{steps-may}
-use Rattle.running_steps.proofs.Replies.{rest-answered, answered-nothing, answered-stepped, gone-room, gone-behind, gone-answered, may-answer}
+use Rattle.running_steps.proofs.Replies.{rest-answered, answered-nothing, answered-stepped, gone-room, gone-behind, gone-answered, way-behind, way-answered, may-answer}
+use Rattle.running_steps.proofs.Ways.{way-none}
 use Rattle.running_steps.proofs.batch.steps.Goals as goal
 
 least-is : (count most start : ℕ) → count ≡ min most start → (count ≡ most) ⊎ (count ≡ start)
@@ -47,10 +48,10 @@ returns-clause-replied g c =
       few = omega (arith, c.min-count.ensures);
       all = least-is c.min-count.result c.args.most c.left.result c.min-count.ensures;
       within = s.done;
-      until = rw (← c.left-left.ensures) at s.all;
+      until = rw (← c.left-left.ensures.exact) at s.all;
       begun = s.some;
     })
-    (λ quiet none unrefused. let falls = s.fewer quiet none unrefused in omega (arith, falls, c.left-left.ensures, c.left.ensures, start)) s.why
+    (λ quiet none unrefused. let falls = s.fewer quiet none unrefused in omega (arith, falls, c.left-left.ensures.exact, c.left.ensures.exact, start)) s.why
 
 pub returns-clause-may : goal.returns-clause-may
 returns-clause-may g c =
@@ -88,3 +89,31 @@ returns-clause-went g c =
     (gone-behind g.B.Bank.tells g.B.Bank.given g.B.Bank.tape g.B.Bank.faults_of old begun mid c.in-Some.room c.in-Ok.ensures.room s.went)
     a.entered.is a.bank a.members a.called.same.ahead (epoch-of mid new a.called.same) (λ n. refl) (λ Had before now. tt)
     (subst (λ b. IfSome c.take_steps-done.result.ended (IsRefusalBy b.parts.backup (g.B.Bank.faults_of b.parts.bank) (g.B.Bank.faults_of mid.parts.bank))) c.in-Ok.ensures.room s.cause)
+
+pub returns-in_default-clause-kept : goal.returns-in_default-clause-kept
+returns-in_default-clause-kept g c = way-none (g.B.Bank.faults_of c.args.array.now.parts.bank) c.args.array.now
+
+pub returns-in-Err-clause-kept : goal.returns-in-Err-clause-kept
+returns-in-Err-clause-kept g c = rw c.in-Err.ensures.unchanged (way-none (g.B.Bank.faults_of c.args.array.now.parts.bank) c.args.array.now)
+
+pub returns-then-count-eq0-clause-kept : goal.returns-then-count-eq0-clause-kept
+returns-then-count-eq0-clause-kept g c =
+    let faults = g.B.Bank.faults_of in
+    let old = c.args.array.now in
+    let mid = c.make_room.new.self in
+    let new = c.answer.new.self in
+    let a = c.answer.ensures in
+    way-behind g.B.Bank.tells g.B.Bank.given g.B.Bank.tape faults old mid new c.in-Some.room c.in-Ok.ensures.room
+    (way-answered faults mid mid new [] _ (sym (append-nil mid.parts.entries)) a.entered.is (λ s. omega arith) a.bank a.members a.called.same.ahead a.called.same.limit (way-none (faults mid.parts.bank) mid))
+
+pub returns-clause-kept : goal.returns-clause-kept
+returns-clause-kept g c =
+    let faults = g.B.Bank.faults_of in
+    let old = c.args.array.now in
+    let begun = c.make_room.new.self in
+    let mid = c.take_steps-done.new.array in
+    let new = c.answer-2.new.self in
+    let s = c.take_steps-done.ensures in
+    let a = c.answer-2.ensures in
+    way-behind g.B.Bank.tells g.B.Bank.given g.B.Bank.tape faults old begun new c.in-Some.room c.in-Ok.ensures.room
+    (way-answered faults begun mid new s.went.more _ s.went.grown a.entered.is s.went.never_falls a.bank a.members a.called.same.ahead a.called.same.limit s.kept)

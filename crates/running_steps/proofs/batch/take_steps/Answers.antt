@@ -5,7 +5,8 @@ use Rattle.flat_history.specs.Fits.{is_lost_event}
 use Rattle.flat_history.specs.Legal.{disturbs}
 use Rattle.running.proofs.running_replies_GoneOn.{gone-then, gone-none}
 use Rattle.running_steps.proofs.Plain.{going-of}
-use Rattle.running_steps.proofs.Replies.{cause-later}
+use Rattle.running_steps.proofs.Replies.{cause-later, way-on}
+use Rattle.running_steps.proofs.Ways.{way-none}
 use Rattle.running_steps.proofs.StepsOf.{steps-none, steps-more, steps-refused, quiet-first, quiet-second}
 use Rattle.running_steps.proofs.Behind.{over-behind}
 use Rattle.running_steps.proofs.batch.take_steps.Goals as goal
@@ -21,6 +22,7 @@ loop-done-init g c = record {
   fewer = λ quiet. omega arith;
   room = omega arith;
   went = gone-none g.B.Bank.tells g.B.Bank.given g.B.Bank.tape g.B.Bank.faults_of c.args.array.now;
+  kept = way-none (g.B.Bank.faults_of c.args.array.now.parts.bank) c.args.array.now;
   ended = λ some. absurd (some refl);
 }
 
@@ -28,13 +30,13 @@ loop-done-init g c = record {
 
 pub returns-in-Ok-true-clause-entered : goal.returns-in-Ok-true-clause-entered
 returns-in-Ok-true-clause-entered g c =
-    let o = over-behind g.B.Bank.tells g.B.Bank.given g.B.Bank.tape g.B.Bank.faults_of c.args.who c.args.array.now c.loop-done.array c.take_step.new.array c.loop-done.done c.loop-done.invariant.entered c.loop-done.invariant.went
+    let o = over-behind g.B.Bank.tells g.B.Bank.given g.B.Bank.tape g.B.Bank.faults_of c.args.who c.args.array.now c.loop-done.array c.take_step.new.array c.loop-done.done c.loop-done.invariant.entered c.loop-done.invariant.went c.loop-done.invariant.kept
     (rw c.in-Ok-true.field-0-test at c.in-Ok-true.ensures.taken) c.go_on_behind.new.array c.go_on_behind.result.done c.go_on_behind.result.ended c.go_on_behind.ensures.gone in
     o.entered
 
 pub returns-in-Ok-true-clause-all : goal.returns-in-Ok-true-clause-all
 returns-in-Ok-true-clause-all g c =
-    let o = over-behind g.B.Bank.tells g.B.Bank.given g.B.Bank.tape g.B.Bank.faults_of c.args.who c.args.array.now c.loop-done.array c.take_step.new.array c.loop-done.done c.loop-done.invariant.entered c.loop-done.invariant.went
+    let o = over-behind g.B.Bank.tells g.B.Bank.given g.B.Bank.tape g.B.Bank.faults_of c.args.who c.args.array.now c.loop-done.array c.take_step.new.array c.loop-done.done c.loop-done.invariant.entered c.loop-done.invariant.went c.loop-done.invariant.kept
     (rw c.in-Ok-true.field-0-test at c.in-Ok-true.ensures.taken) c.go_on_behind.new.array c.go_on_behind.result.done c.go_on_behind.result.ended c.go_on_behind.ensures.gone in
     by _ _ _ _ c.go_on_behind.result.ended o.over c.go_on_behind.ensures.fewer
   where
@@ -44,57 +46,63 @@ returns-in-Ok-true-clause-all g c =
 
 pub returns-in-Ok-true-clause-left : goal.returns-in-Ok-true-clause-left
 returns-in-Ok-true-clause-left g c =
-    let o = over-behind g.B.Bank.tells g.B.Bank.given g.B.Bank.tape g.B.Bank.faults_of c.args.who c.args.array.now c.loop-done.array c.take_step.new.array c.loop-done.done c.loop-done.invariant.entered c.loop-done.invariant.went
+    let o = over-behind g.B.Bank.tells g.B.Bank.given g.B.Bank.tape g.B.Bank.faults_of c.args.who c.args.array.now c.loop-done.array c.take_step.new.array c.loop-done.done c.loop-done.invariant.entered c.loop-done.invariant.went c.loop-done.invariant.kept
     (rw c.in-Ok-true.field-0-test at c.in-Ok-true.ensures.taken) c.go_on_behind.new.array c.go_on_behind.result.done c.go_on_behind.result.ended c.go_on_behind.ensures.gone in
     λ quiet none unrefused. absurd (let both : true ≡ false = sym o.over ∙ none in cc)
 
 pub returns-in-Ok-true-clause-fewer : goal.returns-in-Ok-true-clause-fewer
 returns-in-Ok-true-clause-fewer g c =
-    let o = over-behind g.B.Bank.tells g.B.Bank.given g.B.Bank.tape g.B.Bank.faults_of c.args.who c.args.array.now c.loop-done.array c.take_step.new.array c.loop-done.done c.loop-done.invariant.entered c.loop-done.invariant.went
+    let o = over-behind g.B.Bank.tells g.B.Bank.given g.B.Bank.tape g.B.Bank.faults_of c.args.who c.args.array.now c.loop-done.array c.take_step.new.array c.loop-done.done c.loop-done.invariant.entered c.loop-done.invariant.went c.loop-done.invariant.kept
     (rw c.in-Ok-true.field-0-test at c.in-Ok-true.ensures.taken) c.go_on_behind.new.array c.go_on_behind.result.done c.go_on_behind.result.ended c.go_on_behind.ensures.gone in
     λ quiet none unrefused. absurd (let both : true ≡ false = sym o.over ∙ none in cc)
 
 pub returns-in-Ok-true-clause-why : goal.returns-in-Ok-true-clause-why
 returns-in-Ok-true-clause-why g c =
-    let o = over-behind g.B.Bank.tells g.B.Bank.given g.B.Bank.tape g.B.Bank.faults_of c.args.who c.args.array.now c.loop-done.array c.take_step.new.array c.loop-done.done c.loop-done.invariant.entered c.loop-done.invariant.went
+    let o = over-behind g.B.Bank.tells g.B.Bank.given g.B.Bank.tape g.B.Bank.faults_of c.args.who c.args.array.now c.loop-done.array c.take_step.new.array c.loop-done.done c.loop-done.invariant.entered c.loop-done.invariant.went c.loop-done.invariant.kept
     (rw c.in-Ok-true.field-0-test at c.in-Ok-true.ensures.taken) c.go_on_behind.new.array c.go_on_behind.result.done c.go_on_behind.result.ended c.go_on_behind.ensures.gone in
     o.why
 
 pub returns-in-Ok-true-clause-cause : goal.returns-in-Ok-true-clause-cause
 returns-in-Ok-true-clause-cause g c =
-    let o = over-behind g.B.Bank.tells g.B.Bank.given g.B.Bank.tape g.B.Bank.faults_of c.args.who c.args.array.now c.loop-done.array c.take_step.new.array c.loop-done.done c.loop-done.invariant.entered c.loop-done.invariant.went
+    let o = over-behind g.B.Bank.tells g.B.Bank.given g.B.Bank.tape g.B.Bank.faults_of c.args.who c.args.array.now c.loop-done.array c.take_step.new.array c.loop-done.done c.loop-done.invariant.entered c.loop-done.invariant.went c.loop-done.invariant.kept
     (rw c.in-Ok-true.field-0-test at c.in-Ok-true.ensures.taken) c.go_on_behind.new.array c.go_on_behind.result.done c.go_on_behind.result.ended c.go_on_behind.ensures.gone in
     o.cause
 
 pub returns-in-Ok-true-clause-right : goal.returns-in-Ok-true-clause-right
 returns-in-Ok-true-clause-right g c =
-    let o = over-behind g.B.Bank.tells g.B.Bank.given g.B.Bank.tape g.B.Bank.faults_of c.args.who c.args.array.now c.loop-done.array c.take_step.new.array c.loop-done.done c.loop-done.invariant.entered c.loop-done.invariant.went
+    let o = over-behind g.B.Bank.tells g.B.Bank.given g.B.Bank.tape g.B.Bank.faults_of c.args.who c.args.array.now c.loop-done.array c.take_step.new.array c.loop-done.done c.loop-done.invariant.entered c.loop-done.invariant.went c.loop-done.invariant.kept
     (rw c.in-Ok-true.field-0-test at c.in-Ok-true.ensures.taken) c.go_on_behind.new.array c.go_on_behind.result.done c.go_on_behind.result.ended c.go_on_behind.ensures.gone in
     o.right
 
 pub returns-in-Ok-true-clause-going : goal.returns-in-Ok-true-clause-going
 returns-in-Ok-true-clause-going g c =
-    let o = over-behind g.B.Bank.tells g.B.Bank.given g.B.Bank.tape g.B.Bank.faults_of c.args.who c.args.array.now c.loop-done.array c.take_step.new.array c.loop-done.done c.loop-done.invariant.entered c.loop-done.invariant.went
+    let o = over-behind g.B.Bank.tells g.B.Bank.given g.B.Bank.tape g.B.Bank.faults_of c.args.who c.args.array.now c.loop-done.array c.take_step.new.array c.loop-done.done c.loop-done.invariant.entered c.loop-done.invariant.went c.loop-done.invariant.kept
     (rw c.in-Ok-true.field-0-test at c.in-Ok-true.ensures.taken) c.go_on_behind.new.array c.go_on_behind.result.done c.go_on_behind.result.ended c.go_on_behind.ensures.gone in
     o.going
 
 pub returns-in-Ok-true-clause-closable : goal.returns-in-Ok-true-clause-closable
 returns-in-Ok-true-clause-closable g c =
-    let o = over-behind g.B.Bank.tells g.B.Bank.given g.B.Bank.tape g.B.Bank.faults_of c.args.who c.args.array.now c.loop-done.array c.take_step.new.array c.loop-done.done c.loop-done.invariant.entered c.loop-done.invariant.went
+    let o = over-behind g.B.Bank.tells g.B.Bank.given g.B.Bank.tape g.B.Bank.faults_of c.args.who c.args.array.now c.loop-done.array c.take_step.new.array c.loop-done.done c.loop-done.invariant.entered c.loop-done.invariant.went c.loop-done.invariant.kept
     (rw c.in-Ok-true.field-0-test at c.in-Ok-true.ensures.taken) c.go_on_behind.new.array c.go_on_behind.result.done c.go_on_behind.result.ended c.go_on_behind.ensures.gone in
     o.closable
 
 pub returns-in-Ok-true-clause-ended : goal.returns-in-Ok-true-clause-ended
 returns-in-Ok-true-clause-ended g c =
-    let o = over-behind g.B.Bank.tells g.B.Bank.given g.B.Bank.tape g.B.Bank.faults_of c.args.who c.args.array.now c.loop-done.array c.take_step.new.array c.loop-done.done c.loop-done.invariant.entered c.loop-done.invariant.went
+    let o = over-behind g.B.Bank.tells g.B.Bank.given g.B.Bank.tape g.B.Bank.faults_of c.args.who c.args.array.now c.loop-done.array c.take_step.new.array c.loop-done.done c.loop-done.invariant.entered c.loop-done.invariant.went c.loop-done.invariant.kept
     (rw c.in-Ok-true.field-0-test at c.in-Ok-true.ensures.taken) c.go_on_behind.new.array c.go_on_behind.result.done c.go_on_behind.result.ended c.go_on_behind.ensures.gone in
     o.at_end
 
 pub returns-in-Ok-true-clause-went : goal.returns-in-Ok-true-clause-went
 returns-in-Ok-true-clause-went g c =
-    let o = over-behind g.B.Bank.tells g.B.Bank.given g.B.Bank.tape g.B.Bank.faults_of c.args.who c.args.array.now c.loop-done.array c.take_step.new.array c.loop-done.done c.loop-done.invariant.entered c.loop-done.invariant.went
+    let o = over-behind g.B.Bank.tells g.B.Bank.given g.B.Bank.tape g.B.Bank.faults_of c.args.who c.args.array.now c.loop-done.array c.take_step.new.array c.loop-done.done c.loop-done.invariant.entered c.loop-done.invariant.went c.loop-done.invariant.kept
     (rw c.in-Ok-true.field-0-test at c.in-Ok-true.ensures.taken) c.go_on_behind.new.array c.go_on_behind.result.done c.go_on_behind.result.ended c.go_on_behind.ensures.gone in
     o.went
+
+pub returns-in-Ok-true-clause-kept : goal.returns-in-Ok-true-clause-kept
+returns-in-Ok-true-clause-kept g c =
+    let o = over-behind g.B.Bank.tells g.B.Bank.given g.B.Bank.tape g.B.Bank.faults_of c.args.who c.args.array.now c.loop-done.array c.take_step.new.array c.loop-done.done c.loop-done.invariant.entered c.loop-done.invariant.went c.loop-done.invariant.kept
+    (rw c.in-Ok-true.field-0-test at c.in-Ok-true.ensures.taken) c.go_on_behind.new.array c.go_on_behind.result.done c.go_on_behind.result.ended c.go_on_behind.ensures.gone in
+    o.kept
 
 -- ---- one was refused
 
@@ -108,6 +116,10 @@ returns-in-Err-clause-cause g c =
 pub returns-in-Err-clause-went : goal.returns-in-Err-clause-went
 returns-in-Err-clause-went g c =
     gone-then g.B.Bank.tells g.B.Bank.given g.B.Bank.tape g.B.Bank.faults_of c.args.array.now c.loop-done.array c.take_step.new.array c.loop-done.invariant.went c.in-Err.ensures.taken.went
+
+pub returns-in-Err-clause-kept : goal.returns-in-Err-clause-kept
+returns-in-Err-clause-kept g c =
+    way-on g.B.Bank.tells g.B.Bank.given g.B.Bank.tape g.B.Bank.faults_of c.args.array.now c.loop-done.array c.take_step.new.array c.loop-done.invariant.went c.in-Err.ensures.taken.went c.loop-done.invariant.kept c.in-Err.ensures.taken.kept
 
 -- ---- the next one
 
@@ -135,5 +147,6 @@ loop-done-preserved g c =
           omega (arith, before, here);
       room = let one = c.in-Ok-false.ensures.one no_end in omega (arith, was.room, one);
       went = gone-then g.B.Bank.tells g.B.Bank.given g.B.Bank.tape g.B.Bank.faults_of old at next was.went s.went;
+      kept = way-on g.B.Bank.tells g.B.Bank.given g.B.Bank.tape g.B.Bank.faults_of old at next was.went s.went was.kept s.kept;
       ended = λ some. s.ended;
     }

@@ -1,11 +1,11 @@
 use Rattle.std.proofs.Common.{◌≡◌, ◌≢◌, ◌+◌, ◌<◌, ◌≤◌, false}
 use Rattle.superblocks.specs.Reading.{is_reshaping}
 use Rattle.running.specs.array_kept_Calls.{IsEndOf, TellNoLoss, TellNoRoleLoss}
-use Rattle.kept_history.specs.Recorded.{IsCallGoing}
+use Rattle.running.specs.kept_history_Recorded.{IsCallGoing}
 use Rattle.running.specs.still_laws_Steps.{IsClosable}
 use Rattle.running.specs.running_replies_Going.{HasRunOn}
 use Rattle.running.specs.Calls.{running_left}
-use Rattle.running_steps.specs.Steps.{IsOpenFor, AreStepsOf}
+use Rattle.running_steps.specs.Steps.{IsOpenFor, KeepsItsWay, AreStepsOf}
 use Rattle.running_steps.proofs.batch.take_steps.Given as goal
 
 abbrev pub invariant-loop-done : goal.invariant-loop-done
@@ -19,5 +19,6 @@ invariant-loop-done g l = record {
   fewer : TellNoRoleLoss l.fn.array.parts.entries l.array.parts.entries → running_left l.array + l.done ≤ running_left l.fn.array;
   room : l.array.parts.steps + l.done ≡ l.fn.array.parts.steps;
   went : HasRunOn g.B.Bank.tells g.B.Bank.given g.B.Bank.tape g.B.Bank.faults_of l.fn.array l.array;
+  kept : KeepsItsWay (g.B.Bank.faults_of l.fn.array.parts.bank) (g.B.Bank.faults_of l.array.parts.bank) l.fn.array l.array;
   ended : l.done ≢ 0 → IsEndOf g.B.Bank.tells l.array.parts.first l.array.parts.entries (g.B.Bank.tape l.array.parts.bank);
 }

@@ -5,7 +5,7 @@ use Rattle.running_steps.proofs.turns.finish.Goals as goal
 pub returns-in-Ok-clause-taken : goal.returns-in-Ok-clause-taken
 returns-in-Ok-clause-taken g c =
     let s = c.in-Ok.ensures in
-    finish-done g.B.Bank.tells g.B.Bank.given g.B.Bank.tape g.B.Bank.faults_of c.args.who c.args.array c.in-Ok.array c.requires.open s.ended s.given s.closable
+    finish-done g.B.Bank.tells g.B.Bank.given g.B.Bank.tape g.B.Bank.faults_of c.args.who c.args.array c.in-Ok.array c.requires.open c.requires.active s.ended s.given s.closable
 
 pub returns-in-Err-clause-taken : goal.returns-in-Err-clause-taken
 returns-in-Err-clause-taken g c =

@@ -15,7 +15,7 @@ returns-in-Err-Refused-clause-taken g c =
     let s = c.in-Err-Refused.ensures in
     let old = c.args.array.now in
     let new = c.move_on.new.self in
-    moved-refused g.B.Bank.tells g.B.Bank.given g.B.Bank.tape g.B.Bank.faults_of c.args.who old new c.requires.open c.requires.active s.stays (moved-did g.B.Bank.tells g.B.Bank.given g.B.Bank.tape g.B.Bank.faults_of old new s.called s.given c.requires.active) c.in-Err-Refused.refusal
+    moved-refused g.B.Bank.tells g.B.Bank.given g.B.Bank.tape g.B.Bank.faults_of c.args.who old new c.requires.open c.requires.active s.stays (moved-did g.B.Bank.tells g.B.Bank.given g.B.Bank.tape g.B.Bank.faults_of old new s.called s.given c.requires.active s.stays) c.in-Err-Refused.refusal
     (rw c.in-Err-Refused.field-0-is at s.entered)
     (moved-by ⊤ old.parts.members.newest old.course old.parts.work.resync old.parts.backup old.parts.members new (g.B.Bank.faults_of old.parts.bank) (g.B.Bank.faults_of new.parts.bank) c.in-Err-Refused.refusal
     (rw s.called.same.array.backup at s.backed) s.stays (rw c.in-Err-Refused.field-0-is at s.caused) (rw c.in-Err-Refused.field-0-is at s.ends))

@@ -15,16 +15,16 @@ use Rattle.superblocks.specs.Reads.{has_spare}
 use Rattle.superblocks.specs.Stages.{AreFirstKept}
 use Rattle.superblocks.specs.Rounds.{round_at, IsInRounds, ArePast}
 use Rattle.superblocks.proofs.SlotSets.{none_above}
-use Rattle.shape_changes.specs.Marking.{adding}
+use Rattle.safe_updates.specs.shape_changes_Marking.{adding}
 use Rattle.views.specs.Placed.{IsPlaced}
-use Rattle.shape_changes.specs.Steady.{AreUnlost}
+use Rattle.safe_updates.specs.shape_changes_Steady.{AreUnlost}
 use Rattle.views.specs.Rebuilding.{with_spare, AreSparesFree}
 use Rattle.views.proofs.AddedMembers.{addable, placed-with, unlost-roles, free-with, spare-with, live-here}
 use Rattle.views.proofs.Fit.{few as few-placed}
 use Rattle.safe_additions.proofs.AddedSafe.{adding-safe}
 use Rattle.safe_additions.proofs.AddedUpdates.{IsAddedBy, told-added, added-moved, added-risen, added-failed, told-spare, told-none, added-stored, added-rest, lost-spare}
 use Rattle.views.proofs.LiveLeft.{left-steady}
-use Rattle.shape_changes.proofs.Kept.{give_of-same}
+use Rattle.safe_updates.proofs.shape_changes_Kept.{give_of-same}
 use Rattle.views.proofs.MarkedLaws.{grows-marks, others-updated}
 use Rattle.superblocks.proofs.ValidFields.{few-roles}
 use Rattle.safe_additions.proofs.adding.add_member.Given.{Over}

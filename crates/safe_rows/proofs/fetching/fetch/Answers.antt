@@ -2,10 +2,10 @@ use Rattle.std.proofs.Common.{◌≡◌, ◌+◌, ◌/◌, ◌^◌, ◌<◌, ◌
 use Rattle.bank.specs.declared.bank.Operation.{Operation}
 use Rattle.bank.specs.Given.{Given}
 use Rattle.superblocks.specs.declared.members.Members.{Members}
-use Rattle.views.specs.Placed.{AreWhole, IsPlaced, AreLost}
-use Rattle.views.specs.Rebuilding.{AreSparesFree}
-use Rattle.views.proofs.MovedLaws.{moved-lost, moved-then, lost-none, moved-from, grows-none, grows-then}
-use Rattle.views.proofs.Fit.{force-valid, force-multiple, short}
+use Rattle.safe_updates.specs.views_Placed.{AreWhole, IsPlaced, AreLost}
+use Rattle.safe_updates.specs.views_Rebuilding.{AreSparesFree}
+use Rattle.safe_updates.proofs.views_MovedLaws.{moved-lost, moved-then, lost-none, moved-from, grows-none, grows-then}
+use Rattle.safe_updates.proofs.views_Fit.{force-valid, force-multiple, short}
 use Rattle.layout.specs.Layout.{place}
 use Rattle.layout.proofs.Places.{place-row_below}
 use Rattle.list_io.specs.Buffers.{IsTouched}
@@ -13,15 +13,15 @@ use Rattle.layout.proofs.Limits.{limited}
 use Rattle.md_base.specs.Shapes.{data_disks}
 use Rattle.std.proofs.lemmas.Nat.{mul-le}
 use Rattle.row_io.specs.Rows.{present}
-use Rattle.shape_changes.specs.Marking.{AreOthersPresent}
-use Rattle.views.specs.Moving.{Grows}
-use Rattle.views.proofs.LackingLaws.{since-lost, since-then, in-second}
-use Rattle.views.proofs.LackingWrites.{lost-of}
+use Rattle.safe_updates.specs.shape_changes_Marking.{AreOthersPresent}
+use Rattle.safe_updates.specs.views_Moving.{Grows}
+use Rattle.safe_updates.proofs.views_LackingLaws.{since-lost, since-then, in-second}
+use Rattle.safe_updates.proofs.views_LackingWrites.{lost-of}
 use Rattle.safe_updates.proofs.RefusingLaws.{read-cause, read-told, told-first, told-why, not-err}
 use Rattle.flat_history.specs.Sound.{OpensFit}
-use Rattle.shape_changes.specs.Steady.{IsUncleanTold}
-use Rattle.views.proofs.SafeStretch.{safe-then, safe-lost, over-at, keeps-from}
-use Rattle.shape_changes.proofs.Risen.{risen-then, risen-lost, room-then}
+use Rattle.safe_updates.specs.shape_changes_Steady.{IsUncleanTold}
+use Rattle.safe_updates.proofs.views_SafeStretch.{safe-then, safe-lost, over-at, keeps-from}
+use Rattle.safe_updates.proofs.shape_changes_Risen.{risen-then, risen-lost, room-then}
 use Rattle.safe_rows.proofs.fetching.fetch.Goals as goal
 
 pub returns-then-is_err-clause-moved : goal.returns-then-is_err-clause-moved

@@ -9,10 +9,10 @@ use Rattle.list_io.specs.declared.outcome.Unavailable.{Unavailable}
 use Rattle.list_io.specs.Calls.{IsAsked, IsListed}
 use Rattle.list_io.proofs.LossLaws.{lost_then, rows_by}
 use Rattle.list_io.proofs.ListLaws.{asked_more, followed, present_same}
-use Rattle.views.specs.Lacking.{IsAskedBeyond}
+use Rattle.safe_updates.specs.views_Lacking.{IsAskedBeyond}
 use Rattle.md_base.specs.Shapes.{data_disks}
-use Rattle.views.proofs.Fit.{has-rows, force-valid}
-use Rattle.views.proofs.Stripes.{row-beyond}
+use Rattle.safe_updates.proofs.views_Fit.{has-rows, force-valid}
+use Rattle.safe_updates.proofs.views_Stripes.{row-beyond}
 use Rattle.safe_rows.proofs.ReadParts.{sector-front, sector-back, listed-mended, listed-beyond}
 use Rattle.safe_rows.proofs.fetching.read_parts.Goals as goal
 

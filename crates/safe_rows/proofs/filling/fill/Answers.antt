@@ -8,17 +8,17 @@ use Rattle.row_io.specs.Rows.{reading_of, present}
 use Rattle.list_io.specs.Buffers.{IsTouched}
 use Rattle.list_io.specs.Writing.{HasFull}
 use Rattle.flat_history.specs.Sound.{OpensFit}
-use Rattle.views.specs.Moving.{IsMoved}
-use Rattle.views.specs.Lacking.{IsOfStripe, DataStandsAmong, RowsStandAmong}
-use Rattle.views.specs.Rebuilding.{AreSparesFree, IsFilledAmong}
-use Rattle.views.proofs.MovedLaws.{moved-then, moved-same, grows-none, grows-then, moved-from}
-use Rattle.views.proofs.LackingLaws.{since-same, since-then, in-either}
-use Rattle.views.proofs.LackingLists.{none-of}
-use Rattle.shape_changes.proofs.Risen.{risen-none, risen-then}
-use Rattle.views.proofs.SafeStretch.{safe-none}
-use Rattle.views.proofs.MendedParts.{IsInParts, valid-in, part-within, part-touches, safe-part}
+use Rattle.safe_updates.specs.views_Moving.{IsMoved}
+use Rattle.safe_updates.specs.views_Lacking.{IsOfStripe, DataStandsAmong, RowsStandAmong}
+use Rattle.safe_updates.specs.views_Rebuilding.{AreSparesFree, IsFilledAmong}
+use Rattle.safe_updates.proofs.views_MovedLaws.{moved-then, moved-same, grows-none, grows-then, moved-from}
+use Rattle.safe_updates.proofs.views_LackingLaws.{since-same, since-then, in-either}
+use Rattle.safe_updates.proofs.views_LackingLists.{none-of}
+use Rattle.safe_updates.proofs.shape_changes_Risen.{risen-none, risen-then}
+use Rattle.safe_updates.proofs.views_SafeStretch.{safe-none}
+use Rattle.safe_updates.proofs.views_MendedParts.{IsInParts, valid-in, part-within, part-touches, safe-part}
 use Rattle.safe_rows.proofs.FillingLaws.{filled-none, filled-then}
-use Rattle.views.proofs.FilledParts.{touched-in_parts, touched-late, parts-longer, parts-of_stripe, stripe-in_parts, found-in, none-found, recovered-alone, recovered-rows, filled-before, data-filled, row-filled, full-kept}
+use Rattle.safe_updates.proofs.views_FilledParts.{touched-in_parts, touched-late, parts-longer, parts-of_stripe, stripe-in_parts, found-in, none-found, recovered-alone, recovered-rows, filled-before, data-filled, row-filled, full-kept}
 use Rattle.safe_rows.proofs.filling.fill.Goals as goal
 
 pub target_of-target-requires-clause-few : goal.target_of-target-requires-clause-few

@@ -5,14 +5,14 @@ use Rattle.md_base.specs.declared.status.Role.TheVariants.{Recovering}
 use Rattle.superblocks.specs.Reading.{is_clean, role_state, rows_held}
 use Rattle.row_io.specs.Rows.{reading_of, present}
 use Rattle.list_io.specs.Writing.{HasFull}
-use Rattle.views.specs.Moving.{Grows, IsMoved}
-use Rattle.shape_changes.specs.Safety.{HasRoomLeft, IsRisen}
-use Rattle.views.specs.Lacking.{HaveFailedSince, DataStandsAmong, RowsStandAmong, IsOfStripe}
+use Rattle.safe_updates.specs.views_Moving.{Grows, IsMoved}
+use Rattle.safe_updates.specs.shape_changes_Safety.{HasRoomLeft, IsRisen}
+use Rattle.safe_updates.specs.views_Lacking.{HaveFailedSince, DataStandsAmong, RowsStandAmong, IsOfStripe}
 use Rattle.flat_history.specs.World.{World}
-use Rattle.views.specs.Rebuilding.{IsFilledAmong}
-use Rattle.shape_views.specs.Views.{Ledger}
-use Rattle.shape_changes.specs.Steady.{IsSafeOver, KeepsSafe, AreGoneTold, IsUncleanTold}
-use Rattle.views.proofs.MendedParts.{IsInParts}
+use Rattle.safe_updates.specs.views_Rebuilding.{IsFilledAmong}
+use Rattle.safe_updates.specs.shape_views_Views.{Ledger}
+use Rattle.safe_updates.specs.shape_changes_Steady.{IsSafeOver, KeepsSafe, AreGoneTold, IsUncleanTold}
+use Rattle.safe_updates.proofs.views_MendedParts.{IsInParts}
 use Rattle.safe_rows.proofs.filling.fill.Given as goal
 
 abbrev pub decreases-loop-done : goal.decreases-loop-done

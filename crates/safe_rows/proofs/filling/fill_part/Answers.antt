@@ -11,22 +11,22 @@ use Rattle.list_io.specs.Buffers.{IsTouched}
 use Rattle.list_io.specs.Writing.{AreDataFrom, HasFull}
 use Rattle.list_io.proofs.BufferLaws.{data_read}
 use Rattle.flat_history.specs.Sound.{OpensFit}
-use Rattle.views.specs.Placed.{AreLost, IsPlaced}
-use Rattle.shape_changes.specs.Marking.{AreOthersPresent}
-use Rattle.views.specs.Moving.{Grows, IsMoved}
-use Rattle.shape_changes.specs.Safety.{IsRisen}
-use Rattle.views.specs.Lacking.{HaveFailedSince}
-use Rattle.views.specs.Rebuilding.{AreSparesFree, IsFilledAmong}
-use Rattle.shape_changes.specs.Steady.{KeepsSafe, AreGoneTold, IsUncleanTold}
-use Rattle.views.proofs.MovedLaws.{moved-lost, moved-then, moved-from, grows-none, grows-then}
-use Rattle.views.proofs.LackingLaws.{since-lost, since-then, in-second, in-either}
-use Rattle.views.proofs.LackingWrites.{lost-of, ok-of, recovering-before}
-use Rattle.shape_changes.proofs.Risen.{risen-lost, risen-then, room-first, room-then}
-use Rattle.views.proofs.SafeStretch.{safe-then, safe-lost, over-at, keeps-from, grows-longer, gone-before}
-use Rattle.views.proofs.Fit.{has-rows}
-use Rattle.views.proofs.LiveLeft.{holder-left}
+use Rattle.safe_updates.specs.views_Placed.{AreLost, IsPlaced}
+use Rattle.safe_updates.specs.shape_changes_Marking.{AreOthersPresent}
+use Rattle.safe_updates.specs.views_Moving.{Grows, IsMoved}
+use Rattle.safe_updates.specs.shape_changes_Safety.{IsRisen}
+use Rattle.safe_updates.specs.views_Lacking.{HaveFailedSince}
+use Rattle.safe_updates.specs.views_Rebuilding.{AreSparesFree, IsFilledAmong}
+use Rattle.safe_updates.specs.shape_changes_Steady.{KeepsSafe, AreGoneTold, IsUncleanTold}
+use Rattle.safe_updates.proofs.views_MovedLaws.{moved-lost, moved-then, moved-from, grows-none, grows-then}
+use Rattle.safe_updates.proofs.views_LackingLaws.{since-lost, since-then, in-second, in-either}
+use Rattle.safe_updates.proofs.views_LackingWrites.{lost-of, ok-of, recovering-before}
+use Rattle.safe_updates.proofs.shape_changes_Risen.{risen-lost, risen-then, room-first, room-then}
+use Rattle.safe_updates.proofs.views_SafeStretch.{safe-then, safe-lost, over-at, keeps-from, grows-longer, gone-before}
+use Rattle.safe_updates.proofs.views_Fit.{has-rows}
+use Rattle.safe_updates.proofs.views_LiveLeft.{holder-left}
 use Rattle.safe_rows.proofs.FillingLaws.{filled-none, filled-then, named-first, named-only, named-none}
-use Rattle.views.proofs.FilledParts.{recovered-alone, recovered-rows, filled-before, others-filled, at-touched}
+use Rattle.safe_updates.proofs.views_FilledParts.{recovered-alone, recovered-rows, filled-before, others-filled, at-touched}
 use Rattle.safe_rows.proofs.filling.fill_part.Goals as goal
 
 pub returns-then-is_some-clause-moved : goal.returns-then-is_some-clause-moved

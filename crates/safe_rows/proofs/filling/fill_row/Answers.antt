@@ -5,7 +5,7 @@ use Rattle.bank.proofs.Marks.{each_mark-map}
 use Rattle.parity.specs.Rows.{sector_of}
 use Rattle.row_io.proofs.Turns.{marks_last}
 use Rattle.superblocks.specs.Reading.{holder}
-use Rattle.views.specs.Rebuilding.{IsFilling}
+use Rattle.safe_updates.specs.views_Rebuilding.{IsFilling}
 use Rattle.safe_rows.proofs.FillingLaws.{AreFilled, row_write, filled-present, filled-more, write-stands, marks-written}
 use Rattle.safe_rows.proofs.filling.fill_row.Goals as goal
 

@@ -11,19 +11,19 @@ use Rattle.row_io.specs.Rows.{reading_of, present}
 use Rattle.list_io.specs.Writing.{AreSuperblocksKept}
 use Rattle.list_io.proofs.LossLaws.{slot_lost, recovering-after}
 use Rattle.flat_history.specs.Sound.{OpensFit}
-use Rattle.views.specs.Placed.{AreLost, IsPlaced}
-use Rattle.shape_changes.specs.Marking.{AreOthersPresent}
-use Rattle.views.specs.Moving.{IsMoved}
-use Rattle.shape_changes.specs.Safety.{IsRisen}
-use Rattle.views.specs.Rebuilding.{AreSparesFree}
-use Rattle.shape_changes.specs.Steady.{KeepsSafe, IsUncleanTold}
-use Rattle.views.proofs.MovedLaws.{moved-lost, moved-then, moved-from, grows-then}
-use Rattle.views.proofs.LackingLaws.{since-lost, since-then, in-second}
-use Rattle.views.proofs.LackingWrites.{marks-here, lost-of, recovering-before}
-use Rattle.shape_changes.proofs.Risen.{risen-lost, risen-then, room-then}
-use Rattle.views.proofs.SafeStretch.{safe-none, safe-then, safe-lost, over-at, keeps-from, grows-longer}
-use Rattle.views.proofs.Fit.{few}
-use Rattle.views.proofs.FilledParts.{found-in, safe-filled, others-filled}
+use Rattle.safe_updates.specs.views_Placed.{AreLost, IsPlaced}
+use Rattle.safe_updates.specs.shape_changes_Marking.{AreOthersPresent}
+use Rattle.safe_updates.specs.views_Moving.{IsMoved}
+use Rattle.safe_updates.specs.shape_changes_Safety.{IsRisen}
+use Rattle.safe_updates.specs.views_Rebuilding.{AreSparesFree}
+use Rattle.safe_updates.specs.shape_changes_Steady.{KeepsSafe, IsUncleanTold}
+use Rattle.safe_updates.proofs.views_MovedLaws.{moved-lost, moved-then, moved-from, grows-then}
+use Rattle.safe_updates.proofs.views_LackingLaws.{since-lost, since-then, in-second}
+use Rattle.safe_updates.proofs.views_LackingWrites.{marks-here, lost-of, recovering-before}
+use Rattle.safe_updates.proofs.shape_changes_Risen.{risen-lost, risen-then, room-then}
+use Rattle.safe_updates.proofs.views_SafeStretch.{safe-none, safe-then, safe-lost, over-at, keeps-from, grows-longer}
+use Rattle.safe_updates.proofs.views_Fit.{few}
+use Rattle.safe_updates.proofs.views_FilledParts.{found-in, safe-filled, others-filled}
 use Rattle.safe_rows.proofs.FillingLaws.{filling-kept}
 use Rattle.safe_rows.proofs.filling.fill_rows.Goals as goal
 

@@ -8,10 +8,10 @@ use Rattle.list_io.specs.Buffers.{buffered}
 use Rattle.list_io.specs.Writing.{HasFull}
 use Rattle.list_io.proofs.PartBytes.{sector-part_other}
 use Rattle.list_io.proofs.PutLaws.{data_same}
-use Rattle.views.specs.Rebuilding.{IsFilledAmong}
-use Rattle.views.proofs.Elements.{contains-at}
-use Rattle.views.proofs.MovedLaws.{grows-then}
-use Rattle.views.proofs.MendedParts.{valid-in}
+use Rattle.safe_updates.specs.views_Rebuilding.{IsFilledAmong}
+use Rattle.safe_updates.proofs.views_Elements.{contains-at}
+use Rattle.safe_updates.proofs.views_MovedLaws.{grows-then}
+use Rattle.safe_updates.proofs.views_MendedParts.{valid-in}
 use Rattle.safe_rows.proofs.FillingLaws.{filled-then, marks-then, full-next, part-is}
 use Rattle.safe_rows.proofs.filling.write_filled.Goals as goal
 

@@ -6,8 +6,8 @@ use Rattle.md_base.specs.Sectors.{Sector}
 use Rattle.row_io.specs.Rows.{present, reading_of}
 use Rattle.list_io.specs.Buffers.{buffered}
 use Rattle.list_io.specs.Writing.{AreDataFrom, HasFull}
-use Rattle.views.specs.Moving.{Grows}
-use Rattle.views.specs.Rebuilding.{IsFilling, IsFilledAmong}
+use Rattle.safe_updates.specs.views_Moving.{Grows}
+use Rattle.safe_updates.specs.views_Rebuilding.{IsFilling, IsFilledAmong}
 use Rattle.safe_rows.proofs.filling.write_filled.Given as goal
 
 abbrev pub invariant-loop-i : goal.invariant-loop-i

@@ -3,25 +3,25 @@ use Rattle.bank.specs.Given.{Given}
 use Rattle.bank.specs.Tape.{disk}
 use Rattle.row_io.specs.Rows.{reading_of, present}
 use Rattle.md_base.specs.Shapes.{data_disks}
-use Rattle.shape_views.specs.Regions.{place_by}
+use Rattle.safe_updates.specs.shape_views_Regions.{place_by}
 use Rattle.list_io.specs.Buffers.{IsTouched}
 use Rattle.flat_history.specs.Sound.{OpensFit}
-use Rattle.views.specs.Moving.{IsMoved}
-use Rattle.views.specs.Rebuilding.{AreSparesFree}
-use Rattle.views.specs.Lacking.{DataStandsAmong, AreOtherRowsKept, IsOfStripe}
-use Rattle.views.proofs.MovedLaws.{moved-then, moved-same, grows-none, grows-then, moved-from}
-use Rattle.views.proofs.LackingLaws.{since-same, since-then, in-either}
-use Rattle.views.proofs.LackingLists.{none-of}
-use Rattle.shape_changes.proofs.Risen.{risen-none, risen-then}
-use Rattle.views.proofs.SafeStretch.{safe-none, allowed-later, zeros-later, region-later}
-use Rattle.views.proofs.Fit.{alike-force}
-use Rattle.views.proofs.PutLists.{touched-or-not}
-use Rattle.views.proofs.LackingWrites.{others-then}
-use Rattle.views.proofs.FilledParts.{touched-in_parts, parts-of_stripe}
+use Rattle.safe_updates.specs.views_Moving.{IsMoved}
+use Rattle.safe_updates.specs.views_Rebuilding.{AreSparesFree}
+use Rattle.safe_updates.specs.views_Lacking.{DataStandsAmong, AreOtherRowsKept, IsOfStripe}
+use Rattle.safe_updates.proofs.views_MovedLaws.{moved-then, moved-same, grows-none, grows-then, moved-from}
+use Rattle.safe_updates.proofs.views_LackingLaws.{since-same, since-then, in-either}
+use Rattle.safe_updates.proofs.views_LackingLists.{none-of}
+use Rattle.safe_updates.proofs.shape_changes_Risen.{risen-none, risen-then}
+use Rattle.safe_updates.proofs.views_SafeStretch.{safe-none, allowed-later, zeros-later, region-later}
+use Rattle.safe_updates.proofs.views_Fit.{alike-force}
+use Rattle.safe_updates.proofs.views_PutLists.{touched-or-not}
+use Rattle.safe_updates.proofs.views_LackingWrites.{others-then}
+use Rattle.safe_updates.proofs.views_FilledParts.{touched-in_parts, parts-of_stripe}
 use Rattle.safe_updates.specs.Unused.{IsUnusedKept}
 use Rattle.safe_updates.proofs.Unused.{unused-then}
 use Rattle.safe_rows.proofs.MendedStripes.{put-wider}
-use Rattle.views.proofs.MendedParts.{valid-in, stripe-within, part-within, part-touches, ArePut, put-none, put-then, put-untouched, nothing-written, no-bytes, not-begun, safe-part}
+use Rattle.safe_updates.proofs.views_MendedParts.{valid-in, stripe-within, part-within, part-touches, ArePut, put-none, put-then, put-untouched, nothing-written, no-bytes, not-begun, safe-part}
 use Rattle.safe_rows.proofs.mending.mend.Goals as goal
 
 pub overflow_mul-first : goal.overflow_mul-first

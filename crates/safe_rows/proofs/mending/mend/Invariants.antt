@@ -4,16 +4,16 @@ use Rattle.bank.specs.Tape.{disk}
 use Rattle.md_base.specs.Sectors.{Sector}
 use Rattle.superblocks.specs.Reading.{is_clean}
 use Rattle.row_io.specs.Rows.{present}
-use Rattle.views.specs.Moving.{Grows, IsMoved}
-use Rattle.shape_changes.specs.Safety.{HasRoomLeft, IsRisen}
-use Rattle.views.specs.Lacking.{HaveFailedSince, DataStandsAmong, IsOfStripe}
+use Rattle.safe_updates.specs.views_Moving.{Grows, IsMoved}
+use Rattle.safe_updates.specs.shape_changes_Safety.{HasRoomLeft, IsRisen}
+use Rattle.safe_updates.specs.views_Lacking.{HaveFailedSince, DataStandsAmong, IsOfStripe}
 use Rattle.safe_updates.specs.Unused.{IsUnusedKept}
 use Rattle.flat_history.specs.World.{World}
 use Rattle.flat_history.specs.Sound.{OpensFit}
-use Rattle.shape_views.specs.Views.{Ledger, IsTailZero}
-use Rattle.shape_views.specs.Windows.{IsOfRegion}
-use Rattle.shape_changes.specs.Steady.{IsSafeOver, KeepsSafe, AreGoneTold, AreWritesAllowed}
-use Rattle.views.proofs.MendedParts.{IsInParts, ArePut}
+use Rattle.safe_updates.specs.shape_views_Views.{Ledger, IsTailZero}
+use Rattle.safe_updates.specs.shape_views_Windows.{IsOfRegion}
+use Rattle.safe_updates.specs.shape_changes_Steady.{IsSafeOver, KeepsSafe, AreGoneTold, AreWritesAllowed}
+use Rattle.safe_updates.proofs.views_MendedParts.{IsInParts, ArePut}
 use Rattle.safe_rows.proofs.mending.mend.Given as goal
 
 abbrev pub decreases-loop-done : goal.decreases-loop-done

@@ -3,8 +3,8 @@ use Rattle.md_base.specs.Shapes.{is_multiple}
 use Rattle.md_base.specs.declared.places.Shape.{Shape}
 use Rattle.layout.proofs.Places.{chunk_some}
 use Rattle.superblocks.specs.Reading.{shape_of}
-use Rattle.views.specs.Status.{stripes_of}
-use Rattle.views.proofs.Stripes.{stripes-multiple, stripes-within}
+use Rattle.safe_updates.specs.views_Status.{stripes_of}
+use Rattle.safe_updates.proofs.views_Stripes.{stripes-multiple, stripes-within}
 use Rattle.safe_rows.proofs.mending.mended_rows.Goals as goal
 
 pub overflow_mul-result : goal.overflow_mul-result

@@ -5,20 +5,20 @@ use Rattle.superblocks.specs.declared.members.Members.{Members}
 use Rattle.row_io.specs.Rows.{present, reading_of}
 use Rattle.list_io.specs.Buffers.{buffered}
 use Rattle.list_io.proofs.BufferLaws.{data_read}
-use Rattle.views.specs.Placed.{IsPlaced, AreLost}
-use Rattle.shape_changes.specs.Marking.{AreOthersPresent}
-use Rattle.views.specs.Moving.{Grows, IsMoved}
-use Rattle.views.specs.Rebuilding.{AreSparesFree}
-use Rattle.views.proofs.MovedLaws.{moved-lost, moved-then, moved-from, grows-none, grows-then}
-use Rattle.views.proofs.Fit.{has-rows, force-valid}
-use Rattle.views.proofs.LackingLaws.{since-lost, since-then, in-second}
-use Rattle.views.proofs.LackingWrites.{lost-of, standing-later}
+use Rattle.safe_updates.specs.views_Placed.{IsPlaced, AreLost}
+use Rattle.safe_updates.specs.shape_changes_Marking.{AreOthersPresent}
+use Rattle.safe_updates.specs.views_Moving.{Grows, IsMoved}
+use Rattle.safe_updates.specs.views_Rebuilding.{AreSparesFree}
+use Rattle.safe_updates.proofs.views_MovedLaws.{moved-lost, moved-then, moved-from, grows-none, grows-then}
+use Rattle.safe_updates.proofs.views_Fit.{has-rows, force-valid}
+use Rattle.safe_updates.proofs.views_LackingLaws.{since-lost, since-then, in-second}
+use Rattle.safe_updates.proofs.views_LackingWrites.{lost-of, standing-later}
 use Rattle.safe_updates.proofs.RefusingLaws.{write-cause, write-told, told-first, told-why, many-told, not-err}
 use Rattle.flat_history.specs.Sound.{OpensFit}
-use Rattle.shape_changes.specs.Safety.{IsRisen}
-use Rattle.shape_changes.specs.Steady.{KeepsSafe}
-use Rattle.shape_changes.proofs.Risen.{risen-then, risen-lost, room-then}
-use Rattle.views.proofs.SafeStretch.{safe-then, safe-lost, over-at, keeps-from}
+use Rattle.safe_updates.specs.shape_changes_Safety.{IsRisen}
+use Rattle.safe_updates.specs.shape_changes_Steady.{KeepsSafe}
+use Rattle.safe_updates.proofs.shape_changes_Risen.{risen-then, risen-lost, room-then}
+use Rattle.safe_updates.proofs.views_SafeStretch.{safe-then, safe-lost, over-at, keeps-from}
 use Rattle.safe_rows.proofs.UnusedReads.{read-unused, named-unused}
 use Rattle.safe_rows.proofs.putting.prepare.Goals as goal
 

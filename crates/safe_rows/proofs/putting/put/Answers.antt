@@ -5,19 +5,19 @@ use Rattle.bank.specs.Tape.{disk}
 use Rattle.row_io.specs.Rows.{reading_of, present}
 use Rattle.list_io.specs.Buffers.{buffered, AreStanding, IsTouched}
 use Rattle.list_io.specs.Writing.{AreDataFrom}
-use Rattle.shape_views.specs.Regions.{place_by}
-use Rattle.shape_views.specs.Windows.{IsOfRegion}
-use Rattle.views.specs.Moving.{IsMoved}
-use Rattle.views.specs.Lacking.{AreRowsRead, AreRowsWritten}
-use Rattle.views.proofs.MovedLaws.{moved-then, moved-same, moved-from, grows-then}
-use Rattle.views.specs.Rebuilding.{AreSparesFree}
-use Rattle.views.proofs.LackingLaws.{since-then, in-either}
-use Rattle.views.proofs.LackingWrites.{standing-later, others-then, others-same}
-use Rattle.views.proofs.Elements.{contains-at}
-use Rattle.views.proofs.LackingLists.{data-touched, row-written, rebuilt-written, data-read, sectors-whole, none-of}
+use Rattle.safe_updates.specs.shape_views_Regions.{place_by}
+use Rattle.safe_updates.specs.shape_views_Windows.{IsOfRegion}
+use Rattle.safe_updates.specs.views_Moving.{IsMoved}
+use Rattle.safe_updates.specs.views_Lacking.{AreRowsRead, AreRowsWritten}
+use Rattle.safe_updates.proofs.views_MovedLaws.{moved-then, moved-same, moved-from, grows-then}
+use Rattle.safe_updates.specs.views_Rebuilding.{AreSparesFree}
+use Rattle.safe_updates.proofs.views_LackingLaws.{since-then, in-either}
+use Rattle.safe_updates.proofs.views_LackingWrites.{standing-later, others-then, others-same}
+use Rattle.safe_updates.proofs.views_Elements.{contains-at}
+use Rattle.safe_updates.proofs.views_LackingLists.{data-touched, row-written, rebuilt-written, data-read, sectors-whole, none-of}
 use Rattle.flat_history.specs.Sound.{OpensFit}
-use Rattle.shape_changes.proofs.Risen.{risen-then, room-first, room-then}
-use Rattle.views.proofs.SafeStretch.{gone-before, safe-then, allowed-later, zeros-later, region-later, grows-longer, over-at, keeps-from}
+use Rattle.safe_updates.proofs.shape_changes_Risen.{risen-then, room-first, room-then}
+use Rattle.safe_updates.proofs.views_SafeStretch.{gone-before, safe-then, allowed-later, zeros-later, region-later, grows-longer, over-at, keeps-from}
 use Rattle.safe_updates.proofs.RefusingLaws.{many-told}
 use Rattle.safe_updates.specs.Unused.{IsUnusedKept}
 use Rattle.safe_updates.proofs.Unused.{unused-then}

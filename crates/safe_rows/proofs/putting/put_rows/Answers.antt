@@ -2,18 +2,18 @@ use Rattle.std.proofs.Common.{◌<◌, ℕ, refl, sym, ◌∙◌, subst, arith}
 use Rattle.bank.specs.Given.{Given}
 use Rattle.bank.specs.Tape.{disk}
 use Rattle.row_io.specs.Rows.{present}
-use Rattle.views.specs.Moving.{IsMoved}
-use Rattle.views.specs.Rebuilding.{AreSparesFree}
-use Rattle.views.specs.Lacking.{AreRowsWritten}
-use Rattle.views.proofs.MovedLaws.{moved-then, moved-same, grows-none, grows-then, moved-from}
-use Rattle.views.proofs.LackingLaws.{since-same, since-then, in-either}
-use Rattle.views.proofs.LackingWrites.{written-then}
+use Rattle.safe_updates.specs.views_Moving.{IsMoved}
+use Rattle.safe_updates.specs.views_Rebuilding.{AreSparesFree}
+use Rattle.safe_updates.specs.views_Lacking.{AreRowsWritten}
+use Rattle.safe_updates.proofs.views_MovedLaws.{moved-then, moved-same, grows-none, grows-then, moved-from}
+use Rattle.safe_updates.proofs.views_LackingLaws.{since-same, since-then, in-either}
+use Rattle.safe_updates.proofs.views_LackingWrites.{written-then}
 use Rattle.std.specs.Prelude.{Contains}
-use Rattle.views.proofs.Fit.{force-valid, alike-force}
+use Rattle.safe_updates.proofs.views_Fit.{force-valid, alike-force}
 use Rattle.flat_history.specs.Sound.{OpensFit}
-use Rattle.views.proofs.LackingWrites.{data-later}
-use Rattle.shape_changes.proofs.Risen.{risen-none, risen-then, room-first, room-then}
-use Rattle.views.proofs.SafeStretch.{gone-before, safe-none, safe-then, allowed-later, zeros-later, region-later, grows-longer, over-at, keeps-from}
+use Rattle.safe_updates.proofs.views_LackingWrites.{data-later}
+use Rattle.safe_updates.proofs.shape_changes_Risen.{risen-none, risen-then, room-first, room-then}
+use Rattle.safe_updates.proofs.views_SafeStretch.{gone-before, safe-none, safe-then, allowed-later, zeros-later, region-later, grows-longer, over-at, keeps-from}
 use Rattle.safe_updates.specs.Unused.{IsUnusedKept}
 use Rattle.safe_updates.proofs.Unused.{unused-then}
 use Rattle.safe_rows.proofs.putting.put_rows.Goals as goal

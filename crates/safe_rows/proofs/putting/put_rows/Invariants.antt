@@ -5,15 +5,15 @@ use Rattle.md_base.specs.Sectors.{Sector}
 use Rattle.superblocks.specs.Reading.{is_clean}
 use Rattle.row_io.specs.Rows.{present}
 use Rattle.list_io.specs.Writing.{IsWritten, AreDataFrom}
-use Rattle.views.specs.Placed.{AreWhole}
-use Rattle.views.specs.Moving.{Grows, IsMoved}
-use Rattle.views.specs.Lacking.{HaveFailedSince, AreRowsWritten}
+use Rattle.safe_updates.specs.views_Placed.{AreWhole}
+use Rattle.safe_updates.specs.views_Moving.{Grows, IsMoved}
+use Rattle.safe_updates.specs.views_Lacking.{HaveFailedSince, AreRowsWritten}
 use Rattle.flat_history.specs.World.{World}
 use Rattle.flat_history.specs.Sound.{OpensFit}
-use Rattle.shape_changes.specs.Safety.{HasRoomLeft, IsRisen}
-use Rattle.shape_views.specs.Views.{Ledger, IsTailZero}
-use Rattle.shape_views.specs.Windows.{IsOfRegion}
-use Rattle.shape_changes.specs.Steady.{IsSafeOver, KeepsSafe, AreGoneTold, AreWritesAllowed}
+use Rattle.safe_updates.specs.shape_changes_Safety.{HasRoomLeft, IsRisen}
+use Rattle.safe_updates.specs.shape_views_Views.{Ledger, IsTailZero}
+use Rattle.safe_updates.specs.shape_views_Windows.{IsOfRegion}
+use Rattle.safe_updates.specs.shape_changes_Steady.{IsSafeOver, KeepsSafe, AreGoneTold, AreWritesAllowed}
 use Rattle.safe_updates.specs.Unused.{IsUnusedKept}
 use Rattle.safe_rows.proofs.putting.put_rows.Given as goal
 

@@ -2,15 +2,15 @@ use Rattle.std.proofs.Common.{refl, sym, ◌∙◌, subst, arith}
 use Rattle.bank.specs.Given.{Given}
 use Rattle.bank.specs.Tape.{disk}
 use Rattle.row_io.specs.Rows.{present}
-use Rattle.shape_changes.specs.Marking.{AreOthersPresent}
-use Rattle.views.specs.Rebuilding.{AreSparesFree}
-use Rattle.views.specs.Under.{IsRestKept}
-use Rattle.views.proofs.MovedLaws.{moved-then, moved-from, grows-then}
-use Rattle.views.proofs.LackingLaws.{since-then, in-second}
-use Rattle.views.proofs.LackingWrites.{written-later}
+use Rattle.safe_updates.specs.shape_changes_Marking.{AreOthersPresent}
+use Rattle.safe_updates.specs.views_Rebuilding.{AreSparesFree}
+use Rattle.safe_updates.specs.views_Under.{IsRestKept}
+use Rattle.safe_updates.proofs.views_MovedLaws.{moved-then, moved-from, grows-then}
+use Rattle.safe_updates.proofs.views_LackingLaws.{since-then, in-second}
+use Rattle.safe_updates.proofs.views_LackingWrites.{written-later}
 use Rattle.flat_history.specs.Sound.{OpensFit}
-use Rattle.shape_changes.proofs.Risen.{risen-then, room-then}
-use Rattle.views.proofs.SafeStretch.{safe-then, over-at, keeps-from}
+use Rattle.safe_updates.proofs.shape_changes_Risen.{risen-then, room-then}
+use Rattle.safe_updates.proofs.views_SafeStretch.{safe-then, over-at, keeps-from}
 use Rattle.safe_updates.proofs.Unused.{rest-unused, unused-then}
 use Rattle.safe_rows.proofs.putting.put_stretch.Goals as goal
 

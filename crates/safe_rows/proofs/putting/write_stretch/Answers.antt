@@ -6,17 +6,17 @@ use Rattle.bank.specs.Tape.{IsIn}
 use Rattle.md_base.specs.Sectors.{Sector}
 use Rattle.row_io.proofs.Turns.{marks_last}
 use Rattle.row_io.specs.Rows.{present}
-use Rattle.views.specs.Placed.{AreLost}
-use Rattle.views.specs.Lacking.{AreRowsWritten, LacksTooMany}
-use Rattle.views.proofs.MemberLaws.{are_lost}
-use Rattle.views.proofs.MovedLaws.{moved-lost, lost-none}
-use Rattle.views.proofs.MarkedLaws.{grows-marks}
-use Rattle.views.proofs.LackingLaws.{since-lost, too-many-answer}
-use Rattle.views.proofs.Fit.{has-rows}
-use Rattle.views.proofs.LackingWrites.{list-in, list-in-is, list-with, list-with-is}
+use Rattle.safe_updates.specs.views_Placed.{AreLost}
+use Rattle.safe_updates.specs.views_Lacking.{AreRowsWritten, LacksTooMany}
+use Rattle.safe_updates.proofs.views_MemberLaws.{are_lost}
+use Rattle.safe_updates.proofs.views_MovedLaws.{moved-lost, lost-none}
+use Rattle.safe_updates.proofs.views_MarkedLaws.{grows-marks}
+use Rattle.safe_updates.proofs.views_LackingLaws.{since-lost, too-many-answer}
+use Rattle.safe_updates.proofs.views_Fit.{has-rows}
+use Rattle.safe_updates.proofs.views_LackingWrites.{list-in, list-in-is, list-with, list-with-is}
 use Rattle.flat_history.specs.Sound.{OpensFit}
-use Rattle.shape_changes.proofs.Risen.{risen-lost}
-use Rattle.views.proofs.SafeStretch.{safe-put}
+use Rattle.safe_updates.proofs.shape_changes_Risen.{risen-lost}
+use Rattle.safe_updates.proofs.views_SafeStretch.{safe-put}
 use Rattle.safe_updates.proofs.Unused.{unused-role}
 use Rattle.safe_rows.proofs.putting.write_stretch.Goals as goal
 

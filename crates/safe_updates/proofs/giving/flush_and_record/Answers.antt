@@ -8,16 +8,16 @@ use Rattle.row_io.specs.Rows.{present}
 use Rattle.flat_history.specs.World.{World}
 use Rattle.flat_history.specs.Sound.{OpensFit}
 use Rattle.views.specs.Flushing.{OnlyFlushesAdded}
-use Rattle.shape_changes.specs.Marking.{AreOthersPresent}
+use Rattle.views.specs.shape_changes_Marking.{AreOthersPresent}
 use Rattle.views.specs.Lacking.{RowsStand}
 use Rattle.views.specs.Rebuilding.{with_whole, AreRowsFull, IsFlushedFull}
-use Rattle.shape_changes.specs.Safety.{HasRoomLeft}
-use Rattle.shape_views.specs.Views.{Ledger}
-use Rattle.shape_changes.specs.Steady.{IsSafeOver, KeepsSafe, IsUncleanTold, given_back}
+use Rattle.views.specs.shape_changes_Safety.{HasRoomLeft}
+use Rattle.views.specs.shape_views_Views.{Ledger}
+use Rattle.views.specs.shape_changes_Steady.{IsSafeOver, KeepsSafe, IsUncleanTold, given_back}
 use Rattle.views.proofs.Flushed.{contents-added}
 use Rattle.views.proofs.MarkedSafe.{flushed-safe, lost-safe, added-longer}
 use Rattle.views.proofs.MovedLaws.{grows-then}
-use Rattle.shape_changes.proofs.Risen.{risen-none, risen-lost, risen-then, room-then}
+use Rattle.views.proofs.shape_changes_Risen.{risen-none, risen-lost, risen-then, room-then}
 use Rattle.views.proofs.SafeStretch.{safe-then, over-at, keeps-from}
 use Rattle.views.proofs.Fit.{few}
 use Rattle.safe_updates.proofs.WholeFlushed.{flush-added, ok-of, flushed-full, since-earlier, lost-moved, mid-placed, mid-free, out, failed-moved, failed-since}

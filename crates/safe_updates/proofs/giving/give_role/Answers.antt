@@ -9,16 +9,16 @@ use Rattle.superblocks.specs.Update.{IsRoleGive, give_of}
 use Rattle.superblocks.specs.Outcome.{AreLive, AreGivesOfLive, is_in_update, with_added}
 use Rattle.superblocks.proofs.SlotSets.{none_above}
 use Rattle.flat_history.specs.Sound.{OpensFit}
-use Rattle.shape_changes.specs.Marking.{giving}
+use Rattle.views.specs.shape_changes_Marking.{giving}
 use Rattle.views.proofs.MarkedLaws.{grows-marks, others-of}
 use Rattle.views.proofs.Gives.{gives_of, give-here, give-other}
 use Rattle.views.proofs.GivenMembers.{IsReceiver}
 use Rattle.views.proofs.Fit.{few}
 use Rattle.safe_updates.proofs.GivenMoved.{moved-given, failed-given, holders-more}
 use Rattle.safe_updates.proofs.GivingDone.{given-left, losses-done}
-use Rattle.shape_changes.specs.Changing.{IsChanged}
-use Rattle.shape_changes.proofs.CalledLaws.{changed-by}
-use Rattle.shape_changes.proofs.ChangeSafe.{told-changed, risen-changed}
+use Rattle.views.specs.shape_changes_Changing.{IsChanged}
+use Rattle.views.proofs.shape_changes_CalledLaws.{changed-by}
+use Rattle.views.proofs.shape_changes_ChangeSafe.{told-changed, risen-changed}
 use Rattle.role_changes.proofs.GivenSafe.{giving-stays-safe}
 use Rattle.safe_updates.proofs.GivenPlan.{gives-live, receiver-of, spare-receives}
 use Rattle.superblocks.specs.declared.members.Members.{Members}

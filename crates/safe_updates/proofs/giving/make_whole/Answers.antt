@@ -16,25 +16,25 @@ use Rattle.superblocks.proofs.SlotSets.{none_above}
 use Rattle.flat_history.specs.World.{World}
 use Rattle.flat_history.specs.Sound.{OpensFit}
 use Rattle.row_io.specs.Rows.{present}
-use Rattle.shape_views.specs.Regions.{DoWithout}
+use Rattle.views.specs.shape_views_Regions.{DoWithout}
 use Rattle.views.specs.Lacking.{RowsStand}
 use Rattle.views.specs.Rebuilding.{IsFlushedFull}
-use Rattle.shape_views.specs.Views.{Ledger}
-use Rattle.shape_changes.specs.Safety.{HasRoomLeft}
-use Rattle.shape_changes.specs.Steady.{IsSafeOver, AreGoneTold, AreWritesAllowed, given_back}
+use Rattle.views.specs.shape_views_Views.{Ledger}
+use Rattle.views.specs.shape_changes_Safety.{HasRoomLeft}
+use Rattle.views.specs.shape_changes_Steady.{IsSafeOver, AreGoneTold, AreWritesAllowed, given_back}
 use Rattle.views.proofs.Fit.{valid, few}
 use Rattle.views.proofs.LiveLeft.{holder-left}
-use Rattle.shape_changes.specs.Marking.{giving}
+use Rattle.views.specs.shape_changes_Marking.{giving}
 use Rattle.views.proofs.MarkedLaws.{grows-marks, others-of}
 use Rattle.views.proofs.Gives.{gives_of, give-here, give-other}
 use Rattle.views.proofs.GivenMembers.{IsReceiver}
 use Rattle.safe_updates.proofs.GivenMoved.{moved-given, failed-given, holders-more}
 use Rattle.safe_updates.proofs.GivingDone.{given-left, losses-done}
 use Rattle.safe_updates.proofs.MadeWhole.{holder-receives, held-already, IsMoreBack, back-same, back-given, makable}
-use Rattle.shape_changes.specs.Changing.{IsChanged, IsSafeChange}
+use Rattle.views.specs.shape_changes_Changing.{IsChanged, IsSafeChange}
 use Rattle.role_changes.specs.Making.{IsMade}
-use Rattle.shape_changes.proofs.CalledLaws.{changed-by}
-use Rattle.shape_changes.proofs.ChangeSafe.{told-changed, told-marks, risen-changed, one-stretch, change-named}
+use Rattle.views.proofs.shape_changes_CalledLaws.{changed-by}
+use Rattle.views.proofs.shape_changes_ChangeSafe.{told-changed, told-marks, risen-changed, one-stretch, change-named}
 use Rattle.role_changes.proofs.MadeSafe.{making-safe}
 use Rattle.safe_updates.proofs.GivenPlan.{gives-live}
 use Rattle.safe_updates.proofs.giving.make_whole.Given.{Over}

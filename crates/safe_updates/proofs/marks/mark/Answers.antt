@@ -8,10 +8,10 @@ use Rattle.superblocks.specs.Update.{IsRoleGive, give_of}
 use Rattle.superblocks.specs.Updating.{ArePlanned}
 use Rattle.superblocks.specs.Outcome.{with_added, live_set, is_left, AreLive, AreGivesOfLive}
 use Rattle.views.specs.Placed.{IsPlaced}
-use Rattle.shape_changes.specs.Marking.{marking}
-use Rattle.shape_changes.proofs.Kept.{give_of-same}
+use Rattle.views.specs.shape_changes_Marking.{marking}
+use Rattle.views.proofs.shape_changes_Kept.{give_of-same}
 use Rattle.views.proofs.PlacedLaws.{marked-less, marked-count, placed-less, less-unlost}
-use Rattle.shape_changes.proofs.CalledLaws.{changed-by}
+use Rattle.views.proofs.shape_changes_CalledLaws.{changed-by}
 use Rattle.views.proofs.Fit.{few}
 use Rattle.safe_updates.proofs.marks.mark.Goals as goal
 

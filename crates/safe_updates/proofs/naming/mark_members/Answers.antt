@@ -8,10 +8,10 @@ use Rattle.superblocks.specs.Outcome.{live_set}
 use Rattle.superblocks.proofs.SlotSets.{none_above}
 use Rattle.row_io.specs.Rows.{reading_of}
 use Rattle.views.specs.Placed.{IsPlaced}
-use Rattle.shape_changes.specs.Marking.{marking}
+use Rattle.views.specs.shape_changes_Marking.{marking}
 use Rattle.safe_updates.specs.Named.{AreDataKept}
 use Rattle.views.proofs.MarkLaws.{few-planned}
-use Rattle.shape_changes.proofs.Kept.{give_of-same}
+use Rattle.views.proofs.shape_changes_Kept.{give_of-same}
 use Rattle.views.proofs.MovedLaws.{moved-less}
 use Rattle.views.proofs.Fit.{few}
 use Rattle.safe_updates.proofs.Under.{rest-touched}
@@ -19,8 +19,8 @@ use Rattle.safe_updates.proofs.SparesLaws.{spare-left, spare-stays, free-told}
 use Rattle.views.proofs.MarkedLaws.{grows-marks, others-updated, failed-marked}
 use Rattle.views.proofs.LackingLaws.{since-failed, holders-updated}
 use Rattle.flat_history.specs.Sound.{OpensFit}
-use Rattle.shape_changes.proofs.ChangeSafe.{told-changed, risen-changed}
-use Rattle.shape_changes.proofs.KeptSafe.{mark-safe, mark-named}
+use Rattle.views.proofs.shape_changes_ChangeSafe.{told-changed, risen-changed}
+use Rattle.views.proofs.shape_changes_KeptSafe.{mark-safe, mark-named}
 use Rattle.views.proofs.MarkEnds.{left-in-mark}
 use Rattle.safe_updates.proofs.NamedAll.{marked-missing}
 use Rattle.safe_updates.proofs.naming.mark_members.Goals as goal

@@ -4,17 +4,17 @@ use Rattle.bank.specs.Tape.{Contents, disk}
 use Rattle.superblocks.specs.Reading.{is_clean}
 use Rattle.row_io.specs.Rows.{present, reading_of}
 use Rattle.views.specs.Placed.{AreWhole, AreLost, IsPlaced}
-use Rattle.shape_changes.specs.Marking.{AreOthersPresent}
+use Rattle.views.specs.shape_changes_Marking.{AreOthersPresent}
 use Rattle.views.specs.Rebuilding.{AreSparesFree}
 use Rattle.views.proofs.Flushed.{contents-added}
 use Rattle.views.proofs.MovedLaws.{moved-lost, moved-then, lost-none, moved-from, grows-then}
 use Rattle.views.proofs.LackingLaws.{since-lost, since-then, in-second, holders-flushed, holders-fewer, holders-at}
 use Rattle.flat_history.specs.Sound.{OpensFit}
 use Rattle.superblocks.specs.declared.members.Members.{Members}
-use Rattle.shape_changes.specs.Steady.{IsNamedOver, IsUncleanTold}
+use Rattle.views.specs.shape_changes_Steady.{IsNamedOver, IsUncleanTold}
 use Rattle.views.proofs.MarkedSafe.{lost-safe, added-longer}
 use Rattle.views.proofs.SafeStretch.{safe-then, over-at, keeps-from}
-use Rattle.shape_changes.proofs.Risen.{risen-lost, risen-then, room-then}
+use Rattle.views.proofs.shape_changes_Risen.{risen-lost, risen-then, room-then}
 use Rattle.views.proofs.Fit.{few}
 use Rattle.safe_updates.proofs.Under.{flushed-fewer, idle-without}
 use Rattle.views.specs.Under.{IsRestKept, IsIdle}

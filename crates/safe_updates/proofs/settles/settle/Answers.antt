@@ -4,19 +4,19 @@ use Rattle.md_base.specs.declared.answers.Refusal.{Refusal}
 use Rattle.bank.specs.Given.{Given}
 use Rattle.bank.specs.Tape.{disk}
 use Rattle.flat_history.specs.Sound.{OpensFit}
-use Rattle.shape_views.specs.Regions.{DoWithout}
+use Rattle.views.specs.shape_views_Regions.{DoWithout}
 use Rattle.views.specs.Lacking.{AreTooMany}
 use Rattle.views.specs.Rebuilding.{AreSparesFree}
-use Rattle.shape_changes.specs.Kinds.{IsMarkable}
-use Rattle.shape_changes.specs.Steady.{IsNamedOver, IsSafeNow, settled_ledger}
-use Rattle.shape_views.specs.Views.{Ledger}
+use Rattle.views.specs.shape_changes_Kinds.{IsMarkable}
+use Rattle.views.specs.shape_changes_Steady.{IsNamedOver, IsSafeNow, settled_ledger}
+use Rattle.views.specs.shape_views_Views.{Ledger}
 use Rattle.views.proofs.HeldRows.{without-before}
 use Rattle.safe_updates.proofs.Under.{under-moved, rows-under-moved}
 use Rattle.views.specs.Under.{RowsStandUnder, IsRestKept}
 use Rattle.safe_updates.proofs.Unused.{rest-unused, unused-then}
 use Rattle.views.proofs.LiveLeft.{without-left, holder-left}
 use Rattle.views.proofs.MarkedSafe.{settled-markable}
-use Rattle.shape_changes.proofs.Risen.{risen-then, room-first, room-then}
+use Rattle.views.proofs.shape_changes_Risen.{risen-then, room-first, room-then}
 use Rattle.views.proofs.SafeStretch.{gone-before, safe-then, allowed-later, grows-longer, over-at, keeps-from}
 use Rattle.safe_updates.proofs.SettledSafe.{settled-safe, clean-settled}
 use Rattle.superblocks.specs.declared.members.Members.{Members}

@@ -1,7 +1,7 @@
 use Rattle.std.proofs.Common.{◌≡◌, ℕ, ◌<◌, true, subst, arith}
 use Rattle.std.specs.Prelude.{MatchOption, None}
 use Rattle.md_base.specs.Shapes.{has_slot}
-use Rattle.shape_views.specs.Regions.{DoWithout}
+use Rattle.views.specs.shape_views_Regions.{DoWithout}
 use Rattle.views.specs.Lacking.{AreTooMany}
 use Rattle.views.proofs.LiveLeft.{some-held}
 use Rattle.views.proofs.MemberLaws.{some_slot}

@@ -8,8 +8,8 @@ use Rattle.superblocks.specs.declared.members.Members.{Members}
 use Rattle.superblocks.specs.Reading.{holder, role_state, shape_of}
 use Rattle.row_io.specs.Rows.{reading_of, present}
 use Rattle.flat_history.specs.Sound.{OpensFit}
-use Rattle.shape_changes.specs.Marking.{AreOthersPresent}
-use Rattle.shape_changes.proofs.Risen.{risen-then, room-first, room-then}
+use Rattle.still_laws.specs.shape_changes_Marking.{AreOthersPresent}
+use Rattle.still_laws.proofs.shape_changes_Risen.{risen-then, room-first, room-then}
 use Rattle.views.specs.Placed.{IsPlaced, is_vacant}
 use Rattle.views.specs.Rebuilding.{AreSparesFree}
 use Rattle.views.proofs.LackingLaws.{since-then, in-either}

@@ -2,8 +2,8 @@ use Rattle.std.proofs.Common.{Some, refl, sym, ◌∙◌, subst}
 use Rattle.bank.specs.Given.{Given}
 use Rattle.flat_history.specs.Sound.{OpensFit}
 use Rattle.row_io.specs.Rows.{present}
-use Rattle.shape_changes.specs.Marking.{AreOthersPresent}
-use Rattle.shape_changes.proofs.Risen.{risen-then, room-first, room-then}
+use Rattle.still_laws.specs.shape_changes_Marking.{AreOthersPresent}
+use Rattle.still_laws.proofs.shape_changes_Risen.{risen-then, room-first, room-then}
 use Rattle.views.specs.Placed.{IsPlaced}
 use Rattle.views.specs.Rebuilding.{AreSparesFree, with_recovering}
 use Rattle.views.proofs.LackingLaws.{since-then, in-either}

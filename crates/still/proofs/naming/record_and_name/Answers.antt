@@ -8,12 +8,12 @@ use Rattle.flat_history.specs.World.{World}
 use Rattle.superblocks.specs.declared.members.Members.{Members}
 use Rattle.superblocks.specs.Reading.{is_whole, holder, role_state}
 use Rattle.row_io.specs.Rows.{reading_of, present, is_missing}
-use Rattle.shape_changes.specs.Marking.{AreOthersPresent}
-use Rattle.shape_changes.specs.Safety.{HasRoomLeft}
-use Rattle.shape_changes.specs.Steady.{IsSafeOver, KeepsSafe, AreGoneTold, IsUncleanTold, given_back}
-use Rattle.shape_views.specs.Views.{Ledger}
+use Rattle.still_laws.specs.shape_changes_Marking.{AreOthersPresent}
+use Rattle.still_laws.specs.shape_changes_Safety.{HasRoomLeft}
+use Rattle.still_laws.specs.shape_changes_Steady.{IsSafeOver, KeepsSafe, AreGoneTold, IsUncleanTold, given_back}
+use Rattle.still_laws.specs.shape_views_Views.{Ledger}
 use Rattle.views.specs.Moving.{IsMoved}
-use Rattle.shape_changes.proofs.Risen.{risen-then, room-first, room-then}
+use Rattle.still_laws.proofs.shape_changes_Risen.{risen-then, room-first, room-then}
 use Rattle.views.specs.Placed.{IsPlaced}
 use Rattle.views.specs.Rebuilding.{AreSparesFree, with_whole}
 use Rattle.views.proofs.LackingLaws.{since-then, in-either}

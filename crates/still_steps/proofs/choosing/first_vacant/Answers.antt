@@ -3,7 +3,7 @@ use Rattle.md_base.specs.declared.status.Role.{Role}
 use Rattle.md_base.proofs.Least.{least_below-none}
 use Rattle.superblocks.specs.Reading.{shape_of, holder}
 use Rattle.row_io.specs.Rows.{reading_of}
-use Rattle.views.specs.Placed.{is_vacant}
+use Rattle.still.specs.views_Placed.{is_vacant}
 use Rattle.still_steps.proofs.Lowest.{lowest-reached}
 use Rattle.still_steps.proofs.choosing.first_vacant.Goals as goal
 

@@ -1,6 +1,6 @@
 use Rattle.std.proofs.Common.{◌≡◌, ◌<◌, ℕ, false}
 use Rattle.row_io.specs.Rows.{reading_of}
-use Rattle.views.specs.Placed.{is_vacant}
+use Rattle.still.specs.views_Placed.{is_vacant}
 use Rattle.still_steps.proofs.choosing.first_vacant.Given as goal
 
 -- no lower one passes

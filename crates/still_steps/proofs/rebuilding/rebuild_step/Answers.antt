@@ -4,7 +4,7 @@ use Rattle.std.specs.Prelude.{unwrap_or}
 use Rattle.flat_history.specs.declared.events.StepKind.TheVariants.{RebuildTaken, RebuildStripe, RebuildEnded}
 use Rattle.still.specs.running_words_Parts.{still_left}
 use Rattle.still.specs.array_kept_Calls.{IsHeldOrGiven}
-use Rattle.views.specs.Rebuilding.{Held}
+use Rattle.still.specs.views_Rebuilding.{Held}
 use Rattle.still_steps.specs.Rebuilding.{first_recovering, first_vacant, first_spare, IsRebuildNext, IsHeldOrNext, rebuild_kind}
 use Rattle.still_steps.proofs.RebuildLaws.{not-taking, given-to, found-below, found-recovered, role-recovered, kind-filled, kind-ended, kind-taken, IsTaking, takes-next, entered-as, kept-stepped, not-end, at-end}
 use Rattle.still_steps.proofs.NextLaws.{stepped-wider}

@@ -1,6 +1,6 @@
 use Rattle.std.proofs.Common.{◌≡◌, inl, ℕ, Option, Some, None, is_some, Bool, false, sym, ◌∙◌, ap, refl}
 use Rattle.superblocks.specs.Reading.{list_length}
-use Rattle.views.specs.Rebuilding.{Held}
+use Rattle.still.specs.views_Rebuilding.{Held}
 use Rattle.still_steps.specs.Rebuilding.{IsHeldOrNext}
 use Rattle.still_steps.specs.Stepping.{IsHeldOrDue}
 use Rattle.still_steps.proofs.ResyncLaws.{ok-so}

@@ -17,8 +17,8 @@ use Rattle.still_steps.specs.array_kept_Calls.{AreStepsFewer}
 use Rattle.still_steps.specs.array_kept_Kept.{scope_in}
 use Rattle.still_steps.proofs.array_kept_ReadyLaws.{scope-same}
 use Rattle.grow_asked.specs.Left.{phases_of}
-use Rattle.kept_history.specs.Recorded.{IsCallGoing}
-use Rattle.kept_history.specs.Safe.{world_in}
+use Rattle.still_steps.specs.kept_history_Recorded.{IsCallGoing}
+use Rattle.still_steps.specs.kept_history_Safe.{world_in}
 use Rattle.still_steps.specs.running_words_Calls.{moving_world}
 use Rattle.still_steps.specs.running_words_Parts.{still_left}
 use Rattle.still_steps.specs.running_words_Plans.{ArePlansKept}
@@ -188,6 +188,7 @@ returns-clause-taken g c =
         roles_told = taken-told p.ahead behind to c.in-Ok.slot who end roles spares was goes c.requires.caller idle next lead c.in-Ok.ensures.whole c.in-Ok.ensures.chosen update c.ops-end.ensures.count c.mark_unbuilt.ensures.long
             c.told_of-told.ensures.roles;
         spares_told = did.failed.told;
+        spares_were = did.spares;
         is = entered;
       };
       ended = λ t. ap (λ (l : List Entry). last_end_from c.enter_taken.new.epoch.first l) items

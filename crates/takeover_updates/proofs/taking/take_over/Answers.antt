@@ -16,26 +16,26 @@ use Rattle.superblocks.proofs.ValidFields.{few-roles}
 use Rattle.superblock_reads.proofs.SaidSlots.{spare-known}
 use Rattle.flat_history.specs.Sound.{OpensFit}
 use Rattle.flat_history.specs.World.{World}
-use Rattle.shape_views.specs.Regions.{ArePlaced}
-use Rattle.shape_views.specs.Views.{Ledger}
-use Rattle.shape_changes.specs.Changing.{IsChanged}
-use Rattle.shape_changes.specs.Steady.{IsSteady}
-use Rattle.shape_changes.specs.Updates.{IsLessView, planned_view}
-use Rattle.shape_changes.proofs.CalledLaws.{changed-by}
-use Rattle.shape_changes.proofs.ChangeSafe.{told-changed, risen-changed, safe-change}
-use Rattle.shape_changes.proofs.ChangeViews.{new-less, later-says, later-fits}
-use Rattle.shape_changes.proofs.KeptSafe.{steady-right, told-plan}
-use Rattle.shape_changes.proofs.PlannedRoles.{live-before}
-use Rattle.shape_changes.proofs.PlansLose.{plans-lose}
-use Rattle.shape_changes.proofs.Stretch.{seen-own}
-use Rattle.shape_ends.proofs.Takeovers.{takeovers}
+use Rattle.reshape_ends.specs.shape_views_Regions.{ArePlaced}
+use Rattle.reshape_ends.specs.shape_views_Views.{Ledger}
+use Rattle.reshape_ends.specs.shape_changes_Changing.{IsChanged}
+use Rattle.reshape_ends.specs.shape_changes_Steady.{IsSteady}
+use Rattle.reshape_ends.specs.shape_changes_Updates.{IsLessView, planned_view}
+use Rattle.reshape_ends.proofs.shape_changes_CalledLaws.{changed-by}
+use Rattle.reshape_ends.proofs.shape_changes_ChangeSafe.{told-changed, risen-changed, safe-change}
+use Rattle.reshape_ends.proofs.shape_changes_ChangeViews.{new-less, later-says, later-fits}
+use Rattle.reshape_ends.proofs.shape_changes_KeptSafe.{steady-right, told-plan}
+use Rattle.reshape_ends.proofs.shape_changes_PlannedRoles.{live-before}
+use Rattle.reshape_ends.proofs.shape_changes_PlansLose.{plans-lose}
+use Rattle.reshape_ends.proofs.shape_changes_Stretch.{seen-own}
+use Rattle.reshape_ends.proofs.shape_ends_Takeovers.{takeovers}
 use Rattle.reshape_ends.proofs.reshape_updates_MoreLess.{less-then}
-use Rattle.views.proofs.MarkedLaws.{grows-marks, others-updated}
+use Rattle.reshape_ends.proofs.views_MarkedLaws.{grows-marks, others-updated}
 use Rattle.reshape_ends.proofs.Made.{IsMade, new-moved, new-free}
 use Rattle.reshape_ends.proofs.Named.{names-all}
 use Rattle.takeover_updates.specs.TakingOver.{CanTakeUp, taking_over}
 use Rattle.takeover_updates.proofs.TakenPlan.{taken-alike, small, few, role-gives, live, fit-update, one-holder, planned-to, planned-fits, plan-is, plan-placed, made}
-use Rattle.takeover_updates.proofs.TakenLosses.{taken-failed}
+use Rattle.takeover_updates.proofs.TakenLosses.{taken-failed, spares-were}
 use Rattle.takeover_updates.proofs.taking.take_over.Given.{Over}
 use Rattle.takeover_updates.proofs.taking.take_over.Goals.{After-without}
 use Rattle.takeover_updates.proofs.taking.take_over.Goals as goal
@@ -149,7 +149,21 @@ returns-clause-failed g c =
     c.taking_over-change.ensures c.update-lost.ensures.losses)
     (subst (λ (ch : Change). (s : ℕ) → has_slot c.update-lost.result s ≡ (has_slot c.update-lost.new.members.lost s && not (has_slot (with_added c.args.members.now ch.added).lost s))) c.taking_over-change.ensures
     c.update-lost.ensures.result)
-    c.holders_then-held.ensures
+    c.holders_then-held.ensures.only c.holders_then-held.ensures.all
+    (λ s. elim (cases_lt s 32) [
+      | inl below ↦ c.without.ensures s below
+      | inr above ↦ none_above c.without.result s (omega arith) above ∙ sym (ap (λ (b : Bool). b && not (has_slot c.holders_then-held.result s)) (none_above c.update-lost.result s (omega arith) above))
+    ])
+
+pub returns-clause-spares : goal.returns-clause-spares
+returns-clause-spares g c =
+    spares-were (b g c) c.args.members.now c.args.to.now c.args.slot c.requires.placed c.requires.free c.requires.still c.requires.valid c.requires.can c.update-lost.new.members (done g c)
+    c.update-lost.result c.holders_then-held.result c.without.result (g.B.Bank.faults_of c.args.bank.now) (g.B.Bank.faults_of c.update-lost.new.bank)
+    (subst (λ (ch : Change). AreLosses (live_set c.args.members.now ch) (with_added c.args.members.now ch.added).lost c.update-lost.new.members.lost (g.B.Bank.faults_of c.args.bank.now) (g.B.Bank.faults_of c.update-lost.new.bank))
+    c.taking_over-change.ensures c.update-lost.ensures.losses)
+    (subst (λ (ch : Change). (s : ℕ) → has_slot c.update-lost.result s ≡ (has_slot c.update-lost.new.members.lost s && not (has_slot (with_added c.args.members.now ch.added).lost s))) c.taking_over-change.ensures
+    c.update-lost.ensures.result)
+    c.holders_then-held.ensures.only c.holders_then-held.ensures.all
     (λ s. elim (cases_lt s 32) [
       | inl below ↦ c.without.ensures s below
       | inr above ↦ none_above c.without.result s (omega arith) above ∙ sym (ap (λ (b : Bool). b && not (has_slot c.holders_then-held.result s)) (none_above c.update-lost.result s (omega arith) above))

@@ -15,8 +15,8 @@ use Rattle.flat_history.specs.declared.events.Event.TheVariants.{Step, Refused}
 use Rattle.flat_history.specs.declared.events.StepKind.TheVariants.{Begun}
 use Rattle.flat_history.specs.Plain.{entries_of}
 use Rattle.flat_history.specs.Transfers.{last_end_from}
-use Rattle.shape_changes.specs.Safety.{IsRisen}
-use Rattle.shape_changes.specs.Steady.{KeepsSafe}
+use Rattle.moving_steps.specs.shape_changes_Safety.{IsRisen}
+use Rattle.moving_steps.specs.shape_changes_Steady.{KeepsSafe}
 use Rattle.moving_steps.specs.reshape_updates_Beginning.{goes_back}
 use Rattle.moving_steps.specs.reshape_ends_Begun.{begun_plan}
 use Rattle.views.specs.Status.{left_of}
@@ -274,7 +274,7 @@ returns-clause-begun g c =
     (did.moved none) (did.failed none) c.told_of-told.ensures.roles in
     begun-as g.B.Bank.given g.B.Bank.tape g.B.Bank.faults_of who to behind c.args.still c.of_pieces-2.result _ _ same c.of_pieces-2.ensures.same (record {
       could = c.in_default.ensures;
-      entered = record { roles = roles; spares = spares; end = end; roles_told = since-told new roles (did.moved none).placed.roles c.told_of-told.ensures.roles; spares_told = (did.failed none).told; is = items };
+      entered = record { roles = roles; spares = spares; end = end; roles_told = since-told new roles (did.moved none).placed.roles c.told_of-told.ensures.roles; spares_told = (did.failed none).told; spares_were = did.spares none; is = items };
       ended = λ t. ap (λ (l : List Entry). last_end_from c.enter_begun.new.epoch.first l) items
           ∙ last_end-call c.enter_begun.new.epoch.first p.epoch.entries.items who end (Step Begun (left_in p.work new (closed 0) behind))
           (begun_length (goes_back (shape_of p.members.newest) to) (list_length new.newest) ++ losses_of roles spares) ∙ c.ops-end.ensures.count t;

@@ -24,8 +24,8 @@ use Rattle.call_entries.specs.Losing.{losses_of}
 use Rattle.moving_steps.specs.array_kept_Kept.{scope_in}
 use Rattle.moving_steps.proofs.array_kept_LossLaws.{losses-behind, ended-behind, behind-alone}
 use Rattle.moving_steps.proofs.array_kept_ReadyLaws.{scope-same}
-use Rattle.kept_history.specs.Recorded.{IsCallGoing}
-use Rattle.kept_history.specs.Safe.{world_in}
+use Rattle.moving_steps.specs.kept_history_Recorded.{IsCallGoing}
+use Rattle.moving_steps.specs.kept_history_Safe.{world_in}
 use Rattle.moving_steps.proofs.moving_kept_Refusals.{quiet-refusal, refused-right}
 use Rattle.moving_steps.proofs.moving_kept_Resting.{resting-moves}
 use Rattle.moving_steps.proofs.moving_kept_Steps.{missing-since}

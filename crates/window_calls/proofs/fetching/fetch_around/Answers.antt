@@ -5,14 +5,14 @@ use Rattle.md_base.specs.declared.answers.Refusal.{Refusal}
 use Rattle.superblocks.specs.declared.members.Members.{Members}
 use Rattle.row_io.specs.Rows.{present}
 use Rattle.flat_history.specs.Sound.{OpensFit}
-use Rattle.shape_changes.specs.Steady.{IsUncleanTold}
-use Rattle.shape_changes.specs.Marking.{AreOthersPresent}
-use Rattle.shape_changes.proofs.Risen.{risen-then, risen-lost, room-then}
-use Rattle.views.specs.Rebuilding.{AreSparesFree}
-use Rattle.views.proofs.MovedLaws.{moved-then, moved-from, grows-none, grows-then}
-use Rattle.views.proofs.LackingLaws.{since-then, in-second}
-use Rattle.views.proofs.SafeStretch.{safe-then, safe-lost, over-at, keeps-from}
-use Rattle.views.proofs.LackingLists.{none-of}
+use Rattle.window_steps.specs.shape_changes_Steady.{IsUncleanTold}
+use Rattle.window_steps.specs.shape_changes_Marking.{AreOthersPresent}
+use Rattle.window_steps.proofs.shape_changes_Risen.{risen-then, risen-lost, room-then}
+use Rattle.window_steps.specs.views_Rebuilding.{AreSparesFree}
+use Rattle.window_steps.proofs.views_MovedLaws.{moved-then, moved-from, grows-none, grows-then}
+use Rattle.window_steps.proofs.views_LackingLaws.{since-then, in-second}
+use Rattle.window_steps.proofs.views_SafeStretch.{safe-then, safe-lost, over-at, keeps-from}
+use Rattle.window_steps.proofs.views_LackingLists.{none-of}
 use Rattle.region_rows.proofs.safe_rows_UnusedReads.{read-unused, named-unused}
 use Rattle.window_calls.proofs.fetching.fetch_around.Goals as goal
 

@@ -4,7 +4,7 @@ use Rattle.md_base.specs.declared.places.Shape.{Shape}
 use Rattle.md_base.specs.declared.places.Span.{Span}
 use Rattle.row_io.specs.Rows.{present}
 use Rattle.flat_history.specs.Stands.{covers}
-use Rattle.window_rows.specs.Copies.{HasWindow, IsRoomFor}
+use Rattle.window_steps.specs.window_rows_Copies.{HasWindow, IsRoomFor}
 use Rattle.region_rows.specs.Stretches.{IsShapeOf, ListStandsIn, RowsStandIn}
 use Rattle.region_rows.proofs.StretchReads.{list-among, rows-among}
 use Rattle.window_calls.specs.Fetching.{IsShapeBeside, IsUnreadBeside}

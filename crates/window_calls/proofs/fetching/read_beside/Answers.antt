@@ -11,10 +11,10 @@ use Rattle.superblocks.specs.Reading.{list_length}
 use Rattle.row_io.specs.Rows.{present, members_without}
 use Rattle.list_io.proofs.LossLaws.{members_then}
 use Rattle.list_io.proofs.ListLaws.{present_same}
-use Rattle.views.specs.Moving.{IsMoved}
-use Rattle.views.proofs.MovedLaws.{moved-then, moved-from}
-use Rattle.views.proofs.LackingLaws.{since-then, in-second}
-use Rattle.views.proofs.LackingLists.{none-of}
+use Rattle.window_steps.specs.views_Moving.{IsMoved}
+use Rattle.window_steps.proofs.views_MovedLaws.{moved-then, moved-from}
+use Rattle.window_steps.proofs.views_LackingLaws.{since-then, in-second}
+use Rattle.window_steps.proofs.views_LackingLists.{none-of}
 use Rattle.region_rows.specs.Stretches.{IsShapeOf, ListStandsIn, RowsStandIn}
 use Rattle.region_rows.proofs.StretchReads.{part-long, list-among, rows-among}
 use Rattle.region_rows.proofs.StretchLaws.{list-short, data-few}

@@ -9,16 +9,16 @@ use Rattle.geometry.proofs.ClosedForms.{rounded_up}
 use Rattle.row_io.specs.Rows.{present, reading_of}
 use Rattle.list_io.specs.Full.{RowStands}
 use Rattle.flat_history.specs.Sound.{OpensFit}
-use Rattle.shape_views.specs.Windows.{IsCopyable}
-use Rattle.shape_changes.proofs.Risen.{risen-none, risen-then}
-use Rattle.views.specs.Moving.{IsMoved}
-use Rattle.views.specs.Rebuilding.{AreSparesFree}
-use Rattle.views.specs.Lacking.{IsOfStripe, AreOtherRowsKept}
-use Rattle.views.proofs.MovedLaws.{moved-then, moved-same, grows-none, grows-then, moved-from}
-use Rattle.views.proofs.LackingLaws.{since-same, since-then, in-either}
-use Rattle.views.proofs.LackingLists.{none-of}
-use Rattle.views.proofs.SafeStretch.{safe-none}
-use Rattle.views.proofs.MendedParts.{safe-part}
+use Rattle.window_steps.specs.shape_views_Windows.{IsCopyable}
+use Rattle.window_steps.proofs.shape_changes_Risen.{risen-none, risen-then}
+use Rattle.window_steps.specs.views_Moving.{IsMoved}
+use Rattle.window_steps.specs.views_Rebuilding.{AreSparesFree}
+use Rattle.window_steps.specs.views_Lacking.{IsOfStripe, AreOtherRowsKept}
+use Rattle.window_steps.proofs.views_MovedLaws.{moved-then, moved-same, grows-none, grows-then, moved-from}
+use Rattle.window_steps.proofs.views_LackingLaws.{since-same, since-then, in-either}
+use Rattle.window_steps.proofs.views_LackingLists.{none-of}
+use Rattle.window_steps.proofs.views_SafeStretch.{safe-none}
+use Rattle.window_steps.proofs.views_MendedParts.{safe-part}
 use Rattle.window_steps.specs.safe_updates_Unused.{IsUnusedKept}
 use Rattle.window_steps.proofs.safe_updates_Unused.{unused-then}
 use Rattle.window_steps.specs.Copying.{AreHeadersKept}

@@ -6,13 +6,13 @@ use Rattle.geometry.specs.Geometry.{stripes}
 use Rattle.superblocks.specs.Reading.{is_clean}
 use Rattle.row_io.specs.Rows.{present, reading_of}
 use Rattle.flat_history.specs.World.{World}
-use Rattle.shape_views.specs.Views.{Ledger}
-use Rattle.shape_views.specs.Windows.{IsCopyable}
-use Rattle.shape_changes.specs.Safety.{HasRoomLeft, IsRisen}
-use Rattle.shape_changes.specs.Steady.{IsSafeOver, KeepsSafe, AreGoneTold, IsUncleanTold}
-use Rattle.views.specs.Moving.{Grows, IsMoved}
-use Rattle.views.specs.Lacking.{HaveFailedSince, AreOtherRowsKept}
-use Rattle.window_rows.specs.Copies.{tail_of, IsCopied}
+use Rattle.window_steps.specs.shape_views_Views.{Ledger}
+use Rattle.window_steps.specs.shape_views_Windows.{IsCopyable}
+use Rattle.window_steps.specs.shape_changes_Safety.{HasRoomLeft, IsRisen}
+use Rattle.window_steps.specs.shape_changes_Steady.{IsSafeOver, KeepsSafe, AreGoneTold, IsUncleanTold}
+use Rattle.window_steps.specs.views_Moving.{Grows, IsMoved}
+use Rattle.window_steps.specs.views_Lacking.{HaveFailedSince, AreOtherRowsKept}
+use Rattle.window_steps.specs.window_rows_Copies.{tail_of, IsCopied}
 use Rattle.window_steps.specs.safe_updates_Unused.{IsUnusedKept}
 use Rattle.window_steps.specs.Copying.{AreHeadersKept}
 use Rattle.window_calls.specs.Finishing.{IsOfRest, AreStripesCopied}

@@ -13,19 +13,19 @@ use Rattle.superblocks.specs.Reading.{final_shape, next_window}
 use Rattle.row_io.specs.Rows.{present, reading_of}
 use Rattle.flat_history.specs.World.{World}
 use Rattle.flat_history.specs.Sound.{OpensFit}
-use Rattle.shape_views.specs.Regions.{ArePlaced}
-use Rattle.shape_views.specs.Views.{AreHeadersFit, Ledger}
-use Rattle.shape_views.specs.Windows.{HasNoSection, moved_past}
-use Rattle.shape_changes.specs.Marking.{AreOthersPresent}
-use Rattle.shape_changes.proofs.Risen.{risen-then, room-first, room-then}
-use Rattle.views.specs.Moving.{IsMoved}
-use Rattle.views.specs.Rebuilding.{AreSparesFree}
-use Rattle.views.specs.Lacking.{AreOtherRowsKept}
-use Rattle.views.proofs.HeldRows.{without-before}
-use Rattle.views.proofs.LackingLaws.{since-then, in-either, holders-at}
-use Rattle.views.proofs.LackingLists.{none-of}
-use Rattle.views.proofs.MovedLaws.{moved-then, grows-then}
-use Rattle.views.proofs.SafeStretch.{safe-then, over-at, keeps-from, grows-longer}
+use Rattle.window_steps.specs.shape_views_Regions.{ArePlaced}
+use Rattle.window_steps.specs.shape_views_Views.{AreHeadersFit, Ledger}
+use Rattle.window_steps.specs.shape_views_Windows.{HasNoSection, moved_past}
+use Rattle.window_steps.specs.shape_changes_Marking.{AreOthersPresent}
+use Rattle.window_steps.proofs.shape_changes_Risen.{risen-then, room-first, room-then}
+use Rattle.window_steps.specs.views_Moving.{IsMoved}
+use Rattle.window_steps.specs.views_Rebuilding.{AreSparesFree}
+use Rattle.window_steps.specs.views_Lacking.{AreOtherRowsKept}
+use Rattle.window_steps.proofs.views_HeldRows.{without-before}
+use Rattle.window_steps.proofs.views_LackingLaws.{since-then, in-either, holders-at}
+use Rattle.window_steps.proofs.views_LackingLists.{none-of}
+use Rattle.window_steps.proofs.views_MovedLaws.{moved-then, grows-then}
+use Rattle.window_steps.proofs.views_SafeStretch.{safe-then, over-at, keeps-from, grows-longer}
 use Rattle.window_steps.specs.safe_updates_Unused.{IsUnusedKept}
 use Rattle.window_steps.proofs.safe_updates_Unused.{unused-then}
 use Rattle.window_steps.specs.Recording.{AreOthersFewer, IsCopiedWindow, IsRecorded}

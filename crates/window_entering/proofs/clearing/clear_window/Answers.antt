@@ -7,10 +7,10 @@ use Rattle.row_io.proofs.RowBytes.{on_ok}
 use Rattle.backup.specs.Written.{cleared_header}
 use Rattle.backup.specs.Storing.{IsHeading, IsHeaded}
 use Rattle.flat_history.specs.Sound.{OpensFit}
-use Rattle.shape_views.specs.Views.{Disk}
-use Rattle.shape_views.proofs.BackupLaws.{cleared-closed}
-use Rattle.shape_changes.specs.Steady.{KeepsSafe}
-use Rattle.views.proofs.SafeStretch.{safe-none}
+use Rattle.course_kept.specs.shape_views_Views.{Disk}
+use Rattle.course_kept.proofs.shape_views_BackupLaws.{cleared-closed}
+use Rattle.course_kept.specs.shape_changes_Steady.{KeepsSafe}
+use Rattle.course_kept.proofs.views_SafeStretch.{safe-none}
 use Rattle.window_entering.proofs.SectionLaws.{unsure-still, marks-by, cleared-safe, at-end, on-err}
 use Rattle.window_entering.proofs.clearing.clear_window.Given.{Over}
 use Rattle.window_entering.proofs.clearing.clear_window.Goals.{After-clear_section}

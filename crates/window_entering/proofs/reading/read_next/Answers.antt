@@ -1,10 +1,10 @@
 use Rattle.std.proofs.Common.{◌+◌, ◌/◌, None, length, ◌∙◌, arith}
 use Rattle.superblocks.proofs.ValidFields.{few-roles}
 use Rattle.row_io.specs.Rows.{present}
-use Rattle.shape_views.proofs.Stands.{span-order, window-inside}
-use Rattle.views.specs.Placed.{AreWhole}
-use Rattle.views.proofs.Fit.{list-alike}
-use Rattle.views.proofs.LackingLaws.{lost-since}
+use Rattle.course_kept.proofs.shape_views_Stands.{span-order, window-inside}
+use Rattle.course_kept.specs.views_Placed.{AreWhole}
+use Rattle.course_kept.proofs.views_Fit.{list-alike}
+use Rattle.course_kept.proofs.views_LackingLaws.{lost-since}
 use Rattle.region_rows.specs.Stretches.{IsShapeOf}
 use Rattle.course_kept.proofs.window_steps_CopyLaws.{window-alike}
 use Rattle.window_entering.proofs.WindowReads.{window-end, refused-many, none-read, stands-in, rows-in, has-window}

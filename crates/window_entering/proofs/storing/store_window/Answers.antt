@@ -4,8 +4,8 @@ use Rattle.row_io.proofs.RowBytes.{on_ok}
 use Rattle.backup.specs.Written.{header_of}
 use Rattle.backup.specs.Storing.{IsStoringOrNaming}
 use Rattle.flat_history.specs.Sound.{OpensFit}
-use Rattle.shape_views.specs.Views.{Disk}
-use Rattle.shape_views.proofs.BackupLaws.{stored-closed}
+use Rattle.course_kept.specs.shape_views_Views.{Disk}
+use Rattle.course_kept.proofs.shape_views_BackupLaws.{stored-closed}
 use Rattle.window_entering.proofs.SectionLaws.{opened, unsure, marks-by, saved-safe}
 use Rattle.window_entering.proofs.storing.store_window.Given.{Over}
 use Rattle.window_entering.proofs.storing.store_window.Goals.{After-write_section}

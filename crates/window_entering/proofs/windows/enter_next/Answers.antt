@@ -10,16 +10,16 @@ use Rattle.superblocks.specs.declared.members.Members.{Members}
 use Rattle.superblocks.specs.Reading.{next_window}
 use Rattle.row_io.specs.Rows.{present}
 use Rattle.flat_history.specs.Sound.{OpensFit}
-use Rattle.shape_views.specs.Regions.{DoWithout}
-use Rattle.shape_views.specs.Windows.{HasNoSection}
-use Rattle.shape_views.proofs.Headers.{window-filled}
-use Rattle.shape_changes.proofs.Risen.{risen-then, risen-none, room-first}
-use Rattle.views.specs.Lacking.{AreTooMany}
-use Rattle.views.specs.Moving.{IsMoved}
-use Rattle.views.proofs.LackingWrites.{others-same}
-use Rattle.views.proofs.LiveLeft.{without-left}
-use Rattle.views.proofs.MovedLaws.{grows-then}
-use Rattle.views.proofs.SafeStretch.{allowed-later, grows-longer, over-at, keeps-from, safe-then}
+use Rattle.course_kept.specs.shape_views_Regions.{DoWithout}
+use Rattle.course_kept.specs.shape_views_Windows.{HasNoSection}
+use Rattle.course_kept.proofs.shape_views_Headers.{window-filled}
+use Rattle.course_kept.proofs.shape_changes_Risen.{risen-then, risen-none, room-first}
+use Rattle.course_kept.specs.views_Lacking.{AreTooMany}
+use Rattle.course_kept.specs.views_Moving.{IsMoved}
+use Rattle.course_kept.proofs.views_LackingWrites.{others-same}
+use Rattle.course_kept.proofs.views_LiveLeft.{without-left}
+use Rattle.course_kept.proofs.views_MovedLaws.{grows-then}
+use Rattle.course_kept.proofs.views_SafeStretch.{allowed-later, grows-longer, over-at, keeps-from, safe-then}
 use Rattle.course_kept.proofs.window_steps_CopyLaws.{window-alike}
 use Rattle.grow_asked.specs.declared.window.Window.{Window}
 use Rattle.grow_asked.specs.declared.window.Window.TheVariants.{Closed, Entered, Unsure}

@@ -1,8 +1,8 @@
 use Rattle.std.proofs.Common.{Bool, sym, subst}
 use Rattle.bank.specs.Tape.{disk}
 use Rattle.flat_history.specs.Sound.{OpensFit}
-use Rattle.views.proofs.MarkedLaws.{grows-marks}
-use Rattle.views.proofs.SafeStretch.{safe-none}
+use Rattle.course_kept.proofs.views_MarkedLaws.{grows-marks}
+use Rattle.course_kept.proofs.views_SafeStretch.{safe-none}
 use Rattle.course_kept.specs.Course.{IsStored}
 use Rattle.window_entering.specs.Entering.{window_behind}
 use Rattle.window_entering.proofs.StoredLaws.{section-stored}

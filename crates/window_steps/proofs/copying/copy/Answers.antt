@@ -8,17 +8,17 @@ use Rattle.safe_updates.proofs.Unused.{unused-then}
 use Rattle.row_io.specs.Rows.{present, reading_of}
 use Rattle.list_io.specs.Full.{RowStands}
 use Rattle.flat_history.specs.Sound.{OpensFit}
-use Rattle.shape_views.specs.Windows.{IsCopyable}
-use Rattle.shape_changes.proofs.Risen.{risen-none, risen-then}
-use Rattle.views.specs.Moving.{IsMoved}
-use Rattle.views.specs.Rebuilding.{AreSparesFree}
-use Rattle.views.specs.Lacking.{AreOtherRowsKept}
-use Rattle.views.proofs.Fit.{force-valid}
-use Rattle.views.proofs.MovedLaws.{moved-then, moved-same, grows-none, grows-then, moved-from}
-use Rattle.views.proofs.LackingLaws.{since-same, since-then, in-either}
-use Rattle.views.proofs.LackingLists.{none-of}
-use Rattle.views.proofs.SafeStretch.{safe-none}
-use Rattle.views.proofs.MendedParts.{safe-part}
+use Rattle.safe_updates.specs.shape_views_Windows.{IsCopyable}
+use Rattle.safe_updates.proofs.shape_changes_Risen.{risen-none, risen-then}
+use Rattle.safe_updates.specs.views_Moving.{IsMoved}
+use Rattle.safe_updates.specs.views_Rebuilding.{AreSparesFree}
+use Rattle.safe_updates.specs.views_Lacking.{AreOtherRowsKept}
+use Rattle.safe_updates.proofs.views_Fit.{force-valid}
+use Rattle.safe_updates.proofs.views_MovedLaws.{moved-then, moved-same, grows-none, grows-then, moved-from}
+use Rattle.safe_updates.proofs.views_LackingLaws.{since-same, since-then, in-either}
+use Rattle.safe_updates.proofs.views_LackingLists.{none-of}
+use Rattle.safe_updates.proofs.views_SafeStretch.{safe-none}
+use Rattle.safe_updates.proofs.views_MendedParts.{safe-part}
 use Rattle.window_steps.specs.Copying.{IsOfStripeFrom, AreHeadersKept}
 use Rattle.window_steps.proofs.CopyLaws.{row-later, window-alike, tail-alike, refused-of, others-join}
 use Rattle.window_steps.proofs.copying.copy.Goals as goal

@@ -6,13 +6,13 @@ use Rattle.superblocks.specs.Reading.{is_clean}
 use Rattle.row_io.specs.Rows.{present, reading_of}
 use Rattle.list_io.specs.Full.{RowStands}
 use Rattle.flat_history.specs.World.{World}
-use Rattle.shape_views.specs.Views.{Ledger}
-use Rattle.shape_views.specs.Windows.{IsCopyable}
-use Rattle.shape_changes.specs.Safety.{HasLiveSlot, HasRoomLeft, IsRisen}
+use Rattle.safe_updates.specs.shape_views_Views.{Ledger}
+use Rattle.safe_updates.specs.shape_views_Windows.{IsCopyable}
+use Rattle.safe_updates.specs.shape_changes_Safety.{HasLiveSlot, HasRoomLeft, IsRisen}
 use Rattle.safe_updates.specs.Named.{AreNamedMissing}
-use Rattle.shape_changes.specs.Steady.{IsSafeOver, KeepsSafe, AreGoneTold, IsUncleanTold}
-use Rattle.views.specs.Moving.{Grows, IsMoved}
-use Rattle.views.specs.Lacking.{HaveFailedSince, AreOtherRowsKept}
+use Rattle.safe_updates.specs.shape_changes_Steady.{IsSafeOver, KeepsSafe, AreGoneTold, IsUncleanTold}
+use Rattle.safe_updates.specs.views_Moving.{Grows, IsMoved}
+use Rattle.safe_updates.specs.views_Lacking.{HaveFailedSince, AreOtherRowsKept}
 use Rattle.window_rows.specs.Copies.{tail_of, IsCopied}
 use Rattle.safe_updates.specs.Unused.{IsUnusedKept}
 use Rattle.window_steps.specs.Copying.{IsOfStripeFrom, AreHeadersKept}

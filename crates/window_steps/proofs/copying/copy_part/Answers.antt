@@ -8,21 +8,21 @@ use Rattle.bank.specs.Tape.{EachMark, disk}
 use Rattle.row_io.proofs.Turns.{marks_last}
 use Rattle.row_io.specs.Rows.{present}
 use Rattle.flat_history.specs.Sound.{OpensFit}
-use Rattle.shape_views.specs.Regions.{backup_of, DoWithout}
-use Rattle.shape_changes.specs.Marking.{AreOthersPresent}
-use Rattle.shape_changes.proofs.Risen.{risen-then, room-then}
-use Rattle.views.specs.Moving.{IsMoved}
-use Rattle.views.specs.Rebuilding.{AreSparesFree}
-use Rattle.views.specs.Lacking.{DoesWithout, AreTooMany}
-use Rattle.views.proofs.HeldRows.{shape-without-before}
+use Rattle.safe_updates.specs.shape_views_Regions.{backup_of, DoWithout}
+use Rattle.safe_updates.specs.shape_changes_Marking.{AreOthersPresent}
+use Rattle.safe_updates.proofs.shape_changes_Risen.{risen-then, room-then}
+use Rattle.safe_updates.specs.views_Moving.{IsMoved}
+use Rattle.safe_updates.specs.views_Rebuilding.{AreSparesFree}
+use Rattle.safe_updates.specs.views_Lacking.{DoesWithout, AreTooMany}
+use Rattle.safe_updates.proofs.views_HeldRows.{shape-without-before}
 use Rattle.safe_updates.specs.Named.{AreDataKept}
 use Rattle.safe_updates.proofs.Unused.{rest-unused, unused-then}
-use Rattle.views.specs.Under.{IsRestKept}
+use Rattle.safe_updates.specs.views_Under.{IsRestKept}
 use Rattle.window_steps.specs.Copying.{IsOfStripeFrom}
-use Rattle.views.proofs.MovedLaws.{moved-then, moved-from, grows-then}
-use Rattle.views.proofs.LackingLaws.{since-then, in-second}
-use Rattle.views.proofs.LackingWrites.{others-then, others-same}
-use Rattle.views.proofs.SafeStretch.{safe-then, over-at, keeps-from}
+use Rattle.safe_updates.proofs.views_MovedLaws.{moved-then, moved-from, grows-then}
+use Rattle.safe_updates.proofs.views_LackingLaws.{since-then, in-second}
+use Rattle.safe_updates.proofs.views_LackingWrites.{others-then, others-same}
+use Rattle.safe_updates.proofs.views_SafeStretch.{safe-then, over-at, keeps-from}
 use Rattle.window_steps.proofs.CopyLaws.{row-later, copyable-later, kept-less}
 use Rattle.window_steps.proofs.copying.copy_part.Goals as goal
 

@@ -6,19 +6,19 @@ use Rattle.safe_updates.proofs.Unused.{unused-role}
 use Rattle.row_io.proofs.Turns.{marks_last}
 use Rattle.superblocks.specs.Reading.{shape_of, data_offset_of}
 use Rattle.list_io.specs.Full.{RowStands}
-use Rattle.shape_views.specs.Regions.{backup_of}
-use Rattle.views.specs.Placed.{HaveSameReshape}
+use Rattle.safe_updates.specs.shape_views_Regions.{backup_of}
+use Rattle.safe_updates.specs.views_Placed.{HaveSameReshape}
 use Rattle.bank.specs.Given.{Given}
 use Rattle.superblocks.specs.declared.members.Members.{Members}
 use Rattle.row_io.specs.Rows.{present, reading_of}
 use Rattle.flat_history.specs.Sound.{OpensFit}
-use Rattle.shape_changes.proofs.Risen.{risen-lost}
-use Rattle.views.specs.Placed.{AreLost}
-use Rattle.views.proofs.Fit.{has-rows, reshape-same}
-use Rattle.views.proofs.MemberLaws.{are_lost}
-use Rattle.views.proofs.MovedLaws.{moved-lost}
-use Rattle.views.proofs.MarkedLaws.{grows-marks}
-use Rattle.views.proofs.LackingLaws.{since-lost}
+use Rattle.safe_updates.proofs.shape_changes_Risen.{risen-lost}
+use Rattle.safe_updates.specs.views_Placed.{AreLost}
+use Rattle.safe_updates.proofs.views_Fit.{has-rows, reshape-same}
+use Rattle.safe_updates.proofs.views_MemberLaws.{are_lost}
+use Rattle.safe_updates.proofs.views_MovedLaws.{moved-lost}
+use Rattle.safe_updates.proofs.views_MarkedLaws.{grows-marks}
+use Rattle.safe_updates.proofs.views_LackingLaws.{since-lost}
 use Rattle.window_steps.proofs.CopyLaws.{copyable-later, out-of, safe-copied}
 use Rattle.window_steps.proofs.copying.copy_stretch.Goals as goal
 

@@ -16,13 +16,13 @@ use Rattle.backup.specs.Written.{header_of}
 use Rattle.backup.specs.Storing.{IsStoring, IsNaming, IsStoringOrNaming}
 use Rattle.flat_history.specs.World.{World}
 use Rattle.flat_history.specs.Sound.{OpensFit}
-use Rattle.shape_views.specs.Views.{Disk, Ledger}
-use Rattle.shape_views.proofs.BackupLaws.{stored-closed}
-use Rattle.shape_changes.specs.Safety.{HasLiveSlot}
-use Rattle.shape_changes.specs.Steady.{IsSafeOver, KeepsSafe}
+use Rattle.safe_updates.specs.shape_views_Views.{Disk, Ledger}
+use Rattle.safe_updates.proofs.shape_views_BackupLaws.{stored-closed}
+use Rattle.safe_updates.specs.shape_changes_Safety.{HasLiveSlot}
+use Rattle.safe_updates.specs.shape_changes_Steady.{IsSafeOver, KeepsSafe}
 use Rattle.window_rows.specs.Copies.{IsRoomFor, AreLackingGood}
 use Rattle.window_steps.specs.Entering.{IsRead, IsEnterable}
-use Rattle.shape_views.proofs.Headers.{window-filled, window-short}
+use Rattle.safe_updates.proofs.shape_views_Headers.{window-filled, window-short}
 use Rattle.window_steps.proofs.EnterLaws.{read-section, opened, unsure, copyable, read-or, entered, was-read, tolerated, lost-later, none-still, left-live, read-safe, saved-safe}
 use Rattle.window_steps.proofs.entering.enter_window.Given.{Over}
 use Rattle.window_steps.proofs.entering.enter_window.Goals.{After-save-answer}

@@ -4,14 +4,14 @@ use Rattle.bank.specs.Tape.{EachMark, disk}
 use Rattle.bank.proofs.Laws.{kept_in}
 use Rattle.row_io.proofs.Turns.{marks_last}
 use Rattle.row_io.specs.Rows.{present, reading_of}
-use Rattle.shape_views.specs.Windows.{moved_past}
-use Rattle.shape_changes.specs.Marking.{AreOthersPresent}
-use Rattle.shape_changes.proofs.Risen.{risen-then}
-use Rattle.views.specs.Rebuilding.{AreSparesFree}
-use Rattle.views.specs.Under.{IsRestKept}
-use Rattle.views.proofs.LackingLaws.{since-then, in-either, holders-fewer, holders-at}
-use Rattle.views.proofs.MendedParts.{safe-part}
-use Rattle.views.proofs.MovedLaws.{moved-then, moved-from, grows-then}
+use Rattle.safe_updates.specs.shape_views_Windows.{moved_past}
+use Rattle.safe_updates.specs.shape_changes_Marking.{AreOthersPresent}
+use Rattle.safe_updates.proofs.shape_changes_Risen.{risen-then}
+use Rattle.safe_updates.specs.views_Rebuilding.{AreSparesFree}
+use Rattle.safe_updates.specs.views_Under.{IsRestKept}
+use Rattle.safe_updates.proofs.views_LackingLaws.{since-then, in-either, holders-fewer, holders-at}
+use Rattle.safe_updates.proofs.views_MendedParts.{safe-part}
+use Rattle.safe_updates.proofs.views_MovedLaws.{moved-then, moved-from, grows-then}
 use Rattle.safe_updates.specs.Named.{AreDataKept}
 use Rattle.safe_updates.proofs.Unused.{rest-unused, unused-then}
 use Rattle.window_steps.proofs.PastLaws.{free-moved}

@@ -10,18 +10,18 @@ use Rattle.superblocks.specs.Outcome.{live_set, is_left}
 use Rattle.superblocks.proofs.SlotSets.{none_above}
 use Rattle.row_io.specs.Rows.{reading_of}
 use Rattle.flat_history.specs.Sound.{OpensFit}
-use Rattle.shape_views.specs.Windows.{moved_past}
-use Rattle.shape_changes.specs.Kinds.{recording}
-use Rattle.shape_changes.proofs.ChangeSafe.{told-changed, one-stretch}
-use Rattle.shape_changes.proofs.Kept.{give_of-same}
-use Rattle.shape_changes.proofs.KeptSafe.{kept-safe}
-use Rattle.views.specs.Placed.{IsPlaced, AreLess}
-use Rattle.views.proofs.Fit.{few}
-use Rattle.views.proofs.LackingLaws.{since-failed, holders-updated}
-use Rattle.views.proofs.MarkLaws.{few-planned}
-use Rattle.views.proofs.MarkedLaws.{grows-marks, others-updated, failed-marked}
-use Rattle.views.proofs.MovedLaws.{moved-less}
-use Rattle.views.proofs.PlacedLaws.{placed-less, less-unlost}
+use Rattle.safe_updates.specs.shape_views_Windows.{moved_past}
+use Rattle.safe_updates.specs.shape_changes_Kinds.{recording}
+use Rattle.safe_updates.proofs.shape_changes_ChangeSafe.{told-changed, one-stretch}
+use Rattle.safe_updates.proofs.shape_changes_Kept.{give_of-same}
+use Rattle.safe_updates.proofs.shape_changes_KeptSafe.{kept-safe}
+use Rattle.safe_updates.specs.views_Placed.{IsPlaced, AreLess}
+use Rattle.safe_updates.proofs.views_Fit.{few}
+use Rattle.safe_updates.proofs.views_LackingLaws.{since-failed, holders-updated}
+use Rattle.safe_updates.proofs.views_MarkLaws.{few-planned}
+use Rattle.safe_updates.proofs.views_MarkedLaws.{grows-marks, others-updated, failed-marked}
+use Rattle.safe_updates.proofs.views_MovedLaws.{moved-less}
+use Rattle.safe_updates.proofs.views_PlacedLaws.{placed-less, less-unlost}
 use Rattle.safe_updates.proofs.SparesLaws.{spare-left, spare-stays, free-told}
 use Rattle.window_steps.proofs.PastLaws.{past-placed, past-less, past-clean, since-past}
 use Rattle.window_steps.proofs.recording.put_position.Given.{Over}

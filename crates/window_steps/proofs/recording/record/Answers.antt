@@ -5,19 +5,19 @@ use Rattle.bank.specs.Given.{Given}
 use Rattle.bank.specs.Tape.{disk}
 use Rattle.row_io.specs.Rows.{present, reading_of}
 use Rattle.flat_history.specs.Sound.{OpensFit}
-use Rattle.shape_views.specs.Regions.{DoWithout}
-use Rattle.shape_views.specs.Views.{Disk, IsViewRight}
-use Rattle.shape_views.specs.Windows.{moved_past}
-use Rattle.shape_changes.specs.Marking.{AreOthersPresent}
-use Rattle.shape_changes.specs.Steady.{IsSteady}
-use Rattle.shape_changes.proofs.Risen.{risen-then, room-first, room-then}
-use Rattle.views.specs.Lacking.{AreTooMany}
-use Rattle.views.specs.Moving.{IsMoved}
-use Rattle.views.specs.Rebuilding.{AreSparesFree}
-use Rattle.views.proofs.LackingLaws.{since-then, in-either, holders-at}
-use Rattle.views.proofs.LackingLists.{none-of}
-use Rattle.views.proofs.MovedLaws.{moved-then, grows-then}
-use Rattle.views.proofs.SafeStretch.{safe-then, over-at, keeps-from, grows-longer}
+use Rattle.safe_updates.specs.shape_views_Regions.{DoWithout}
+use Rattle.safe_updates.specs.shape_views_Views.{Disk, IsViewRight}
+use Rattle.safe_updates.specs.shape_views_Windows.{moved_past}
+use Rattle.safe_updates.specs.shape_changes_Marking.{AreOthersPresent}
+use Rattle.safe_updates.specs.shape_changes_Steady.{IsSteady}
+use Rattle.safe_updates.proofs.shape_changes_Risen.{risen-then, room-first, room-then}
+use Rattle.safe_updates.specs.views_Lacking.{AreTooMany}
+use Rattle.safe_updates.specs.views_Moving.{IsMoved}
+use Rattle.safe_updates.specs.views_Rebuilding.{AreSparesFree}
+use Rattle.safe_updates.proofs.views_LackingLaws.{since-then, in-either, holders-at}
+use Rattle.safe_updates.proofs.views_LackingLists.{none-of}
+use Rattle.safe_updates.proofs.views_MovedLaws.{moved-then, grows-then}
+use Rattle.safe_updates.proofs.views_SafeStretch.{safe-then, over-at, keeps-from, grows-longer}
 use Rattle.safe_updates.specs.Unused.{IsUnusedKept}
 use Rattle.safe_updates.proofs.Unused.{rest-unused, unused-then}
 use Rattle.window_steps.specs.Recording.{AreOthersFewer}

@@ -4,13 +4,13 @@ use Rattle.list_io.specs.Full.{RowStands}
 use Rattle.bank.specs.Given.{Given}
 use Rattle.row_io.specs.Rows.{present, reading_of}
 use Rattle.flat_history.specs.Sound.{OpensFit}
-use Rattle.shape_changes.proofs.Risen.{risen-lost}
-use Rattle.views.specs.Placed.{AreLost}
-use Rattle.views.proofs.Fit.{has-rows}
-use Rattle.views.proofs.MemberLaws.{are_lost}
-use Rattle.views.proofs.MovedLaws.{moved-lost}
-use Rattle.views.proofs.MarkedLaws.{grows-marks}
-use Rattle.views.proofs.LackingLaws.{since-lost}
+use Rattle.safe_updates.proofs.shape_changes_Risen.{risen-lost}
+use Rattle.safe_updates.specs.views_Placed.{AreLost}
+use Rattle.safe_updates.proofs.views_Fit.{has-rows}
+use Rattle.safe_updates.proofs.views_MemberLaws.{are_lost}
+use Rattle.safe_updates.proofs.views_MovedLaws.{moved-lost}
+use Rattle.safe_updates.proofs.views_MarkedLaws.{grows-marks}
+use Rattle.safe_updates.proofs.views_LackingLaws.{since-lost}
 use Rattle.window_steps.proofs.CopyLaws.{out-of}
 use Rattle.window_steps.proofs.ZeroLaws.{safe-zeroed}
 use Rattle.md_base.specs.Sectors.{Sector}

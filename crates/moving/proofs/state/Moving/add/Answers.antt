@@ -17,7 +17,7 @@ use Rattle.moving_laws.specs.array_kept_Calls.{IsUnaddable, IsAddedFor}
 use Rattle.moving_laws.proofs.array_kept_LossLaws.{ended-behind}
 use Rattle.moving_laws.proofs.array_kept_ReadyLaws.{scope-same}
 use Rattle.moving_laws.proofs.calls_kept_AddLaws.{slot-there, unadded_reply}
-use Rattle.kept_history.proofs.Records.{begins-going}
+use Rattle.moving_laws.proofs.kept_history_Records.{begins-going}
 use Rattle.moving_laws.proofs.moving_kept_AddedSpare.{unadded-moves}
 use Rattle.moving_laws.specs.running_words_Parts.{left_in}
 use Rattle.moving_laws.specs.Ready.{bytes_in}

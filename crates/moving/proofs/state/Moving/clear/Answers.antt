@@ -12,7 +12,7 @@ use Rattle.moving_laws.proofs.array_kept_LossLaws.{ended-behind}
 use Rattle.moving_laws.proofs.array_kept_ReadyLaws.{scope-same}
 use Rattle.grow_asked.specs.declared.window.Window.{Window}
 use Rattle.grow_asked.specs.declared.window.Window.TheVariants.{Unsure}
-use Rattle.kept_history.specs.Recorded.{IsCallGoing}
+use Rattle.moving_laws.specs.kept_history_Recorded.{IsCallGoing}
 use Rattle.moving_laws.specs.course_kept_the_Course.{Course}
 use Rattle.moving_laws.specs.course_kept_Course.{IsWindowOf, IsCourseOf}
 use Rattle.moving_laws.specs.moving_kept_Moving.{AreReshaping}

@@ -4,7 +4,7 @@ use Rattle.md_base.specs.Shapes.{stripe_sectors}
 use Rattle.geometry.proofs.ClosedForms.{ceiling_below}
 use Rattle.geometry.proofs.Valid.{bounded}
 use Rattle.superblocks.specs.Reading.{final_shape, list_length}
-use Rattle.shape_views.proofs.Stands.{window-inside}
+use Rattle.moving_laws.proofs.shape_views_Stands.{window-inside}
 use Rattle.views.specs.Lacking.{AreTooMany}
 use Rattle.moving_laws.proofs.array_kept_ReplyLaws.{too-many-of, refused-for}
 use Rattle.flat_history.specs.declared.events.Event.TheVariants.{Refused, Step}
@@ -17,9 +17,9 @@ use Rattle.moving_laws.specs.array_kept_Kept.{scope_in}
 use Rattle.moving_laws.proofs.array_kept_LossLaws.{losses-behind, ended-behind, behind-alone}
 use Rattle.moving_laws.proofs.array_kept_ReadyLaws.{scope-same}
 use Rattle.views.proofs.LackingLaws.{never-both}
-use Rattle.window_rows.specs.Copies.{tail_of, IsCopied}
-use Rattle.kept_history.specs.Recorded.{IsCallGoing}
-use Rattle.kept_history.specs.Safe.{world_in}
+use Rattle.moving_laws.specs.window_rows_Copies.{tail_of, IsCopied}
+use Rattle.moving_laws.specs.kept_history_Recorded.{IsCallGoing}
+use Rattle.moving_laws.specs.kept_history_Safe.{world_in}
 use Rattle.moving_laws.specs.course_kept_the_Course.{Course}
 use Rattle.moving_laws.specs.course_kept_Course.{IsWindowOf}
 use Rattle.moving_laws.proofs.moving_state_ReshapeLaws.{window-reach, list-short}

@@ -13,8 +13,8 @@ use Rattle.moving_laws.specs.array_kept_Kept.{scope_in}
 use Rattle.moving_laws.proofs.array_kept_LossLaws.{losses-behind, ended-behind, behind-alone}
 use Rattle.moving_laws.proofs.array_kept_ReadyLaws.{scope-same}
 use Rattle.moving_laws.proofs.array_kept_ReplyLaws.{refused-for, too-many-of}
-use Rattle.kept_history.specs.Recorded.{IsCallGoing}
-use Rattle.kept_history.specs.Safe.{world_in}
+use Rattle.moving_laws.specs.kept_history_Recorded.{IsCallGoing}
+use Rattle.moving_laws.specs.kept_history_Safe.{world_in}
 use Rattle.moving_laws.proofs.moving_kept_Flushing.{AreFlushed, AreSettled}
 use Rattle.moving_laws.proofs.moving_kept_Refusals.{quiet-refusal, refused-right}
 use Rattle.moving_laws.proofs.moving_kept_Resting.{resting-moves}

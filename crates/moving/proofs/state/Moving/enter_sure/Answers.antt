@@ -16,8 +16,8 @@ use Rattle.call_entries.specs.Losing.{losses_of}
 use Rattle.moving_laws.specs.array_kept_Kept.{scope_in}
 use Rattle.moving_laws.proofs.array_kept_LossLaws.{losses-behind, ended-behind, behind-alone}
 use Rattle.moving_laws.proofs.array_kept_ReadyLaws.{scope-same}
-use Rattle.kept_history.specs.Recorded.{IsCallGoing}
-use Rattle.kept_history.specs.Safe.{world_in, OpensOnCourse}
+use Rattle.moving_laws.specs.kept_history_Recorded.{IsCallGoing}
+use Rattle.moving_laws.specs.kept_history_Safe.{world_in, OpensOnCourse}
 use Rattle.grow_asked.specs.declared.window.Window.TheVariants.{Unsure}
 use Rattle.moving_laws.specs.course_kept_the_Course.{Course}
 use Rattle.moving_laws.specs.course_kept_Course.{IsStored}

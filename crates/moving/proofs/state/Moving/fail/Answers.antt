@@ -20,8 +20,8 @@ use Rattle.moving_laws.proofs.array_kept_ReadyLaws.{scope-same}
 use Rattle.moving_laws.proofs.array_kept_ReplyLaws.{fail_reply, no_role_reply}
 use Rattle.moving_laws.proofs.array_kept_LossLaws.{losses-failed, ended-behind}
 use Rattle.moving_laws.proofs.calls_kept_FailedLaws.{placed-out, unlost-out, moved-out, out-vacant}
-use Rattle.kept_history.specs.Safe.{world_in}
-use Rattle.kept_history.proofs.Records.{begins-going}
+use Rattle.moving_laws.specs.kept_history_Safe.{world_in}
+use Rattle.moving_laws.proofs.kept_history_Records.{begins-going}
 use Rattle.moving_laws.specs.moving_kept_Moving.{IsMoving}
 use Rattle.moving_laws.proofs.moving_kept_Failing.{failed-moves}
 use Rattle.moving_laws.proofs.moving_kept_Refusals.{quiet-refusal}

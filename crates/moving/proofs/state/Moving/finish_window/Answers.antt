@@ -5,7 +5,7 @@ use Rattle.row_io.specs.Rows.{present}
 use Rattle.flat_history.specs.declared.events.Event.TheVariants.{Refused, Step}
 use Rattle.flat_history.specs.declared.events.StepKind.TheVariants.{WindowFinished as FinishesWindow}
 use Rattle.flat_history.specs.Plain.{entries_of}
-use Rattle.shape_views.specs.Windows.{moved_past}
+use Rattle.moving_laws.specs.shape_views_Windows.{moved_past}
 use Rattle.views.specs.Lacking.{AreTooMany}
 use Rattle.views.specs.Numbers.{is_carried}
 use Rattle.views.proofs.LackingLaws.{never-both}
@@ -15,8 +15,8 @@ use Rattle.moving_laws.specs.array_kept_Kept.{scope_in}
 use Rattle.moving_laws.proofs.array_kept_LossLaws.{losses-behind, ended-behind, behind-alone}
 use Rattle.moving_laws.proofs.array_kept_ReadyLaws.{scope-same, list-same}
 use Rattle.moving_laws.proofs.array_kept_ReplyLaws.{too-many-of, refused-for}
-use Rattle.kept_history.specs.Recorded.{IsCallGoing}
-use Rattle.kept_history.specs.Safe.{world_in}
+use Rattle.moving_laws.specs.kept_history_Recorded.{IsCallGoing}
+use Rattle.moving_laws.specs.kept_history_Safe.{world_in}
 use Rattle.moving_laws.specs.course_kept_the_Course.{Course}
 use Rattle.grow_asked.specs.declared.window.Window.{Window}
 use Rattle.moving_laws.specs.course_kept_Course.{IsWindowOf}

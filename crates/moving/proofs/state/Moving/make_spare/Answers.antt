@@ -26,7 +26,7 @@ use Rattle.moving_laws.proofs.array_kept_ReadyLaws.{scope-same}
 use Rattle.moving_laws.proofs.calls_kept_AddLaws.{slot-there, slot-free, slot-does, slot-unspare, slot-fits, slot-room, slot-of-scope, is-free, second-half, stored-as, added_reply, faulted_reply}
 use Rattle.moving_laws.proofs.calls_kept_AddedKept.{AddsSafe, with_carried}
 use Rattle.moving_laws.proofs.calls_kept_AddedLosses.{add-done, others-lost, since-added}
-use Rattle.kept_history.proofs.Records.{begins-going}
+use Rattle.moving_laws.proofs.kept_history_Records.{begins-going}
 use Rattle.moving_laws.specs.moving_kept_Moving.{IsMoving}
 use Rattle.moving_laws.proofs.moving_kept_AddedSpare.{looked-moves, added-moves, added-lost-moves}
 use Rattle.moving_laws.specs.running_words_Parts.{left_in}

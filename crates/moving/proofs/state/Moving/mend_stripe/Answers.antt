@@ -4,7 +4,7 @@ use Rattle.superblocks.proofs.ValidFields.{few-roles}
 use Rattle.flat_history.specs.declared.events.Event.TheVariants.{Refused, Step}
 use Rattle.flat_history.specs.declared.events.StepKind.TheVariants.{ResyncStripe as MendsStripe}
 use Rattle.flat_history.specs.Plain.{entries_of}
-use Rattle.shape_views.specs.Regions.{DoWithout}
+use Rattle.moving_laws.specs.shape_views_Regions.{DoWithout}
 use Rattle.views.proofs.LackingLaws.{lost-since}
 use Rattle.views.proofs.MovedLaws.{grows-none, moved-same}
 use Rattle.views.specs.Numbers.{is_carried}
@@ -12,7 +12,7 @@ use Rattle.call_entries.specs.Losing.{losses_of}
 use Rattle.moving_laws.specs.array_kept_Kept.{scope_in}
 use Rattle.moving_laws.proofs.array_kept_LossLaws.{losses-behind, ended-behind, behind-alone}
 use Rattle.moving_laws.proofs.array_kept_ReadyLaws.{scope-same}
-use Rattle.kept_history.specs.Recorded.{IsCallGoing}
+use Rattle.moving_laws.specs.kept_history_Recorded.{IsCallGoing}
 use Rattle.moving_laws.specs.region_mends_Mends.{mend_shape, mend_refusal, IsNotMended}
 use Rattle.moving_laws.proofs.moving_kept_Steps.{missing-since}
 use Rattle.moving_laws.proofs.mending_kept_Resync.{untried-moves}

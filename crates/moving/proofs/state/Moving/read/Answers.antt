@@ -24,8 +24,8 @@ use Rattle.moving_laws.proofs.array_kept_ReplyLaws.{inside-losses, replied}
 use Rattle.moving_laws.specs.region_mends_Mends.{relied_sector}
 use Rattle.moving_laws.specs.course_kept_Course.{hidden_in}
 use Rattle.moving_laws.specs.moving_state_First.{IsUnreadAround}
-use Rattle.kept_history.specs.Safe.{world_in}
-use Rattle.kept_history.proofs.Records.{begins-going}
+use Rattle.moving_laws.specs.kept_history_Safe.{world_in}
+use Rattle.moving_laws.proofs.kept_history_Records.{begins-going}
 use Rattle.moving_laws.specs.history_calls_Reliable.{IsReliable}
 use Rattle.moving_laws.proofs.moving_kept_Refusals.{quiet-refusal}
 use Rattle.moving_laws.proofs.moving_kept_Resting.{resting-moves}

@@ -30,8 +30,8 @@ use Rattle.moving_laws.specs.region_mends_Mends.{relied_sector}
 use Rattle.moving_laws.specs.course_kept_Course.{hidden_in}
 use Rattle.moving_laws.specs.moving_state_First.{IsUnreadAround}
 use Rattle.moving_laws.specs.window_calls_Fetching.{IsUnreadBeside}
-use Rattle.kept_history.specs.Safe.{world_in}
-use Rattle.kept_history.proofs.Records.{begins-going}
+use Rattle.moving_laws.specs.kept_history_Safe.{world_in}
+use Rattle.moving_laws.proofs.kept_history_Records.{begins-going}
 use Rattle.moving_laws.specs.history_calls_Reliable.{IsReliable}
 use Rattle.moving_laws.specs.moving_kept_Moving.{IsMoving}
 use Rattle.moving_laws.proofs.moving_kept_Steps.{missing-since}
@@ -39,7 +39,7 @@ use Rattle.moving_laws.specs.Ready.{bytes_in}
 use Rattle.moving_laws.specs.running_words_Calls.{moving_world}
 use Rattle.moving_laws.specs.running_words_Parts.{visible_size, visible_in}
 use Rattle.moving_laws.proofs.running_words_Replies.{lost_reply, read_kind}
-use Rattle.moving_laws.proofs.running_words_Visible.{visible-within}
+use Rattle.moving_laws.proofs.running_words_VisibleLaws.{visible-within}
 use Rattle.moving_laws.proofs.Kept.{ready, with-buffer, shapes-moved, left-moved, behind-keeps, behind-whole, written-whole}
 use Rattle.moving_laws.proofs.running_words_Called.{not_254, called}
 use Rattle.moving_laws.proofs.Settled.{risen-told}

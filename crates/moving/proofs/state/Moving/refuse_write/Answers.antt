@@ -18,7 +18,7 @@ use Rattle.grow_asked.specs.declared.window.Window.{Window}
 use Rattle.grow_asked.specs.declared.window.Window.TheVariants.{Closed, Entered, Unsure}
 use Rattle.moving_laws.specs.region_writes_Runs.{IsListUnwritten}
 use Rattle.moving_laws.specs.region_mends_Mends.{relied_sector}
-use Rattle.kept_history.specs.Recorded.{IsCallGoing}
+use Rattle.moving_laws.specs.kept_history_Recorded.{IsCallGoing}
 use Rattle.moving_laws.proofs.moving_kept_Refusals.{quiet-refusal}
 use Rattle.moving_laws.proofs.moving_kept_Resting.{resting-moves}
 use Rattle.moving_laws.specs.running_words_Parts.{visible_size, visible_in, left_in}

@@ -9,8 +9,8 @@ use Rattle.call_entries.specs.Losing.{losses_of}
 use Rattle.moving_laws.specs.array_kept_Kept.{scope_in}
 use Rattle.moving_laws.proofs.array_kept_LossLaws.{losses-behind, ended-behind, behind-alone, settling-no-loss}
 use Rattle.moving_laws.proofs.array_kept_ReadyLaws.{scope-same, list-same}
-use Rattle.kept_history.specs.Safe.{world_in}
-use Rattle.kept_history.proofs.Records.{begins-going}
+use Rattle.moving_laws.specs.kept_history_Safe.{world_in}
+use Rattle.moving_laws.proofs.kept_history_Records.{begins-going}
 use Rattle.views.specs.Numbers.{is_carried}
 use Rattle.moving_laws.specs.moving_kept_Moving.{IsMoving}
 use Rattle.moving_laws.proofs.moving_kept_Flushing.{flushed-moves, unflushed-moves, AreFlushed}

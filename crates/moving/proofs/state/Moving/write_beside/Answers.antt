@@ -22,7 +22,7 @@ use Rattle.moving_laws.proofs.array_kept_ReplyLaws.{refused-for}
 use Rattle.moving_laws.proofs.calls_kept_ReadLaws.{some-of}
 use Rattle.moving_laws.specs.region_mends_Mends.{relied_sector}
 use Rattle.moving_laws.specs.region_writes_Runs.{IsTornTouched, IsListTorn, IsListUnwritten}
-use Rattle.kept_history.specs.Recorded.{IsCallGoing}
+use Rattle.moving_laws.specs.kept_history_Recorded.{IsCallGoing}
 use Rattle.moving_laws.specs.course_kept_Course.{span_in}
 use Rattle.moving_laws.specs.moving_kept_Moving.{IsWindowStanding}
 use Rattle.moving_laws.specs.running_words_Calls.{moving_world}
@@ -31,7 +31,7 @@ use Rattle.moving_laws.proofs.moving_kept_Resting.{resting-moves}
 use Rattle.moving_laws.proofs.moving_kept_Steps.{missing-since}
 use Rattle.moving_laws.proofs.moving_kept_Writing.{ArePut}
 use Rattle.moving_laws.specs.running_words_Parts.{visible_size, left_in}
-use Rattle.moving_laws.proofs.running_words_Visible.{visible-within}
+use Rattle.moving_laws.proofs.running_words_VisibleLaws.{visible-within}
 use Rattle.moving_laws.specs.Ready.{bytes_in}
 use Rattle.moving_laws.proofs.running_words_Called.{not_254, called, alone-lossless}
 use Rattle.moving_laws.proofs.Kept.{ready, shapes-same, shapes-moved, alone-keeps, behind-keeps, behind-whole, left-moved}

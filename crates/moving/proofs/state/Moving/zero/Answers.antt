@@ -17,8 +17,8 @@ use Rattle.moving_laws.proofs.array_kept_ReadyLaws.{scope-same}
 use Rattle.moving_laws.proofs.array_kept_ReplyLaws.{refused-for, too-many-of}
 use Rattle.grow_asked.specs.Left.{zeroed_by}
 use Rattle.moving_laws.specs.course_kept_the_Course.{Course}
-use Rattle.kept_history.specs.Recorded.{IsCallGoing}
-use Rattle.kept_history.specs.Safe.{world_in}
+use Rattle.moving_laws.specs.kept_history_Recorded.{IsCallGoing}
+use Rattle.moving_laws.specs.kept_history_Safe.{world_in}
 use Rattle.views.specs.Numbers.{is_carried}
 use Rattle.moving_laws.proofs.moving_kept_Refusals.{quiet-refusal, refused-right}
 use Rattle.moving_laws.proofs.moving_kept_Resting.{resting-moves}

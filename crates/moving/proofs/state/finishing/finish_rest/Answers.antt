@@ -4,7 +4,7 @@ use Rattle.geometry.specs.Geometry.{stripes}
 use Rattle.superblocks.specs.Reading.{final_shape}
 use Rattle.superblocks.proofs.ValidFields.{few-roles}
 use Rattle.row_io.specs.Rows.{reading_of, present}
-use Rattle.shape_views.proofs.Stands.{span-order}
+use Rattle.moving_laws.proofs.shape_views_Stands.{span-order}
 use Rattle.views.specs.Lacking.{AreOtherRowsKept}
 use Rattle.moving_laws.specs.window_calls_Finishing.{IsOfRest, AreStripesCopied}
 use Rattle.moving_laws.proofs.WriteLaws.{finished-since}

@@ -4,7 +4,7 @@ use Rattle.superblocks.specs.Reading.{final_shape}
 use Rattle.superblocks.proofs.ValidFields.{few-roles}
 use Rattle.row_io.specs.Rows.{reading_of, present}
 use Rattle.list_io.specs.Full.{RowStands}
-use Rattle.shape_views.proofs.Stands.{span-order}
+use Rattle.moving_laws.proofs.shape_views_Stands.{span-order}
 use Rattle.views.specs.Lacking.{AreOtherRowsKept, IsOfStripe}
 use Rattle.views.proofs.LackingLaws.{lost-since}
 use Rattle.moving_laws.specs.course_kept_Laws.{next_stripe}

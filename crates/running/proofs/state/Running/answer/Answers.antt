@@ -1,7 +1,7 @@
 use Rattle.std.proofs.Common.{◌≡◌, ◌≤◌, [], ◌∷◌, false, length, ap, sym, ◌∙◌, subst}
 use Rattle.superblocks.specs.Reading.{is_reshaping}
-use Rattle.views.specs.Placed.{AreWhole}
-use Rattle.kept_history.specs.Recorded.{IsCallGoing}
+use Rattle.growing.specs.views_Placed.{AreWhole}
+use Rattle.growing.specs.kept_history_Recorded.{IsCallGoing}
 use Rattle.growing.specs.still_laws_Steps.{MayAnswer}
 use Rattle.running.specs.State.{parts_in}
 use Rattle.running.specs.Calls.{IsReplyNow}

@@ -1,6 +1,6 @@
 use Rattle.std.proofs.Common.{[], ◌∷◌, ap, refl}
 use Rattle.flat_history.specs.declared.events.Event.TheVariants.{Halted}
-use Rattle.views.proofs.MovedLaws.{grows-none}
+use Rattle.growing.proofs.views_MovedLaws.{grows-none}
 use Rattle.growing.proofs.still_laws_PlansKept.{add-entered}
 use Rattle.running.proofs.Chosen.{ends-halted}
 use Rattle.running.proofs.Kept.{turned-out}

@@ -1,6 +1,6 @@
 use Rattle.std.proofs.Common.{◌≡◌, ◌<◌, length, ap, sym, ◌∙◌, subst}
 use Rattle.flat_history.specs.declared.events.StepKind.TheVariants.{RebuildEnded as EndsRebuild}
-use Rattle.views.specs.Status.{left_of}
+use Rattle.growing.specs.views_Status.{left_of}
 use Rattle.growing.specs.running_words_Calls.{moving_world}
 use Rattle.growing.specs.still_laws_Steps.{IsCallUnbroken}
 use Rattle.growing.specs.still_steps_Stepping.{next_kind}

@@ -1,5 +1,5 @@
 use Rattle.std.proofs.Common.{◌≡◌, ◌<◌, [], ◌∷◌, sym, subst, arith}
-use Rattle.views.specs.Status.{left_of}
+use Rattle.growing.specs.views_Status.{left_of}
 use Rattle.grow_asked.specs.Left.{phases_of}
 use Rattle.running.proofs.Answered.{next-own, next-none, next-begin, next-up, next-down, some-own, some-ahead}
 use Rattle.running.proofs.state.choosing.next_still.Goals as goal

@@ -15,7 +15,7 @@ use Rattle.still_laws.specs.array_kept_Calls.{IsUnaddable, IsAddedFor}
 use Rattle.still_laws.proofs.array_kept_LossLaws.{ended-behind}
 use Rattle.still_laws.proofs.array_kept_ReadyLaws.{scope-same}
 use Rattle.still_laws.proofs.calls_kept_AddLaws.{slot-there, unadded_reply}
-use Rattle.kept_history.proofs.Records.{begins-going}
+use Rattle.still_laws.proofs.kept_history_Records.{begins-going}
 use Rattle.still_laws.proofs.running_words_Called.{alone-lossless}
 use Rattle.still_laws.proofs.running_words_Lengths.{alone-keeps}
 use Rattle.still_laws.proofs.Kept.{ready, rows-same}

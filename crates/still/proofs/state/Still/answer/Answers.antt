@@ -4,7 +4,7 @@ use Rattle.views.specs.Rebuilding.{Held}
 use Rattle.views.proofs.MovedLaws.{grows-none}
 use Rattle.still_laws.proofs.array_kept_LossLaws.{ended-behind}
 use Rattle.still_laws.proofs.array_kept_ReadyLaws.{scope-same}
-use Rattle.kept_history.specs.Recorded.{IsCallGoing}
+use Rattle.still_laws.specs.kept_history_Recorded.{IsCallGoing}
 use Rattle.still_laws.proofs.running_words_Called.{alone-lossless}
 use Rattle.still_laws.specs.running_words_Calls.{moving_world}
 use Rattle.still_laws.specs.running_words_Plans.{ArePlansKept}

@@ -30,7 +30,7 @@ use Rattle.still_laws.proofs.array_kept_StepsLeft.{steps-fewer}
 use Rattle.still_laws.proofs.calls_kept_RebuildEnded.{whole-vacant, whole-after, failed-still, holder-before}
 use Rattle.still_laws.proofs.calls_kept_RebuildGiven.{receiver-recovering}
 use Rattle.still_laws.proofs.calls_kept_RebuildLaws.{losses-open, losses-end}
-use Rattle.kept_history.specs.Safe.{world_in}
+use Rattle.still_laws.specs.kept_history_Safe.{world_in}
 use Rattle.still_laws.proofs.still_kept_Ending.{IsMadeWhole}
 use Rattle.still_laws.specs.running_words_Calls.{moving_world}
 use Rattle.still_laws.specs.running_words_Plans.{ArePlansKept}

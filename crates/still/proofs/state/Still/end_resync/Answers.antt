@@ -14,7 +14,7 @@ use Rattle.still_laws.proofs.array_kept_LossLaws.{losses-behind, ended-behind}
 use Rattle.still_laws.proofs.array_kept_ReadyLaws.{scope-same}
 use Rattle.still_laws.proofs.array_kept_ReplyLaws.{too-many-of, refused-for}
 use Rattle.still_laws.proofs.array_kept_StepsLeft.{left-ended, steps-fewer, steps-kept}
-use Rattle.kept_history.specs.Recorded.{IsCallGoing}
+use Rattle.still_laws.specs.kept_history_Recorded.{IsCallGoing}
 use Rattle.still_laws.specs.running_words_Parts.{visible_size}
 use Rattle.still_laws.proofs.still_kept_Flushing.{IsFlushedStill, IsSettledStill}
 use Rattle.still_laws.specs.running_words_Calls.{moving_world}

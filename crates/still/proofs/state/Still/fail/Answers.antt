@@ -17,7 +17,7 @@ use Rattle.still_laws.proofs.array_kept_ReadyLaws.{scope-same}
 use Rattle.still_laws.proofs.array_kept_ReplyLaws.{fail_reply, no_role_reply}
 use Rattle.still_laws.proofs.array_kept_LossLaws.{losses-failed, ended-behind}
 use Rattle.still_laws.proofs.calls_kept_FailedLaws.{placed-out, unlost-out, moved-out, out-vacant, clean-out, rise-out, named-out, out-only, out-spares}
-use Rattle.kept_history.proofs.Records.{begins-going}
+use Rattle.still_laws.proofs.kept_history_Records.{begins-going}
 use Rattle.still_laws.proofs.still_kept_Failing.{IsTakenOut, failed-stands}
 use Rattle.still_laws.specs.running_words_Parts.{still_left}
 use Rattle.still_laws.proofs.running_words_Called.{not_254, called, alone-lossless, risen-told}

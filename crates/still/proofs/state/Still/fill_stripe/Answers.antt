@@ -25,7 +25,7 @@ use Rattle.still_laws.proofs.array_kept_ReadyLaws.{scope-same}
 use Rattle.still_laws.proofs.array_kept_ReplyLaws.{too-many-of, refused-for}
 use Rattle.still_laws.proofs.array_kept_StepsLeft.{left-filled, steps-fewer, steps-kept}
 use Rattle.still_laws.proofs.calls_kept_RebuildLaws.{losses-open, losses-end}
-use Rattle.kept_history.specs.Recorded.{IsCallGoing}
+use Rattle.still_laws.specs.kept_history_Recorded.{IsCallGoing}
 use Rattle.still_laws.specs.still_kept_Still.{IsStill}
 use Rattle.still_laws.proofs.still_kept_Rebuilding.{IsFillingStill}
 use Rattle.still_laws.specs.running_words_Parts.{visible_size, still_left}

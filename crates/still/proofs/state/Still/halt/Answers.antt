@@ -9,7 +9,7 @@ use Rattle.flat_history.specs.Plain.{entries_of}
 use Rattle.views.proofs.MovedLaws.{grows-none}
 use Rattle.still_laws.specs.array_kept_Kept.{scope_in}
 use Rattle.still_laws.proofs.array_kept_ReadyLaws.{scope-same}
-use Rattle.kept_history.proofs.Records.{begins-going}
+use Rattle.still_laws.proofs.kept_history_Records.{begins-going}
 use Rattle.still_laws.specs.still_kept_Still.{IsStill}
 use Rattle.still_laws.specs.running_words_Parts.{still_left}
 use Rattle.still_laws.specs.Ready.{IsReady}

@@ -1,5 +1,5 @@
 use Rattle.std.proofs.Common.{sym, ◌∙◌, arith}
-use Rattle.shape_views.proofs.Stands.{list-still}
+use Rattle.still_laws.proofs.shape_views_Stands.{list-still}
 use Rattle.views.proofs.MemberLaws.{list-few}
 use Rattle.still.proofs.state.Still.length.Goals as goal
 

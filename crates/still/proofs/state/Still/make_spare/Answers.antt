@@ -34,7 +34,7 @@ use Rattle.still_laws.proofs.Kept.{ready, rows-same, rows-moved}
 use Rattle.still_laws.proofs.StepLaws.{shapes-same, shapes-moved, stepped}
 use Rattle.still_laws.proofs.AddLaws.{looked-refused}
 use Rattle.still_laws.proofs.AddLaws as law
-use Rattle.kept_history.proofs.Records.{begins-going}
+use Rattle.still_laws.proofs.kept_history_Records.{begins-going}
 use Rattle.still_laws.proofs.PlainBehind.{refused-plain}
 use Rattle.still_laws.proofs.PlainAdds.{added-plain, unadded-plain}
 use Rattle.still.proofs.state.Still.make_spare.Goals as goal

@@ -17,7 +17,7 @@ use Rattle.still_laws.proofs.array_kept_ReplyLaws.{unwritten-of, refused-for}
 use Rattle.still_laws.proofs.array_kept_StepsLeft.{left-mended, steps-fewer, steps-kept}
 use Rattle.array_state.proofs.UnmendableLaws.{unmendable-of, unwritten-then}
 use Rattle.still_laws.proofs.calls_kept_MendLaws.{is-pending, next-stripe}
-use Rattle.kept_history.specs.Recorded.{IsCallGoing}
+use Rattle.still_laws.specs.kept_history_Recorded.{IsCallGoing}
 use Rattle.still_laws.specs.running_words_Parts.{visible_size}
 use Rattle.still_laws.proofs.still_kept_Resync.{IsMendingStill}
 use Rattle.still_laws.proofs.running_words_Called.{risen-told}

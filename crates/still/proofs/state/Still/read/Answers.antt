@@ -15,7 +15,7 @@ use Rattle.flat_history.specs.declared.events.Request.TheVariants.{Read as AsksR
 use Rattle.flat_history.specs.World.{opening_list}
 use Rattle.flat_history.specs.Flat.{next_number, now}
 use Rattle.flat_history.specs.Plain.{entries_of}
-use Rattle.shape_views.proofs.Stands.{list-still}
+use Rattle.still_laws.proofs.shape_views_Stands.{list-still}
 use Rattle.views.specs.Lacking.{IsUnread, mended_rows}
 use Rattle.views.specs.Placed.{places_of}
 use Rattle.views.specs.Rows.{row_sector}
@@ -35,8 +35,8 @@ use Rattle.still_laws.proofs.array_kept_ReadyLaws.{scope-same}
 use Rattle.still_laws.proofs.array_kept_ReplyLaws.{inside-losses, replied, unread-of, refused-for}
 use Rattle.still_laws.proofs.calls_kept_ReadLaws.{some-of}
 use Rattle.array_state.proofs.FirstLaws.{call-within}
-use Rattle.kept_history.specs.Safe.{world_in, IsFilledRight}
-use Rattle.kept_history.proofs.Records.{begins-going}
+use Rattle.still_laws.specs.kept_history_Safe.{world_in, IsFilledRight}
+use Rattle.still_laws.proofs.kept_history_Records.{begins-going}
 use Rattle.still_laws.proofs.still_kept_Leaving.{rest-moved}
 use Rattle.still_laws.proofs.still_kept_Reading.{read-stands}
 use Rattle.still_laws.proofs.still_kept_Staying.{IsNamedStill, refused-stands}
@@ -47,7 +47,7 @@ use Rattle.still_laws.proofs.running_words_Called.{not_254, called, alone-lossle
 use Rattle.still_laws.specs.running_words_Parts.{visible_size, still_left}
 use Rattle.still_laws.proofs.running_words_Lengths.{alone-keeps, behind-keeps}
 use Rattle.still_laws.proofs.running_words_Replies.{refused_reply, lost_reply, read_kind}
-use Rattle.still_laws.proofs.running_words_Visible.{visible-within}
+use Rattle.still_laws.proofs.running_words_VisibleLaws.{visible-within}
 use Rattle.still_laws.proofs.Asking.{refused-alone}
 use Rattle.still_laws.proofs.Kept.{ready, rows-same, rows-moved, with-buffers}
 use Rattle.still_laws.proofs.PlainBehind.{unread-plain, plain-refused, plain-read, first-plain}

@@ -6,7 +6,7 @@ use Rattle.views.proofs.MovedLaws.{grows-none}
 use Rattle.still_laws.specs.array_kept_Calls.{IsUnmendable}
 use Rattle.still_laws.proofs.array_kept_LossLaws.{ended-behind, behind-alone}
 use Rattle.still_laws.proofs.array_kept_ReadyLaws.{scope-same}
-use Rattle.kept_history.specs.Recorded.{IsCallGoing}
+use Rattle.still_laws.specs.kept_history_Recorded.{IsCallGoing}
 use Rattle.still_laws.specs.running_words_Parts.{visible_size}
 use Rattle.still_laws.proofs.running_words_Called.{alone-lossless}
 use Rattle.still_laws.proofs.running_words_Lengths.{alone-keeps}

@@ -8,7 +8,7 @@ use Rattle.views.proofs.MovedLaws.{grows-none}
 use Rattle.still_laws.proofs.array_kept_LossLaws.{ended-behind}
 use Rattle.still_laws.proofs.array_kept_ReadyLaws.{scope-same}
 use Rattle.grow_asked.specs.Left.{phases_of}
-use Rattle.kept_history.proofs.Records.{begins-going}
+use Rattle.still_laws.proofs.kept_history_Records.{begins-going}
 use Rattle.still_laws.specs.moving_state_Left.{visible_by}
 use Rattle.still_laws.specs.running_words_Parts.{visible_size}
 use Rattle.still_laws.specs.running_words_Visible.{visible_refusal}

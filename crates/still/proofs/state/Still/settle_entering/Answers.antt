@@ -10,7 +10,7 @@ use Rattle.call_entries.specs.Losing.{losses_of}
 use Rattle.still_laws.specs.array_kept_Kept.{scope_in}
 use Rattle.still_laws.proofs.array_kept_LossLaws.{losses-behind, ended-behind, behind-alone, settling-no-loss}
 use Rattle.still_laws.proofs.array_kept_ReadyLaws.{scope-same}
-use Rattle.kept_history.proofs.Records.{begins-going}
+use Rattle.still_laws.proofs.kept_history_Records.{begins-going}
 use Rattle.still_laws.proofs.still_kept_Flushing.{IsFlushedStill, all-mended, unflushed-stands}
 use Rattle.still_laws.specs.running_words_Parts.{visible_size, still_left}
 use Rattle.still_laws.proofs.running_words_Called.{not_254, called, alone-lossless, risen-told, many-of}

@@ -12,7 +12,7 @@ use Rattle.still_laws.proofs.running_words_Lengths.{alone-keeps}
 use Rattle.still_laws.proofs.Kept.{ready, rows-same, roomier}
 use Rattle.still_laws.proofs.Asking.{status-same, shown-stands}
 use Rattle.views.proofs.MovedLaws.{grows-none}
-use Rattle.kept_history.proofs.Records.{begins-going}
+use Rattle.still_laws.proofs.kept_history_Records.{begins-going}
 use Rattle.still_laws.proofs.PlainBehind.{shown-plain}
 use Rattle.still.proofs.state.Still.status.Goals as goal
 

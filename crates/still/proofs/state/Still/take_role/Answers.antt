@@ -24,7 +24,7 @@ use Rattle.still_laws.proofs.array_kept_ReadyLaws.{scope-same}
 use Rattle.still_laws.proofs.array_kept_ReplyLaws.{too-many-of, refused-for}
 use Rattle.still_laws.proofs.array_kept_StepsLeft.{steps-fewer}
 use Rattle.still_laws.proofs.calls_kept_RebuildGiven.{receiver-spare, taken-vacant, taken-held, taken-by, taken-before, taken-after}
-use Rattle.kept_history.specs.Recorded.{IsCallGoing}
+use Rattle.still_laws.specs.kept_history_Recorded.{IsCallGoing}
 use Rattle.still_laws.specs.still_kept_Still.{IsStill}
 use Rattle.still_laws.proofs.still_kept_Rebuilding.{IsTaken}
 use Rattle.still_laws.specs.running_words_Parts.{still_left}

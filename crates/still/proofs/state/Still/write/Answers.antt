@@ -10,7 +10,7 @@ use Rattle.flat_history.specs.declared.events.Event.TheVariants.{Wrote, Refused}
 use Rattle.flat_history.specs.declared.events.Request.TheVariants.{Write as AsksWrite}
 use Rattle.flat_history.specs.Flat.{next_number}
 use Rattle.flat_history.specs.Plain.{entries_of}
-use Rattle.shape_views.proofs.Stands.{list-still}
+use Rattle.still_laws.proofs.shape_views_Stands.{list-still}
 use Rattle.views.specs.Lacking.{IsUnwritten, LacksTooMany, AreBytes, are_mended, mended_rows}
 use Rattle.views.specs.Placed.{places_of}
 use Rattle.views.specs.Whole.{list_size}
@@ -28,13 +28,13 @@ use Rattle.still_laws.proofs.array_kept_ReadyLaws.{scope-same}
 use Rattle.still_laws.proofs.array_kept_ReplyLaws.{inside-losses, replied, unwritten-of, refused-for}
 use Rattle.still_laws.proofs.calls_kept_ReadLaws.{some-of}
 use Rattle.array_state.proofs.FirstLaws.{call-within}
-use Rattle.kept_history.proofs.Records.{begins-going}
+use Rattle.still_laws.proofs.kept_history_Records.{begins-going}
 use Rattle.still_laws.proofs.still_kept_Writing.{wrote-stands}
 use Rattle.still_laws.specs.running_words_Parts.{visible_size, still_left}
 use Rattle.still_laws.proofs.running_words_Called.{not_254, called, alone-lossless}
 use Rattle.still_laws.proofs.running_words_Lengths.{alone-keeps, behind-keeps, failure-keeps}
 use Rattle.still_laws.proofs.running_words_Replies.{refused_reply, failed_reply, write_kind}
-use Rattle.still_laws.proofs.running_words_Visible.{visible-within}
+use Rattle.still_laws.proofs.running_words_VisibleLaws.{visible-within}
 use Rattle.still_laws.proofs.Asking.{refused-alone}
 use Rattle.still_laws.proofs.Kept.{ready, rows-same, rows-moved, with-buffers}
 use Rattle.still_laws.proofs.PlainBehind.{unwritten-plain, put-plain, plain-wrote, plain-unwritten, first-plain}

@@ -1,0 +1,43 @@
+use Rattle.std.proofs.Common.{◌≤◌, ◌^◌, List, length, sym, ap, subst, arith}
+use Rattle.std.specs.List.{All}
+use Rattle.std.proofs.lemmas.List.Elements.{All-get_or}
+use Rattle.flat_history.specs.declared.events.Entry.{Entry}
+use Rattle.flat_history.specs.declared.events.Request.{Request}
+use Rattle.line_answers.specs.running_Calls.{running_left}
+use Rattle.line_answers.specs.running_calls_Replies.{IsAskable}
+use Rattle.line_answers.proofs.running_calls_GoneOn.{gone-none, gone-same}
+use Rattle.block_answers.proofs.BlockAsks.{all-askable, lane-run, worker-run, block-entered}
+use Rattle.block_answers.proofs.together.ask_together.Goals as goal
+
+pub returns-in_default-clause-went : goal.returns-in_default-clause-went
+returns-in_default-clause-went g c = gone-none g.B.Bank.tells g.B.Bank.given g.B.Bank.tape g.B.Bank.faults_of c.args.array
+
+pub returns-in_default-requests_of-clause-went : goal.returns-in_default-requests_of-clause-went
+returns-in_default-requests_of-clause-went g c = gone-none g.B.Bank.tells g.B.Bank.given g.B.Bank.tape g.B.Bank.faults_of c.args.array
+
+pub run_block-requires-clause-askable : goal.run_block-requires-clause-askable
+run_block-requires-clause-askable g c κs within = (
+  λ k d lt. All-get_or IsAskable c.in-Ok.one.items k d lt (subst (λ (l : List Request). All IsAskable l) (sym c.in-Ok.ensures) (all-askable c.args.first.now c.requires.limits.0 c.requires.lanes.0)),
+  λ k d lt. All-get_or IsAskable c.in-Ok-requests_of.two.items k d lt (subst (λ (l : List Request). All IsAskable l) (sym c.in-Ok-requests_of.ensures) (all-askable c.args.second.now c.requires.limits.1 c.requires.lanes.1)),
+)
+
+pub returns-in-Err-clause-went : goal.returns-in-Err-clause-went
+returns-in-Err-clause-went g c = gone-same g.B.Bank.tells g.B.Bank.given g.B.Bank.tape g.B.Bank.faults_of c.args.array c.in-Err.array c.in-Err.ensures.back
+
+pub returns-clause-first : goal.returns-clause-first
+returns-clause-first g c =
+    let few : length c.in-Ok-run_block.joined.array.parts.entries ≤ 2 ^ 61 = let same = ap (λ (l : List Entry). length l) c.epoch.ensures.entries in omega (arith, same, c.if-len.false, c.len.ensures) in
+    lane-run c.args.array c.in-Ok-run_block.joined.array few 1 c.args.first.now c.in-Ok.one.items c.in-Ok-run_block.joined.first.items c.in-Ok.ensures c.in-Ok-run_block.ensures.first
+
+pub returns-clause-second : goal.returns-clause-second
+returns-clause-second g c =
+    let few : length c.in-Ok-run_block.joined.array.parts.entries ≤ 2 ^ 61 = let same = ap (λ (l : List Entry). length l) c.epoch.ensures.entries in omega (arith, same, c.if-len.false, c.len.ensures) in
+    lane-run c.args.array c.in-Ok-run_block.joined.array few 2 c.args.second.now c.in-Ok-requests_of.two.items c.in-Ok-run_block.joined.second.items c.in-Ok-requests_of.ensures c.in-Ok-run_block.ensures.second
+
+pub returns-clause-worked : goal.returns-clause-worked
+returns-clause-worked g c =
+    let few : length c.in-Ok-run_block.joined.array.parts.entries ≤ 2 ^ 61 = let same = ap (λ (l : List Entry). length l) c.epoch.ensures.entries in omega (arith, same, c.if-len.false, c.len.ensures) in
+    worker-run c.args.array c.in-Ok-run_block.joined.array few 255 _ (running_left c.args.array) c.in-Ok-run_block.joined.worked c.in-Ok-run_block.ensures.worked
+
+pub returns-clause-entered : goal.returns-clause-entered
+returns-clause-entered g c = block-entered c.args.array c.in-Ok-run_block.joined.array c.in-Ok-run_block.ensures.entered c.in-Ok-run_block.ensures.others

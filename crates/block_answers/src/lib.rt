@@ -1,0 +1,10 @@
+//! A block of a script, two lanes of lines beside a worker, performed on a bank with or without an array on it.
+#![tactic(auto)]
+
+mod answering;
+mod together;
+
+pub use answering::answer_block;
+pub use lane_blocks::Pace;
+pub use line_answers::{Answered, LineReply, Outside, State, answer, entry_of, script_call};
+pub use together::{Together, ask_together};

@@ -1,0 +1,15 @@
+//! Lanes and workers over one running array: the tests of `lanes`, `lane_threads`, `shared_lanes` and `lane_blocks`.
+#![tactic(auto)]
+
+#[cfg(test)]
+mod blocks;
+#[cfg(test)]
+mod full;
+#[cfg(test)]
+mod joining;
+#[cfg(test)]
+mod samples;
+#[cfg(test)]
+mod shortage;
+#[cfg(test)]
+mod telling;
