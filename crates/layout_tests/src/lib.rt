@@ -1,0 +1,14 @@
+//! Tests of `layout`, `geometry`, `grow_plan`, `parity` and `parity_lanes`: places, reshapes, plans and rows of parity, against tables from elsewhere or by
+//! hand, and each call of the lanes beside that of `parity`.
+#![tactic(auto)]
+
+#[cfg(test)]
+mod known;
+#[cfg(test)]
+mod lanes;
+#[cfg(test)]
+mod layouts;
+#[cfg(test)]
+mod plans;
+#[cfg(test)]
+mod reshapes;
