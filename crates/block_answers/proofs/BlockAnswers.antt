@@ -22,10 +22,10 @@ use Rattle.script.specs.declared.lines.Line.{Line}
 use Rattle.script.specs.declared.lines.Numbered.{Numbered}
 use Rattle.script.specs.declared.reply.Lane.{Lane}
 use Rattle.script.specs.declared.reply.Lane.TheVariants.{Script as InScript, A as InA, B as InB, Worker as InWorker}
-use Rattle.lane_blocks.specs.Blocks.{HasWorkedBy}
-use Rattle.lane_blocks.specs.lanes_Worker.{left_behind, AreTurns}
-use Rattle.lane_blocks.specs.lanes_the_Worked.{Worked}
-use Rattle.lane_blocks.specs.seen_laws_Callers.{RepliesFrom}
+use Rattle.lanes.specs.Blocks.{HasWorkedBy}
+use Rattle.lanes.specs.Worker.{left_behind, AreTurns}
+use Rattle.lanes.specs.declared.worker.Worked.{Worked}
+use Rattle.lanes.specs.seen_laws_Callers.{RepliesFrom}
 use Rattle.line_answers.specs.running_calls_the_Reply.{Reply}
 use Rattle.line_answers.specs.running_calls_the_Reply_TheVariants.{Done, NoMemory as Short}
 use Rattle.line_answers.specs.running_words_Parts.{RunningParts}

@@ -21,11 +21,11 @@ use Rattle.script.specs.declared.lines.Line.TheVariants.{Read, Write, Flush, Fai
 use Rattle.script.specs.Grammar.{is_span, is_for_lanes}
 use Rattle.script.specs.Script.{is_within_limits}
 use Rattle.script.specs.Seeds.{seed_sector}
-use Rattle.lane_blocks.specs.Blocks.{HasRun, HasWorkedBy}
-use Rattle.lane_blocks.specs.lanes_Lane.{AreOneEach, StandsIn, done_of}
-use Rattle.lane_blocks.specs.lanes_the_Worked.{Worked}
-use Rattle.lane_blocks.specs.seen_laws_Callers.{IsReplyTo, AreReplied, IsLastOf, AreNumbered}
-use Rattle.lane_blocks.specs.lanes_Serving.{sectors_of, HasMade}
+use Rattle.lanes.specs.Blocks.{HasRun, HasWorkedBy}
+use Rattle.lanes.specs.Lane.{AreOneEach, StandsIn, done_of}
+use Rattle.lanes.specs.declared.worker.Worked.{Worked}
+use Rattle.lanes.specs.seen_laws_Callers.{IsReplyTo, AreReplied, IsLastOf, AreNumbered}
+use Rattle.lanes.specs.Serving.{sectors_of, HasMade}
 use Rattle.line_answers.specs.running_calls_Entered.{GoesOn, HasEntered}
 use Rattle.line_answers.specs.running_calls_Replies.{IsAskable}
 use Rattle.line_answers.specs.running_calls_the_Reply.{Reply}

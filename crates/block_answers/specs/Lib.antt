@@ -1,5 +1,5 @@
 pub mod Answers
-pub use Rattle.lane_blocks.specs.lanes_Pace
+pub use Rattle.lanes.specs.Pace as lanes_Pace
 pub use Rattle.line_answers.specs.run_laws_Ended
 pub use Rattle.line_answers.specs.run_laws_Making
 pub use Rattle.line_answers.specs.run_laws_States
@@ -24,4 +24,4 @@ pub use Rattle.line_answers.specs.running_words_Plans
 pub use Rattle.line_answers.specs.still_laws_Plain
 pub use Rattle.line_answers.specs.running_replies_Replies
 pub use Rattle.line_answers.specs.run_laws_Showing
-pub use Rattle.lane_blocks.specs.views_Moving
+pub use Rattle.lanes.specs.views_Moving

@@ -3,7 +3,7 @@
 ghost use Rattle.std.specs.Prelude.{◌≡◌, ◌+◌, ◌<◌, ◌≤◌, ◌^◌, [], ◌∷◌, ◌++◌, length, map, vec_capacity};
 ghost use Rattle.std.specs.List.{All, AllPass};
 ghost use Rattle.bank.specs.Given.{NeverFalls};
-ghost use Rattle.lane_blocks.specs.views_Moving.{Grows};
+ghost use Rattle.lanes.specs.views_Moving.{Grows};
 ghost use Rattle.script.specs.declared.reply.Lane.TheVariants.{A as InA, B as InB, Worker as InWorker};
 ghost use Rattle.line_answers.specs.run_laws_Blocks.{is_allowed, is_in_lane, places_told};
 ghost use Rattle.line_answers.specs.run_laws_Ended.{IsRunKept};
@@ -11,13 +11,13 @@ ghost use Rattle.line_answers.specs.run_laws_Making.{setting_of};
 ghost use Rattle.line_answers.specs.run_laws_States.{histories_in, bank_in, RunsOwn, IsBlockAnswered};
 ghost use Rattle.line_answers.specs.run_laws_Written.{IsWritten};
 ghost use Rattle.line_answers.specs.run_laws_the_State_TheVariants.{Running as IsRunning};
-ghost use Rattle.lane_blocks.specs.lanes_Pace.{AnswersSteps, asked_by};
+ghost use Rattle.lanes.specs.Pace.{AnswersSteps, asked_by};
 ghost use Rattle.block_answers.specs.Answers.{insides, block_places, refusals};
 
 use crate::together::{Together, ask_together};
 use bank::Bank;
 use flat_history::Epoch;
-use lane_blocks::{Pace, Reply};
+use lanes::{Pace, Reply};
 use line_answers::{Answered, Outside, Running, State};
 use md_base::Refusal;
 use script::Numbered;

@@ -5,6 +5,6 @@ mod answering;
 mod together;
 
 pub use answering::answer_block;
-pub use lane_blocks::Pace;
+pub use lanes::Pace;
 pub use line_answers::{Answered, LineReply, Outside, State, answer, entry_of, script_call};
 pub use together::{Together, ask_together};

@@ -13,3 +13,7 @@ pub use Rattle.running_calls.specs.Entered as running_calls_Entered
 pub use Rattle.running_calls.specs.Going as running_calls_Going
 pub use Rattle.running_calls.specs.running_Calls
 pub use Rattle.running_calls.specs.views_Moving
+pub mod Threads
+pub mod Lanes
+pub use Rattle.seen_laws.specs.Callers as seen_laws_Callers
+pub mod Blocks

@@ -5,6 +5,12 @@ mod lane;
 mod pace;
 mod service;
 mod worker;
+mod threads;
+mod serving;
+mod sharing;
+mod block;
+mod rows;
+mod starting;
 
 pub use lane::run_lane;
 pub use pace::Pace;
@@ -13,3 +19,7 @@ pub use running_calls::{
 };
 pub use service::Service;
 pub use worker::{Worked, run_worker};
+pub use threads::at_once;
+pub use serving::Answering;
+pub use sharing::{Pass, Shared};
+pub use block::{Joined, run_block};

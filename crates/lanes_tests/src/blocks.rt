@@ -1,7 +1,7 @@
 //! Two lanes beside a worker, and a worker beside lanes that ask nothing.
 ghost use Rattle.std.specs.Prelude.{◌≡◌, IfOk};
 ghost use Rattle.std.specs.List.{All};
-ghost use Rattle.lane_blocks.specs.running_calls_Replies.{IsAskable};
+ghost use Rattle.lanes.specs.running_calls_Replies.{IsAskable};
 
 use crate::joining::{four, requests_at, together};
 use crate::samples::{SPEC, bank_of, clean, created_alone, dirty, lacking, planned, unsynced};
@@ -9,7 +9,7 @@ use crate::telling::{Told, told_by, told_of};
 use bank::MemoryBank;
 use door_bank::Words;
 use flat_history::Request;
-use lane_blocks::{Pace, Running};
+use lanes::{Pace, Running};
 use md_base::Refusal;
 use std::alloc::Global;
 use std::sync::Wait;

@@ -2,7 +2,7 @@
 ghost use Rattle.std.specs.Prelude.{⊤};
 
 use flat_history::Request;
-use lane_blocks::{Reply, Service};
+use lanes::{Reply, Service};
 use std::sync::Wait;
 
 #[derive(Drop)]

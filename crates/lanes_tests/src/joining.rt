@@ -1,14 +1,14 @@
 //! Blocks of lanes, from a status of the array to its halt.
 ghost use Rattle.std.specs.Prelude.{◌≡◌, IfOk};
 ghost use Rattle.std.specs.List.{All};
-ghost use Rattle.lane_blocks.specs.array_kept_Calls.{IsEndOf};
-ghost use Rattle.lane_blocks.specs.running_calls_Replies.{IsAskable};
-ghost use Rattle.lane_blocks.specs.lanes_Pace.{AnswersSteps, asked_by};
+ghost use Rattle.lanes.specs.array_kept_Calls.{IsEndOf};
+ghost use Rattle.lanes.specs.running_calls_Replies.{IsAskable};
+ghost use Rattle.lanes.specs.Pace.{AnswersSteps, asked_by};
 
 use crate::samples::{halted, write_of};
 use bank::Bank;
 use flat_history::{Epoch, Request};
-use lane_blocks::{Joined, Pace, Reply, Running, Worked, run_block};
+use lanes::{Joined, Pace, Reply, Running, Worked, run_block};
 use md_base::Who;
 use std::alloc::Global;
 use std::sync::Wait;

@@ -1,4 +1,4 @@
-//! Lanes and workers over one running array: the tests of `lanes`, `lane_threads`, `shared_lanes` and `lane_blocks`.
+//! Lanes and workers over one running array: the tests of `lanes`.
 #![tactic(auto)]
 
 #[cfg(test)]

@@ -1,11 +1,11 @@
 //! Running arrays in memory. Each is ended by a halt.
 ghost use Rattle.std.specs.Prelude.{◌≡◌, IfOk};
 ghost use Rattle.flat_history.specs.Flat.{next_number};
-ghost use Rattle.lane_blocks.specs.running_calls_Replies.{IsAskable};
+ghost use Rattle.lanes.specs.running_calls_Replies.{IsAskable};
 
 use bank::{Bank, MemoryBank};
 use flat_history::{Epoch, Event, Request};
-use lane_blocks::{CreateSpec, Reply, Running, create_array, open_running, perform};
+use lanes::{CreateSpec, Reply, Running, create_array, open_running, perform};
 use md_base::{Sectors, Shape, Who, Wish};
 use std::alloc::Global;
 use std::test::Fail;

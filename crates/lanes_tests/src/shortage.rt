@@ -3,7 +3,7 @@
 use crate::full::{Full, Ticket};
 use crate::joining::{four, requests_at};
 use crate::telling::{is_short, told_of};
-use lane_blocks::{Pace, Reply, Worked, run_lane, run_worker};
+use lanes::{Pace, Reply, Worked, run_lane, run_worker};
 use std::alloc::Global;
 use std::sync::Wait;
 use std::test::Fail;

@@ -1,7 +1,7 @@
 //! What lanes and a worker were answered.
 use crate::joining::Ran;
 use flat_history::{Entries, Event};
-use lane_blocks::{Reply, Worked};
+use lanes::{Reply, Worked};
 use md_base::Refusal;
 
 /// The turns of a worker, the steps that were done in them, how many the last reply left, and what refused the next one.

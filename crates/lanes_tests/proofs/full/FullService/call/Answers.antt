@@ -1,5 +1,5 @@
 use Rattle.std.proofs.Common.{refl}
-use Rattle.lane_blocks.proofs.seen_laws_BeforeLaws.{seen-self}
+use Rattle.lanes.proofs.seen_laws_BeforeLaws.{seen-self}
 use Rattle.lanes_tests.specs.Tickets.{nothing_seen}
 use Rattle.lanes_tests.proofs.full.FullService.call.Goals as goal
 

@@ -1,4 +1,0 @@
-mod Answered
-mod Carried
-pub use Rattle.seen_laws.proofs.BeforeLaws as seen_laws_BeforeLaws
-pub use Rattle.seen_laws.proofs.PlaceLaws as seen_laws_PlaceLaws
