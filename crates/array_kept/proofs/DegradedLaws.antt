@@ -6,7 +6,7 @@ use Rattle.std.specs.Prelude.{IfSome, IsSome, is_some, nat_le, slice_index_or, f
 use Rattle.std.specs.List.{list_any}
 use Rattle.md_base.specs.Sectors.{Sector, sectors_of}
 use Rattle.md_base.proofs.SectorLaws.{length-sectors_of}
-use Rattle.list_io.specs.Writing.{IsWritten, HasFull}
+use Rattle.call_entries.specs.list_io_Writing.{IsWritten, HasFull}
 use Rattle.md_base.specs.Shapes.{has_slot, tolerance}
 use Rattle.md_base.specs.declared.places.Shape.{Shape}
 use Rattle.md_base.specs.declared.answers.Who.{Who}
@@ -18,21 +18,21 @@ use Rattle.bank.specs.declared.bank.Operation.{Operation}
 use Rattle.layout.proofs.Limits.{limited}
 use Rattle.layout.proofs.Places.{place-role_below, place-row_below}
 use Rattle.parity.specs.Rows.{IsSector, sector_of}
-use Rattle.superblocks.specs.declared.members.Members.{Members}
+use Rattle.call_entries.specs.superblocks_the_Members.{Members}
 use Rattle.md_base.specs.declared.status.Role.{Role}
 use Rattle.md_base.specs.declared.status.Role.TheVariants.{Recovering}
-use Rattle.superblocks.specs.Reading.{Scope, is_reshaping, shape_of, role_count, role_state, rows_held, holder, is_clean}
-use Rattle.row_io.specs.Rows.{reading_of, present, is_missing}
-use Rattle.flat_history.specs.declared.events.Entry.{Entry}
-use Rattle.flat_history.specs.declared.events.Event.{Event}
-use Rattle.flat_history.specs.declared.events.Event.TheVariants.{Refused, Read, Wrote, Torn, Lost, Failed, Shown, Halted}
-use Rattle.flat_history.specs.Transfers.{IsReadOver}
-use Rattle.flat_history.specs.declared.events.LostCause.TheVariants.{Command}
-use Rattle.flat_history.specs.World.{World, opening_list}
-use Rattle.flat_history.specs.Flat.{covers, sector_at, behind, now, visible_of, values_after}
-use Rattle.flat_history.specs.Plain.{entries_of, loses_role}
-use Rattle.flat_history.specs.OneShape.{opening_in, is_gone_now, gone_count_now, keeps_shape_event, IsCallOpen, IsOneShapeRefusal, AreTooManyLost, IsNoRoleNow, is_spare_now, is_lost}
-use Rattle.history_laws.proofs.OneShapeGrowing.{one, IsOneShapeCall, call-faults, call-fails, too_many_missing}
+use Rattle.call_entries.specs.superblocks_Reading.{Scope, is_reshaping, shape_of, role_count, role_state, rows_held, holder, is_clean}
+use Rattle.call_entries.specs.row_io_Rows.{reading_of, present, is_missing}
+use Rattle.call_entries.specs.flat_history_the_Entry.{Entry}
+use Rattle.call_entries.specs.flat_history_the_Event.{Event}
+use Rattle.call_entries.specs.flat_history_the_Event_TheVariants.{Refused, Read, Wrote, Torn, Lost, Failed, Shown, Halted}
+use Rattle.call_entries.specs.flat_history_Transfers.{IsReadOver}
+use Rattle.call_entries.specs.flat_history_the_LostCause_TheVariants.{Command}
+use Rattle.call_entries.specs.flat_history_World.{World, opening_list}
+use Rattle.call_entries.specs.flat_history_Flat.{covers, sector_at, behind, now, visible_of, values_after}
+use Rattle.call_entries.specs.flat_history_Plain.{entries_of, loses_role}
+use Rattle.call_entries.specs.flat_history_OneShape.{opening_in, is_gone_now, gone_count_now, keeps_shape_event, IsCallOpen, IsOneShapeRefusal, AreTooManyLost, IsNoRoleNow, is_spare_now, is_lost}
+use Rattle.call_entries.proofs.history_laws_OneShapeGrowing.{one, IsOneShapeCall, call-faults, call-fails, too_many_missing}
 use Rattle.call_entries.specs.views_the_Work.{Work}
 use Rattle.call_entries.specs.views_Rebuilding.{AreRebuilt, HasNoRebuilt}
 use Rattle.call_entries.specs.views_Whole.{list_size}
@@ -48,7 +48,7 @@ use Rattle.call_entries.specs.shape_views_Regions.{DoWithout}
 use Rattle.call_entries.specs.views_Lacking.{AreLostSince, AreTooMany, IsUnread, IsUnwritten, lacking, ListStands, RowsStandAmong, RowsStandBelow, mended_rows, are_mended}
 use Rattle.call_entries.proofs.views_Fit.{valid, multiple, force-disks, count-alike}
 use Rattle.call_entries.proofs.views_Still.{count-still}
-use Rattle.superblocks.proofs.ValidFields.{few-roles}
+use Rattle.call_entries.proofs.superblocks_ValidFields.{few-roles}
 use Rattle.array_kept.specs.Calls.{IsRefusedHere, IsRefusedFor, HasRole}
 use Rattle.array_kept.proofs.KeptLaws.{StayPlaced, LeavesSafe, LeavesWork, NamesSafe, rebuilds-before, left-lost, mended-are, leaves-named as named-leaves, work-kept, kept-after, same-now, whole-still, seen-behind, held-behind, unsynced-behind}
 use Rattle.array_kept.proofs.StepsLeft.{left-moved}
@@ -59,8 +59,8 @@ use Rattle.call_entries.specs.shape_changes_Safety.{IsRisen}
 use Rattle.call_entries.specs.shape_views_Views.{Ledger}
 use Rattle.call_entries.specs.shape_changes_Steady.{AreViewsRight, IsSafeOver, KeepsSafe}
 use Rattle.bank.proofs.Marks.{each_mark-along}
-use Rattle.flat_history.specs.Losses.{was_dirty, is_resync_end, is_unsynced, settles}
-use Rattle.flat_history.specs.Sound.{OpensFit, LosesNoRole}
+use Rattle.call_entries.specs.flat_history_Losses.{was_dirty, is_resync_end, is_unsynced, settles}
+use Rattle.call_entries.specs.flat_history_Sound.{OpensFit, LosesNoRole}
 use Rattle.bank.specs.Tape.{Contents, IsIn, EachMark}
 use Rattle.array_kept.proofs.ReadyLaws.{Settles, AreStill, silent-behind, still-behind}
 use Rattle.call_entries.proofs.views_MovedLaws.{grows-none, moved-same}
@@ -72,7 +72,7 @@ use Rattle.call_entries.proofs.StepLaws.{faults-are}
 use Rattle.array_kept.proofs.RecordLaws.{AreSilent, told-more, gone-lately}
 use Rattle.array_kept.proofs.OnlyLaws.{MakeSpares, either, lost-among, gone-or, spare-both, spares-behind-losses, only-more, only-since, TellsOnly, moved-held}
 use Rattle.array_kept.proofs.IdleLaws.{nothing-left}
-use Rattle.superblocks.specs.Reads.{has_spare}
+use Rattle.call_entries.specs.superblocks_Reads.{has_spare}
 
 -- nothing is done
 keeps-still : (world : World) (given : Given) (told : Ledger) (members : Members) (tape : List Operation) → IsSafeOver world given told members tape → KeepsSafe world given told members tape tape

@@ -7,7 +7,7 @@ use Rattle.std.proofs.lemmas.List.{get_or-set_same, get_or-set_other, ext_get_or
 use Rattle.md_base.specs.Search.{tabulate, any_below}
 use Rattle.md_base.proofs.Tabulated.{length-tabulate, get_or-tabulate}
 use Rattle.sb1.specs.declared.sb.Sb.{Sb}
-use Rattle.superblocks.specs.Reading.{Reading, role_state}
+use Rattle.call_entries.specs.superblocks_Reading.{Reading, role_state}
 use Rattle.array_kept.specs.Adopting.{stripes_held, found_stripes, is_number_of}
 
 -- ---- the stripes of each role

@@ -11,25 +11,25 @@ use Rattle.md_base.specs.declared.answers.Who.{Who}
 use Rattle.bank.specs.Given.{Given}
 use Rattle.bank.specs.declared.bank.Operation.{Operation}
 use Rattle.bank.specs.Tape.{IsIn, disk}
-use Rattle.superblocks.specs.declared.members.Members.{Members}
-use Rattle.superblocks.specs.Reading.{Scope, is_reshaping, shape_of, role_count, is_clean}
-use Rattle.row_io.specs.Rows.{present}
-use Rattle.flat_history.specs.declared.events.Entry.{Entry}
-use Rattle.flat_history.specs.declared.events.Event.{Event}
-use Rattle.flat_history.specs.World.{World, opening_list}
-use Rattle.flat_history.specs.Flat.{now, length_of, length_after, limit_after, values_after, values_of, visible_of}
-use Rattle.flat_history.specs.Growing.{grown}
-use Rattle.flat_history.specs.Plain.{entries_of}
-use Rattle.flat_history.specs.Legal.{told_left}
-use Rattle.flat_history.specs.Transfers.{last_end_from}
-use Rattle.flat_history.specs.Epochs.{HasRoomForEvents, OpensAlike}
-use Rattle.flat_history.specs.Losses.{was_dirty, is_resync_end, is_unsynced, unsettles}
-use Rattle.flat_history.specs.Sound.{LosesNoRole, OpensFit, FillsRight}
-use Rattle.flat_history.specs.OneShape.{ShapeOpening, opening_in, is_resyncing, is_unsettled, KeepShape, IsCallOpen, adds_slot, is_used_now}
-use Rattle.flat_history.proofs.OneShapeLegal.{opening-grown, entries-keep}
-use Rattle.history_laws.proofs.OneShapeGrowing.{IsOneShapeCall}
-use Rattle.flat_history.proofs.OneShapeGone.{keep-both}
-use Rattle.flat_history.proofs.SoundLaws.{fit-before}
+use Rattle.call_entries.specs.superblocks_the_Members.{Members}
+use Rattle.call_entries.specs.superblocks_Reading.{Scope, is_reshaping, shape_of, role_count, is_clean}
+use Rattle.call_entries.specs.row_io_Rows.{present}
+use Rattle.call_entries.specs.flat_history_the_Entry.{Entry}
+use Rattle.call_entries.specs.flat_history_the_Event.{Event}
+use Rattle.call_entries.specs.flat_history_World.{World, opening_list}
+use Rattle.call_entries.specs.flat_history_Flat.{now, length_of, length_after, limit_after, values_after, values_of, visible_of}
+use Rattle.call_entries.specs.flat_history_Growing.{grown}
+use Rattle.call_entries.specs.flat_history_Plain.{entries_of}
+use Rattle.call_entries.specs.flat_history_Legal.{told_left}
+use Rattle.call_entries.specs.flat_history_Transfers.{last_end_from}
+use Rattle.call_entries.specs.flat_history_Epochs.{HasRoomForEvents, OpensAlike}
+use Rattle.call_entries.specs.flat_history_Losses.{was_dirty, is_resync_end, is_unsynced, unsettles}
+use Rattle.call_entries.specs.flat_history_Sound.{LosesNoRole, OpensFit, FillsRight}
+use Rattle.call_entries.specs.flat_history_OneShape.{ShapeOpening, opening_in, is_resyncing, is_unsettled, KeepShape, IsCallOpen, adds_slot, is_used_now}
+use Rattle.call_entries.proofs.flat_history_OneShapeLegal.{opening-grown, entries-keep}
+use Rattle.call_entries.proofs.history_laws_OneShapeGrowing.{IsOneShapeCall}
+use Rattle.call_entries.proofs.flat_history_OneShapeGone.{keep-both}
+use Rattle.call_entries.proofs.flat_history_SoundLaws.{fit-before}
 use Rattle.call_entries.specs.views_the_Work.{Work}
 use Rattle.call_entries.specs.views_Whole.{list_size}
 use Rattle.call_entries.specs.views_Placed.{places_of, AreWhole, IsPlaced}
@@ -45,8 +45,8 @@ use Rattle.call_entries.specs.views_Lacking.{ListStands, RowsStandBelow, mended_
 use Rattle.array_kept.specs.Kept.{world_in, ledger_now, AreTold, AreFillsRight, AreRebuildsRight, AreSectorsWhole, IsRecorded, IsKept, IsSafe}
 use Rattle.array_kept.proofs.MadeLaws.{opening-grown as list-grown}
 use Rattle.call_entries.proofs.LeftLaws.{TellLeft, left-behind, fold-left, left-more}
-use Rattle.flat_history.specs.declared.events.Event.TheVariants.{Lost, SpareLost}
-use Rattle.flat_history.specs.declared.events.LostCause.TheVariants.{Fault}
+use Rattle.call_entries.specs.flat_history_the_Event_TheVariants.{Lost, SpareLost}
+use Rattle.call_entries.specs.flat_history_the_LostCause_TheVariants.{Fault}
 use Rattle.call_entries.proofs.CallLaws.{AreLossEvents, losses-are, length-losses, limit-losses, values-losses, ends-losses}
 use Rattle.array_kept.proofs.NowLaws.{now-quiet, length-more, limit-more, visible-is}
 use Rattle.array_kept.proofs.RecordLaws.{AreSilent, ends-call}
@@ -55,7 +55,7 @@ use Rattle.call_entries.proofs.StepLaws.{record-goes_on, used-more}
 use Rattle.array_kept.proofs.SafeLaws.{begun-of, room-before, alike-before, room-now, safe-called}
 use Rattle.array_kept.proofs.LedgerLaws.{told_by, CarriesMore, OnlyAdd, pending-more, unsettled-still, unsettled-by, none-lost-before, told-more as more-told, told-now, told-unclean, more-safe, newest-allowed}
 use Rattle.array_kept.proofs.OnlyLaws.{TellsOnly}
-use Rattle.superblocks.proofs.ValidFields.{few-roles}
+use Rattle.call_entries.proofs.superblocks_ValidFields.{few-roles}
 
 -- The members are of the same array as before, and each has its place.
 pub record StayPlaced (given : Given) (old new : Members) : Type 0 where

@@ -12,20 +12,20 @@ use Rattle.md_base.proofs.SectorLaws.{length-sectors_of}
 use Rattle.md_base.specs.declared.answers.Who.{Who}
 use Rattle.bank.specs.Given.{Given}
 use Rattle.bank.specs.Tape.{IsIn}
-use Rattle.superblocks.specs.declared.members.Members.{Members}
-use Rattle.superblocks.specs.Reading.{Scope, is_reshaping}
-use Rattle.list_io.specs.Writing.{IsWritten}
-use Rattle.flat_history.specs.declared.events.Entry.{Entry}
-use Rattle.flat_history.specs.declared.events.Event.{Event}
-use Rattle.flat_history.specs.declared.events.Event.TheVariants.{Wrote, Torn, Flushed, Stopped, Lost, SpareLost, Resized}
-use Rattle.flat_history.specs.declared.events.LostCause.TheVariants.{Fault}
-use Rattle.flat_history.specs.Flat.{values_after, values_of, first_values, now, covers, sector_at, behind, length_after, length_of, resized}
-use Rattle.flat_history.specs.Losses.{was_dirty, is_resync_end, is_unsynced, settles, unsettles}
-use Rattle.flat_history.specs.Plain.{entries_of, loses_role}
-use Rattle.flat_history.specs.World.{World, opening_list}
-use Rattle.flat_history.specs.OneShape.{ShapeOpening, IsOneShapeEvent, AreOneShape, is_lost, is_gone_now, gives_role, is_gone_by, is_unsettled, is_written, keeps_shape_event, KeepShape}
-use Rattle.flat_history.proofs.OneShapeGone.{gone-or_lost, losses-gone}
-use Rattle.history_laws.proofs.OneShapeGrowing.{gone-more}
+use Rattle.call_entries.specs.superblocks_the_Members.{Members}
+use Rattle.call_entries.specs.superblocks_Reading.{Scope, is_reshaping}
+use Rattle.call_entries.specs.list_io_Writing.{IsWritten}
+use Rattle.call_entries.specs.flat_history_the_Entry.{Entry}
+use Rattle.call_entries.specs.flat_history_the_Event.{Event}
+use Rattle.call_entries.specs.flat_history_the_Event_TheVariants.{Wrote, Torn, Flushed, Stopped, Lost, SpareLost, Resized}
+use Rattle.call_entries.specs.flat_history_the_LostCause_TheVariants.{Fault}
+use Rattle.call_entries.specs.flat_history_Flat.{values_after, values_of, first_values, now, covers, sector_at, behind, length_after, length_of, resized}
+use Rattle.call_entries.specs.flat_history_Losses.{was_dirty, is_resync_end, is_unsynced, settles, unsettles}
+use Rattle.call_entries.specs.flat_history_Plain.{entries_of, loses_role}
+use Rattle.call_entries.specs.flat_history_World.{World, opening_list}
+use Rattle.call_entries.specs.flat_history_OneShape.{ShapeOpening, IsOneShapeEvent, AreOneShape, is_lost, is_gone_now, gives_role, is_gone_by, is_unsettled, is_written, keeps_shape_event, KeepShape}
+use Rattle.call_entries.proofs.flat_history_OneShapeGone.{gone-or_lost, losses-gone}
+use Rattle.call_entries.proofs.history_laws_OneShapeGrowing.{gone-more}
 use Rattle.array_kept.specs.Kept.{ledger_now}
 use Rattle.call_entries.specs.views_the_Work.{Work}
 use Rattle.call_entries.specs.views_Numbers.{is_carried}

@@ -45,3 +45,16 @@ pub use Rattle.call_entries.proofs.shape_changes_Without
 pub use Rattle.call_entries.proofs.shape_views_Stands
 pub use Rattle.call_entries.proofs.shape_views_Alike
 pub use Rattle.call_entries.proofs.shape_views_Judged
+pub use Rattle.call_entries.proofs.history_laws_OneShapeGrowing
+pub use Rattle.call_entries.proofs.list_io_FullLaws
+pub use Rattle.call_entries.proofs.flat_history_OneShapeGone
+pub use Rattle.call_entries.proofs.row_io_Losses
+pub use Rattle.call_entries.proofs.superblocks_SlotSets
+pub use Rattle.call_entries.proofs.superblocks_ValidFields
+pub use Rattle.call_entries.proofs.superblocks_Searches
+pub use Rattle.call_entries.proofs.row_io_Apart
+pub use Rattle.call_entries.proofs.superblock_reads_Accepted
+pub use Rattle.call_entries.proofs.superblock_reads_SaidSlots
+pub use Rattle.call_entries.proofs.superblock_reads_FoundHeld
+pub use Rattle.call_entries.proofs.superblock_reads_StageReads
+pub use Rattle.call_entries.proofs.flat_history_OneShapeLegal

@@ -9,15 +9,15 @@ use Rattle.md_base.specs.Sectors.{Sector}
 use Rattle.md_base.specs.declared.answers.Who.{Who}
 use Rattle.md_base.specs.declared.answers.Refusal.{Refusal}
 use Rattle.bank.specs.declared.bank.Operation.{Operation}
-use Rattle.superblocks.specs.declared.members.Members.{Members}
-use Rattle.superblocks.specs.Reading.{role_state, holder}
-use Rattle.row_io.specs.Rows.{reading_of}
-use Rattle.flat_history.specs.declared.events.Entry.{Entry}
-use Rattle.flat_history.specs.declared.events.Event.{Event}
-use Rattle.flat_history.specs.declared.events.Event.TheVariants.{Torn, Lost, Failed, Refused}
-use Rattle.flat_history.specs.declared.events.LostCause.TheVariants.{Command}
-use Rattle.flat_history.specs.Plain.{entries_of}
-use Rattle.flat_history.specs.Transfers.{last_end_from}
+use Rattle.call_entries.specs.superblocks_the_Members.{Members}
+use Rattle.call_entries.specs.superblocks_Reading.{role_state, holder}
+use Rattle.call_entries.specs.row_io_Rows.{reading_of}
+use Rattle.call_entries.specs.flat_history_the_Entry.{Entry}
+use Rattle.call_entries.specs.flat_history_the_Event.{Event}
+use Rattle.call_entries.specs.flat_history_the_Event_TheVariants.{Torn, Lost, Failed, Refused}
+use Rattle.call_entries.specs.flat_history_the_LostCause_TheVariants.{Command}
+use Rattle.call_entries.specs.flat_history_Plain.{entries_of}
+use Rattle.call_entries.specs.flat_history_Transfers.{last_end_from}
 use Rattle.call_entries.specs.views_Placed.{AreStillHeld}
 use Rattle.call_entries.specs.Losing.{losses_of, failure_events}
 use Rattle.call_entries.specs.views_Lacking.{AreLostSince}

@@ -4,14 +4,14 @@ use Rattle.std.proofs.lemmas.Bool.{lt-leb, le-leb}
 use Rattle.md_base.specs.declared.answers.Who.{Who}
 use Rattle.bank.specs.declared.bank.Operation.{Operation}
 use Rattle.bank.proofs.Laws.{contents-earlier}
-use Rattle.flat_history.specs.Stands.{stands}
-use Rattle.flat_history.specs.declared.events.Entry.{Entry}
-use Rattle.flat_history.specs.declared.events.Event.{Event}
-use Rattle.flat_history.specs.Flat.{rest_of_call}
-use Rattle.flat_history.specs.Plain.{entries_of}
-use Rattle.flat_history.specs.World.{World, opening_list}
-use Rattle.flat_history.specs.CrashSafe.{made_by, first_call_len}
-use Rattle.flat_history.specs.Growing.{grown, EndBy, MadeFrom}
+use Rattle.call_entries.specs.flat_history_Stands.{stands}
+use Rattle.call_entries.specs.flat_history_the_Entry.{Entry}
+use Rattle.call_entries.specs.flat_history_the_Event.{Event}
+use Rattle.call_entries.specs.flat_history_Flat.{rest_of_call}
+use Rattle.call_entries.specs.flat_history_Plain.{entries_of}
+use Rattle.call_entries.specs.flat_history_World.{World, opening_list}
+use Rattle.call_entries.specs.flat_history_CrashSafe.{made_by, first_call_len}
+use Rattle.call_entries.specs.flat_history_Growing.{grown, EndBy, MadeFrom}
 use Rattle.call_entries.proofs.PlainLaws.{rest_whole}
 
 pub made-past : (mark : ℕ) (xs : List Entry) → EndBy mark xs → made_by mark xs ≡ length xs

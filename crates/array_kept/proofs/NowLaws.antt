@@ -8,11 +8,11 @@ use Rattle.std.specs.Option.{option_map_or}
 use Rattle.md_base.specs.Sectors.{Sector, sectors_of, first_sectors}
 use Rattle.md_base.specs.declared.answers.Who.{Who}
 use Rattle.md_base.proofs.SectorLaws.{length-sectors_of}
-use Rattle.flat_history.specs.declared.events.Entry.{Entry}
-use Rattle.flat_history.specs.declared.events.Event.{Event}
-use Rattle.flat_history.specs.declared.events.Event.TheVariants.{Wrote}
-use Rattle.flat_history.specs.Flat.{values_after, values_of, first_values, now, covers, sector_at, length_of, length_after, limit_of, limit_after, visible_of}
-use Rattle.flat_history.specs.Plain.{entries_of}
+use Rattle.call_entries.specs.flat_history_the_Entry.{Entry}
+use Rattle.call_entries.specs.flat_history_the_Event.{Event}
+use Rattle.call_entries.specs.flat_history_the_Event_TheVariants.{Wrote}
+use Rattle.call_entries.specs.flat_history_Flat.{values_after, values_of, first_values, now, covers, sector_at, length_of, length_after, limit_of, limit_after, visible_of}
+use Rattle.call_entries.specs.flat_history_Plain.{entries_of}
 use Rattle.call_entries.specs.views_Rows.{row_sector, IsWritten}
 use Rattle.call_entries.proofs.PlainLaws.{one}
 use Rattle.call_entries.proofs.CallLaws.{AreLossEvents, values-losses}

@@ -9,18 +9,18 @@ use Rattle.std.specs.Prelude.{fold, IsTrue}
 use Rattle.md_base.specs.Shapes.{has_slot}
 use Rattle.md_base.specs.declared.answers.Who.{Who}
 use Rattle.bank.specs.Given.{Given}
-use Rattle.superblocks.specs.declared.members.Members.{Members}
-use Rattle.superblocks.specs.Reads.{has_spare}
-use Rattle.row_io.specs.Rows.{reading_of, is_missing}
-use Rattle.flat_history.specs.declared.events.Entry.{Entry}
-use Rattle.flat_history.specs.declared.events.Event.{Event}
-use Rattle.flat_history.specs.declared.events.Event.TheVariants.{Lost, SpareLost, Step, Added}
-use Rattle.flat_history.specs.declared.events.LostCause.TheVariants.{Fault}
-use Rattle.flat_history.specs.declared.events.StepKind.TheVariants.{RebuildTaken}
-use Rattle.flat_history.specs.Plain.{loses_role, entries_of}
-use Rattle.flat_history.specs.OneShape.{gives_role, is_lost, is_gone_now, is_spare_after, is_spare_now, adds_slot}
-use Rattle.flat_history.specs.Sound.{LosesNoRole}
-use Rattle.flat_history.proofs.OneShapeGone.{is_gone-both, never-gone}
+use Rattle.call_entries.specs.superblocks_the_Members.{Members}
+use Rattle.call_entries.specs.superblocks_Reads.{has_spare}
+use Rattle.call_entries.specs.row_io_Rows.{reading_of, is_missing}
+use Rattle.call_entries.specs.flat_history_the_Entry.{Entry}
+use Rattle.call_entries.specs.flat_history_the_Event.{Event}
+use Rattle.call_entries.specs.flat_history_the_Event_TheVariants.{Lost, SpareLost, Step, Added}
+use Rattle.call_entries.specs.flat_history_the_LostCause_TheVariants.{Fault}
+use Rattle.call_entries.specs.flat_history_the_StepKind_TheVariants.{RebuildTaken}
+use Rattle.call_entries.specs.flat_history_Plain.{loses_role, entries_of}
+use Rattle.call_entries.specs.flat_history_OneShape.{gives_role, is_lost, is_gone_now, is_spare_after, is_spare_now, adds_slot}
+use Rattle.call_entries.specs.flat_history_Sound.{LosesNoRole}
+use Rattle.call_entries.proofs.flat_history_OneShapeGone.{is_gone-both, never-gone}
 use Rattle.call_entries.specs.Losing.{role_losses, spare_loss, spare_losses, losses_of}
 use Rattle.call_entries.proofs.CallLaws.{AreLossEvents, losses-are, all-losses}
 use Rattle.call_entries.proofs.LosingLaws.{entries-both}

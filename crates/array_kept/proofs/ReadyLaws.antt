@@ -8,30 +8,30 @@ use Rattle.md_base.specs.Shapes.{has_slot}
 use Rattle.bank.specs.Given.{Given, NeverFalls}
 use Rattle.bank.specs.Tape.{IsIn}
 use Rattle.bank.specs.declared.bank.Operation.{Operation}
-use Rattle.superblocks.specs.declared.members.Members.{Members}
-use Rattle.superblocks.specs.Reading.{Scope}
-use Rattle.flat_history.specs.declared.events.Entry.{Entry}
-use Rattle.flat_history.specs.declared.events.Epoch.{Epoch}
-use Rattle.flat_history.specs.declared.events.Event.{Event}
-use Rattle.flat_history.specs.declared.events.Event.TheVariants.{Flushed, Stopped}
-use Rattle.flat_history.specs.Flat.{now, values_after, visible_of}
-use Rattle.flat_history.specs.World.{World, opening_list}
-use Rattle.flat_history.specs.Transfers.{IsReadOver}
-use Rattle.flat_history.specs.Plain.{entries_of}
-use Rattle.flat_history.specs.OneShape.{ShapeOpening, opening_in, IsOneShapeLegal, KeepShape}
-use Rattle.flat_history.specs.Epochs.{HasRoomForEvents, OpensAlike, IsEpochRight, world_of}
-use Rattle.history_laws.proofs.NumberLaws.{safe-throughout}
-use Rattle.flat_history.proofs.SoundLaws.{stays-throughout}
-use Rattle.flat_history.proofs.OneShapeLegal.{one_shape-legal, found-in}
-use Rattle.history_laws.proofs.OneShapeGrowing.{IsOneShapeCall}
+use Rattle.call_entries.specs.superblocks_the_Members.{Members}
+use Rattle.call_entries.specs.superblocks_Reading.{Scope}
+use Rattle.call_entries.specs.flat_history_the_Entry.{Entry}
+use Rattle.call_entries.specs.flat_history_the_Epoch.{Epoch}
+use Rattle.call_entries.specs.flat_history_the_Event.{Event}
+use Rattle.call_entries.specs.flat_history_the_Event_TheVariants.{Flushed, Stopped}
+use Rattle.call_entries.specs.flat_history_Flat.{now, values_after, visible_of}
+use Rattle.call_entries.specs.flat_history_World.{World, opening_list}
+use Rattle.call_entries.specs.flat_history_Transfers.{IsReadOver}
+use Rattle.call_entries.specs.flat_history_Plain.{entries_of}
+use Rattle.call_entries.specs.flat_history_OneShape.{ShapeOpening, opening_in, IsOneShapeLegal, KeepShape}
+use Rattle.call_entries.specs.flat_history_Epochs.{HasRoomForEvents, OpensAlike, IsEpochRight, world_of}
+use Rattle.call_entries.proofs.history_laws_NumberLaws.{safe-throughout}
+use Rattle.call_entries.proofs.flat_history_SoundLaws.{stays-throughout}
+use Rattle.call_entries.proofs.flat_history_OneShapeLegal.{one_shape-legal, found-in}
+use Rattle.call_entries.proofs.history_laws_OneShapeGrowing.{IsOneShapeCall}
 use Rattle.call_entries.specs.views_Rows.{row_sector}
 use Rattle.call_entries.specs.views_Placed.{AreWhole}
 use Rattle.call_entries.specs.views_the_Work.{Work}
 use Rattle.call_entries.specs.views_Rebuilding.{HasNoRebuilt}
 use Rattle.call_entries.specs.views_Moving.{Grows}
 use Rattle.array_kept.specs.Kept.{scope_in, world_in, IsReady, IsKept}
-use Rattle.flat_history.specs.Losses.{is_resync_end}
-use Rattle.flat_history.specs.Sound.{OpensFit, FillsRight, LosesNoRole}
+use Rattle.call_entries.specs.flat_history_Losses.{is_resync_end}
+use Rattle.call_entries.specs.flat_history_Sound.{OpensFit, FillsRight, LosesNoRole}
 use Rattle.array_kept.specs.Calls.{IsSettling}
 use Rattle.array_kept.proofs.MadeLaws.{opening-grown}
 use Rattle.array_kept.proofs.NowLaws.{sectors_of-at}

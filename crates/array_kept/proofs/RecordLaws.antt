@@ -3,19 +3,19 @@ use Rattle.std.proofs.Common.{◌≡◌, ℕ, ◌≤◌, ◌||◌, Bool, true, f
 use Rattle.std.proofs.lemmas.Bool.Decides.{nat_tests}
 use Rattle.std.specs.Prelude.{fold, IsTrue}
 use Rattle.md_base.specs.declared.answers.Who.{Who}
-use Rattle.superblocks.specs.declared.members.Members.{Members}
-use Rattle.row_io.specs.Rows.{reading_of, is_missing}
-use Rattle.flat_history.specs.declared.events.Entry.{Entry}
-use Rattle.flat_history.specs.declared.events.Event.{Event}
-use Rattle.flat_history.specs.Flat.{length_after, limit_after}
-use Rattle.flat_history.specs.Growing.{EndBy}
-use Rattle.flat_history.specs.Plain.{entries_of}
-use Rattle.flat_history.specs.OneShape.{is_lost, is_gone_now}
-use Rattle.flat_history.proofs.OneShapeGone.{never-gone, gone-or_lost}
-use Rattle.history_laws.proofs.OneShapeGrowing.{gone-more}
+use Rattle.call_entries.specs.superblocks_the_Members.{Members}
+use Rattle.call_entries.specs.row_io_Rows.{reading_of, is_missing}
+use Rattle.call_entries.specs.flat_history_the_Entry.{Entry}
+use Rattle.call_entries.specs.flat_history_the_Event.{Event}
+use Rattle.call_entries.specs.flat_history_Flat.{length_after, limit_after}
+use Rattle.call_entries.specs.flat_history_Growing.{EndBy}
+use Rattle.call_entries.specs.flat_history_Plain.{entries_of}
+use Rattle.call_entries.specs.flat_history_OneShape.{is_lost, is_gone_now}
+use Rattle.call_entries.proofs.flat_history_OneShapeGone.{never-gone, gone-or_lost}
+use Rattle.call_entries.proofs.history_laws_OneShapeGrowing.{gone-more}
 use Rattle.call_entries.specs.views_Placed.{AreWhole}
 use Rattle.array_kept.specs.Kept.{AreTold}
-use Rattle.flat_history.specs.Sound.{LosesNoRole}
+use Rattle.call_entries.specs.flat_history_Sound.{LosesNoRole}
 use Rattle.call_entries.proofs.CallLaws.{GivesNone}
 
 -- these events change neither the length nor the limit, nor what the list holds

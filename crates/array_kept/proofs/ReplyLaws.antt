@@ -11,22 +11,22 @@ use Rattle.md_base.specs.declared.answers.Refusal.{Refusal}
 use Rattle.md_base.specs.declared.answers.Fault.{Fault as AnyFault}
 use Rattle.md_base.specs.declared.answers.Fault.TheVariants.{Refused as IsRefusedWith, NoMemory}
 use Rattle.md_base.specs.declared.answers.Refusal.TheVariants.{PastEnd, NoSuchRole}
-use Rattle.superblocks.specs.declared.members.Members.{Members}
-use Rattle.flat_history.specs.declared.events.Entry.{Entry}
-use Rattle.flat_history.specs.declared.events.Event.{Event}
-use Rattle.flat_history.specs.declared.events.Event.TheVariants.{Torn, Flushed, Lost, SpareLost, Failed, Refused}
-use Rattle.flat_history.specs.declared.events.LostCause.TheVariants.{Command, Fault}
-use Rattle.flat_history.specs.declared.events.Request.{Request}
-use Rattle.flat_history.specs.declared.events.Request.TheVariants.{Read as AsksRead, Write as AsksWrite, Flush as AsksFlush, Fail as AsksFail}
-use Rattle.flat_history.specs.Flat.{is_same_call, rest_of_call, last_of, next_number, visible_of, length_of, limit_of, length_after, limit_after}
-use Rattle.flat_history.specs.Growing.{BeginAnother}
-use Rattle.flat_history.specs.Transfers.{IsRefusedAt, IsPastEnd}
-use Rattle.flat_history.specs.Fits.{AreTornOf, IsReadRefused}
-use Rattle.flat_history.specs.Plain.{entries_of}
-use Rattle.flat_history.specs.OneShape.{OneShapeAnswers}
+use Rattle.call_entries.specs.superblocks_the_Members.{Members}
+use Rattle.call_entries.specs.flat_history_the_Entry.{Entry}
+use Rattle.call_entries.specs.flat_history_the_Event.{Event}
+use Rattle.call_entries.specs.flat_history_the_Event_TheVariants.{Torn, Flushed, Lost, SpareLost, Failed, Refused}
+use Rattle.call_entries.specs.flat_history_the_LostCause_TheVariants.{Command, Fault}
+use Rattle.call_entries.specs.flat_history_the_Request.{Request}
+use Rattle.call_entries.specs.flat_history_the_Request_TheVariants.{Read as AsksRead, Write as AsksWrite, Flush as AsksFlush, Fail as AsksFail}
+use Rattle.call_entries.specs.flat_history_Flat.{is_same_call, rest_of_call, last_of, next_number, visible_of, length_of, limit_of, length_after, limit_after}
+use Rattle.call_entries.specs.flat_history_Growing.{BeginAnother}
+use Rattle.call_entries.specs.flat_history_Transfers.{IsRefusedAt, IsPastEnd}
+use Rattle.call_entries.specs.flat_history_Fits.{AreTornOf, IsReadRefused}
+use Rattle.call_entries.specs.flat_history_Plain.{entries_of}
+use Rattle.call_entries.specs.flat_history_OneShape.{OneShapeAnswers}
 use Rattle.call_entries.specs.Losing.{losses_of, failure_events}
 use Rattle.md_base.specs.declared.places.Shape.{Shape}
-use Rattle.superblocks.specs.Reading.{shape_of, final_shape}
+use Rattle.call_entries.specs.superblocks_Reading.{shape_of, final_shape}
 use Rattle.call_entries.specs.views_Lacking.{AreTooMany, LacksTooMany, IsUnread, IsUnwritten}
 use Rattle.array_kept.specs.Calls.{StandsInside, IsReplied, IsRefusedFor, IsSettled, IsCausedBy, IsAnswered}
 use Rattle.call_entries.proofs.PlainLaws.{one, begins}

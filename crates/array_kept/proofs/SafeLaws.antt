@@ -10,24 +10,24 @@ use Rattle.bank.specs.declared.bank.Operation.{Operation}
 use Rattle.bank.specs.Given.{Given, sizes}
 use Rattle.bank.specs.Tape.{Contents, IsIn, disk}
 use Rattle.bank.proofs.Laws.{contents-earlier}
-use Rattle.superblocks.specs.declared.members.Members.{Members}
-use Rattle.superblocks.specs.Reading.{Scope, Reading, reading}
-use Rattle.superblocks.specs.Found.{AreLikeNewest}
-use Rattle.flat_history.specs.declared.events.Entry.{Entry}
-use Rattle.flat_history.specs.declared.events.Event.{Event}
-use Rattle.flat_history.specs.Flat.{length_of, values_of}
-use Rattle.flat_history.specs.Losses.{was_dirty, is_resync_end, is_unsynced, is_gone, unsettles}
-use Rattle.flat_history.specs.World.{World, contents_at, reading_at, may_hold}
-use Rattle.flat_history.specs.Opened.{IsSound}
-use Rattle.flat_history.specs.Sound.{OpensFit, FillsRight}
-use Rattle.flat_history.specs.CrashSafe.{made_by, may_be_made, first_call_len, IsSafeAt}
-use Rattle.flat_history.specs.Growing.{grown, EndBy}
-use Rattle.flat_history.specs.Epochs.{HasRoomForEvents, OpensAlike}
-use Rattle.flat_history.specs.OneShape.{ShapeOpening, is_lost, is_gone_now, is_unsettled, KeepShape}
-use Rattle.flat_history.specs.Plain.{entries_of}
-use Rattle.history_laws.proofs.GrowingLaws.{calls-owe}
-use Rattle.flat_history.proofs.OneShapeGone.{losses-gone, never-gone_by}
-use Rattle.flat_history.proofs.OneShapeLegal.{opening-grown as shape-grown}
+use Rattle.call_entries.specs.superblocks_the_Members.{Members}
+use Rattle.call_entries.specs.superblocks_Reading.{Scope, Reading, reading}
+use Rattle.call_entries.specs.superblocks_Found.{AreLikeNewest}
+use Rattle.call_entries.specs.flat_history_the_Entry.{Entry}
+use Rattle.call_entries.specs.flat_history_the_Event.{Event}
+use Rattle.call_entries.specs.flat_history_Flat.{length_of, values_of}
+use Rattle.call_entries.specs.flat_history_Losses.{was_dirty, is_resync_end, is_unsynced, is_gone, unsettles}
+use Rattle.call_entries.specs.flat_history_World.{World, contents_at, reading_at, may_hold}
+use Rattle.call_entries.specs.flat_history_Opened.{IsSound}
+use Rattle.call_entries.specs.flat_history_Sound.{OpensFit, FillsRight}
+use Rattle.call_entries.specs.flat_history_CrashSafe.{made_by, may_be_made, first_call_len, IsSafeAt}
+use Rattle.call_entries.specs.flat_history_Growing.{grown, EndBy}
+use Rattle.call_entries.specs.flat_history_Epochs.{HasRoomForEvents, OpensAlike}
+use Rattle.call_entries.specs.flat_history_OneShape.{ShapeOpening, is_lost, is_gone_now, is_unsettled, KeepShape}
+use Rattle.call_entries.specs.flat_history_Plain.{entries_of}
+use Rattle.call_entries.proofs.history_laws_GrowingLaws.{calls-owe}
+use Rattle.call_entries.proofs.flat_history_OneShapeGone.{losses-gone, never-gone_by}
+use Rattle.call_entries.proofs.flat_history_OneShapeLegal.{opening-grown as shape-grown}
 use Rattle.call_entries.specs.shape_changes_Safety.{HasLiveSlot, HasRoomLeft, IsRisen}
 use Rattle.call_entries.specs.views_the_Work.{Work}
 use Rattle.call_entries.specs.views_Numbers.{is_carried}

@@ -15,20 +15,20 @@ use Rattle.md_base.specs.declared.status.Role.{Role}
 use Rattle.md_base.specs.declared.status.Role.TheVariants.{Whole, Recovering, Missing}
 use Rattle.layout.proofs.Limits.{limited}
 use Rattle.bank.specs.Given.{Given}
-use Rattle.superblocks.specs.declared.members.Members.{Members}
+use Rattle.call_entries.specs.superblocks_the_Members.{Members}
 use Rattle.call_entries.proofs.views_Fit.{fit-valid, force-disks}
-use Rattle.superblocks.specs.Reading.{shape_of, role_state, holder}
-use Rattle.superblocks.specs.Reads.{has_spare}
-use Rattle.superblock_reads.proofs.SaidSlots.{has-slots_below}
-use Rattle.row_io.specs.Rows.{reading_of}
+use Rattle.call_entries.specs.superblocks_Reading.{shape_of, role_state, holder}
+use Rattle.call_entries.specs.superblocks_Reads.{has_spare}
+use Rattle.call_entries.proofs.superblock_reads_SaidSlots.{has-slots_below}
+use Rattle.call_entries.specs.row_io_Rows.{reading_of}
 use Rattle.md_base.specs.declared.answers.Who.{Who}
-use Rattle.flat_history.specs.declared.events.Entry.{Entry}
-use Rattle.flat_history.specs.declared.events.Event.{Event}
-use Rattle.flat_history.specs.Legal.{disturbs}
-use Rattle.flat_history.specs.Fits.{is_lost_event}
-use Rattle.flat_history.specs.Plain.{entries_of}
-use Rattle.flat_history.specs.declared.events.Event.TheVariants.{Lost, SpareLost}
-use Rattle.flat_history.specs.declared.events.LostCause.TheVariants.{Fault}
+use Rattle.call_entries.specs.flat_history_the_Entry.{Entry}
+use Rattle.call_entries.specs.flat_history_the_Event.{Event}
+use Rattle.call_entries.specs.flat_history_Legal.{disturbs}
+use Rattle.call_entries.specs.flat_history_Fits.{is_lost_event}
+use Rattle.call_entries.specs.flat_history_Plain.{entries_of}
+use Rattle.call_entries.specs.flat_history_the_Event_TheVariants.{Lost, SpareLost}
+use Rattle.call_entries.specs.flat_history_the_LostCause_TheVariants.{Fault}
 use Rattle.call_entries.specs.views_the_Work.{Work}
 use Rattle.call_entries.specs.views_Placed.{is_vacant}
 use Rattle.call_entries.specs.views_Moving.{IsMoved}

@@ -4,9 +4,9 @@ use Rattle.std.proofs.lemmas.Bool.{cases_lt}
 use Rattle.std.proofs.lemmas.List.Elements.{Contains-append_left, Contains-append_right}
 use Rattle.std.specs.List.{Contains}
 use Rattle.md_base.specs.Shapes.{has_slot}
-use Rattle.flat_history.specs.declared.events.Event.{Event}
-use Rattle.flat_history.specs.declared.events.Event.TheVariants.{Lost}
-use Rattle.flat_history.specs.declared.events.LostCause.TheVariants.{Fault}
+use Rattle.call_entries.specs.flat_history_the_Event.{Event}
+use Rattle.call_entries.specs.flat_history_the_Event_TheVariants.{Lost}
+use Rattle.call_entries.specs.flat_history_the_LostCause_TheVariants.{Fault}
 use Rattle.call_entries.specs.Losing.{role_loss, role_losses, spare_losses, losses_of}
 
 role-among : (roles n role : ℕ) → role < n → has_slot roles role ≡ true → Contains (role_losses roles n) (Lost role Fault)

@@ -6,33 +6,33 @@ use Rattle.bank.specs.declared.bank.Operation.{Operation}
 use Rattle.bank.specs.Given.{Given, sizes}
 use Rattle.bank.specs.Tape.{disk}
 use Rattle.bank.specs.Whole.{HasWholeSectors}
-use Rattle.superblocks.specs.declared.members.Members.{Members}
+use Rattle.call_entries.specs.superblocks_the_Members.{Members}
 use Rattle.md_base.specs.declared.status.Role.{Role}
 use Rattle.md_base.specs.declared.status.Role.TheVariants.{Whole, Recovering, Missing}
 use Rattle.std.specs.Option.{option_map_or}
 use Rattle.md_base.specs.Sectors.{Sector}
 use Rattle.md_base.specs.Search.{tabulate, any_below}
 use Rattle.sb1.specs.declared.sb.Sb.{Sb}
-use Rattle.superblocks.specs.Update.{own_in}
-use Rattle.superblocks.specs.Held.{MayRead}
-use Rattle.superblocks.specs.Reading.{Scope, Reading, reading, is_reshaping, is_clean, shape_of, role_state, rows_held}
-use Rattle.row_io.specs.Rows.{reading_of, present, is_missing}
-use Rattle.flat_history.specs.declared.events.Event.{Event}
-use Rattle.flat_history.specs.declared.events.Event.TheVariants.{Lost}
-use Rattle.flat_history.specs.declared.events.LostCause.TheVariants.{Absent, Recovering as ByRecovering}
-use Rattle.flat_history.specs.World.{opening_list}
-use Rattle.flat_history.specs.Flat.{now}
-use Rattle.flat_history.specs.Losses.{was_dirty}
-use Rattle.flat_history.specs.Epochs.{OpensAlike}
-use Rattle.flat_history.specs.Plain.{entries_of}
-use Rattle.flat_history.specs.OneShape.{opening_in, is_absent_at_first}
+use Rattle.call_entries.specs.superblocks_Update.{own_in}
+use Rattle.call_entries.specs.superblocks_Held.{MayRead}
+use Rattle.call_entries.specs.superblocks_Reading.{Scope, Reading, reading, is_reshaping, is_clean, shape_of, role_state, rows_held}
+use Rattle.call_entries.specs.row_io_Rows.{reading_of, present, is_missing}
+use Rattle.call_entries.specs.flat_history_the_Event.{Event}
+use Rattle.call_entries.specs.flat_history_the_Event_TheVariants.{Lost}
+use Rattle.call_entries.specs.flat_history_the_LostCause_TheVariants.{Absent, Recovering as ByRecovering}
+use Rattle.call_entries.specs.flat_history_World.{opening_list}
+use Rattle.call_entries.specs.flat_history_Flat.{now}
+use Rattle.call_entries.specs.flat_history_Losses.{was_dirty}
+use Rattle.call_entries.specs.flat_history_Epochs.{OpensAlike}
+use Rattle.call_entries.specs.flat_history_Plain.{entries_of}
+use Rattle.call_entries.specs.flat_history_OneShape.{opening_in, is_absent_at_first}
 use Rattle.call_entries.specs.shape_changes_Held.{IsHeldBy}
 use Rattle.call_entries.specs.views_Whole.{list_size}
 use Rattle.call_entries.specs.views_Placed.{places_of, IsPlaced}
 use Rattle.call_entries.specs.shape_changes_Steady.{AreUnlost}
 use Rattle.call_entries.specs.views_Lacking.{ListStands, RowsStand, AreHoldersFlushed}
 use Rattle.array_kept.specs.Kept.{world_in, AreSectorsWhole, AreUsed}
-use Rattle.flat_history.specs.Opened.{OpensGood}
+use Rattle.call_entries.specs.flat_history_Opened.{OpensGood}
 use Rattle.call_entries.specs.views_Rebuilding.{AreSparesFree}
 use Rattle.call_entries.specs.views_the_Work.{Work}
 use Rattle.call_entries.specs.views_Parts.{Parts}

@@ -10,25 +10,25 @@ use Rattle.bank.specs.declared.bank.Operation.{Operation}
 use Rattle.bank.specs.Given.{Given, IsFaulted}
 use Rattle.bank.specs.Tape.{disk}
 use Rattle.sb1.specs.declared.sb.Sb.{Sb}
-use Rattle.superblocks.specs.declared.members.Members.{Members}
+use Rattle.call_entries.specs.superblocks_the_Members.{Members}
 use Rattle.md_base.specs.declared.status.Role.TheVariants.{Whole, Recovering}
-use Rattle.superblocks.specs.Reading.{shape_of, role_count, is_backup, role_state, holder, data_offset_of}
-use Rattle.superblocks.specs.Reads.{has_spare}
-use Rattle.row_io.specs.Rows.{reading_of, present, is_missing}
-use Rattle.flat_history.specs.declared.events.Entry.{Entry}
-use Rattle.flat_history.specs.declared.events.Event.{Event}
-use Rattle.flat_history.specs.declared.events.Event.TheVariants.{Torn, Flushed, Lost, SpareLost, Rebuilt, Step, Stepped, Stopped, Refused}
-use Rattle.flat_history.specs.declared.events.LostCause.{LostCause}
-use Rattle.flat_history.specs.declared.events.LostCause.TheVariants.{Command, Fault as ByFault}
-use Rattle.flat_history.specs.declared.events.Request.{Request}
-use Rattle.flat_history.specs.World.{World, opening_list}
-use Rattle.flat_history.specs.Transfers.{last_end_from}
+use Rattle.call_entries.specs.superblocks_Reading.{shape_of, role_count, is_backup, role_state, holder, data_offset_of}
+use Rattle.call_entries.specs.superblocks_Reads.{has_spare}
+use Rattle.call_entries.specs.row_io_Rows.{reading_of, present, is_missing}
+use Rattle.call_entries.specs.flat_history_the_Entry.{Entry}
+use Rattle.call_entries.specs.flat_history_the_Event.{Event}
+use Rattle.call_entries.specs.flat_history_the_Event_TheVariants.{Torn, Flushed, Lost, SpareLost, Rebuilt, Step, Stepped, Stopped, Refused}
+use Rattle.call_entries.specs.flat_history_the_LostCause.{LostCause}
+use Rattle.call_entries.specs.flat_history_the_LostCause_TheVariants.{Command, Fault as ByFault}
+use Rattle.call_entries.specs.flat_history_the_Request.{Request}
+use Rattle.call_entries.specs.flat_history_World.{World, opening_list}
+use Rattle.call_entries.specs.flat_history_Transfers.{last_end_from}
 use Rattle.md_base.specs.Sectors.{Sector}
-use Rattle.flat_history.specs.Flat.{last_of, values_of}
-use Rattle.flat_history.specs.Fits.{is_lost_event}
-use Rattle.flat_history.specs.Legal.{disturbs}
-use Rattle.flat_history.specs.Plain.{entries_of}
-use Rattle.flat_history.specs.OneShape.{is_gone_now, EndsIdleSteps, OneShapeFits}
+use Rattle.call_entries.specs.flat_history_Flat.{last_of, values_of}
+use Rattle.call_entries.specs.flat_history_Fits.{is_lost_event}
+use Rattle.call_entries.specs.flat_history_Legal.{disturbs}
+use Rattle.call_entries.specs.flat_history_Plain.{entries_of}
+use Rattle.call_entries.specs.flat_history_OneShape.{is_gone_now, EndsIdleSteps, OneShapeFits}
 use Rattle.call_entries.specs.views_Placed.{is_vacant}
 use Rattle.call_entries.specs.Losing.{losses_of}
 use Rattle.call_entries.specs.shape_views_Regions.{DoWithout}

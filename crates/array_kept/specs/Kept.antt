@@ -5,20 +5,20 @@ use Rattle.md_base.specs.Sectors.{Sector}
 use Rattle.parity.specs.Rows.{IsSector}
 use Rattle.bank.specs.declared.bank.Operation.{Operation}
 use Rattle.bank.specs.Given.{Given, sizes}
-use Rattle.superblocks.specs.declared.members.Members.{Members}
-use Rattle.superblocks.specs.Reading.{Scope, Reading, is_reshaping, is_clean, shape_of, role_count}
-use Rattle.superblocks.specs.Reads.{has_spare}
-use Rattle.row_io.specs.Rows.{reading_of, present, is_missing}
-use Rattle.flat_history.specs.declared.events.Entry.{Entry}
-use Rattle.flat_history.specs.World.{World, opening_list, reading_at}
-use Rattle.flat_history.specs.Flat.{now, values_of, length_of, limit_of}
-use Rattle.flat_history.specs.Legal.{told_left}
-use Rattle.flat_history.specs.Transfers.{last_end_from}
-use Rattle.flat_history.specs.Losses.{is_unsynced}
-use Rattle.flat_history.specs.Sound.{FillsRight, LosesNoRole, OpensFit, LeavesSoundThroughout}
-use Rattle.flat_history.specs.Epochs.{HasRoomForEvents, OpensAlike}
-use Rattle.flat_history.specs.Growing.{EndBy, IsSafeThroughout}
-use Rattle.flat_history.specs.OneShape.{opening_in, is_gone_now, is_spare_now, is_unsettled, IsOneShapeLegal, is_used_now}
+use Rattle.call_entries.specs.superblocks_the_Members.{Members}
+use Rattle.call_entries.specs.superblocks_Reading.{Scope, Reading, is_reshaping, is_clean, shape_of, role_count}
+use Rattle.call_entries.specs.superblocks_Reads.{has_spare}
+use Rattle.call_entries.specs.row_io_Rows.{reading_of, present, is_missing}
+use Rattle.call_entries.specs.flat_history_the_Entry.{Entry}
+use Rattle.call_entries.specs.flat_history_World.{World, opening_list, reading_at}
+use Rattle.call_entries.specs.flat_history_Flat.{now, values_of, length_of, limit_of}
+use Rattle.call_entries.specs.flat_history_Legal.{told_left}
+use Rattle.call_entries.specs.flat_history_Transfers.{last_end_from}
+use Rattle.call_entries.specs.flat_history_Losses.{is_unsynced}
+use Rattle.call_entries.specs.flat_history_Sound.{FillsRight, LosesNoRole, OpensFit, LeavesSoundThroughout}
+use Rattle.call_entries.specs.flat_history_Epochs.{HasRoomForEvents, OpensAlike}
+use Rattle.call_entries.specs.flat_history_Growing.{EndBy, IsSafeThroughout}
+use Rattle.call_entries.specs.flat_history_OneShape.{opening_in, is_gone_now, is_spare_now, is_unsettled, IsOneShapeLegal, is_used_now}
 use Rattle.call_entries.specs.views_Whole.{list_size}
 use Rattle.call_entries.specs.shape_views_Views.{Ledger}
 use Rattle.call_entries.specs.shape_changes_Steady.{IsSafeOver, AreUnlost}

@@ -12,14 +12,14 @@ use Rattle.superblocks.specs.declared.members.Members.{Members}
 use Rattle.superblocks.specs.Reading.{Scope, Reading, reading, is_clean, role_count, shape_of, role_state, is_whole, holder, is_backup}
 use Rattle.superblocks.specs.Election.{reading_in}
 use Rattle.superblocks.specs.Found.{AreLikeNewest, AreInSectors}
-use Rattle.row_io.specs.Rows.{reading_of, is_missing}
-use Rattle.flat_history.specs.Flat.{now}
-use Rattle.flat_history.specs.World.{World, reading_at, opening_list}
-use Rattle.flat_history.specs.Losses.{was_dirty}
-use Rattle.flat_history.specs.Opened.{IsSound, OpensSound, OpensGood}
-use Rattle.flat_history.specs.OneShape.{opening_in, is_absent_at_first, is_used_in}
-use Rattle.flat_history.specs.Epochs.{OpensAlike}
-use Rattle.flat_history.proofs.GivenLaws.{holder-given}
+use Rattle.safe_additions.specs.row_io_Rows.{reading_of, is_missing}
+use Rattle.safe_additions.specs.flat_history_Flat.{now}
+use Rattle.safe_additions.specs.flat_history_World.{World, reading_at, opening_list}
+use Rattle.safe_additions.specs.flat_history_Losses.{was_dirty}
+use Rattle.safe_additions.specs.flat_history_Opened.{IsSound, OpensSound, OpensGood}
+use Rattle.safe_additions.specs.flat_history_OneShape.{opening_in, is_absent_at_first, is_used_in}
+use Rattle.safe_additions.specs.flat_history_Epochs.{OpensAlike}
+use Rattle.safe_additions.proofs.flat_history_GivenLaws.{holder-given}
 use Rattle.safe_additions.specs.views_Whole.{Places, list_size}
 use Rattle.safe_additions.specs.views_Placed.{places_of, IsPlaced}
 use Rattle.safe_additions.specs.shape_changes_Steady.{AreUnlost}

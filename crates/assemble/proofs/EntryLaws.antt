@@ -6,7 +6,7 @@ use Rattle.std.specs.Prelude.{slice_index_or}
 use borrow.Rule.Slice.PartMut.{put_mid}
 use Rattle.md_base.specs.Search.{tabulate}
 use Rattle.md_base.proofs.Tabulated.{length-tabulate, get_or-tabulate}
-use Rattle.flat_history.specs.Created.{first_entries}
+use Rattle.safe_additions.specs.flat_history_Created.{first_entries}
 
 pub entries-first : (i : ℕ) → i < 384 → slice_index_or (replicate 384 0xfffe) i 0 ≡ cond (nat_lt i 0) i 0xfffe
 entries-first i h = get_or-replicate 384 i 0xfffe 0 h ∙ sym (none_below i)

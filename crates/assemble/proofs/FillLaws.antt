@@ -9,13 +9,13 @@ use Rattle.superblocks.specs.Found.{IsInSectors}
 use Rattle.sb1.specs.Superblock.{is_valid, sb_of, superblock_in, two_by_two}
 use Rattle.sb1.proofs.RoleTable.{two_by_two-append, length-two_by_two}
 use Rattle.md_base.proofs.Tabulated.{length-tabulate}
-use Rattle.flat_history.specs.Created.{first_entries}
+use Rattle.safe_additions.specs.flat_history_Created.{first_entries}
 use Rattle.bank.specs.declared.bank.Operation.{Operation}
 use Rattle.bank.specs.declared.bank.Operation.TheVariants.{Write, Flush}
 use Rattle.bank.specs.Given.{Given}
 use Rattle.bank.specs.Tape.{Contents, contents, disk, value_after, Did, AreSectors}
 use Rattle.bank.proofs.Laws.{value_after-append, choices-present, disk-written, disk-unwritten, disk-flushed, disk-unflushed}
-use Rattle.row_io.specs.Rows.{present}
+use Rattle.safe_additions.specs.row_io_Rows.{present}
 use Rattle.assemble.specs.declared.spec.CreateSpec.{CreateSpec}
 use Rattle.assemble.specs.Making.{created_sb}
 use Rattle.assemble.specs.Filling.{AreBelow, OnlyBelow, IsSlotDone, IsMade}

@@ -29,19 +29,19 @@ use Rattle.parity.proofs.Refilled.{filled-sector, good-filled}
 use Rattle.superblocks.specs.declared.members.Members.{Members}
 use Rattle.superblocks.specs.Reading.{Scope, Reading, reading, is_reshaping, shape_of, target_of, list_length, next_window, rows_held, role_state, holder, data_offset_of}
 use Rattle.superblocks.specs.Election.{reading_in}
-use Rattle.row_io.specs.Rows.{reading_of, is_held, held_slot, held_sector, held_row, standing_sector, IsTolerated}
-use Rattle.row_io.specs.Writes.{is_parity}
-use Rattle.row_io.proofs.Losses.{row_is, all_stand}
-use Rattle.row_io.proofs.NewRow.{parity_few, lacking_few}
-use Rattle.list_io.specs.Full.{listed_at, full_sector, AreWholeIn, RowStands}
-use Rattle.list_io.proofs.FullLaws.{full-data, listed-is, row_roles-valid, sector_there}
-use Rattle.list_io.proofs.Parities.{filled-same}
-use Rattle.flat_history.specs.ActiveSection.{section_for, active_section}
-use Rattle.flat_history.specs.Flat.{now, values_of}
-use Rattle.flat_history.specs.Opened.{HasGoodRows}
-use Rattle.flat_history.specs.Reshaped.{IsGoodRow}
-use Rattle.flat_history.specs.Stands.{stands, shape_for, covers, placed_sector, held_sector as found_sector, held_row as found_row, standing_sector as listed_sector}
-use Rattle.flat_history.proofs.SameLaws.{stands-is}
+use Rattle.safe_additions.specs.row_io_Rows.{reading_of, is_held, held_slot, held_sector, held_row, standing_sector, IsTolerated}
+use Rattle.safe_additions.specs.row_io_Writes.{is_parity}
+use Rattle.safe_additions.proofs.row_io_Losses.{row_is, all_stand}
+use Rattle.safe_additions.proofs.row_io_NewRow.{parity_few, lacking_few}
+use Rattle.safe_additions.specs.list_io_Full.{listed_at, full_sector, AreWholeIn, RowStands}
+use Rattle.safe_additions.proofs.list_io_FullLaws.{full-data, listed-is, row_roles-valid, sector_there}
+use Rattle.safe_additions.proofs.list_io_Parities.{filled-same}
+use Rattle.safe_additions.specs.flat_history_ActiveSection.{section_for, active_section}
+use Rattle.safe_additions.specs.flat_history_Flat.{now, values_of}
+use Rattle.safe_additions.specs.flat_history_Opened.{HasGoodRows}
+use Rattle.safe_additions.specs.flat_history_Reshaped.{IsGoodRow}
+use Rattle.safe_additions.specs.flat_history_Stands.{stands, shape_for, covers, placed_sector, held_sector as found_sector, held_row as found_row, standing_sector as listed_sector}
+use Rattle.safe_additions.proofs.flat_history_SameLaws.{stands-is}
 use Rattle.safe_additions.specs.views_Placed.{places_of, IsPlaced}
 use Rattle.safe_additions.specs.views_Whole.{list_size}
 use Rattle.safe_additions.specs.views_Lacking.{ListStands, RowsStand}

@@ -24,7 +24,7 @@ use Rattle.superblocks.specs.Found.{AreInSectors}
 use Rattle.superblocks.proofs.ValidFields.{valid-shapes}
 use Rattle.election.proofs.Elected.{map-tabulate}
 use Rattle.safe_additions.specs.shape_views_Regions.{DoWithout}
-use Rattle.flat_history.specs.Stands.{verdict, refusal_of, backup_absent, has_room, reach_of}
+use Rattle.safe_additions.specs.flat_history_Stands.{verdict, refusal_of, backup_absent, has_room, reach_of}
 use Rattle.assemble.specs.declared.opening.Opened.{Opened}
 use Rattle.assemble.specs.Opening.{scope_of, array_of, AreGiven, AreOfGiven, AreCounted, IsFound, IsAside, IsUnfound, HasFoundNone}
 use Rattle.assemble.specs.Looking.{lengths_scope, IsMade, IsLacking, IsJudged}

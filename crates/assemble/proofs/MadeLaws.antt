@@ -25,7 +25,7 @@ use Rattle.superblocks.specs.Verdict.{fresh_from, unsupported, bad_field, is_bad
 use Rattle.superblocks.specs.Election.{IsElected}
 use Rattle.superblocks.proofs.ReadLists.{holder-step, none-fresh, none-unsupported, none-shared}
 use Rattle.superblocks.proofs.Searches.{any_below-none}
-use Rattle.flat_history.specs.Created.{first_entries}
+use Rattle.safe_additions.specs.flat_history_Created.{first_entries}
 use Rattle.assemble.specs.declared.spec.CreateSpec.{CreateSpec}
 use Rattle.assemble.specs.Making.{created_sb}
 use Rattle.assemble.specs.Creating.{HasRoom, rows_end}

@@ -26,8 +26,8 @@ use Rattle.superblocks.specs.Verdict.{members_verdict}
 use Rattle.superblocks.specs.Update.{is_held_by}
 use Rattle.superblocks.specs.Writing.{IsMember, AreWritable}
 use Rattle.superblocks.specs.Found.{AreInSectors}
-use Rattle.row_io.specs.Rows.{reading_of as members_reading}
-use Rattle.flat_history.specs.Stands.{verdict}
+use Rattle.safe_additions.specs.row_io_Rows.{reading_of as members_reading}
+use Rattle.safe_additions.specs.flat_history_Stands.{verdict}
 use Rattle.assemble.specs.declared.spec.CreateSpec.{CreateSpec}
 use Rattle.safe_additions.specs.views_Placed.{IsPlaced}
 use Rattle.assemble.specs.Opening.{scope_of, IsOpened, AreGiven}

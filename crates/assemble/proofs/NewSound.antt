@@ -8,9 +8,9 @@ use Rattle.layout.proofs.Places.{place-row_below}
 use Rattle.parity.specs.Parity.{Row, lacking_in, AreEquationsMet}
 use Rattle.parity.proofs.Lacking.{lacking_in-row, lack_list-none}
 use Rattle.superblocks.specs.Reading.{Scope, Reading}
-use Rattle.flat_history.specs.Opened.{IsSound}
-use Rattle.flat_history.specs.Reshaped.{IsGoodRow}
-use Rattle.flat_history.specs.Stands.{held_sector, held_row}
+use Rattle.safe_additions.specs.flat_history_Opened.{IsSound}
+use Rattle.safe_additions.specs.flat_history_Reshaped.{IsGoodRow}
+use Rattle.safe_additions.specs.flat_history_Stands.{held_sector, held_row}
 use Rattle.safe_additions.specs.views_Rows.{AreGoodRows}
 use Rattle.safe_additions.specs.views_Whole.{Places, AreFit, in_row, list_size, IsReadWhole}
 use Rattle.safe_additions.proofs.views_WholeLaws.{length-is, shape-is, held-is}

@@ -26,8 +26,8 @@ use Rattle.parity.proofs.Contents.{whole-good}
 use Rattle.superblocks.specs.declared.members.Members.{Members}
 use Rattle.superblocks.specs.Reading.{Scope, Reading, role_state, holder, data_offset_of}
 use Rattle.superblocks.specs.Election.{reading_in}
-use Rattle.row_io.specs.Rows.{reading_of}
-use Rattle.flat_history.specs.Stands.{verdict, refusal_of}
+use Rattle.safe_additions.specs.row_io_Rows.{reading_of}
+use Rattle.safe_additions.specs.flat_history_Stands.{verdict, refusal_of}
 use Rattle.assemble.specs.declared.spec.CreateSpec.{CreateSpec}
 use Rattle.safe_additions.specs.views_Whole.{Places, AreFit, in_row, IsReadWhole}
 use Rattle.safe_additions.specs.views_Placed.{places_of}

@@ -22,11 +22,11 @@ use Rattle.superblocks.specs.Stages.{AreLeft}
 use Rattle.superblocks.specs.Election.{reading_in}
 use Rattle.superblocks.specs.Found.{AreLikeNewest, IsInSectors, AreInSectors}
 use Rattle.superblocks.proofs.SlotSets.{has-set_of}
-use Rattle.superblock_reads.proofs.Accepted.{IsAccepted, is-accepted}
-use Rattle.superblock_reads.proofs.SaidSlots.{read-parts}
-use Rattle.superblock_reads.proofs.FoundHeld.{found-of, found-held, found-exact, found-said, live-seen}
-use Rattle.superblock_reads.proofs.StageReads.{held-reads}
-use Rattle.flat_history.specs.Stands.{verdict, refusal_of, backup_absent}
+use Rattle.safe_additions.proofs.superblock_reads_Accepted.{IsAccepted, is-accepted}
+use Rattle.safe_additions.proofs.superblock_reads_SaidSlots.{read-parts}
+use Rattle.safe_additions.proofs.superblock_reads_FoundHeld.{found-of, found-held, found-exact, found-said, live-seen}
+use Rattle.safe_additions.proofs.superblock_reads_StageReads.{held-reads}
+use Rattle.safe_additions.specs.flat_history_Stands.{verdict, refusal_of, backup_absent}
 use Rattle.safe_additions.specs.shape_changes_Marking.{marking}
 use Rattle.safe_additions.specs.shape_changes_Held.{IsHeldBy}
 use Rattle.array_kept.specs.Adopting.{AreNumbersKept}

@@ -23,10 +23,10 @@ use Rattle.superblocks.specs.Verdict.{members_refusal, bad_field, judged_fields,
 use Rattle.superblocks.specs.Election.{reading_in, IsElected}
 use Rattle.superblocks.specs.Update.{is_held_by, is_live}
 use Rattle.superblocks.specs.Writing.{IsMember, AreWritable}
-use Rattle.superblock_reads.proofs.Accepted.{IsAccepted, is-accepted}
+use Rattle.safe_additions.proofs.superblock_reads_Accepted.{IsAccepted, is-accepted}
 use Rattle.superblocks.proofs.ValidFields.{few-roles}
-use Rattle.row_io.specs.Rows.{reading_of}
-use Rattle.row_io.proofs.Apart.{readings-are-apart}
+use Rattle.safe_additions.specs.row_io_Rows.{reading_of}
+use Rattle.safe_additions.proofs.row_io_Apart.{readings-are-apart}
 use Rattle.safe_additions.specs.views_Placed.{IsPlaced}
 use Rattle.safe_additions.specs.shape_changes_Steady.{AreUnlost}
 use Rattle.safe_additions.specs.views_Rebuilding.{AreSparesFree}

@@ -18,12 +18,12 @@ use Rattle.superblocks.specs.Election.{reading_in}
 use Rattle.superblocks.specs.Reads.{HasNoLateRoles, IsNewestLike, has_spare}
 use Rattle.superblocks.specs.Found.{AreLikeNewest, AreInSectors}
 use Rattle.superblocks.proofs.SlotSets.{none_there}
-use Rattle.row_io.specs.Rows.{reading_of, is_missing}
-use Rattle.flat_history.specs.declared.events.Event.{Event}
-use Rattle.flat_history.specs.Plain.{entries_of}
-use Rattle.flat_history.specs.World.{World, opening_list, reading_at}
-use Rattle.flat_history.specs.Epochs.{OpensAlike}
-use Rattle.flat_history.specs.Opened.{IsSound, OpensSound}
+use Rattle.safe_additions.specs.row_io_Rows.{reading_of, is_missing}
+use Rattle.safe_additions.specs.flat_history_the_Event.{Event}
+use Rattle.safe_additions.specs.flat_history_Plain.{entries_of}
+use Rattle.safe_additions.specs.flat_history_World.{World, opening_list, reading_at}
+use Rattle.safe_additions.specs.flat_history_Epochs.{OpensAlike}
+use Rattle.safe_additions.specs.flat_history_Opened.{IsSound, OpensSound}
 use Rattle.assemble.specs.declared.spec.CreateSpec.{CreateSpec}
 use Rattle.safe_additions.specs.views_Parts.{Parts}
 use Rattle.safe_additions.specs.views_Placed.{places_of, AreWhole}

@@ -14,15 +14,15 @@ use Rattle.bank.proofs.Images.{image-now}
 use Rattle.superblocks.specs.Reading.{Reading, reading, is_reshaping, shape_of, final_shape, is_backward, next_window, list_length}
 use Rattle.superblocks.specs.Election.{reading_in}
 use Rattle.geometry.specs.Geometry.{window}
-use Rattle.flat_history.specs.ActiveSection.{active_section}
-use Rattle.flat_history.specs.Stands.{stands, standing_sector, placed_sector, shape_for, covers}
-use Rattle.flat_history.specs.Flat.{IsAllowed, values_of}
-use Rattle.flat_history.specs.World.{World, opening_list, may_hold}
-use Rattle.flat_history.specs.Settled.{IsSettled, HasSources, IsSourced, IsOneOfNextTwo, deciding}
-use Rattle.flat_history.specs.Same.{HaveSameSlots}
-use Rattle.flat_history.proofs.SettledLaws.{safe-of-sources}
-use Rattle.flat_history.proofs.SameLaws.{stands-is}
-use Rattle.flat_history.proofs.GivenLaws.{only-given-seen}
+use Rattle.safe_additions.specs.flat_history_ActiveSection.{active_section}
+use Rattle.safe_additions.specs.flat_history_Stands.{stands, standing_sector, placed_sector, shape_for, covers}
+use Rattle.safe_additions.specs.flat_history_Flat.{IsAllowed, values_of}
+use Rattle.safe_additions.specs.flat_history_World.{World, opening_list, may_hold}
+use Rattle.safe_additions.specs.flat_history_Settled.{IsSettled, HasSources, IsSourced, IsOneOfNextTwo, deciding}
+use Rattle.safe_additions.specs.flat_history_Same.{HaveSameSlots}
+use Rattle.safe_additions.proofs.flat_history_SettledLaws.{safe-of-sources}
+use Rattle.safe_additions.proofs.flat_history_SameLaws.{stands-is}
+use Rattle.safe_additions.proofs.flat_history_GivenLaws.{only-given-seen}
 use Rattle.assemble.specs.declared.opening.Opened.{Opened}
 use Rattle.assemble.specs.Opening.{IsOpened, AreFlushed}
 use Rattle.assemble.specs.Safe.{world_of, OpeningsAreSafe}

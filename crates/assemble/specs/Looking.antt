@@ -7,7 +7,7 @@ use Rattle.sb1.specs.declared.sb.Sb.{Sb}
 use Rattle.superblocks.specs.Reading.{Scope, Reading, reading_of}
 use Rattle.superblocks.specs.Verdict.{members_verdict}
 use Rattle.superblocks.specs.Election.{IsElected}
-use Rattle.flat_history.specs.Stands.{backup_absent}
+use Rattle.safe_additions.specs.flat_history_Stands.{backup_absent}
 use Rattle.assemble.specs.declared.opening.Opened.{Opened}
 
 -- these slots, with these lengths, looked at for no array

@@ -3,7 +3,7 @@ use Rattle.std.specs.Prelude.{ℕ, ◌-◌, List}
 use Rattle.sb1.specs.declared.sb.Sb.{Sb}
 use Rattle.assemble.specs.declared.spec.CreateSpec.{CreateSpec}
 use Rattle.safe_additions.specs.views_Numbers.{device_uuid}
-use Rattle.flat_history.specs.Created.{Device, created}
+use Rattle.safe_additions.specs.flat_history_Created.{Device, created}
 
 -- the device with a number, on a slot of so many sectors, with these role entries in its second sector
 abbrev pub device_of : CreateSpec → ℕ → ℕ → List ℕ → Device

@@ -6,7 +6,7 @@ use Rattle.bank.specs.Given.{Given}
 use Rattle.bank.specs.Tape.{Contents}
 use Rattle.superblocks.specs.Reading.{Scope}
 use Rattle.superblocks.specs.Election.{reading_in}
-use Rattle.flat_history.specs.Stands.{stands}
+use Rattle.safe_additions.specs.flat_history_Stands.{stands}
 use Rattle.assemble.specs.declared.spec.CreateSpec.{CreateSpec}
 use Rattle.safe_additions.specs.views_Whole.{Places, list_size, IsReadWhole}
 use Rattle.safe_additions.specs.views_Rows.{AreGoodRows}

@@ -11,7 +11,7 @@ use Rattle.bank.specs.Tape.{Contents, contents, disk}
 use Rattle.superblocks.specs.Reading.{Scope, reading, is_reshaping, is_backup}
 use Rattle.superblocks.specs.Update.{own_in}
 use Rattle.superblocks.specs.Election.{seen_superblocks, uuid_for, reading_in, IsElected}
-use Rattle.flat_history.specs.Stands.{verdict, backup_absent}
+use Rattle.safe_additions.specs.flat_history_Stands.{verdict, backup_absent}
 use Rattle.assemble.specs.declared.opening.Opened.{Opened}
 
 -- these slots of a bank, looked at for an array

@@ -5,16 +5,16 @@ use Rattle.md_base.specs.Shapes.{data_disks}
 use Rattle.bank.specs.declared.bank.Operation.{Operation}
 use Rattle.bank.specs.Given.{Given}
 use Rattle.bank.specs.Tape.{contents}
-use Rattle.row_io.specs.Rows.{reading_of}
-use Rattle.flat_history.specs.World.{opening_list}
-use Rattle.flat_history.specs.Epochs.{OpensAlike}
-use Rattle.flat_history.specs.Opened.{OpensSound}
+use Rattle.safe_additions.specs.row_io_Rows.{reading_of}
+use Rattle.safe_additions.specs.flat_history_World.{opening_list}
+use Rattle.safe_additions.specs.flat_history_Epochs.{OpensAlike}
+use Rattle.safe_additions.specs.flat_history_Opened.{OpensSound}
 use Rattle.safe_additions.specs.views_Parts.{Parts}
 use Rattle.safe_additions.specs.views_Placed.{AreWhole}
 use Rattle.safe_additions.specs.shape_views_Regions.{DoWithout}
 use Rattle.array_kept.specs.Calls.{world_for}
 use Rattle.array_kept.specs.Adopting.{opener, found_losses, found_work}
-use Rattle.flat_history.specs.Plain.{entries_of}
+use Rattle.safe_additions.specs.flat_history_Plain.{entries_of}
 use Rattle.assemble.specs.declared.spec.CreateSpec.{CreateSpec}
 use Rattle.assemble.specs.declared.opening.Opened.{Opened}
 use Rattle.assemble.specs.Opening.{AreGiven, IsOpened}

@@ -5,9 +5,9 @@ use Rattle.bank.specs.declared.bank.Operation.{Operation}
 use Rattle.bank.specs.Given.{Given}
 use Rattle.bank.specs.Tape.{contents, disk}
 use Rattle.superblocks.specs.Found.{AreLikeNewest, AreInSectors}
-use Rattle.flat_history.specs.World.{World}
-use Rattle.flat_history.specs.CrashSafe.{IsSafeAt}
-use Rattle.flat_history.specs.Settled.{IsKeptAt}
+use Rattle.safe_additions.specs.flat_history_World.{World}
+use Rattle.safe_additions.specs.flat_history_CrashSafe.{IsSafeAt}
+use Rattle.safe_additions.specs.flat_history_Settled.{IsKeptAt}
 use Rattle.safe_additions.specs.shape_changes_Held.{IsHeldBy}
 use Rattle.assemble.specs.declared.opening.Opened.{Opened}
 use Rattle.assemble.specs.Opening.{scope_of, IsOpened, AreFlushed}

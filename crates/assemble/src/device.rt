@@ -1,7 +1,7 @@
 //! The superblock of a member of an array that is made.
 
 ghost use Rattle.std.specs.Prelude.{◌≡◌, ◌≤◌, ◌++◌, length};
-ghost use Rattle.flat_history.specs.Created.{first_entries};
+ghost use Rattle.safe_additions.specs.flat_history_Created.{first_entries};
 ghost use Rattle.assemble.specs.Making.{created_sb};
 
 use crate::spec::CreateSpec;

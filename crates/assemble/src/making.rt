@@ -12,7 +12,7 @@ ghost use Rattle.bank.specs.Tape.{contents};
 ghost use Rattle.superblocks.specs.Writing.{AreWritable};
 ghost use Rattle.superblocks.specs.Found.{AreInSectors};
 ghost use Rattle.safe_additions.specs.views_Flushing.{OnlyFlushesAdded, OnlyItsSlotsFail};
-ghost use Rattle.row_io.specs.Rows.{present};
+ghost use Rattle.safe_additions.specs.row_io_Rows.{present};
 ghost use Rattle.assemble.specs.Opening.{scope_of, AreGiven, AreFlushed, IsOpened};
 ghost use Rattle.assemble.specs.Creating.{IsLastSlot, HasRoom, create_refusal};
 ghost use Rattle.assemble.specs.Filling.{OnlyBelow, AreFilled, AreStored, AreZeros, AreSlotsDone, OnlyFirstFail};

@@ -5,7 +5,7 @@ ghost use Rattle.std.specs.Option.{option_map_or};
 ghost use Rattle.md_base.specs.Shapes.{has_slot};
 ghost use Rattle.superblocks.specs.Reading.{target_of};
 ghost use Rattle.superblocks.specs.Verdict.{AreValidShapes};
-ghost use Rattle.flat_history.specs.Stands.{reach_of, backup_absent};
+ghost use Rattle.safe_additions.specs.flat_history_Stands.{reach_of, backup_absent};
 ghost use Rattle.assemble.specs.Looking.{lengths_scope};
 
 use geometry::unit;

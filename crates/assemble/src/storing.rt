@@ -5,7 +5,7 @@ ghost use Rattle.bank.specs.declared.bank.Operation.TheVariants.{Write, Flush};
 ghost use Rattle.bank.specs.Given.{IsPlace, HasCause, IsFaulted};
 ghost use Rattle.bank.specs.Tape.{Did};
 ghost use Rattle.sb1.specs.Superblock.{is_valid, sb_of};
-ghost use Rattle.row_io.specs.Rows.{present};
+ghost use Rattle.safe_additions.specs.row_io_Rows.{present};
 ghost use Rattle.assemble.specs.Creating.{rows_end};
 ghost use Rattle.assemble.specs.Filling.{OnlyBelow, IsSlotDone, IsMade, IsStored, AreFirst, AreStored, AreSlotsDone, OnlyFirstFail};
 

@@ -3,7 +3,7 @@
 ghost use Rattle.std.specs.Prelude.{◌≡◌, ◌≢◌, ◌+◌, ◌<◌, ◌≤◌, ◌^◌, ℕ, OnOk, OnErr, IfErr};
 ghost use Rattle.md_base.specs.Sectors.{zero_sector};
 ghost use Rattle.bank.specs.Given.{Given, IsFaulted, NeverFalls};
-ghost use Rattle.row_io.specs.Rows.{present};
+ghost use Rattle.safe_additions.specs.row_io_Rows.{present};
 ghost use Rattle.assemble.specs.Creating.{rows_end};
 ghost use Rattle.assemble.specs.Filling.{OnlyBelow, IsSlotDone, AreSlotsDone, OnlyFirstFail, AreZeros};
 

@@ -9,7 +9,7 @@ use Rattle.std.specs.Prelude.{if◌then◌else◌, nat_lt, is_some, IsNone, IsTr
 use Rattle.std.specs.Global.{Vec}
 use Rattle.std.specs.List.{All}
 use Rattle.std.specs.Option.{option_and_then, option_map_or}
-use Rattle.superblocks.specs.Reading.{list_length}
+use Rattle.line_answers.specs.superblocks_Reading.{list_length}
 use Rattle.flat_history.specs.declared.events.Entry.{Entry}
 use Rattle.flat_history.specs.declared.events.Epoch.{Epoch}
 use Rattle.flat_history.specs.declared.events.Event.{Event}

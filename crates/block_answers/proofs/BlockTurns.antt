@@ -9,9 +9,9 @@ use Rattle.std.specs.Global.{Vec}
 use Rattle.std.specs.List.{All, list_any}
 use Rattle.bank.specs.declared.bank.Operation.{Operation}
 use Rattle.bank.specs.Given.{Given}
-use Rattle.superblocks.specs.declared.members.Members.{Members}
-use Rattle.superblocks.specs.Reading.{is_reshaping, list_length}
-use Rattle.superblocks.specs.Reads.{has_spare}
+use Rattle.line_answers.specs.superblocks_the_Members.{Members}
+use Rattle.line_answers.specs.superblocks_Reading.{is_reshaping, list_length}
+use Rattle.line_answers.specs.superblocks_Reads.{has_spare}
 use Rattle.flat_history.specs.declared.events.Entry.{Entry}
 use Rattle.flat_history.specs.declared.events.Epoch.{Epoch}
 use Rattle.flat_history.specs.declared.events.Event.{Event}
@@ -19,7 +19,7 @@ use Rattle.flat_history.specs.declared.events.Event.TheVariants.{Added}
 use Rattle.flat_history.specs.Flat.{next_number, number_after, length_of, limit_of}
 use Rattle.flat_history.specs.Reshaped.{is_planned}
 use Rattle.flat_history.specs.World.{World}
-use Rattle.grow_asked.specs.Left.{phases_of}
+use Rattle.line_answers.specs.grow_asked_Left.{phases_of}
 use Rattle.line_answers.specs.array_kept_Calls.{IsEndOf}
 use Rattle.line_answers.specs.run_laws_the_State_TheVariants.{Running}
 use Rattle.line_answers.specs.running_calls_Going.{is_added as is_told_added, MayHoldSince, MayBeNewSpare, AreHeldSince as AreHeldBy, AreLossesSince as AreLossesBy, HasGoneOn}

@@ -25,3 +25,4 @@ pub use Rattle.line_answers.specs.still_laws_Plain
 pub use Rattle.line_answers.specs.running_replies_Replies
 pub use Rattle.line_answers.specs.run_laws_Showing
 pub use Rattle.lanes.specs.views_Moving
+pub use Rattle.line_answers.specs.superblocks_Reading

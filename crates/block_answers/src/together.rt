@@ -2,8 +2,8 @@
 
 ghost use Rattle.std.specs.Prelude.{◌≡◌, length, drop, IfOk, IsTrue};
 ghost use Rattle.std.specs.List.{AllPass};
-ghost use Rattle.superblocks.specs.Reading.{is_reshaping, list_length};
-ghost use Rattle.grow_asked.specs.Left.{phases_of};
+ghost use Rattle.line_answers.specs.superblocks_Reading.{is_reshaping, list_length};
+ghost use Rattle.line_answers.specs.grow_asked_Left.{phases_of};
 ghost use Rattle.script.specs.Grammar.{is_for_lanes};
 ghost use Rattle.script.specs.Script.{is_within_limits};
 ghost use Rattle.line_answers.specs.array_kept_Calls.{IsEndOf};

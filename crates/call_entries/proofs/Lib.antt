@@ -31,3 +31,21 @@ pub use Rattle.views.proofs.shape_changes_Since
 pub use Rattle.views.proofs.shape_changes_Without
 pub use Rattle.views.proofs.shape_views_Stands
 pub use Rattle.views.proofs.shape_views_Alike
+pub use Rattle.history_laws.proofs.OneShapeGrowing as history_laws_OneShapeGrowing
+pub use Rattle.history_laws.proofs.NumberLaws as history_laws_NumberLaws
+pub use Rattle.history_laws.proofs.GrowingLaws as history_laws_GrowingLaws
+pub use Rattle.flat_history.proofs.OneShapeLegal as flat_history_OneShapeLegal
+pub use Rattle.flat_history.proofs.OneShapeGone as flat_history_OneShapeGone
+pub use Rattle.flat_history.proofs.SoundLaws as flat_history_SoundLaws
+pub use Rattle.views.proofs.superblock_reads_SaidSlots
+pub use Rattle.superblocks.proofs.ValidFields as superblocks_ValidFields
+pub use Rattle.flat_history.proofs.LegalLaws as flat_history_LegalLaws
+pub use Rattle.views.proofs.list_io_FullLaws
+pub use Rattle.views.proofs.row_io_Losses
+pub use Rattle.superblocks.proofs.SlotSets as superblocks_SlotSets
+pub use Rattle.superblocks.proofs.Searches as superblocks_Searches
+pub use Rattle.views.proofs.row_io_Apart
+pub use Rattle.views.proofs.superblock_reads_Accepted
+pub use Rattle.views.proofs.superblock_reads_FoundHeld
+pub use Rattle.views.proofs.superblock_reads_StageReads
+pub use Rattle.history_laws.proofs.ReshapedLaws as history_laws_ReshapedLaws

@@ -9,21 +9,21 @@ use Rattle.md_base.specs.Sectors.{Sector}
 use Rattle.md_base.specs.declared.answers.Who.{Who}
 use Rattle.md_base.specs.declared.status.Role.{Role}
 use Rattle.md_base.specs.declared.status.Role.TheVariants.{Whole, Recovering, Missing}
-use Rattle.superblocks.specs.Reading.{Reading, is_whole, role_state}
-use Rattle.row_io.specs.Rows.{is_missing}
-use Rattle.flat_history.specs.declared.events.Entry.{Entry}
-use Rattle.flat_history.specs.declared.events.Event.{Event}
-use Rattle.flat_history.specs.declared.events.Event.TheVariants.{Lost}
-use Rattle.flat_history.specs.declared.events.LostCause.{LostCause}
-use Rattle.flat_history.specs.declared.events.LostCause.TheVariants.{Absent, Recovering as ByRecovering}
-use Rattle.flat_history.specs.Flat.{now, length_after, limit_after, values_after}
-use Rattle.flat_history.specs.Legal.{left_after}
-use Rattle.flat_history.specs.Losses.{is_resync_end}
-use Rattle.flat_history.specs.Transfers.{last_end_from}
-use Rattle.flat_history.specs.Plain.{loses_role, entries_of}
-use Rattle.flat_history.specs.OneShape.{ShapeOpening, is_lost, is_gone_now, IsOneShapeLegal, KeepShape, is_spare_now}
-use Rattle.flat_history.proofs.OneShapeGone.{gone-lost}
-use Rattle.history_laws.proofs.OneShapeGrowing.{AreMissing, loss_events, found-legal, call-ends, entries-both}
+use Rattle.array_kept.specs.superblocks_Reading.{Reading, is_whole, role_state}
+use Rattle.array_kept.specs.row_io_Rows.{is_missing}
+use Rattle.array_kept.specs.flat_history_the_Entry.{Entry}
+use Rattle.array_kept.specs.flat_history_the_Event.{Event}
+use Rattle.array_kept.specs.flat_history_the_Event_TheVariants.{Lost}
+use Rattle.array_kept.specs.flat_history_the_LostCause.{LostCause}
+use Rattle.array_kept.specs.flat_history_the_LostCause_TheVariants.{Absent, Recovering as ByRecovering}
+use Rattle.array_kept.specs.flat_history_Flat.{now, length_after, limit_after, values_after}
+use Rattle.array_kept.specs.flat_history_Legal.{left_after}
+use Rattle.array_kept.specs.flat_history_Losses.{is_resync_end}
+use Rattle.array_kept.specs.flat_history_Transfers.{last_end_from}
+use Rattle.array_kept.specs.flat_history_Plain.{loses_role, entries_of}
+use Rattle.array_kept.specs.flat_history_OneShape.{ShapeOpening, is_lost, is_gone_now, IsOneShapeLegal, KeepShape, is_spare_now}
+use Rattle.array_kept.proofs.flat_history_OneShapeGone.{gone-lost}
+use Rattle.array_kept.proofs.history_laws_OneShapeGrowing.{AreMissing, loss_events, found-legal, call-ends, entries-both}
 use Rattle.array_kept.specs.views_Rebuilding.{HasNoRebuilt}
 use Rattle.array_kept.specs.Adopting.{opener, found_loss, absent_loss, absent_losses}
 use Rattle.array_kept.proofs.call_entries_CallLaws.{GivesNone}

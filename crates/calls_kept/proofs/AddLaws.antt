@@ -8,16 +8,16 @@ use Rattle.sb1.specs.declared.sb.Sb.{Sb}
 use Rattle.md_base.specs.Shapes.{is_valid_shape}
 use Rattle.md_base.specs.Sectors.{Sector}
 use Rattle.md_base.specs.declared.answers.Who.{Who}
-use Rattle.superblocks.specs.Held.{IsSecondHalf}
+use Rattle.array_kept.specs.superblocks_Held.{IsSecondHalf}
 use Rattle.md_base.specs.declared.answers.Refusal.{Refusal}
 use Rattle.md_base.specs.declared.answers.Refusal.TheVariants.{PastEnd, TooManyMissing, NoSuchSlot, SlotTaken, SlotTooSmall, SlotFault}
 use Rattle.bank.specs.Given.{Given}
-use Rattle.superblocks.specs.declared.members.Members.{Members}
+use Rattle.array_kept.specs.superblocks_the_Members.{Members}
 use Rattle.md_base.specs.Shapes.{has_slot}
-use Rattle.superblocks.specs.Reads.{has_spare}
-use Rattle.superblocks.specs.Update.{own_in}
-use Rattle.superblocks.specs.Reading.{Scope, is_seen, is_backup, shape_of, role_state, holder, data_offset_of, entry_of}
-use Rattle.row_io.specs.Rows.{reading_of}
+use Rattle.array_kept.specs.superblocks_Reads.{has_spare}
+use Rattle.array_kept.specs.superblocks_Update.{own_in}
+use Rattle.array_kept.specs.superblocks_Reading.{Scope, is_seen, is_backup, shape_of, role_state, holder, data_offset_of, entry_of}
+use Rattle.array_kept.specs.row_io_Rows.{reading_of}
 use Rattle.array_kept.specs.Calls.{IsTaken, IsFirstOffset, IsUnaddable, IsAddedAs, IsReplied, IsRefusedFor}
 use Rattle.array_kept.specs.views_Rebuilding.{Held}
 use Rattle.array_kept.specs.views_Lacking.{AreTooMany}
@@ -26,13 +26,13 @@ use Rattle.array_kept.specs.views_Numbers.{is_carried, free_number, spare_sb, Is
 use Rattle.array_kept.specs.Kept.{scope_in}
 use Rattle.array_kept.specs.views_the_Work.{Work}
 use Rattle.array_kept.specs.views_Rebuilding.{IfOwn}
-use Rattle.flat_history.specs.declared.events.Entry.{Entry}
-use Rattle.flat_history.specs.declared.events.Event.{Event}
-use Rattle.flat_history.specs.declared.events.Event.TheVariants.{Added, Refused}
-use Rattle.flat_history.specs.declared.events.Request.TheVariants.{Add as AsksAdd}
-use Rattle.flat_history.specs.Flat.{next_number}
-use Rattle.flat_history.specs.OneShape.{OneShapeAnswers}
-use Rattle.flat_history.specs.Plain.{entries_of}
+use Rattle.array_kept.specs.flat_history_the_Entry.{Entry}
+use Rattle.array_kept.specs.flat_history_the_Event.{Event}
+use Rattle.array_kept.specs.flat_history_the_Event_TheVariants.{Added, Refused}
+use Rattle.array_kept.specs.flat_history_the_Request_TheVariants.{Add as AsksAdd}
+use Rattle.array_kept.specs.flat_history_Flat.{next_number}
+use Rattle.array_kept.specs.flat_history_OneShape.{OneShapeAnswers}
+use Rattle.array_kept.specs.flat_history_Plain.{entries_of}
 use Rattle.array_kept.specs.call_entries_Losing.{losses_of}
 use Rattle.array_kept.proofs.call_entries_CallLaws.{AreLossEvents, losses-are, torn-losses}
 use Rattle.array_kept.proofs.ReplyLaws.{inside-losses, none-inside, replied}

@@ -13,22 +13,22 @@ use Rattle.bank.specs.Given.{Given, Sizes}
 use Rattle.bank.specs.Tape.{IsIn, disk}
 use Rattle.bank.proofs.Marks.{each_mark-map}
 use Rattle.sb1.specs.declared.sb.Sb.{Sb}
-use Rattle.superblocks.specs.declared.members.Members.{Members}
-use Rattle.superblocks.specs.Reading.{Scope, role_state, holder, is_backup, shape_of}
-use Rattle.superblocks.specs.Reads.{has_spare}
-use Rattle.superblocks.specs.Held.{IsSecondHalf}
-use Rattle.row_io.specs.Rows.{reading_of, present}
-use Rattle.flat_history.specs.declared.events.Entry.{Entry}
-use Rattle.flat_history.specs.declared.events.Event.{Event}
-use Rattle.flat_history.specs.declared.events.Event.TheVariants.{Added, Refused}
-use Rattle.flat_history.specs.Flat.{now, values_after}
-use Rattle.flat_history.specs.Losses.{is_resync_end, settles}
-use Rattle.flat_history.specs.OneShape.{opening_in, is_unsettled, keeps_shape_event, IsCallOpen, IsOneShapeRefusal, adds_slot, IsTakenNow, IsTooSmallNow}
-use Rattle.flat_history.specs.Plain.{entries_of}
-use Rattle.flat_history.specs.Sound.{OpensFit, LosesNoRole}
-use Rattle.flat_history.specs.Legal.{told_left}
-use Rattle.flat_history.specs.World.{World, opening_list}
-use Rattle.history_laws.proofs.OneShapeGrowing.{one, IsOneShapeCall, call-faults}
+use Rattle.array_kept.specs.superblocks_the_Members.{Members}
+use Rattle.array_kept.specs.superblocks_Reading.{Scope, role_state, holder, is_backup, shape_of}
+use Rattle.array_kept.specs.superblocks_Reads.{has_spare}
+use Rattle.array_kept.specs.superblocks_Held.{IsSecondHalf}
+use Rattle.array_kept.specs.row_io_Rows.{reading_of, present}
+use Rattle.array_kept.specs.flat_history_the_Entry.{Entry}
+use Rattle.array_kept.specs.flat_history_the_Event.{Event}
+use Rattle.array_kept.specs.flat_history_the_Event_TheVariants.{Added, Refused}
+use Rattle.array_kept.specs.flat_history_Flat.{now, values_after}
+use Rattle.array_kept.specs.flat_history_Losses.{is_resync_end, settles}
+use Rattle.array_kept.specs.flat_history_OneShape.{opening_in, is_unsettled, keeps_shape_event, IsCallOpen, IsOneShapeRefusal, adds_slot, IsTakenNow, IsTooSmallNow}
+use Rattle.array_kept.specs.flat_history_Plain.{entries_of}
+use Rattle.array_kept.specs.flat_history_Sound.{OpensFit, LosesNoRole}
+use Rattle.array_kept.specs.flat_history_Legal.{told_left}
+use Rattle.array_kept.specs.flat_history_World.{World, opening_list}
+use Rattle.array_kept.proofs.history_laws_OneShapeGrowing.{one, IsOneShapeCall, call-faults}
 use Rattle.array_kept.specs.views_the_Work.{Work}
 use Rattle.array_kept.specs.views_Whole.{list_size}
 use Rattle.array_kept.specs.views_Placed.{places_of}

@@ -8,18 +8,18 @@ use Rattle.md_base.specs.declared.answers.Who.{Who}
 use Rattle.bank.specs.declared.bank.Operation.{Operation}
 use Rattle.bank.specs.Given.{Given, NeverFalls, IsFaulted}
 use Rattle.sb1.specs.declared.sb.Sb.{Sb}
-use Rattle.superblocks.specs.declared.members.Members.{Members}
-use Rattle.superblocks.specs.Reading.{shape_of, role_count, role_state, holder, is_clean, is_reshaping}
-use Rattle.superblocks.specs.Reads.{has_spare}
-use Rattle.superblocks.proofs.SlotSets.{none_there, none_above}
-use Rattle.row_io.specs.Rows.{reading_of, present, is_missing}
-use Rattle.flat_history.specs.declared.events.Entry.{Entry}
-use Rattle.flat_history.specs.declared.events.Event.{Event}
-use Rattle.flat_history.specs.declared.events.Event.TheVariants.{Lost, SpareLost, Added}
-use Rattle.flat_history.specs.declared.events.LostCause.TheVariants.{Fault}
-use Rattle.flat_history.specs.Legal.{told_left, left_after}
-use Rattle.flat_history.specs.Plain.{entries_of}
-use Rattle.flat_history.specs.OneShape.{is_gone_now}
+use Rattle.array_kept.specs.superblocks_the_Members.{Members}
+use Rattle.array_kept.specs.superblocks_Reading.{shape_of, role_count, role_state, holder, is_clean, is_reshaping}
+use Rattle.array_kept.specs.superblocks_Reads.{has_spare}
+use Rattle.array_kept.proofs.superblocks_SlotSets.{none_there, none_above}
+use Rattle.array_kept.specs.row_io_Rows.{reading_of, present, is_missing}
+use Rattle.array_kept.specs.flat_history_the_Entry.{Entry}
+use Rattle.array_kept.specs.flat_history_the_Event.{Event}
+use Rattle.array_kept.specs.flat_history_the_Event_TheVariants.{Lost, SpareLost, Added}
+use Rattle.array_kept.specs.flat_history_the_LostCause_TheVariants.{Fault}
+use Rattle.array_kept.specs.flat_history_Legal.{told_left, left_after}
+use Rattle.array_kept.specs.flat_history_Plain.{entries_of}
+use Rattle.array_kept.specs.flat_history_OneShape.{is_gone_now}
 use Rattle.array_kept.specs.views_the_Work.{Work}
 use Rattle.array_kept.specs.views_Placed.{IsPlaced}
 use Rattle.array_kept.specs.shape_changes_Steady.{AreUnlost}
@@ -42,7 +42,7 @@ use Rattle.array_kept.proofs.views_MarkLaws.{few-below}
 use Rattle.array_kept.proofs.RecordLaws.{told-more, gone-lately}
 use Rattle.array_kept.proofs.StepsLeft.{recovery-same, left-moved}
 use Rattle.array_kept.specs.shape_views_Regions.{DoWithout}
-use Rattle.superblocks.proofs.ValidFields.{few-roles}
+use Rattle.array_kept.proofs.superblocks_ValidFields.{few-roles}
 use Rattle.array_kept.proofs.DegradedLaws.{count-moved}
 
 -- A slot was made a spare with this superblock, or it was lost in this, and others were lost meanwhile.

@@ -11,8 +11,8 @@ use Rattle.md_base.specs.Shapes.{has_slot}
 use Rattle.md_base.proofs.Tabulated.{length-tabulate, get_or-tabulate}
 use Rattle.md_base.specs.declared.status.Role.TheVariants.{Recovering}
 use Rattle.sb1.specs.declared.sb.Sb.{Sb}
-use Rattle.superblocks.specs.Update.{own_in}
-use Rattle.superblocks.proofs.Searches.{any_below-some}
+use Rattle.array_kept.specs.superblocks_Update.{own_in}
+use Rattle.array_kept.proofs.superblocks_Searches.{any_below-some}
 use Rattle.layout.proofs.Limits.{limited}
 use Rattle.array_kept.specs.views_the_Work.{Work}
 use Rattle.array_kept.specs.views_Numbers.{is_carried}
@@ -23,21 +23,21 @@ use Rattle.bank.specs.Given.{Given}
 use Rattle.bank.specs.Tape.{Contents, IsIn, disk}
 use Rattle.bank.specs.Whole.{HasWholeSectors}
 use Rattle.bank.specs.declared.bank.Operation.{Operation}
-use Rattle.superblocks.specs.declared.members.Members.{Members}
-use Rattle.superblocks.specs.Reading.{Scope, shape_of, is_clean, role_state, rows_held}
-use Rattle.row_io.specs.Rows.{reading_of, present}
-use Rattle.flat_history.specs.declared.events.Entry.{Entry}
-use Rattle.flat_history.specs.CrashSafe.{IsSafeAt}
-use Rattle.flat_history.specs.Sound.{OpensFit, FillsRight}
-use Rattle.flat_history.specs.Flat.{now, values_of}
-use Rattle.flat_history.specs.World.{World, opening_list, reading_at}
-use Rattle.flat_history.specs.Plain.{entries_of}
-use Rattle.flat_history.specs.declared.events.Event.{Event}
-use Rattle.flat_history.specs.Growing.{EndBy}
-use Rattle.flat_history.specs.OneShape.{opening_in, is_unsettled, IsOneShapeLegal}
+use Rattle.array_kept.specs.superblocks_the_Members.{Members}
+use Rattle.array_kept.specs.superblocks_Reading.{Scope, shape_of, is_clean, role_state, rows_held}
+use Rattle.array_kept.specs.row_io_Rows.{reading_of, present}
+use Rattle.array_kept.specs.flat_history_the_Entry.{Entry}
+use Rattle.array_kept.specs.flat_history_CrashSafe.{IsSafeAt}
+use Rattle.array_kept.specs.flat_history_Sound.{OpensFit, FillsRight}
+use Rattle.array_kept.specs.flat_history_Flat.{now, values_of}
+use Rattle.array_kept.specs.flat_history_World.{World, opening_list, reading_at}
+use Rattle.array_kept.specs.flat_history_Plain.{entries_of}
+use Rattle.array_kept.specs.flat_history_the_Event.{Event}
+use Rattle.array_kept.specs.flat_history_Growing.{EndBy}
+use Rattle.array_kept.specs.flat_history_OneShape.{opening_in, is_unsettled, IsOneShapeLegal}
 use Rattle.array_kept.specs.views_Status.{stripes_of, rebuilt_of, left_of}
-use Rattle.flat_history.specs.Losses.{was_dirty, is_unsynced}
-use Rattle.flat_history.specs.Epochs.{OpensAlike}
+use Rattle.array_kept.specs.flat_history_Losses.{was_dirty, is_unsynced}
+use Rattle.array_kept.specs.flat_history_Epochs.{OpensAlike}
 use Rattle.array_kept.specs.views_Whole.{list_size}
 use Rattle.array_kept.specs.views_Placed.{places_of}
 use Rattle.array_kept.specs.shape_views_Regions.{ArePlaced}

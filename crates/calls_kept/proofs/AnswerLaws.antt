@@ -6,14 +6,14 @@ use Rattle.md_base.specs.declared.answers.Refusal.{Refusal}
 use Rattle.md_base.specs.declared.answers.Refusal.TheVariants.{Nothing}
 use Rattle.bank.specs.Given.{Given}
 use Rattle.bank.specs.declared.bank.Operation.{Operation}
-use Rattle.superblocks.specs.declared.members.Members.{Members}
-use Rattle.superblocks.specs.Reading.{Scope}
-use Rattle.flat_history.specs.declared.events.Entry.{Entry}
-use Rattle.flat_history.specs.declared.events.Event.{Event}
-use Rattle.flat_history.specs.declared.events.Event.TheVariants.{Stepped, Refused}
-use Rattle.flat_history.specs.Flat.{last_of}
-use Rattle.flat_history.specs.Plain.{entries_of}
-use Rattle.flat_history.specs.OneShape.{opening_in, IsCallOpen, IsOneShapeRefusal}
+use Rattle.array_kept.specs.superblocks_the_Members.{Members}
+use Rattle.array_kept.specs.superblocks_Reading.{Scope}
+use Rattle.array_kept.specs.flat_history_the_Entry.{Entry}
+use Rattle.array_kept.specs.flat_history_the_Event.{Event}
+use Rattle.array_kept.specs.flat_history_the_Event_TheVariants.{Stepped, Refused}
+use Rattle.array_kept.specs.flat_history_Flat.{last_of}
+use Rattle.array_kept.specs.flat_history_Plain.{entries_of}
+use Rattle.array_kept.specs.flat_history_OneShape.{opening_in, IsCallOpen, IsOneShapeRefusal}
 use Rattle.array_kept.specs.views_the_Work.{Work}
 use Rattle.array_kept.specs.views_Status.{left_of}
 use Rattle.array_kept.specs.Kept.{world_in, AreFillsRight, IsKept}

@@ -8,16 +8,16 @@ use Rattle.md_base.specs.Shapes.{is_multiple}
 use Rattle.md_base.specs.declared.answers.Who.{Who}
 use Rattle.bank.specs.Given.{Given}
 use Rattle.bank.specs.declared.bank.Operation.{Operation}
-use Rattle.superblocks.specs.declared.members.Members.{Members}
-use Rattle.superblocks.specs.Reading.{Scope, shape_of}
-use Rattle.row_io.specs.Rows.{present}
-use Rattle.flat_history.specs.declared.events.Entry.{Entry}
-use Rattle.flat_history.specs.declared.events.Event.{Event}
-use Rattle.flat_history.specs.declared.events.Event.TheVariants.{Step}
-use Rattle.flat_history.specs.declared.events.StepKind.TheVariants.{ResyncEnded}
-use Rattle.flat_history.specs.Losses.{is_resync_end}
-use Rattle.flat_history.specs.Plain.{entries_of}
-use Rattle.flat_history.specs.OneShape.{opening_in, IsCallOpen}
+use Rattle.array_kept.specs.superblocks_the_Members.{Members}
+use Rattle.array_kept.specs.superblocks_Reading.{Scope, shape_of}
+use Rattle.array_kept.specs.row_io_Rows.{present}
+use Rattle.array_kept.specs.flat_history_the_Entry.{Entry}
+use Rattle.array_kept.specs.flat_history_the_Event.{Event}
+use Rattle.array_kept.specs.flat_history_the_Event_TheVariants.{Step}
+use Rattle.array_kept.specs.flat_history_the_StepKind_TheVariants.{ResyncEnded}
+use Rattle.array_kept.specs.flat_history_Losses.{is_resync_end}
+use Rattle.array_kept.specs.flat_history_Plain.{entries_of}
+use Rattle.array_kept.specs.flat_history_OneShape.{opening_in, IsCallOpen}
 use Rattle.array_kept.specs.views_Placed.{IsPlaced}
 use Rattle.array_kept.specs.call_entries_Losing.{losses_of}
 use Rattle.array_kept.specs.shape_changes_Marking.{AreOthersPresent}

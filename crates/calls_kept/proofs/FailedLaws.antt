@@ -7,10 +7,10 @@ use Rattle.md_base.specs.Shapes.{has_slot}
 use Rattle.md_base.specs.declared.status.Role.{Role}
 use Rattle.md_base.specs.declared.status.Role.TheVariants.{Missing}
 use Rattle.bank.specs.Given.{Given}
-use Rattle.superblocks.specs.declared.members.Members.{Members}
-use Rattle.superblocks.specs.Reading.{is_clean, role_state, holder}
-use Rattle.row_io.specs.Rows.{reading_of, role_without, members_without}
-use Rattle.row_io.proofs.Losses.{state_after}
+use Rattle.array_kept.specs.superblocks_the_Members.{Members}
+use Rattle.array_kept.specs.superblocks_Reading.{is_clean, role_state, holder}
+use Rattle.array_kept.specs.row_io_Rows.{reading_of, role_without, members_without}
+use Rattle.array_kept.proofs.row_io_Losses.{state_after}
 use Rattle.array_kept.specs.views_Placed.{is_vacant, IsPlaced}
 use Rattle.array_kept.specs.shape_changes_Steady.{AreUnlost, IsSafeOver}
 use Rattle.array_kept.specs.views_Moving.{IsMoved}
@@ -18,7 +18,7 @@ use Rattle.array_kept.proofs.views_MemberLaws.{placed-without, unlost-without}
 use Rattle.array_kept.proofs.views_MovedLaws.{moved-without}
 use Rattle.bank.specs.Tape.{disk}
 use Rattle.bank.specs.declared.bank.Operation.{Operation}
-use Rattle.flat_history.specs.Sound.{OpensFit}
+use Rattle.array_kept.specs.flat_history_Sound.{OpensFit}
 use Rattle.array_kept.specs.shape_changes_Safety.{HasLiveSlot, IsRisen}
 use Rattle.array_kept.proofs.KeptLaws.{NamesSafe}
 use Rattle.array_kept.proofs.views_LackingLaws.{holder-without}
@@ -26,7 +26,7 @@ use Rattle.array_kept.proofs.shape_changes_Steady.{losing-stays-safe}
 use Rattle.array_kept.proofs.views_Still.{told-same}
 use Rattle.array_kept.proofs.shape_changes_Without.{in-both, live-before}
 use Rattle.std.specs.Prelude.{◌^◌}
-use Rattle.superblocks.specs.Reads.{has_spare}
+use Rattle.array_kept.specs.superblocks_Reads.{has_spare}
 
 module _ (given : Given) (m mid : Members) (lost slot role : ℕ) (was : IsPlaced given m) (unlost : AreUnlost m) (is : mid ≡ members_without lost m) (alone : (s : ℕ) → has_slot lost s ≡ (slot == s))
     (held : holder (role_state (reading_of m) role) ≡ Some slot) where

@@ -11,21 +11,21 @@ use Rattle.bank.specs.Given.{Given}
 use Rattle.bank.specs.Tape.{IsIn}
 use Rattle.bank.specs.declared.bank.Operation.{Operation}
 use Rattle.layout.proofs.Places.{place-sector_below}
-use Rattle.superblocks.specs.declared.members.Members.{Members}
-use Rattle.superblocks.specs.Reading.{Scope, shape_of, is_clean, role_state}
-use Rattle.row_io.specs.Rows.{reading_of, present}
-use Rattle.list_io.specs.Full.{AreWholeIn, RowStands}
-use Rattle.list_io.specs.Writing.{HasFull}
-use Rattle.flat_history.specs.declared.events.Entry.{Entry}
-use Rattle.flat_history.specs.declared.events.Event.{Event}
-use Rattle.flat_history.specs.declared.events.Event.TheVariants.{Step, Refused}
-use Rattle.flat_history.specs.declared.events.StepKind.TheVariants.{ResyncStripe}
-use Rattle.flat_history.specs.World.{World, opening_list}
-use Rattle.flat_history.specs.Flat.{now, values_after}
-use Rattle.flat_history.specs.Losses.{settles}
-use Rattle.flat_history.specs.Sound.{OpensFit, FillsRight}
-use Rattle.flat_history.specs.Plain.{entries_of}
-use Rattle.flat_history.specs.OneShape.{opening_in, is_unsettled, keeps_shape_event, IsCallOpen}
+use Rattle.array_kept.specs.superblocks_the_Members.{Members}
+use Rattle.array_kept.specs.superblocks_Reading.{Scope, shape_of, is_clean, role_state}
+use Rattle.array_kept.specs.row_io_Rows.{reading_of, present}
+use Rattle.array_kept.specs.list_io_Full.{AreWholeIn, RowStands}
+use Rattle.array_kept.specs.list_io_Writing.{HasFull}
+use Rattle.array_kept.specs.flat_history_the_Entry.{Entry}
+use Rattle.array_kept.specs.flat_history_the_Event.{Event}
+use Rattle.array_kept.specs.flat_history_the_Event_TheVariants.{Step, Refused}
+use Rattle.array_kept.specs.flat_history_the_StepKind_TheVariants.{ResyncStripe}
+use Rattle.array_kept.specs.flat_history_World.{World, opening_list}
+use Rattle.array_kept.specs.flat_history_Flat.{now, values_after}
+use Rattle.array_kept.specs.flat_history_Losses.{settles}
+use Rattle.array_kept.specs.flat_history_Sound.{OpensFit, FillsRight}
+use Rattle.array_kept.specs.flat_history_Plain.{entries_of}
+use Rattle.array_kept.specs.flat_history_OneShape.{opening_in, is_unsettled, keeps_shape_event, IsCallOpen}
 use Rattle.array_kept.specs.views_Whole.{list_size}
 use Rattle.array_kept.specs.views_Placed.{places_of, IsPlaced}
 use Rattle.array_kept.specs.call_entries_Losing.{losses_of}

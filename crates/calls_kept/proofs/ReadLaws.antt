@@ -8,15 +8,15 @@ use Rattle.bank.specs.Given.{Given}
 use Rattle.bank.specs.Tape.{Contents}
 use Rattle.bank.specs.declared.bank.Operation.{Operation}
 use Rattle.parity.specs.Rows.{sector_of}
-use Rattle.superblocks.specs.declared.members.Members.{Members}
-use Rattle.superblocks.specs.Reading.{Scope, shape_of, is_clean}
-use Rattle.row_io.specs.Rows.{present}
-use Rattle.flat_history.specs.declared.events.Entry.{Entry}
-use Rattle.flat_history.specs.declared.events.Event.TheVariants.{Read, Refused}
-use Rattle.flat_history.specs.World.{opening_list}
-use Rattle.flat_history.specs.Flat.{now}
-use Rattle.flat_history.specs.OneShape.{IsCallOpen}
-use Rattle.flat_history.specs.Plain.{entries_of}
+use Rattle.array_kept.specs.superblocks_the_Members.{Members}
+use Rattle.array_kept.specs.superblocks_Reading.{Scope, shape_of, is_clean}
+use Rattle.array_kept.specs.row_io_Rows.{present}
+use Rattle.array_kept.specs.flat_history_the_Entry.{Entry}
+use Rattle.array_kept.specs.flat_history_the_Event_TheVariants.{Read, Refused}
+use Rattle.array_kept.specs.flat_history_World.{opening_list}
+use Rattle.array_kept.specs.flat_history_Flat.{now}
+use Rattle.array_kept.specs.flat_history_OneShape.{IsCallOpen}
+use Rattle.array_kept.specs.flat_history_Plain.{entries_of}
 use Rattle.array_kept.specs.views_the_Work.{Work}
 use Rattle.array_kept.specs.views_Whole.{list_size}
 use Rattle.array_kept.specs.views_Rows.{row_sector}

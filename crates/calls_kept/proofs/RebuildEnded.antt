@@ -9,17 +9,17 @@ use Rattle.std.proofs.lemmas.Nat.{mul-le}
 use Rattle.md_base.specs.Sectors.{Sector}
 use Rattle.bank.specs.Given.{Given}
 use Rattle.bank.specs.Tape.{Contents}
-use Rattle.superblocks.specs.declared.members.Members.{Members}
-use Rattle.superblocks.specs.Reading.{shape_of, role_state, rows_held, holder}
-use Rattle.superblocks.specs.Reads.{has_spare}
+use Rattle.array_kept.specs.superblocks_the_Members.{Members}
+use Rattle.array_kept.specs.superblocks_Reading.{shape_of, role_state, rows_held, holder}
+use Rattle.array_kept.specs.superblocks_Reads.{has_spare}
 use Rattle.md_base.specs.declared.status.Role.{Role}
 use Rattle.md_base.specs.declared.status.Role.TheVariants.{Whole, Recovering, Missing}
-use Rattle.row_io.specs.Rows.{reading_of}
-use Rattle.list_io.proofs.FullLaws.{held-full}
-use Rattle.flat_history.specs.declared.events.Entry.{Entry}
-use Rattle.flat_history.specs.OneShape.{is_lost, is_gone_with, is_gone_now}
-use Rattle.flat_history.specs.Plain.{loses_role}
-use Rattle.flat_history.specs.Sound.{LosesNoRole}
+use Rattle.array_kept.specs.row_io_Rows.{reading_of}
+use Rattle.array_kept.proofs.list_io_FullLaws.{held-full}
+use Rattle.array_kept.specs.flat_history_the_Entry.{Entry}
+use Rattle.array_kept.specs.flat_history_OneShape.{is_lost, is_gone_with, is_gone_now}
+use Rattle.array_kept.specs.flat_history_Plain.{loses_role}
+use Rattle.array_kept.specs.flat_history_Sound.{LosesNoRole}
 use Rattle.array_kept.specs.views_the_Work.{Work}
 use Rattle.array_kept.specs.views_Placed.{is_vacant, AreWhole, IsPlaced}
 use Rattle.array_kept.specs.views_Moving.{IsMoved}

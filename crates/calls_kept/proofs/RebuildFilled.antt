@@ -15,25 +15,25 @@ use Rattle.bank.specs.Given.{Given}
 use Rattle.bank.specs.declared.bank.Operation.{Operation}
 use Rattle.bank.specs.Tape.{Contents}
 use Rattle.layout.proofs.Limits.{limited}
-use Rattle.superblocks.specs.declared.members.Members.{Members}
-use Rattle.superblocks.specs.Reading.{Scope, shape_of, role_state, rows_held, holder, is_clean}
-use Rattle.row_io.specs.Rows.{reading_of, present}
-use Rattle.list_io.specs.Writing.{HasFull}
-use Rattle.flat_history.specs.declared.events.Entry.{Entry}
-use Rattle.flat_history.specs.declared.events.Event.{Event}
-use Rattle.flat_history.specs.declared.events.Event.TheVariants.{Lost, Step, Refused}
-use Rattle.flat_history.specs.declared.events.LostCause.TheVariants.{Fault}
-use Rattle.flat_history.specs.declared.events.StepKind.TheVariants.{RebuildStripe}
-use Rattle.flat_history.specs.World.{World, opening_list}
-use Rattle.flat_history.specs.Flat.{now}
-use Rattle.flat_history.specs.Legal.{told_left}
-use Rattle.flat_history.specs.Plain.{entries_of}
-use Rattle.flat_history.specs.OneShape.{opening_in, IsCallOpen}
-use Rattle.flat_history.specs.Sound.{OpensFit, LosesNoRole}
-use Rattle.history_laws.proofs.OneShapeGrowing.{one, IsOneShapeCall, call-faults}
+use Rattle.array_kept.specs.superblocks_the_Members.{Members}
+use Rattle.array_kept.specs.superblocks_Reading.{Scope, shape_of, role_state, rows_held, holder, is_clean}
+use Rattle.array_kept.specs.row_io_Rows.{reading_of, present}
+use Rattle.array_kept.specs.list_io_Writing.{HasFull}
+use Rattle.array_kept.specs.flat_history_the_Entry.{Entry}
+use Rattle.array_kept.specs.flat_history_the_Event.{Event}
+use Rattle.array_kept.specs.flat_history_the_Event_TheVariants.{Lost, Step, Refused}
+use Rattle.array_kept.specs.flat_history_the_LostCause_TheVariants.{Fault}
+use Rattle.array_kept.specs.flat_history_the_StepKind_TheVariants.{RebuildStripe}
+use Rattle.array_kept.specs.flat_history_World.{World, opening_list}
+use Rattle.array_kept.specs.flat_history_Flat.{now}
+use Rattle.array_kept.specs.flat_history_Legal.{told_left}
+use Rattle.array_kept.specs.flat_history_Plain.{entries_of}
+use Rattle.array_kept.specs.flat_history_OneShape.{opening_in, IsCallOpen}
+use Rattle.array_kept.specs.flat_history_Sound.{OpensFit, LosesNoRole}
+use Rattle.array_kept.proofs.history_laws_OneShapeGrowing.{one, IsOneShapeCall, call-faults}
 use Rattle.array_kept.specs.views_the_Work.{Work}
 use Rattle.array_kept.specs.call_entries_Losing.{losses_of}
-use Rattle.flat_history.specs.Transfers.{last_end_from}
+use Rattle.array_kept.specs.flat_history_Transfers.{last_end_from}
 use Rattle.array_kept.specs.views_Whole.{list_size}
 use Rattle.array_kept.specs.views_Placed.{places_of, is_vacant, IsPlaced}
 use Rattle.array_kept.specs.views_Moving.{Grows, IsMoved}
@@ -56,7 +56,7 @@ use Rattle.array_kept.proofs.StepsLeft.{left-filled}
 use Rattle.array_kept.proofs.ToldLosses.{role-told}
 use Rattle.array_kept.proofs.OnlyLaws.{MakeSpares}
 use Rattle.array_kept.specs.shape_views_Regions.{DoWithout}
-use Rattle.list_io.specs.Full.{DataStands, RowStands}
+use Rattle.array_kept.specs.list_io_Full.{DataStands, RowStands}
 use Rattle.array_kept.proofs.views_Still.{count-still}
 use Rattle.array_kept.proofs.views_Fit.{valid}
 use Rattle.array_kept.proofs.views_LackingLaws.{never-both}

@@ -8,13 +8,13 @@ use Rattle.md_base.specs.declared.status.Role.{Role}
 use Rattle.md_base.specs.declared.status.Role.TheVariants.{Whole, Recovering, Missing}
 use Rattle.bank.specs.Given.{Given}
 use Rattle.bank.specs.Tape.{Contents}
-use Rattle.superblocks.specs.declared.members.Members.{Members}
-use Rattle.superblocks.specs.Reading.{Reading, is_reshaping, is_whole, shape_of, role_state, rows_held, holder, data_offset_of}
-use Rattle.superblocks.specs.Reads.{has_spare}
-use Rattle.superblocks.specs.Update.{is_held_by, is_live}
-use Rattle.row_io.specs.Rows.{reading_of, held_slot, is_missing}
-use Rattle.row_io.proofs.Losses.{holder-of}
-use Rattle.list_io.specs.Full.{full_sector}
+use Rattle.array_kept.specs.superblocks_the_Members.{Members}
+use Rattle.array_kept.specs.superblocks_Reading.{Reading, is_reshaping, is_whole, shape_of, role_state, rows_held, holder, data_offset_of}
+use Rattle.array_kept.specs.superblocks_Reads.{has_spare}
+use Rattle.array_kept.specs.superblocks_Update.{is_held_by, is_live}
+use Rattle.array_kept.specs.row_io_Rows.{reading_of, held_slot, is_missing}
+use Rattle.array_kept.proofs.row_io_Losses.{holder-of}
+use Rattle.array_kept.specs.list_io_Full.{full_sector}
 use Rattle.array_kept.specs.views_the_Work.{Work}
 use Rattle.array_kept.specs.views_Placed.{is_vacant, IsPlaced}
 use Rattle.array_kept.specs.shape_changes_Steady.{AreUnlost}
@@ -28,7 +28,7 @@ use Rattle.array_kept.proofs.shape_changes_Without.{any-held}
 use Rattle.array_kept.specs.views_Moving.{IsMoved}
 use Rattle.array_kept.specs.Calls.{IsHeldOrGiven, IsRecoveredOrLost}
 use Rattle.md_base.specs.Shapes.{has_slot}
-use Rattle.superblocks.proofs.SlotSets.{none_there, none_above}
+use Rattle.array_kept.proofs.superblocks_SlotSets.{none_there, none_above}
 use Rattle.array_kept.proofs.views_Fit.{disks-within}
 
 -- ---- slots that may get the role

@@ -7,19 +7,19 @@ use Rattle.md_base.specs.declared.places.Shape.{Shape}
 use Rattle.md_base.specs.declared.status.Role.{Role}
 use Rattle.bank.specs.Given.{Given}
 use Rattle.bank.specs.declared.bank.Operation.{Operation}
-use Rattle.superblocks.specs.declared.members.Members.{Members}
-use Rattle.superblocks.specs.Reading.{Scope, shape_of, is_whole, is_clean, holder, role_state, role_count}
-use Rattle.superblocks.specs.Reads.{has_spare}
-use Rattle.row_io.specs.Rows.{reading_of, present, is_missing}
-use Rattle.flat_history.specs.declared.events.Entry.{Entry}
-use Rattle.flat_history.specs.declared.events.Event.{Event}
-use Rattle.flat_history.specs.declared.events.Event.TheVariants.{Step}
-use Rattle.flat_history.specs.declared.events.StepKind.TheVariants.{RebuildTaken}
-use Rattle.flat_history.specs.World.{World, opening_list}
-use Rattle.flat_history.specs.Flat.{now}
-use Rattle.flat_history.specs.Plain.{entries_of}
-use Rattle.flat_history.specs.OneShape.{opening_in, IsCallOpen}
-use Rattle.history_laws.proofs.OneShapeGrowing.{one}
+use Rattle.array_kept.specs.superblocks_the_Members.{Members}
+use Rattle.array_kept.specs.superblocks_Reading.{Scope, shape_of, is_whole, is_clean, holder, role_state, role_count}
+use Rattle.array_kept.specs.superblocks_Reads.{has_spare}
+use Rattle.array_kept.specs.row_io_Rows.{reading_of, present, is_missing}
+use Rattle.array_kept.specs.flat_history_the_Entry.{Entry}
+use Rattle.array_kept.specs.flat_history_the_Event.{Event}
+use Rattle.array_kept.specs.flat_history_the_Event_TheVariants.{Step}
+use Rattle.array_kept.specs.flat_history_the_StepKind_TheVariants.{RebuildTaken}
+use Rattle.array_kept.specs.flat_history_World.{World, opening_list}
+use Rattle.array_kept.specs.flat_history_Flat.{now}
+use Rattle.array_kept.specs.flat_history_Plain.{entries_of}
+use Rattle.array_kept.specs.flat_history_OneShape.{opening_in, IsCallOpen}
+use Rattle.array_kept.proofs.history_laws_OneShapeGrowing.{one}
 use Rattle.array_kept.specs.views_the_Work.{Work}
 use Rattle.array_kept.specs.call_entries_Losing.{losses_of}
 use Rattle.array_kept.specs.views_Placed.{is_vacant, IsPlaced}

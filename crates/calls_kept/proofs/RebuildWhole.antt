@@ -12,23 +12,23 @@ use Rattle.md_base.specs.declared.status.Role.TheVariants.{Whole, Recovering}
 use Rattle.bank.specs.Given.{Given}
 use Rattle.bank.specs.declared.bank.Operation.{Operation}
 use Rattle.bank.specs.Tape.{IsIn, disk}
-use Rattle.superblocks.specs.declared.members.Members.{Members}
-use Rattle.superblocks.specs.Reading.{Scope, shape_of, role_state, holder, is_whole, is_clean, role_count}
-use Rattle.row_io.specs.Rows.{reading_of, present, is_missing}
-use Rattle.flat_history.specs.declared.events.Entry.{Entry}
-use Rattle.flat_history.specs.declared.events.Event.{Event}
-use Rattle.flat_history.specs.declared.events.Event.TheVariants.{Lost, Step, Rebuilt}
-use Rattle.flat_history.specs.declared.events.LostCause.TheVariants.{Fault}
-use Rattle.flat_history.specs.declared.events.StepKind.TheVariants.{RebuildEnded}
-use Rattle.flat_history.specs.World.{World, opening_list}
-use Rattle.flat_history.specs.Flat.{now, values_after, values_of, length_after, length_of}
-use Rattle.flat_history.specs.Legal.{told_left}
-use Rattle.flat_history.specs.Losses.{was_dirty, is_resync_end, is_unsynced, settles}
-use Rattle.flat_history.specs.Plain.{entries_of}
-use Rattle.flat_history.specs.OneShape.{opening_in, is_gone_now, gives_role, is_unsettled, KeepShape, IsCallOpen, is_gone_with, is_spare_now}
-use Rattle.flat_history.specs.Sound.{OpensFit, FillsRight}
-use Rattle.flat_history.specs.Transfers.{last_end_from}
-use Rattle.history_laws.proofs.OneShapeGrowing.{one, IsOneShapeCall, call-faults, gone-more}
+use Rattle.array_kept.specs.superblocks_the_Members.{Members}
+use Rattle.array_kept.specs.superblocks_Reading.{Scope, shape_of, role_state, holder, is_whole, is_clean, role_count}
+use Rattle.array_kept.specs.row_io_Rows.{reading_of, present, is_missing}
+use Rattle.array_kept.specs.flat_history_the_Entry.{Entry}
+use Rattle.array_kept.specs.flat_history_the_Event.{Event}
+use Rattle.array_kept.specs.flat_history_the_Event_TheVariants.{Lost, Step, Rebuilt}
+use Rattle.array_kept.specs.flat_history_the_LostCause_TheVariants.{Fault}
+use Rattle.array_kept.specs.flat_history_the_StepKind_TheVariants.{RebuildEnded}
+use Rattle.array_kept.specs.flat_history_World.{World, opening_list}
+use Rattle.array_kept.specs.flat_history_Flat.{now, values_after, values_of, length_after, length_of}
+use Rattle.array_kept.specs.flat_history_Legal.{told_left}
+use Rattle.array_kept.specs.flat_history_Losses.{was_dirty, is_resync_end, is_unsynced, settles}
+use Rattle.array_kept.specs.flat_history_Plain.{entries_of}
+use Rattle.array_kept.specs.flat_history_OneShape.{opening_in, is_gone_now, gives_role, is_unsettled, KeepShape, IsCallOpen, is_gone_with, is_spare_now}
+use Rattle.array_kept.specs.flat_history_Sound.{OpensFit, FillsRight}
+use Rattle.array_kept.specs.flat_history_Transfers.{last_end_from}
+use Rattle.array_kept.proofs.history_laws_OneShapeGrowing.{one, IsOneShapeCall, call-faults, gone-more}
 use Rattle.array_kept.specs.views_the_Work.{Work}
 use Rattle.array_kept.specs.call_entries_Losing.{losses_of}
 use Rattle.array_kept.specs.views_Placed.{is_vacant, IsPlaced}

@@ -9,23 +9,23 @@ use Rattle.md_base.specs.declared.answers.Refusal.{Refusal}
 use Rattle.md_base.specs.declared.answers.Who.{Who}
 use Rattle.bank.specs.Given.{Given}
 use Rattle.bank.specs.declared.bank.Operation.{Operation}
-use Rattle.superblocks.specs.declared.members.Members.{Members}
-use Rattle.superblocks.specs.Reading.{Scope, is_clean, role_state, holder, is_whole, role_count}
-use Rattle.row_io.specs.Rows.{reading_of, present}
-use Rattle.flat_history.specs.declared.events.Entry.{Entry}
-use Rattle.flat_history.specs.declared.events.Event.{Event}
-use Rattle.flat_history.specs.World.{World, opening_list}
-use Rattle.flat_history.specs.Losses.{was_dirty, is_resync_end, is_unsynced, unsettles}
-use Rattle.flat_history.specs.OneShape.{is_unsettled, KeepShape, IsCallOpen}
-use Rattle.flat_history.specs.Sound.{OpensFit, FillsRight}
-use Rattle.flat_history.specs.declared.events.Event.TheVariants.{Refused}
+use Rattle.array_kept.specs.superblocks_the_Members.{Members}
+use Rattle.array_kept.specs.superblocks_Reading.{Scope, is_clean, role_state, holder, is_whole, role_count}
+use Rattle.array_kept.specs.row_io_Rows.{reading_of, present}
+use Rattle.array_kept.specs.flat_history_the_Entry.{Entry}
+use Rattle.array_kept.specs.flat_history_the_Event.{Event}
+use Rattle.array_kept.specs.flat_history_World.{World, opening_list}
+use Rattle.array_kept.specs.flat_history_Losses.{was_dirty, is_resync_end, is_unsynced, unsettles}
+use Rattle.array_kept.specs.flat_history_OneShape.{is_unsettled, KeepShape, IsCallOpen}
+use Rattle.array_kept.specs.flat_history_Sound.{OpensFit, FillsRight}
+use Rattle.array_kept.specs.flat_history_the_Event_TheVariants.{Refused}
 use Rattle.bank.specs.Tape.{IsIn, disk}
 use Rattle.std.specs.List.{list_any}
 use Rattle.std.specs.Prelude.{IsSome, is_some}
 use Rattle.array_kept.specs.views_the_Work.{Work}
 use Rattle.array_kept.specs.views_Whole.{list_size}
-use Rattle.flat_history.specs.Flat.{now, values_of, length_of}
-use Rattle.flat_history.specs.Plain.{entries_of}
+use Rattle.array_kept.specs.flat_history_Flat.{now, values_of, length_of}
+use Rattle.array_kept.specs.flat_history_Plain.{entries_of}
 use Rattle.array_kept.specs.views_Placed.{places_of, IsPlaced}
 use Rattle.array_kept.specs.call_entries_Losing.{losses_of}
 use Rattle.array_kept.specs.views_Moving.{Grows, IsMoved}

@@ -3,15 +3,15 @@ use Rattle.std.proofs.Common.{◌≡◌, ℕ, ◌+◌, List, [], ◌∷◌, ◌+
 use Rattle.std.specs.Prelude.{IfSome}
 use Rattle.md_base.specs.declared.answers.Who.{Who}
 use Rattle.bank.specs.Given.{Given}
-use Rattle.superblocks.specs.declared.members.Members.{Members}
-use Rattle.flat_history.specs.declared.events.Entry.{Entry}
-use Rattle.flat_history.specs.declared.events.Event.{Event}
-use Rattle.flat_history.specs.declared.events.Event.TheVariants.{Step}
-use Rattle.flat_history.specs.declared.events.StepKind.{StepKind}
-use Rattle.flat_history.specs.Legal.{told_left}
-use Rattle.flat_history.specs.Plain.{entries_of}
-use Rattle.flat_history.specs.OneShape.{ShapeOpening, IsIdleStep}
-use Rattle.history_laws.proofs.OneShapeGrowing.{IsOneShapeCall}
+use Rattle.array_kept.specs.superblocks_the_Members.{Members}
+use Rattle.array_kept.specs.flat_history_the_Entry.{Entry}
+use Rattle.array_kept.specs.flat_history_the_Event.{Event}
+use Rattle.array_kept.specs.flat_history_the_Event_TheVariants.{Step}
+use Rattle.array_kept.specs.flat_history_the_StepKind.{StepKind}
+use Rattle.array_kept.specs.flat_history_Legal.{told_left}
+use Rattle.array_kept.specs.flat_history_Plain.{entries_of}
+use Rattle.array_kept.specs.flat_history_OneShape.{ShapeOpening, IsIdleStep}
+use Rattle.array_kept.proofs.history_laws_OneShapeGrowing.{IsOneShapeCall}
 use Rattle.array_kept.specs.views_the_Work.{Work}
 use Rattle.array_kept.specs.call_entries_Losing.{losses_of}
 use Rattle.array_kept.specs.views_Moving.{IsMoved}

@@ -8,14 +8,14 @@ use Rattle.bank.specs.Given.{Given}
 use Rattle.bank.specs.Tape.{Contents}
 use Rattle.bank.specs.declared.bank.Operation.{Operation}
 use Rattle.layout.specs.Layout.{place}
-use Rattle.superblocks.specs.declared.members.Members.{Members}
-use Rattle.superblocks.specs.Reading.{is_reshaping, shape_of, role_state, rows_held}
-use Rattle.row_io.specs.Rows.{reading_of, present}
-use Rattle.list_io.specs.Buffers.{IsTouched}
-use Rattle.list_io.specs.Full.{DataStands, RowStands, AreWholeIn}
-use Rattle.list_io.specs.Writing.{IsWritten, HasFull}
-use Rattle.flat_history.specs.World.{World}
-use Rattle.flat_history.specs.Sound.{OpensFit}
+use Rattle.array_kept.specs.superblocks_the_Members.{Members}
+use Rattle.array_kept.specs.superblocks_Reading.{is_reshaping, shape_of, role_state, rows_held}
+use Rattle.array_kept.specs.row_io_Rows.{reading_of, present}
+use Rattle.array_kept.specs.list_io_Buffers.{IsTouched}
+use Rattle.array_kept.specs.list_io_Full.{DataStands, RowStands, AreWholeIn}
+use Rattle.array_kept.specs.list_io_Writing.{IsWritten, HasFull}
+use Rattle.array_kept.specs.flat_history_World.{World}
+use Rattle.array_kept.specs.flat_history_Sound.{OpensFit}
 use Rattle.array_kept.specs.shape_views_Views.{Ledger, IsTailZero}
 use Rattle.array_kept.specs.shape_views_Regions.{DoWithout}
 use Rattle.array_kept.specs.shape_views_Windows.{IsOfRegion}

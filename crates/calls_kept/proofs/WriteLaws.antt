@@ -10,25 +10,25 @@ use Rattle.bank.specs.Given.{Given}
 use Rattle.bank.specs.Tape.{Contents, IsIn}
 use Rattle.bank.specs.declared.bank.Operation.{Operation}
 use Rattle.layout.proofs.Places.{chunk_some, place-row_below}
-use Rattle.superblocks.specs.declared.members.Members.{Members}
+use Rattle.array_kept.specs.superblocks_the_Members.{Members}
 use Rattle.md_base.specs.declared.status.Role.TheVariants.{Recovering}
-use Rattle.superblocks.specs.Reading.{Scope, shape_of, role_state, is_clean, list_length}
-use Rattle.row_io.specs.Rows.{reading_of, present}
-use Rattle.list_io.specs.Buffers.{IsTouched}
-use Rattle.list_io.specs.Full.{AreWholeIn, RowStands}
-use Rattle.list_io.specs.Writing.{IsWritten, HasFull}
-use Rattle.flat_history.specs.declared.events.Entry.{Entry}
-use Rattle.flat_history.specs.declared.events.Event.{Event}
-use Rattle.flat_history.specs.declared.events.Event.TheVariants.{Wrote, Torn, Refused}
-use Rattle.flat_history.specs.World.{World, opening_list}
-use Rattle.flat_history.specs.Flat.{now, values_of, values_after, covers, sector_at}
-use Rattle.flat_history.specs.Losses.{is_unsynced, unsettles}
-use Rattle.flat_history.specs.OneShape.{IsCallOpen, is_unsettled}
-use Rattle.flat_history.specs.Sound.{FillsRight}
+use Rattle.array_kept.specs.superblocks_Reading.{Scope, shape_of, role_state, is_clean, list_length}
+use Rattle.array_kept.specs.row_io_Rows.{reading_of, present}
+use Rattle.array_kept.specs.list_io_Buffers.{IsTouched}
+use Rattle.array_kept.specs.list_io_Full.{AreWholeIn, RowStands}
+use Rattle.array_kept.specs.list_io_Writing.{IsWritten, HasFull}
+use Rattle.array_kept.specs.flat_history_the_Entry.{Entry}
+use Rattle.array_kept.specs.flat_history_the_Event.{Event}
+use Rattle.array_kept.specs.flat_history_the_Event_TheVariants.{Wrote, Torn, Refused}
+use Rattle.array_kept.specs.flat_history_World.{World, opening_list}
+use Rattle.array_kept.specs.flat_history_Flat.{now, values_of, values_after, covers, sector_at}
+use Rattle.array_kept.specs.flat_history_Losses.{is_unsynced, unsettles}
+use Rattle.array_kept.specs.flat_history_OneShape.{IsCallOpen, is_unsettled}
+use Rattle.array_kept.specs.flat_history_Sound.{FillsRight}
 use Rattle.md_base.proofs.SectorLaws.{length-sectors_of}
 use Rattle.std.specs.List.{list_any}
 use Rattle.std.specs.Prelude.{fold, IsSome, is_some}
-use Rattle.flat_history.specs.Plain.{entries_of}
+use Rattle.array_kept.specs.flat_history_Plain.{entries_of}
 use Rattle.array_kept.specs.views_the_Work.{Work}
 use Rattle.array_kept.specs.views_Status.{rebuilt_of}
 use Rattle.array_kept.specs.views_Rebuilding.{AreRebuilt}

@@ -17,14 +17,14 @@ use Rattle.sb1.specs.declared.sb.Sb.{Sb}
 use Rattle.layout.specs.Layout.{place}
 use Rattle.geometry.specs.Geometry.{ceiling, stripes, rows, zeroed_stripes, is_critical}
 use Rattle.geometry.specs.Geometry as geometry
-use Rattle.superblocks.specs.declared.members.Members.{Members}
-use Rattle.superblocks.specs.Reading.{Scope, is_reshaping, is_backward, shape_of, final_shape, list_length, next_window, role_state, rows_held, holder}
-use Rattle.superblocks.specs.Update.{own_in}
-use Rattle.row_io.specs.Rows.{reading_of, held_slot}
-use Rattle.list_io.specs.Full.{RowStands}
+use Rattle.window_steps.specs.superblocks_the_Members.{Members}
+use Rattle.window_steps.specs.superblocks_Reading.{Scope, is_reshaping, is_backward, shape_of, final_shape, list_length, next_window, role_state, rows_held, holder}
+use Rattle.window_steps.specs.superblocks_Update.{own_in}
+use Rattle.window_steps.specs.row_io_Rows.{reading_of, held_slot}
+use Rattle.window_steps.specs.list_io_Full.{RowStands}
 use Rattle.backup.specs.Section.{names_span, has_section}
-use Rattle.flat_history.specs.ActiveSection.{section_for}
-use Rattle.flat_history.specs.Stands.{shape_for}
+use Rattle.window_steps.specs.flat_history_ActiveSection.{section_for}
+use Rattle.window_steps.specs.flat_history_Stands.{shape_for}
 use Rattle.region_laws.specs.Regions.{IsDirected}
 use Rattle.window_steps.specs.shape_views_Regions.{open_by, place_by}
 use Rattle.window_steps.specs.shape_views_Windows.{IsShown, ListStands, RowsStand, moved_past}

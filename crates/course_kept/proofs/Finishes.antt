@@ -12,11 +12,11 @@ use Rattle.bank.specs.Given.{Given}
 use Rattle.bank.specs.Tape.{Contents}
 use Rattle.geometry.specs.Geometry.{stripes, rows, unit, beyond}
 use Rattle.geometry.specs.Geometry as geometry
-use Rattle.superblocks.specs.declared.members.Members.{Members}
-use Rattle.superblocks.specs.Reading.{is_backward, final_shape, list_length, next_window, role_state, rows_held, holder}
-use Rattle.superblocks.specs.Verdict.{off_unit}
-use Rattle.row_io.specs.Rows.{reading_of, held_slot}
-use Rattle.list_io.specs.Full.{RowStands}
+use Rattle.window_steps.specs.superblocks_the_Members.{Members}
+use Rattle.window_steps.specs.superblocks_Reading.{is_backward, final_shape, list_length, next_window, role_state, rows_held, holder}
+use Rattle.window_steps.specs.superblocks_Verdict.{off_unit}
+use Rattle.window_steps.specs.row_io_Rows.{reading_of, held_slot}
+use Rattle.window_steps.specs.list_io_Full.{RowStands}
 use Rattle.window_steps.specs.shape_views_Regions.{AreShapesFit, place_by}
 use Rattle.window_steps.specs.shape_views_Windows.{IsShown, moved_past}
 use Rattle.window_steps.proofs.shape_views_Tails.{no-tail}

@@ -11,12 +11,12 @@ use Rattle.bank.specs.Tape.{Contents}
 use Rattle.sb1.specs.declared.sb.Sb.{Sb}
 use Rattle.layout.specs.Layout.{place, stripe_of}
 use Rattle.geometry.specs.Geometry.{ceiling, side}
-use Rattle.superblocks.specs.declared.members.Members.{Members}
-use Rattle.superblocks.specs.Reading.{is_reshaping, is_backward, shape_of, final_shape, data_offset_of}
-use Rattle.row_io.specs.Rows.{reading_of, held_slot}
-use Rattle.row_io.proofs.Losses.{holder-of}
-use Rattle.list_io.specs.Full.{RowStands}
-use Rattle.flat_history.specs.Stands.{shape_at, shape_for}
+use Rattle.window_steps.specs.superblocks_the_Members.{Members}
+use Rattle.window_steps.specs.superblocks_Reading.{is_reshaping, is_backward, shape_of, final_shape, data_offset_of}
+use Rattle.window_steps.specs.row_io_Rows.{reading_of, held_slot}
+use Rattle.window_steps.proofs.row_io_Losses.{holder-of}
+use Rattle.window_steps.specs.list_io_Full.{RowStands}
+use Rattle.window_steps.specs.flat_history_Stands.{shape_at, shape_for}
 use Rattle.window_steps.specs.shape_views_Regions.{place_by, DoWithout}
 use Rattle.window_steps.specs.shape_views_Views.{IsTail}
 use Rattle.window_steps.specs.shape_views_Windows.{IsShown, ListStands, RowsStand, AreTailsStanding}

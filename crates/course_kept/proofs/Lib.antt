@@ -65,3 +65,25 @@ pub use Rattle.window_steps.proofs.shape_views_WindowLaws
 pub use Rattle.window_steps.proofs.shape_ends_TakenShapes
 pub use Rattle.window_steps.proofs.shape_ends_Takeovers
 pub use Rattle.window_steps.proofs.shape_changes_Kept
+pub use Rattle.window_steps.proofs.row_io_Written
+pub use Rattle.window_steps.proofs.row_io_RowBytes
+pub use Rattle.window_steps.proofs.row_io_Losses
+pub use Rattle.window_steps.proofs.list_io_FullLaws
+pub use Rattle.window_steps.proofs.superblock_laws_Laws
+pub use Rattle.window_steps.proofs.superblocks_ValidFields
+pub use Rattle.window_steps.proofs.flat_history_SoundLaws
+pub use Rattle.window_steps.proofs.flat_history_LegalLaws
+pub use Rattle.window_steps.proofs.superblock_reads_SaidSlots
+pub use Rattle.window_steps.proofs.superblocks_Searches
+pub use Rattle.window_steps.proofs.flat_history_OneShapeGone
+pub use Rattle.window_steps.proofs.flat_history_OneShapeLegal
+pub use Rattle.window_steps.proofs.flat_history_GoneCounts
+pub use Rattle.window_steps.proofs.superblocks_ReadLists
+pub use Rattle.window_steps.proofs.list_io_Parities
+pub use Rattle.window_steps.proofs.flat_history_GivenLaws
+pub use Rattle.window_steps.proofs.row_io_NewRow
+pub use Rattle.grow_asked.proofs.LeftLaws as grow_asked_LeftLaws
+pub use Rattle.window_steps.proofs.row_io_Lacks
+pub use Rattle.window_steps.proofs.row_io_Tables
+pub use Rattle.window_steps.proofs.superblocks_SlotSets
+pub use Rattle.window_steps.proofs.superblock_reads_SaidLists

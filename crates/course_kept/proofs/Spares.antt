@@ -8,13 +8,13 @@ use Rattle.md_base.specs.declared.status.Role.TheVariants.{Whole, Recovering, Mi
 use Rattle.bank.specs.Tape.{Contents}
 use Rattle.sb1.specs.declared.sb.Sb.{Sb}
 use Rattle.layout.specs.Layout.{place}
-use Rattle.superblocks.specs.declared.members.Members.{Members}
-use Rattle.superblocks.specs.Reading.{Scope, is_reshaping, final_shape, role_state, rows_held, holder, data_offset_of}
-use Rattle.superblocks.specs.Update.{own_in}
-use Rattle.row_io.specs.Rows.{reading_of, held_slot}
-use Rattle.row_io.proofs.Losses.{holder-of}
-use Rattle.list_io.specs.Full.{RowStands}
-use Rattle.flat_history.specs.Stands.{shape_for}
+use Rattle.window_steps.specs.superblocks_the_Members.{Members}
+use Rattle.window_steps.specs.superblocks_Reading.{Scope, is_reshaping, final_shape, role_state, rows_held, holder, data_offset_of}
+use Rattle.window_steps.specs.superblocks_Update.{own_in}
+use Rattle.window_steps.specs.row_io_Rows.{reading_of, held_slot}
+use Rattle.window_steps.proofs.row_io_Losses.{holder-of}
+use Rattle.window_steps.specs.list_io_Full.{RowStands}
+use Rattle.window_steps.specs.flat_history_Stands.{shape_for}
 use Rattle.window_steps.specs.shape_views_Regions.{place_by}
 use Rattle.window_steps.specs.shape_views_Views.{Disk}
 use Rattle.window_steps.specs.views_Lacking.{DoesWithout}

@@ -3,8 +3,8 @@ use Rattle.std.proofs.Common.{◌≡◌, inl, inr, ℕ, ◌+◌, ◌-◌, ◌<�
 use Rattle.md_base.specs.declared.places.Span.{Span}
 use Rattle.md_base.specs.Sectors.{Sector}
 use Rattle.bank.specs.Tape.{IsIn}
-use Rattle.superblocks.specs.declared.members.Members.{Members}
-use Rattle.superblocks.specs.Reading.{Scope}
+use Rattle.window_steps.specs.superblocks_the_Members.{Members}
+use Rattle.window_steps.specs.superblocks_Reading.{Scope}
 use Rattle.window_steps.specs.shape_views_Regions.{backup_of, open_by}
 use Rattle.parity.specs.Rows.{sector_of}
 use Rattle.window_steps.specs.shape_views_Views.{AreSectionsAllowed, Disk}

@@ -15,13 +15,13 @@ use Rattle.geometry.specs.Geometry.{ceiling, stripes, rows}
 use Rattle.geometry.specs.Geometry as geometry
 use Rattle.geometry.proofs.Rows.{rows_hold}
 use Rattle.sb1.specs.declared.sb.Sb.{Sb}
-use Rattle.superblocks.specs.declared.members.Members.{Members}
-use Rattle.superblocks.specs.Reading.{final_shape, list_length, next_window}
-use Rattle.row_io.specs.Rows.{reading_of}
-use Rattle.list_io.specs.Full.{RowStands}
-use Rattle.list_io.specs.Writing.{IsWritten}
-use Rattle.list_io.proofs.FullLaws.{full-same}
-use Rattle.flat_history.specs.Stands.{covers}
+use Rattle.window_steps.specs.superblocks_the_Members.{Members}
+use Rattle.window_steps.specs.superblocks_Reading.{final_shape, list_length, next_window}
+use Rattle.window_steps.specs.row_io_Rows.{reading_of}
+use Rattle.window_steps.specs.list_io_Full.{RowStands}
+use Rattle.window_steps.specs.list_io_Writing.{IsWritten}
+use Rattle.window_steps.proofs.list_io_FullLaws.{full-same}
+use Rattle.window_steps.specs.flat_history_Stands.{covers}
 use Rattle.window_steps.specs.shape_views_Regions.{AreShapesFit, place_by}
 use Rattle.window_steps.specs.shape_views_Views.{IsTail}
 use Rattle.window_steps.proofs.shape_views_UnderWay.{window-row, row-apart}

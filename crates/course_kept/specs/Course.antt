@@ -8,11 +8,11 @@ use Rattle.bank.specs.Tape.{Contents, IsIn}
 use Rattle.sb1.specs.declared.sb.Sb.{Sb}
 use Rattle.parity.specs.Rows.{sector_of}
 use Rattle.geometry.specs.Geometry.{ceiling, stripes, is_critical, zeroed_stripes}
-use Rattle.superblocks.specs.declared.members.Members.{Members}
-use Rattle.superblocks.specs.Reading.{Scope, is_backward, shape_of, final_shape, list_length, next_window, data_offset_of}
-use Rattle.row_io.specs.Rows.{reading_of, held_slot}
-use Rattle.list_io.specs.Full.{RowStands}
-use Rattle.flat_history.specs.Stands.{shape_for}
+use Rattle.window_steps.specs.superblocks_the_Members.{Members}
+use Rattle.window_steps.specs.superblocks_Reading.{Scope, is_backward, shape_of, final_shape, list_length, next_window, data_offset_of}
+use Rattle.window_steps.specs.row_io_Rows.{reading_of, held_slot}
+use Rattle.window_steps.specs.list_io_Full.{RowStands}
+use Rattle.window_steps.specs.flat_history_Stands.{shape_for}
 use Rattle.window_steps.specs.shape_views_Regions.{backup_of, place_by}
 use Rattle.window_steps.specs.shape_views_Views.{AreHeadersFit, Disk}
 use Rattle.window_steps.specs.shape_views_Windows.{HasNoSection, IsShown, AreTailsStanding}

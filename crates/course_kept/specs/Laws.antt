@@ -9,13 +9,13 @@ use Rattle.bank.specs.Tape.{Contents}
 use Rattle.sb1.specs.declared.sb.Sb.{Sb}
 use Rattle.geometry.specs.Geometry.{stripes, rows, zeroed_stripes, is_critical}
 use Rattle.geometry.specs.Geometry as geometry
-use Rattle.superblocks.specs.declared.members.Members.{Members}
-use Rattle.superblocks.specs.Reading.{Scope, is_reshaping, is_backward, shape_of, final_shape, list_length, next_window, role_state, holder, data_offset_of}
-use Rattle.superblocks.specs.Update.{own_in}
-use Rattle.row_io.specs.Rows.{reading_of, held_slot}
-use Rattle.list_io.specs.Full.{RowStands}
-use Rattle.list_io.specs.Writing.{IsWritten}
-use Rattle.flat_history.specs.Stands.{shape_for, covers}
+use Rattle.window_steps.specs.superblocks_the_Members.{Members}
+use Rattle.window_steps.specs.superblocks_Reading.{Scope, is_reshaping, is_backward, shape_of, final_shape, list_length, next_window, role_state, holder, data_offset_of}
+use Rattle.window_steps.specs.superblocks_Update.{own_in}
+use Rattle.window_steps.specs.row_io_Rows.{reading_of, held_slot}
+use Rattle.window_steps.specs.list_io_Full.{RowStands}
+use Rattle.window_steps.specs.list_io_Writing.{IsWritten}
+use Rattle.window_steps.specs.flat_history_Stands.{shape_for, covers}
 use Rattle.window_steps.specs.shape_views_Regions.{place_by, ArePlaced, DoWithout}
 use Rattle.window_steps.specs.shape_views_Views.{AreHeadersFit, Disk}
 use Rattle.window_steps.specs.shape_views_Windows.{IsShown, ListStands, RowsStand, AreTailsStanding, moved_past}

@@ -37,3 +37,51 @@ pub use Rattle.window_steps.specs.shape_changes_Updates
 pub use Rattle.window_steps.specs.shape_changes_Carried
 pub use Rattle.window_steps.specs.shape_ends_Takeovers
 pub use Rattle.window_steps.specs.views_Whole
+pub use Rattle.window_steps.specs.flat_history_World
+pub use Rattle.window_steps.specs.flat_history_Stands
+pub use Rattle.window_steps.specs.flat_history_Sound
+pub use Rattle.window_steps.specs.row_io_Rows
+pub use Rattle.grow_asked.specs.declared.window.Window as grow_asked_the_Window
+pub use Rattle.grow_asked.specs.declared.window.Window.TheVariants as grow_asked_the_Window_TheVariants
+pub use Rattle.window_steps.specs.list_io_Full
+pub use Rattle.window_steps.specs.list_io_Writing
+pub use Rattle.window_steps.specs.superblocks_the_Members
+pub use Rattle.window_steps.specs.superblocks_Reading
+pub use Rattle.window_steps.specs.superblocks_Update
+pub use Rattle.window_steps.specs.flat_history_ActiveSection
+pub use Rattle.window_steps.specs.flat_history_the_Entry
+pub use Rattle.window_steps.specs.flat_history_Epochs
+pub use Rattle.window_steps.specs.flat_history_Flat
+pub use Rattle.window_steps.specs.flat_history_Legal
+pub use Rattle.window_steps.specs.flat_history_Losses
+pub use Rattle.window_steps.specs.flat_history_OneShape
+pub use Rattle.window_steps.specs.flat_history_the_Event
+pub use Rattle.window_steps.specs.flat_history_the_Event_TheVariants
+pub use Rattle.window_steps.specs.flat_history_Plain
+pub use Rattle.window_steps.specs.flat_history_the_StepKind_TheVariants
+pub use Rattle.window_steps.specs.flat_history_Growing
+pub use Rattle.window_steps.specs.flat_history_the_LostCause_TheVariants
+pub use Rattle.window_steps.specs.flat_history_the_StepKind
+pub use Rattle.window_steps.specs.flat_history_Transfers
+pub use Rattle.window_steps.specs.superblocks_Reads
+pub use Rattle.window_steps.specs.superblocks_Held
+pub use Rattle.window_steps.specs.superblocks_Outcome
+pub use Rattle.window_steps.specs.superblocks_the_Give
+pub use Rattle.window_steps.specs.superblocks_Updating
+pub use Rattle.window_steps.specs.superblocks_the_Change
+pub use Rattle.window_steps.specs.flat_history_the_Epoch
+pub use Rattle.window_steps.specs.flat_history_CrashSafe
+pub use Rattle.window_steps.specs.flat_history_Reshaped
+pub use Rattle.window_steps.specs.flat_history_the_Request_TheVariants
+pub use Rattle.window_steps.specs.flat_history_Fits
+pub use Rattle.window_steps.specs.flat_history_the_Request
+pub use Rattle.window_steps.specs.flat_history_the_LostCause
+pub use Rattle.window_steps.specs.flat_history_Seen
+pub use Rattle.window_steps.specs.flat_history_Opened
+pub use Rattle.window_steps.specs.row_io_Writes
+pub use Rattle.window_steps.specs.superblocks_Election
+pub use Rattle.window_steps.specs.superblocks_Verdict
+pub use Rattle.window_steps.specs.superblocks_Found
+pub use Rattle.grow_asked.specs.declared.window.PhasesLeft as grow_asked_the_PhasesLeft
+pub use Rattle.grow_asked.specs.Left as grow_asked_Left
+pub use Rattle.window_steps.specs.list_io_Buffers

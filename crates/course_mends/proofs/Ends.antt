@@ -9,8 +9,8 @@ use Rattle.layout.specs.Layout.{place, stripe_of}
 use Rattle.layout.proofs.Places.{chunk_some, stripe_of-row}
 use Rattle.geometry.specs.Geometry.{side}
 use Rattle.geometry.proofs.Divisions.{quotient_is}
-use Rattle.superblocks.specs.Reading.{is_reshaping, is_backward, final_shape, list_length, data_offset_of}
-use Rattle.row_io.specs.Rows.{reading_of, held_slot}
+use Rattle.course_kept.specs.superblocks_Reading.{is_reshaping, is_backward, final_shape, list_length, data_offset_of}
+use Rattle.course_kept.specs.row_io_Rows.{reading_of, held_slot}
 use Rattle.course_kept.specs.shape_views_Regions.{AreShapesFit}
 use Rattle.course_kept.specs.shape_views_Views.{IsTail}
 use Rattle.course_kept.proofs.shape_views_UnderWay.{shape-on}

@@ -9,12 +9,12 @@ use Rattle.bank.specs.Tape.{Contents}
 use Rattle.sb1.specs.declared.sb.Sb.{Sb}
 use Rattle.layout.specs.Layout.{place}
 use Rattle.geometry.proofs.Rows.{rows_hold}
-use Rattle.superblocks.specs.declared.members.Members.{Members}
-use Rattle.superblocks.specs.Reading.{final_shape, list_length, data_offset_of}
-use Rattle.row_io.specs.Rows.{reading_of, held_slot}
-use Rattle.row_io.proofs.Losses.{holder-of}
-use Rattle.list_io.specs.Full.{AreWholeIn, RowStands}
-use Rattle.flat_history.specs.Stands.{shape_for}
+use Rattle.course_kept.specs.superblocks_the_Members.{Members}
+use Rattle.course_kept.specs.superblocks_Reading.{final_shape, list_length, data_offset_of}
+use Rattle.course_kept.specs.row_io_Rows.{reading_of, held_slot}
+use Rattle.course_kept.proofs.row_io_Losses.{holder-of}
+use Rattle.course_kept.specs.list_io_Full.{AreWholeIn, RowStands}
+use Rattle.course_kept.specs.flat_history_Stands.{shape_for}
 use Rattle.course_kept.specs.shape_views_Regions.{AreShapesFit, place_by}
 use Rattle.course_kept.specs.shape_views_Windows.{IsShown}
 use Rattle.course_kept.proofs.shape_changes_LessViews.{ends-place}
@@ -32,8 +32,8 @@ use Rattle.region_mends.proofs.Alike.{low-alike, low-stripes-alike, relied-alike
 use Rattle.region_mends.proofs.ReliedLaws.{to-all}
 use Rattle.region_mends.proofs.StripeLaws.{is-next}
 use Rattle.region_mends.proofs.StripeRows.{next-within, next-has, next-past}
-use Rattle.grow_asked.specs.declared.window.Window.{Window}
-use Rattle.grow_asked.specs.declared.window.Window.TheVariants.{Closed, Entered, Unsure}
+use Rattle.course_kept.specs.grow_asked_the_Window.{Window}
+use Rattle.course_kept.specs.grow_asked_the_Window_TheVariants.{Closed, Entered, Unsure}
 use Rattle.course_kept.specs.declared.course.Course.{Course}
 use Rattle.course_kept.specs.Course.{IsCourseOf, IsCopiedRow, IsOfStripes, IsZeroedRow, hidden_in, past_stripe, StandsInCourse}
 use Rattle.course_kept.proofs.Frames.{zeroed-before}

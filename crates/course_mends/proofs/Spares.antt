@@ -8,13 +8,13 @@ use Rattle.md_base.specs.declared.status.Role.TheVariants.{Whole, Recovering, Mi
 use Rattle.bank.specs.Tape.{Contents}
 use Rattle.sb1.specs.declared.sb.Sb.{Sb}
 use Rattle.layout.specs.Layout.{place}
-use Rattle.superblocks.specs.declared.members.Members.{Members}
-use Rattle.superblocks.specs.Reading.{is_reshaping, role_state, rows_held, holder, data_offset_of}
-use Rattle.superblocks.specs.Update.{own_in}
-use Rattle.row_io.specs.Rows.{reading_of, held_slot}
-use Rattle.row_io.proofs.Losses.{holder-of}
-use Rattle.list_io.specs.Full.{RowStands}
-use Rattle.flat_history.specs.Stands.{shape_for}
+use Rattle.course_kept.specs.superblocks_the_Members.{Members}
+use Rattle.course_kept.specs.superblocks_Reading.{is_reshaping, role_state, rows_held, holder, data_offset_of}
+use Rattle.course_kept.specs.superblocks_Update.{own_in}
+use Rattle.course_kept.specs.row_io_Rows.{reading_of, held_slot}
+use Rattle.course_kept.proofs.row_io_Losses.{holder-of}
+use Rattle.course_kept.specs.list_io_Full.{RowStands}
+use Rattle.course_kept.specs.flat_history_Stands.{shape_for}
 use Rattle.course_kept.specs.shape_views_Regions.{place_by}
 use Rattle.region_mends.specs.Mends.{low_shape}
 use Rattle.course_kept.specs.declared.course.Course.{Course}

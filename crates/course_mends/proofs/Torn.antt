@@ -2,11 +2,11 @@
 use Rattle.std.proofs.Common.{◌≡◌, ℕ, ◌+◌, ◌*◌, ◌<◌, ◌≤◌, Some, sym, ◌∙◌, ap, subst, arith}
 use Rattle.md_base.specs.declared.places.Shape.{Shape}
 use Rattle.layout.specs.Layout.{place}
-use Rattle.superblocks.specs.Reading.{list_length, data_offset_of}
-use Rattle.row_io.specs.Rows.{reading_of, held_slot}
-use Rattle.row_io.proofs.Losses.{holder-of}
-use Rattle.list_io.specs.Full.{RowStands}
-use Rattle.flat_history.specs.Stands.{shape_for}
+use Rattle.course_kept.specs.superblocks_Reading.{list_length, data_offset_of}
+use Rattle.course_kept.specs.row_io_Rows.{reading_of, held_slot}
+use Rattle.course_kept.proofs.row_io_Losses.{holder-of}
+use Rattle.course_kept.specs.list_io_Full.{RowStands}
+use Rattle.course_kept.specs.flat_history_Stands.{shape_for}
 use Rattle.course_kept.specs.shape_views_Regions.{place_by}
 use Rattle.course_kept.proofs.views_Fit.{for-alike, list-alike}
 use Rattle.course_kept.proofs.views_HeldRows.{held-moved}

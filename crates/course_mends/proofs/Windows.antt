@@ -8,8 +8,8 @@ use Rattle.bank.specs.Given.{Given}
 use Rattle.bank.specs.Tape.{Contents}
 use Rattle.sb1.specs.declared.sb.Sb.{Sb}
 use Rattle.geometry.specs.Geometry.{stripes, beyond}
-use Rattle.superblocks.specs.declared.members.Members.{Members}
-use Rattle.superblocks.specs.Reading.{is_reshaping, is_backward, final_shape, list_length, next_window}
+use Rattle.course_kept.specs.superblocks_the_Members.{Members}
+use Rattle.course_kept.specs.superblocks_Reading.{is_reshaping, is_backward, final_shape, list_length, next_window}
 use Rattle.course_kept.specs.shape_views_Regions.{AreShapesFit}
 use Rattle.course_kept.specs.shape_views_Windows.{moved_past}
 use Rattle.course_kept.proofs.shape_views_Headers.{window-filled}

@@ -8,12 +8,12 @@ use Rattle.bank.specs.Tape.{Contents}
 use Rattle.sb1.specs.declared.sb.Sb.{Sb}
 use Rattle.layout.specs.Layout.{place}
 use Rattle.geometry.specs.Geometry.{stripes, is_critical}
-use Rattle.superblocks.specs.declared.members.Members.{Members}
-use Rattle.superblocks.specs.Reading.{Scope, is_reshaping, is_backward, shape_of, final_shape, list_length, next_window}
-use Rattle.row_io.specs.Rows.{reading_of}
-use Rattle.list_io.specs.Full.{AreWholeIn, RowStands}
-use Rattle.list_io.specs.Writing.{IsWritten}
-use Rattle.flat_history.specs.Stands.{covers}
+use Rattle.course_kept.specs.superblocks_the_Members.{Members}
+use Rattle.course_kept.specs.superblocks_Reading.{Scope, is_reshaping, is_backward, shape_of, final_shape, list_length, next_window}
+use Rattle.course_kept.specs.row_io_Rows.{reading_of}
+use Rattle.course_kept.specs.list_io_Full.{AreWholeIn, RowStands}
+use Rattle.course_kept.specs.list_io_Writing.{IsWritten}
+use Rattle.course_kept.specs.flat_history_Stands.{covers}
 use Rattle.course_kept.specs.shape_views_Regions.{AreShapesFit, ArePlaced}
 use Rattle.course_kept.specs.shape_views_Windows.{AreTailsStanding, moved_past}
 use Rattle.course_kept.specs.shape_changes_Marking.{AreOthersPresent}
@@ -23,8 +23,8 @@ use Rattle.course_kept.specs.views_Lacking.{IsOfStripe, AreOtherRowsKept}
 use Rattle.region_mends.specs.region_rows_Stretches.{ListStandsIn, RowsStandIn}
 use Rattle.region_mends.specs.region_writes_Runs.{IsListTouched}
 use Rattle.region_mends.specs.Mends.{low_shape, low_stripes, mend_stripes, stripe_behind, relied_sector, IsMendRow, AreEndsStanding}
-use Rattle.grow_asked.specs.declared.window.Window.{Window}
-use Rattle.grow_asked.specs.declared.window.Window.TheVariants.{Closed, Entered, Unsure}
+use Rattle.course_kept.specs.grow_asked_the_Window.{Window}
+use Rattle.course_kept.specs.grow_asked_the_Window_TheVariants.{Closed, Entered, Unsure}
 use Rattle.course_kept.specs.declared.course.Course.{Course}
 use Rattle.course_kept.specs.Course.{IsCourseOf, hidden_in, span_in, AnyShape, StandsInCourse}
 use Rattle.course_kept.specs.Laws.{DifferInSpares, entered, closed, next_stripe, IsLeftRow, AreStripesStanding, IsOtherTouched}

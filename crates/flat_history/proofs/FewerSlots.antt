@@ -19,8 +19,8 @@ use Rattle.sb1.specs.Superblock.{superblock_in}
 use Rattle.bank.specs.Tape.{Contents}
 use Rattle.layout.specs.Layout.{place, row_roles}
 use Rattle.parity.specs.Parity.{fill}
-use Rattle.superblocks.specs.Reading.{Scope, Reading, reading, superblocks, seen_superblock, of_array, is_backup, role_state, rows_held, holder, own_of, data_offset_of, next_window, list_length, is_reshaping, role_count, is_clean}
-use Rattle.superblocks.specs.Verdict.{first_of_all, members_missing, unsupported, bad_field, first_bad_entry, fresh_from, two_holders, shared_dev, dirty_degraded, off_unit, judged_fields, unit_of, members_refusal}
+use Rattle.superblock_reads.specs.superblocks_Reading.{Scope, Reading, reading, superblocks, seen_superblock, of_array, is_backup, role_state, rows_held, holder, own_of, data_offset_of, next_window, list_length, is_reshaping, role_count, is_clean}
+use Rattle.superblock_reads.specs.superblocks_Verdict.{first_of_all, members_missing, unsupported, bad_field, first_bad_entry, fresh_from, two_holders, shared_dev, dirty_degraded, off_unit, judged_fields, unit_of, members_refusal}
 use Rattle.superblock_reads.proofs.SaidSlots.{read-parts}
 use Rattle.backup.specs.Section.{has_section, section_sector}
 use Rattle.flat_history.specs.ActiveSection.{section_for, active_section}

@@ -15,7 +15,7 @@ use Rattle.flat_history.specs.Flat.{values_of, values_after, first_values}
 use Rattle.flat_history.specs.CrashSafe.{made_by, last_resized, MayBeJudgedBy, StandsFor, IsJudged, IsRefusedRightly}
 use Rattle.flat_history.specs.Growing.{EndBy}
 use Rattle.flat_history.specs.Opened.{IsSound, OpensSound}
-use Rattle.superblocks.specs.Reading.{reading}
+use Rattle.superblock_reads.specs.superblocks_Reading.{reading}
 use Rattle.flat_history.proofs.FewerSlots.{accepted-roles, found-same, not-missing, not-degraded}
 use Rattle.flat_history.specs.Reopened.{OpensAccepted, IsReopened, IsSameArray, IsFoundLater, EndsSettled, OpensWith, SettledListsAreFound, SoundArraysAreFound}
 

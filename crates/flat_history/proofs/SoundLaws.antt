@@ -8,7 +8,7 @@ use Rattle.bank.specs.declared.bank.Operation.TheVariants.{Write, Flush}
 use Rattle.bank.specs.Tape.{Contents, IsDrawn, IsIn, disk, choices, AreFlushes}
 use Rattle.bank.proofs.Laws.{contents-earlier, disk-append}
 use Rattle.bank.proofs.Images.{image-drawn, image-earlier, image-now, now-image}
-use Rattle.superblocks.specs.Reading.{reading}
+use Rattle.superblock_reads.specs.superblocks_Reading.{reading}
 use Rattle.flat_history.specs.declared.events.Entry.{Entry}
 use Rattle.flat_history.specs.World.{World, contents_at, reading_at}
 use Rattle.flat_history.specs.Stands.{verdict}

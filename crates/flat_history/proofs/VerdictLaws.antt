@@ -8,7 +8,7 @@ use Rattle.md_base.specs.declared.answers.Refusal.TheVariants.{NoSuperblock, Uns
 use Rattle.md_base.specs.Shapes.{tolerance, is_multiple}
 use Rattle.md_base.specs.Search.{count_below, least_below}
 use Rattle.sb1.specs.declared.sb.Sb.{Sb}
-use Rattle.superblocks.specs.Reading.{Scope, Reading, reading, shapes_in_force, is_clean, is_reshaping, role_count, list_length}
+use Rattle.superblock_reads.specs.superblocks_Reading.{Scope, Reading, reading, shapes_in_force, is_clean, is_reshaping, role_count, list_length}
 use Rattle.bank.specs.Tape.{Contents}
 use Rattle.flat_history.specs.declared.events.Event.{Event}
 use Rattle.flat_history.specs.declared.events.Event.TheVariants.{Lost, Step}
@@ -16,7 +16,7 @@ use Rattle.flat_history.specs.declared.events.StepKind.TheVariants.{TakenOver}
 use Rattle.flat_history.specs.declared.events.Entry.{Entry}
 use Rattle.flat_history.specs.World.{World, reading_at}
 use Rattle.flat_history.specs.Losses.{takes, gone_surely, gone_perhaps, is_gone, gone_count}
-use Rattle.superblocks.specs.Verdict.{first_of_all, missing_count, too_many, members_missing, unsupported, bad_field, fresh_from, two_holders, shared_dev, dirty_degraded, off_unit, judged_fields, first_bad_entry, is_missing, holds_data, unit_of, members_refusal}
+use Rattle.superblock_reads.specs.superblocks_Verdict.{first_of_all, missing_count, too_many, members_missing, unsupported, bad_field, fresh_from, two_holders, shared_dev, dirty_degraded, off_unit, judged_fields, first_bad_entry, is_missing, holds_data, unit_of, members_refusal}
 use Rattle.sb1.specs.Features.{refused_bits}
 use Rattle.flat_history.specs.Stands.{verdict, refusal_of, backup_absent, has_room, reach_of}
 use Rattle.flat_history.specs.CrashSafe.{made_by, IsJudged, IsRefusedRightly}

@@ -17,11 +17,11 @@ use Rattle.sb1.specs.Features.{refused_bits}
 use Rattle.sb1.specs.Superblock.{superblock_in}
 use Rattle.bank.specs.Given.{Sizes}
 use Rattle.bank.specs.Tape.{Contents}
-use Rattle.superblocks.specs.Election.{seen_superblocks}
-use Rattle.superblocks.specs.Reading.{Scope, Reading, reading, reading_of, of_array, superblocks, seen_superblock, is_seen, is_backup, is_reshaping, is_clean, list_length, shapes_in_force, role_count}
-use Rattle.superblocks.specs.Verdict.{unit_of, members_refusal, first_of_all, fresh_from, unsupported, bad_field, judged_fields, first_bad_entry, two_holders, shared_dev, members_missing, missing_count, too_many, dirty_degraded, holds_data, off_unit}
-use Rattle.superblocks.specs.Verdict as verdicts
-use Rattle.flat_history.specs.Stands.{verdict, refusal_of, backup_absent, has_room, reach_of}
+use Rattle.array_kept.specs.superblocks_Election.{seen_superblocks}
+use Rattle.array_kept.specs.superblocks_Reading.{Scope, Reading, reading, reading_of, of_array, superblocks, seen_superblock, is_seen, is_backup, is_reshaping, is_clean, list_length, shapes_in_force, role_count}
+use Rattle.array_kept.specs.superblocks_Verdict.{unit_of, members_refusal, first_of_all, fresh_from, unsupported, bad_field, judged_fields, first_bad_entry, two_holders, shared_dev, members_missing, missing_count, too_many, dirty_degraded, holds_data, off_unit}
+use Rattle.array_kept.specs.superblocks_Verdict as verdicts
+use Rattle.array_kept.specs.flat_history_Stands.{verdict, refusal_of, backup_absent, has_room, reach_of}
 use Rattle.found_members.specs.Causes.{IsOffUnit, OffUnitIsTold, AcceptedIsOnUnit, LacksBackup, LackingBackupIsTold, LackingBackupIsRefused, IsWithoutBackup, BackupsHaveNoSuperblock, LostBackupIsRefused}
 use Rattle.found_members.proofs.Elected.{unrefused}
 

@@ -8,11 +8,11 @@ use Rattle.md_base.specs.declared.places.Shape.{Shape}
 use Rattle.md_base.specs.declared.status.Role.{Role}
 use Rattle.md_base.specs.Shapes.{tolerance}
 use Rattle.sb1.specs.declared.sb.Sb.{Sb}
-use Rattle.superblocks.specs.declared.members.Members.{Members}
-use Rattle.superblocks.specs.Reading.{Reading, reading_of, reading_by, newest_of, shape_of, target_of, final_shape, shapes_in_force}
-use Rattle.superblocks.specs.Verdict.{members_refusal, first_of_all, fresh_from, unsupported, bad_field, judged_fields, first_bad_entry, two_holders, members_missing, missing_count, too_many, dirty_degraded, off_unit, AreValidShapes}
-use Rattle.superblocks.specs.Election.{reading_in, IsElected}
-use Rattle.superblocks.proofs.ValidFields.{valid-shapes}
+use Rattle.array_kept.specs.superblocks_the_Members.{Members}
+use Rattle.array_kept.specs.superblocks_Reading.{Reading, reading_of, reading_by, newest_of, shape_of, target_of, final_shape, shapes_in_force}
+use Rattle.array_kept.specs.superblocks_Verdict.{members_refusal, first_of_all, fresh_from, unsupported, bad_field, judged_fields, first_bad_entry, two_holders, members_missing, missing_count, too_many, dirty_degraded, off_unit, AreValidShapes}
+use Rattle.array_kept.specs.superblocks_Election.{reading_in, IsElected}
+use Rattle.array_kept.proofs.superblocks_ValidFields.{valid-shapes}
 use Rattle.array_kept.specs.shape_views_Regions.{DoWithout}
 use Rattle.array_kept.proofs.shape_views_Alike.{found-none}
 use Rattle.array_kept.proofs.shape_views_Judged.{within-few}

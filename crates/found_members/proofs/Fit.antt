@@ -9,9 +9,9 @@ use Rattle.md_base.specs.Shapes.{is_multiple}
 use Rattle.sb1.specs.declared.sb.Sb.{Sb}
 use Rattle.bank.specs.Given.{sizes}
 use Rattle.geometry.specs.Geometry.{is_size}
-use Rattle.superblocks.specs.Reading.{is_reshaping, is_negative, is_zero, count_of, shape_of, final_shape, list_length}
-use Rattle.superblocks.specs.Election.{reading_in}
-use Rattle.superblocks.specs.Verdict.{fresh_from, bad_field, judged_fields, is_bad_size, off_unit, AreValidShapes}
+use Rattle.array_kept.specs.superblocks_Reading.{is_reshaping, is_negative, is_zero, count_of, shape_of, final_shape, list_length}
+use Rattle.array_kept.specs.superblocks_Election.{reading_in}
+use Rattle.array_kept.specs.superblocks_Verdict.{fresh_from, bad_field, judged_fields, is_bad_size, off_unit, AreValidShapes}
 use Rattle.array_kept.specs.shape_views_Regions.{AreShapesFit}
 use Rattle.found_members.specs.Laws.{ElectedReshapesFit}
 use Rattle.found_members.proofs.Elected.{fields-pass, elected-unrefused, elected-valid}

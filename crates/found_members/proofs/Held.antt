@@ -11,21 +11,21 @@ use Rattle.sb1.specs.declared.sb.Sb.{Sb}
 use Rattle.sb1.specs.Superblock.{is_valid, sb_of}
 use Rattle.bank.specs.Given.{Given}
 use Rattle.bank.specs.Tape.{Contents, IsIn}
-use Rattle.superblocks.specs.declared.members.Members.{Members}
-use Rattle.superblocks.specs.Reading.{Scope, Reading, reading, reading_by, superblocks, newest_of, is_seen, is_backup, of_array}
-use Rattle.superblocks.specs.Verdict.{members_refusal}
-use Rattle.superblocks.specs.Update.{own_in, is_live}
-use Rattle.superblocks.specs.Outcome.{set_of, is_in_update, live_set}
-use Rattle.superblocks.specs.Held.{own_at}
-use Rattle.superblocks.specs.Stages.{AreLeft}
-use Rattle.superblocks.specs.Election.{reading_in}
-use Rattle.superblocks.specs.Found.{AreLikeNewest, IsInSectors}
-use Rattle.superblocks.proofs.SlotSets.{has-set_of}
-use Rattle.superblock_reads.proofs.Accepted.{IsAccepted, is-accepted}
-use Rattle.superblock_reads.proofs.SaidSlots.{read-parts}
-use Rattle.superblock_reads.proofs.FoundHeld.{found-of, found-held, found-exact, found-said, live-seen}
-use Rattle.superblock_reads.proofs.StageReads.{held-reads}
-use Rattle.flat_history.specs.Stands.{verdict, refusal_of, backup_absent}
+use Rattle.array_kept.specs.superblocks_the_Members.{Members}
+use Rattle.array_kept.specs.superblocks_Reading.{Scope, Reading, reading, reading_by, superblocks, newest_of, is_seen, is_backup, of_array}
+use Rattle.array_kept.specs.superblocks_Verdict.{members_refusal}
+use Rattle.array_kept.specs.superblocks_Update.{own_in, is_live}
+use Rattle.array_kept.specs.superblocks_Outcome.{set_of, is_in_update, live_set}
+use Rattle.array_kept.specs.superblocks_Held.{own_at}
+use Rattle.array_kept.specs.superblocks_Stages.{AreLeft}
+use Rattle.array_kept.specs.superblocks_Election.{reading_in}
+use Rattle.array_kept.specs.superblocks_Found.{AreLikeNewest, IsInSectors}
+use Rattle.array_kept.proofs.superblocks_SlotSets.{has-set_of}
+use Rattle.array_kept.proofs.superblock_reads_Accepted.{IsAccepted, is-accepted}
+use Rattle.array_kept.proofs.superblock_reads_SaidSlots.{read-parts}
+use Rattle.array_kept.proofs.superblock_reads_FoundHeld.{found-of, found-held, found-exact, found-said, live-seen}
+use Rattle.array_kept.proofs.superblock_reads_StageReads.{held-reads}
+use Rattle.array_kept.specs.flat_history_Stands.{verdict, refusal_of, backup_absent}
 use Rattle.array_kept.specs.shape_changes_Marking.{marking}
 use Rattle.array_kept.specs.shape_changes_Held.{IsHeldBy}
 use Rattle.array_kept.specs.shape_views_Views.{Disk}

@@ -14,16 +14,16 @@ use Rattle.md_base.specs.Search.{tabulate}
 use Rattle.md_base.proofs.Tabulated.{length-tabulate, get_or-tabulate}
 use Rattle.sb1.specs.declared.sb.Sb.{Sb}
 use Rattle.bank.specs.Given.{Given, sizes}
-use Rattle.superblocks.specs.declared.members.Members.{Members}
-use Rattle.superblocks.specs.Reading.{Reading, reading_by, newest_of, holder_from, spares_from, holds_role, state_of, is_fresh, is_spare, is_recovering, lies_within, entry_of, role_count, role_state, holder, data_offset_of}
-use Rattle.superblocks.specs.Verdict.{members_refusal}
-use Rattle.superblocks.specs.Election.{reading_in, IsElected}
-use Rattle.superblocks.specs.Update.{is_held_by, is_live}
-use Rattle.superblocks.specs.Writing.{IsMember}
-use Rattle.superblock_reads.proofs.Accepted.{IsAccepted, is-accepted}
-use Rattle.superblocks.proofs.ValidFields.{few-roles}
-use Rattle.row_io.specs.Rows.{reading_of}
-use Rattle.row_io.proofs.Apart.{readings-are-apart}
+use Rattle.array_kept.specs.superblocks_the_Members.{Members}
+use Rattle.array_kept.specs.superblocks_Reading.{Reading, reading_by, newest_of, holder_from, spares_from, holds_role, state_of, is_fresh, is_spare, is_recovering, lies_within, entry_of, role_count, role_state, holder, data_offset_of}
+use Rattle.array_kept.specs.superblocks_Verdict.{members_refusal}
+use Rattle.array_kept.specs.superblocks_Election.{reading_in, IsElected}
+use Rattle.array_kept.specs.superblocks_Update.{is_held_by, is_live}
+use Rattle.array_kept.specs.superblocks_Writing.{IsMember}
+use Rattle.array_kept.proofs.superblock_reads_Accepted.{IsAccepted, is-accepted}
+use Rattle.array_kept.proofs.superblocks_ValidFields.{few-roles}
+use Rattle.array_kept.specs.row_io_Rows.{reading_of}
+use Rattle.array_kept.proofs.row_io_Apart.{readings-are-apart}
 use Rattle.array_kept.specs.views_Placed.{IsPlaced}
 use Rattle.array_kept.specs.shape_changes_Steady.{AreUnlost}
 use Rattle.array_kept.specs.views_Rebuilding.{AreSparesFree}

@@ -6,12 +6,12 @@ use Rattle.md_base.specs.declared.status.Role.{Role}
 use Rattle.md_base.specs.declared.status.Role.TheVariants.{Whole, Recovering, Missing}
 use Rattle.sb1.specs.declared.sb.Sb.{Sb}
 use Rattle.bank.specs.Given.{Given, Sizes, sizes}
-use Rattle.superblocks.specs.declared.members.Members.{Members}
-use Rattle.superblocks.specs.Reading.{Scope, Reading, is_reshaping, role_state, rows_held, holder, data_offset_of}
-use Rattle.superblocks.specs.Verdict.{members_refusal}
-use Rattle.superblocks.specs.Election.{reading_in}
-use Rattle.superblocks.specs.Reads.{SaysSame, roles_refusal}
-use Rattle.row_io.specs.Rows.{reading_of}
+use Rattle.array_kept.specs.superblocks_the_Members.{Members}
+use Rattle.array_kept.specs.superblocks_Reading.{Scope, Reading, is_reshaping, role_state, rows_held, holder, data_offset_of}
+use Rattle.array_kept.specs.superblocks_Verdict.{members_refusal}
+use Rattle.array_kept.specs.superblocks_Election.{reading_in}
+use Rattle.array_kept.specs.superblocks_Reads.{SaysSame, roles_refusal}
+use Rattle.array_kept.specs.row_io_Rows.{reading_of}
 use Rattle.array_kept.specs.views_Placed.{IsPlaced}
 use Rattle.array_kept.specs.shape_views_Regions.{IsReadOf}
 use Rattle.found_members.specs.Found.{AreElected}

@@ -5,10 +5,10 @@ use Rattle.md_base.specs.declared.answers.Refusal.TheVariants.{PositionNotOnUnit
 use Rattle.md_base.specs.Shapes.{has_slot}
 use Rattle.sb1.specs.declared.sb.Sb.{Sb}
 use Rattle.bank.specs.Tape.{Contents}
-use Rattle.superblocks.specs.Election.{seen_superblocks}
-use Rattle.superblocks.specs.Reading.{Scope, Reading, reading, is_backup, is_reshaping, list_length}
-use Rattle.superblocks.specs.Verdict.{unit_of, members_refusal}
-use Rattle.flat_history.specs.Stands.{verdict, reach_of}
+use Rattle.array_kept.specs.superblocks_Election.{seen_superblocks}
+use Rattle.array_kept.specs.superblocks_Reading.{Scope, Reading, reading, is_backup, is_reshaping, list_length}
+use Rattle.array_kept.specs.superblocks_Verdict.{unit_of, members_refusal}
+use Rattle.array_kept.specs.flat_history_Stands.{verdict, reach_of}
 
 -- ---- the position
 

@@ -4,13 +4,13 @@ use Rattle.md_base.specs.Shapes.{has_slot}
 use Rattle.sb1.specs.declared.sb.Sb.{Sb}
 use Rattle.bank.specs.Given.{Given, sizes}
 use Rattle.bank.specs.Tape.{Contents}
-use Rattle.superblocks.specs.declared.members.Members.{Members}
-use Rattle.superblocks.specs.Reading.{Scope, reading}
-use Rattle.superblocks.specs.Election.{reading_in, IsElected}
-use Rattle.superblocks.specs.Found.{AreInSectors}
-use Rattle.superblocks.specs.Update.{own_in}
-use Rattle.superblocks.specs.Writing.{AreWritable}
-use Rattle.flat_history.specs.Stands.{verdict}
+use Rattle.array_kept.specs.superblocks_the_Members.{Members}
+use Rattle.array_kept.specs.superblocks_Reading.{Scope, reading}
+use Rattle.array_kept.specs.superblocks_Election.{reading_in, IsElected}
+use Rattle.array_kept.specs.superblocks_Found.{AreInSectors}
+use Rattle.array_kept.specs.superblocks_Update.{own_in}
+use Rattle.array_kept.specs.superblocks_Writing.{AreWritable}
+use Rattle.array_kept.specs.flat_history_Stands.{verdict}
 use Rattle.array_kept.specs.shape_views_Views.{Disk}
 
 -- They are what the superblocks of these slots say, each of which can be written again; the bank's other slots are the lost ones.

@@ -2,10 +2,10 @@
 use Rattle.std.specs.Prelude.{◌≡◌, ℕ, true, List, Option}
 use Rattle.bank.specs.Given.{Given, sizes}
 use Rattle.bank.specs.Tape.{Contents}
-use Rattle.superblocks.specs.declared.members.Members.{Members}
-use Rattle.superblocks.specs.Election.{reading_in}
-use Rattle.superblocks.specs.Found.{AreLikeNewest}
-use Rattle.superblocks.specs.Reading.{Scope, is_reshaping}
+use Rattle.array_kept.specs.superblocks_the_Members.{Members}
+use Rattle.array_kept.specs.superblocks_Election.{reading_in}
+use Rattle.array_kept.specs.superblocks_Found.{AreLikeNewest}
+use Rattle.array_kept.specs.superblocks_Reading.{Scope, is_reshaping}
 use Rattle.array_kept.specs.shape_views_Regions.{AreShapesFit, DoWithout, IsReadOf}
 use Rattle.array_kept.specs.shape_views_Views.{Disk}
 use Rattle.array_kept.specs.shape_changes_Held.{IsHeldBy}

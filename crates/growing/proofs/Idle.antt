@@ -16,7 +16,7 @@ use Rattle.md_base.specs.declared.wishes.Wish.{Wish}
 use Rattle.grow_plan.specs.Plans.{phases_steps, phase_steps}
 use Rattle.superblocks.specs.declared.members.Members.{Members}
 use Rattle.superblocks.specs.Reading.{is_whole, shape_of, role_count, role_state, holder}
-use Rattle.row_io.specs.Rows.{reading_of, is_missing}
+use Rattle.turning.specs.row_io_Rows.{reading_of, is_missing}
 use Rattle.flat_history.specs.declared.events.Entry.{Entry}
 use Rattle.flat_history.specs.declared.events.Event.TheVariants.{Refused}
 use Rattle.flat_history.specs.OneShape.{ShapeOpening, IsOneShapeRefusal}

@@ -38,3 +38,9 @@ pub use Rattle.turning.proofs.shape_changes_PlannedRoles
 pub use Rattle.turning.proofs.shape_views_Stands
 pub use Rattle.turning.proofs.kept_history_Opened
 pub use Rattle.turning.proofs.kept_history_Turned
+pub use Rattle.turning.proofs.superblock_reads_SaidLists
+pub use Rattle.turning.proofs.superblock_reads_SaidSlots
+pub use Rattle.turning.proofs.row_io_Losses
+pub use Rattle.turning.proofs.history_laws_OneShapeGrowing
+pub use Rattle.turning.proofs.history_laws_ReshapedLaws
+pub use Rattle.turning.proofs.history_laws_GrowingLaws

@@ -6,7 +6,7 @@ use Rattle.bank.specs.Given.{Given}
 use Rattle.sb1.specs.declared.sb.Sb.{Sb}
 use Rattle.superblocks.specs.declared.members.Members.{Members}
 use Rattle.superblocks.specs.Reading.{Scope, Reading, is_reshaping, shape_of}
-use Rattle.row_io.specs.Rows.{present}
+use Rattle.turning.specs.row_io_Rows.{present}
 use Rattle.flat_history.specs.declared.events.Entry.{Entry}
 use Rattle.flat_history.specs.World.{reading_at}
 use Rattle.turning.proofs.shape_views_Alike.{shape-alike}

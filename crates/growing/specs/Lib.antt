@@ -53,3 +53,4 @@ pub use Rattle.turning.specs.kept_history_Recorded
 pub use Rattle.turning.specs.kept_history_Safe
 pub use Rattle.turning.specs.shape_changes_Marking
 pub use Rattle.turning.specs.shape_views_Regions
+pub use Rattle.turning.specs.row_io_Rows

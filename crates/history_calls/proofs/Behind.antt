@@ -9,19 +9,19 @@ use Rattle.md_base.specs.Shapes.{has_slot}
 use Rattle.md_base.specs.declared.answers.Who.{Who}
 use Rattle.bank.specs.declared.bank.Operation.{Operation}
 use Rattle.bank.specs.Given.{Given}
-use Rattle.superblocks.specs.declared.members.Members.{Members}
-use Rattle.superblocks.specs.Reading.{Scope, Reading, list_length, role_count}
-use Rattle.row_io.specs.Rows.{reading_of, is_missing}
-use Rattle.flat_history.specs.declared.events.Entry.{Entry}
-use Rattle.flat_history.specs.declared.events.Event.{Event}
-use Rattle.flat_history.specs.declared.events.Event.TheVariants.{Lost, SpareLost}
-use Rattle.flat_history.specs.declared.events.LostCause.TheVariants.{Fault}
-use Rattle.flat_history.specs.Flat.{values_after}
-use Rattle.flat_history.specs.Legal.{level_at, level_after, MayBeInner, IsInnerOrLast}
-use Rattle.flat_history.specs.Losses.{is_gone_after, loses}
-use Rattle.flat_history.specs.OneShape.{is_lost}
-use Rattle.flat_history.specs.Plain.{entries_of}
-use Rattle.flat_history.specs.World.{World, reading_at, opening_list}
+use Rattle.call_entries.specs.superblocks_the_Members.{Members}
+use Rattle.call_entries.specs.superblocks_Reading.{Scope, Reading, list_length, role_count}
+use Rattle.call_entries.specs.row_io_Rows.{reading_of, is_missing}
+use Rattle.call_entries.specs.flat_history_the_Entry.{Entry}
+use Rattle.call_entries.specs.flat_history_the_Event.{Event}
+use Rattle.call_entries.specs.flat_history_the_Event_TheVariants.{Lost, SpareLost}
+use Rattle.call_entries.specs.flat_history_the_LostCause_TheVariants.{Fault}
+use Rattle.call_entries.specs.flat_history_Flat.{values_after}
+use Rattle.call_entries.specs.flat_history_Legal.{level_at, level_after, MayBeInner, IsInnerOrLast}
+use Rattle.call_entries.specs.flat_history_Losses.{is_gone_after, loses}
+use Rattle.call_entries.specs.flat_history_OneShape.{is_lost}
+use Rattle.call_entries.specs.flat_history_Plain.{entries_of}
+use Rattle.call_entries.specs.flat_history_World.{World, reading_at, opening_list}
 use Rattle.call_entries.specs.Losing.{losses_of}
 use Rattle.call_entries.proofs.CallLaws.{AreLossEvents, losses-are, told-losses, values-losses}
 use Rattle.call_entries.proofs.StepLaws.{faults-are}

@@ -4,15 +4,15 @@ use Rattle.std.specs.Prelude.{MatchOption}
 use Rattle.std.specs.List.{list_any}
 use Rattle.std.proofs.lemmas.Bool.Decides.{nat_tests}
 use Rattle.md_base.specs.declared.answers.Who.{Who}
-use Rattle.flat_history.specs.declared.events.Entry.{Entry}
-use Rattle.flat_history.specs.declared.events.Event.TheVariants.{Lost, Failed}
-use Rattle.flat_history.specs.declared.events.LostCause.TheVariants.{Command}
-use Rattle.flat_history.specs.Flat.{last_of}
-use Rattle.flat_history.specs.Legal.{is_lost_by_command, IsFailed, IsFailedByCall}
-use Rattle.flat_history.specs.OneShape.{is_lost}
-use Rattle.flat_history.specs.Plain.{entries_of}
-use Rattle.flat_history.specs.World.{World}
-use Rattle.history_laws.proofs.OneShapeGrowing.{found-before}
+use Rattle.call_entries.specs.flat_history_the_Entry.{Entry}
+use Rattle.call_entries.specs.flat_history_the_Event_TheVariants.{Lost, Failed}
+use Rattle.call_entries.specs.flat_history_the_LostCause_TheVariants.{Command}
+use Rattle.call_entries.specs.flat_history_Flat.{last_of}
+use Rattle.call_entries.specs.flat_history_Legal.{is_lost_by_command, IsFailed, IsFailedByCall}
+use Rattle.call_entries.specs.flat_history_OneShape.{is_lost}
+use Rattle.call_entries.specs.flat_history_Plain.{entries_of}
+use Rattle.call_entries.specs.flat_history_World.{World}
+use Rattle.call_entries.proofs.history_laws_OneShapeGrowing.{found-before}
 use Rattle.call_entries.specs.Losing.{losses_of}
 use Rattle.call_entries.proofs.CallLaws.{losses-are}
 use Rattle.call_entries.proofs.LosingLaws.{entries-both}

@@ -10,20 +10,20 @@ use Rattle.md_base.specs.declared.answers.Who.{Who}
 use Rattle.bank.specs.declared.bank.Operation.{Operation}
 use Rattle.bank.specs.Given.{Given, sizes}
 use Rattle.bank.specs.Tape.{disk}
-use Rattle.superblocks.specs.declared.members.Members.{Members}
-use Rattle.superblocks.specs.Reading.{Scope, is_clean, list_length, role_count}
-use Rattle.row_io.specs.Rows.{reading_of, is_missing}
-use Rattle.flat_history.specs.declared.events.Entry.{Entry}
-use Rattle.flat_history.specs.declared.events.Event.{Event}
-use Rattle.flat_history.specs.declared.events.Event.TheVariants.{Rebuilt}
-use Rattle.flat_history.specs.Epochs.{HasRoomForEvents, OpensAlike}
-use Rattle.flat_history.specs.Flat.{values_of, values_after}
-use Rattle.flat_history.specs.Legal.{level_at, level_after}
-use Rattle.flat_history.specs.Losses.{loses, is_gone_after, is_unsynced}
-use Rattle.flat_history.specs.OneShape.{is_lost, is_unsettled}
-use Rattle.flat_history.specs.Plain.{entries_of}
-use Rattle.flat_history.specs.Sound.{OpensFit}
-use Rattle.flat_history.specs.World.{World, reading_at, opening_list}
+use Rattle.call_entries.specs.superblocks_the_Members.{Members}
+use Rattle.call_entries.specs.superblocks_Reading.{Scope, is_clean, list_length, role_count}
+use Rattle.call_entries.specs.row_io_Rows.{reading_of, is_missing}
+use Rattle.call_entries.specs.flat_history_the_Entry.{Entry}
+use Rattle.call_entries.specs.flat_history_the_Event.{Event}
+use Rattle.call_entries.specs.flat_history_the_Event_TheVariants.{Rebuilt}
+use Rattle.call_entries.specs.flat_history_Epochs.{HasRoomForEvents, OpensAlike}
+use Rattle.call_entries.specs.flat_history_Flat.{values_of, values_after}
+use Rattle.call_entries.specs.flat_history_Legal.{level_at, level_after}
+use Rattle.call_entries.specs.flat_history_Losses.{loses, is_gone_after, is_unsynced}
+use Rattle.call_entries.specs.flat_history_OneShape.{is_lost, is_unsettled}
+use Rattle.call_entries.specs.flat_history_Plain.{entries_of}
+use Rattle.call_entries.specs.flat_history_Sound.{OpensFit}
+use Rattle.call_entries.specs.flat_history_World.{World, reading_at, opening_list}
 use Rattle.call_entries.specs.shape_views_Views.{Ledger}
 use Rattle.call_entries.specs.shape_changes_Safety.{HasRoomLeft, IsRisen}
 use Rattle.call_entries.specs.shape_changes_Steady.{IsMoreTold, IsSafeOver, KeepsSafe, AreGoneTold, IsUncleanTold, given_back}

@@ -7,17 +7,17 @@ use Rattle.std.proofs.lemmas.List.Elements.{filter-append}
 use Rattle.md_base.specs.Sectors.{Sector}
 use Rattle.md_base.specs.declared.answers.Who.{Who}
 use Rattle.bank.specs.declared.bank.Operation.{Operation}
-use Rattle.flat_history.specs.declared.events.Entry.{Entry}
-use Rattle.flat_history.specs.declared.events.Event.{Event}
-use Rattle.flat_history.specs.declared.events.Event.TheVariants.{Wrote, Torn, Lost, SpareLost, Resized}
-use Rattle.flat_history.specs.declared.events.LostCause.{LostCause}
-use Rattle.flat_history.specs.declared.events.LostCause.TheVariants.{Fault}
-use Rattle.flat_history.specs.Flat.{last_of, covers, sector_at, behind, resized, values_of, values_after}
-use Rattle.flat_history.specs.Growing.{grown, EndBy}
-use Rattle.flat_history.specs.Legal.{is_loss, last_but_losses, end_before}
-use Rattle.flat_history.specs.Plain.{entries_of}
-use Rattle.flat_history.specs.World.{World, opening_list}
-use Rattle.flat_history.proofs.OneShapeLegal.{last-snoc}
+use Rattle.call_entries.specs.flat_history_the_Entry.{Entry}
+use Rattle.call_entries.specs.flat_history_the_Event.{Event}
+use Rattle.call_entries.specs.flat_history_the_Event_TheVariants.{Wrote, Torn, Lost, SpareLost, Resized}
+use Rattle.call_entries.specs.flat_history_the_LostCause.{LostCause}
+use Rattle.call_entries.specs.flat_history_the_LostCause_TheVariants.{Fault}
+use Rattle.call_entries.specs.flat_history_Flat.{last_of, covers, sector_at, behind, resized, values_of, values_after}
+use Rattle.call_entries.specs.flat_history_Growing.{grown, EndBy}
+use Rattle.call_entries.specs.flat_history_Legal.{is_loss, last_but_losses, end_before}
+use Rattle.call_entries.specs.flat_history_Plain.{entries_of}
+use Rattle.call_entries.specs.flat_history_World.{World, opening_list}
+use Rattle.call_entries.proofs.flat_history_OneShapeLegal.{last-snoc}
 use Rattle.call_entries.proofs.CallLaws.{AreLossEvents}
 use Rattle.call_entries.proofs.LosingLaws.{entries-both}
 use Rattle.kept_history.specs.Recorded.{entry_of}

@@ -6,18 +6,18 @@ use Rattle.std.proofs.lemmas.List.Sums.{fold-append}
 use Rattle.md_base.specs.declared.answers.Who.{Who}
 use Rattle.md_base.specs.declared.places.Shape.{Shape}
 use Rattle.bank.specs.declared.bank.Operation.{Operation}
-use Rattle.superblocks.specs.Reading.{Reading, shape_of}
+use Rattle.call_entries.specs.superblocks_Reading.{Reading, shape_of}
 use Rattle.grow_plan.specs.Plans.{target}
-use Rattle.flat_history.specs.declared.events.Entry.{Entry}
-use Rattle.flat_history.specs.declared.events.Event.{Event}
-use Rattle.flat_history.specs.declared.events.Event.TheVariants.{Lost, SpareLost, Planned}
-use Rattle.flat_history.specs.declared.events.LostCause.TheVariants.{Fault}
-use Rattle.flat_history.specs.Flat.{is_same_call}
-use Rattle.flat_history.specs.Growing.{grown, EndBy}
-use Rattle.flat_history.specs.Plain.{entries_of}
-use Rattle.flat_history.specs.Reshaped.{behind, is_done, is_planned, plans_after, open_plans, planned_shape, IsConsistentAt, ArePlansDone}
-use Rattle.flat_history.specs.World.{World}
-use Rattle.flat_history.proofs.LegalLaws.{both}
+use Rattle.call_entries.specs.flat_history_the_Entry.{Entry}
+use Rattle.call_entries.specs.flat_history_the_Event.{Event}
+use Rattle.call_entries.specs.flat_history_the_Event_TheVariants.{Lost, SpareLost, Planned}
+use Rattle.call_entries.specs.flat_history_the_LostCause_TheVariants.{Fault}
+use Rattle.call_entries.specs.flat_history_Flat.{is_same_call}
+use Rattle.call_entries.specs.flat_history_Growing.{grown, EndBy}
+use Rattle.call_entries.specs.flat_history_Plain.{entries_of}
+use Rattle.call_entries.specs.flat_history_Reshaped.{behind, is_done, is_planned, plans_after, open_plans, planned_shape, IsConsistentAt, ArePlansDone}
+use Rattle.call_entries.specs.flat_history_World.{World}
+use Rattle.call_entries.proofs.flat_history_LegalLaws.{both}
 use Rattle.call_entries.proofs.CallLaws.{AreLossEvents}
 use Rattle.kept_history.specs.Recorded.{entry_of}
 use Rattle.kept_history.proofs.Growing.{reading-grown}

@@ -7,19 +7,19 @@ use Rattle.md_base.specs.declared.answers.Who.{Who}
 use Rattle.bank.specs.declared.bank.Operation.{Operation}
 use Rattle.bank.specs.Given.{Given, sizes}
 use Rattle.bank.specs.Tape.{disk}
-use Rattle.superblocks.specs.declared.members.Members.{Members}
-use Rattle.superblocks.specs.Reading.{Scope, is_clean, list_length, role_count}
-use Rattle.flat_history.specs.declared.events.Entry.{Entry}
-use Rattle.flat_history.specs.declared.events.Event.{Event}
-use Rattle.flat_history.specs.Epochs.{HasRoomForEvents, OpensAlike}
-use Rattle.flat_history.specs.Flat.{now, values_of, values_after}
-use Rattle.flat_history.specs.Legal.{is_loss, level_at, level_after, IsLegalEvent}
-use Rattle.flat_history.specs.Transfers.{last_end_from}
-use Rattle.flat_history.specs.Losses.{is_unsynced, loses}
-use Rattle.flat_history.specs.OneShape.{is_unsettled}
-use Rattle.flat_history.specs.Plain.{entries_of}
-use Rattle.flat_history.specs.Sound.{OpensFit}
-use Rattle.flat_history.specs.World.{World, opening_list}
+use Rattle.call_entries.specs.superblocks_the_Members.{Members}
+use Rattle.call_entries.specs.superblocks_Reading.{Scope, is_clean, list_length, role_count}
+use Rattle.call_entries.specs.flat_history_the_Entry.{Entry}
+use Rattle.call_entries.specs.flat_history_the_Event.{Event}
+use Rattle.call_entries.specs.flat_history_Epochs.{HasRoomForEvents, OpensAlike}
+use Rattle.call_entries.specs.flat_history_Flat.{now, values_of, values_after}
+use Rattle.call_entries.specs.flat_history_Legal.{is_loss, level_at, level_after, IsLegalEvent}
+use Rattle.call_entries.specs.flat_history_Transfers.{last_end_from}
+use Rattle.call_entries.specs.flat_history_Losses.{is_unsynced, loses}
+use Rattle.call_entries.specs.flat_history_OneShape.{is_unsettled}
+use Rattle.call_entries.specs.flat_history_Plain.{entries_of}
+use Rattle.call_entries.specs.flat_history_Sound.{OpensFit}
+use Rattle.call_entries.specs.flat_history_World.{World, opening_list}
 use Rattle.call_entries.specs.shape_views_Views.{Ledger}
 use Rattle.call_entries.specs.shape_changes_Safety.{HasRoomLeft, IsRisen}
 use Rattle.call_entries.specs.shape_changes_Steady.{IsMoreTold, IsSafeOver, KeepsSafe, AreGoneTold, IsUncleanTold, AreViewsRight, IsSafeStretch}

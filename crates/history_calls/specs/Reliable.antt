@@ -1,14 +1,14 @@
 -- What a history says can be relied on, who is gone by it, and what it says of its last step and past the list's end.
 use Rattle.std.specs.Prelude.{◌≡◌, ℕ, ◌<◌, ◌≤◌, true, List, [], length}
-use Rattle.superblocks.specs.declared.members.Members.{Members}
-use Rattle.superblocks.specs.Reading.{role_count}
-use Rattle.row_io.specs.Rows.{reading_of, is_missing}
-use Rattle.flat_history.specs.declared.events.Entry.{Entry}
-use Rattle.flat_history.specs.Epochs.{HasRoomForEvents, OpensAlike}
-use Rattle.flat_history.specs.Flat.{values_of}
-use Rattle.flat_history.specs.Legal.{end_before}
-use Rattle.flat_history.specs.Losses.{is_gone_after}
-use Rattle.flat_history.specs.World.{World, opening_list}
+use Rattle.call_entries.specs.superblocks_the_Members.{Members}
+use Rattle.call_entries.specs.superblocks_Reading.{role_count}
+use Rattle.call_entries.specs.row_io_Rows.{reading_of, is_missing}
+use Rattle.call_entries.specs.flat_history_the_Entry.{Entry}
+use Rattle.call_entries.specs.flat_history_Epochs.{HasRoomForEvents, OpensAlike}
+use Rattle.call_entries.specs.flat_history_Flat.{values_of}
+use Rattle.call_entries.specs.flat_history_Legal.{end_before}
+use Rattle.call_entries.specs.flat_history_Losses.{is_gone_after}
+use Rattle.call_entries.specs.flat_history_World.{World, opening_list}
 use Rattle.kept_history.specs.Safe.{IsFilledRight}
 
 -- What is filled in is right, and the superblocks can be read, for the event counts have room, and those of the opening that have the same count are alike.

@@ -8,7 +8,7 @@ use Rattle.bank.specs.Tape.{Contents, IsIn, IsImage, IsDrawn, with_one, run}
 use Rattle.bank.proofs.Listed.{Slot, listed}
 use Rattle.bank.specs.declared.bank.Operation.{Operation}
 use Rattle.bank.proofs.Images.{drawn-image, image-drawn, drawn-written}
-use Rattle.superblocks.specs.Reading.{reading}
+use Rattle.flat_history.specs.superblocks_Reading.{reading}
 use Rattle.flat_history.specs.declared.events.Event.TheVariants.{Step}
 use Rattle.flat_history.specs.declared.events.StepKind.TheVariants.{Entered, Copied, Checkpointed}
 use Rattle.flat_history.specs.declared.events.Entry.{Entry}

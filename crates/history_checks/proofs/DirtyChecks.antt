@@ -11,7 +11,7 @@ use Rattle.bank.specs.declared.bank.Operation.TheVariants.{Write, Flush}
 use Rattle.bank.specs.Tape.{Contents, IsIn, IsImage, with_one}
 use Rattle.bank.proofs.Listed.{listed}
 use Rattle.bank.proofs.Images.{drawn-image, image-drawn}
-use Rattle.superblocks.specs.Reading.{reading}
+use Rattle.flat_history.specs.superblocks_Reading.{reading}
 use Rattle.flat_history.specs.declared.events.Event.TheVariants.{Wrote, Lost}
 use Rattle.flat_history.specs.declared.events.LostCause.TheVariants.{Absent}
 use Rattle.flat_history.specs.declared.events.Entry.{Entry}
@@ -21,7 +21,7 @@ use Rattle.flat_history.specs.Flat.{values_of, IsAllowed}
 use Rattle.flat_history.specs.CrashSafe.{IsSafeAt}
 use Rattle.flat_history.specs.Losses.{is_gone, is_unclean}
 use Rattle.md_base.specs.declared.answers.Refusal.TheVariants.{DirtyDegraded}
-use Rattle.superblocks.specs.Same.{HaveSameSuperblocks}
+use Rattle.flat_history.specs.superblocks_Same.{HaveSameSuperblocks}
 use Rattle.flat_history.proofs.SameLaws.{verdict-same}
 use Rattle.history_checks.proofs.ReadingChecks.{slot, superblock, ones, scope_of}
 use Rattle.history_checks.proofs.Refuted.{drawn-start, drawn-with, not-judged}

@@ -11,7 +11,7 @@ use Rattle.bank.specs.declared.bank.Operation.{Operation}
 use Rattle.bank.specs.Tape.{Contents, IsImage, IsIn}
 use Rattle.flat_history.specs.World.{World, opening_list}
 use Rattle.bank.specs.declared.bank.Operation.TheVariants.{Write}
-use Rattle.superblocks.specs.Reading.{reading}
+use Rattle.flat_history.specs.superblocks_Reading.{reading}
 use Rattle.flat_history.specs.Stands.{stands, verdict}
 use Rattle.flat_history.specs.Flat.{values_of, IsAllowed}
 use Rattle.flat_history.specs.Legal.{IsLegal}

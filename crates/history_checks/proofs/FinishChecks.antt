@@ -8,7 +8,7 @@ use Rattle.std.proofs.lemmas.List.{get_or-replicate}
 use Rattle.bank.specs.declared.bank.Operation.TheVariants.{Write, Flush}
 use Rattle.bank.specs.Tape.{Contents}
 use Rattle.bank.proofs.Listed.{Slot, listed}
-use Rattle.superblocks.specs.Reading.{Reading, reading, shape_of, target_of}
+use Rattle.flat_history.specs.superblocks_Reading.{Reading, reading, shape_of, target_of}
 use Rattle.flat_history.specs.declared.events.Event.TheVariants.{Step}
 use Rattle.flat_history.specs.declared.events.StepKind.TheVariants.{Finished}
 use Rattle.flat_history.specs.declared.events.Entry.{Entry}

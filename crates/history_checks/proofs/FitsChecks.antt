@@ -9,7 +9,7 @@ use Rattle.flat_history.specs.declared.events.Event.TheVariants.{Read, Planned, 
 use Rattle.flat_history.specs.declared.events.Request.TheVariants.{Read as AsksRead, Flush as AsksFlush, Fail as AsksFail, Add as AsksAdd, Visible as AsksVisible, Grow as AsksGrow}
 use Rattle.flat_history.specs.declared.events.Entry.{Entry}
 use Rattle.flat_history.specs.World.{opening_list, reading_at}
-use Rattle.superblocks.specs.Reading.{reading}
+use Rattle.flat_history.specs.superblocks_Reading.{reading}
 use Rattle.flat_history.specs.Stands.{stands}
 use Rattle.flat_history.specs.Losses.{is_gone_after}
 use Rattle.flat_history.specs.Fits.{Fits}

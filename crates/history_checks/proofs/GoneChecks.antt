@@ -2,7 +2,7 @@
 use Rattle.std.proofs.Common.{◌≡◌, ℕ, ◌+◌, List, [], ◌∷◌, true, false, not, ◌&&◌, ◌||◌, leb, refl, ap, ◌∙◌, Some, None, Option}
 use Rattle.md_base.specs.Search.{count_below, tabulate}
 use Rattle.bank.proofs.Listed.{listed}
-use Rattle.superblocks.specs.Reading.{Reading, shape_of, reading}
+use Rattle.flat_history.specs.superblocks_Reading.{Reading, shape_of, reading}
 use Rattle.flat_history.specs.declared.events.Event.{Event}
 use Rattle.flat_history.specs.declared.events.Event.TheVariants.{Lost, Step}
 use Rattle.flat_history.specs.declared.events.LostCause.TheVariants.{Fault}

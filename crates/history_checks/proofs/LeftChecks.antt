@@ -5,7 +5,7 @@ use Rattle.md_base.specs.declared.status.Role.TheVariants.{Whole, Recovering, Mi
 use Rattle.bank.proofs.Listed.{Slot, listed}
 use Rattle.md_base.specs.Search.{tabulate, least_below}
 use Rattle.flat_history.specs.declared.events.LostCause.TheVariants.{Absent, Recovering as WasRecovering}
-use Rattle.superblocks.specs.Reading.{reading}
+use Rattle.flat_history.specs.superblocks_Reading.{reading}
 use Rattle.flat_history.specs.Left.{resync_steps, resync_steps_at, spare_rebuild_steps, rebuild_steps, left_at_opening, found_losses}
 use Rattle.history_checks.proofs.ReshapeChecks.{scope, members, header}
 

@@ -5,7 +5,7 @@ use Rattle.md_base.specs.Search.{tabulate, least_below, count_below, any_below}
 use Rattle.bank.specs.declared.bank.Operation.{Operation}
 use Rattle.bank.specs.declared.bank.Operation.TheVariants.{Write, Flush}
 use Rattle.bank.specs.Tape.{Contents, IsIn, IsImage, value_after}
-use Rattle.superblocks.specs.Reading.{reading}
+use Rattle.flat_history.specs.superblocks_Reading.{reading}
 use Rattle.flat_history.specs.declared.events.Event.TheVariants.{Wrote, Flushed, Lost}
 use Rattle.flat_history.specs.declared.events.LostCause.TheVariants.{Fault}
 use Rattle.flat_history.specs.declared.events.Entry.{Entry}

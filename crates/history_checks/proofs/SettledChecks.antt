@@ -3,7 +3,7 @@ use Rattle.std.proofs.Common.{◌≡◌, ℕ, ◌<◌, inl, inr, [], ◌∷◌, 
 use Rattle.md_base.specs.Sectors.{Sector}
 use Rattle.md_base.proofs.Tabulated.{length-tabulate, get_or-tabulate}
 use Rattle.bank.specs.Tape.{IsIn}
-use Rattle.superblocks.specs.Reading.{Reading, reading, list_length}
+use Rattle.flat_history.specs.superblocks_Reading.{Reading, reading, list_length}
 use Rattle.flat_history.specs.Stands.{stands, standing_sector, placed_sector, shape_for}
 use Rattle.flat_history.specs.World.{opening_list}
 use Rattle.flat_history.specs.Flat.{IsAllowed}

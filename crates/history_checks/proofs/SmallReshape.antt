@@ -3,7 +3,7 @@ use Rattle.std.proofs.Common.{ℕ, zero, suc, List, [], ◌∷◌, ◌++◌, rep
 use Rattle.md_base.specs.Sectors.{Sector}
 use Rattle.sb1.specs.Superblock.{checksum}
 use Rattle.bank.proofs.Listed.{Slot, listed_sizes}
-use Rattle.superblocks.specs.Reading.{Scope}
+use Rattle.flat_history.specs.superblocks_Reading.{Scope}
 use Rattle.backup.specs.Written.{bytes_of}
 
 abbrev pub uuid : List ℕ

@@ -8,7 +8,7 @@ use Rattle.bank.specs.declared.bank.Operation.{Operation}
 use Rattle.bank.specs.declared.bank.Operation.TheVariants.{Write, Flush}
 use Rattle.bank.specs.Tape.{Contents, IsIn, IsImage, value_after}
 use Rattle.bank.proofs.Listed.{Slot, listed}
-use Rattle.superblocks.specs.Reading.{reading}
+use Rattle.flat_history.specs.superblocks_Reading.{reading}
 use Rattle.backup.specs.Written.{header_of}
 use Rattle.flat_history.specs.declared.events.Event.TheVariants.{Wrote, Flushed}
 use Rattle.flat_history.specs.declared.events.Entry.{Entry}

@@ -9,7 +9,7 @@ use Rattle.md_base.specs.declared.answers.Who.{Who}
 use Rattle.md_base.specs.declared.status.Role.{Role}
 use Rattle.md_base.specs.declared.status.Role.TheVariants.{Whole, Recovering, Missing}
 use Rattle.sb1.specs.declared.sb.Sb.{Sb}
-use Rattle.superblocks.specs.Reading.{Reading, reading, reading_by, superblocks, newest_of, holder_from, is_whole, role_state, role_count, is_reshaping}
+use Rattle.flat_history.specs.superblocks_Reading.{Reading, reading, reading_by, superblocks, newest_of, holder_from, is_whole, role_state, role_count, is_reshaping}
 use Rattle.flat_history.specs.World.{World, contents_at, reading_at}
 use Rattle.flat_history.specs.Left.{opened_role, found_losses, opening_losses}
 use Rattle.flat_history.specs.Plain.{entries_of}

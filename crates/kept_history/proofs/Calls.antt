@@ -6,18 +6,18 @@ use Rattle.md_base.specs.declared.answers.Who.{Who}
 use Rattle.bank.specs.declared.bank.Operation.{Operation}
 use Rattle.bank.specs.Given.{Given, sizes}
 use Rattle.bank.specs.Tape.{Contents, IsDrawn, disk}
-use Rattle.superblocks.specs.declared.members.Members.{Members}
-use Rattle.superblocks.specs.Reading.{Scope}
-use Rattle.flat_history.specs.declared.events.Entry.{Entry}
-use Rattle.flat_history.specs.declared.events.Event.{Event}
-use Rattle.flat_history.specs.CrashSafe.{last_resized}
-use Rattle.flat_history.specs.Growing.{grown, EndBy}
-use Rattle.flat_history.specs.Plain.{entries_of}
-use Rattle.flat_history.specs.Sound.{OpensFit, LeavesSound, LeavesSoundThroughout}
-use Rattle.flat_history.specs.World.{World}
-use Rattle.flat_history.proofs.SoundLaws.{fit-before, throughout-grown}
+use Rattle.shape_changes.specs.superblocks_the_Members.{Members}
+use Rattle.shape_changes.specs.superblocks_Reading.{Scope}
+use Rattle.shape_changes.specs.flat_history_the_Entry.{Entry}
+use Rattle.shape_changes.specs.flat_history_the_Event.{Event}
+use Rattle.shape_changes.specs.flat_history_CrashSafe.{last_resized}
+use Rattle.shape_changes.specs.flat_history_Growing.{grown, EndBy}
+use Rattle.shape_changes.specs.flat_history_Plain.{entries_of}
+use Rattle.shape_changes.specs.flat_history_Sound.{OpensFit, LeavesSound, LeavesSoundThroughout}
+use Rattle.shape_changes.specs.flat_history_World.{World}
+use Rattle.shape_changes.proofs.flat_history_SoundLaws.{fit-before, throughout-grown}
 use Rattle.history_laws.proofs.OneShapeGrowing.{entries-both}
-use Rattle.shape_views.specs.Views.{Ledger, IsSeenRight}
+use Rattle.shape_changes.specs.shape_views_Views.{Ledger, IsSeenRight}
 use Rattle.shape_changes.specs.Safety.{HasLiveSlot, IsRisen}
 use Rattle.shape_changes.specs.Steady.{IsMoreTold, IsSafeNow, IsSafeOver, KeepsSafe}
 use Rattle.shape_changes.proofs.Steady.{views-told}

@@ -8,19 +8,19 @@ use Rattle.md_base.specs.declared.answers.Who.{Who}
 use Rattle.bank.specs.declared.bank.Operation.{Operation}
 use Rattle.bank.specs.Given.{Given, sizes}
 use Rattle.bank.specs.Tape.{Contents, IsDrawn, disk}
-use Rattle.superblocks.specs.declared.members.Members.{Members}
-use Rattle.superblocks.specs.Reading.{Scope}
-use Rattle.flat_history.specs.declared.events.Entry.{Entry}
-use Rattle.flat_history.specs.declared.events.Event.{Event}
-use Rattle.flat_history.specs.declared.events.Event.TheVariants.{Resized}
-use Rattle.flat_history.specs.CrashSafe.{is_resized, last_resized, first_end, up_to, MayBeLeftOut}
-use Rattle.flat_history.specs.Growing.{grown, EndBy}
-use Rattle.flat_history.specs.Legal.{is_all_gone}
-use Rattle.flat_history.specs.Plain.{entries_of}
-use Rattle.flat_history.specs.Sound.{OpensFit}
-use Rattle.flat_history.specs.World.{World}
+use Rattle.shape_changes.specs.superblocks_the_Members.{Members}
+use Rattle.shape_changes.specs.superblocks_Reading.{Scope}
+use Rattle.shape_changes.specs.flat_history_the_Entry.{Entry}
+use Rattle.shape_changes.specs.flat_history_the_Event.{Event}
+use Rattle.shape_changes.specs.flat_history_the_Event_TheVariants.{Resized}
+use Rattle.shape_changes.specs.flat_history_CrashSafe.{is_resized, last_resized, first_end, up_to, MayBeLeftOut}
+use Rattle.shape_changes.specs.flat_history_Growing.{grown, EndBy}
+use Rattle.shape_changes.specs.flat_history_Legal.{is_all_gone}
+use Rattle.shape_changes.specs.flat_history_Plain.{entries_of}
+use Rattle.shape_changes.specs.flat_history_Sound.{OpensFit}
+use Rattle.shape_changes.specs.flat_history_World.{World}
 use Rattle.history_laws.proofs.OneShapeGrowing.{one, entries-both}
-use Rattle.shape_views.specs.Views.{Disk, Ledger, IsSeenRight}
+use Rattle.shape_changes.specs.shape_views_Views.{Disk, Ledger, IsSeenRight}
 use Rattle.shape_changes.specs.Changing.{IsSpentByEither, IsSafeChange}
 use Rattle.shape_changes.specs.Safety.{HasLiveSlot, IsRisen}
 use Rattle.shape_changes.specs.Steady.{IsMoreTold, IsSafeNow, IsSafeOver, IsSafeStretch}

@@ -7,17 +7,17 @@ use Rattle.std.proofs.lemmas.List.Sums.{fold-append}
 use Rattle.md_base.specs.Sectors.{Sector}
 use Rattle.md_base.specs.declared.answers.Who.{Who}
 use Rattle.bank.specs.Tape.{IsIn}
-use Rattle.superblocks.specs.Reading.{Reading}
-use Rattle.flat_history.specs.declared.events.Entry.{Entry}
-use Rattle.flat_history.specs.declared.events.Event.{Event}
-use Rattle.flat_history.specs.declared.events.Event.TheVariants.{Wrote, Torn, Flushed, Lost, SpareLost, Resized, Step, Stopped}
-use Rattle.flat_history.specs.declared.events.LostCause.TheVariants.{Fault}
-use Rattle.flat_history.specs.declared.events.StepKind.TheVariants.{ResyncEnded}
-use Rattle.flat_history.specs.Flat.{length_after, length_of, covers, sector_at, behind, values_after, first_values, values_of, now}
-use Rattle.flat_history.specs.Losses.{takes, loses, settles, is_unsynced, is_gone_after, unsettles}
-use Rattle.flat_history.specs.OneShape.{is_lost, is_unsettled}
-use Rattle.flat_history.specs.Plain.{loses_role, entries_of}
-use Rattle.flat_history.specs.World.{World, reading_at, opening_list}
+use Rattle.shape_changes.specs.superblocks_Reading.{Reading}
+use Rattle.shape_changes.specs.flat_history_the_Entry.{Entry}
+use Rattle.shape_changes.specs.flat_history_the_Event.{Event}
+use Rattle.shape_changes.specs.flat_history_the_Event_TheVariants.{Wrote, Torn, Flushed, Lost, SpareLost, Resized, Step, Stopped}
+use Rattle.shape_changes.specs.flat_history_the_LostCause_TheVariants.{Fault}
+use Rattle.shape_changes.specs.flat_history_the_StepKind_TheVariants.{ResyncEnded}
+use Rattle.shape_changes.specs.flat_history_Flat.{length_after, length_of, covers, sector_at, behind, values_after, first_values, values_of, now}
+use Rattle.shape_changes.specs.flat_history_Losses.{takes, loses, settles, is_unsynced, is_gone_after, unsettles}
+use Rattle.shape_changes.specs.flat_history_OneShape.{is_lost, is_unsettled}
+use Rattle.shape_changes.specs.flat_history_Plain.{loses_role, entries_of}
+use Rattle.shape_changes.specs.flat_history_World.{World, reading_at, opening_list}
 use Rattle.history_laws.proofs.OneShapeGrowing.{AreFaults}
 use Rattle.shape_changes.specs.Steady.{IsMoreTold, settled_ledger}
 use Rattle.kept_history.specs.Recorded.{gives_some}

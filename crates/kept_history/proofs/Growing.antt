@@ -6,23 +6,23 @@ use Rattle.std.specs.List.{list_any, list_all}
 use Rattle.bank.specs.declared.bank.Operation.{Operation}
 use Rattle.bank.specs.Tape.{Contents}
 use Rattle.bank.proofs.Laws.{contents-earlier}
-use Rattle.superblocks.specs.declared.members.Members.{Members}
-use Rattle.superblocks.specs.Found.{AreLikeNewest}
-use Rattle.superblocks.specs.Reading.{Reading, reading, is_clean, is_reshaping}
-use Rattle.flat_history.specs.declared.events.Entry.{Entry}
-use Rattle.flat_history.specs.declared.events.Event.{Event}
-use Rattle.flat_history.specs.declared.events.Event.TheVariants.{Lost, Rebuilt, Step}
-use Rattle.flat_history.specs.declared.events.StepKind.TheVariants.{Begun, TakenOver}
-use Rattle.flat_history.specs.Epochs.{HasRoomForEvents, OpensAlike}
-use Rattle.flat_history.specs.Flat.{length_of, values_of}
-use Rattle.flat_history.specs.Growing.{grown, EndBy}
-use Rattle.flat_history.specs.Losses.{takes, gives_back, loses, regains, gone_surely, is_gone_after, is_resync_end, is_unsynced, unsettles}
-use Rattle.flat_history.specs.OneShape.{gives_role, is_unsettled, keeps_shape_event, KeepShape}
-use Rattle.flat_history.specs.Opened.{IsSound}
-use Rattle.flat_history.specs.Plain.{loses_role}
-use Rattle.flat_history.specs.Sound.{OpensFit}
-use Rattle.flat_history.specs.Stands.{stands}
-use Rattle.flat_history.specs.World.{World, contents_at, reading_at, opening_list}
+use Rattle.shape_changes.specs.superblocks_the_Members.{Members}
+use Rattle.shape_changes.specs.superblocks_Found.{AreLikeNewest}
+use Rattle.shape_changes.specs.superblocks_Reading.{Reading, reading, is_clean, is_reshaping}
+use Rattle.shape_changes.specs.flat_history_the_Entry.{Entry}
+use Rattle.shape_changes.specs.flat_history_the_Event.{Event}
+use Rattle.shape_changes.specs.flat_history_the_Event_TheVariants.{Lost, Rebuilt, Step}
+use Rattle.shape_changes.specs.flat_history_the_StepKind_TheVariants.{Begun, TakenOver}
+use Rattle.shape_changes.specs.flat_history_Epochs.{HasRoomForEvents, OpensAlike}
+use Rattle.shape_changes.specs.flat_history_Flat.{length_of, values_of}
+use Rattle.shape_changes.specs.flat_history_Growing.{grown, EndBy}
+use Rattle.shape_changes.specs.flat_history_Losses.{takes, gives_back, loses, regains, gone_surely, is_gone_after, is_resync_end, is_unsynced, unsettles}
+use Rattle.shape_changes.specs.flat_history_OneShape.{gives_role, is_unsettled, keeps_shape_event, KeepShape}
+use Rattle.shape_changes.specs.flat_history_Opened.{IsSound}
+use Rattle.shape_changes.specs.flat_history_Plain.{loses_role}
+use Rattle.shape_changes.specs.flat_history_Sound.{OpensFit}
+use Rattle.shape_changes.specs.flat_history_Stands.{stands}
+use Rattle.shape_changes.specs.flat_history_World.{World, contents_at, reading_at, opening_list}
 use Rattle.shape_changes.specs.Safety.{HasLiveSlot, HasRoomLeft}
 use Rattle.kept_history.specs.Safe.{IsCounted, IsReshapeFit, OpensOnCourse}
 use Rattle.kept_history.specs.Told.{told_now, told_by}

@@ -4,15 +4,15 @@ use Rattle.std.specs.Prelude.{IsFalse}
 use Rattle.md_base.specs.Sectors.{Sector}
 use Rattle.md_base.specs.declared.answers.Who.{Who}
 use Rattle.bank.specs.declared.bank.Operation.{Operation}
-use Rattle.flat_history.specs.declared.events.Entry.{Entry}
-use Rattle.flat_history.specs.declared.events.Event.{Event}
-use Rattle.flat_history.specs.Flat.{length_of}
-use Rattle.flat_history.specs.Growing.{grown}
-use Rattle.flat_history.specs.Plain.{entries_of}
-use Rattle.flat_history.specs.Sound.{OpensFit}
-use Rattle.flat_history.specs.Transfers.{last_end_from}
-use Rattle.flat_history.specs.World.{World, opening_list}
-use Rattle.flat_history.proofs.SoundLaws.{fit-before}
+use Rattle.shape_changes.specs.flat_history_the_Entry.{Entry}
+use Rattle.shape_changes.specs.flat_history_the_Event.{Event}
+use Rattle.shape_changes.specs.flat_history_Flat.{length_of}
+use Rattle.shape_changes.specs.flat_history_Growing.{grown}
+use Rattle.shape_changes.specs.flat_history_Plain.{entries_of}
+use Rattle.shape_changes.specs.flat_history_Sound.{OpensFit}
+use Rattle.shape_changes.specs.flat_history_Transfers.{last_end_from}
+use Rattle.shape_changes.specs.flat_history_World.{World, opening_list}
+use Rattle.shape_changes.proofs.flat_history_SoundLaws.{fit-before}
 use Rattle.kept_history.specs.Recorded.{IsHistoryKept, IsLegalCall, IsReshapedCall, IsCallGoing, MayFollow}
 use Rattle.kept_history.proofs.Growing.{longer-by, opening-grown}
 use Rattle.kept_history.proofs.Marks.{ends-call}

@@ -6,14 +6,14 @@ use Rattle.std.proofs.lemmas.List.Folds.{list_any-append}
 use Rattle.std.proofs.lemmas.List.Sums.{fold-append}
 use Rattle.bank.specs.Tape.{IsIn}
 use Rattle.md_base.specs.Sectors.{Sector}
-use Rattle.flat_history.specs.declared.events.Entry.{Entry}
-use Rattle.flat_history.specs.declared.events.Event.{Event}
-use Rattle.flat_history.specs.declared.events.Event.TheVariants.{Flushed, Stopped}
-use Rattle.flat_history.specs.Flat.{length_of, values_of}
-use Rattle.flat_history.specs.Losses.{loses, regains, gone_surely, gone_perhaps, is_gone, is_gone_after, was_dirty, is_resync_end, is_unsynced, settles, unsettles, unsettled_surely, unsettled_perhaps, is_unclean}
-use Rattle.flat_history.specs.OneShape.{is_unsettled}
-use Rattle.flat_history.specs.World.{World, opening_list}
-use Rattle.shape_views.specs.Views.{Ledger, ledger_of}
+use Rattle.shape_changes.specs.flat_history_the_Entry.{Entry}
+use Rattle.shape_changes.specs.flat_history_the_Event.{Event}
+use Rattle.shape_changes.specs.flat_history_the_Event_TheVariants.{Flushed, Stopped}
+use Rattle.shape_changes.specs.flat_history_Flat.{length_of, values_of}
+use Rattle.shape_changes.specs.flat_history_Losses.{loses, regains, gone_surely, gone_perhaps, is_gone, is_gone_after, was_dirty, is_resync_end, is_unsynced, settles, unsettles, unsettled_surely, unsettled_perhaps, is_unclean}
+use Rattle.shape_changes.specs.flat_history_OneShape.{is_unsettled}
+use Rattle.shape_changes.specs.flat_history_World.{World, opening_list}
+use Rattle.shape_changes.specs.shape_views_Views.{Ledger, ledger_of}
 use Rattle.shape_changes.specs.Steady.{IsMoreTold}
 use Rattle.kept_history.specs.Safe.{TakesNone}
 use Rattle.kept_history.specs.Told.{told_now, told_by}

@@ -7,18 +7,18 @@ use Rattle.bank.specs.declared.bank.Operation.{Operation}
 use Rattle.bank.specs.Given.{Given}
 use Rattle.bank.specs.Tape.{Contents, contents, IsDrawn, IsIn, disk, value_after}
 use Rattle.bank.proofs.Images.{disk-some}
-use Rattle.superblocks.specs.declared.members.Members.{Members}
-use Rattle.superblocks.specs.Reading.{Scope}
-use Rattle.flat_history.specs.declared.events.Entry.{Entry}
-use Rattle.flat_history.specs.declared.events.Event.{Event}
-use Rattle.flat_history.specs.declared.events.Event.TheVariants.{Resized}
-use Rattle.flat_history.specs.Growing.{grown, EndBy}
-use Rattle.flat_history.specs.Reshaped.{is_done}
-use Rattle.flat_history.specs.Sound.{OpensFit}
-use Rattle.flat_history.specs.Stands.{stands}
-use Rattle.flat_history.specs.World.{World, contents_at}
-use Rattle.shape_views.specs.Views.{Ledger}
-use Rattle.shape_views.proofs.Standing.{read-length}
+use Rattle.shape_changes.specs.superblocks_the_Members.{Members}
+use Rattle.shape_changes.specs.superblocks_Reading.{Scope}
+use Rattle.shape_changes.specs.flat_history_the_Entry.{Entry}
+use Rattle.shape_changes.specs.flat_history_the_Event.{Event}
+use Rattle.shape_changes.specs.flat_history_the_Event_TheVariants.{Resized}
+use Rattle.shape_changes.specs.flat_history_Growing.{grown, EndBy}
+use Rattle.shape_changes.specs.flat_history_Reshaped.{is_done}
+use Rattle.shape_changes.specs.flat_history_Sound.{OpensFit}
+use Rattle.shape_changes.specs.flat_history_Stands.{stands}
+use Rattle.shape_changes.specs.flat_history_World.{World, contents_at}
+use Rattle.shape_changes.specs.shape_views_Views.{Ledger}
+use Rattle.shape_changes.proofs.shape_views_Standing.{read-length}
 use Rattle.shape_changes.specs.Steady.{AreViewsRight, IsSafeOver}
 use Rattle.shape_changes.proofs.Steady.{safe-is-seen}
 use Rattle.kept_history.specs.Recorded.{IsLengthKept, IsOpenBehind}

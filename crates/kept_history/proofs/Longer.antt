@@ -12,19 +12,19 @@ use Rattle.md_base.specs.declared.answers.Refusal.TheVariants.{PastEnd, TooManyM
 use Rattle.md_base.proofs.Counted.{all_below-implied}
 use Rattle.bank.specs.declared.bank.Operation.{Operation}
 use Rattle.bank.specs.Tape.{Contents}
-use Rattle.superblocks.specs.Reading.{Reading, role_count, target_of}
-use Rattle.flat_history.specs.declared.events.Entry.{Entry}
-use Rattle.flat_history.specs.declared.events.Event.{Event}
-use Rattle.flat_history.specs.declared.events.Event.TheVariants.{Lost, SpareLost, Rebuilt, Resized, Step, Refused}
-use Rattle.flat_history.specs.declared.events.LostCause.TheVariants.{Fault}
-use Rattle.flat_history.specs.declared.events.StepKind.{StepKind}
-use Rattle.flat_history.specs.declared.events.StepKind.TheVariants.{Begun, Entered, Finished, WindowFinished}
-use Rattle.flat_history.specs.Flat.{is_same_call, last_of, length_of, visible_of}
-use Rattle.flat_history.specs.Growing.{grown, EndBy}
-use Rattle.flat_history.specs.Legal.{is_loss, last_but_losses, is_all_gone, before_last_step, end_before, IsLengthOfTarget, IsLengthOfLevel, IsUnkeptLength, ChangesLength, IsResizedBy, IsResizedAfter, IsResized, call_before, disturbs, told_left, known_left, is_free_step, IsStep, level_after, level_at, IsRefusedRight, IsLegalEvent}
-use Rattle.flat_history.specs.Losses.{regains, gives_back, is_gone_after}
-use Rattle.flat_history.specs.Stands.{stands}
-use Rattle.flat_history.specs.World.{World, contents_at, reading_at}
+use Rattle.shape_changes.specs.superblocks_Reading.{Reading, role_count, target_of}
+use Rattle.shape_changes.specs.flat_history_the_Entry.{Entry}
+use Rattle.shape_changes.specs.flat_history_the_Event.{Event}
+use Rattle.shape_changes.specs.flat_history_the_Event_TheVariants.{Lost, SpareLost, Rebuilt, Resized, Step, Refused}
+use Rattle.shape_changes.specs.flat_history_the_LostCause_TheVariants.{Fault}
+use Rattle.shape_changes.specs.flat_history_the_StepKind.{StepKind}
+use Rattle.shape_changes.specs.flat_history_the_StepKind_TheVariants.{Begun, Entered, Finished, WindowFinished}
+use Rattle.shape_changes.specs.flat_history_Flat.{is_same_call, last_of, length_of, visible_of}
+use Rattle.shape_changes.specs.flat_history_Growing.{grown, EndBy}
+use Rattle.shape_changes.specs.flat_history_Legal.{is_loss, last_but_losses, is_all_gone, before_last_step, end_before, IsLengthOfTarget, IsLengthOfLevel, IsUnkeptLength, ChangesLength, IsResizedBy, IsResizedAfter, IsResized, call_before, disturbs, told_left, known_left, is_free_step, IsStep, level_after, level_at, IsRefusedRight, IsLegalEvent}
+use Rattle.shape_changes.specs.flat_history_Losses.{regains, gives_back, is_gone_after}
+use Rattle.shape_changes.specs.flat_history_Stands.{stands}
+use Rattle.shape_changes.specs.flat_history_World.{World, contents_at, reading_at}
 use Rattle.kept_history.specs.Recorded.{MayGoOn, IsLengthKept, gives_some}
 use Rattle.kept_history.proofs.Tests.{neither, or-left}
 use Rattle.kept_history.proofs.Growing.{contents-grown, reading-grown, opening-grown, unsynced-grown, gone-grown}

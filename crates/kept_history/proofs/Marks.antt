@@ -7,20 +7,20 @@ use Rattle.md_base.specs.declared.answers.Who.{Who}
 use Rattle.bank.specs.declared.bank.Operation.{Operation}
 use Rattle.bank.specs.Given.{Given, sizes}
 use Rattle.bank.specs.Tape.{Contents, IsDrawn, IsIn, disk}
-use Rattle.superblocks.specs.Reading.{Scope}
-use Rattle.flat_history.specs.declared.events.Entry.{Entry}
-use Rattle.flat_history.specs.declared.events.Event.{Event}
-use Rattle.flat_history.specs.CrashSafe.{made_by, may_be_made, first_call_len, MayBeJudgedBy, IsSafeAt}
-use Rattle.flat_history.specs.Flat.{is_same_call, rest_of_call}
-use Rattle.flat_history.specs.Growing.{grown, EndBy, MadeFrom, IsSafeThroughout}
-use Rattle.flat_history.specs.Losses.{is_gone}
-use Rattle.flat_history.specs.Plain.{entries_of}
-use Rattle.flat_history.specs.Sound.{OpensFit}
-use Rattle.flat_history.specs.World.{World}
+use Rattle.shape_changes.specs.superblocks_Reading.{Scope}
+use Rattle.shape_changes.specs.flat_history_the_Entry.{Entry}
+use Rattle.shape_changes.specs.flat_history_the_Event.{Event}
+use Rattle.shape_changes.specs.flat_history_CrashSafe.{made_by, may_be_made, first_call_len, MayBeJudgedBy, IsSafeAt}
+use Rattle.shape_changes.specs.flat_history_Flat.{is_same_call, rest_of_call}
+use Rattle.shape_changes.specs.flat_history_Growing.{grown, EndBy, MadeFrom, IsSafeThroughout}
+use Rattle.shape_changes.specs.flat_history_Losses.{is_gone}
+use Rattle.shape_changes.specs.flat_history_Plain.{entries_of}
+use Rattle.shape_changes.specs.flat_history_Sound.{OpensFit}
+use Rattle.shape_changes.specs.flat_history_World.{World}
 use Rattle.history_laws.proofs.GrowingLaws.{calls-owe}
 use Rattle.history_laws.proofs.OneShapeGrowing.{one}
-use Rattle.shape_views.specs.Views.{Disk, IsSeenRight, ledger_of}
-use Rattle.shape_views.proofs.Judged.{views-safe}
+use Rattle.shape_changes.specs.shape_views_Views.{Disk, IsSeenRight, ledger_of}
+use Rattle.shape_changes.proofs.shape_views_Judged.{views-safe}
 use Rattle.kept_history.specs.Safe.{world_in, IsFilledRight}
 use Rattle.kept_history.proofs.Growing.{longer-by}
 use Rattle.kept_history.proofs.Ledgers.{judged_by, none-gone}

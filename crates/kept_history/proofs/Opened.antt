@@ -7,21 +7,21 @@ use Rattle.std.proofs.lemmas.List.Folds.{list_all-append}
 use Rattle.md_base.specs.declared.answers.Who.{Who}
 use Rattle.bank.specs.declared.bank.Operation.{Operation}
 use Rattle.bank.specs.Given.{Given, sizes}
-use Rattle.superblocks.specs.declared.members.Members.{Members}
-use Rattle.superblocks.specs.Reading.{Scope}
-use Rattle.flat_history.specs.declared.events.Entry.{Entry}
-use Rattle.flat_history.specs.declared.events.Event.{Event}
-use Rattle.flat_history.specs.declared.events.Event.TheVariants.{Lost}
-use Rattle.flat_history.specs.declared.events.LostCause.{LostCause}
-use Rattle.flat_history.specs.declared.events.LostCause.TheVariants.{Absent, Recovering}
-use Rattle.flat_history.specs.CrashSafe.{IsSafeAt}
-use Rattle.flat_history.specs.Growing.{grown}
-use Rattle.flat_history.specs.Legal.{GoesOn, IsNumbered, IsOfOpening, IsAbsentAtFirst, IsLost, IsLegalEntry, call_end, AreLegal}
-use Rattle.flat_history.specs.Plain.{entries_of}
-use Rattle.flat_history.specs.Sound.{OpensFit, LeavesSound}
-use Rattle.flat_history.specs.Transfers.{last_end_from}
-use Rattle.flat_history.specs.World.{World, until, opening_list}
-use Rattle.flat_history.proofs.OneShapeLegal.{last-snoc}
+use Rattle.shape_changes.specs.superblocks_the_Members.{Members}
+use Rattle.shape_changes.specs.superblocks_Reading.{Scope}
+use Rattle.shape_changes.specs.flat_history_the_Entry.{Entry}
+use Rattle.shape_changes.specs.flat_history_the_Event.{Event}
+use Rattle.shape_changes.specs.flat_history_the_Event_TheVariants.{Lost}
+use Rattle.shape_changes.specs.flat_history_the_LostCause.{LostCause}
+use Rattle.shape_changes.specs.flat_history_the_LostCause_TheVariants.{Absent, Recovering}
+use Rattle.shape_changes.specs.flat_history_CrashSafe.{IsSafeAt}
+use Rattle.shape_changes.specs.flat_history_Growing.{grown}
+use Rattle.shape_changes.specs.flat_history_Legal.{GoesOn, IsNumbered, IsOfOpening, IsAbsentAtFirst, IsLost, IsLegalEntry, call_end, AreLegal}
+use Rattle.shape_changes.specs.flat_history_Plain.{entries_of}
+use Rattle.shape_changes.specs.flat_history_Sound.{OpensFit, LeavesSound}
+use Rattle.shape_changes.specs.flat_history_Transfers.{last_end_from}
+use Rattle.shape_changes.specs.flat_history_World.{World, until, opening_list}
+use Rattle.shape_changes.proofs.flat_history_OneShapeLegal.{last-snoc}
 use Rattle.history_laws.proofs.OneShapeGrowing.{inner-of}
 use Rattle.shape_changes.specs.Safety.{HasLiveSlot}
 use Rattle.shape_changes.specs.Steady.{IsSafeOver}

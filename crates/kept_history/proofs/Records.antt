@@ -9,20 +9,20 @@ use Rattle.std.proofs.lemmas.List.Elements.{All-nil, All-append, All-cons, All-h
 use Rattle.md_base.specs.declared.answers.Who.{Who}
 use Rattle.bank.specs.declared.bank.Operation.{Operation}
 use Rattle.bank.specs.Tape.{Contents, value_after}
-use Rattle.flat_history.specs.declared.events.Entry.{Entry}
-use Rattle.flat_history.specs.declared.events.Event.{Event}
-use Rattle.flat_history.specs.declared.events.Event.TheVariants.{Lost, SpareLost, Rebuilt, Resized, Step, Refused}
-use Rattle.flat_history.specs.declared.events.LostCause.TheVariants.{Fault}
-use Rattle.flat_history.specs.Flat.{is_same_call, rest_of_call, last_of, next_number}
-use Rattle.flat_history.specs.Growing.{grown, EndBy, BeginAnother}
-use Rattle.flat_history.specs.Legal.{GoesOn, IsNumbered, IsInnerOrLast, IsOfOpening, IsLegalEvent, IsLegalEntry, call_end, AreLegal, IsLegal}
-use Rattle.flat_history.specs.OneShape.{GoesOnBehind, IsOfCall, IsCallOpen}
-use Rattle.flat_history.specs.Plain.{entries_of}
-use Rattle.flat_history.specs.Stands.{stands}
-use Rattle.flat_history.specs.Transfers.{last_end_from}
-use Rattle.flat_history.specs.World.{World, until, contents_at}
-use Rattle.flat_history.proofs.LegalLaws.{histories-stay-legal, rest-apart, another-behind}
-use Rattle.flat_history.proofs.OneShapeLegal.{last-snoc}
+use Rattle.shape_changes.specs.flat_history_the_Entry.{Entry}
+use Rattle.shape_changes.specs.flat_history_the_Event.{Event}
+use Rattle.shape_changes.specs.flat_history_the_Event_TheVariants.{Lost, SpareLost, Rebuilt, Resized, Step, Refused}
+use Rattle.shape_changes.specs.flat_history_the_LostCause_TheVariants.{Fault}
+use Rattle.shape_changes.specs.flat_history_Flat.{is_same_call, rest_of_call, last_of, next_number}
+use Rattle.shape_changes.specs.flat_history_Growing.{grown, EndBy, BeginAnother}
+use Rattle.shape_changes.specs.flat_history_Legal.{GoesOn, IsNumbered, IsInnerOrLast, IsOfOpening, IsLegalEvent, IsLegalEntry, call_end, AreLegal, IsLegal}
+use Rattle.shape_changes.specs.flat_history_OneShape.{GoesOnBehind, IsOfCall, IsCallOpen}
+use Rattle.shape_changes.specs.flat_history_Plain.{entries_of}
+use Rattle.shape_changes.specs.flat_history_Stands.{stands}
+use Rattle.shape_changes.specs.flat_history_Transfers.{last_end_from}
+use Rattle.shape_changes.specs.flat_history_World.{World, until, contents_at}
+use Rattle.shape_changes.proofs.flat_history_LegalLaws.{histories-stay-legal, rest-apart, another-behind}
+use Rattle.shape_changes.proofs.flat_history_OneShapeLegal.{last-snoc}
 use Rattle.history_laws.proofs.OneShapeGrowing.{AreFaults, next-begins, none-another}
 use Rattle.kept_history.specs.Recorded.{entry_of, IsLegalCall, MayGoOn, IsCallGoing, IsLengthKept, gives_some}
 use Rattle.kept_history.proofs.Growing.{longer-by}

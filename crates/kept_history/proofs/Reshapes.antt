@@ -7,20 +7,20 @@ use Rattle.md_base.specs.Search.{count_below}
 use Rattle.md_base.specs.declared.answers.Who.{Who}
 use Rattle.md_base.specs.declared.places.Shape.{Shape}
 use Rattle.bank.specs.declared.bank.Operation.{Operation}
-use Rattle.flat_history.specs.declared.events.Entry.{Entry}
-use Rattle.flat_history.specs.declared.events.Event.{Event}
-use Rattle.flat_history.specs.declared.events.Event.TheVariants.{Lost, SpareLost, Rebuilt, Step}
-use Rattle.flat_history.specs.declared.events.LostCause.TheVariants.{Fault}
-use Rattle.flat_history.specs.declared.events.StepKind.TheVariants.{Begun, Finished}
-use Rattle.flat_history.specs.Flat.{is_same_call, last_of}
-use Rattle.flat_history.specs.Growing.{grown, EndBy, BeginAnother}
-use Rattle.flat_history.specs.Legal.{end_before, target_at}
-use Rattle.flat_history.specs.Losses.{is_gone_after}
-use Rattle.flat_history.specs.OneShape.{IsOfCall}
-use Rattle.flat_history.specs.Plain.{entries_of}
-use Rattle.flat_history.specs.Reshaped.{AreTooManyGone, behind, comes_with_finish, comes_with_step, IsConsistentAt, IsFinishedRight, is_done, open_plans, planned_shape, ArePlansDone, IsReshapedBy, AreReshaped, IsReshaped}
-use Rattle.flat_history.specs.World.{World, until}
-use Rattle.flat_history.proofs.LegalLaws.{both, another-last, another-behind}
+use Rattle.shape_changes.specs.flat_history_the_Entry.{Entry}
+use Rattle.shape_changes.specs.flat_history_the_Event.{Event}
+use Rattle.shape_changes.specs.flat_history_the_Event_TheVariants.{Lost, SpareLost, Rebuilt, Step}
+use Rattle.shape_changes.specs.flat_history_the_LostCause_TheVariants.{Fault}
+use Rattle.shape_changes.specs.flat_history_the_StepKind_TheVariants.{Begun, Finished}
+use Rattle.shape_changes.specs.flat_history_Flat.{is_same_call, last_of}
+use Rattle.shape_changes.specs.flat_history_Growing.{grown, EndBy, BeginAnother}
+use Rattle.shape_changes.specs.flat_history_Legal.{end_before, target_at}
+use Rattle.shape_changes.specs.flat_history_Losses.{is_gone_after}
+use Rattle.shape_changes.specs.flat_history_OneShape.{IsOfCall}
+use Rattle.shape_changes.specs.flat_history_Plain.{entries_of}
+use Rattle.shape_changes.specs.flat_history_Reshaped.{AreTooManyGone, behind, comes_with_finish, comes_with_step, IsConsistentAt, IsFinishedRight, is_done, open_plans, planned_shape, ArePlansDone, IsReshapedBy, AreReshaped, IsReshaped}
+use Rattle.shape_changes.specs.flat_history_World.{World, until}
+use Rattle.shape_changes.proofs.flat_history_LegalLaws.{both, another-last, another-behind}
 use Rattle.history_laws.proofs.OneShapeGrowing.{AreFaults}
 use Rattle.history_laws.proofs.ReshapedLaws.{reshapes-stay-right}
 use Rattle.kept_history.specs.Recorded.{entry_of, IsReshapedCall, ends_reshape, IsCallGoing, gives_some}

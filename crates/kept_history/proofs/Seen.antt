@@ -5,18 +5,18 @@ use Rattle.md_base.specs.declared.answers.Who.{Who}
 use Rattle.bank.specs.declared.bank.Operation.{Operation}
 use Rattle.bank.specs.Given.{Given, sizes}
 use Rattle.bank.specs.Tape.{Contents, IsDrawn, IsIn, disk}
-use Rattle.superblocks.specs.declared.members.Members.{Members}
-use Rattle.superblocks.specs.Reading.{Scope, list_length}
-use Rattle.flat_history.specs.declared.events.Entry.{Entry}
-use Rattle.flat_history.specs.declared.events.Event.{Event}
-use Rattle.flat_history.specs.Flat.{length_of, values_of}
-use Rattle.flat_history.specs.Growing.{grown, EndBy}
-use Rattle.flat_history.specs.Plain.{entries_of}
-use Rattle.flat_history.specs.Sound.{OpensFit}
-use Rattle.flat_history.specs.World.{World, opening_list}
-use Rattle.shape_views.specs.Views.{Disk, Ledger, IsSettled, IsViewRight, IsSeenRight, ledger_of}
-use Rattle.shape_views.proofs.Stands.{window-inside}
-use Rattle.shape_views.proofs.WindowLaws.{open-window}
+use Rattle.shape_changes.specs.superblocks_the_Members.{Members}
+use Rattle.shape_changes.specs.superblocks_Reading.{Scope, list_length}
+use Rattle.shape_changes.specs.flat_history_the_Entry.{Entry}
+use Rattle.shape_changes.specs.flat_history_the_Event.{Event}
+use Rattle.shape_changes.specs.flat_history_Flat.{length_of, values_of}
+use Rattle.shape_changes.specs.flat_history_Growing.{grown, EndBy}
+use Rattle.shape_changes.specs.flat_history_Plain.{entries_of}
+use Rattle.shape_changes.specs.flat_history_Sound.{OpensFit}
+use Rattle.shape_changes.specs.flat_history_World.{World, opening_list}
+use Rattle.shape_changes.specs.shape_views_Views.{Disk, Ledger, IsSettled, IsViewRight, IsSeenRight, ledger_of}
+use Rattle.shape_changes.proofs.shape_views_Stands.{window-inside}
+use Rattle.shape_changes.proofs.shape_views_WindowLaws.{open-window}
 use Rattle.shape_changes.specs.Steady.{IsMoreTold, IsSafeNow}
 use Rattle.shape_changes.proofs.Steady.{safe-is-seen, losing-stays-safe}
 use Rattle.shape_changes.proofs.Without.{without-none}

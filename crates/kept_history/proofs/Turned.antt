@@ -8,22 +8,22 @@ use Rattle.md_base.specs.Search.{count_below}
 use Rattle.md_base.specs.Shapes.{tolerance_of}
 use Rattle.bank.specs.declared.bank.Operation.{Operation}
 use Rattle.bank.specs.Tape.{IsIn}
-use Rattle.superblocks.specs.Reading.{Reading, reading, is_reshaping, shape_of}
-use Rattle.flat_history.specs.declared.events.Entry.{Entry}
-use Rattle.flat_history.specs.declared.events.Event.{Event}
-use Rattle.flat_history.specs.declared.events.Event.TheVariants.{Lost, Rebuilt, Step}
-use Rattle.flat_history.specs.declared.events.StepKind.TheVariants.{Begun, TakenOver}
-use Rattle.flat_history.specs.Growing.{grown, EndBy}
-use Rattle.flat_history.specs.Legal.{level_at, IsTooManyMissing}
-use Rattle.flat_history.specs.Flat.{length_of, values_of}
-use Rattle.flat_history.specs.Losses.{takes, gives_back, loses, settles, unsettles, is_gone_after, is_unsynced}
-use Rattle.flat_history.specs.OneShape.{is_lost, is_unsettled}
-use Rattle.flat_history.specs.Opened.{IsSound}
-use Rattle.flat_history.specs.Plain.{loses_role}
-use Rattle.flat_history.specs.Sound.{FillsRight, OpensFit}
-use Rattle.flat_history.specs.World.{World, contents_at, reading_at, opening_list}
-use Rattle.flat_history.proofs.GoneCounts.{few_missing}
-use Rattle.flat_history.proofs.SoundLaws.{fit-before}
+use Rattle.shape_changes.specs.superblocks_Reading.{Reading, reading, is_reshaping, shape_of}
+use Rattle.shape_changes.specs.flat_history_the_Entry.{Entry}
+use Rattle.shape_changes.specs.flat_history_the_Event.{Event}
+use Rattle.shape_changes.specs.flat_history_the_Event_TheVariants.{Lost, Rebuilt, Step}
+use Rattle.shape_changes.specs.flat_history_the_StepKind_TheVariants.{Begun, TakenOver}
+use Rattle.shape_changes.specs.flat_history_Growing.{grown, EndBy}
+use Rattle.shape_changes.specs.flat_history_Legal.{level_at, IsTooManyMissing}
+use Rattle.shape_changes.specs.flat_history_Flat.{length_of, values_of}
+use Rattle.shape_changes.specs.flat_history_Losses.{takes, gives_back, loses, settles, unsettles, is_gone_after, is_unsynced}
+use Rattle.shape_changes.specs.flat_history_OneShape.{is_lost, is_unsettled}
+use Rattle.shape_changes.specs.flat_history_Opened.{IsSound}
+use Rattle.shape_changes.specs.flat_history_Plain.{loses_role}
+use Rattle.shape_changes.specs.flat_history_Sound.{FillsRight, OpensFit}
+use Rattle.shape_changes.specs.flat_history_World.{World, contents_at, reading_at, opening_list}
+use Rattle.shape_changes.proofs.flat_history_GoneCounts.{few_missing}
+use Rattle.shape_changes.proofs.flat_history_SoundLaws.{fit-before}
 use Rattle.shape_changes.specs.Steady.{IsMoreTold, given_back}
 use Rattle.kept_history.specs.Recorded.{gives_some}
 use Rattle.kept_history.specs.Safe.{is_taken_over, IsReshapeFit, OpensOnCourse, IsFilledRight}

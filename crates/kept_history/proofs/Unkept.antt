@@ -6,18 +6,18 @@ use Rattle.std.proofs.lemmas.Bool.Decides.{nat_tests}
 use Rattle.std.proofs.lemmas.List.Folds.{list_any-append}
 use Rattle.md_base.specs.declared.answers.Who.{Who}
 use Rattle.bank.specs.Tape.{IsIn}
-use Rattle.flat_history.specs.declared.events.Entry.{Entry}
-use Rattle.flat_history.specs.declared.events.Event.{Event}
-use Rattle.flat_history.specs.declared.events.Event.TheVariants.{Lost, SpareLost, Resized}
-use Rattle.flat_history.specs.declared.events.LostCause.TheVariants.{Fault}
-use Rattle.flat_history.specs.CrashSafe.{up_to, first_with_losses, losses_behind}
-use Rattle.flat_history.specs.Flat.{length_of, values_of}
-use Rattle.flat_history.specs.Losses.{settles, unsettles, is_gone_after, is_unsynced}
-use Rattle.flat_history.specs.OneShape.{is_unsettled}
-use Rattle.flat_history.specs.Plain.{entries_of}
-use Rattle.flat_history.specs.World.{World, opening_list}
+use Rattle.shape_changes.specs.flat_history_the_Entry.{Entry}
+use Rattle.shape_changes.specs.flat_history_the_Event.{Event}
+use Rattle.shape_changes.specs.flat_history_the_Event_TheVariants.{Lost, SpareLost, Resized}
+use Rattle.shape_changes.specs.flat_history_the_LostCause_TheVariants.{Fault}
+use Rattle.shape_changes.specs.flat_history_CrashSafe.{up_to, first_with_losses, losses_behind}
+use Rattle.shape_changes.specs.flat_history_Flat.{length_of, values_of}
+use Rattle.shape_changes.specs.flat_history_Losses.{settles, unsettles, is_gone_after, is_unsynced}
+use Rattle.shape_changes.specs.flat_history_OneShape.{is_unsettled}
+use Rattle.shape_changes.specs.flat_history_Plain.{entries_of}
+use Rattle.shape_changes.specs.flat_history_World.{World, opening_list}
 use Rattle.history_laws.proofs.OneShapeGrowing.{one, AreFaults}
-use Rattle.shape_views.specs.Views.{Ledger}
+use Rattle.shape_changes.specs.shape_views_Views.{Ledger}
 use Rattle.shape_changes.specs.Steady.{IsMoreTold}
 use Rattle.kept_history.specs.Safe.{told_without}
 use Rattle.kept_history.specs.Told.{told_by}

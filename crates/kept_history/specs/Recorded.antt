@@ -2,20 +2,20 @@
 use Rattle.std.specs.Prelude.{◌≡◌, ◌⊎◌, ℕ, ◌≤◌, ◌++◌, Bool, true, false, List, [], ◌∷◌, length, ⊤}
 use Rattle.std.specs.List.{list_any, All}
 use Rattle.md_base.specs.declared.answers.Who.{Who}
-use Rattle.flat_history.specs.declared.events.Entry.{Entry}
-use Rattle.flat_history.specs.declared.events.Event.{Event}
-use Rattle.flat_history.specs.declared.events.Event.TheVariants.{Rebuilt, Resized, Step}
-use Rattle.flat_history.specs.declared.events.StepKind.TheVariants.{Begun, Finished}
-use Rattle.flat_history.specs.Flat.{length_of, next_number}
-use Rattle.flat_history.specs.Growing.{EndBy}
-use Rattle.flat_history.specs.Legal.{IsInnerOrLast, IsLegalEvent, IsLegal}
-use Rattle.flat_history.specs.OneShape.{GoesOnBehind, IsOfCall}
-use Rattle.flat_history.specs.Plain.{entries_of}
-use Rattle.flat_history.specs.Reshaped.{is_done, IsReshapedBy, IsReshaped}
-use Rattle.flat_history.specs.Sound.{OpensFit}
-use Rattle.flat_history.specs.Stands.{stands}
-use Rattle.flat_history.specs.Transfers.{last_end_from}
-use Rattle.flat_history.specs.World.{World, contents_at, opening_list}
+use Rattle.shape_changes.specs.flat_history_the_Entry.{Entry}
+use Rattle.shape_changes.specs.flat_history_the_Event.{Event}
+use Rattle.shape_changes.specs.flat_history_the_Event_TheVariants.{Rebuilt, Resized, Step}
+use Rattle.shape_changes.specs.flat_history_the_StepKind_TheVariants.{Begun, Finished}
+use Rattle.shape_changes.specs.flat_history_Flat.{length_of, next_number}
+use Rattle.shape_changes.specs.flat_history_Growing.{EndBy}
+use Rattle.shape_changes.specs.flat_history_Legal.{IsInnerOrLast, IsLegalEvent, IsLegal}
+use Rattle.shape_changes.specs.flat_history_OneShape.{GoesOnBehind, IsOfCall}
+use Rattle.shape_changes.specs.flat_history_Plain.{entries_of}
+use Rattle.shape_changes.specs.flat_history_Reshaped.{is_done, IsReshapedBy, IsReshaped}
+use Rattle.shape_changes.specs.flat_history_Sound.{OpensFit}
+use Rattle.shape_changes.specs.flat_history_Stands.{stands}
+use Rattle.shape_changes.specs.flat_history_Transfers.{last_end_from}
+use Rattle.shape_changes.specs.flat_history_World.{World, contents_at, opening_list}
 
 -- Over a bank that tells its contents: the list has this size, and where what was filled in is right the history is legal, and, if the opening was sound, its
 -- reshapes end right, since rows that were copied before it are only known by that; and it reaches to the tape's end.

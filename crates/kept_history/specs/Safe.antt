@@ -4,21 +4,21 @@ use Rattle.std.specs.List.{list_any}
 use Rattle.bank.specs.declared.bank.Operation.{Operation}
 use Rattle.bank.specs.Given.{Given}
 use Rattle.bank.specs.Tape.{Contents, disk}
-use Rattle.superblocks.specs.declared.members.Members.{Members}
-use Rattle.superblocks.specs.Reading.{Scope, Reading, is_reshaping}
-use Rattle.flat_history.specs.declared.events.Entry.{Entry}
-use Rattle.flat_history.specs.declared.events.Event.{Event}
-use Rattle.flat_history.specs.declared.events.Event.TheVariants.{Step}
-use Rattle.flat_history.specs.declared.events.StepKind.TheVariants.{TakenOver}
-use Rattle.flat_history.specs.World.{World, contents_at, opening_list, reading_at}
-use Rattle.flat_history.specs.Flat.{length_of, values_of}
-use Rattle.flat_history.specs.Losses.{loses, is_gone_after, is_unsynced}
-use Rattle.flat_history.specs.OneShape.{is_unsettled}
-use Rattle.flat_history.specs.CrashSafe.{MayBeLeftOut}
-use Rattle.flat_history.specs.Growing.{IsSafeThroughout}
-use Rattle.flat_history.specs.Opened.{HasFittingSections, HasZeroTail}
-use Rattle.flat_history.specs.Sound.{OpensFit, LeavesSoundThroughout}
-use Rattle.shape_views.specs.Views.{Ledger}
+use Rattle.shape_changes.specs.superblocks_the_Members.{Members}
+use Rattle.shape_changes.specs.superblocks_Reading.{Scope, Reading, is_reshaping}
+use Rattle.shape_changes.specs.flat_history_the_Entry.{Entry}
+use Rattle.shape_changes.specs.flat_history_the_Event.{Event}
+use Rattle.shape_changes.specs.flat_history_the_Event_TheVariants.{Step}
+use Rattle.shape_changes.specs.flat_history_the_StepKind_TheVariants.{TakenOver}
+use Rattle.shape_changes.specs.flat_history_World.{World, contents_at, opening_list, reading_at}
+use Rattle.shape_changes.specs.flat_history_Flat.{length_of, values_of}
+use Rattle.shape_changes.specs.flat_history_Losses.{loses, is_gone_after, is_unsynced}
+use Rattle.shape_changes.specs.flat_history_OneShape.{is_unsettled}
+use Rattle.shape_changes.specs.flat_history_CrashSafe.{MayBeLeftOut}
+use Rattle.shape_changes.specs.flat_history_Growing.{IsSafeThroughout}
+use Rattle.shape_changes.specs.flat_history_Opened.{HasFittingSections, HasZeroTail}
+use Rattle.shape_changes.specs.flat_history_Sound.{OpensFit, LeavesSoundThroughout}
+use Rattle.shape_changes.specs.shape_views_Views.{Ledger}
 use Rattle.shape_changes.specs.Changing.{IsSpentByEither}
 use Rattle.shape_changes.specs.Safety.{HasLiveSlot}
 use Rattle.shape_changes.specs.Steady.{IsSafeOver}

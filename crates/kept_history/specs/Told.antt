@@ -1,12 +1,12 @@
 -- What a history tells of an array, whether a reshape stands in it or not.
 use Rattle.std.specs.Prelude.{ℕ, ◌++◌, ◌||◌, Bool, List, length}
 use Rattle.std.specs.List.{list_any}
-use Rattle.flat_history.specs.declared.events.Entry.{Entry}
-use Rattle.flat_history.specs.World.{World, opening_list}
-use Rattle.flat_history.specs.Flat.{length_of, values_of}
-use Rattle.flat_history.specs.Losses.{loses, is_gone_after, is_unsynced, unsettles}
-use Rattle.flat_history.specs.OneShape.{is_unsettled}
-use Rattle.shape_views.specs.Views.{Ledger}
+use Rattle.shape_changes.specs.flat_history_the_Entry.{Entry}
+use Rattle.shape_changes.specs.flat_history_World.{World, opening_list}
+use Rattle.shape_changes.specs.flat_history_Flat.{length_of, values_of}
+use Rattle.shape_changes.specs.flat_history_Losses.{loses, is_gone_after, is_unsynced, unsettles}
+use Rattle.shape_changes.specs.flat_history_OneShape.{is_unsettled}
+use Rattle.shape_changes.specs.shape_views_Views.{Ledger}
 
 -- The whole history: how long the list is and the values of each of its sectors, the roles that are gone, and whether a write may be unsettled; with
 -- it, what a history doesn't tell: whether a reshape may be active, and the device numbers that superblocks may bear.

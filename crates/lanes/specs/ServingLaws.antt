@@ -11,7 +11,7 @@ use Rattle.md_base.specs.declared.answers.Who.{Who}
 use Rattle.md_base.specs.declared.status.Status.{Status}
 use Rattle.bank.specs.declared.bank.Operation.{Operation}
 use Rattle.bank.specs.Given.{Given, sizes}
-use Rattle.superblocks.specs.Reading.{is_reshaping}
+use Rattle.running_calls.specs.superblocks_Reading.{is_reshaping}
 use Rattle.flat_history.specs.declared.events.Entry.{Entry}
 use Rattle.flat_history.specs.declared.events.Event.{Event}
 use Rattle.flat_history.specs.declared.events.Request.{Request}

@@ -11,7 +11,7 @@ use Rattle.flat_history.specs.OneShape.{IsOfCall}
 use Rattle.md_base.specs.Shapes.{data_disks}
 use Rattle.bank.specs.declared.bank.Operation.{Operation}
 use Rattle.bank.specs.Given.{Given}
-use Rattle.superblocks.specs.Reading.{list_length}
+use Rattle.run_laws.specs.superblocks_Reading.{list_length}
 use Rattle.flat_history.specs.World.{World}
 use Rattle.run_laws.specs.running_words_Parts.{RunningParts, visible_in}
 use Rattle.run_laws.specs.running_words_Calls.{IsCalled, IsSameReshape}

@@ -13,10 +13,10 @@ use Rattle.sb1.specs.declared.sb.Sb.{Sb}
 use Rattle.bank.specs.declared.bank.Operation.{Operation}
 use Rattle.bank.specs.Given.{Given, sizes}
 use Rattle.bank.specs.Tape.{contents}
-use Rattle.superblocks.specs.declared.members.Members.{Members}
-use Rattle.superblocks.specs.Reading.{Reading, shape_of, final_shape, target_of, role_count, list_length, is_reshaping, is_clean, is_whole, role_state, rows_held, holder, reading}
-use Rattle.superblocks.specs.Election.{reading_in}
-use Rattle.row_io.specs.Rows.{reading_of, is_missing}
+use Rattle.run_laws.specs.superblocks_the_Members.{Members}
+use Rattle.run_laws.specs.superblocks_Reading.{Reading, shape_of, final_shape, target_of, role_count, list_length, is_reshaping, is_clean, is_whole, role_state, rows_held, holder, reading}
+use Rattle.run_laws.specs.superblocks_Election.{reading_in}
+use Rattle.run_laws.specs.row_io_Rows.{reading_of, is_missing}
 use Rattle.flat_history.specs.declared.events.Event.{Event}
 use Rattle.flat_history.specs.World.{World, reading_at, opening_list}
 use Rattle.flat_history.specs.Stands.{stands, standing_sector}
@@ -34,9 +34,9 @@ use Rattle.run_laws.specs.running_words_Parts.{RunningParts, visible_in, visible
 use Rattle.run_laws.specs.running_words_Calls.{IsStatusFor}
 use Rattle.run_laws.specs.running_words_Still.{IsStillStatus}
 use Rattle.run_laws.specs.running_Calls.{IsShownAs}
-use Rattle.grow_asked.specs.Left.{phases_of, grow_left}
+use Rattle.run_laws.specs.grow_asked_Left.{phases_of, grow_left}
 use Rattle.run_laws.specs.region_mends_Left.{resync_left as region_left}
-use Rattle.grow_asked.specs.declared.window.Window.{Window}
+use Rattle.run_laws.specs.grow_asked_the_Window.{Window}
 use Rattle.run_laws.specs.course_kept_the_Course.{Course}
 use Rattle.run_laws.specs.reshape_openings_Finding.{window_for}
 use Rattle.run_laws.specs.shape_views_Regions.{header_in, open_by}
@@ -45,7 +45,7 @@ use Rattle.md_base.specs.declared.wishes.Phase.{Phase}
 use Rattle.flat_history.specs.Left.{opened_role, opened_roles}
 use Rattle.flat_history.specs.Plain.{entries_of}
 use Rattle.run_laws.specs.openings_Found.{IsStillFound, IsMovingFound, IsRunningFound}
-use Rattle.superblocks.specs.Reads.{has_spare}
+use Rattle.run_laws.specs.superblocks_Reads.{has_spare}
 use Rattle.run_laws.specs.Histories.{History}
 use Rattle.run_laws.specs.Making.{Setting, world_at, history_world, MissingAtFirst, AreHeldSince, found_members, found_window, found_left, IsStored, IsStoredNew, IsStoredAs}
 use Rattle.run_laws.specs.States.{running_history}

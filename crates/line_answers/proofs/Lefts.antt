@@ -11,8 +11,8 @@ use Rattle.md_base.specs.declared.wishes.Wish.{Wish}
 use Rattle.bank.specs.declared.bank.Operation.{Operation}
 use Rattle.bank.specs.Given.{Given}
 use Rattle.grow_plan.specs.Plans.{phases}
-use Rattle.superblocks.specs.declared.members.Members.{Members}
-use Rattle.superblocks.specs.Reading.{is_reshaping, shape_of, list_length}
+use Rattle.run_laws.specs.superblocks_the_Members.{Members}
+use Rattle.run_laws.specs.superblocks_Reading.{is_reshaping, shape_of, list_length}
 use Rattle.flat_history.specs.declared.events.Entry.{Entry}
 use Rattle.flat_history.specs.declared.events.Event.{Event}
 use Rattle.flat_history.specs.declared.events.Event.TheVariants.{Read, Wrote, Flushed, Failed, Added, Visible, Planned, Refused}
@@ -21,8 +21,8 @@ use Rattle.flat_history.specs.Plain.{entries_of}
 use Rattle.flat_history.specs.World.{World}
 use Rattle.run_laws.specs.views_the_Work.{Work}
 use Rattle.run_laws.specs.views_Lacking.{AreTooMany, HaveRolesFailed}
-use Rattle.grow_asked.specs.declared.window.PhasesLeft.{PhasesLeft}
-use Rattle.grow_asked.specs.Left.{phases_of}
+use Rattle.run_laws.specs.grow_asked_the_PhasesLeft.{PhasesLeft}
+use Rattle.run_laws.specs.grow_asked_Left.{phases_of}
 use Rattle.run_laws.specs.growing_Planned.{IsAsBefore, IsGrowPlanned, IsReplied as IsRepliedTo}
 use Rattle.run_laws.specs.array_kept_Calls.{IsReplied, IsAnswered, IsCausedBy, IsRefusedFor, IsFailedFor, IsAddedFor, by_answer}
 use Rattle.run_laws.specs.running_Calls.{running_left, IsReadLacked, IsWriteLackedIn}

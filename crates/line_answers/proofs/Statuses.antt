@@ -10,7 +10,7 @@ use Rattle.flat_history.specs.declared.events.Event.{Event}
 use Rattle.flat_history.specs.declared.events.Event.TheVariants.{Shown}
 use Rattle.flat_history.specs.Flat.{length_of, limit_of}
 use Rattle.flat_history.specs.OneShape.{IsOfCall}
-use Rattle.superblocks.specs.Reading.{is_reshaping, list_length}
+use Rattle.run_laws.specs.superblocks_Reading.{is_reshaping, list_length}
 use Rattle.run_laws.specs.running_words_Parts.{RunningParts, visible_in}
 use Rattle.run_laws.specs.running_words_Calls.{IsStatusFor}
 use Rattle.run_laws.specs.running_words_Still.{IsStillStatus}

@@ -14,9 +14,9 @@ use Rattle.md_base.specs.declared.answers.Refusal.TheVariants.{Running as IsRunn
 use Rattle.md_base.specs.declared.status.Status.{Status}
 use Rattle.md_base.specs.declared.wishes.Wish.{Wish}
 use Rattle.md_base.specs.Shapes.{data_disks}
-use Rattle.superblocks.specs.Reading.{is_reshaping, list_length}
-use Rattle.grow_asked.specs.Left.{phases_of}
-use Rattle.grow_asked.specs.declared.window.PhasesLeft.{PhasesLeft}
+use Rattle.run_laws.specs.superblocks_Reading.{is_reshaping, list_length}
+use Rattle.run_laws.specs.grow_asked_Left.{phases_of}
+use Rattle.run_laws.specs.grow_asked_the_PhasesLeft.{PhasesLeft}
 use Rattle.run_laws.specs.running_words_Parts.{RunningParts}
 use Rattle.run_laws.specs.running_replies_Replies.{RunningAnswers}
 use Rattle.run_laws.specs.running_Calls.{IsShownAs}
@@ -35,12 +35,12 @@ use Rattle.flat_history.specs.Plain.{entries_of}
 use Rattle.flat_history.specs.OneShape.{OneShapeAnswers}
 use Rattle.flat_history.specs.Transfers.{last_end_from}
 use Rattle.flat_history.proofs.OneShapeLegal.{last-snoc}
-use Rattle.history_laws.proofs.OneShapeGrowing.{call-ends}
+use Rattle.run_laws.proofs.history_laws_OneShapeGrowing.{call-ends}
 use Rattle.flat_history.specs.World.{World, opening_list}
 use Rattle.flat_history.specs.Epochs.{OpensAlike}
 use Rattle.flat_history.specs.Opened.{OpensSound}
 use Rattle.bank.specs.Given.{sizes}
-use Rattle.superblocks.specs.declared.members.Members.{Members}
+use Rattle.run_laws.specs.superblocks_the_Members.{Members}
 use Rattle.run_laws.specs.views_the_Work.{Work}
 use Rattle.run_laws.specs.array_kept_Adopting.{opener, absent_losses}
 use Rattle.run_laws.specs.array_kept_Calls.{IsEndOf, IsEntered, world_for}

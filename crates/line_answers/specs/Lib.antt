@@ -31,3 +31,7 @@ pub use Rattle.run_laws.specs.running_calls_Replies
 pub use Rattle.run_laws.specs.running_calls_Going
 pub use Rattle.run_laws.specs.running_replies_Going
 pub use Rattle.run_laws.specs.running_steps_Steps
+pub use Rattle.run_laws.specs.grow_asked_Left
+pub use Rattle.run_laws.specs.superblocks_Reading
+pub use Rattle.run_laws.specs.superblocks_the_Members
+pub use Rattle.run_laws.specs.superblocks_Reads

@@ -5,12 +5,12 @@ ghost use Rattle.md_base.specs.declared.answers.Fault.TheVariants.{NoMemory as W
 ghost use Rattle.bank.specs.Given.{NeverFalls};
 ghost use Rattle.md_base.specs.Sectors.{IsWhole};
 ghost use Rattle.std.specs.List.{list_any};
-ghost use Rattle.superblocks.specs.Reads.{has_spare};
-ghost use Rattle.superblocks.specs.Reading.{is_reshaping, list_length};
+ghost use Rattle.run_laws.specs.superblocks_Reads.{has_spare};
+ghost use Rattle.run_laws.specs.superblocks_Reading.{is_reshaping, list_length};
 ghost use Rattle.run_laws.specs.views_Placed.{AreStillHeld};
 ghost use Rattle.run_laws.specs.array_kept_Calls.{AreSparesFewer, AreLossesOf, IsEndOf};
 ghost use Rattle.run_laws.specs.views_Moving.{Grows};
-ghost use Rattle.grow_asked.specs.Left.{phases_of};
+ghost use Rattle.run_laws.specs.grow_asked_Left.{phases_of};
 ghost use Rattle.run_laws.specs.running_replies_Going.{IsSameEpoch, HasRunOn};
 ghost use Rattle.run_laws.specs.running_replies_Replies.{HasToldBy};
 ghost use Rattle.run_laws.specs.Making.{is_added};

@@ -2,10 +2,10 @@
 
 ghost use Rattle.std.specs.Prelude.{◌≡◌, ◌+◌, ◌≤◌, length, IfOk, IfErr};
 ghost use Rattle.bank.specs.Given.{NeverFalls};
-ghost use Rattle.superblocks.specs.Reading.{is_reshaping, list_length};
+ghost use Rattle.run_laws.specs.superblocks_Reading.{is_reshaping, list_length};
 ghost use Rattle.run_laws.specs.views_Placed.{AreStillHeld};
 ghost use Rattle.run_laws.specs.views_Moving.{Grows};
-ghost use Rattle.grow_asked.specs.Left.{phases_of};
+ghost use Rattle.run_laws.specs.grow_asked_Left.{phases_of};
 ghost use Rattle.run_laws.specs.array_kept_Calls.{AreSparesFewer, AreLossesOf, IsEndOf};
 ghost use Rattle.run_laws.specs.running_replies_Going.{IsSameEpoch};
 ghost use Rattle.run_laws.specs.running_replies_Replies.{HasToldBy};

@@ -7,3 +7,9 @@ pub mod PartBytes
 pub mod BufferLaws
 pub mod WriteLaws
 pub mod PutLaws
+pub use Rattle.row_io.proofs.Lacks as row_io_Lacks
+pub use Rattle.row_io.proofs.Losses as row_io_Losses
+pub use Rattle.row_io.proofs.NewRow as row_io_NewRow
+pub use Rattle.row_io.proofs.Tables as row_io_Tables
+pub use Rattle.row_io.proofs.Written as row_io_Written
+pub use Rattle.row_io.proofs.Apart as row_io_Apart

@@ -56,3 +56,13 @@ pub use Rattle.moving_kept.proofs.shape_changes_Steady
 pub use Rattle.moving_kept.proofs.shape_views_Alike
 pub use Rattle.moving_kept.proofs.kept_history_Marks
 pub use Rattle.moving_kept.proofs.kept_history_Opened
+pub use Rattle.moving_kept.proofs.grow_asked_LeftLaws
+pub use Rattle.moving_kept.proofs.history_laws_NumberLaws
+pub use Rattle.moving_kept.proofs.flat_history_SoundLaws
+pub use Rattle.moving_kept.proofs.row_io_Lacks
+pub use Rattle.moving_kept.proofs.superblocks_ValidFields
+pub use Rattle.moving_kept.proofs.superblock_reads_SaidLists
+pub use Rattle.moving_kept.proofs.superblock_reads_SaidSlots
+pub use Rattle.moving_kept.proofs.history_laws_OneShapeGrowing
+pub use Rattle.moving_kept.proofs.history_laws_ReshapedLaws
+pub use Rattle.moving_kept.proofs.history_laws_GrowingLaws

@@ -12,22 +12,22 @@ use Rattle.md_base.specs.declared.places.Span.{Span}
 use Rattle.bank.specs.declared.bank.Operation.{Operation}
 use Rattle.bank.specs.Given.{Given}
 use Rattle.bank.specs.Tape.{IsIn, disk}
-use Rattle.superblocks.specs.declared.members.Members.{Members}
-use Rattle.superblocks.specs.Reading.{Scope, is_clean, shape_of, final_shape, list_length}
-use Rattle.superblocks.proofs.ValidFields.{few-roles}
-use Rattle.row_io.specs.Rows.{reading_of, present}
-use Rattle.list_io.specs.Full.{AreWholeIn}
-use Rattle.flat_history.specs.declared.events.Entry.{Entry}
-use Rattle.flat_history.specs.declared.events.Event.{Event}
-use Rattle.flat_history.specs.declared.events.Event.TheVariants.{Refused, Step}
-use Rattle.flat_history.specs.declared.events.StepKind.TheVariants.{ResyncStripe, ResyncEnded}
-use Rattle.flat_history.specs.Flat.{now, length_of, values_of}
-use Rattle.flat_history.specs.Legal.{told_left, level_at, IsRefusedRight}
-use Rattle.flat_history.specs.Losses.{is_unsynced, is_resync_end}
-use Rattle.flat_history.specs.Plain.{entries_of}
-use Rattle.flat_history.specs.Sound.{OpensFit}
-use Rattle.flat_history.specs.Stands.{covers, shape_for}
-use Rattle.flat_history.specs.World.{World, opening_list}
+use Rattle.moving_kept.specs.superblocks_the_Members.{Members}
+use Rattle.moving_kept.specs.superblocks_Reading.{Scope, is_clean, shape_of, final_shape, list_length}
+use Rattle.moving_kept.proofs.superblocks_ValidFields.{few-roles}
+use Rattle.moving_kept.specs.row_io_Rows.{reading_of, present}
+use Rattle.moving_kept.specs.list_io_Full.{AreWholeIn}
+use Rattle.moving_kept.specs.flat_history_the_Entry.{Entry}
+use Rattle.moving_kept.specs.flat_history_the_Event.{Event}
+use Rattle.moving_kept.specs.flat_history_the_Event_TheVariants.{Refused, Step}
+use Rattle.moving_kept.specs.flat_history_the_StepKind_TheVariants.{ResyncStripe, ResyncEnded}
+use Rattle.moving_kept.specs.flat_history_Flat.{now, length_of, values_of}
+use Rattle.moving_kept.specs.flat_history_Legal.{told_left, level_at, IsRefusedRight}
+use Rattle.moving_kept.specs.flat_history_Losses.{is_unsynced, is_resync_end}
+use Rattle.moving_kept.specs.flat_history_Plain.{entries_of}
+use Rattle.moving_kept.specs.flat_history_Sound.{OpensFit}
+use Rattle.moving_kept.specs.flat_history_Stands.{covers, shape_for}
+use Rattle.moving_kept.specs.flat_history_World.{World, opening_list}
 use Rattle.moving_kept.specs.shape_views_Regions.{DoWithout}
 use Rattle.moving_kept.specs.shape_views_Views.{Ledger, IsTailZero}
 use Rattle.moving_kept.specs.shape_views_Windows.{IsShown, AreTailsStanding}
@@ -54,8 +54,8 @@ use Rattle.moving_kept.proofs.kept_history_Growing.{unsynced-grown}
 use Rattle.moving_kept.proofs.kept_history_Ledgers.{unsynced-still}
 use Rattle.moving_kept.proofs.kept_history_Lists.{newest-in}
 use Rattle.moving_kept.specs.history_calls_Reliable.{AreToldGone}
-use Rattle.grow_asked.specs.declared.window.Window.{Window}
-use Rattle.grow_asked.specs.declared.window.Window.TheVariants.{Closed, Entered, Unsure}
+use Rattle.moving_kept.specs.grow_asked_the_Window.{Window}
+use Rattle.moving_kept.specs.grow_asked_the_Window_TheVariants.{Closed, Entered, Unsure}
 use Rattle.moving_kept.specs.course_kept_the_Course.{Course}
 use Rattle.moving_kept.specs.course_kept_Course.{hidden_in}
 use Rattle.moving_kept.proofs.course_kept_Frames.{does-for}

@@ -31,3 +31,8 @@ pub use Rattle.moving_laws.proofs.shape_views_Alike
 pub use Rattle.moving_laws.proofs.kept_history_Marks
 pub use Rattle.moving_laws.proofs.shape_views_Headers
 pub use Rattle.moving_laws.proofs.kept_history_Opened
+pub use Rattle.moving_laws.proofs.superblock_reads_SaidLists
+pub use Rattle.moving_laws.proofs.superblock_reads_SaidSlots
+pub use Rattle.moving_laws.proofs.history_laws_OneShapeGrowing
+pub use Rattle.moving_laws.proofs.history_laws_ReshapedLaws
+pub use Rattle.moving_laws.proofs.history_laws_GrowingLaws

@@ -35,3 +35,6 @@ pub use Rattle.moving_laws.specs.shape_changes_Steady
 pub use Rattle.moving_laws.specs.shape_changes_Updates
 pub use Rattle.moving_laws.specs.shape_views_Regions
 pub use Rattle.moving_laws.specs.shape_views_Views
+pub use Rattle.grow_asked.specs.declared.window.PhasesLeft as grow_asked_the_PhasesLeft
+pub use Rattle.superblocks.specs.declared.members.Members as superblocks_the_Members
+pub use Rattle.superblocks.specs.Reading as superblocks_Reading

@@ -20,26 +20,26 @@ use Rattle.bank.specs.Given.{Given}
 use Rattle.bank.specs.Tape.{IsIn, disk}
 use Rattle.geometry.specs.Geometry.{zeroed_stripes}
 use Rattle.sb1.specs.declared.sb.Sb.{Sb}
-use Rattle.superblocks.specs.declared.members.Members.{Members}
-use Rattle.superblocks.specs.Reading.{Scope, Reading, is_reshaping, is_backward, is_clean, shape_of, final_shape, target_of, list_length, role_count}
-use Rattle.superblocks.proofs.Searches.{any_below-some}
-use Rattle.row_io.specs.Rows.{reading_of, present, is_missing}
-use Rattle.flat_history.specs.declared.events.Entry.{Entry}
-use Rattle.flat_history.specs.declared.events.Event.{Event}
-use Rattle.flat_history.specs.declared.events.Event.TheVariants.{Lost, SpareLost, Resized, Step}
-use Rattle.flat_history.specs.declared.events.LostCause.TheVariants.{Fault}
-use Rattle.flat_history.specs.declared.events.StepKind.TheVariants.{Finished}
-use Rattle.flat_history.specs.Epochs.{HasRoomForEvents, OpensAlike}
-use Rattle.flat_history.specs.Flat.{is_same_call, length_of, resized, values_of, now}
-use Rattle.flat_history.specs.Legal.{call_before, disturbs, end_before, is_all_gone, is_free_step, known_left, left_after, level_after, level_at, size_at, target_at, told_left, IsResized, IsResizedAfter, IsStep, IsUnkeptLength}
-use Rattle.flat_history.specs.Losses.{is_gone_after, is_unsynced, loses, unsettles}
-use Rattle.flat_history.specs.OneShape.{is_unsettled}
-use Rattle.flat_history.specs.Plain.{entries_of}
-use Rattle.flat_history.specs.Reshaped.{behind, comes_with_finish, comes_with_step, open_plans, ArePlansDone, IsConsistentAt, IsFinishedRight, IsReshapedBy}
-use Rattle.flat_history.specs.Sound.{OpensFit}
-use Rattle.flat_history.specs.World.{World, reading_at, opening_list}
-use Rattle.flat_history.proofs.SoundLaws.{fit-before}
-use Rattle.history_laws.proofs.OneShapeGrowing.{entries-both}
+use Rattle.moving_kept.specs.superblocks_the_Members.{Members}
+use Rattle.moving_kept.specs.superblocks_Reading.{Scope, Reading, is_reshaping, is_backward, is_clean, shape_of, final_shape, target_of, list_length, role_count}
+use Rattle.moving_kept.proofs.superblocks_Searches.{any_below-some}
+use Rattle.moving_kept.specs.row_io_Rows.{reading_of, present, is_missing}
+use Rattle.moving_kept.specs.flat_history_the_Entry.{Entry}
+use Rattle.moving_kept.specs.flat_history_the_Event.{Event}
+use Rattle.moving_kept.specs.flat_history_the_Event_TheVariants.{Lost, SpareLost, Resized, Step}
+use Rattle.moving_kept.specs.flat_history_the_LostCause_TheVariants.{Fault}
+use Rattle.moving_kept.specs.flat_history_the_StepKind_TheVariants.{Finished}
+use Rattle.moving_kept.specs.flat_history_Epochs.{HasRoomForEvents, OpensAlike}
+use Rattle.moving_kept.specs.flat_history_Flat.{is_same_call, length_of, resized, values_of, now}
+use Rattle.moving_kept.specs.flat_history_Legal.{call_before, disturbs, end_before, is_all_gone, is_free_step, known_left, left_after, level_after, level_at, size_at, target_at, told_left, IsResized, IsResizedAfter, IsStep, IsUnkeptLength}
+use Rattle.moving_kept.specs.flat_history_Losses.{is_gone_after, is_unsynced, loses, unsettles}
+use Rattle.moving_kept.specs.flat_history_OneShape.{is_unsettled}
+use Rattle.moving_kept.specs.flat_history_Plain.{entries_of}
+use Rattle.moving_kept.specs.flat_history_Reshaped.{behind, comes_with_finish, comes_with_step, open_plans, ArePlansDone, IsConsistentAt, IsFinishedRight, IsReshapedBy}
+use Rattle.moving_kept.specs.flat_history_Sound.{OpensFit}
+use Rattle.moving_kept.specs.flat_history_World.{World, reading_at, opening_list}
+use Rattle.moving_kept.proofs.flat_history_SoundLaws.{fit-before}
+use Rattle.moving_kept.proofs.history_laws_OneShapeGrowing.{entries-both}
 use Rattle.moving_kept.specs.shape_views_Views.{Ledger}
 use Rattle.moving_kept.specs.shape_views_Windows.{ListStands, RowsStand}
 use Rattle.moving_kept.proofs.shape_views_Alike.{final-alike}

@@ -11,15 +11,15 @@ use Rattle.bank.specs.Given.{Given}
 use Rattle.bank.specs.Tape.{disk}
 use Rattle.geometry.specs.Geometry.{zeroed_stripes}
 use Rattle.sb1.specs.declared.sb.Sb.{Sb}
-use Rattle.superblocks.specs.declared.members.Members.{Members}
-use Rattle.superblocks.specs.Held.{AreDrawn}
-use Rattle.superblocks.specs.Reading.{Scope, is_reshaping, is_backward, is_whole, shape_of, final_shape, role_count, role_state, holder, data_offset_of}
-use Rattle.superblocks.specs.Updating.{planned_newest}
-use Rattle.superblocks.proofs.ValidFields.{few-roles}
-use Rattle.superblock_reads.proofs.SaidSlots.{below-length}
-use Rattle.row_io.specs.Rows.{reading_of, present, is_missing}
-use Rattle.flat_history.specs.Sound.{OpensFit}
-use Rattle.flat_history.specs.World.{World}
+use Rattle.moving_kept.specs.superblocks_the_Members.{Members}
+use Rattle.moving_kept.specs.superblocks_Held.{AreDrawn}
+use Rattle.moving_kept.specs.superblocks_Reading.{Scope, is_reshaping, is_backward, is_whole, shape_of, final_shape, role_count, role_state, holder, data_offset_of}
+use Rattle.moving_kept.specs.superblocks_Updating.{planned_newest}
+use Rattle.moving_kept.proofs.superblocks_ValidFields.{few-roles}
+use Rattle.moving_kept.proofs.superblock_reads_SaidSlots.{below-length}
+use Rattle.moving_kept.specs.row_io_Rows.{reading_of, present, is_missing}
+use Rattle.moving_kept.specs.flat_history_Sound.{OpensFit}
+use Rattle.moving_kept.specs.flat_history_World.{World}
 use Rattle.moving_kept.specs.shape_views_Regions.{ArePlaced}
 use Rattle.moving_kept.specs.shape_views_Views.{Ledger}
 use Rattle.moving_kept.proofs.shape_views_Alike.{shape-alike, final-alike}

@@ -7,19 +7,19 @@ use Rattle.md_base.specs.declared.places.Shape.{Shape}
 use Rattle.bank.specs.declared.bank.Operation.{Operation}
 use Rattle.bank.specs.Given.{Given}
 use Rattle.geometry.specs.Geometry.{zeroed_stripes}
-use Rattle.superblocks.specs.declared.members.Members.{Members}
-use Rattle.superblocks.specs.Reading.{Scope, is_backward, shape_of, final_shape, list_length, role_count}
-use Rattle.superblocks.proofs.ValidFields.{few-roles}
-use Rattle.row_io.specs.Rows.{present}
-use Rattle.flat_history.specs.declared.events.Entry.{Entry}
-use Rattle.flat_history.specs.Epochs.{HasRoomForEvents, OpensAlike}
-use Rattle.flat_history.specs.Flat.{now}
-use Rattle.flat_history.specs.Legal.{level_at}
-use Rattle.flat_history.specs.Losses.{is_unsynced}
-use Rattle.flat_history.specs.OneShape.{is_unsettled}
-use Rattle.flat_history.specs.Plain.{entries_of}
-use Rattle.flat_history.specs.Sound.{OpensFit}
-use Rattle.flat_history.specs.World.{opening_list}
+use Rattle.moving_kept.specs.superblocks_the_Members.{Members}
+use Rattle.moving_kept.specs.superblocks_Reading.{Scope, is_backward, shape_of, final_shape, list_length, role_count}
+use Rattle.moving_kept.proofs.superblocks_ValidFields.{few-roles}
+use Rattle.moving_kept.specs.row_io_Rows.{present}
+use Rattle.moving_kept.specs.flat_history_the_Entry.{Entry}
+use Rattle.moving_kept.specs.flat_history_Epochs.{HasRoomForEvents, OpensAlike}
+use Rattle.moving_kept.specs.flat_history_Flat.{now}
+use Rattle.moving_kept.specs.flat_history_Legal.{level_at}
+use Rattle.moving_kept.specs.flat_history_Losses.{is_unsynced}
+use Rattle.moving_kept.specs.flat_history_OneShape.{is_unsettled}
+use Rattle.moving_kept.specs.flat_history_Plain.{entries_of}
+use Rattle.moving_kept.specs.flat_history_Sound.{OpensFit}
+use Rattle.moving_kept.specs.flat_history_World.{opening_list}
 use Rattle.moving_kept.specs.shape_changes_Safety.{HasLiveSlot}
 use Rattle.moving_kept.specs.views_Moving.{Grows}
 use Rattle.moving_kept.specs.call_entries_Losing.{losses_of}

@@ -11,12 +11,12 @@ use Rattle.bank.specs.Tape.{Contents}
 use Rattle.layout.specs.Layout.{place}
 use Rattle.layout.proofs.Places.{place-sector_below}
 use Rattle.geometry.specs.Geometry.{zeroed_stripes}
-use Rattle.superblocks.specs.declared.members.Members.{Members}
-use Rattle.superblocks.specs.Reading.{Scope, is_reshaping, is_backward, is_whole, shape_of, final_shape, list_length, role_state, rows_held, holder, data_offset_of}
-use Rattle.row_io.specs.Rows.{reading_of, is_missing, held_slot}
-use Rattle.row_io.proofs.Losses.{holder-of}
-use Rattle.list_io.specs.Full.{RowStands}
-use Rattle.flat_history.specs.Stands.{shape_for}
+use Rattle.moving_kept.specs.superblocks_the_Members.{Members}
+use Rattle.moving_kept.specs.superblocks_Reading.{Scope, is_reshaping, is_backward, is_whole, shape_of, final_shape, list_length, role_state, rows_held, holder, data_offset_of}
+use Rattle.moving_kept.specs.row_io_Rows.{reading_of, is_missing, held_slot}
+use Rattle.moving_kept.proofs.row_io_Losses.{holder-of}
+use Rattle.moving_kept.specs.list_io_Full.{RowStands}
+use Rattle.moving_kept.specs.flat_history_Stands.{shape_for}
 use Rattle.region_laws.specs.Regions.{IsDirected}
 use Rattle.moving_kept.specs.shape_views_Regions.{ArePlaced, DoWithout}
 use Rattle.moving_kept.specs.shape_views_Windows.{ListStands, RowsStand}

@@ -6,20 +6,20 @@ use Rattle.std.proofs.lemmas.List.Folds.{list_any-append}
 use Rattle.md_base.specs.Sectors.{Sector}
 use Rattle.md_base.specs.declared.answers.Who.{Who}
 use Rattle.bank.specs.Tape.{IsIn}
-use Rattle.flat_history.specs.declared.events.Entry.{Entry}
-use Rattle.flat_history.specs.declared.events.Event.{Event}
-use Rattle.flat_history.specs.declared.events.Event.TheVariants.{Lost, SpareLost, Resized, Step}
-use Rattle.flat_history.specs.declared.events.LostCause.TheVariants.{Fault}
-use Rattle.flat_history.specs.declared.events.StepKind.TheVariants.{Finished}
-use Rattle.flat_history.specs.Flat.{length_of, values_after, values_of, resized}
-use Rattle.flat_history.specs.Legal.{is_loss, before_last_step, level_after}
-use Rattle.flat_history.specs.Losses.{loses, is_gone_after, is_unsynced, settles, unsettles}
-use Rattle.flat_history.specs.OneShape.{is_lost, is_unsettled}
-use Rattle.flat_history.specs.Plain.{entries_of, loses_role}
-use Rattle.flat_history.specs.Reshaped.{comes_with_finish, comes_with_step, is_rebuilt}
-use Rattle.flat_history.specs.Transfers.{last_end_from}
-use Rattle.flat_history.specs.World.{World, opening_list}
-use Rattle.history_laws.proofs.OneShapeGrowing.{entries-both}
+use Rattle.moving_kept.specs.flat_history_the_Entry.{Entry}
+use Rattle.moving_kept.specs.flat_history_the_Event.{Event}
+use Rattle.moving_kept.specs.flat_history_the_Event_TheVariants.{Lost, SpareLost, Resized, Step}
+use Rattle.moving_kept.specs.flat_history_the_LostCause_TheVariants.{Fault}
+use Rattle.moving_kept.specs.flat_history_the_StepKind_TheVariants.{Finished}
+use Rattle.moving_kept.specs.flat_history_Flat.{length_of, values_after, values_of, resized}
+use Rattle.moving_kept.specs.flat_history_Legal.{is_loss, before_last_step, level_after}
+use Rattle.moving_kept.specs.flat_history_Losses.{loses, is_gone_after, is_unsynced, settles, unsettles}
+use Rattle.moving_kept.specs.flat_history_OneShape.{is_lost, is_unsettled}
+use Rattle.moving_kept.specs.flat_history_Plain.{entries_of, loses_role}
+use Rattle.moving_kept.specs.flat_history_Reshaped.{comes_with_finish, comes_with_step, is_rebuilt}
+use Rattle.moving_kept.specs.flat_history_Transfers.{last_end_from}
+use Rattle.moving_kept.specs.flat_history_World.{World, opening_list}
+use Rattle.moving_kept.proofs.history_laws_OneShapeGrowing.{entries-both}
 use Rattle.moving_kept.specs.call_entries_Losing.{losses_of}
 use Rattle.moving_kept.proofs.call_entries_CallLaws.{AreLossEvents, losses-are, length-losses}
 use Rattle.moving_kept.proofs.call_entries_PlainLaws.{last_end-call}
@@ -28,7 +28,7 @@ use Rattle.moving_kept.specs.kept_history_Told.{told_by}
 use Rattle.moving_kept.proofs.kept_history_Entered.{AreAdding, length-adding, values-adding, settle-none}
 use Rattle.moving_kept.specs.shape_changes_Steady.{IsMoreTold}
 use Rattle.moving_kept.proofs.kept_history_Tests.{or-right}
-use Rattle.flat_history.proofs.LegalLaws.{both}
+use Rattle.moving_kept.proofs.flat_history_LegalLaws.{both}
 use Rattle.moving_kept.proofs.history_calls_Behind.{IsAmong, early-losses, and-true}
 
 -- ---- the call

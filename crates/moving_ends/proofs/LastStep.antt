@@ -4,10 +4,10 @@ use Rattle.std.specs.List.{list_any}
 use Rattle.std.proofs.lemmas.List.Sums.{fold-append}
 use Rattle.md_base.specs.declared.places.Shape.{Shape}
 use Rattle.bank.specs.declared.bank.Operation.{Operation}
-use Rattle.flat_history.specs.declared.events.Entry.{Entry}
-use Rattle.flat_history.specs.Growing.{grown, EndBy}
-use Rattle.flat_history.specs.Reshaped.{is_done, is_planned, plans_after, open_plans}
-use Rattle.flat_history.specs.World.{World}
+use Rattle.moving_kept.specs.flat_history_the_Entry.{Entry}
+use Rattle.moving_kept.specs.flat_history_Growing.{grown, EndBy}
+use Rattle.moving_kept.specs.flat_history_Reshaped.{is_done, is_planned, plans_after, open_plans}
+use Rattle.moving_kept.specs.flat_history_World.{World}
 use Rattle.moving_kept.proofs.kept_history_Tests.{neither}
 use Rattle.moving_kept.proofs.history_calls_Plans.{plans-end, planned-grown, ArePlannedTo}
 

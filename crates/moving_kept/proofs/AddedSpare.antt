@@ -13,21 +13,21 @@ use Rattle.bank.specs.declared.bank.Operation.{Operation}
 use Rattle.bank.specs.Given.{Given}
 use Rattle.bank.specs.Tape.{Contents, IsIn, disk}
 use Rattle.sb1.specs.declared.sb.Sb.{Sb}
-use Rattle.superblocks.specs.declared.members.Members.{Members}
-use Rattle.superblocks.specs.Reading.{Scope, is_clean, shape_of, list_length, role_state, holder}
-use Rattle.superblocks.specs.Reads.{has_spare}
-use Rattle.superblocks.specs.Held.{IsSecondHalf}
-use Rattle.superblocks.specs.Update.{is_held_by}
-use Rattle.superblocks.proofs.ValidFields.{few-roles}
-use Rattle.row_io.specs.Rows.{reading_of, present}
-use Rattle.flat_history.specs.declared.events.Entry.{Entry}
-use Rattle.flat_history.specs.declared.events.Event.{Event}
-use Rattle.flat_history.specs.declared.events.Event.TheVariants.{Added, Refused}
-use Rattle.flat_history.specs.Flat.{now}
-use Rattle.flat_history.specs.Legal.{level_at, IsLegalEvent, IsRefusedRight}
-use Rattle.flat_history.specs.Plain.{entries_of}
-use Rattle.flat_history.specs.Sound.{OpensFit}
-use Rattle.flat_history.specs.World.{World, opening_list}
+use Rattle.course_mends.specs.superblocks_the_Members.{Members}
+use Rattle.course_mends.specs.superblocks_Reading.{Scope, is_clean, shape_of, list_length, role_state, holder}
+use Rattle.course_mends.specs.superblocks_Reads.{has_spare}
+use Rattle.course_mends.specs.superblocks_Held.{IsSecondHalf}
+use Rattle.course_mends.specs.superblocks_Update.{is_held_by}
+use Rattle.course_mends.proofs.superblocks_ValidFields.{few-roles}
+use Rattle.course_mends.specs.row_io_Rows.{reading_of, present}
+use Rattle.course_mends.specs.flat_history_the_Entry.{Entry}
+use Rattle.course_mends.specs.flat_history_the_Event.{Event}
+use Rattle.course_mends.specs.flat_history_the_Event_TheVariants.{Added, Refused}
+use Rattle.course_mends.specs.flat_history_Flat.{now}
+use Rattle.course_mends.specs.flat_history_Legal.{level_at, IsLegalEvent, IsRefusedRight}
+use Rattle.course_mends.specs.flat_history_Plain.{entries_of}
+use Rattle.course_mends.specs.flat_history_Sound.{OpensFit}
+use Rattle.course_mends.specs.flat_history_World.{World, opening_list}
 use Rattle.course_mends.specs.shape_views_Regions.{backup_of, ArePlaced, DoWithout}
 use Rattle.course_mends.specs.shape_views_Views.{Disk, Ledger}
 use Rattle.course_mends.specs.shape_views_Windows.{AreFewer}
@@ -60,8 +60,8 @@ use Rattle.array_kept.specs.Calls.{IsUnaddable}
 use Rattle.history_calls.specs.kept_history_Recorded.{IsCallGoing, entry_of}
 use Rattle.history_calls.specs.kept_history_Safe.{world_in, OpensOnCourse}
 use Rattle.course_mends.specs.course_kept_the_Course.{Course}
-use Rattle.grow_asked.specs.declared.window.Window.{Window}
-use Rattle.grow_asked.specs.declared.window.Window.TheVariants.{Closed, Entered, Unsure}
+use Rattle.course_mends.specs.grow_asked_the_Window.{Window}
+use Rattle.course_mends.specs.grow_asked_the_Window_TheVariants.{Closed, Entered, Unsure}
 use Rattle.course_mends.specs.course_kept_Course.{IsStored, IsSectionKept, IsBackupKept}
 use Rattle.course_mends.proofs.course_kept_Courses.{stored-moves}
 use Rattle.course_mends.proofs.course_kept_Spares.{spares-without, spares-stored, differ-with}

@@ -6,17 +6,17 @@ use Rattle.md_base.specs.declared.answers.Who.{Who}
 use Rattle.bank.specs.declared.bank.Operation.{Operation}
 use Rattle.bank.specs.Given.{Given}
 use Rattle.bank.specs.Tape.{IsIn, disk}
-use Rattle.superblocks.specs.declared.members.Members.{Members}
-use Rattle.superblocks.specs.Reading.{Scope, is_clean, shape_of, list_length, role_count}
-use Rattle.row_io.specs.Rows.{present, reading_of, is_missing}
-use Rattle.flat_history.specs.declared.events.Entry.{Entry}
-use Rattle.flat_history.specs.declared.events.Event.{Event}
-use Rattle.flat_history.specs.Flat.{now, values_of}
-use Rattle.flat_history.specs.Legal.{told_left, level_at, IsLegalEvent}
-use Rattle.flat_history.specs.Losses.{unsettles, loses, is_gone_after, is_unsynced}
-use Rattle.flat_history.specs.Plain.{entries_of}
-use Rattle.flat_history.specs.Sound.{OpensFit}
-use Rattle.flat_history.specs.World.{opening_list, World}
+use Rattle.course_mends.specs.superblocks_the_Members.{Members}
+use Rattle.course_mends.specs.superblocks_Reading.{Scope, is_clean, shape_of, list_length, role_count}
+use Rattle.course_mends.specs.row_io_Rows.{present, reading_of, is_missing}
+use Rattle.course_mends.specs.flat_history_the_Entry.{Entry}
+use Rattle.course_mends.specs.flat_history_the_Event.{Event}
+use Rattle.course_mends.specs.flat_history_Flat.{now, values_of}
+use Rattle.course_mends.specs.flat_history_Legal.{told_left, level_at, IsLegalEvent}
+use Rattle.course_mends.specs.flat_history_Losses.{unsettles, loses, is_gone_after, is_unsynced}
+use Rattle.course_mends.specs.flat_history_Plain.{entries_of}
+use Rattle.course_mends.specs.flat_history_Sound.{OpensFit}
+use Rattle.course_mends.specs.flat_history_World.{opening_list, World}
 use Rattle.course_mends.specs.shape_views_Views.{Ledger}
 use Rattle.course_mends.specs.shape_changes_Safety.{HasLiveSlot, HasRoomLeft, IsRisen}
 use Rattle.course_mends.specs.shape_changes_Steady.{IsMoreTold, IsSafeOver, KeepsSafe, AreGoneTold, IsUncleanTold}
@@ -37,7 +37,7 @@ use Rattle.moving_kept.proofs.Pending.{HasResync, pending-on}
 use Rattle.moving_kept.proofs.Quiet.{listed-later, safe-now, course-earlier}
 use Rattle.std.specs.List.{list_any}
 use Rattle.md_base.specs.Sectors.{Sector}
-use Rattle.flat_history.specs.OneShape.{is_unsettled}
+use Rattle.course_mends.specs.flat_history_OneShape.{is_unsettled}
 use Rattle.course_mends.specs.views_Placed.{AreWhole}
 use Rattle.history_calls.proofs.call_entries_CallLaws.{losses-are}
 use Rattle.history_calls.proofs.kept_history_Growing.{fit-grown}

@@ -5,11 +5,11 @@ use Rattle.md_base.specs.declared.places.Shape.{Shape}
 use Rattle.md_base.specs.Sectors.{Sector}
 use Rattle.bank.specs.Given.{Given}
 use Rattle.bank.specs.Tape.{IsIn}
-use Rattle.superblocks.specs.declared.members.Members.{Members}
-use Rattle.superblocks.specs.Outcome.{is_in_update, AreGivesOfLive}
-use Rattle.superblocks.specs.Reading.{Scope}
-use Rattle.superblocks.specs.Reads.{has_spare}
-use Rattle.superblocks.specs.Update.{is_held_by, is_live, is_added}
+use Rattle.course_mends.specs.superblocks_the_Members.{Members}
+use Rattle.course_mends.specs.superblocks_Outcome.{is_in_update, AreGivesOfLive}
+use Rattle.course_mends.specs.superblocks_Reading.{Scope}
+use Rattle.course_mends.specs.superblocks_Reads.{has_spare}
+use Rattle.course_mends.specs.superblocks_Update.{is_held_by, is_live, is_added}
 use Rattle.course_mends.specs.shape_views_Regions.{backup_of, ArePlaced}
 use Rattle.course_mends.specs.shape_views_Views.{Disk}
 use Rattle.course_mends.proofs.shape_views_Headers.{backup-is}
@@ -20,8 +20,8 @@ use Rattle.course_mends.specs.views_Moving.{IsMoved}
 use Rattle.course_mends.specs.safe_updates_Unused.{IsUnused, IsUnusedKept}
 use Rattle.course_mends.specs.reshape_updates_Beginning.{beginning}
 use Rattle.course_mends.specs.reshape_ends_Begun.{begun_plan, IsBackupOf}
-use Rattle.grow_asked.specs.declared.window.Window.{Window}
-use Rattle.grow_asked.specs.declared.window.Window.TheVariants.{Closed, Entered, Unsure}
+use Rattle.course_mends.specs.grow_asked_the_Window.{Window}
+use Rattle.course_mends.specs.grow_asked_the_Window_TheVariants.{Closed, Entered, Unsure}
 use Rattle.course_mends.specs.course_kept_Course.{IsSectionKept, IsBackupKept, IsStored}
 use Rattle.course_mends.proofs.course_kept_Courses.{stored-moves}
 use Rattle.moving_kept.specs.Moving.{AreReshaping}

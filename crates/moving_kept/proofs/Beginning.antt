@@ -11,22 +11,22 @@ use Rattle.md_base.specs.declared.places.Shape.{Shape}
 use Rattle.bank.specs.declared.bank.Operation.{Operation}
 use Rattle.bank.specs.Given.{Given, sizes}
 use Rattle.bank.specs.Tape.{IsIn, disk}
-use Rattle.superblocks.specs.declared.members.Members.{Members}
-use Rattle.superblocks.specs.Reading.{Scope, Reading, shape_of, list_length, role_count}
-use Rattle.row_io.specs.Rows.{reading_of, is_missing}
-use Rattle.flat_history.specs.declared.events.Entry.{Entry}
-use Rattle.flat_history.specs.declared.events.Event.{Event}
-use Rattle.flat_history.specs.declared.events.Event.TheVariants.{Step}
-use Rattle.flat_history.specs.declared.events.StepKind.TheVariants.{Begun}
-use Rattle.flat_history.specs.Epochs.{HasRoomForEvents, OpensAlike}
-use Rattle.flat_history.specs.Flat.{length_of, values_of, values_after, now}
-use Rattle.flat_history.specs.Growing.{EndBy}
-use Rattle.flat_history.specs.Legal.{told_left, level_at, level_after, call_before, disturbs}
-use Rattle.flat_history.specs.Losses.{is_gone_after, is_unsynced, unsettles, loses}
-use Rattle.flat_history.specs.OneShape.{is_lost, is_unsettled}
-use Rattle.flat_history.specs.Plain.{entries_of}
-use Rattle.flat_history.specs.Sound.{OpensFit}
-use Rattle.flat_history.specs.World.{World, contents_at, reading_at, opening_list}
+use Rattle.course_mends.specs.superblocks_the_Members.{Members}
+use Rattle.course_mends.specs.superblocks_Reading.{Scope, Reading, shape_of, list_length, role_count}
+use Rattle.course_mends.specs.row_io_Rows.{reading_of, is_missing}
+use Rattle.course_mends.specs.flat_history_the_Entry.{Entry}
+use Rattle.course_mends.specs.flat_history_the_Event.{Event}
+use Rattle.course_mends.specs.flat_history_the_Event_TheVariants.{Step}
+use Rattle.course_mends.specs.flat_history_the_StepKind_TheVariants.{Begun}
+use Rattle.course_mends.specs.flat_history_Epochs.{HasRoomForEvents, OpensAlike}
+use Rattle.course_mends.specs.flat_history_Flat.{length_of, values_of, values_after, now}
+use Rattle.course_mends.specs.flat_history_Growing.{EndBy}
+use Rattle.course_mends.specs.flat_history_Legal.{told_left, level_at, level_after, call_before, disturbs}
+use Rattle.course_mends.specs.flat_history_Losses.{is_gone_after, is_unsynced, unsettles, loses}
+use Rattle.course_mends.specs.flat_history_OneShape.{is_lost, is_unsettled}
+use Rattle.course_mends.specs.flat_history_Plain.{entries_of}
+use Rattle.course_mends.specs.flat_history_Sound.{OpensFit}
+use Rattle.course_mends.specs.flat_history_World.{World, contents_at, reading_at, opening_list}
 use Rattle.course_mends.specs.shape_views_Views.{Ledger}
 use Rattle.course_mends.specs.shape_changes_Changing.{IsSafeChange}
 use Rattle.course_mends.specs.shape_changes_Safety.{HasLiveSlot, HasRoomLeft, IsRisen}

@@ -10,19 +10,19 @@ use Rattle.md_base.specs.declared.places.Shape.{Shape}
 use Rattle.bank.specs.declared.bank.Operation.{Operation}
 use Rattle.bank.specs.Given.{Given}
 use Rattle.bank.specs.Tape.{disk}
-use Rattle.superblocks.specs.declared.members.Members.{Members}
-use Rattle.superblocks.specs.Reading.{Scope, is_clean, shape_of, list_length}
-use Rattle.row_io.specs.Rows.{reading_of, present, is_missing}
-use Rattle.flat_history.specs.declared.events.Entry.{Entry}
-use Rattle.flat_history.specs.declared.events.Event.{Event}
-use Rattle.flat_history.specs.declared.events.Event.TheVariants.{Step}
-use Rattle.flat_history.specs.declared.events.StepKind.TheVariants.{Begun}
-use Rattle.flat_history.specs.Flat.{now, values_after}
-use Rattle.flat_history.specs.Legal.{told_left, left_after}
-use Rattle.flat_history.specs.Losses.{is_unsynced}
-use Rattle.flat_history.specs.Plain.{entries_of}
-use Rattle.flat_history.specs.Sound.{OpensFit}
-use Rattle.flat_history.specs.World.{World, opening_list}
+use Rattle.course_mends.specs.superblocks_the_Members.{Members}
+use Rattle.course_mends.specs.superblocks_Reading.{Scope, is_clean, shape_of, list_length}
+use Rattle.course_mends.specs.row_io_Rows.{reading_of, present, is_missing}
+use Rattle.course_mends.specs.flat_history_the_Entry.{Entry}
+use Rattle.course_mends.specs.flat_history_the_Event.{Event}
+use Rattle.course_mends.specs.flat_history_the_Event_TheVariants.{Step}
+use Rattle.course_mends.specs.flat_history_the_StepKind_TheVariants.{Begun}
+use Rattle.course_mends.specs.flat_history_Flat.{now, values_after}
+use Rattle.course_mends.specs.flat_history_Legal.{told_left, left_after}
+use Rattle.course_mends.specs.flat_history_Losses.{is_unsynced}
+use Rattle.course_mends.specs.flat_history_Plain.{entries_of}
+use Rattle.course_mends.specs.flat_history_Sound.{OpensFit}
+use Rattle.course_mends.specs.flat_history_World.{World, opening_list}
 use Rattle.course_mends.specs.shape_views_Regions.{ArePlaced, DoWithout}
 use Rattle.course_mends.proofs.shape_views_Stands.{final-still}
 use Rattle.course_mends.specs.shape_ends_Ends.{IsBegun, IsCleared}

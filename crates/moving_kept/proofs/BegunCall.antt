@@ -8,15 +8,15 @@ use Rattle.bank.specs.Given.{Given}
 use Rattle.bank.specs.Tape.{contents, disk}
 use Rattle.sb1.specs.declared.sb.Sb.{Sb}
 use Rattle.geometry.specs.Geometry.{AreInForce}
-use Rattle.superblocks.specs.declared.members.Members.{Members}
-use Rattle.superblocks.specs.Held.{AreDrawn}
-use Rattle.superblocks.specs.Reading.{Scope, is_reshaping, shape_of, list_length, role_count}
-use Rattle.superblocks.proofs.ValidFields.{few-roles}
-use Rattle.row_io.specs.Rows.{reading_of, is_missing}
-use Rattle.flat_history.specs.declared.events.Entry.{Entry}
-use Rattle.flat_history.specs.Epochs.{HasRoomForEvents}
-use Rattle.flat_history.specs.Sound.{OpensFit}
-use Rattle.flat_history.specs.World.{World, contents_at}
+use Rattle.course_mends.specs.superblocks_the_Members.{Members}
+use Rattle.course_mends.specs.superblocks_Held.{AreDrawn}
+use Rattle.course_mends.specs.superblocks_Reading.{Scope, is_reshaping, shape_of, list_length, role_count}
+use Rattle.course_mends.proofs.superblocks_ValidFields.{few-roles}
+use Rattle.course_mends.specs.row_io_Rows.{reading_of, is_missing}
+use Rattle.course_mends.specs.flat_history_the_Entry.{Entry}
+use Rattle.course_mends.specs.flat_history_Epochs.{HasRoomForEvents}
+use Rattle.course_mends.specs.flat_history_Sound.{OpensFit}
+use Rattle.course_mends.specs.flat_history_World.{World, contents_at}
 use Rattle.course_mends.specs.shape_views_Regions.{ArePlaced}
 use Rattle.course_mends.specs.shape_views_Views.{Ledger}
 use Rattle.course_mends.proofs.shape_views_Stands.{final-still}

@@ -13,18 +13,18 @@ use Rattle.md_base.proofs.Tabulated.{length-tabulate, get_or-tabulate}
 use Rattle.bank.specs.declared.bank.Operation.{Operation}
 use Rattle.bank.specs.Given.{Given}
 use Rattle.bank.specs.Tape.{disk}
-use Rattle.superblocks.specs.declared.change.Give.{Give}
-use Rattle.superblocks.specs.declared.members.Members.{Members}
-use Rattle.superblocks.specs.Outcome.{is_planned_holder, held_state, planned_state}
-use Rattle.superblocks.specs.Reading.{Scope, shape_of, role_count, role_state, holder, data_offset_of}
-use Rattle.superblocks.specs.Update.{give_of}
-use Rattle.row_io.specs.Rows.{reading_of, present}
-use Rattle.flat_history.specs.declared.events.Entry.{Entry}
-use Rattle.flat_history.specs.declared.events.Event.TheVariants.{Step}
-use Rattle.flat_history.specs.declared.events.StepKind.TheVariants.{Begun}
-use Rattle.flat_history.specs.Legal.{told_left}
-use Rattle.flat_history.specs.Losses.{is_unsynced}
-use Rattle.flat_history.specs.Plain.{entries_of}
+use Rattle.course_mends.specs.superblocks_the_Give.{Give}
+use Rattle.course_mends.specs.superblocks_the_Members.{Members}
+use Rattle.course_mends.specs.superblocks_Outcome.{is_planned_holder, held_state, planned_state}
+use Rattle.course_mends.specs.superblocks_Reading.{Scope, shape_of, role_count, role_state, holder, data_offset_of}
+use Rattle.course_mends.specs.superblocks_Update.{give_of}
+use Rattle.course_mends.specs.row_io_Rows.{reading_of, present}
+use Rattle.course_mends.specs.flat_history_the_Entry.{Entry}
+use Rattle.course_mends.specs.flat_history_the_Event_TheVariants.{Step}
+use Rattle.course_mends.specs.flat_history_the_StepKind_TheVariants.{Begun}
+use Rattle.course_mends.specs.flat_history_Legal.{told_left}
+use Rattle.course_mends.specs.flat_history_Losses.{is_unsynced}
+use Rattle.course_mends.specs.flat_history_Plain.{entries_of}
 use Rattle.course_mends.specs.shape_views_Regions.{backup_of, ArePlaced}
 use Rattle.course_mends.specs.shape_ends_Ends.{IsCleared}
 use Rattle.course_mends.specs.shape_ends_Plans.{HasNoneRecovering}

@@ -10,9 +10,9 @@ use Rattle.backup.specs.Written.{cleared_header}
 use Rattle.backup.specs.Storing.{IsHeading}
 use Rattle.backup.proofs.StoringLaws.{heading-along}
 use Rattle.geometry.specs.Geometry.{AreInForce}
-use Rattle.superblocks.specs.declared.members.Members.{Members}
-use Rattle.superblocks.specs.Held.{AreDrawn}
-use Rattle.superblocks.specs.Reading.{Scope, is_reshaping, shape_of}
+use Rattle.course_mends.specs.superblocks_the_Members.{Members}
+use Rattle.course_mends.specs.superblocks_Held.{AreDrawn}
+use Rattle.course_mends.specs.superblocks_Reading.{Scope, is_reshaping, shape_of}
 use Rattle.course_mends.specs.shape_views_Views.{Ledger}
 use Rattle.course_mends.specs.shape_changes_Safety.{HasLiveSlot, HasRoomLeft}
 use Rattle.course_mends.specs.shape_changes_Steady.{IsSteady, IsSafeNow}
@@ -22,7 +22,7 @@ use Rattle.course_mends.specs.reshape_updates_Beginning.{beginning}
 use Rattle.course_mends.proofs.reshape_updates_BegunPlan.{is-beginning, planned-begun-is, planned-fits-is}
 use Rattle.course_mends.specs.reshape_ends_Begun.{IsBegunBehind}
 use Rattle.course_mends.proofs.reshape_ends_Cleared.{marks-of, steady-then, room-longer}
-use Rattle.superblocks.specs.Updating.{planned_newest}
+use Rattle.course_mends.specs.superblocks_Updating.{planned_newest}
 use Rattle.moving_kept.proofs.ReadShapes.{IsShapeRead, IsEitherRead, same-shape, either-read_since}
 
 module _ (tells : Type 0) (sound : Type 0) (scope : Scope) (given : Given) (told : Ledger) (backup : ℕ) (uuid : List ℕ) (to : Shape) (old new : Members) (before after : List Operation)

@@ -18,18 +18,18 @@ use Rattle.geometry.specs.Geometry as geometry
 use Rattle.geometry.proofs.Rows.{rows_hold}
 use Rattle.region_laws.specs.Regions.{IsDirected}
 use Rattle.sb1.specs.declared.sb.Sb.{Sb}
-use Rattle.superblocks.specs.declared.members.Members.{Members}
-use Rattle.superblocks.specs.Reading.{Scope, is_backward, is_reshaping, shape_of, final_shape, list_length, next_window}
-use Rattle.row_io.specs.Rows.{reading_of, present}
-use Rattle.list_io.specs.Full.{RowStands}
-use Rattle.list_io.proofs.FullLaws.{full-same}
-use Rattle.flat_history.specs.declared.events.Entry.{Entry}
-use Rattle.flat_history.specs.declared.events.Event.TheVariants.{Step}
-use Rattle.flat_history.specs.declared.events.StepKind.TheVariants.{WindowFinished as FinishesWindow}
-use Rattle.flat_history.specs.Flat.{now}
-use Rattle.flat_history.specs.Plain.{entries_of}
-use Rattle.flat_history.specs.Stands.{covers, shape_for}
-use Rattle.flat_history.specs.World.{opening_list}
+use Rattle.course_mends.specs.superblocks_the_Members.{Members}
+use Rattle.course_mends.specs.superblocks_Reading.{Scope, is_backward, is_reshaping, shape_of, final_shape, list_length, next_window}
+use Rattle.course_mends.specs.row_io_Rows.{reading_of, present}
+use Rattle.course_mends.specs.list_io_Full.{RowStands}
+use Rattle.course_mends.proofs.list_io_FullLaws.{full-same}
+use Rattle.course_mends.specs.flat_history_the_Entry.{Entry}
+use Rattle.course_mends.specs.flat_history_the_Event_TheVariants.{Step}
+use Rattle.course_mends.specs.flat_history_the_StepKind_TheVariants.{WindowFinished as FinishesWindow}
+use Rattle.course_mends.specs.flat_history_Flat.{now}
+use Rattle.course_mends.specs.flat_history_Plain.{entries_of}
+use Rattle.course_mends.specs.flat_history_Stands.{covers, shape_for}
+use Rattle.course_mends.specs.flat_history_World.{opening_list}
 use Rattle.course_mends.specs.shape_views_Regions.{AreShapesFit, DoWithout, place_by}
 use Rattle.course_mends.specs.shape_views_Windows.{moved_past}
 use Rattle.course_mends.proofs.shape_views_Alike.{row-below}

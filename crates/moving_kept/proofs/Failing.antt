@@ -6,15 +6,15 @@ use Rattle.md_base.specs.declared.places.Shape.{Shape}
 use Rattle.bank.specs.declared.bank.Operation.{Operation}
 use Rattle.bank.specs.Given.{Given}
 use Rattle.bank.specs.Tape.{disk}
-use Rattle.superblocks.specs.declared.members.Members.{Members}
-use Rattle.superblocks.specs.Reading.{Scope, is_clean, list_length, role_count}
-use Rattle.row_io.specs.Rows.{reading_of, present, is_missing}
-use Rattle.flat_history.specs.declared.events.Entry.{Entry}
-use Rattle.flat_history.specs.declared.events.Event.TheVariants.{Lost, Failed}
-use Rattle.flat_history.specs.declared.events.LostCause.TheVariants.{Command}
-use Rattle.flat_history.specs.Plain.{entries_of}
-use Rattle.flat_history.specs.Sound.{OpensFit}
-use Rattle.flat_history.specs.World.{World}
+use Rattle.course_mends.specs.superblocks_the_Members.{Members}
+use Rattle.course_mends.specs.superblocks_Reading.{Scope, is_clean, list_length, role_count}
+use Rattle.course_mends.specs.row_io_Rows.{reading_of, present, is_missing}
+use Rattle.course_mends.specs.flat_history_the_Entry.{Entry}
+use Rattle.course_mends.specs.flat_history_the_Event_TheVariants.{Lost, Failed}
+use Rattle.course_mends.specs.flat_history_the_LostCause_TheVariants.{Command}
+use Rattle.course_mends.specs.flat_history_Plain.{entries_of}
+use Rattle.course_mends.specs.flat_history_Sound.{OpensFit}
+use Rattle.course_mends.specs.flat_history_World.{World}
 use Rattle.course_mends.specs.shape_views_Views.{Ledger}
 use Rattle.course_mends.specs.shape_changes_Marking.{AreOthersPresent}
 use Rattle.course_mends.specs.shape_changes_Safety.{HasLiveSlot, HasRoomLeft, IsRisen}

@@ -10,16 +10,16 @@ use Rattle.bank.specs.declared.bank.Operation.{Operation}
 use Rattle.bank.specs.Given.{Given}
 use Rattle.bank.specs.Tape.{IsIn, disk}
 use Rattle.geometry.specs.Geometry.{stripes}
-use Rattle.superblocks.specs.declared.members.Members.{Members}
-use Rattle.superblocks.specs.Reading.{Scope, is_clean, final_shape, list_length, role_count}
-use Rattle.row_io.specs.Rows.{reading_of, present}
-use Rattle.flat_history.specs.declared.events.Entry.{Entry}
-use Rattle.flat_history.specs.declared.events.Event.TheVariants.{Refused, Step}
-use Rattle.flat_history.specs.declared.events.StepKind.TheVariants.{WindowFinished as FinishesWindow}
-use Rattle.flat_history.specs.Flat.{now, length_of, values_of}
-use Rattle.flat_history.specs.Plain.{entries_of}
-use Rattle.flat_history.specs.Sound.{OpensFit}
-use Rattle.flat_history.specs.World.{World, opening_list}
+use Rattle.course_mends.specs.superblocks_the_Members.{Members}
+use Rattle.course_mends.specs.superblocks_Reading.{Scope, is_clean, final_shape, list_length, role_count}
+use Rattle.course_mends.specs.row_io_Rows.{reading_of, present}
+use Rattle.course_mends.specs.flat_history_the_Entry.{Entry}
+use Rattle.course_mends.specs.flat_history_the_Event_TheVariants.{Refused, Step}
+use Rattle.course_mends.specs.flat_history_the_StepKind_TheVariants.{WindowFinished as FinishesWindow}
+use Rattle.course_mends.specs.flat_history_Flat.{now, length_of, values_of}
+use Rattle.course_mends.specs.flat_history_Plain.{entries_of}
+use Rattle.course_mends.specs.flat_history_Sound.{OpensFit}
+use Rattle.course_mends.specs.flat_history_World.{World, opening_list}
 use Rattle.course_mends.specs.shape_views_Regions.{DoWithout}
 use Rattle.course_mends.specs.shape_views_Views.{AreHeadersFit, Ledger}
 use Rattle.course_mends.specs.shape_views_Windows.{HasNoSection, moved_past}

@@ -9,18 +9,18 @@ use Rattle.md_base.specs.Shapes.{tolerance_of}
 use Rattle.bank.specs.declared.bank.Operation.{Operation}
 use Rattle.bank.specs.Given.{Given}
 use Rattle.bank.specs.Tape.{Contents, IsIn, disk}
-use Rattle.superblocks.specs.declared.members.Members.{Members}
-use Rattle.superblocks.specs.Reading.{Scope, is_clean, shape_of, list_length, role_count}
-use Rattle.row_io.specs.Rows.{present}
-use Rattle.flat_history.specs.declared.events.Entry.{Entry}
-use Rattle.flat_history.specs.declared.events.Event.{Event}
-use Rattle.flat_history.specs.declared.events.Event.TheVariants.{Refused}
-use Rattle.flat_history.specs.Flat.{now, values_of}
-use Rattle.flat_history.specs.Legal.{is_loss, told_left, IsLegalEvent}
-use Rattle.flat_history.specs.Losses.{is_unsynced, is_resync_end, unsettles}
-use Rattle.flat_history.specs.Plain.{entries_of}
-use Rattle.flat_history.specs.Sound.{OpensFit}
-use Rattle.flat_history.specs.World.{World, opening_list}
+use Rattle.course_mends.specs.superblocks_the_Members.{Members}
+use Rattle.course_mends.specs.superblocks_Reading.{Scope, is_clean, shape_of, list_length, role_count}
+use Rattle.course_mends.specs.row_io_Rows.{present}
+use Rattle.course_mends.specs.flat_history_the_Entry.{Entry}
+use Rattle.course_mends.specs.flat_history_the_Event.{Event}
+use Rattle.course_mends.specs.flat_history_the_Event_TheVariants.{Refused}
+use Rattle.course_mends.specs.flat_history_Flat.{now, values_of}
+use Rattle.course_mends.specs.flat_history_Legal.{is_loss, told_left, IsLegalEvent}
+use Rattle.course_mends.specs.flat_history_Losses.{is_unsynced, is_resync_end, unsettles}
+use Rattle.course_mends.specs.flat_history_Plain.{entries_of}
+use Rattle.course_mends.specs.flat_history_Sound.{OpensFit}
+use Rattle.course_mends.specs.flat_history_World.{World, opening_list}
 use Rattle.course_mends.specs.shape_views_Regions.{DoWithout}
 use Rattle.course_mends.specs.shape_views_Views.{Ledger}
 use Rattle.course_mends.specs.shape_changes_Marking.{AreOthersPresent}

@@ -3,12 +3,12 @@ use Rattle.std.proofs.Common.{ℕ, List, [], ◌∷◌, ◌++◌, refl}
 use Rattle.std.specs.List.{All}
 use Rattle.std.proofs.lemmas.List.Elements.{All-nil, All-cons}
 use Rattle.md_base.specs.declared.answers.Who.{Who}
-use Rattle.flat_history.specs.declared.events.Entry.{Entry}
-use Rattle.flat_history.specs.declared.events.Event.{Event}
-use Rattle.flat_history.specs.declared.events.Event.TheVariants.{Lost, SpareLost}
-use Rattle.flat_history.specs.declared.events.LostCause.TheVariants.{Fault}
-use Rattle.flat_history.specs.OneShape.{IsOfCall}
-use Rattle.flat_history.specs.Plain.{entries_of}
+use Rattle.course_mends.specs.flat_history_the_Entry.{Entry}
+use Rattle.course_mends.specs.flat_history_the_Event.{Event}
+use Rattle.course_mends.specs.flat_history_the_Event_TheVariants.{Lost, SpareLost}
+use Rattle.course_mends.specs.flat_history_the_LostCause_TheVariants.{Fault}
+use Rattle.course_mends.specs.flat_history_OneShape.{IsOfCall}
+use Rattle.course_mends.specs.flat_history_Plain.{entries_of}
 use Rattle.history_calls.specs.call_entries_Losing.{losses_of}
 use Rattle.history_calls.proofs.call_entries_CallLaws.{AreLossEvents, losses-are}
 use Rattle.history_calls.specs.kept_history_Recorded.{IsCallGoing, MayGoOn, entry_of}

@@ -3,11 +3,11 @@ use Rattle.std.proofs.Common.{◌≡◌, ◌||◌, false, not, cond, Some, None,
 use Rattle.std.specs.Prelude.{min}
 use Rattle.md_base.specs.declared.places.Span.{Span}
 use Rattle.bank.specs.Given.{Given}
-use Rattle.superblocks.specs.declared.members.Members.{Members}
-use Rattle.superblocks.specs.Reading.{Scope, shape_of, next_window, holder}
+use Rattle.course_mends.specs.superblocks_the_Members.{Members}
+use Rattle.course_mends.specs.superblocks_Reading.{Scope, shape_of, next_window, holder}
 use Rattle.md_base.specs.declared.answers.Refusal.TheVariants.{BackupAbsent}
 use Rattle.geometry.specs.Geometry.{unit}
-use Rattle.flat_history.specs.Stands.{backup_absent, has_room}
+use Rattle.course_mends.specs.flat_history_Stands.{backup_absent, has_room}
 use Rattle.course_mends.specs.shape_views_Regions.{backup_of, ArePlaced}
 use Rattle.course_mends.specs.shape_views_Windows.{moved_past}
 use Rattle.course_mends.proofs.shape_views_Stands.{moved-is-placed}

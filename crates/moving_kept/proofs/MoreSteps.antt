@@ -9,17 +9,17 @@ use Rattle.bank.specs.declared.bank.Operation.{Operation}
 use Rattle.bank.specs.Given.{Given}
 use Rattle.bank.specs.Tape.{IsIn, disk}
 use Rattle.geometry.specs.Geometry.{stripes, zeroed_stripes}
-use Rattle.superblocks.specs.declared.members.Members.{Members}
-use Rattle.superblocks.specs.Reading.{Scope, is_clean, is_backward, shape_of, final_shape, list_length, role_count}
-use Rattle.row_io.specs.Rows.{reading_of, present}
-use Rattle.list_io.specs.Full.{RowStands}
-use Rattle.flat_history.specs.declared.events.Entry.{Entry}
-use Rattle.flat_history.specs.declared.events.Event.TheVariants.{Step}
-use Rattle.flat_history.specs.declared.events.StepKind.TheVariants.{Checkpointed as RecordsWindow, Zeroed as ZeroesStripe}
-use Rattle.flat_history.specs.Flat.{now, length_of, values_of}
-use Rattle.flat_history.specs.Plain.{entries_of}
-use Rattle.flat_history.specs.Sound.{OpensFit}
-use Rattle.flat_history.specs.World.{World, opening_list}
+use Rattle.course_mends.specs.superblocks_the_Members.{Members}
+use Rattle.course_mends.specs.superblocks_Reading.{Scope, is_clean, is_backward, shape_of, final_shape, list_length, role_count}
+use Rattle.course_mends.specs.row_io_Rows.{reading_of, present}
+use Rattle.course_mends.specs.list_io_Full.{RowStands}
+use Rattle.course_mends.specs.flat_history_the_Entry.{Entry}
+use Rattle.course_mends.specs.flat_history_the_Event_TheVariants.{Step}
+use Rattle.course_mends.specs.flat_history_the_StepKind_TheVariants.{Checkpointed as RecordsWindow, Zeroed as ZeroesStripe}
+use Rattle.course_mends.specs.flat_history_Flat.{now, length_of, values_of}
+use Rattle.course_mends.specs.flat_history_Plain.{entries_of}
+use Rattle.course_mends.specs.flat_history_Sound.{OpensFit}
+use Rattle.course_mends.specs.flat_history_World.{World, opening_list}
 use Rattle.course_mends.specs.shape_views_Regions.{DoWithout}
 use Rattle.course_mends.specs.shape_views_Views.{AreHeadersFit, Ledger}
 use Rattle.course_mends.specs.shape_views_Windows.{HasNoSection, moved_past}
@@ -41,7 +41,7 @@ use Rattle.history_calls.specs.kept_history_Recorded.{IsCallGoing, entry_of}
 use Rattle.history_calls.specs.kept_history_Safe.{world_in, IsFilledRight}
 use Rattle.history_calls.specs.kept_history_Told.{told_now}
 use Rattle.history_calls.proofs.kept_history_Lists.{newest-in}
-use Rattle.grow_asked.specs.declared.window.Window.TheVariants.{Closed}
+use Rattle.course_mends.specs.grow_asked_the_Window_TheVariants.{Closed}
 use Rattle.course_mends.specs.course_kept_Course.{AnyShape, IsCourseOf, past_stripe}
 use Rattle.course_mends.specs.course_kept_Laws.{closed, entered, IsWindowCopied}
 use Rattle.course_mends.proofs.course_kept_Courses.{zeroes-go-on, windows-copied}

@@ -8,9 +8,9 @@ use Rattle.md_base.specs.declared.status.Role.{Role}
 use Rattle.md_base.specs.declared.status.Role.TheVariants.{Whole, Recovering, Missing}
 use Rattle.bank.specs.Given.{Given}
 use Rattle.layout.proofs.Limits.{limited}
-use Rattle.superblocks.specs.declared.members.Members.{Members}
-use Rattle.superblocks.specs.Reading.{is_whole, role_state, holder}
-use Rattle.row_io.specs.Rows.{reading_of, is_missing}
+use Rattle.course_mends.specs.superblocks_the_Members.{Members}
+use Rattle.course_mends.specs.superblocks_Reading.{is_whole, role_state, holder}
+use Rattle.course_mends.specs.row_io_Rows.{reading_of, is_missing}
 use Rattle.course_mends.specs.shape_changes_Safety.{HasLiveSlot}
 use Rattle.course_mends.specs.shape_changes_Steady.{AreUnlost}
 use Rattle.course_mends.specs.views_Placed.{IsPlaced, IsInForce}

@@ -6,11 +6,11 @@ use Rattle.md_base.specs.declared.places.Shape.{Shape}
 use Rattle.bank.specs.declared.bank.Operation.{Operation}
 use Rattle.bank.specs.Given.{Given}
 use Rattle.bank.specs.Tape.{Contents}
-use Rattle.superblocks.specs.declared.members.Members.{Members}
-use Rattle.superblocks.specs.Reading.{Scope, is_clean}
-use Rattle.flat_history.specs.declared.events.Entry.{Entry}
-use Rattle.flat_history.specs.Losses.{is_unsynced}
-use Rattle.flat_history.specs.Stands.{shape_for}
+use Rattle.course_mends.specs.superblocks_the_Members.{Members}
+use Rattle.course_mends.specs.superblocks_Reading.{Scope, is_clean}
+use Rattle.course_mends.specs.flat_history_the_Entry.{Entry}
+use Rattle.course_mends.specs.flat_history_Losses.{is_unsynced}
+use Rattle.course_mends.specs.flat_history_Stands.{shape_for}
 use Rattle.course_mends.specs.shape_views_Regions.{AreShapesFit, DoWithout}
 use Rattle.course_mends.specs.views_Moving.{IsMoved}
 use Rattle.course_mends.specs.views_Lacking.{DoesWithout}

@@ -7,14 +7,14 @@ use Rattle.bank.specs.declared.bank.Operation.{Operation}
 use Rattle.bank.specs.Given.{Given}
 use Rattle.bank.specs.Tape.{Contents, disk}
 use Rattle.sb1.specs.declared.sb.Sb.{Sb}
-use Rattle.superblocks.specs.declared.change.Change.{Change}
-use Rattle.superblocks.specs.declared.members.Members.{Members}
-use Rattle.superblocks.specs.Held.{AreDrawn}
-use Rattle.superblocks.specs.Reading.{Scope, Reading, reading, shape_of, final_shape}
-use Rattle.superblocks.specs.Reads.{SaysSame}
-use Rattle.superblocks.specs.Updating.{planned_newest}
-use Rattle.superblock_laws.proofs.Laws.{turning-reads}
-use Rattle.row_io.specs.Rows.{members_without}
+use Rattle.course_mends.specs.superblocks_the_Change.{Change}
+use Rattle.course_mends.specs.superblocks_the_Members.{Members}
+use Rattle.course_mends.specs.superblocks_Held.{AreDrawn}
+use Rattle.course_mends.specs.superblocks_Reading.{Scope, Reading, reading, shape_of, final_shape}
+use Rattle.course_mends.specs.superblocks_Reads.{SaysSame}
+use Rattle.course_mends.specs.superblocks_Updating.{planned_newest}
+use Rattle.course_mends.proofs.superblock_laws_Laws.{turning-reads}
+use Rattle.course_mends.specs.row_io_Rows.{members_without}
 use Rattle.course_mends.proofs.shape_views_Alike.{shape-alike, final-alike}
 use Rattle.course_mends.specs.shape_changes_Changing.{IsChanged, IsFitUpdate}
 use Rattle.course_mends.specs.shape_changes_Held.{IsHeldBy}

@@ -6,15 +6,15 @@ use Rattle.md_base.specs.declared.places.Shape.{Shape}
 use Rattle.md_base.specs.Search.{count_below}
 use Rattle.md_base.specs.Shapes.{tolerance, tolerance_of}
 use Rattle.bank.specs.Given.{Given}
-use Rattle.superblocks.specs.declared.members.Members.{Members}
-use Rattle.superblocks.specs.Reading.{shape_of, final_shape}
-use Rattle.superblocks.proofs.ValidFields.{few-roles}
-use Rattle.row_io.specs.Rows.{reading_of, is_missing}
-use Rattle.flat_history.specs.declared.events.Entry.{Entry}
-use Rattle.flat_history.specs.declared.events.Event.TheVariants.{Refused}
-use Rattle.flat_history.specs.Legal.{level_at, IsTooManyMissing, IsRefusedRight}
-use Rattle.flat_history.specs.Losses.{is_gone_after}
-use Rattle.flat_history.specs.World.{World}
+use Rattle.course_mends.specs.superblocks_the_Members.{Members}
+use Rattle.course_mends.specs.superblocks_Reading.{shape_of, final_shape}
+use Rattle.course_mends.proofs.superblocks_ValidFields.{few-roles}
+use Rattle.course_mends.specs.row_io_Rows.{reading_of, is_missing}
+use Rattle.course_mends.specs.flat_history_the_Entry.{Entry}
+use Rattle.course_mends.specs.flat_history_the_Event_TheVariants.{Refused}
+use Rattle.course_mends.specs.flat_history_Legal.{level_at, IsTooManyMissing, IsRefusedRight}
+use Rattle.course_mends.specs.flat_history_Losses.{is_gone_after}
+use Rattle.course_mends.specs.flat_history_World.{World}
 use Rattle.course_mends.proofs.shape_ends_EndLaws.{fewer-pass}
 use Rattle.course_mends.specs.views_Placed.{IsPlaced, IsInForce}
 use Rattle.course_mends.specs.views_Lacking.{lacking, LacksTooMany, AreTooMany}

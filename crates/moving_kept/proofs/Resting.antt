@@ -5,15 +5,15 @@ use Rattle.md_base.specs.Shapes.{tolerance_of}
 use Rattle.md_base.specs.declared.answers.Who.{Who}
 use Rattle.bank.specs.declared.bank.Operation.{Operation}
 use Rattle.bank.specs.Given.{Given}
-use Rattle.superblocks.specs.declared.members.Members.{Members}
-use Rattle.superblocks.specs.Reading.{Scope, list_length}
-use Rattle.superblocks.proofs.ValidFields.{few-roles}
-use Rattle.flat_history.specs.declared.events.Entry.{Entry}
-use Rattle.flat_history.specs.declared.events.Event.{Event}
-use Rattle.flat_history.specs.Flat.{now}
-use Rattle.flat_history.specs.Legal.{IsLegalEvent}
-use Rattle.flat_history.specs.Plain.{entries_of}
-use Rattle.flat_history.specs.World.{opening_list}
+use Rattle.course_mends.specs.superblocks_the_Members.{Members}
+use Rattle.course_mends.specs.superblocks_Reading.{Scope, list_length}
+use Rattle.course_mends.proofs.superblocks_ValidFields.{few-roles}
+use Rattle.course_mends.specs.flat_history_the_Entry.{Entry}
+use Rattle.course_mends.specs.flat_history_the_Event.{Event}
+use Rattle.course_mends.specs.flat_history_Flat.{now}
+use Rattle.course_mends.specs.flat_history_Legal.{IsLegalEvent}
+use Rattle.course_mends.specs.flat_history_Plain.{entries_of}
+use Rattle.course_mends.specs.flat_history_World.{opening_list}
 use Rattle.history_calls.proofs.call_entries_LeftLaws.{TellLeft, left-more}
 use Rattle.history_calls.specs.kept_history_Recorded.{IsCallGoing, entry_of}
 use Rattle.history_calls.specs.kept_history_Safe.{world_in}

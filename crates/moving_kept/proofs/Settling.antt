@@ -9,18 +9,18 @@ use Rattle.md_base.specs.declared.answers.Who.{Who}
 use Rattle.bank.specs.declared.bank.Operation.{Operation}
 use Rattle.bank.specs.Given.{Given}
 use Rattle.bank.specs.Tape.{disk}
-use Rattle.superblocks.specs.declared.members.Members.{Members}
-use Rattle.superblocks.specs.Reading.{Scope, is_clean, shape_of, list_length, role_count}
-use Rattle.row_io.specs.Rows.{present}
-use Rattle.flat_history.specs.declared.events.Entry.{Entry}
-use Rattle.flat_history.specs.declared.events.Event.{Event}
-use Rattle.flat_history.specs.declared.events.Event.TheVariants.{Flushed, Stopped}
-use Rattle.flat_history.specs.Flat.{now, length_after, values_after}
-use Rattle.flat_history.specs.Legal.{is_loss, told_left, level_after, IsLegalEvent}
-use Rattle.flat_history.specs.Losses.{was_dirty, is_unsynced, is_resync_end}
-use Rattle.flat_history.specs.Plain.{entries_of}
-use Rattle.flat_history.specs.Sound.{OpensFit}
-use Rattle.flat_history.specs.World.{World, opening_list}
+use Rattle.course_mends.specs.superblocks_the_Members.{Members}
+use Rattle.course_mends.specs.superblocks_Reading.{Scope, is_clean, shape_of, list_length, role_count}
+use Rattle.course_mends.specs.row_io_Rows.{present}
+use Rattle.course_mends.specs.flat_history_the_Entry.{Entry}
+use Rattle.course_mends.specs.flat_history_the_Event.{Event}
+use Rattle.course_mends.specs.flat_history_the_Event_TheVariants.{Flushed, Stopped}
+use Rattle.course_mends.specs.flat_history_Flat.{now, length_after, values_after}
+use Rattle.course_mends.specs.flat_history_Legal.{is_loss, told_left, level_after, IsLegalEvent}
+use Rattle.course_mends.specs.flat_history_Losses.{was_dirty, is_unsynced, is_resync_end}
+use Rattle.course_mends.specs.flat_history_Plain.{entries_of}
+use Rattle.course_mends.specs.flat_history_Sound.{OpensFit}
+use Rattle.course_mends.specs.flat_history_World.{World, opening_list}
 use Rattle.course_mends.specs.shape_views_Views.{Ledger}
 use Rattle.course_mends.specs.shape_changes_Safety.{HasLiveSlot, HasRoomLeft, IsRisen}
 use Rattle.course_mends.specs.shape_changes_Steady.{IsMoreTold, IsSafeOver, KeepsSafe, AreGoneTold, IsUncleanTold, AreWritesAllowed}

@@ -14,24 +14,24 @@ use Rattle.bank.specs.declared.bank.Operation.{Operation}
 use Rattle.bank.specs.Given.{Given, sizes}
 use Rattle.bank.specs.Tape.{IsIn, disk}
 use Rattle.sb1.specs.declared.sb.Sb.{Sb}
-use Rattle.superblocks.specs.declared.members.Members.{Members}
-use Rattle.superblocks.specs.Reading.{Scope, Reading, shape_of, final_shape, list_length, role_count}
-use Rattle.row_io.specs.Rows.{reading_of, is_missing}
-use Rattle.flat_history.specs.declared.events.Entry.{Entry}
-use Rattle.flat_history.specs.declared.events.Event.{Event}
-use Rattle.flat_history.specs.declared.events.Event.TheVariants.{Resized, Step}
-use Rattle.flat_history.specs.declared.events.StepKind.TheVariants.{Begun}
-use Rattle.flat_history.specs.Epochs.{HasRoomForEvents, OpensAlike}
-use Rattle.flat_history.specs.Flat.{length_of, values_of, values_after, now, is_same_call, last_of}
-use Rattle.flat_history.specs.Flat.{resized as cut}
-use Rattle.flat_history.specs.Growing.{EndBy}
-use Rattle.flat_history.specs.Legal.{told_left, level_at, level_after, call_before, disturbs, is_loss, last_but_losses, is_all_gone, IsLengthOfLevel, IsUnkeptLength, IsResizedAfter, IsResized}
-use Rattle.flat_history.specs.Losses.{is_gone_after, is_unsynced, unsettles, loses}
-use Rattle.flat_history.specs.OneShape.{is_lost, is_unsettled}
-use Rattle.flat_history.specs.Plain.{entries_of}
-use Rattle.flat_history.specs.Sound.{OpensFit}
-use Rattle.flat_history.specs.World.{World, contents_at, reading_at, opening_list}
-use Rattle.history_laws.proofs.OneShapeGrowing.{AreFaults}
+use Rattle.course_mends.specs.superblocks_the_Members.{Members}
+use Rattle.course_mends.specs.superblocks_Reading.{Scope, Reading, shape_of, final_shape, list_length, role_count}
+use Rattle.course_mends.specs.row_io_Rows.{reading_of, is_missing}
+use Rattle.course_mends.specs.flat_history_the_Entry.{Entry}
+use Rattle.course_mends.specs.flat_history_the_Event.{Event}
+use Rattle.course_mends.specs.flat_history_the_Event_TheVariants.{Resized, Step}
+use Rattle.course_mends.specs.flat_history_the_StepKind_TheVariants.{Begun}
+use Rattle.course_mends.specs.flat_history_Epochs.{HasRoomForEvents, OpensAlike}
+use Rattle.course_mends.specs.flat_history_Flat.{length_of, values_of, values_after, now, is_same_call, last_of}
+use Rattle.course_mends.specs.flat_history_Flat.{resized as cut}
+use Rattle.course_mends.specs.flat_history_Growing.{EndBy}
+use Rattle.course_mends.specs.flat_history_Legal.{told_left, level_at, level_after, call_before, disturbs, is_loss, last_but_losses, is_all_gone, IsLengthOfLevel, IsUnkeptLength, IsResizedAfter, IsResized}
+use Rattle.course_mends.specs.flat_history_Losses.{is_gone_after, is_unsynced, unsettles, loses}
+use Rattle.course_mends.specs.flat_history_OneShape.{is_lost, is_unsettled}
+use Rattle.course_mends.specs.flat_history_Plain.{entries_of}
+use Rattle.course_mends.specs.flat_history_Sound.{OpensFit}
+use Rattle.course_mends.specs.flat_history_World.{World, contents_at, reading_at, opening_list}
+use Rattle.history_calls.proofs.history_laws_OneShapeGrowing.{AreFaults}
 use Rattle.course_mends.specs.shape_views_Views.{Ledger}
 use Rattle.course_mends.specs.shape_changes_Changing.{IsSafeChange}
 use Rattle.course_mends.specs.shape_changes_Safety.{HasLiveSlot, HasRoomLeft, IsRisen}

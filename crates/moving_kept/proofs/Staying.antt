@@ -12,15 +12,15 @@ use Rattle.bank.specs.Given.{Given}
 use Rattle.bank.specs.Tape.{disk}
 use Rattle.sb1.specs.declared.sb.Sb.{Sb}
 use Rattle.geometry.specs.Geometry.{stripes, zeroed_stripes}
-use Rattle.superblocks.specs.declared.members.Members.{Members}
-use Rattle.superblocks.specs.Reading.{Scope, is_clean, shape_of, role_count}
-use Rattle.row_io.specs.Rows.{present}
-use Rattle.flat_history.specs.declared.events.Entry.{Entry}
-use Rattle.flat_history.specs.declared.events.Event.{Event}
-use Rattle.flat_history.specs.declared.events.Event.TheVariants.{Refused}
-use Rattle.flat_history.specs.Legal.{level_at, IsRefusedRight, IsLegalEvent}
-use Rattle.flat_history.specs.Plain.{entries_of}
-use Rattle.flat_history.specs.Sound.{OpensFit}
+use Rattle.course_mends.specs.superblocks_the_Members.{Members}
+use Rattle.course_mends.specs.superblocks_Reading.{Scope, is_clean, shape_of, role_count}
+use Rattle.course_mends.specs.row_io_Rows.{present}
+use Rattle.course_mends.specs.flat_history_the_Entry.{Entry}
+use Rattle.course_mends.specs.flat_history_the_Event.{Event}
+use Rattle.course_mends.specs.flat_history_the_Event_TheVariants.{Refused}
+use Rattle.course_mends.specs.flat_history_Legal.{level_at, IsRefusedRight, IsLegalEvent}
+use Rattle.course_mends.specs.flat_history_Plain.{entries_of}
+use Rattle.course_mends.specs.flat_history_Sound.{OpensFit}
 use Rattle.course_mends.specs.shape_views_Views.{Ledger}
 use Rattle.course_mends.specs.shape_changes_Safety.{HasLiveSlot, HasRoomLeft, IsRisen}
 use Rattle.course_mends.specs.shape_changes_Steady.{IsMoreTold, IsSafeOver, KeepsSafe, AreGoneTold, IsUncleanTold}
@@ -38,8 +38,8 @@ use Rattle.history_calls.specs.kept_history_Recorded.{IsCallGoing, entry_of}
 use Rattle.history_calls.specs.kept_history_Safe.{world_in, IsFilledRight}
 use Rattle.history_calls.specs.kept_history_Told.{told_now}
 use Rattle.course_mends.specs.course_kept_the_Course.{Course}
-use Rattle.grow_asked.specs.declared.window.Window.{Window}
-use Rattle.grow_asked.specs.declared.window.Window.TheVariants.{Closed, Entered, Unsure}
+use Rattle.course_mends.specs.grow_asked_the_Window.{Window}
+use Rattle.course_mends.specs.grow_asked_the_Window_TheVariants.{Closed, Entered, Unsure}
 use Rattle.course_mends.specs.course_kept_Course.{IsWindowOf, IsCourseOf}
 use Rattle.course_mends.specs.Mended.{StandsMended}
 use Rattle.history_calls.specs.Reliable.{IsReliable, AreToldGone}

@@ -13,21 +13,21 @@ use Rattle.bank.specs.Given.{Given}
 use Rattle.bank.specs.Tape.{disk}
 use Rattle.sb1.specs.declared.sb.Sb.{Sb}
 use Rattle.geometry.specs.Geometry.{stripes, is_critical}
-use Rattle.superblocks.specs.declared.members.Members.{Members}
-use Rattle.superblocks.specs.Reading.{Scope, is_clean, is_backward, shape_of, final_shape, role_count}
-use Rattle.row_io.specs.Rows.{reading_of, present, is_missing}
-use Rattle.list_io.specs.Full.{RowStands}
-use Rattle.flat_history.specs.declared.events.Entry.{Entry}
-use Rattle.flat_history.specs.declared.events.Event.{Event}
-use Rattle.flat_history.specs.declared.events.Event.TheVariants.{Lost, SpareLost, Step}
-use Rattle.flat_history.specs.declared.events.LostCause.TheVariants.{Fault}
-use Rattle.flat_history.specs.declared.events.StepKind.{StepKind}
-use Rattle.flat_history.specs.declared.events.StepKind.TheVariants.{Entered as EntersWindow, Copied as CopiesStripe, Checkpointed as RecordsWindow, Zeroed as ZeroesStripe, WindowFinished as FinishesWindow, ResyncStripe}
-use Rattle.flat_history.specs.Flat.{now}
-use Rattle.flat_history.specs.Legal.{told_left, known_left, call_before, disturbs, left_after, is_free_step, IsStep}
-use Rattle.flat_history.specs.Plain.{entries_of}
-use Rattle.flat_history.specs.Sound.{OpensFit}
-use Rattle.flat_history.specs.World.{World, opening_list}
+use Rattle.course_mends.specs.superblocks_the_Members.{Members}
+use Rattle.course_mends.specs.superblocks_Reading.{Scope, is_clean, is_backward, shape_of, final_shape, role_count}
+use Rattle.course_mends.specs.row_io_Rows.{reading_of, present, is_missing}
+use Rattle.course_mends.specs.list_io_Full.{RowStands}
+use Rattle.course_mends.specs.flat_history_the_Entry.{Entry}
+use Rattle.course_mends.specs.flat_history_the_Event.{Event}
+use Rattle.course_mends.specs.flat_history_the_Event_TheVariants.{Lost, SpareLost, Step}
+use Rattle.course_mends.specs.flat_history_the_LostCause_TheVariants.{Fault}
+use Rattle.course_mends.specs.flat_history_the_StepKind.{StepKind}
+use Rattle.course_mends.specs.flat_history_the_StepKind_TheVariants.{Entered as EntersWindow, Copied as CopiesStripe, Checkpointed as RecordsWindow, Zeroed as ZeroesStripe, WindowFinished as FinishesWindow, ResyncStripe}
+use Rattle.course_mends.specs.flat_history_Flat.{now}
+use Rattle.course_mends.specs.flat_history_Legal.{told_left, known_left, call_before, disturbs, left_after, is_free_step, IsStep}
+use Rattle.course_mends.specs.flat_history_Plain.{entries_of}
+use Rattle.course_mends.specs.flat_history_Sound.{OpensFit}
+use Rattle.course_mends.specs.flat_history_World.{World, opening_list}
 use Rattle.course_mends.specs.shape_views_Views.{Disk, Ledger}
 use Rattle.course_mends.specs.shape_views_Windows.{IsCopyable}
 use Rattle.course_mends.specs.shape_changes_Safety.{HasLiveSlot, HasRoomLeft, IsRisen}
@@ -45,7 +45,7 @@ use Rattle.course_mends.specs.window_rows_Copies.{tail_of, IsCopied}
 use Rattle.history_calls.specs.kept_history_Recorded.{IsCallGoing, entry_of}
 use Rattle.history_calls.specs.kept_history_Safe.{world_in}
 use Rattle.course_mends.proofs.window_steps_CopyLaws.{window-alike, critical-alike}
-use Rattle.grow_asked.specs.declared.window.Window.TheVariants.{Entered}
+use Rattle.course_mends.specs.grow_asked_the_Window_TheVariants.{Entered}
 use Rattle.course_mends.specs.course_kept_Course.{IsWindowOf, IsCourseOf, IsStoredAs, IsStored}
 use Rattle.course_mends.specs.course_kept_Laws.{entered, next_stripe}
 use Rattle.course_mends.proofs.course_kept_Courses.{courses-copied}

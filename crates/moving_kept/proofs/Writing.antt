@@ -16,22 +16,22 @@ use Rattle.bank.specs.declared.bank.Operation.{Operation}
 use Rattle.bank.specs.Given.{Given}
 use Rattle.bank.specs.Tape.{IsIn, disk}
 use Rattle.sb1.specs.declared.sb.Sb.{Sb}
-use Rattle.superblocks.specs.declared.members.Members.{Members}
-use Rattle.superblocks.specs.Reading.{Scope, is_clean, shape_of, final_shape, list_length, role_count}
-use Rattle.row_io.specs.Rows.{reading_of, present}
-use Rattle.list_io.specs.Writing.{IsWritten}
-use Rattle.flat_history.specs.declared.events.Entry.{Entry}
-use Rattle.flat_history.specs.declared.events.Event.{Event}
-use Rattle.flat_history.specs.declared.events.Event.TheVariants.{Wrote, Torn, Refused}
-use Rattle.flat_history.specs.Flat.{covers as writes_at, sector_at, behind, values_after, length_of, limit_of, limit_after, visible_of, values_of, now}
-use Rattle.flat_history.specs.Legal.{level_at, IsTorn, IsRefusedRight}
-use Rattle.flat_history.specs.Losses.{is_unsynced, unsettles}
-use Rattle.flat_history.specs.OneShape.{is_unsettled}
-use Rattle.flat_history.specs.Plain.{entries_of}
-use Rattle.flat_history.specs.Sound.{OpensFit}
-use Rattle.flat_history.specs.Stands.{shape_for, covers}
-use Rattle.flat_history.specs.Transfers.{IsTooMany}
-use Rattle.flat_history.specs.World.{World, opening_list}
+use Rattle.course_mends.specs.superblocks_the_Members.{Members}
+use Rattle.course_mends.specs.superblocks_Reading.{Scope, is_clean, shape_of, final_shape, list_length, role_count}
+use Rattle.course_mends.specs.row_io_Rows.{reading_of, present}
+use Rattle.course_mends.specs.list_io_Writing.{IsWritten}
+use Rattle.course_mends.specs.flat_history_the_Entry.{Entry}
+use Rattle.course_mends.specs.flat_history_the_Event.{Event}
+use Rattle.course_mends.specs.flat_history_the_Event_TheVariants.{Wrote, Torn, Refused}
+use Rattle.course_mends.specs.flat_history_Flat.{covers as writes_at, sector_at, behind, values_after, length_of, limit_of, limit_after, visible_of, values_of, now}
+use Rattle.course_mends.specs.flat_history_Legal.{level_at, IsTorn, IsRefusedRight}
+use Rattle.course_mends.specs.flat_history_Losses.{is_unsynced, unsettles}
+use Rattle.course_mends.specs.flat_history_OneShape.{is_unsettled}
+use Rattle.course_mends.specs.flat_history_Plain.{entries_of}
+use Rattle.course_mends.specs.flat_history_Sound.{OpensFit}
+use Rattle.course_mends.specs.flat_history_Stands.{shape_for, covers}
+use Rattle.course_mends.specs.flat_history_Transfers.{IsTooMany}
+use Rattle.course_mends.specs.flat_history_World.{World, opening_list}
 use Rattle.course_mends.specs.shape_views_Regions.{AreShapesFit, place_by}
 use Rattle.course_mends.specs.shape_views_Views.{Ledger, IsTailZero}
 use Rattle.course_mends.specs.shape_views_Windows.{IsShown, AreTailsStanding}
@@ -63,8 +63,8 @@ use Rattle.history_calls.proofs.kept_history_Growing.{opening-grown, unsynced-gr
 use Rattle.history_calls.proofs.kept_history_Ledgers.{unsynced-still, none-ends}
 use Rattle.history_calls.proofs.kept_history_Lists.{newest-in}
 use Rattle.course_mends.specs.course_kept_the_Course.{Course}
-use Rattle.grow_asked.specs.declared.window.Window.{Window}
-use Rattle.grow_asked.specs.declared.window.Window.TheVariants.{Closed, Entered, Unsure}
+use Rattle.course_mends.specs.grow_asked_the_Window.{Window}
+use Rattle.course_mends.specs.grow_asked_the_Window_TheVariants.{Closed, Entered, Unsure}
 use Rattle.course_mends.specs.course_kept_Course.{IsWindowOf, hidden_in, span_in}
 use Rattle.course_mends.specs.course_kept_Laws.{IsOtherTouched}
 use Rattle.course_mends.specs.region_mends_Mends.{relied_sector, AreEndsStanding}

@@ -6,17 +6,17 @@ use Rattle.md_base.specs.declared.places.Span.{Span}
 use Rattle.bank.specs.declared.bank.Operation.{Operation}
 use Rattle.bank.specs.Given.{Given, sizes}
 use Rattle.bank.specs.Tape.{Contents, disk}
-use Rattle.superblocks.specs.declared.members.Members.{Members}
-use Rattle.superblocks.specs.Reading.{Scope, is_reshaping, is_backward, is_clean, shape_of, list_length}
-use Rattle.row_io.specs.Rows.{present}
-use Rattle.flat_history.specs.declared.events.Entry.{Entry}
-use Rattle.flat_history.specs.Epochs.{HasRoomForEvents, OpensAlike}
-use Rattle.flat_history.specs.Flat.{now}
-use Rattle.flat_history.specs.Legal.{told_left, level_at}
-use Rattle.flat_history.specs.Losses.{is_unsynced}
-use Rattle.flat_history.specs.OneShape.{is_unsettled}
-use Rattle.flat_history.specs.Sound.{OpensFit}
-use Rattle.flat_history.specs.World.{World, opening_list}
+use Rattle.course_mends.specs.superblocks_the_Members.{Members}
+use Rattle.course_mends.specs.superblocks_Reading.{Scope, is_reshaping, is_backward, is_clean, shape_of, list_length}
+use Rattle.course_mends.specs.row_io_Rows.{present}
+use Rattle.course_mends.specs.flat_history_the_Entry.{Entry}
+use Rattle.course_mends.specs.flat_history_Epochs.{HasRoomForEvents, OpensAlike}
+use Rattle.course_mends.specs.flat_history_Flat.{now}
+use Rattle.course_mends.specs.flat_history_Legal.{told_left, level_at}
+use Rattle.course_mends.specs.flat_history_Losses.{is_unsynced}
+use Rattle.course_mends.specs.flat_history_OneShape.{is_unsettled}
+use Rattle.course_mends.specs.flat_history_Sound.{OpensFit}
+use Rattle.course_mends.specs.flat_history_World.{World, opening_list}
 use Rattle.course_mends.specs.shape_views_Regions.{ArePlaced, DoWithout, backup_of}
 use Rattle.course_mends.specs.shape_views_Windows.{ListStands, RowsStand}
 use Rattle.course_mends.specs.shape_changes_Safety.{HasLiveSlot}

@@ -10,10 +10,10 @@ use Rattle.bank.specs.declared.bank.Operation.{Operation}
 use Rattle.bank.specs.Given.{Given}
 use Rattle.bank.specs.Tape.{IsIn, disk}
 use Rattle.sb1.specs.declared.sb.Sb.{Sb}
-use Rattle.superblocks.specs.declared.members.Members.{Members}
-use Rattle.superblocks.specs.Reading.{Scope}
-use Rattle.superblocks.specs.Held.{IsSecondHalf}
-use Rattle.flat_history.specs.declared.events.Entry.{Entry}
+use Rattle.mending_kept.specs.superblocks_the_Members.{Members}
+use Rattle.mending_kept.specs.superblocks_Reading.{Scope}
+use Rattle.mending_kept.specs.superblocks_Held.{IsSecondHalf}
+use Rattle.mending_kept.specs.flat_history_the_Entry.{Entry}
 use Rattle.mending_kept.specs.shape_views_Regions.{DoWithout, backup_of}
 use Rattle.mending_kept.specs.views_the_Work.{Work}
 use Rattle.mending_kept.specs.views_Flushing.{OnlyFlushesAdded}
@@ -30,7 +30,7 @@ use Rattle.running_words.proofs.array_kept_ReadyLaws.{list-same}
 use Rattle.running_words.proofs.calls_kept_AddLaws.{slot-free}
 use Rattle.running_words.proofs.calls_kept_AddedKept.{AddsSafe, with_carried, carries-number, carries-only}
 use Rattle.running_words.proofs.calls_kept_AddedLosses.{IsAddDone, spares-added}
-use Rattle.grow_asked.specs.declared.window.PhasesLeft.{PhasesLeft}
+use Rattle.mending_kept.specs.grow_asked_the_PhasesLeft.{PhasesLeft}
 use Rattle.mending_kept.specs.course_kept_the_Course.{Course}
 use Rattle.mending_kept.proofs.moving_kept_AddedSpare.{IsSpareMade}
 use Rattle.mending_kept.proofs.moving_kept_Steps.{missing-since}

@@ -4,17 +4,17 @@ use Rattle.md_base.specs.declared.answers.Who.{Who}
 use Rattle.md_base.specs.declared.status.Status.{Status}
 use Rattle.bank.specs.declared.bank.Operation.{Operation}
 use Rattle.bank.specs.Given.{Given}
-use Rattle.superblocks.specs.declared.members.Members.{Members}
-use Rattle.superblocks.specs.Reading.{Scope}
-use Rattle.row_io.proofs.Lacks.{unequal}
-use Rattle.flat_history.specs.declared.events.Entry.{Entry}
-use Rattle.flat_history.specs.declared.events.Epoch.{Epoch}
-use Rattle.flat_history.specs.declared.events.Event.TheVariants.{Shown, Halted}
-use Rattle.flat_history.specs.Epochs.{world_of}
-use Rattle.flat_history.specs.Flat.{next_number}
-use Rattle.flat_history.specs.Plain.{entries_of}
-use Rattle.flat_history.proofs.SoundLaws.{stays-throughout}
-use Rattle.history_laws.proofs.NumberLaws.{safe-throughout}
+use Rattle.mending_kept.specs.superblocks_the_Members.{Members}
+use Rattle.mending_kept.specs.superblocks_Reading.{Scope}
+use Rattle.mending_kept.proofs.row_io_Lacks.{unequal}
+use Rattle.mending_kept.specs.flat_history_the_Entry.{Entry}
+use Rattle.mending_kept.specs.flat_history_the_Epoch.{Epoch}
+use Rattle.mending_kept.specs.flat_history_the_Event_TheVariants.{Shown, Halted}
+use Rattle.mending_kept.specs.flat_history_Epochs.{world_of}
+use Rattle.mending_kept.specs.flat_history_Flat.{next_number}
+use Rattle.mending_kept.specs.flat_history_Plain.{entries_of}
+use Rattle.mending_kept.proofs.flat_history_SoundLaws.{stays-throughout}
+use Rattle.mending_kept.proofs.history_laws_NumberLaws.{safe-throughout}
 use Rattle.mending_kept.proofs.call_entries_LeftLaws.{keeps-left}
 use Rattle.running_words.specs.array_kept_Kept.{scope_in}
 use Rattle.mending_kept.specs.kept_history_Recorded.{entry_of}

@@ -9,23 +9,23 @@ use Rattle.md_base.specs.declared.answers.Refusal.TheVariants.{PastEnd, BackupFa
 use Rattle.md_base.specs.declared.answers.Who.{Who}
 use Rattle.md_base.specs.declared.places.Span.{Span}
 use Rattle.bank.specs.Given.{IsFaulted}
-use Rattle.superblocks.specs.declared.members.Members.{Members}
-use Rattle.flat_history.specs.declared.events.Entry.{Entry}
-use Rattle.flat_history.specs.declared.events.Event.TheVariants.{Refused}
-use Rattle.flat_history.specs.Flat.{next_number, length_of, limit_of}
+use Rattle.mending_kept.specs.superblocks_the_Members.{Members}
+use Rattle.mending_kept.specs.flat_history_the_Entry.{Entry}
+use Rattle.mending_kept.specs.flat_history_the_Event_TheVariants.{Refused}
+use Rattle.mending_kept.specs.flat_history_Flat.{next_number, length_of, limit_of}
 use Rattle.mending_kept.specs.shape_views_Regions.{DoWithout}
 use Rattle.mending_kept.specs.views_Lacking.{AreTooMany}
 use Rattle.mending_kept.proofs.views_LackingLaws.{never-both}
 use Rattle.running_words.specs.array_kept_Calls.{IsRefusedFor, IsCausedBy}
 use Rattle.running_words.proofs.array_kept_LossLaws.{behind-alone}
-use Rattle.grow_asked.specs.declared.window.Window.{Window}
-use Rattle.grow_asked.specs.declared.window.Window.TheVariants.{Unsure}
+use Rattle.mending_kept.specs.grow_asked_the_Window.{Window}
+use Rattle.mending_kept.specs.grow_asked_the_Window_TheVariants.{Unsure}
 use Rattle.mending_kept.specs.course_kept_the_Course.{Course}
 use Rattle.mending_kept.specs.course_kept_Laws.{closed, unsure}
 use Rattle.mending_kept.specs.region_writes_Runs.{IsListUnwritten}
 use Rattle.running_words.specs.moving_state_Left.{visible_by}
 use Rattle.running_words.specs.Calls.{IsStepTaken, IsEnterCaused}
-use Rattle.flat_history.specs.declared.events.StepKind.{StepKind}
+use Rattle.mending_kept.specs.flat_history_the_StepKind.{StepKind}
 use Rattle.running_words.specs.moving_state_Due.{open_in}
 use Rattle.moving_laws.specs.Writing.{TouchesUnsure, IsWriteLacked, IsWriteBarred, IsWriteEntered, IsWriteAnswered, IsWriteReplied, IsRefusedAlone}
 use Rattle.moving_laws.proofs.WriteReplies.{lacked-missing, write-answered}

@@ -2,13 +2,13 @@
 use Rattle.std.proofs.Common.{◌≡◌, ◌<◌, ◌≤◌, Bool, true, false, arith}
 use Rattle.sb1.specs.declared.sb.Sb.{Sb}
 use Rattle.geometry.specs.Geometry.{beyond}
-use Rattle.superblocks.specs.Reading.{is_reshaping, is_backward, list_length}
+use Rattle.mending_kept.specs.superblocks_Reading.{is_reshaping, is_backward, list_length}
 use Rattle.mending_kept.specs.shape_views_Regions.{AreShapesFit}
 use Rattle.mending_kept.proofs.shape_views_Headers.{window-filled}
 use Rattle.mending_kept.proofs.shape_views_Stands.{window-inside}
-use Rattle.grow_asked.specs.declared.window.Window.{Window}
-use Rattle.grow_asked.specs.declared.window.Window.TheVariants.{Closed, Entered, Unsure}
-use Rattle.grow_asked.specs.Left.{IsWindowRight}
+use Rattle.mending_kept.specs.grow_asked_the_Window.{Window}
+use Rattle.mending_kept.specs.grow_asked_the_Window_TheVariants.{Closed, Entered, Unsure}
+use Rattle.mending_kept.specs.grow_asked_Left.{IsWindowRight}
 use Rattle.mending_kept.specs.region_mends_Left.{position_behind}
 
 pub position-within : (newest : Sb) (window : Window) → AreShapesFit newest → is_reshaping newest ≡ true → IsWindowRight newest window → position_behind newest window ≤ list_length newest

@@ -15,18 +15,18 @@ use Rattle.bank.specs.Tape.{disk}
 use Rattle.geometry.specs.Geometry.{beyond}
 use Rattle.grow_plan.specs.Plans.{phases_steps}
 use Rattle.sb1.specs.declared.sb.Sb.{Sb}
-use Rattle.superblocks.specs.declared.members.Members.{Members}
-use Rattle.superblocks.specs.Reading.{Scope, is_reshaping, is_backward, is_clean, final_shape, role_count}
-use Rattle.superblocks.proofs.ValidFields.{few-roles}
-use Rattle.row_io.specs.Rows.{reading_of, present}
-use Rattle.list_io.specs.Full.{RowStands}
-use Rattle.flat_history.specs.declared.events.Entry.{Entry}
-use Rattle.flat_history.specs.declared.events.Event.TheVariants.{Refused, Step}
-use Rattle.flat_history.specs.declared.events.StepKind.TheVariants.{Copied as CopiesStripe}
-use Rattle.flat_history.specs.Flat.{next_number, number_after}
-use Rattle.flat_history.specs.OneShape.{IsOfCall}
-use Rattle.flat_history.specs.Plain.{entries_of}
-use Rattle.flat_history.specs.World.{World}
+use Rattle.mending_kept.specs.superblocks_the_Members.{Members}
+use Rattle.mending_kept.specs.superblocks_Reading.{Scope, is_reshaping, is_backward, is_clean, final_shape, role_count}
+use Rattle.mending_kept.proofs.superblocks_ValidFields.{few-roles}
+use Rattle.mending_kept.specs.row_io_Rows.{reading_of, present}
+use Rattle.mending_kept.specs.list_io_Full.{RowStands}
+use Rattle.mending_kept.specs.flat_history_the_Entry.{Entry}
+use Rattle.mending_kept.specs.flat_history_the_Event_TheVariants.{Refused, Step}
+use Rattle.mending_kept.specs.flat_history_the_StepKind_TheVariants.{Copied as CopiesStripe}
+use Rattle.mending_kept.specs.flat_history_Flat.{next_number, number_after}
+use Rattle.mending_kept.specs.flat_history_OneShape.{IsOfCall}
+use Rattle.mending_kept.specs.flat_history_Plain.{entries_of}
+use Rattle.mending_kept.specs.flat_history_World.{World}
 use Rattle.mending_kept.specs.shape_views_Views.{Ledger}
 use Rattle.mending_kept.specs.shape_views_Windows.{IsCopyable}
 use Rattle.mending_kept.specs.shape_changes_Safety.{HasLiveSlot, HasRoomLeft, IsRisen}
@@ -35,10 +35,10 @@ use Rattle.mending_kept.specs.views_Moving.{Grows, IsMoved}
 use Rattle.mending_kept.specs.views_Lacking.{AreTooMany, AreOtherRowsKept, IsOfStripe}
 use Rattle.running_words.specs.safe_updates_Unused.{IsUnusedKept}
 use Rattle.mending_kept.specs.call_entries_Losing.{losses_of}
-use Rattle.grow_asked.specs.declared.window.Window.TheVariants.{Entered}
-use Rattle.grow_asked.specs.declared.window.PhasesLeft.{PhasesLeft}
-use Rattle.grow_asked.specs.Left.{steps_from, stripes_in, phases_of, grow_left}
-use Rattle.grow_asked.proofs.LeftLaws.{copying}
+use Rattle.mending_kept.specs.grow_asked_the_Window_TheVariants.{Entered}
+use Rattle.mending_kept.specs.grow_asked_the_PhasesLeft.{PhasesLeft}
+use Rattle.mending_kept.specs.grow_asked_Left.{steps_from, stripes_in, phases_of, grow_left}
+use Rattle.mending_kept.proofs.grow_asked_LeftLaws.{copying}
 use Rattle.mending_kept.specs.window_rows_Copies.{tail_of, IsCopied}
 use Rattle.mending_kept.specs.kept_history_Recorded.{IsCallGoing, MayGoOn}
 use Rattle.mending_kept.specs.kept_history_Safe.{world_in}

@@ -6,9 +6,9 @@ use Rattle.md_base.specs.declared.answers.Refusal.{Refusal}
 use Rattle.md_base.specs.declared.answers.Refusal.TheVariants.{BackupAbsent}
 use Rattle.md_base.specs.declared.places.Span.{Span}
 use Rattle.bank.specs.Given.{Given}
-use Rattle.superblocks.specs.declared.members.Members.{Members}
-use Rattle.superblocks.specs.Reading.{is_reshaping, next_window}
-use Rattle.flat_history.specs.Stands.{reach_of}
+use Rattle.mending_kept.specs.superblocks_the_Members.{Members}
+use Rattle.mending_kept.specs.superblocks_Reading.{is_reshaping, next_window}
+use Rattle.mending_kept.specs.flat_history_Stands.{reach_of}
 use Rattle.running_words.specs.array_kept_Kept.{scope_in}
 use Rattle.window_entering.specs.Backup.{IsBackupFor}
 use Rattle.running_words.proofs.moving_state_ReshapeLaws.{window-reach}

@@ -14,20 +14,20 @@ use Rattle.bank.specs.Tape.{Contents, IsIn, disk}
 use Rattle.geometry.specs.Geometry.{is_critical}
 use Rattle.grow_plan.specs.Plans.{phases_steps}
 use Rattle.sb1.specs.declared.sb.Sb.{Sb}
-use Rattle.superblocks.specs.declared.members.Members.{Members}
-use Rattle.superblocks.specs.Reading.{Scope, is_backward, is_clean, shape_of, final_shape, list_length, next_window}
-use Rattle.superblocks.proofs.ValidFields.{few-roles}
-use Rattle.row_io.specs.Rows.{reading_of, present}
-use Rattle.flat_history.specs.declared.events.Entry.{Entry}
-use Rattle.flat_history.specs.declared.events.Event.{Event}
-use Rattle.flat_history.specs.declared.events.Event.TheVariants.{Step, Refused}
-use Rattle.flat_history.specs.declared.events.StepKind.TheVariants.{Entered as EntersWindow}
-use Rattle.flat_history.specs.Flat.{now, values_of}
-use Rattle.flat_history.specs.Legal.{told_left, level_at, IsLegalEvent}
-use Rattle.flat_history.specs.Plain.{entries_of}
-use Rattle.flat_history.specs.Sound.{OpensFit}
-use Rattle.flat_history.specs.World.{opening_list}
-use Rattle.flat_history.proofs.SoundLaws.{fit-before}
+use Rattle.mending_kept.specs.superblocks_the_Members.{Members}
+use Rattle.mending_kept.specs.superblocks_Reading.{Scope, is_backward, is_clean, shape_of, final_shape, list_length, next_window}
+use Rattle.mending_kept.proofs.superblocks_ValidFields.{few-roles}
+use Rattle.mending_kept.specs.row_io_Rows.{reading_of, present}
+use Rattle.mending_kept.specs.flat_history_the_Entry.{Entry}
+use Rattle.mending_kept.specs.flat_history_the_Event.{Event}
+use Rattle.mending_kept.specs.flat_history_the_Event_TheVariants.{Step, Refused}
+use Rattle.mending_kept.specs.flat_history_the_StepKind_TheVariants.{Entered as EntersWindow}
+use Rattle.mending_kept.specs.flat_history_Flat.{now, values_of}
+use Rattle.mending_kept.specs.flat_history_Legal.{told_left, level_at, IsLegalEvent}
+use Rattle.mending_kept.specs.flat_history_Plain.{entries_of}
+use Rattle.mending_kept.specs.flat_history_Sound.{OpensFit}
+use Rattle.mending_kept.specs.flat_history_World.{opening_list}
+use Rattle.mending_kept.proofs.flat_history_SoundLaws.{fit-before}
 use Rattle.mending_kept.specs.shape_views_Regions.{DoWithout}
 use Rattle.mending_kept.specs.shape_views_Views.{Ledger}
 use Rattle.mending_kept.specs.shape_views_Windows.{ListStands, RowsStand}
@@ -42,11 +42,11 @@ use Rattle.mending_kept.specs.call_entries_Losing.{losses_of}
 use Rattle.mending_kept.proofs.call_entries_CallLaws.{losses-are}
 use Rattle.mending_kept.proofs.call_entries_LeftLaws.{left-behind, left-more}
 use Rattle.mending_kept.proofs.window_steps_CopyLaws.{window-alike, critical-alike}
-use Rattle.grow_asked.specs.declared.window.Window.{Window}
-use Rattle.grow_asked.specs.declared.window.Window.TheVariants.{Closed, Entered, Unsure}
-use Rattle.grow_asked.specs.declared.window.PhasesLeft.{PhasesLeft}
-use Rattle.grow_asked.specs.Left.{phases_of, reshape_left, grow_left}
-use Rattle.grow_asked.proofs.LeftLaws.{entering}
+use Rattle.mending_kept.specs.grow_asked_the_Window.{Window}
+use Rattle.mending_kept.specs.grow_asked_the_Window_TheVariants.{Closed, Entered, Unsure}
+use Rattle.mending_kept.specs.grow_asked_the_PhasesLeft.{PhasesLeft}
+use Rattle.mending_kept.specs.grow_asked_Left.{phases_of, reshape_left, grow_left}
+use Rattle.mending_kept.proofs.grow_asked_LeftLaws.{entering}
 use Rattle.mending_kept.specs.kept_history_Recorded.{IsCallGoing, entry_of}
 use Rattle.mending_kept.specs.kept_history_Safe.{world_in, IsFilledRight, TakesNone, OpensOnCourse}
 use Rattle.mending_kept.proofs.kept_history_Entered.{adds_only}

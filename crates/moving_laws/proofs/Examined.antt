@@ -3,12 +3,12 @@ use Rattle.std.proofs.Common.{◌≡◌, ℕ, ◌≤◌, Bool, List, Option, sym
 use Rattle.std.specs.Prelude.{unwrap_or}
 use Rattle.bank.specs.Given.{Given}
 use Rattle.bank.specs.declared.bank.Operation.{Operation}
-use Rattle.superblocks.specs.declared.members.Members.{Members}
-use Rattle.superblocks.specs.Reading.{Scope}
-use Rattle.flat_history.specs.declared.events.Entry.{Entry}
+use Rattle.mending_kept.specs.superblocks_the_Members.{Members}
+use Rattle.mending_kept.specs.superblocks_Reading.{Scope}
+use Rattle.mending_kept.specs.flat_history_the_Entry.{Entry}
 use Rattle.mending_kept.specs.views_the_Work.{Work}
 use Rattle.running_words.specs.array_kept_Kept.{scope_in}
-use Rattle.grow_asked.specs.declared.window.PhasesLeft.{PhasesLeft}
+use Rattle.mending_kept.specs.grow_asked_the_PhasesLeft.{PhasesLeft}
 use Rattle.mending_kept.specs.course_kept_the_Course.{Course}
 use Rattle.mending_kept.specs.moving_kept_Moving.{IsMoving}
 use Rattle.moving_laws.specs.Ready.{IsReady}

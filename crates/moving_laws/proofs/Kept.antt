@@ -17,21 +17,21 @@ use Rattle.bank.specs.Given.{Given, NeverFalls}
 use Rattle.sb1.specs.declared.sb.Sb.{Sb}
 use Rattle.geometry.specs.Geometry.{unit, steps_of, stripes, beyond}
 use Rattle.grow_plan.specs.Plans.{AreSound, phases_steps}
-use Rattle.superblocks.specs.declared.members.Members.{Members}
-use Rattle.superblocks.specs.Reading.{Scope, shape_of, final_shape, list_length}
-use Rattle.superblocks.proofs.ValidFields.{few-roles}
-use Rattle.row_io.specs.Rows.{reading_of, is_missing}
-use Rattle.flat_history.specs.declared.events.Entry.{Entry}
-use Rattle.flat_history.specs.declared.events.Event.{Event}
-use Rattle.flat_history.specs.declared.events.Event.TheVariants.{Lost}
-use Rattle.flat_history.specs.declared.events.LostCause.{LostCause}
-use Rattle.flat_history.specs.Flat.{length_of, length_after, limit_after}
-use Rattle.flat_history.specs.Growing.{EndBy}
-use Rattle.flat_history.specs.OneShape.{is_lost}
-use Rattle.flat_history.specs.Plain.{entries_of}
-use Rattle.flat_history.specs.Losses.{loses}
-use Rattle.flat_history.specs.World.{World}
-use Rattle.flat_history.specs.Stands.{reach_of}
+use Rattle.mending_kept.specs.superblocks_the_Members.{Members}
+use Rattle.mending_kept.specs.superblocks_Reading.{Scope, shape_of, final_shape, list_length}
+use Rattle.mending_kept.proofs.superblocks_ValidFields.{few-roles}
+use Rattle.mending_kept.specs.row_io_Rows.{reading_of, is_missing}
+use Rattle.mending_kept.specs.flat_history_the_Entry.{Entry}
+use Rattle.mending_kept.specs.flat_history_the_Event.{Event}
+use Rattle.mending_kept.specs.flat_history_the_Event_TheVariants.{Lost}
+use Rattle.mending_kept.specs.flat_history_the_LostCause.{LostCause}
+use Rattle.mending_kept.specs.flat_history_Flat.{length_of, length_after, limit_after}
+use Rattle.mending_kept.specs.flat_history_Growing.{EndBy}
+use Rattle.mending_kept.specs.flat_history_OneShape.{is_lost}
+use Rattle.mending_kept.specs.flat_history_Plain.{entries_of}
+use Rattle.mending_kept.specs.flat_history_Losses.{loses}
+use Rattle.mending_kept.specs.flat_history_World.{World}
+use Rattle.mending_kept.specs.flat_history_Stands.{reach_of}
 use Rattle.mending_kept.specs.shape_views_Regions.{backup_of, DoWithout}
 use Rattle.mending_kept.specs.shape_changes_Safety.{HasLiveSlot}
 use Rattle.mending_kept.specs.views_Placed.{AreWhole, HaveSameReshape}
@@ -39,10 +39,10 @@ use Rattle.mending_kept.specs.views_the_Work.{Work}
 use Rattle.mending_kept.specs.views_Moving.{Grows, IsMoved}
 use Rattle.mending_kept.specs.views_Numbers.{is_carried}
 use Rattle.mending_kept.proofs.views_LiveLeft.{without-left}
-use Rattle.grow_asked.specs.declared.window.Window.{Window}
-use Rattle.grow_asked.specs.declared.window.Window.TheVariants.{Closed, Entered, Unsure}
-use Rattle.grow_asked.specs.declared.window.PhasesLeft.{PhasesLeft}
-use Rattle.grow_asked.specs.Left.{phases_of, grow_left, reshape_left}
+use Rattle.mending_kept.specs.grow_asked_the_Window.{Window}
+use Rattle.mending_kept.specs.grow_asked_the_Window_TheVariants.{Closed, Entered, Unsure}
+use Rattle.mending_kept.specs.grow_asked_the_PhasesLeft.{PhasesLeft}
+use Rattle.mending_kept.specs.grow_asked_Left.{phases_of, grow_left, reshape_left}
 use Rattle.mending_kept.specs.kept_history_Safe.{world_in, TakesNone}
 use Rattle.mending_kept.proofs.kept_history_Entered.{lost-taken}
 use Rattle.mending_kept.proofs.kept_history_Growing.{takes-grown}

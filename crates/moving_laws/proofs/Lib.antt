@@ -62,3 +62,8 @@ pub use Rattle.mending_kept.proofs.shape_views_Alike
 pub use Rattle.mending_kept.proofs.kept_history_Marks
 pub use Rattle.mending_kept.proofs.shape_views_Headers
 pub use Rattle.mending_kept.proofs.kept_history_Opened
+pub use Rattle.mending_kept.proofs.superblock_reads_SaidLists
+pub use Rattle.mending_kept.proofs.superblock_reads_SaidSlots
+pub use Rattle.mending_kept.proofs.history_laws_OneShapeGrowing
+pub use Rattle.mending_kept.proofs.history_laws_ReshapedLaws
+pub use Rattle.mending_kept.proofs.history_laws_GrowingLaws

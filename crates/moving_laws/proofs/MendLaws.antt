@@ -14,16 +14,16 @@ use Rattle.bank.specs.Tape.{disk}
 use Rattle.sb1.specs.declared.sb.Sb.{Sb}
 use Rattle.geometry.proofs.ClosedForms.{ceiling_below}
 use Rattle.grow_plan.specs.Plans.{phases_steps}
-use Rattle.superblocks.specs.declared.members.Members.{Members}
-use Rattle.superblocks.specs.Reading.{Scope, is_reshaping, is_clean, final_shape, list_length}
-use Rattle.row_io.specs.Rows.{reading_of, present}
-use Rattle.flat_history.specs.declared.events.Entry.{Entry}
-use Rattle.flat_history.specs.declared.events.Event.TheVariants.{Step, Refused}
-use Rattle.flat_history.specs.declared.events.StepKind.TheVariants.{ResyncStripe as MendsStripe, ResyncEnded as EndsResync}
-use Rattle.flat_history.specs.Flat.{now}
-use Rattle.flat_history.specs.Plain.{entries_of}
-use Rattle.flat_history.specs.Sound.{OpensFit}
-use Rattle.flat_history.specs.World.{World, opening_list}
+use Rattle.mending_kept.specs.superblocks_the_Members.{Members}
+use Rattle.mending_kept.specs.superblocks_Reading.{Scope, is_reshaping, is_clean, final_shape, list_length}
+use Rattle.mending_kept.specs.row_io_Rows.{reading_of, present}
+use Rattle.mending_kept.specs.flat_history_the_Entry.{Entry}
+use Rattle.mending_kept.specs.flat_history_the_Event_TheVariants.{Step, Refused}
+use Rattle.mending_kept.specs.flat_history_the_StepKind_TheVariants.{ResyncStripe as MendsStripe, ResyncEnded as EndsResync}
+use Rattle.mending_kept.specs.flat_history_Flat.{now}
+use Rattle.mending_kept.specs.flat_history_Plain.{entries_of}
+use Rattle.mending_kept.specs.flat_history_Sound.{OpensFit}
+use Rattle.mending_kept.specs.flat_history_World.{World, opening_list}
 use Rattle.mending_kept.specs.shape_views_Regions.{AreShapesFit, DoWithout}
 use Rattle.mending_kept.specs.shape_views_Views.{Ledger, IsTailZero}
 use Rattle.mending_kept.specs.shape_views_Windows.{IsShown, AreTailsStanding}
@@ -41,10 +41,10 @@ use Rattle.running_words.proofs.safe_updates_RefusingLaws.{write-none}
 use Rattle.mending_kept.specs.call_entries_Losing.{losses_of}
 use Rattle.running_words.specs.array_kept_Calls.{one_more, IsRefusedFor}
 use Rattle.running_words.proofs.array_kept_ReplyLaws.{IsOfMissing, too-many-of, unwritten-of, refused-for}
-use Rattle.grow_asked.specs.declared.window.Window.{Window}
-use Rattle.grow_asked.specs.declared.window.Window.TheVariants.{Closed, Entered, Unsure}
-use Rattle.grow_asked.specs.declared.window.PhasesLeft.{PhasesLeft}
-use Rattle.grow_asked.specs.Left.{phases_of, grow_left, reshape_left, IsWindowRight}
+use Rattle.mending_kept.specs.grow_asked_the_Window.{Window}
+use Rattle.mending_kept.specs.grow_asked_the_Window_TheVariants.{Closed, Entered, Unsure}
+use Rattle.mending_kept.specs.grow_asked_the_PhasesLeft.{PhasesLeft}
+use Rattle.mending_kept.specs.grow_asked_Left.{phases_of, grow_left, reshape_left, IsWindowRight}
 use Rattle.mending_kept.specs.region_rows_Stretches.{ListStandsIn, RowsStandIn}
 use Rattle.mending_kept.proofs.region_writes_Sides.{low-some, low-fits, list-few}
 use Rattle.mending_kept.specs.region_mends_Mends.{low_end, low_shape, low_stripes, high_shape, high_stripe, mend_stripes, mend_shape, relied_sector, IsMendRow, AreEndsStanding, mend_refusal, IsNotMended}

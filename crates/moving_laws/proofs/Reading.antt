@@ -19,22 +19,22 @@ use Rattle.bank.specs.Given.{Given}
 use Rattle.bank.specs.Tape.{Contents, disk}
 use Rattle.parity.specs.Rows.{sector_of}
 use Rattle.sb1.specs.declared.sb.Sb.{Sb}
-use Rattle.superblocks.specs.declared.members.Members.{Members}
-use Rattle.superblocks.specs.Reading.{Scope, is_clean, list_length, role_count}
-use Rattle.row_io.specs.Rows.{reading_of, present, is_missing}
-use Rattle.flat_history.specs.declared.events.Entry.{Entry}
-use Rattle.flat_history.specs.declared.events.Event.{Event}
-use Rattle.flat_history.specs.declared.events.Event.TheVariants.{Read, Refused}
-use Rattle.flat_history.specs.declared.events.Request.TheVariants.{Read as AsksRead}
-use Rattle.flat_history.specs.Flat.{now, next_number, length_of, limit_of, limit_after, visible_of, values_of, values_after}
-use Rattle.flat_history.specs.Legal.{visible_at, level_at, IsRefusedRight}
-use Rattle.flat_history.specs.Losses.{is_gone_after, loses}
-use Rattle.flat_history.specs.Plain.{entries_of}
-use Rattle.flat_history.specs.Sound.{OpensFit}
-use Rattle.flat_history.specs.Stands.{shape_for, reach_of}
-use Rattle.flat_history.specs.Transfers.{IsReadOver}
-use Rattle.flat_history.specs.World.{World, opening_list}
-use Rattle.flat_history.proofs.SoundLaws.{fit-before}
+use Rattle.mending_kept.specs.superblocks_the_Members.{Members}
+use Rattle.mending_kept.specs.superblocks_Reading.{Scope, is_clean, list_length, role_count}
+use Rattle.mending_kept.specs.row_io_Rows.{reading_of, present, is_missing}
+use Rattle.mending_kept.specs.flat_history_the_Entry.{Entry}
+use Rattle.mending_kept.specs.flat_history_the_Event.{Event}
+use Rattle.mending_kept.specs.flat_history_the_Event_TheVariants.{Read, Refused}
+use Rattle.mending_kept.specs.flat_history_the_Request_TheVariants.{Read as AsksRead}
+use Rattle.mending_kept.specs.flat_history_Flat.{now, next_number, length_of, limit_of, limit_after, visible_of, values_of, values_after}
+use Rattle.mending_kept.specs.flat_history_Legal.{visible_at, level_at, IsRefusedRight}
+use Rattle.mending_kept.specs.flat_history_Losses.{is_gone_after, loses}
+use Rattle.mending_kept.specs.flat_history_Plain.{entries_of}
+use Rattle.mending_kept.specs.flat_history_Sound.{OpensFit}
+use Rattle.mending_kept.specs.flat_history_Stands.{shape_for, reach_of}
+use Rattle.mending_kept.specs.flat_history_Transfers.{IsReadOver}
+use Rattle.mending_kept.specs.flat_history_World.{World, opening_list}
+use Rattle.mending_kept.proofs.flat_history_SoundLaws.{fit-before}
 use Rattle.mending_kept.specs.shape_views_Regions.{AreShapesFit, place_by}
 use Rattle.mending_kept.specs.shape_views_Views.{Ledger}
 use Rattle.mending_kept.specs.shape_changes_Marking.{AreOthersPresent}
@@ -67,8 +67,8 @@ use Rattle.running_words.specs.history_calls_Reliable.{IsReliable, AreToldGone}
 use Rattle.running_words.proofs.history_calls_Behind.{IsAmong, and-true, early-losses, legal-losses}
 use Rattle.running_words.proofs.history_calls_Quiet.{IsQuiet, LeavesList, IsLeftBehind, quiet-leaves, quiet-now, last-left}
 use Rattle.mending_kept.specs.course_kept_the_Course.{Course}
-use Rattle.grow_asked.specs.declared.window.Window.{Window}
-use Rattle.grow_asked.specs.declared.window.Window.TheVariants.{Closed, Entered, Unsure}
+use Rattle.mending_kept.specs.grow_asked_the_Window.{Window}
+use Rattle.mending_kept.specs.grow_asked_the_Window_TheVariants.{Closed, Entered, Unsure}
 use Rattle.mending_kept.specs.course_kept_Course.{HasWindowIn, IsWindowOf, hidden_in}
 use Rattle.mending_kept.specs.region_mends_Mends.{relied_sector}
 use Rattle.mending_kept.specs.course_mends_Mended.{StandsMended}

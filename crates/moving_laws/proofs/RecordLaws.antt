@@ -10,17 +10,17 @@ use Rattle.bank.specs.Given.{Given}
 use Rattle.bank.specs.Tape.{disk}
 use Rattle.grow_plan.specs.Plans.{phases_steps}
 use Rattle.sb1.specs.declared.sb.Sb.{Sb}
-use Rattle.superblocks.specs.declared.members.Members.{Members}
-use Rattle.superblocks.specs.Reading.{Scope, is_clean, is_reshaping, final_shape, next_window, role_count}
-use Rattle.superblocks.proofs.ValidFields.{few-roles}
-use Rattle.row_io.specs.Rows.{present}
+use Rattle.mending_kept.specs.superblocks_the_Members.{Members}
+use Rattle.mending_kept.specs.superblocks_Reading.{Scope, is_clean, is_reshaping, final_shape, next_window, role_count}
+use Rattle.mending_kept.proofs.superblocks_ValidFields.{few-roles}
+use Rattle.mending_kept.specs.row_io_Rows.{present}
 use Rattle.geometry.specs.Geometry.{stripes}
-use Rattle.flat_history.specs.declared.events.Entry.{Entry}
-use Rattle.flat_history.specs.declared.events.Event.TheVariants.{Step, Refused}
-use Rattle.flat_history.specs.declared.events.StepKind.TheVariants.{Checkpointed as RecordsWindow}
-use Rattle.flat_history.specs.Plain.{entries_of}
-use Rattle.flat_history.specs.Sound.{OpensFit}
-use Rattle.flat_history.specs.World.{World}
+use Rattle.mending_kept.specs.flat_history_the_Entry.{Entry}
+use Rattle.mending_kept.specs.flat_history_the_Event_TheVariants.{Step, Refused}
+use Rattle.mending_kept.specs.flat_history_the_StepKind_TheVariants.{Checkpointed as RecordsWindow}
+use Rattle.mending_kept.specs.flat_history_Plain.{entries_of}
+use Rattle.mending_kept.specs.flat_history_Sound.{OpensFit}
+use Rattle.mending_kept.specs.flat_history_World.{World}
 use Rattle.mending_kept.specs.shape_views_Regions.{ArePlaced, DoWithout}
 use Rattle.mending_kept.specs.shape_views_Views.{AreHeadersFit, Ledger}
 use Rattle.mending_kept.specs.shape_views_Windows.{HasNoSection, moved_past}
@@ -35,10 +35,10 @@ use Rattle.running_words.specs.safe_updates_Unused.{IsUnusedKept}
 use Rattle.mending_kept.specs.call_entries_Losing.{losses_of}
 use Rattle.mending_kept.specs.window_steps_Recording.{IsCopiedWindow}
 use Rattle.mending_kept.proofs.window_steps_PastLaws.{past-placed}
-use Rattle.grow_asked.specs.declared.window.Window.TheVariants.{Closed, Entered}
-use Rattle.grow_asked.specs.declared.window.PhasesLeft.{PhasesLeft}
-use Rattle.grow_asked.specs.Left.{phases_of, reshape_left, grow_left, IsPast}
-use Rattle.grow_asked.proofs.LeftLaws.{recording}
+use Rattle.mending_kept.specs.grow_asked_the_Window_TheVariants.{Closed, Entered}
+use Rattle.mending_kept.specs.grow_asked_the_PhasesLeft.{PhasesLeft}
+use Rattle.mending_kept.specs.grow_asked_Left.{phases_of, reshape_left, grow_left, IsPast}
+use Rattle.mending_kept.proofs.grow_asked_LeftLaws.{recording}
 use Rattle.mending_kept.specs.kept_history_Recorded.{IsCallGoing}
 use Rattle.mending_kept.specs.kept_history_Safe.{world_in}
 use Rattle.mending_kept.specs.course_kept_the_Course.{Course}

@@ -8,16 +8,16 @@ use Rattle.md_base.specs.declared.answers.Who.{Who}
 use Rattle.bank.specs.declared.bank.Operation.{Operation}
 use Rattle.bank.specs.Given.{Given}
 use Rattle.sb1.specs.declared.sb.Sb.{Sb}
-use Rattle.superblocks.specs.declared.members.Members.{Members}
-use Rattle.superblocks.specs.Reading.{Scope, list_length, role_count}
-use Rattle.row_io.specs.Rows.{reading_of, is_missing}
-use Rattle.flat_history.specs.declared.events.Entry.{Entry}
-use Rattle.flat_history.specs.Legal.{IsRefusedRight}
-use Rattle.flat_history.specs.declared.events.Event.{Event}
-use Rattle.flat_history.specs.Losses.{is_resync_end, is_unsynced}
-use Rattle.flat_history.specs.Plain.{entries_of}
-use Rattle.flat_history.specs.Stands.{shape_for}
-use Rattle.flat_history.specs.World.{World}
+use Rattle.mending_kept.specs.superblocks_the_Members.{Members}
+use Rattle.mending_kept.specs.superblocks_Reading.{Scope, list_length, role_count}
+use Rattle.mending_kept.specs.row_io_Rows.{reading_of, is_missing}
+use Rattle.mending_kept.specs.flat_history_the_Entry.{Entry}
+use Rattle.mending_kept.specs.flat_history_Legal.{IsRefusedRight}
+use Rattle.mending_kept.specs.flat_history_the_Event.{Event}
+use Rattle.mending_kept.specs.flat_history_Losses.{is_resync_end, is_unsynced}
+use Rattle.mending_kept.specs.flat_history_Plain.{entries_of}
+use Rattle.mending_kept.specs.flat_history_Stands.{shape_for}
+use Rattle.mending_kept.specs.flat_history_World.{World}
 use Rattle.mending_kept.specs.shape_views_Regions.{AreShapesFit, place_by}
 use Rattle.mending_kept.specs.views_Moving.{Grows}
 use Rattle.mending_kept.proofs.views_Fit.{force-valid, force-disks}

@@ -2,10 +2,10 @@
 use Rattle.std.proofs.Common.{◌≡◌, inl, inr, ℕ, Option, Some, List, sym, ap, subst}
 use Rattle.std.specs.Prelude.{MatchOption, ⊤}
 use Rattle.md_base.specs.declared.answers.Refusal.{Refusal}
-use Rattle.superblocks.specs.declared.members.Members.{Members}
+use Rattle.mending_kept.specs.superblocks_the_Members.{Members}
 use Rattle.bank.specs.declared.bank.Operation.{Operation}
-use Rattle.flat_history.specs.declared.events.Event.{Event}
-use Rattle.flat_history.specs.Flat.{length_after, limit_after}
+use Rattle.mending_kept.specs.flat_history_the_Event.{Event}
+use Rattle.mending_kept.specs.flat_history_Flat.{length_after, limit_after}
 use Rattle.mending_kept.specs.shape_changes_Safety.{IsRisen}
 use Rattle.mending_kept.specs.views_Lacking.{AreTooMany}
 use Rattle.running_words.specs.array_kept_Calls.{IsSettling}

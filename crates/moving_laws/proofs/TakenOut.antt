@@ -4,10 +4,10 @@ use Rattle.md_base.specs.Shapes.{has_slot}
 use Rattle.bank.specs.declared.bank.Operation.{Operation}
 use Rattle.bank.specs.Given.{Given}
 use Rattle.bank.specs.Tape.{disk}
-use Rattle.superblocks.specs.declared.members.Members.{Members}
-use Rattle.superblocks.specs.Reading.{is_clean, role_count, role_state, holder}
-use Rattle.superblocks.proofs.ValidFields.{few-roles}
-use Rattle.row_io.specs.Rows.{reading_of, present, is_missing, members_without}
+use Rattle.mending_kept.specs.superblocks_the_Members.{Members}
+use Rattle.mending_kept.specs.superblocks_Reading.{is_clean, role_count, role_state, holder}
+use Rattle.mending_kept.proofs.superblocks_ValidFields.{few-roles}
+use Rattle.mending_kept.specs.row_io_Rows.{reading_of, present, is_missing, members_without}
 use Rattle.mending_kept.specs.shape_changes_Marking.{AreOthersPresent}
 use Rattle.mending_kept.specs.shape_changes_Safety.{IsRisen}
 use Rattle.mending_kept.specs.shape_changes_Steady.{AreUnlost}

@@ -14,21 +14,21 @@ use Rattle.bank.specs.declared.bank.Operation.{Operation}
 use Rattle.bank.specs.Given.{Given, NeverFalls}
 use Rattle.bank.specs.Tape.{Contents}
 use Rattle.bank.proofs.Causes.{faulted_longer}
-use Rattle.superblocks.specs.declared.members.Members.{Members}
-use Rattle.superblocks.proofs.ValidFields.{few-roles}
-use Rattle.row_io.specs.Rows.{reading_of, is_missing, present}
-use Rattle.superblocks.specs.Reading.{Scope, is_reshaping, final_shape, list_length, next_window, role_count}
-use Rattle.flat_history.specs.declared.events.Entry.{Entry}
-use Rattle.flat_history.specs.declared.events.Event.{Event}
-use Rattle.flat_history.specs.declared.events.Event.TheVariants.{Lost, SpareLost, Step, Wrote, Torn, Refused}
-use Rattle.flat_history.specs.declared.events.LostCause.{LostCause}
-use Rattle.flat_history.specs.declared.events.LostCause.TheVariants.{Command, Fault}
-use Rattle.flat_history.specs.declared.events.StepKind.TheVariants.{WindowFinished as FinishesWindow}
-use Rattle.flat_history.specs.Flat.{limit_of, visible_of}
-use Rattle.flat_history.specs.Legal.{visible_at, IsRefusedRight}
-use Rattle.flat_history.specs.Plain.{entries_of}
-use Rattle.flat_history.specs.Stands.{covers, shape_for}
-use Rattle.flat_history.specs.World.{World, opening_list}
+use Rattle.mending_kept.specs.superblocks_the_Members.{Members}
+use Rattle.mending_kept.proofs.superblocks_ValidFields.{few-roles}
+use Rattle.mending_kept.specs.row_io_Rows.{reading_of, is_missing, present}
+use Rattle.mending_kept.specs.superblocks_Reading.{Scope, is_reshaping, final_shape, list_length, next_window, role_count}
+use Rattle.mending_kept.specs.flat_history_the_Entry.{Entry}
+use Rattle.mending_kept.specs.flat_history_the_Event.{Event}
+use Rattle.mending_kept.specs.flat_history_the_Event_TheVariants.{Lost, SpareLost, Step, Wrote, Torn, Refused}
+use Rattle.mending_kept.specs.flat_history_the_LostCause.{LostCause}
+use Rattle.mending_kept.specs.flat_history_the_LostCause_TheVariants.{Command, Fault}
+use Rattle.mending_kept.specs.flat_history_the_StepKind_TheVariants.{WindowFinished as FinishesWindow}
+use Rattle.mending_kept.specs.flat_history_Flat.{limit_of, visible_of}
+use Rattle.mending_kept.specs.flat_history_Legal.{visible_at, IsRefusedRight}
+use Rattle.mending_kept.specs.flat_history_Plain.{entries_of}
+use Rattle.mending_kept.specs.flat_history_Stands.{covers, shape_for}
+use Rattle.mending_kept.specs.flat_history_World.{World, opening_list}
 use Rattle.mending_kept.specs.shape_views_Regions.{DoWithout}
 use Rattle.mending_kept.specs.shape_views_Windows.{moved_past}
 use Rattle.mending_kept.specs.shape_changes_Safety.{HasLiveSlot}
@@ -47,11 +47,11 @@ use Rattle.running_words.specs.array_kept_Calls.{IsRoleLossBy, IsLossBy, AreLoss
 use Rattle.running_words.proofs.array_kept_ReplyLaws.{IsOfMissing, unwritten-of}
 use Rattle.mending_kept.specs.region_writes_Runs.{IsListUnwritten}
 use Rattle.mending_kept.proofs.region_writes_Together.{shape-force}
-use Rattle.grow_asked.specs.declared.window.Window.{Window}
-use Rattle.grow_asked.specs.declared.window.Window.TheVariants.{Closed, Entered, Unsure}
-use Rattle.grow_asked.specs.declared.window.PhasesLeft.{PhasesLeft}
-use Rattle.grow_asked.specs.Left.{stripes_in, phases_of, grow_left}
-use Rattle.grow_asked.proofs.LeftLaws.{finishing}
+use Rattle.mending_kept.specs.grow_asked_the_Window.{Window}
+use Rattle.mending_kept.specs.grow_asked_the_Window_TheVariants.{Closed, Entered, Unsure}
+use Rattle.mending_kept.specs.grow_asked_the_PhasesLeft.{PhasesLeft}
+use Rattle.mending_kept.specs.grow_asked_Left.{stripes_in, phases_of, grow_left}
+use Rattle.mending_kept.proofs.grow_asked_LeftLaws.{finishing}
 use Rattle.mending_kept.specs.kept_history_Recorded.{IsCallGoing}
 use Rattle.mending_kept.specs.kept_history_Safe.{world_in, TakesNone}
 use Rattle.running_words.proofs.history_calls_Behind.{early-losses}

@@ -11,25 +11,25 @@ use Rattle.md_base.specs.declared.answers.Fault.TheVariants.{Refused as IsRefuse
 use Rattle.md_base.specs.declared.answers.Refusal.{Refusal}
 use Rattle.md_base.specs.declared.answers.Refusal.TheVariants.{PastEnd}
 use Rattle.md_base.specs.declared.answers.Who.{Who}
-use Rattle.superblocks.specs.declared.members.Members.{Members}
-use Rattle.flat_history.specs.declared.events.Entry.{Entry}
-use Rattle.flat_history.specs.declared.events.Event.{Event}
-use Rattle.flat_history.specs.declared.events.Event.TheVariants.{Lost, SpareLost, Step, Wrote, Torn, Refused}
-use Rattle.flat_history.specs.declared.events.LostCause.TheVariants.{Fault}
-use Rattle.flat_history.specs.declared.events.Request.{Request}
-use Rattle.flat_history.specs.declared.events.Request.TheVariants.{Write as AsksWrite}
-use Rattle.flat_history.specs.declared.events.StepKind.TheVariants.{WindowFinished as FinishesWindow}
-use Rattle.flat_history.specs.Fits.{AreTornOf, IsTornOf}
-use Rattle.flat_history.specs.Flat.{is_same_call, rest_of_call, next_number, length_of, limit_of, length_after, limit_after, visible_of}
-use Rattle.flat_history.specs.OneShape.{IsOfCall, OneShapeAnswers}
-use Rattle.flat_history.specs.Plain.{entries_of}
+use Rattle.mending_kept.specs.superblocks_the_Members.{Members}
+use Rattle.mending_kept.specs.flat_history_the_Entry.{Entry}
+use Rattle.mending_kept.specs.flat_history_the_Event.{Event}
+use Rattle.mending_kept.specs.flat_history_the_Event_TheVariants.{Lost, SpareLost, Step, Wrote, Torn, Refused}
+use Rattle.mending_kept.specs.flat_history_the_LostCause_TheVariants.{Fault}
+use Rattle.mending_kept.specs.flat_history_the_Request.{Request}
+use Rattle.mending_kept.specs.flat_history_the_Request_TheVariants.{Write as AsksWrite}
+use Rattle.mending_kept.specs.flat_history_the_StepKind_TheVariants.{WindowFinished as FinishesWindow}
+use Rattle.mending_kept.specs.flat_history_Fits.{AreTornOf, IsTornOf}
+use Rattle.mending_kept.specs.flat_history_Flat.{is_same_call, rest_of_call, next_number, length_of, limit_of, length_after, limit_after, visible_of}
+use Rattle.mending_kept.specs.flat_history_OneShape.{IsOfCall, OneShapeAnswers}
+use Rattle.mending_kept.specs.flat_history_Plain.{entries_of}
 use Rattle.mending_kept.specs.call_entries_Losing.{losses_of, failure_events}
 use Rattle.mending_kept.proofs.call_entries_CallLaws.{AreLossEvents, losses-are, length-losses, limit-losses, torn-losses, torn-both, torn-reverse}
 use Rattle.mending_kept.proofs.call_entries_LosingLaws.{entries-both}
 use Rattle.running_words.specs.array_kept_Calls.{StandsInside, IsRefusedFor, IsCausedBy}
 use Rattle.running_words.proofs.array_kept_NowLaws.{length-more}
 use Rattle.running_words.proofs.array_kept_ReplyLaws.{IsOfMissing, none_before, too-many-of}
-use Rattle.grow_asked.specs.declared.window.Window.{Window}
+use Rattle.mending_kept.specs.grow_asked_the_Window.{Window}
 use Rattle.mending_kept.specs.kept_history_Recorded.{entry_of}
 use Rattle.running_words.specs.moving_state_Due.{open_in}
 use Rattle.moving_laws.specs.Writing.{IsWriteLacked, IsFinishedFirst, IsWriteEntered, IsRepliedBehind, IsWriteAnswered}

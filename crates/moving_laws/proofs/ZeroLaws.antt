@@ -9,16 +9,16 @@ use Rattle.bank.specs.declared.bank.Operation.{Operation}
 use Rattle.bank.specs.Given.{Given}
 use Rattle.bank.specs.Tape.{disk}
 use Rattle.grow_plan.specs.Plans.{phases_steps}
-use Rattle.superblocks.specs.declared.members.Members.{Members}
-use Rattle.superblocks.specs.Reading.{Scope, is_clean, is_reshaping, final_shape, next_window}
-use Rattle.superblocks.proofs.ValidFields.{few-roles}
-use Rattle.row_io.specs.Rows.{reading_of, present}
-use Rattle.list_io.specs.Full.{RowStands}
-use Rattle.flat_history.specs.declared.events.Entry.{Entry}
-use Rattle.flat_history.specs.declared.events.Event.TheVariants.{Step, Refused}
-use Rattle.flat_history.specs.declared.events.StepKind.TheVariants.{Zeroed as ZeroesStripe}
-use Rattle.flat_history.specs.Plain.{entries_of}
-use Rattle.flat_history.specs.World.{World}
+use Rattle.mending_kept.specs.superblocks_the_Members.{Members}
+use Rattle.mending_kept.specs.superblocks_Reading.{Scope, is_clean, is_reshaping, final_shape, next_window}
+use Rattle.mending_kept.proofs.superblocks_ValidFields.{few-roles}
+use Rattle.mending_kept.specs.row_io_Rows.{reading_of, present}
+use Rattle.mending_kept.specs.list_io_Full.{RowStands}
+use Rattle.mending_kept.specs.flat_history_the_Entry.{Entry}
+use Rattle.mending_kept.specs.flat_history_the_Event_TheVariants.{Step, Refused}
+use Rattle.mending_kept.specs.flat_history_the_StepKind_TheVariants.{Zeroed as ZeroesStripe}
+use Rattle.mending_kept.specs.flat_history_Plain.{entries_of}
+use Rattle.mending_kept.specs.flat_history_World.{World}
 use Rattle.mending_kept.specs.shape_views_Views.{Ledger}
 use Rattle.mending_kept.specs.shape_changes_Safety.{HasLiveSlot, HasRoomLeft, IsRisen}
 use Rattle.mending_kept.specs.shape_changes_Steady.{IsSafeOver, KeepsSafe, AreGoneTold, IsUncleanTold}
@@ -27,10 +27,10 @@ use Rattle.mending_kept.specs.views_Lacking.{AreTooMany, AreLostSince, IsOfStrip
 use Rattle.mending_kept.specs.window_rows_Copies.{tail_of, IsZeroIn}
 use Rattle.running_words.specs.safe_updates_Unused.{IsUnusedKept}
 use Rattle.mending_kept.specs.call_entries_Losing.{losses_of}
-use Rattle.grow_asked.specs.declared.window.Window.{Window}
-use Rattle.grow_asked.specs.declared.window.PhasesLeft.{PhasesLeft}
-use Rattle.grow_asked.specs.Left.{zeroed_by, phases_of, grow_left, reshape_left}
-use Rattle.grow_asked.proofs.LeftLaws.{zeroing}
+use Rattle.mending_kept.specs.grow_asked_the_Window.{Window}
+use Rattle.mending_kept.specs.grow_asked_the_PhasesLeft.{PhasesLeft}
+use Rattle.mending_kept.specs.grow_asked_Left.{zeroed_by, phases_of, grow_left, reshape_left}
+use Rattle.mending_kept.proofs.grow_asked_LeftLaws.{zeroing}
 use Rattle.mending_kept.specs.kept_history_Recorded.{IsCallGoing}
 use Rattle.mending_kept.specs.kept_history_Safe.{world_in}
 use Rattle.mending_kept.specs.course_kept_the_Course.{Course}

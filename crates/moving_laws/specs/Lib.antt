@@ -43,3 +43,4 @@ pub use Rattle.mending_kept.specs.shape_ends_Ends
 pub use Rattle.mending_kept.specs.shape_ends_Plans
 pub use Rattle.mending_kept.specs.shape_changes_Changing
 pub use Rattle.mending_kept.specs.shape_changes_Updates
+pub use Rattle.mending_kept.specs.list_io_Full

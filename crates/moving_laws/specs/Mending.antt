@@ -4,8 +4,8 @@ use Rattle.md_base.specs.Sectors.{Sector}
 use Rattle.bank.specs.declared.bank.Operation.{Operation}
 use Rattle.bank.specs.Given.{Given}
 use Rattle.bank.specs.Tape.{Contents}
-use Rattle.superblocks.specs.declared.members.Members.{Members}
-use Rattle.superblocks.specs.Reading.{list_length}
+use Rattle.mending_kept.specs.superblocks_the_Members.{Members}
+use Rattle.mending_kept.specs.superblocks_Reading.{list_length}
 use Rattle.mending_kept.specs.views_Lacking.{DoesWithout}
 use Rattle.mending_kept.specs.region_rows_Stretches.{RowsStandIn}
 use Rattle.mending_kept.specs.region_mends_Mends.{mend_stripes}

@@ -4,19 +4,19 @@ use Rattle.md_base.specs.Shapes.{has_slot}
 use Rattle.md_base.specs.declared.places.Span.{Span}
 use Rattle.bank.specs.declared.bank.Operation.{Operation}
 use Rattle.bank.specs.Given.{Given}
-use Rattle.superblocks.specs.declared.members.Members.{Members}
-use Rattle.superblocks.specs.Reading.{Scope, final_shape, list_length}
+use Rattle.mending_kept.specs.superblocks_the_Members.{Members}
+use Rattle.mending_kept.specs.superblocks_Reading.{Scope, final_shape, list_length}
 use Rattle.grow_plan.specs.Plans.{AreSound}
-use Rattle.flat_history.specs.declared.events.Entry.{Entry}
-use Rattle.flat_history.specs.Flat.{length_of, limit_of}
-use Rattle.flat_history.specs.Stands.{reach_of}
+use Rattle.mending_kept.specs.flat_history_the_Entry.{Entry}
+use Rattle.mending_kept.specs.flat_history_Flat.{length_of, limit_of}
+use Rattle.mending_kept.specs.flat_history_Stands.{reach_of}
 use Rattle.mending_kept.specs.shape_views_Regions.{backup_of}
 use Rattle.mending_kept.specs.views_the_Work.{Work}
 use Rattle.mending_kept.specs.views_Numbers.{is_carried}
-use Rattle.grow_asked.specs.declared.window.Window.{Window}
-use Rattle.grow_asked.specs.declared.window.Window.TheVariants.{Closed, Entered, Unsure}
-use Rattle.grow_asked.specs.declared.window.PhasesLeft.{PhasesLeft}
-use Rattle.grow_asked.specs.Left.{phases_of}
+use Rattle.mending_kept.specs.grow_asked_the_Window.{Window}
+use Rattle.mending_kept.specs.grow_asked_the_Window_TheVariants.{Closed, Entered, Unsure}
+use Rattle.mending_kept.specs.grow_asked_the_PhasesLeft.{PhasesLeft}
+use Rattle.mending_kept.specs.grow_asked_Left.{phases_of}
 use Rattle.running_words.specs.Parts.{left_in}
 use Rattle.mending_kept.specs.views_Placed.{AreWhole}
 use Rattle.mending_kept.specs.kept_history_Safe.{world_in, TakesNone}

@@ -1,10 +1,10 @@
 -- Which step of an array in a reshape is done next, what it makes of a pending resync and of the mark, and why it isn't done.
 use Rattle.std.specs.Prelude.{◌≡◌, ℕ, true, Option, Some, None, Result, OnOk}
 use Rattle.md_base.specs.declared.answers.Fault.{Fault}
-use Rattle.superblocks.specs.declared.members.Members.{Members}
-use Rattle.superblocks.specs.Reading.{is_clean, list_length}
-use Rattle.flat_history.specs.declared.events.StepKind.{StepKind}
-use Rattle.flat_history.specs.declared.events.StepKind.TheVariants.{Entered, Copied, Checkpointed, Zeroed, Finished, ResyncStripe, ResyncEnded}
+use Rattle.mending_kept.specs.superblocks_the_Members.{Members}
+use Rattle.mending_kept.specs.superblocks_Reading.{is_clean, list_length}
+use Rattle.mending_kept.specs.flat_history_the_StepKind.{StepKind}
+use Rattle.mending_kept.specs.flat_history_the_StepKind_TheVariants.{Entered, Copied, Checkpointed, Zeroed, Finished, ResyncStripe, ResyncEnded}
 use Rattle.mending_kept.specs.views_Lacking.{AreTooMany}
 use Rattle.mending_kept.specs.region_mends_Mends.{mend_shape, IsNotMended}
 use Rattle.running_words.specs.array_kept_Calls.{one_more, IsCausedBy}

@@ -9,24 +9,24 @@ use Rattle.md_base.specs.declared.answers.Refusal.TheVariants.{BackupFault}
 use Rattle.md_base.specs.declared.answers.Who.{Who}
 use Rattle.md_base.specs.declared.places.Span.{Span}
 use Rattle.sb1.specs.declared.sb.Sb.{Sb}
-use Rattle.superblocks.specs.declared.members.Members.{Members}
-use Rattle.flat_history.specs.declared.events.Entry.{Entry}
-use Rattle.flat_history.specs.declared.events.Event.{Event}
-use Rattle.flat_history.specs.declared.events.Event.TheVariants.{Step, Wrote, Refused}
-use Rattle.flat_history.specs.declared.events.Request.{Request}
-use Rattle.flat_history.specs.declared.events.Request.TheVariants.{Write as AsksWrite}
-use Rattle.flat_history.specs.OneShape.{IsOfCall, OneShapeFits}
-use Rattle.flat_history.specs.declared.events.StepKind.TheVariants.{WindowFinished as FinishesWindow}
-use Rattle.flat_history.specs.Plain.{entries_of}
-use Rattle.flat_history.specs.Stands.{covers}
+use Rattle.mending_kept.specs.superblocks_the_Members.{Members}
+use Rattle.mending_kept.specs.flat_history_the_Entry.{Entry}
+use Rattle.mending_kept.specs.flat_history_the_Event.{Event}
+use Rattle.mending_kept.specs.flat_history_the_Event_TheVariants.{Step, Wrote, Refused}
+use Rattle.mending_kept.specs.flat_history_the_Request.{Request}
+use Rattle.mending_kept.specs.flat_history_the_Request_TheVariants.{Write as AsksWrite}
+use Rattle.mending_kept.specs.flat_history_OneShape.{IsOfCall, OneShapeFits}
+use Rattle.mending_kept.specs.flat_history_the_StepKind_TheVariants.{WindowFinished as FinishesWindow}
+use Rattle.mending_kept.specs.flat_history_Plain.{entries_of}
+use Rattle.mending_kept.specs.flat_history_Stands.{covers}
 use Rattle.mending_kept.specs.views_Lacking.{AreTooMany}
 use Rattle.mending_kept.specs.call_entries_Losing.{failure_events}
 use Rattle.running_words.specs.array_kept_Calls.{IsBehind, StandsInside}
 use Rattle.mending_kept.specs.kept_history_Recorded.{entry_of}
 use Rattle.mending_kept.specs.region_writes_Runs.{IsListUnwritten}
-use Rattle.grow_asked.specs.declared.window.Window.{Window}
-use Rattle.grow_asked.specs.declared.window.Window.TheVariants.{Closed, Entered, Unsure}
-use Rattle.grow_asked.specs.Left.{stripes_in}
+use Rattle.mending_kept.specs.grow_asked_the_Window.{Window}
+use Rattle.mending_kept.specs.grow_asked_the_Window_TheVariants.{Closed, Entered, Unsure}
+use Rattle.mending_kept.specs.grow_asked_Left.{stripes_in}
 use Rattle.mending_kept.specs.course_kept_Laws.{entered}
 use Rattle.running_words.specs.moving_state_Due.{open_in, unsure_in}
 use Rattle.running_words.specs.Parts.{RunningParts}

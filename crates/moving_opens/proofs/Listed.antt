@@ -20,14 +20,14 @@ use Rattle.parity.specs.Rows.{IsSector}
 use Rattle.parity.proofs.Columns.{tabulate-same}
 use Rattle.geometry.specs.Geometry as geometry
 use Rattle.geometry.specs.Geometry.{side}
-use Rattle.superblocks.specs.declared.members.Members.{Members}
-use Rattle.superblocks.specs.Reading.{Scope, Reading, reading, is_reshaping, is_backward, shape_of, final_shape, list_length, next_window, data_offset_of}
-use Rattle.superblocks.specs.Election.{reading_in}
-use Rattle.row_io.specs.Rows.{reading_of, held_sector, held_row, held_slot, standing_sector, IsTolerated}
-use Rattle.list_io.specs.Full.{RowStands}
-use Rattle.flat_history.specs.Opened.{HasGoodRows, HasZeroTail}
-use Rattle.flat_history.specs.Reshaped.{IsGoodRow}
-use Rattle.flat_history.specs.Stands.{stands, shape_for, covers, placed_sector, held_sector as found_sector, held_row as found_row}
+use Rattle.moving_kept.specs.superblocks_the_Members.{Members}
+use Rattle.moving_kept.specs.superblocks_Reading.{Scope, Reading, reading, is_reshaping, is_backward, shape_of, final_shape, list_length, next_window, data_offset_of}
+use Rattle.moving_kept.specs.superblocks_Election.{reading_in}
+use Rattle.moving_kept.specs.row_io_Rows.{reading_of, held_sector, held_row, held_slot, standing_sector, IsTolerated}
+use Rattle.moving_kept.specs.list_io_Full.{RowStands}
+use Rattle.moving_kept.specs.flat_history_Opened.{HasGoodRows, HasZeroTail}
+use Rattle.moving_kept.specs.flat_history_Reshaped.{IsGoodRow}
+use Rattle.moving_kept.specs.flat_history_Stands.{stands, shape_for, covers, placed_sector, held_sector as found_sector, held_row as found_row}
 use Rattle.moving_kept.specs.shape_views_Regions.{backup_of, header_in, open_by, place_by, ArePlaced, DoWithout, IsReadOf}
 use Rattle.moving_kept.specs.shape_views_Views.{IsTail}
 use Rattle.moving_kept.specs.shape_views_Windows.{IsShown, ListStands, RowsStand, AreTailsStanding}
@@ -35,7 +35,7 @@ use Rattle.moving_kept.proofs.shape_views_Alike.{for-both, valid-for, row-below}
 use Rattle.moving_kept.proofs.shape_views_Standing.{standing_at, section-here, held-same, read-covered, read-placed}
 use Rattle.moving_kept.proofs.shape_views_UnderWay.{shape-on, side-or}
 use Rattle.moving_kept.proofs.shape_views_WindowLaws.{open-window}
-use Rattle.grow_asked.specs.declared.window.Window.{Window}
+use Rattle.moving_kept.specs.grow_asked_the_Window.{Window}
 use Rattle.moving_kept.specs.views_Placed.{IsPlaced}
 use Rattle.moving_kept.specs.region_mends_Mends.{low_shape, low_stripes, AreEndsStanding}
 use Rattle.moving_kept.proofs.region_writes_Sides.{low-valid, low-is, low-before, low-few}

@@ -8,20 +8,20 @@ use Rattle.md_base.specs.declared.answers.Who.{Who}
 use Rattle.md_base.specs.declared.status.Role.{Role}
 use Rattle.md_base.specs.declared.status.Role.TheVariants.{Whole, Recovering, Missing}
 use Rattle.md_base.specs.Sectors.{Sector}
-use Rattle.superblocks.specs.Reading.{Reading, role_state, is_whole}
-use Rattle.row_io.specs.Rows.{is_missing}
-use Rattle.flat_history.specs.declared.events.Entry.{Entry}
-use Rattle.flat_history.specs.declared.events.Event.{Event}
-use Rattle.flat_history.specs.declared.events.Event.TheVariants.{Lost}
-use Rattle.flat_history.specs.declared.events.LostCause.{LostCause}
-use Rattle.flat_history.specs.declared.events.LostCause.TheVariants.{Absent, Recovering as ByRecovering}
-use Rattle.flat_history.specs.Flat.{length_of, limit_of, first_values, values_after, values_of}
-use Rattle.flat_history.specs.Legal.{IsAbsentAtFirst, level_after, left_after, told_left}
-use Rattle.flat_history.specs.Losses.{is_gone_after, is_resync_end}
-use Rattle.flat_history.specs.OneShape.{is_lost}
-use Rattle.flat_history.specs.Plain.{loses_role, entries_of}
-use Rattle.flat_history.specs.World.{World}
-use Rattle.history_laws.proofs.OneShapeGrowing.{entries-both}
+use Rattle.moving_kept.specs.superblocks_Reading.{Reading, role_state, is_whole}
+use Rattle.moving_kept.specs.row_io_Rows.{is_missing}
+use Rattle.moving_kept.specs.flat_history_the_Entry.{Entry}
+use Rattle.moving_kept.specs.flat_history_the_Event.{Event}
+use Rattle.moving_kept.specs.flat_history_the_Event_TheVariants.{Lost}
+use Rattle.moving_kept.specs.flat_history_the_LostCause.{LostCause}
+use Rattle.moving_kept.specs.flat_history_the_LostCause_TheVariants.{Absent, Recovering as ByRecovering}
+use Rattle.moving_kept.specs.flat_history_Flat.{length_of, limit_of, first_values, values_after, values_of}
+use Rattle.moving_kept.specs.flat_history_Legal.{IsAbsentAtFirst, level_after, left_after, told_left}
+use Rattle.moving_kept.specs.flat_history_Losses.{is_gone_after, is_resync_end}
+use Rattle.moving_kept.specs.flat_history_OneShape.{is_lost}
+use Rattle.moving_kept.specs.flat_history_Plain.{loses_role, entries_of}
+use Rattle.moving_kept.specs.flat_history_World.{World}
+use Rattle.moving_kept.proofs.history_laws_OneShapeGrowing.{entries-both}
 use Rattle.moving_kept.specs.array_kept_Adopting.{found_loss, absent_loss, absent_losses}
 use Rattle.moving_kept.specs.kept_history_Recorded.{gives_some}
 use Rattle.moving_kept.proofs.kept_history_Entered.{gone-lost}

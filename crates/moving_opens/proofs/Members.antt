@@ -4,15 +4,15 @@ use Rattle.md_base.specs.declared.status.Role.TheVariants.{Recovering}
 use Rattle.md_base.specs.Shapes.{has_slot}
 use Rattle.sb1.specs.declared.sb.Sb.{Sb}
 use Rattle.bank.specs.Given.{Given, sizes}
-use Rattle.superblocks.specs.declared.members.Members.{Members}
-use Rattle.superblocks.specs.Reading.{is_reshaping, role_state, holder}
-use Rattle.superblocks.specs.Election.{reading_in}
-use Rattle.superblocks.specs.Reads.{has_spare}
-use Rattle.superblocks.specs.Update.{own_in, is_live}
-use Rattle.superblocks.specs.Verdict.{fresh_from}
-use Rattle.row_io.specs.Rows.{reading_of, members_without}
-use Rattle.row_io.proofs.Losses.{state_after, state_kept}
-use Rattle.flat_history.specs.Stands.{backup_absent}
+use Rattle.moving_kept.specs.superblocks_the_Members.{Members}
+use Rattle.moving_kept.specs.superblocks_Reading.{is_reshaping, role_state, holder}
+use Rattle.moving_kept.specs.superblocks_Election.{reading_in}
+use Rattle.moving_kept.specs.superblocks_Reads.{has_spare}
+use Rattle.moving_kept.specs.superblocks_Update.{own_in, is_live}
+use Rattle.moving_kept.specs.superblocks_Verdict.{fresh_from}
+use Rattle.moving_kept.specs.row_io_Rows.{reading_of, members_without}
+use Rattle.moving_kept.proofs.row_io_Losses.{state_after, state_kept}
+use Rattle.moving_kept.specs.flat_history_Stands.{backup_absent}
 use Rattle.moving_kept.specs.shape_views_Regions.{AreShapesFit, ArePlaced}
 use Rattle.moving_kept.specs.shape_changes_Marking.{marking}
 use Rattle.moving_kept.specs.shape_changes_Steady.{AreUnlost}

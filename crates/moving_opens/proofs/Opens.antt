@@ -15,24 +15,24 @@ use Rattle.bank.specs.Given.{Given, sizes}
 use Rattle.bank.specs.Tape.{Contents, IsIn, disk}
 use Rattle.bank.proofs.Whole.{sectors-whole}
 use Rattle.backup.specs.Section.{is_header_of, names_span}
-use Rattle.superblocks.specs.declared.members.Members.{Members}
-use Rattle.superblocks.specs.Election.{reading_in}
-use Rattle.superblocks.specs.Found.{AreLikeNewest}
-use Rattle.superblocks.specs.Reading.{Scope, Reading, reading, is_reshaping, is_clean, is_whole, shape_of, list_length, role_count, role_state, holder}
-use Rattle.row_io.specs.Rows.{reading_of, present, is_missing, role_without, members_without}
-use Rattle.row_io.proofs.Losses.{state_after}
-use Rattle.flat_history.specs.declared.events.Entry.{Entry}
-use Rattle.flat_history.specs.declared.events.Event.{Event}
-use Rattle.flat_history.specs.Epochs.{HasRoomForEvents, OpensAlike}
-use Rattle.flat_history.specs.Flat.{now}
-use Rattle.flat_history.specs.Legal.{IsAbsentAtFirst, level_at}
-use Rattle.flat_history.specs.Losses.{was_dirty, is_unsynced}
-use Rattle.flat_history.specs.OneShape.{is_unsettled}
-use Rattle.flat_history.specs.Opened.{IsSound}
-use Rattle.flat_history.specs.Plain.{entries_of}
-use Rattle.flat_history.specs.Sound.{OpensFit}
-use Rattle.flat_history.specs.Stands.{reach_of, stands}
-use Rattle.flat_history.specs.World.{World, reading_at, opening_list}
+use Rattle.moving_kept.specs.superblocks_the_Members.{Members}
+use Rattle.moving_kept.specs.superblocks_Election.{reading_in}
+use Rattle.moving_kept.specs.superblocks_Found.{AreLikeNewest}
+use Rattle.moving_kept.specs.superblocks_Reading.{Scope, Reading, reading, is_reshaping, is_clean, is_whole, shape_of, list_length, role_count, role_state, holder}
+use Rattle.moving_kept.specs.row_io_Rows.{reading_of, present, is_missing, role_without, members_without}
+use Rattle.moving_kept.proofs.row_io_Losses.{state_after}
+use Rattle.moving_kept.specs.flat_history_the_Entry.{Entry}
+use Rattle.moving_kept.specs.flat_history_the_Event.{Event}
+use Rattle.moving_kept.specs.flat_history_Epochs.{HasRoomForEvents, OpensAlike}
+use Rattle.moving_kept.specs.flat_history_Flat.{now}
+use Rattle.moving_kept.specs.flat_history_Legal.{IsAbsentAtFirst, level_at}
+use Rattle.moving_kept.specs.flat_history_Losses.{was_dirty, is_unsynced}
+use Rattle.moving_kept.specs.flat_history_OneShape.{is_unsettled}
+use Rattle.moving_kept.specs.flat_history_Opened.{IsSound}
+use Rattle.moving_kept.specs.flat_history_Plain.{entries_of}
+use Rattle.moving_kept.specs.flat_history_Sound.{OpensFit}
+use Rattle.moving_kept.specs.flat_history_Stands.{reach_of, stands}
+use Rattle.moving_kept.specs.flat_history_World.{World, reading_at, opening_list}
 use Rattle.moving_kept.specs.shape_views_Regions.{AreShapesFit, ArePlaced, DoWithout, IsReadOf, header_in, open_by}
 use Rattle.moving_kept.specs.shape_views_Views.{Disk, Ledger, AreHeadersFit, IsViewRight}
 use Rattle.moving_kept.specs.shape_views_Windows.{AreTailsStanding, RowsStand}
@@ -54,7 +54,7 @@ use Rattle.moving_kept.proofs.kept_history_Opened.{opened-kept, opened-safe}
 use Rattle.moving_kept.proofs.kept_history_Turned.{fills-on_course}
 use Rattle.moving_kept.specs.history_calls_Reliable.{IsReliable, AreToldGone, HasLastStep}
 use Rattle.moving_kept.proofs.history_calls_LastStep.{opened-last}
-use Rattle.grow_asked.specs.declared.window.Window.{Window}
+use Rattle.moving_kept.specs.grow_asked_the_Window.{Window}
 use Rattle.moving_kept.specs.course_kept_Course.{IsStoredAs, HasSection, IsStored, AnyShape, StandsInCourse}
 use Rattle.moving_kept.proofs.course_kept_Frames.{stands-without}
 use Rattle.moving_kept.proofs.course_kept_Courses.{courses-move}

@@ -16,8 +16,8 @@ use Rattle.geometry.proofs.Divisions.{floor_grows}
 use Rattle.geometry.specs.Geometry.{unit, side, row_at, window}
 use Rattle.region_laws.specs.Regions.{IsUnderWay}
 use Rattle.region_laws.proofs.RegionLaws.{IsDivided, by-old, by-new, forward-is, backward-is}
-use Rattle.superblocks.specs.Reading.{is_reshaping, is_backward, shape_of, final_shape, list_length, next_window}
-use Rattle.flat_history.specs.Stands.{shape_at, shape_for, covers}
+use Rattle.moving_kept.specs.superblocks_Reading.{is_reshaping, is_backward, shape_of, final_shape, list_length, next_window}
+use Rattle.moving_kept.specs.flat_history_Stands.{shape_at, shape_for, covers}
 use Rattle.moving_kept.specs.shape_views_Regions.{AreShapesFit}
 use Rattle.moving_kept.specs.shape_views_Views.{IsTail}
 use Rattle.moving_kept.proofs.views_Fit.{fit-multiple, force-multiple}

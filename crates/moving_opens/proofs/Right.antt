@@ -7,12 +7,12 @@ use Rattle.bank.specs.declared.bank.Operation.{Operation}
 use Rattle.bank.specs.Given.{Given}
 use Rattle.bank.specs.Tape.{IsIn, disk}
 use Rattle.layout.specs.Layout.{place}
-use Rattle.superblocks.specs.declared.members.Members.{Members}
-use Rattle.superblocks.specs.Election.{reading_in}
-use Rattle.superblocks.specs.Reading.{Scope, reading, is_clean, final_shape, role_count, list_length, data_offset_of}
-use Rattle.row_io.specs.Rows.{reading_of, present, is_missing, held_slot}
-use Rattle.row_io.proofs.Losses.{holder-of}
-use Rattle.flat_history.proofs.GivenLaws.{holder-given}
+use Rattle.moving_kept.specs.superblocks_the_Members.{Members}
+use Rattle.moving_kept.specs.superblocks_Election.{reading_in}
+use Rattle.moving_kept.specs.superblocks_Reading.{Scope, reading, is_clean, final_shape, role_count, list_length, data_offset_of}
+use Rattle.moving_kept.specs.row_io_Rows.{reading_of, present, is_missing, held_slot}
+use Rattle.moving_kept.proofs.row_io_Losses.{holder-of}
+use Rattle.moving_kept.proofs.flat_history_GivenLaws.{holder-given}
 use Rattle.moving_kept.specs.shape_views_Regions.{ArePlaced, place_by}
 use Rattle.moving_kept.specs.shape_views_Views.{Disk, Ledger, IsTail, AreHeadersFit, IsViewRight}
 use Rattle.moving_kept.specs.shape_views_Windows.{AreTailsStanding}

@@ -18,17 +18,17 @@ use Rattle.parity.specs.Parity.{Row, fill, lacking_in, AreEquationsMet}
 use Rattle.parity.specs.Rows.{IsSector, row_without, whole_row, filled_sector}
 use Rattle.parity.proofs.OwnFills.{fills-are-own}
 use Rattle.parity.proofs.Refilled.{filled-sector, good-filled}
-use Rattle.superblocks.specs.declared.members.Members.{Members}
-use Rattle.superblocks.specs.Reading.{Scope, Reading, role_state, holder, data_offset_of}
-use Rattle.row_io.specs.Rows.{reading_of, is_held, held_slot, held_sector, held_row, standing_sector, IsTolerated}
-use Rattle.row_io.specs.Writes.{is_parity}
-use Rattle.row_io.proofs.Losses.{row_is, all_stand}
-use Rattle.row_io.proofs.NewRow.{parity_few, lacking_few}
-use Rattle.list_io.specs.Full.{listed_at, full_sector, AreWholeIn, RowStands}
-use Rattle.list_io.proofs.FullLaws.{full-data, listed-is, row_roles-valid, sector_there}
-use Rattle.list_io.proofs.Parities.{filled-same}
-use Rattle.flat_history.specs.Reshaped.{IsGoodRow}
-use Rattle.flat_history.specs.Stands.{held_row as found_row}
+use Rattle.moving_kept.specs.superblocks_the_Members.{Members}
+use Rattle.moving_kept.specs.superblocks_Reading.{Scope, Reading, role_state, holder, data_offset_of}
+use Rattle.moving_kept.specs.row_io_Rows.{reading_of, is_held, held_slot, held_sector, held_row, standing_sector, IsTolerated}
+use Rattle.moving_kept.specs.row_io_Writes.{is_parity}
+use Rattle.moving_kept.proofs.row_io_Losses.{row_is, all_stand}
+use Rattle.moving_kept.proofs.row_io_NewRow.{parity_few, lacking_few}
+use Rattle.moving_kept.specs.list_io_Full.{listed_at, full_sector, AreWholeIn, RowStands}
+use Rattle.moving_kept.proofs.list_io_FullLaws.{full-data, listed-is, row_roles-valid, sector_there}
+use Rattle.moving_kept.proofs.list_io_Parities.{filled-same}
+use Rattle.moving_kept.specs.flat_history_Reshaped.{IsGoodRow}
+use Rattle.moving_kept.specs.flat_history_Stands.{held_row as found_row}
 use Rattle.moving_kept.specs.views_Placed.{IsPlaced}
 
 pub zero-is_sector : IsSector zero_sector

@@ -5,17 +5,17 @@ use Rattle.bank.specs.declared.bank.Operation.{Operation}
 use Rattle.bank.specs.Given.{Given}
 use Rattle.bank.specs.Tape.{disk}
 use Rattle.bank.specs.Whole.{HasWholeSectors}
-use Rattle.superblocks.specs.declared.members.Members.{Members}
-use Rattle.superblocks.specs.Reading.{Scope, is_reshaping, is_clean, role_count}
-use Rattle.superblocks.specs.Update.{own_in}
-use Rattle.row_io.specs.Rows.{reading_of, present, members_without}
-use Rattle.flat_history.specs.declared.events.Entry.{Entry}
-use Rattle.flat_history.specs.Plain.{entries_of}
-use Rattle.flat_history.specs.Stands.{backup_absent}
+use Rattle.moving_kept.specs.superblocks_the_Members.{Members}
+use Rattle.moving_kept.specs.superblocks_Reading.{Scope, is_reshaping, is_clean, role_count}
+use Rattle.moving_kept.specs.superblocks_Update.{own_in}
+use Rattle.moving_kept.specs.row_io_Rows.{reading_of, present, members_without}
+use Rattle.moving_kept.specs.flat_history_the_Entry.{Entry}
+use Rattle.moving_kept.specs.flat_history_Plain.{entries_of}
+use Rattle.moving_kept.specs.flat_history_Stands.{backup_absent}
 use Rattle.moving_kept.specs.shape_views_Regions.{header_in, open_by}
 use Rattle.moving_kept.specs.array_kept_Kept.{scope_in}
 use Rattle.moving_kept.specs.array_kept_Adopting.{opener, absent_losses}
-use Rattle.grow_asked.specs.declared.window.Window.{Window}
+use Rattle.moving_kept.specs.grow_asked_the_Window.{Window}
 use Rattle.moving_kept.specs.course_kept_Course.{IsWindowOf}
 use Rattle.moving_kept.specs.course_kept_the_Course.{Course}
 use Rattle.moving_kept.specs.Moving.{IsMoving}

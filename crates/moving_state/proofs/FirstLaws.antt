@@ -13,7 +13,7 @@ use Rattle.geometry.specs.Geometry.{IsIn}
 use Rattle.layout.specs.Layout.{place}
 use Rattle.superblocks.specs.declared.members.Members.{Members}
 use Rattle.superblocks.proofs.Searches.{least_below-first}
-use Rattle.flat_history.specs.Stands.{covers, shape_for}
+use Rattle.course_kept.specs.flat_history_Stands.{covers, shape_for}
 use Rattle.course_kept.specs.shape_views_Regions.{AreShapesFit, place_by}
 use Rattle.course_kept.specs.views_Lacking.{lacking, too_many, DoesWithout, LacksTooMany, IsNotResynced}
 use Rattle.region_mends.specs.safe_updates_First.{call_refusal, write_refusal}

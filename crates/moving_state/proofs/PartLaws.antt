@@ -3,7 +3,7 @@ use Rattle.std.proofs.Common.{◌≡◌, inl, inr, ℕ, ◌<◌, ◌≤◌, ◌&
 use Rattle.std.proofs.lemmas.Bool.Decides.{nat_tests}
 use Rattle.md_base.specs.declared.places.Span.{Span}
 use Rattle.geometry.specs.Geometry.{IsIn}
-use Rattle.flat_history.specs.Stands.{covers}
+use Rattle.course_kept.specs.flat_history_Stands.{covers}
 use Rattle.course_kept.proofs.shape_views_UnderWay.{in-or-out}
 
 -- it is one of the request, and the span covers it

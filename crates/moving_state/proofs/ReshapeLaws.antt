@@ -10,7 +10,7 @@ use Rattle.geometry.specs.Geometry.{AreInForce, unit, list_end, window, ceiling}
 use Rattle.geometry.proofs.Divisions.{quotient}
 use Rattle.geometry.proofs.Valid.{the_unit, bounded_pair}
 use Rattle.superblocks.specs.Reading.{is_reshaping, is_backward, shape_of, final_shape, list_length, next_window}
-use Rattle.flat_history.specs.Stands.{reach_of}
+use Rattle.course_kept.specs.flat_history_Stands.{reach_of}
 use Rattle.course_kept.specs.shape_views_Regions.{AreShapesFit}
 use Rattle.course_kept.proofs.shape_views_Stands.{window-inside}
 use Rattle.course_kept.proofs.shape_views_UnderWay.{is-reshaping, window-is}

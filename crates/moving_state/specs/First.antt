@@ -5,7 +5,7 @@ use Rattle.md_base.specs.declared.answers.Refusal.{Refusal}
 use Rattle.md_base.specs.declared.answers.Refusal.TheVariants.{NotResynced as Unsynced}
 use Rattle.md_base.specs.declared.places.Span.{Span}
 use Rattle.superblocks.specs.declared.members.Members.{Members}
-use Rattle.flat_history.specs.Stands.{covers, shape_for}
+use Rattle.course_kept.specs.flat_history_Stands.{covers, shape_for}
 use Rattle.course_kept.specs.shape_views_Regions.{place_by}
 use Rattle.course_kept.specs.views_Lacking.{too_many, LacksTooMany}
 use Rattle.region_mends.specs.safe_updates_First.{are_too_many}

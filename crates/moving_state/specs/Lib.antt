@@ -28,3 +28,34 @@ pub use Rattle.course_kept.specs.views_Status
 pub use Rattle.course_kept.specs.views_Rebuilding
 pub use Rattle.course_kept.specs.shape_changes_Safety
 pub use Rattle.course_kept.specs.shape_changes_Steady
+pub use Rattle.course_kept.specs.flat_history_Stands
+pub use Rattle.course_kept.specs.flat_history_ActiveSection
+pub use Rattle.grow_asked.specs.declared.window.PhasesLeft as grow_asked_the_PhasesLeft
+pub use Rattle.grow_asked.specs.Left as grow_asked_Left
+pub use Rattle.course_kept.specs.flat_history_the_Entry
+pub use Rattle.course_kept.specs.flat_history_the_Epoch
+pub use Rattle.course_kept.specs.flat_history_the_Event_TheVariants
+pub use Rattle.course_kept.specs.flat_history_the_StepKind
+pub use Rattle.course_kept.specs.flat_history_CrashSafe
+pub use Rattle.course_kept.specs.flat_history_Epochs
+pub use Rattle.course_kept.specs.flat_history_Legal
+pub use Rattle.course_kept.specs.flat_history_Reshaped
+pub use Rattle.course_kept.specs.flat_history_Sound
+pub use Rattle.course_kept.specs.flat_history_World
+pub use Rattle.course_kept.specs.flat_history_the_Event
+pub use Rattle.course_kept.specs.flat_history_the_StepKind_TheVariants
+pub use Rattle.course_kept.specs.flat_history_OneShape
+pub use Rattle.course_kept.specs.flat_history_the_Request_TheVariants
+pub use Rattle.course_kept.specs.flat_history_Fits
+pub use Rattle.course_kept.specs.flat_history_Plain
+pub use Rattle.course_kept.specs.flat_history_Flat
+pub use Rattle.course_kept.specs.flat_history_the_Request
+pub use Rattle.course_kept.specs.flat_history_Transfers
+pub use Rattle.course_kept.specs.row_io_Rows
+pub use Rattle.superblocks.specs.declared.members.Members as superblocks_the_Members
+pub use Rattle.superblocks.specs.Reads as superblocks_Reads
+pub use Rattle.superblocks.specs.Reading as superblocks_Reading
+pub use Rattle.course_kept.specs.flat_history_the_LostCause
+pub use Rattle.course_kept.specs.flat_history_the_LostCause_TheVariants
+pub use Rattle.course_kept.specs.flat_history_Growing
+pub use Rattle.course_kept.specs.flat_history_Seen

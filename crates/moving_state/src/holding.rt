@@ -2,7 +2,7 @@
 
 ghost use Rattle.std.specs.Prelude.{◌≡◌, length, Some, IfSome, IfNone};
 ghost use Rattle.superblocks.specs.Reading.{role_count, role_state, holder};
-ghost use Rattle.row_io.specs.Rows.{reading_of};
+ghost use Rattle.course_kept.specs.row_io_Rows.{reading_of};
 ghost use Rattle.course_kept.specs.shape_views_Regions.{AreShapesFit};
 ghost use Rattle.array_kept.specs.Calls.{HasRole};
 

@@ -2,7 +2,7 @@
 
 ghost use Rattle.std.specs.Prelude.{◌≡◌, ◌+◌, ◌^◌, ◌<◌, ◌≤◌, ℕ, false, length, Some, MatchOption, ⊤};
 ghost use Rattle.superblocks.specs.Reading.{list_length, role_count};
-ghost use Rattle.flat_history.specs.Stands.{covers, shape_for};
+ghost use Rattle.course_kept.specs.flat_history_Stands.{covers, shape_for};
 ghost use Rattle.course_kept.specs.shape_views_Regions.{AreShapesFit};
 ghost use Rattle.course_kept.specs.views_Lacking.{DoesWithout};
 ghost use Rattle.region_mends.specs.safe_updates_First.{call_refusal};

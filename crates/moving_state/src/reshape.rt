@@ -3,7 +3,7 @@
 ghost use Rattle.std.specs.Prelude.{◌≡◌, ◌+◌, ◌-◌, ◌^◌, ◌<◌, ◌≤◌, true, Some, IfSome, IfNone};
 ghost use Rattle.geometry.specs.Geometry.{is_critical};
 ghost use Rattle.superblocks.specs.Reading.{is_reshaping, is_backward, shape_of, final_shape, list_length, next_window};
-ghost use Rattle.flat_history.specs.Stands.{reach_of};
+ghost use Rattle.course_kept.specs.flat_history_Stands.{reach_of};
 ghost use Rattle.course_kept.specs.shape_views_Regions.{AreShapesFit};
 ghost use Rattle.grow_asked.specs.Left.{stripes_in, zeroed_by};
 ghost use Rattle.course_kept.specs.window_rows_Copies.{IsStripeOf, IsPastStripe};

@@ -2,7 +2,7 @@
 
 ghost use Rattle.std.specs.Prelude.{◌≡◌, ◌↔◌, ◌<◌, ◌≤◌, ℕ, true, false, Some};
 ghost use Rattle.geometry.specs.Geometry.{IsIn};
-ghost use Rattle.flat_history.specs.Stands.{covers};
+ghost use Rattle.course_kept.specs.flat_history_Stands.{covers};
 ghost use Rattle.course_kept.specs.Course.{hidden_in};
 ghost use Rattle.moving_state.specs.Due.{open_in, unsure_in};
 

@@ -5,8 +5,8 @@ use Rattle.md_base.specs.declared.answers.Refusal.{Refusal}
 use Rattle.md_base.specs.declared.answers.Who.{Who}
 use Rattle.bank.specs.declared.bank.Operation.{Operation}
 use Rattle.bank.specs.Given.{Given}
-use Rattle.superblocks.specs.declared.members.Members.{Members}
-use Rattle.superblocks.specs.Reading.{Scope}
+use Rattle.moving.specs.superblocks_the_Members.{Members}
+use Rattle.moving.specs.superblocks_Reading.{Scope}
 use Rattle.flat_history.specs.declared.events.Entry.{Entry}
 use Rattle.flat_history.specs.declared.events.Event.{Event}
 use Rattle.flat_history.specs.declared.events.Event.TheVariants.{Stepped}
@@ -20,7 +20,7 @@ use Rattle.moving.specs.views_Placed.{IsPlaced}
 use Rattle.moving.proofs.views_Fit.{force-disks}
 use Rattle.call_entries.proofs.LeftLaws.{keeps-left}
 use Rattle.still_kept.specs.array_kept_Calls.{IsLossBy}
-use Rattle.grow_asked.specs.declared.window.PhasesLeft.{PhasesLeft}
+use Rattle.moving.specs.grow_asked_the_PhasesLeft.{PhasesLeft}
 use Rattle.moving.specs.kept_history_Recorded.{IsCallGoing, entry_of}
 use Rattle.moving.specs.kept_history_Safe.{world_in}
 use Rattle.still_kept.specs.history_calls_Reliable.{IsReliable, AreToldGone}

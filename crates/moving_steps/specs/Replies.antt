@@ -3,13 +3,13 @@ use Rattle.std.specs.Prelude.{◌≡◌, ◌⊎◌, false, IsSome, MatchOption, 
 use Rattle.md_base.specs.declared.answers.Refusal.{Refusal}
 use Rattle.md_base.specs.declared.answers.Refusal.TheVariants.{BackupFault}
 use Rattle.md_base.specs.declared.places.Shape.{Shape}
-use Rattle.superblocks.specs.declared.members.Members.{Members}
+use Rattle.moving.specs.superblocks_the_Members.{Members}
 use Rattle.flat_history.specs.declared.events.Event.{Event}
 use Rattle.flat_history.specs.declared.events.Event.TheVariants.{Stepped}
 use Rattle.moving.specs.views_the_Work.{Work}
 use Rattle.moving.specs.views_Placed.{IsInForce}
 use Rattle.moving.specs.views_Lacking.{AreTooMany, IsNotResynced}
-use Rattle.grow_asked.specs.declared.window.PhasesLeft.{PhasesLeft}
+use Rattle.moving.specs.grow_asked_the_PhasesLeft.{PhasesLeft}
 use Rattle.moving.specs.course_kept_the_Course.{Course}
 use Rattle.moving.specs.running_words_Parts.{left_in}
 

@@ -4,18 +4,18 @@ use Rattle.std.specs.Prelude.{⊤}
 use Rattle.std.specs.List.{list_any, list_all}
 use Rattle.std.proofs.lemmas.Bool.{and_parts}
 use Rattle.bank.specs.Given.{Given}
-use Rattle.superblocks.specs.declared.members.Members.{Members}
-use Rattle.flat_history.specs.declared.events.Entry.{Entry}
-use Rattle.flat_history.specs.declared.events.Event.{Event}
-use Rattle.flat_history.specs.declared.events.Event.TheVariants.{Step}
-use Rattle.flat_history.specs.declared.events.StepKind.TheVariants.{TakenOver}
-use Rattle.flat_history.specs.Flat.{length_of, values_of}
-use Rattle.flat_history.specs.Losses.{loses, is_gone_after, is_unsynced, unsettles}
-use Rattle.flat_history.specs.OneShape.{opening_in, is_gone_now, is_unsettled, keeps_shape_event, KeepShape}
-use Rattle.flat_history.specs.Sound.{FillsRight}
-use Rattle.flat_history.specs.World.{World, opening_list}
-use Rattle.flat_history.proofs.OneShapeGone.{after-gone, gone-or_lost}
-use Rattle.flat_history.proofs.OneShapeLegal.{found-in, one_shape-legal}
+use Rattle.array_kept.specs.superblocks_the_Members.{Members}
+use Rattle.array_kept.specs.flat_history_the_Entry.{Entry}
+use Rattle.array_kept.specs.flat_history_the_Event.{Event}
+use Rattle.array_kept.specs.flat_history_the_Event_TheVariants.{Step}
+use Rattle.array_kept.specs.flat_history_the_StepKind_TheVariants.{TakenOver}
+use Rattle.array_kept.specs.flat_history_Flat.{length_of, values_of}
+use Rattle.array_kept.specs.flat_history_Losses.{loses, is_gone_after, is_unsynced, unsettles}
+use Rattle.array_kept.specs.flat_history_OneShape.{opening_in, is_gone_now, is_unsettled, keeps_shape_event, KeepShape}
+use Rattle.array_kept.specs.flat_history_Sound.{FillsRight}
+use Rattle.array_kept.specs.flat_history_World.{World, opening_list}
+use Rattle.array_kept.proofs.flat_history_OneShapeGone.{after-gone, gone-or_lost}
+use Rattle.array_kept.proofs.flat_history_OneShapeLegal.{found-in, one_shape-legal}
 use Rattle.array_kept.specs.shape_views_Views.{Ledger}
 use Rattle.array_kept.specs.shape_changes_Steady.{IsSafeOver, AreGoneTold}
 use Rattle.array_kept.specs.views_the_Work.{Work}

@@ -20,7 +20,7 @@ use Rattle.superblocks.specs.Reading.{is_backup, is_reshaping, role_state, holde
 use Rattle.superblocks.specs.Reads.{has_spare}
 use Rattle.superblocks.specs.Update.{own_in, is_held_by}
 use Rattle.superblocks.specs.Writing.{AreWritable}
-use Rattle.row_io.specs.Rows.{reading_of}
+use Rattle.running_steps.specs.row_io_Rows.{reading_of}
 use Rattle.running_steps.specs.shape_views_Regions.{AreShapesFit}
 use Rattle.views.specs.Parts.{Parts}
 use Rattle.views.specs.Rebuilding.{Held}

@@ -17,8 +17,8 @@ use Rattle.superblocks.specs.Reading.{is_reshaping, is_whole, shape_of, final_sh
 use Rattle.superblocks.specs.Outcome.{set_of}
 use Rattle.superblocks.specs.Writing.{AreWritable}
 use Rattle.superblocks.proofs.SlotSets.{has-set_of}
-use Rattle.row_io.specs.Rows.{reading_of, is_missing, role_without, members_without}
-use Rattle.row_io.proofs.Losses.{state_after}
+use Rattle.running_steps.specs.row_io_Rows.{reading_of, is_missing, role_without, members_without}
+use Rattle.running_steps.proofs.row_io_Losses.{state_after}
 use Rattle.flat_history.specs.Left.{opened_role}
 use Rattle.flat_history.specs.Stands.{verdict}
 use Rattle.running_steps.specs.shape_views_Regions.{DoWithout}

@@ -5,7 +5,7 @@ use Rattle.bank.specs.declared.bank.Operation.{Operation}
 use Rattle.bank.specs.Given.{Given}
 use Rattle.superblocks.specs.declared.members.Members.{Members}
 use Rattle.superblocks.specs.Reading.{Scope, list_length, role_count}
-use Rattle.row_io.specs.Rows.{reading_of, members_without}
+use Rattle.running_steps.specs.row_io_Rows.{reading_of, members_without}
 use Rattle.flat_history.specs.declared.events.Entry.{Entry}
 use Rattle.flat_history.specs.Stands.{reach_of}
 use Rattle.views.specs.declared.work.Work.{Work}

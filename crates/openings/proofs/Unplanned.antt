@@ -8,7 +8,7 @@ use Rattle.bank.specs.Tape.{contents}
 use Rattle.superblocks.specs.declared.members.Members.{Members}
 use Rattle.superblocks.specs.Election.{reading_in}
 use Rattle.superblocks.specs.Reading.{Reading, reading, is_reshaping, role_count, shape_of}
-use Rattle.row_io.specs.Rows.{reading_of}
+use Rattle.running_steps.specs.row_io_Rows.{reading_of}
 use Rattle.flat_history.specs.declared.events.Event.{Event}
 use Rattle.flat_history.specs.declared.events.LostCause.{LostCause}
 use Rattle.flat_history.specs.Plain.{entries_of}

@@ -7,7 +7,7 @@ use Rattle.md_base.specs.declared.answers.Refusal.TheVariants.{BackupAbsent}
 use Rattle.bank.specs.declared.bank.Operation.{Operation}
 use Rattle.bank.specs.Given.{Given, IsFaulted}
 use Rattle.superblocks.specs.declared.members.Members.{Members}
-use Rattle.row_io.specs.Rows.{present, members_without}
+use Rattle.running_steps.specs.row_io_Rows.{present, members_without}
 use Rattle.running_steps.specs.shape_views_Regions.{header_in, open_by}
 use Rattle.views.specs.declared.work.Work.{Work}
 use Rattle.running_steps.specs.array_kept_Adopting.{is_number_of}

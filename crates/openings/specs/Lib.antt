@@ -38,3 +38,13 @@ pub use Rattle.running_steps.specs.kept_history_Safe
 pub use Rattle.running_steps.specs.kept_history_Recorded
 pub use Rattle.running_steps.specs.shape_views_Regions
 pub use Rattle.views.specs.declared.work.Work as views_the_Work
+pub use Rattle.grow_asked.specs.Left as grow_asked_Left
+pub use Rattle.grow_asked.specs.declared.window.PhasesLeft as grow_asked_the_PhasesLeft
+pub use Rattle.superblocks.specs.Reading as superblocks_Reading
+pub use Rattle.superblocks.specs.declared.members.Members as superblocks_the_Members
+pub use Rattle.superblocks.specs.Reads as superblocks_Reads
+pub use Rattle.grow_asked.specs.Asked as grow_asked_Asked
+pub use Rattle.grow_asked.specs.declared.window.Window as grow_asked_the_Window
+pub use Rattle.running_steps.specs.row_io_Rows
+pub use Rattle.superblocks.specs.Found as superblocks_Found
+pub use Rattle.superblocks.specs.Election as superblocks_Election

@@ -4,7 +4,7 @@ ghost use Rattle.std.specs.Prelude.{◌≡◌, ◌⊎◌, ◌*◌, ◌^◌, ◌<
 ghost use Rattle.md_base.specs.Shapes.{has_slot};
 ghost use Rattle.bank.specs.Given.{NeverFalls};
 ghost use Rattle.superblocks.specs.Reading.{is_reshaping, role_count, holder, role_state};
-ghost use Rattle.row_io.specs.Rows.{reading_of};
+ghost use Rattle.running_steps.specs.row_io_Rows.{reading_of};
 ghost use Rattle.flat_history.specs.Stands.{reach_of};
 ghost use Rattle.running_steps.specs.shape_views_Regions.{AreShapesFit};
 ghost use Rattle.views.specs.Flushing.{OnlyItsSlotsFail};

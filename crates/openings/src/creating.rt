@@ -4,7 +4,7 @@ ghost use Rattle.std.specs.Prelude.{◌≡◌, ◌≤◌, ℕ, [], Some, None, I
 ghost use Rattle.md_base.specs.declared.answers.Fault.TheVariants.{Refused as IsRefused};
 ghost use Rattle.md_base.specs.declared.answers.Refusal.{Refusal as AnyRefusal};
 ghost use Rattle.md_base.specs.declared.answers.Refusal.TheVariants.{UuidInUse as IsInUse};
-ghost use Rattle.row_io.specs.Rows.{present};
+ghost use Rattle.running_steps.specs.row_io_Rows.{present};
 ghost use Rattle.views.specs.Flushing.{OnlyFlushesAdded, OnlyItsSlotsFail};
 ghost use Rattle.grow_asked.specs.Left.{phases_of};
 ghost use Rattle.assemble.specs.Opening.{scope_of};

@@ -5,7 +5,7 @@ ghost use Rattle.md_base.specs.declared.answers.Fault.TheVariants.{NoMemory as W
 ghost use Rattle.md_base.specs.Shapes.{has_slot};
 ghost use Rattle.bank.specs.Tape.{contents};
 ghost use Rattle.superblocks.specs.Reads.{has_spare};
-ghost use Rattle.row_io.specs.Rows.{present};
+ghost use Rattle.running_steps.specs.row_io_Rows.{present};
 ghost use Rattle.views.specs.Flushing.{OnlyFlushesAdded, OnlyItsSlotsFail};
 ghost use Rattle.views.specs.Rebuilding.{Held};
 ghost use Rattle.running_steps.specs.array_kept_Kept.{scope_in};

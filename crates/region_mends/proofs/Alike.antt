@@ -3,7 +3,7 @@ use Rattle.std.proofs.Common.{◌≡◌, ℕ, ◌+◌, ◌-◌, ◌/◌, nat_lt,
 use Rattle.md_base.specs.Shapes.{stripe_sectors}
 use Rattle.sb1.specs.declared.sb.Sb.{Sb}
 use Rattle.superblocks.specs.Reading.{shape_of}
-use Rattle.flat_history.specs.Stands.{shape_for}
+use Rattle.region_writes.specs.flat_history_Stands.{shape_for}
 use Rattle.region_writes.specs.views_Placed.{HaveSameReshape}
 use Rattle.region_writes.proofs.views_Fit.{for-alike, list-alike}
 use Rattle.region_mends.specs.Mends.{low_end, high_shape, high_stripe, mend_stripes, stripe_behind, first_sector, relied_sector}

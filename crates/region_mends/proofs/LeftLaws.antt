@@ -14,7 +14,7 @@ use Rattle.geometry.proofs.Divisions.{ceiling_le, next_multiple, quotient}
 use Rattle.geometry.proofs.Valid.{bounded}
 use Rattle.superblocks.specs.declared.members.Members.{Members}
 use Rattle.superblocks.specs.Reading.{is_reshaping, is_backward, shape_of, final_shape}
-use Rattle.flat_history.specs.Stands.{shape_at, shape_for}
+use Rattle.region_writes.specs.flat_history_Stands.{shape_at, shape_for}
 use Rattle.region_writes.specs.shape_views_Regions.{AreShapesFit}
 use Rattle.region_writes.specs.shape_views_Windows.{moved_past}
 use Rattle.region_writes.proofs.shape_views_UnderWay.{shape-on}

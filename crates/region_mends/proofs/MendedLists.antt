@@ -12,10 +12,10 @@ use Rattle.bank.specs.Tape.{Contents}
 use Rattle.layout.specs.Layout.{place}
 use Rattle.superblocks.specs.declared.members.Members.{Members}
 use Rattle.superblocks.specs.Reading.{final_shape, list_length, data_offset_of}
-use Rattle.row_io.specs.Rows.{reading_of, held_slot}
-use Rattle.row_io.proofs.Losses.{holder-of}
-use Rattle.list_io.specs.Full.{AreWholeIn, DataStands, RowStands}
-use Rattle.flat_history.specs.Stands.{shape_for}
+use Rattle.region_writes.specs.row_io_Rows.{reading_of, held_slot}
+use Rattle.region_writes.proofs.row_io_Losses.{holder-of}
+use Rattle.region_writes.specs.list_io_Full.{AreWholeIn, DataStands, RowStands}
+use Rattle.region_writes.specs.flat_history_Stands.{shape_for}
 use Rattle.region_writes.specs.shape_views_Regions.{place_by}
 use Rattle.region_writes.specs.shape_views_Views.{IsTail}
 use Rattle.region_writes.specs.shape_views_Windows.{IsShown, AreTailsStanding}

@@ -11,7 +11,7 @@ use Rattle.layout.proofs.Places.{chunk_some}
 use Rattle.geometry.proofs.Divisions.{ceiling_zero, next_multiple}
 use Rattle.geometry.proofs.Valid.{bounded}
 use Rattle.superblocks.specs.Reading.{is_reshaping, shape_of, list_length}
-use Rattle.flat_history.specs.Stands.{shape_for}
+use Rattle.region_writes.specs.flat_history_Stands.{shape_for}
 use Rattle.region_writes.specs.shape_views_Regions.{AreShapesFit, place_by}
 use Rattle.region_writes.proofs.shape_views_Alike.{valid-for, for-both, row-below}
 use Rattle.region_writes.proofs.shape_views_Stands.{for-still}

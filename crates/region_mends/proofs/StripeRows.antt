@@ -11,7 +11,7 @@ use Rattle.layout.specs.Layout.{place}
 use Rattle.layout.proofs.Places.{chunk_some}
 use Rattle.geometry.specs.Geometry.{side, ceiling}
 use Rattle.superblocks.specs.Reading.{is_reshaping, is_backward, final_shape, list_length}
-use Rattle.flat_history.specs.Stands.{shape_for}
+use Rattle.region_writes.specs.flat_history_Stands.{shape_for}
 use Rattle.region_writes.specs.shape_views_Regions.{AreShapesFit, place_by}
 use Rattle.region_writes.specs.shape_views_Views.{IsTail}
 use Rattle.region_writes.proofs.shape_views_UnderWay.{shape-on}

@@ -4,7 +4,7 @@ use Rattle.md_base.specs.Shapes.{stripe_sectors}
 use Rattle.sb1.specs.declared.sb.Sb.{Sb}
 use Rattle.geometry.specs.Geometry.{ceiling}
 use Rattle.superblocks.specs.Reading.{is_reshaping, is_backward, shape_of, final_shape, list_length}
-use Rattle.flat_history.specs.Stands.{shape_for}
+use Rattle.region_writes.specs.flat_history_Stands.{shape_for}
 use Rattle.region_writes.specs.shape_views_Regions.{AreShapesFit, place_by}
 use Rattle.region_writes.specs.views_Placed.{IsInForce}
 use Rattle.region_writes.specs.region_rows_Stretches.{relied_rows}

@@ -19,3 +19,4 @@ pub use Rattle.safe_rows.proofs.shape_views_Alike
 pub use Rattle.safe_rows.proofs.shape_views_Stands
 pub use Rattle.safe_rows.proofs.shape_views_UnderWay
 pub use Rattle.safe_rows.proofs.views_MendedParts
+pub use Rattle.row_io.proofs.Losses as row_io_Losses

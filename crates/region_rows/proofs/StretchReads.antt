@@ -17,7 +17,7 @@ use Rattle.superblocks.specs.declared.members.Members.{Members}
 use Rattle.superblocks.specs.Reading.{data_offset_of}
 use Rattle.row_io.specs.Rows.{reading_of, held_slot}
 use Rattle.list_io.specs.Full.{DataStands, RowStands}
-use Rattle.flat_history.specs.Stands.{shape_for}
+use Rattle.safe_rows.specs.flat_history_Stands.{shape_for}
 use Rattle.safe_rows.specs.shape_views_Windows.{IsShown}
 use Rattle.safe_rows.proofs.shape_views_Stands.{data-from}
 use Rattle.safe_rows.specs.views_Placed.{AreWhole, IsPlaced, IsInForce}

@@ -11,3 +11,7 @@ pub use Rattle.safe_rows.specs.shape_changes_Safety
 pub use Rattle.safe_rows.specs.shape_views_Regions
 pub use Rattle.safe_rows.specs.shape_views_Views
 pub use Rattle.safe_rows.specs.shape_views_Windows
+pub use Rattle.safe_rows.specs.flat_history_Stands
+pub use Rattle.safe_rows.specs.flat_history_Sound
+pub use Rattle.safe_rows.specs.flat_history_World
+pub use Rattle.row_io.specs.Rows as row_io_Rows

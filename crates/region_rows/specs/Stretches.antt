@@ -13,7 +13,7 @@ use Rattle.superblocks.specs.declared.members.Members.{Members}
 use Rattle.superblocks.specs.Reading.{list_length, data_offset_of}
 use Rattle.row_io.specs.Rows.{reading_of, is_missing, held_slot}
 use Rattle.list_io.specs.Full.{RowStands}
-use Rattle.flat_history.specs.Stands.{shape_for}
+use Rattle.safe_rows.specs.flat_history_Stands.{shape_for}
 use Rattle.safe_rows.specs.shape_views_Regions.{place_by}
 use Rattle.safe_rows.specs.shape_views_Windows.{IsShown}
 use Rattle.safe_rows.specs.views_Lacking.{lacking, LacksTooMany}

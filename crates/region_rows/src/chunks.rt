@@ -8,7 +8,7 @@ ghost use Rattle.parity.specs.Rows.{sector_of};
 ghost use Rattle.row_io.specs.Rows.{present, reading_of};
 ghost use Rattle.list_io.specs.Calls.{AreLost, IsAnswer};
 ghost use Rattle.list_io.specs.Full.{DataStands, RowStands};
-ghost use Rattle.flat_history.specs.Stands.{shape_for};
+ghost use Rattle.safe_rows.specs.flat_history_Stands.{shape_for};
 ghost use Rattle.safe_rows.specs.shape_views_Regions.{AreShapesFit};
 ghost use Rattle.safe_rows.specs.views_Placed.{AreWhole, IsPlaced, IsInForce};
 ghost use Rattle.safe_rows.specs.views_Lacking.{IsAskedBeyond};

@@ -4,7 +4,7 @@ ghost use Rattle.std.specs.Prelude.{◌≡◌, ◌⊎◌, ◌<◌, ◌≤◌, �
 ghost use Rattle.std.specs.Int.{bit_at};
 ghost use Rattle.md_base.specs.Shapes.{is_valid_shape, is_multiple};
 ghost use Rattle.superblocks.specs.Reading.{shape_of, is_negative, is_zero, is_reshaping, is_backward};
-ghost use Rattle.flat_history.specs.Stands.{shape_for};
+ghost use Rattle.safe_rows.specs.flat_history_Stands.{shape_for};
 ghost use Rattle.safe_rows.specs.shape_views_Regions.{AreShapesFit};
 ghost use Rattle.safe_rows.specs.views_Placed.{IsInForce};
 ghost use Rattle.region_rows.specs.Stretches.{IsStretch, relied_rows};

@@ -15,3 +15,4 @@ pub use Rattle.region_rows.proofs.views_MendedParts
 pub use Rattle.region_rows.proofs.shape_views_UnderWay
 pub use Rattle.region_rows.proofs.shape_views_Stands
 pub use Rattle.region_rows.proofs.shape_views_Alike
+pub use Rattle.region_rows.proofs.row_io_Losses

@@ -9,7 +9,7 @@ use Rattle.layout.proofs.Places.{chunk_some}
 use Rattle.geometry.specs.Geometry.{ceiling}
 use Rattle.geometry.proofs.Divisions.{quotient}
 use Rattle.superblocks.specs.Reading.{shape_of, list_length}
-use Rattle.flat_history.specs.Stands.{shape_for}
+use Rattle.region_rows.specs.flat_history_Stands.{shape_for}
 use Rattle.region_rows.specs.shape_views_Regions.{AreShapesFit, place_by}
 use Rattle.region_rows.specs.views_Placed.{HaveSameReshape}
 use Rattle.region_rows.proofs.views_Fit.{for-alike}

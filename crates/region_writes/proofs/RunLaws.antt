@@ -13,9 +13,9 @@ use Rattle.layout.specs.Layout.{place}
 use Rattle.layout.proofs.Places.{data_some}
 use Rattle.superblocks.specs.declared.members.Members.{Members}
 use Rattle.superblocks.specs.Reading.{shape_of, list_length}
-use Rattle.row_io.specs.Rows.{reading_of, is_missing}
+use Rattle.region_rows.specs.row_io_Rows.{reading_of, is_missing}
 use Rattle.list_io.specs.Buffers.{IsTouched}
-use Rattle.flat_history.specs.Stands.{covers, shape_for}
+use Rattle.region_rows.specs.flat_history_Stands.{covers, shape_for}
 use Rattle.region_rows.specs.shape_views_Regions.{AreShapesFit, place_by}
 use Rattle.region_rows.specs.views_Placed.{IsInForce}
 use Rattle.region_rows.specs.views_Lacking.{DoesWithout, LacksTooMany, IsNotResynced}

@@ -16,12 +16,12 @@ use Rattle.layout.proofs.Places.{place-role_below, place-sector_below}
 use Rattle.parity.specs.Rows.{IsSector, sector_of}
 use Rattle.superblocks.specs.declared.members.Members.{Members}
 use Rattle.superblocks.specs.Reading.{is_reshaping, shape_of, final_shape, list_length, role_state, holder, data_offset_of}
-use Rattle.row_io.specs.Rows.{reading_of, held_slot}
-use Rattle.row_io.proofs.Losses.{holder-of}
+use Rattle.region_rows.specs.row_io_Rows.{reading_of, held_slot}
+use Rattle.region_rows.proofs.row_io_Losses.{holder-of}
 use Rattle.list_io.specs.Full.{full_sector, AreWholeIn, RowStands}
 use Rattle.list_io.specs.Writing.{IsWritten, AreDataFrom, HasFull}
 use Rattle.list_io.proofs.FullLaws.{full-data, full-same}
-use Rattle.flat_history.specs.Stands.{covers, shape_for}
+use Rattle.region_rows.specs.flat_history_Stands.{covers, shape_for}
 use Rattle.region_rows.specs.shape_views_Regions.{place_by}
 use Rattle.region_rows.specs.shape_views_Views.{IsTail}
 use Rattle.region_rows.specs.shape_views_Windows.{IsShown, AreTailsStanding}

@@ -16,7 +16,7 @@ use Rattle.geometry.proofs.Divisions.{ceiling_bounds, ceiling_le, ceiling_of_mul
 use Rattle.geometry.proofs.Valid.{bounded, bounded_pair, the_unit}
 use Rattle.region_laws.specs.Regions.{IsDirected}
 use Rattle.superblocks.specs.Reading.{is_reshaping, is_backward, shape_of, final_shape, list_length}
-use Rattle.flat_history.specs.Stands.{shape_at, shape_for}
+use Rattle.region_rows.specs.flat_history_Stands.{shape_at, shape_for}
 use Rattle.region_rows.specs.shape_views_Regions.{AreShapesFit}
 use Rattle.region_rows.proofs.shape_views_Alike.{valid-for, for-both}
 use Rattle.region_rows.proofs.shape_views_Stands.{for-still, list-still}

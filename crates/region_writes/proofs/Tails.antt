@@ -10,7 +10,7 @@ use Rattle.layout.specs.Layout.{stripe_of}
 use Rattle.geometry.specs.Geometry.{side}
 use Rattle.superblocks.specs.declared.members.Members.{Members}
 use Rattle.superblocks.specs.Reading.{is_reshaping, is_backward, final_shape, list_length}
-use Rattle.flat_history.specs.Stands.{shape_for}
+use Rattle.region_rows.specs.flat_history_Stands.{shape_for}
 use Rattle.region_rows.specs.shape_views_Regions.{AreShapesFit}
 use Rattle.region_rows.specs.shape_views_Views.{IsTail}
 use Rattle.region_rows.proofs.shape_views_UnderWay.{shape-on}

@@ -16,7 +16,7 @@ use Rattle.geometry.specs.Geometry as geometry
 use Rattle.region_laws.specs.Regions.{IsDirected, IsUnderWay}
 use Rattle.region_laws.proofs.RegionLaws.{IsDivided, by-old, by-new, regions-apart, forward-is, backward-is}
 use Rattle.superblocks.specs.Reading.{is_reshaping, is_backward, shape_of, final_shape, list_length, next_window}
-use Rattle.flat_history.specs.Stands.{shape_at, shape_for, covers}
+use Rattle.region_rows.specs.flat_history_Stands.{shape_at, shape_for, covers}
 use Rattle.region_rows.specs.shape_views_Regions.{AreShapesFit, place_by}
 use Rattle.region_rows.proofs.shape_views_Stands.{for-still}
 use Rattle.region_rows.proofs.shape_views_UnderWay.{is-reshaping, window-is, under-way, shape-on, in-or-out}

@@ -11,8 +11,8 @@ use Rattle.bank.specs.Tape.{Contents}
 use Rattle.sb1.specs.declared.sb.Sb.{Sb}
 use Rattle.superblocks.specs.declared.members.Members.{Members}
 use Rattle.superblocks.specs.Reading.{Reading, shape_of, holder, data_offset_of}
-use Rattle.row_io.specs.Rows.{reading_of, held_slot}
-use Rattle.row_io.proofs.Losses.{holder-of}
+use Rattle.region_rows.specs.row_io_Rows.{reading_of, held_slot}
+use Rattle.region_rows.proofs.row_io_Losses.{holder-of}
 use Rattle.list_io.specs.Buffers.{AreStanding}
 use Rattle.list_io.specs.Full.{full_sector}
 use Rattle.list_io.specs.Writing.{StaysRebuilt}

@@ -9,8 +9,8 @@ use Rattle.layout.specs.Layout.{place}
 use Rattle.geometry.specs.Geometry.{ceiling}
 use Rattle.superblocks.specs.declared.members.Members.{Members}
 use Rattle.superblocks.specs.Reading.{is_reshaping, list_length, data_offset_of}
-use Rattle.row_io.specs.Rows.{reading_of, held_slot}
-use Rattle.flat_history.specs.Stands.{shape_for}
+use Rattle.region_rows.specs.row_io_Rows.{reading_of, held_slot}
+use Rattle.region_rows.specs.flat_history_Stands.{shape_for}
 
 -- ---- the regions
 

@@ -10,11 +10,11 @@ use Rattle.bank.specs.Tape.{Contents}
 use Rattle.layout.specs.Layout.{place}
 use Rattle.superblocks.specs.declared.members.Members.{Members}
 use Rattle.superblocks.specs.Reading.{is_reshaping, list_length, next_window}
-use Rattle.row_io.specs.Rows.{reading_of}
+use Rattle.region_rows.specs.row_io_Rows.{reading_of}
 use Rattle.list_io.specs.Buffers.{AreTouched}
 use Rattle.list_io.specs.Full.{RowStands}
 use Rattle.list_io.specs.Writing.{IsWritten, AreDataFrom, IsFull, StaysRebuilt}
-use Rattle.flat_history.specs.Stands.{covers, shape_for}
+use Rattle.region_rows.specs.flat_history_Stands.{covers, shape_for}
 use Rattle.region_rows.specs.shape_views_Regions.{place_by}
 use Rattle.region_rows.specs.views_Placed.{IsInForce}
 use Rattle.region_rows.specs.views_Lacking.{DoesWithout, LacksTooMany, IsNotResynced}

@@ -2,7 +2,7 @@
 
 ghost use Rattle.std.specs.Prelude.{◌≡◌, ◌⊎◌, ◌-◌, ◌<◌, ◌≤◌, ℕ, length, None, MatchOption, true, false};
 ghost use Rattle.superblocks.specs.Reading.{is_reshaping, list_length, role_count};
-ghost use Rattle.flat_history.specs.Stands.{covers};
+ghost use Rattle.region_rows.specs.flat_history_Stands.{covers};
 ghost use Rattle.region_rows.specs.shape_views_Regions.{AreShapesFit};
 ghost use Rattle.region_rows.specs.views_Placed.{IsInForce};
 ghost use Rattle.region_rows.specs.views_Lacking.{DoesWithout};

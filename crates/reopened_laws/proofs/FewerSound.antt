@@ -18,8 +18,8 @@ use Rattle.bank.specs.Tape.{Contents, contents}
 use Rattle.bank.proofs.Images.{drawn-image, disk-some}
 use Rattle.layout.specs.Layout.{place, row_roles, stripe_of}
 use Rattle.parity.specs.Parity.{AreEquationsMet, fill, Row, lacking_in}
-use Rattle.superblocks.specs.Reading.{Scope, Reading, reading, superblocks, seen_superblock, of_array, is_backup, role_state, rows_held, holder, own_of, data_offset_of, next_window, list_length, is_reshaping, is_backward, final_shape, is_clean}
-use Rattle.superblock_reads.proofs.SaidSlots.{read-parts}
+use Rattle.flat_history.specs.superblocks_Reading.{Scope, Reading, reading, superblocks, seen_superblock, of_array, is_backup, role_state, rows_held, holder, own_of, data_offset_of, next_window, list_length, is_reshaping, is_backward, final_shape, is_clean}
+use Rattle.flat_history.proofs.superblock_reads_SaidSlots.{read-parts}
 use Rattle.backup.specs.Section.{has_section}
 use Rattle.flat_history.specs.declared.events.Entry.{Entry}
 use Rattle.flat_history.specs.ActiveSection.{section_for, active_section}

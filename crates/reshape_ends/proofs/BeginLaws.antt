@@ -20,9 +20,9 @@ use Rattle.superblocks.specs.Reads.{has_spare}
 use Rattle.superblocks.specs.Update.{give_of, planned_role, is_planned_spare}
 use Rattle.superblocks.specs.Updating.{AreLosses, planned_newest}
 use Rattle.superblocks.specs.Outcome.{live_set, AreGivesOfLive, planned_state, planned_roles}
-use Rattle.superblock_reads.proofs.SaidLists.{role-holder}
-use Rattle.superblock_reads.proofs.SaidSlots.{below-length}
-use Rattle.row_io.specs.Rows.{reading_of}
+use Rattle.safe_updates.proofs.superblock_reads_SaidLists.{role-holder}
+use Rattle.safe_updates.proofs.superblock_reads_SaidSlots.{below-length}
+use Rattle.safe_updates.specs.row_io_Rows.{reading_of}
 use Rattle.safe_updates.specs.shape_views_Regions.{AreShapesFit, ArePlaced}
 use Rattle.safe_updates.specs.shape_views_Views.{Disk, Ledger}
 use Rattle.safe_updates.proofs.shape_views_Alike.{backup-alike}

@@ -14,7 +14,7 @@ use Rattle.bank.proofs.Marks.{each_mark-map, each_mark-then}
 use Rattle.superblocks.specs.declared.members.Members.{Members}
 use Rattle.superblocks.specs.Reading.{Scope, is_seen, is_reshaping, of_array}
 use Rattle.superblocks.specs.Held.{MayRead}
-use Rattle.row_io.specs.Rows.{present}
+use Rattle.safe_updates.specs.row_io_Rows.{present}
 use Rattle.backup.specs.Section.{is_header_of, names_span}
 use Rattle.backup.specs.Written.{cleared_header}
 use Rattle.backup.specs.Storing.{IsHeading, IsHeaded}

@@ -26,12 +26,12 @@ use Rattle.superblocks.specs.Update.{give_of, role_from, planned_role, is_planne
 use Rattle.superblocks.proofs.SlotSets.{some_role, none_there}
 use Rattle.superblocks.specs.Updating.{AreLosses}
 use Rattle.superblocks.specs.Outcome.{live_set, AreGivesOfLive, held_state, planned_state}
-use Rattle.superblock_reads.proofs.SaidLists.{role-holder}
-use Rattle.superblock_reads.proofs.SaidSlots.{below-length}
-use Rattle.row_io.specs.Rows.{reading_of, held_slot}
-use Rattle.row_io.proofs.Losses.{holder-of}
-use Rattle.list_io.specs.Full.{RowStands}
-use Rattle.flat_history.specs.Stands.{has_room, shape_for}
+use Rattle.safe_updates.proofs.superblock_reads_SaidLists.{role-holder}
+use Rattle.safe_updates.proofs.superblock_reads_SaidSlots.{below-length}
+use Rattle.safe_updates.specs.row_io_Rows.{reading_of, held_slot}
+use Rattle.safe_updates.proofs.row_io_Losses.{holder-of}
+use Rattle.safe_updates.specs.list_io_Full.{RowStands}
+use Rattle.safe_updates.specs.flat_history_Stands.{has_room, shape_for}
 use Rattle.region_laws.specs.Regions.{IsDirected}
 use Rattle.safe_updates.specs.shape_views_Regions.{AreShapesFit, ArePlaced, DoWithout}
 use Rattle.safe_updates.specs.shape_views_Views.{Disk, Ledger, IsTail}

@@ -22,3 +22,5 @@ pub use Rattle.safe_updates.proofs.shape_changes_ChangeViews
 pub use Rattle.safe_updates.proofs.shape_changes_PlansLose
 pub use Rattle.safe_updates.proofs.shape_changes_Stretch
 pub use Rattle.safe_updates.proofs.shape_views_Alike
+pub use Rattle.safe_updates.proofs.superblock_reads_SaidSlots
+pub use Rattle.safe_updates.proofs.superblock_reads_SaidLists

@@ -24,8 +24,8 @@ use Rattle.superblocks.specs.Outcome.{live_set, is_left, AreLive, AreGivesOfLive
 use Rattle.superblocks.specs.Crash.{IsWithin}
 use Rattle.superblocks.proofs.PlannedSb.{planned-of}
 use Rattle.superblocks.proofs.ReadAlike.{count-same}
-use Rattle.superblock_reads.proofs.SaidSlots.{has-slots_below}
-use Rattle.row_io.specs.Rows.{reading_of, is_missing, IsHolder}
+use Rattle.safe_updates.proofs.superblock_reads_SaidSlots.{has-slots_below}
+use Rattle.safe_updates.specs.row_io_Rows.{reading_of, is_missing, IsHolder}
 use Rattle.safe_updates.specs.shape_views_Regions.{AreShapesFit}
 use Rattle.safe_updates.proofs.shape_views_Alike.{shape-alike}
 use Rattle.safe_updates.specs.shape_changes_Steady.{AreUnlost}

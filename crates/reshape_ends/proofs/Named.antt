@@ -13,7 +13,7 @@ use Rattle.superblocks.specs.Update.{give_of, planned_role, is_planned_spare, en
 use Rattle.superblocks.specs.Updating.{AreNamed}
 use Rattle.superblocks.specs.Outcome.{planned_state}
 use Rattle.superblocks.proofs.ValidFields.{few-roles}
-use Rattle.superblock_reads.proofs.PlanFits.{length-any, roles-at, entry-is}
+use Rattle.safe_updates.proofs.superblock_reads_PlanFits.{length-any, roles-at, entry-is}
 use Rattle.safe_updates.specs.shape_changes_Updates.{HasOneHolder}
 use Rattle.safe_updates.proofs.shape_changes_PlannedRoles.{planned-held}
 use Rattle.safe_updates.specs.Named.{AreNamedMissing}

@@ -9,7 +9,7 @@ use Rattle.superblocks.specs.Reading.{Scope}
 use Rattle.superblocks.specs.Reads.{has_spare}
 use Rattle.backup.specs.Written.{cleared_header}
 use Rattle.backup.specs.Storing.{HasSomeOf, header_operations}
-use Rattle.flat_history.specs.Stands.{backup_absent}
+use Rattle.safe_updates.specs.flat_history_Stands.{backup_absent}
 use Rattle.safe_updates.specs.shape_changes_Updates.{planned_view}
 use Rattle.safe_updates.specs.shape_changes_Changing.{IsChanged}
 use Rattle.reshape_updates.specs.Beginning.{with_reshape, new_role, beginning}

@@ -9,9 +9,9 @@ use Rattle.sb1.specs.declared.sb.Sb.{Sb}
 use Rattle.superblocks.specs.declared.members.Members.{Members}
 use Rattle.superblocks.specs.Reading.{is_clean, is_reshaping, is_backward, shape_of, final_shape, list_length, role_state, holder}
 use Rattle.superblocks.specs.Reads.{has_spare}
-use Rattle.row_io.specs.Rows.{reading_of}
-use Rattle.list_io.specs.Full.{RowStands}
-use Rattle.flat_history.specs.World.{World}
+use Rattle.safe_updates.specs.row_io_Rows.{reading_of}
+use Rattle.safe_updates.specs.list_io_Full.{RowStands}
+use Rattle.safe_updates.specs.flat_history_World.{World}
 use Rattle.safe_updates.specs.shape_views_Regions.{DoWithout}
 use Rattle.safe_updates.specs.shape_views_Views.{Ledger}
 use Rattle.safe_updates.specs.shape_views_Windows.{ListStands, RowsStand, AreTailsStanding}

@@ -16,3 +16,6 @@ pub use Rattle.safe_updates.specs.shape_changes_Kinds
 pub use Rattle.safe_updates.specs.shape_changes_Rounds
 pub use Rattle.safe_updates.specs.shape_views_Views
 pub use Rattle.safe_updates.specs.shape_views_Regions
+pub use Rattle.safe_updates.specs.flat_history_World
+pub use Rattle.safe_updates.specs.flat_history_Sound
+pub use Rattle.safe_updates.specs.row_io_Rows

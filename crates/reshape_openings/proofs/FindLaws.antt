@@ -9,7 +9,7 @@ use Rattle.bank.specs.Given.{Given, Sizes}
 use Rattle.bank.specs.Tape.{Contents, AreSectors}
 use Rattle.backup.specs.Section.{has_section}
 use Rattle.superblocks.specs.Reading.{Scope, next_window}
-use Rattle.flat_history.specs.ActiveSection.{section_for}
+use Rattle.moving_state.specs.flat_history_ActiveSection.{section_for}
 use Rattle.moving_state.specs.shape_views_Regions.{header_in, open_by}
 use Rattle.moving_state.proofs.shape_views_BackupLaws.{found-open}
 use Rattle.grow_asked.specs.declared.window.Window.{Window}

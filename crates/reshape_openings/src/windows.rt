@@ -6,7 +6,7 @@ ghost use Rattle.bank.specs.Tape.{AreSectors};
 ghost use Rattle.backup.specs.Section.{has_section};
 ghost use Rattle.superblocks.specs.Reading.{Scope, is_reshaping};
 ghost use Rattle.row_io.specs.Rows.{present};
-ghost use Rattle.flat_history.specs.Stands.{reach_of};
+ghost use Rattle.moving_state.specs.flat_history_Stands.{reach_of};
 ghost use Rattle.moving_state.specs.shape_views_Regions.{AreShapesFit, header_in, open_by};
 ghost use Rattle.grow_asked.specs.declared.window.Window.TheVariants.{Closed, Entered};
 ghost use Rattle.moving_state.specs.course_kept_Course.{IsWindowOf};

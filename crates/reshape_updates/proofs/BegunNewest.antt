@@ -14,7 +14,7 @@ use Rattle.superblocks.specs.Reading.{is_reshaping, is_backward, is_zero, shape_
 use Rattle.md_base.specs.declared.answers.Refusal.{Refusal}
 use Rattle.md_base.specs.declared.answers.Refusal.TheVariants.{PositionNotOnUnit}
 use Rattle.superblocks.specs.Verdict.{off_unit, unit_of}
-use Rattle.shape_views.specs.Regions.{AreShapesFit}
+use Rattle.shape_ends.specs.shape_views_Regions.{AreShapesFit}
 use Rattle.reshape_updates.specs.Beginning.{goes_back, map_with_reshape, with_reshape, HasBegun}
 use Rattle.reshape_updates.proofs.Differences.{former-count, negative-is}
 

@@ -13,13 +13,13 @@ use Rattle.superblocks.specs.Reading.{is_reshaping, shape_of, final_shape, role_
 use Rattle.superblocks.specs.Reads.{SaysSame, has_spare}
 use Rattle.superblocks.specs.Update.{IsRoleGive, give_of, is_recovery}
 use Rattle.superblocks.specs.Updating.{planned_newest}
-use Rattle.shape_views.specs.Regions.{AreShapesFit}
-use Rattle.shape_views.proofs.Alike.{shape-alike, final-alike, length-alike}
-use Rattle.shape_changes.specs.Kinds.{IsTaking}
+use Rattle.shape_ends.specs.shape_views_Regions.{AreShapesFit}
+use Rattle.shape_ends.proofs.shape_views_Alike.{shape-alike, final-alike, length-alike}
+use Rattle.shape_ends.specs.shape_changes_Kinds.{IsTaking}
 use Rattle.shape_ends.specs.Flushed.{IsBeginning}
-use Rattle.shape_changes.specs.Updates.{planned_view}
-use Rattle.shape_changes.proofs.PlannedRoles.{says-shared}
-use Rattle.shape_changes.proofs.KeptSafe.{fits-alike}
+use Rattle.shape_ends.specs.shape_changes_Updates.{planned_view}
+use Rattle.shape_ends.proofs.shape_changes_PlannedRoles.{says-shared}
+use Rattle.shape_ends.proofs.shape_changes_KeptSafe.{fits-alike}
 use Rattle.shape_ends.specs.Ends.{IsBegun}
 use Rattle.shape_ends.proofs.PlanRoles.{planned-begun}
 use Rattle.reshape_updates.specs.Beginning.{HasBegun, beginning}

@@ -23,16 +23,16 @@ use Rattle.superblocks.specs.Reads.{SaysSame}
 use Rattle.superblocks.specs.Verdict.{unit_of}
 use Rattle.superblocks.specs.Update.{IsRoleGive, give_of, planned_role}
 use Rattle.superblocks.specs.Updating.{planned_newest}
-use Rattle.superblock_reads.proofs.SaidLists.{role-holder}
-use Rattle.row_io.specs.Rows.{reading_of}
-use Rattle.flat_history.specs.Stands.{backup_absent, has_room}
-use Rattle.shape_views.specs.Regions.{AreShapesFit, ArePlaced, DoWithout}
-use Rattle.shape_views.proofs.Alike.{shape-alike, backup-alike}
-use Rattle.shape_changes.specs.Kinds.{IsDropping}
-use Rattle.shape_changes.specs.Updates.{planned_view, HasOneHolder, IsAtEnd}
-use Rattle.shape_changes.proofs.PlannedRoles.{says-shared, count-planned}
-use Rattle.shape_changes.proofs.KeptSafe.{fits-alike}
-use Rattle.shape_changes.proofs.Without.{any-holds, any-held}
+use Rattle.shape_ends.proofs.superblock_reads_SaidLists.{role-holder}
+use Rattle.shape_ends.specs.row_io_Rows.{reading_of}
+use Rattle.shape_ends.specs.flat_history_Stands.{backup_absent, has_room}
+use Rattle.shape_ends.specs.shape_views_Regions.{AreShapesFit, ArePlaced, DoWithout}
+use Rattle.shape_ends.proofs.shape_views_Alike.{shape-alike, backup-alike}
+use Rattle.shape_ends.specs.shape_changes_Kinds.{IsDropping}
+use Rattle.shape_ends.specs.shape_changes_Updates.{planned_view, HasOneHolder, IsAtEnd}
+use Rattle.shape_ends.proofs.shape_changes_PlannedRoles.{says-shared, count-planned}
+use Rattle.shape_ends.proofs.shape_changes_KeptSafe.{fits-alike}
+use Rattle.shape_ends.proofs.shape_changes_Without.{any-holds, any-held}
 use Rattle.shape_ends.specs.Ends.{IsEnded}
 use Rattle.shape_ends.specs.Plans.{HasNoneRecovering}
 use Rattle.shape_ends.proofs.PlanRoles.{plans-keep, planned-ended}

@@ -6,8 +6,8 @@ use Rattle.sb1.specs.declared.sb.Sb.{Sb}
 use Rattle.superblocks.specs.declared.members.Members.{Members}
 use Rattle.superblocks.specs.Reading.{holder, role_state, rows_held}
 use Rattle.superblocks.specs.Reads.{SaysSame}
-use Rattle.row_io.specs.Rows.{reading_of}
-use Rattle.shape_changes.specs.Updates.{IsLessView}
+use Rattle.shape_ends.specs.row_io_Rows.{reading_of}
+use Rattle.shape_ends.specs.shape_changes_Updates.{IsLessView}
 
 pub says-then : (a b c : Sb) → SaysSame a b → SaysSame b c → SaysSame a c
 says-then a b c one two = record {

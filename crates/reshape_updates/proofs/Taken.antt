@@ -10,11 +10,11 @@ use Rattle.superblocks.specs.declared.members.Members.{Members}
 use Rattle.superblocks.specs.Reading.{role_count, role_state, holder}
 use Rattle.superblocks.specs.Update.{give_of, planned_role}
 use Rattle.superblocks.specs.Outcome.{held_state, planned_state}
-use Rattle.superblock_reads.proofs.SaidLists.{role-holder}
-use Rattle.row_io.specs.Rows.{reading_of}
-use Rattle.shape_changes.specs.Kinds.{IsTaking}
-use Rattle.shape_changes.specs.Updates.{planned_view, HasOneHolder}
-use Rattle.shape_changes.proofs.PlannedRoles.{planned-held}
+use Rattle.shape_ends.proofs.superblock_reads_SaidLists.{role-holder}
+use Rattle.shape_ends.specs.row_io_Rows.{reading_of}
+use Rattle.shape_ends.specs.shape_changes_Kinds.{IsTaking}
+use Rattle.shape_ends.specs.shape_changes_Updates.{planned_view, HasOneHolder}
+use Rattle.shape_ends.proofs.shape_changes_PlannedRoles.{planned-held}
 use Rattle.shape_ends.proofs.PlanRoles.{planned-or}
 
 module _ (old : Members) (change : Change) (t : IsTaking old change) where

@@ -12,7 +12,7 @@ use Rattle.superblocks.specs.declared.change.Change.{Change}
 use Rattle.superblocks.specs.declared.members.Members.{Members}
 use Rattle.superblocks.specs.Reading.{is_reshaping, is_backward, shape_of, final_shape}
 use Rattle.superblocks.specs.Reads.{has_spare}
-use Rattle.shape_changes.specs.Updates.{IsAtStart}
+use Rattle.shape_ends.specs.shape_changes_Updates.{IsAtStart}
 
 -- ---- what the superblocks say
 

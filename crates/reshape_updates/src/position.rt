@@ -9,16 +9,16 @@ ghost use Rattle.superblocks.specs.Reading.{Scope, is_negative, is_zero, is_back
 ghost use Rattle.superblocks.specs.Reads.{SaysSame};
 ghost use Rattle.superblocks.specs.Outcome.{live_set, AreLive};
 ghost use Rattle.superblocks.specs.Updating.{AreLosses};
-ghost use Rattle.flat_history.specs.World.{World};
-ghost use Rattle.flat_history.specs.Sound.{OpensFit};
-ghost use Rattle.shape_views.specs.Regions.{ArePlaced};
-ghost use Rattle.shape_views.specs.Views.{Ledger, IsViewRight};
-ghost use Rattle.shape_views.specs.Windows.{moved_past};
-ghost use Rattle.shape_changes.specs.Safety.{HasRoomLeft, IsRisen};
-ghost use Rattle.shape_changes.specs.Steady.{IsSteady, IsSafeOver, KeepsSafe, AreGoneTold};
-ghost use Rattle.shape_changes.specs.Updates.{IsLessView};
-ghost use Rattle.shape_changes.specs.Changing.{IsChanged};
-ghost use Rattle.shape_changes.specs.Kinds.{recording};
+ghost use Rattle.shape_ends.specs.flat_history_World.{World};
+ghost use Rattle.shape_ends.specs.flat_history_Sound.{OpensFit};
+ghost use Rattle.shape_ends.specs.shape_views_Regions.{ArePlaced};
+ghost use Rattle.shape_ends.specs.shape_views_Views.{Ledger, IsViewRight};
+ghost use Rattle.shape_ends.specs.shape_views_Windows.{moved_past};
+ghost use Rattle.shape_ends.specs.shape_changes_Safety.{HasRoomLeft, IsRisen};
+ghost use Rattle.shape_ends.specs.shape_changes_Steady.{IsSteady, IsSafeOver, KeepsSafe, AreGoneTold};
+ghost use Rattle.shape_ends.specs.shape_changes_Updates.{IsLessView};
+ghost use Rattle.shape_ends.specs.shape_changes_Changing.{IsChanged};
+ghost use Rattle.shape_ends.specs.shape_changes_Kinds.{recording};
 
 use bank::Bank;
 use md_base::Span;

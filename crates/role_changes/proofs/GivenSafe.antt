@@ -16,29 +16,29 @@ use Rattle.sb1.specs.declared.sb.Sb.{Sb}
 use Rattle.bank.specs.declared.bank.Operation.{Operation}
 use Rattle.bank.specs.Given.{Given}
 use Rattle.bank.specs.Tape.{disk}
-use Rattle.superblocks.specs.declared.change.Give.{Give}
-use Rattle.superblocks.specs.declared.change.Give.TheVariants.{Same, Spare}
-use Rattle.superblocks.specs.declared.change.Give.TheVariants as give
-use Rattle.superblocks.specs.declared.change.Change.{Change}
-use Rattle.superblocks.specs.declared.members.Members.{Members}
-use Rattle.superblocks.specs.Reading.{Scope, is_clean, is_reshaping, shape_of, final_shape, role_count, role_state, rows_held, holder, is_whole, data_offset_of}
-use Rattle.superblocks.specs.Reads.{has_spare}
-use Rattle.superblocks.specs.Update.{with_give, give_of, own_in, is_recovery, planned_role, is_held_by}
-use Rattle.superblocks.specs.Outcome.{is_in_update, is_planned_holder, held_state, planned_state, AreGivesOfLive}
-use Rattle.superblock_reads.proofs.SaidLists.{role-holder}
-use Rattle.superblock_reads.proofs.SaidSlots.{spare-known}
-use Rattle.row_io.specs.Rows.{reading_of, is_missing, held_slot, IsTolerated, IsHolder}
-use Rattle.row_io.proofs.Losses.{holder-of}
-use Rattle.flat_history.specs.ActiveSection.{section_for}
-use Rattle.shape_views.specs.Regions.{ArePlaced}
-use Rattle.shape_views.specs.Views.{Disk, Ledger, IsViewRight}
+use Rattle.shape_changes.specs.superblocks_the_Give.{Give}
+use Rattle.shape_changes.specs.superblocks_the_Give_TheVariants.{Same, Spare}
+use Rattle.shape_changes.specs.superblocks_the_Give_TheVariants as give
+use Rattle.shape_changes.specs.superblocks_the_Change.{Change}
+use Rattle.shape_changes.specs.superblocks_the_Members.{Members}
+use Rattle.shape_changes.specs.superblocks_Reading.{Scope, is_clean, is_reshaping, shape_of, final_shape, role_count, role_state, rows_held, holder, is_whole, data_offset_of}
+use Rattle.shape_changes.specs.superblocks_Reads.{has_spare}
+use Rattle.shape_changes.specs.superblocks_Update.{with_give, give_of, own_in, is_recovery, planned_role, is_held_by}
+use Rattle.shape_changes.specs.superblocks_Outcome.{is_in_update, is_planned_holder, held_state, planned_state, AreGivesOfLive}
+use Rattle.shape_changes.proofs.superblock_reads_SaidLists.{role-holder}
+use Rattle.shape_changes.proofs.superblock_reads_SaidSlots.{spare-known}
+use Rattle.shape_changes.specs.row_io_Rows.{reading_of, is_missing, held_slot, IsTolerated, IsHolder}
+use Rattle.shape_changes.proofs.row_io_Losses.{holder-of}
+use Rattle.shape_changes.specs.flat_history_ActiveSection.{section_for}
+use Rattle.shape_changes.specs.shape_views_Regions.{ArePlaced}
+use Rattle.shape_changes.specs.shape_views_Views.{Disk, Ledger, IsViewRight}
 use Rattle.shape_changes.specs.Updates.{planned_view}
 use Rattle.shape_changes.specs.Steady.{AreGoneTold, IsSteady}
 use Rattle.shape_changes.specs.Changing.{IsChanged, IsFitUpdate, IsPlannedSafe}
 use Rattle.shape_changes.specs.Kinds.{IsTaking}
 use Rattle.shape_changes.specs.Giving.{IsPlacedLess, IsReceiver, GivingStaysSafe}
 use Rattle.shape_changes.specs.Marking.{giving}
-use Rattle.shape_views.proofs.Alike.{shape-alike, final-alike, length-alike, window-alike, placing-alike}
+use Rattle.shape_changes.proofs.shape_views_Alike.{shape-alike, final-alike, length-alike, window-alike, placing-alike}
 use Rattle.shape_changes.proofs.LessViews.{more-pass, header-alike, tail-alike}
 use Rattle.shape_changes.proofs.PlannedRoles.{says-shared, count-planned, planned-holds}
 use Rattle.shape_changes.proofs.ChangeViews.{plan-told}

@@ -9,34 +9,34 @@ use Rattle.sb1.specs.declared.sb.Sb.{Sb}
 use Rattle.bank.specs.declared.bank.Operation.{Operation}
 use Rattle.bank.specs.Given.{Given}
 use Rattle.bank.specs.Tape.{Contents, disk}
-use Rattle.superblocks.specs.declared.change.Give.{Give}
-use Rattle.superblocks.specs.declared.change.Give.TheVariants.{Same}
-use Rattle.superblocks.specs.declared.change.Give.TheVariants as give
-use Rattle.superblocks.specs.declared.change.Change.{Change}
-use Rattle.superblocks.specs.declared.members.Members.{Members}
-use Rattle.superblocks.specs.Reading.{Scope, role_count}
-use Rattle.superblocks.specs.Reads.{has_spare}
-use Rattle.superblocks.specs.Update.{give_of, is_live, is_held_by, is_recovery, planned_role, is_planned_spare, slot_entry, entry_for, with_entries, with_roles, faulty_role}
-use Rattle.superblocks.specs.Updating.{IsSomeLeft, IsLater, AreNamed, planned_newest}
-use Rattle.superblocks.specs.Outcome.{live_set, planned_state, AreGivesOfLive}
-use Rattle.superblocks.specs.Held.{AreDrawn}
-use Rattle.superblocks.specs.Stages.{AreLeft, AreKept, AreFirstKept}
-use Rattle.superblock_reads.specs.Following.{AreHeldAlone}
-use Rattle.superblocks.specs.Rounds.{round_at, IsReady, IsReadAsPlanned}
-use Rattle.superblocks.specs.Crash.{IsWithin}
-use Rattle.superblock_reads.specs.Said.{AreSaidAsPlanned}
-use Rattle.superblocks.proofs.ReadAlike.{tabulate-same}
-use Rattle.superblocks.proofs.ReadLists.{by_bool}
-use Rattle.superblock_reads.proofs.RoundReads.{left_set}
-use Rattle.superblock_reads.proofs.RoundsRead.{more-held}
-use Rattle.superblock_reads.proofs.SaidLists.{role-holder}
-use Rattle.superblock_reads.proofs.SaidSlots.{role-known, spare-known}
-use Rattle.superblock_laws.specs.MakingWhole.{without_gives, IsMakingWhole}
-use Rattle.superblock_laws.proofs.Laws.{making-reads, making-follows}
-use Rattle.superblock_laws.proofs.MadeWholeSaid.{made-said}
-use Rattle.row_io.specs.Rows.{members_without}
-use Rattle.shape_views.specs.Regions.{AreShapesFit}
-use Rattle.shape_views.specs.Views.{Disk, Ledger, IsViewRight, IsSeenRight}
+use Rattle.shape_changes.specs.superblocks_the_Give.{Give}
+use Rattle.shape_changes.specs.superblocks_the_Give_TheVariants.{Same}
+use Rattle.shape_changes.specs.superblocks_the_Give_TheVariants as give
+use Rattle.shape_changes.specs.superblocks_the_Change.{Change}
+use Rattle.shape_changes.specs.superblocks_the_Members.{Members}
+use Rattle.shape_changes.specs.superblocks_Reading.{Scope, role_count}
+use Rattle.shape_changes.specs.superblocks_Reads.{has_spare}
+use Rattle.shape_changes.specs.superblocks_Update.{give_of, is_live, is_held_by, is_recovery, planned_role, is_planned_spare, slot_entry, entry_for, with_entries, with_roles, faulty_role}
+use Rattle.shape_changes.specs.superblocks_Updating.{IsSomeLeft, IsLater, AreNamed, planned_newest}
+use Rattle.shape_changes.specs.superblocks_Outcome.{live_set, planned_state, AreGivesOfLive}
+use Rattle.shape_changes.specs.superblocks_Held.{AreDrawn}
+use Rattle.shape_changes.specs.superblocks_Stages.{AreLeft, AreKept, AreFirstKept}
+use Rattle.shape_changes.specs.superblock_reads_Following.{AreHeldAlone}
+use Rattle.shape_changes.specs.superblocks_Rounds.{round_at, IsReady, IsReadAsPlanned}
+use Rattle.shape_changes.specs.superblocks_Crash.{IsWithin}
+use Rattle.shape_changes.specs.superblock_reads_Said.{AreSaidAsPlanned}
+use Rattle.shape_changes.proofs.superblocks_ReadAlike.{tabulate-same}
+use Rattle.shape_changes.proofs.superblocks_ReadLists.{by_bool}
+use Rattle.shape_changes.proofs.superblock_reads_RoundReads.{left_set}
+use Rattle.shape_changes.proofs.superblock_reads_RoundsRead.{more-held}
+use Rattle.shape_changes.proofs.superblock_reads_SaidLists.{role-holder}
+use Rattle.shape_changes.proofs.superblock_reads_SaidSlots.{role-known, spare-known}
+use Rattle.shape_changes.specs.superblock_laws_MakingWhole.{without_gives, IsMakingWhole}
+use Rattle.shape_changes.proofs.superblock_laws_Laws.{making-reads, making-follows}
+use Rattle.shape_changes.proofs.superblock_laws_MadeWholeSaid.{made-said}
+use Rattle.shape_changes.specs.row_io_Rows.{members_without}
+use Rattle.shape_changes.specs.shape_views_Regions.{AreShapesFit}
+use Rattle.shape_changes.specs.shape_views_Views.{Disk, Ledger, IsViewRight, IsSeenRight}
 use Rattle.shape_changes.specs.Held.{IsHeldBy}
 use Rattle.shape_changes.specs.Carried.{AreCarried}
 use Rattle.shape_changes.specs.Safety.{HasMarkRoom}

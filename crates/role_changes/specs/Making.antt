@@ -3,14 +3,14 @@ use Rattle.std.specs.Prelude.{◌≡◌, ℕ, true, List, None, ⊤}
 use Rattle.bank.specs.declared.bank.Operation.{Operation}
 use Rattle.bank.specs.Given.{Given}
 use Rattle.bank.specs.Tape.{EachMark, disk}
-use Rattle.superblocks.specs.declared.change.Change.{Change}
-use Rattle.superblocks.specs.declared.members.Members.{Members}
-use Rattle.superblocks.specs.Reading.{Scope, role_count}
-use Rattle.superblocks.specs.Outcome.{live_set, AreGivesOfLive}
-use Rattle.superblocks.specs.Rounds.{round_at, IsInRounds, ArePast}
-use Rattle.superblocks.specs.Stages.{AreFirstKept}
-use Rattle.superblock_laws.specs.MakingWhole.{without_gives, IsMakingWhole}
-use Rattle.shape_views.specs.Views.{Disk, Ledger, IsViewRight}
+use Rattle.shape_changes.specs.superblocks_the_Change.{Change}
+use Rattle.shape_changes.specs.superblocks_the_Members.{Members}
+use Rattle.shape_changes.specs.superblocks_Reading.{Scope, role_count}
+use Rattle.shape_changes.specs.superblocks_Outcome.{live_set, AreGivesOfLive}
+use Rattle.shape_changes.specs.superblocks_Rounds.{round_at, IsInRounds, ArePast}
+use Rattle.shape_changes.specs.superblocks_Stages.{AreFirstKept}
+use Rattle.shape_changes.specs.superblock_laws_MakingWhole.{without_gives, IsMakingWhole}
+use Rattle.shape_changes.specs.shape_views_Views.{Disk, Ledger, IsViewRight}
 use Rattle.shape_changes.specs.Safety.{HasRoomLeft}
 use Rattle.shape_changes.specs.Steady.{IsSteady, IsSafeNow, AreGoneTold}
 use Rattle.shape_changes.specs.Updates.{planned_view}

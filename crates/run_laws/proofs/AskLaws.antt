@@ -20,8 +20,8 @@ use Rattle.flat_history.specs.Transfers.{IsPastEnd}
 use Rattle.bank.specs.declared.bank.Operation.{Operation}
 use Rattle.md_base.specs.declared.answers.Refusal.{Refusal}
 use Rattle.md_base.specs.declared.answers.Refusal.TheVariants.{PastEnd, SlotFault, BackupFault}
-use Rattle.superblocks.specs.declared.members.Members.{Members}
-use Rattle.superblocks.specs.Reads.{has_spare}
+use Rattle.running_calls.specs.superblocks_the_Members.{Members}
+use Rattle.running_calls.specs.superblocks_Reads.{has_spare}
 use Rattle.bank.specs.Given.{Given}
 use Rattle.running_calls.specs.views_Parts.{Parts}
 use Rattle.running_calls.specs.call_entries_Losing.{losses_of}

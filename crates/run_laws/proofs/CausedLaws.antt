@@ -11,8 +11,8 @@ use Rattle.md_base.specs.declared.wishes.Phase.{Phase}
 use Rattle.md_base.specs.declared.wishes.Wish.{Wish}
 use Rattle.bank.specs.Given.{Given}
 use Rattle.grow_plan.specs.Plans.{phases, phases_steps}
-use Rattle.superblocks.specs.declared.members.Members.{Members}
-use Rattle.superblocks.specs.Reading.{is_reshaping, is_clean, shape_of, final_shape, list_length}
+use Rattle.running_calls.specs.superblocks_the_Members.{Members}
+use Rattle.running_calls.specs.superblocks_Reading.{is_reshaping, is_clean, shape_of, final_shape, list_length}
 use Rattle.flat_history.specs.declared.events.Entry.{Entry}
 use Rattle.flat_history.specs.declared.events.Event.{Event}
 use Rattle.flat_history.specs.declared.events.Event.TheVariants.{Added, Failed, Visible, Planned, Stepped, Shown, Refused}

@@ -19,7 +19,7 @@ use Rattle.running_calls.specs.views_Flushing.{OnlyFlushesAdded}
 use Rattle.running_calls.specs.views_Moving.{Grows}
 use Rattle.running_calls.proofs.views_Flushed.{contents-added}
 use Rattle.running_calls.specs.assemble_Filling.{AreBelow, OnlyBelow}
-use Rattle.superblocks.specs.Reading.{Scope, of_array, is_seen}
+use Rattle.running_calls.specs.superblocks_Reading.{Scope, of_array, is_seen}
 use Rattle.flat_history.specs.Stands.{verdict}
 use Rattle.running_calls.specs.assemble_the_CreateSpec.{CreateSpec}
 use Rattle.running_calls.specs.assemble_Opening.{scope_of, array_of, AreGiven, HasFoundNone}

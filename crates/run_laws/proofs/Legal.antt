@@ -9,9 +9,9 @@ use Rattle.flat_history.specs.Epochs.{world_of}
 use Rattle.flat_history.specs.OneShape.{ShapeOpening, opening_in, IsOneShapeLegal}
 use Rattle.flat_history.proofs.LegalLaws.{histories-stay-legal}
 use Rattle.flat_history.proofs.OneShapeLegal.{opening-grown}
-use Rattle.history_laws.proofs.OneShapeGrowing.{one_shape-later}
+use Rattle.running_calls.proofs.history_laws_OneShapeGrowing.{one_shape-later}
 use Rattle.flat_history.proofs.SoundLaws.{fit-before}
-use Rattle.history_laws.proofs.ReshapedLaws.{reshapes-stay-right}
+use Rattle.running_calls.proofs.history_laws_ReshapedLaws.{reshapes-stay-right}
 use Rattle.running_calls.proofs.kept_history_Turned.{filled-before}
 use Rattle.running_calls.specs.kept_history_Safe.{IsFilledRight}
 use Rattle.running_calls.specs.history_calls_Reliable.{IsReliable}

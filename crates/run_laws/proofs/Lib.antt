@@ -19,3 +19,4 @@ pub use Rattle.running_calls.proofs.running_replies_GoneOn
 pub use Rattle.running_calls.proofs.array_kept_ReplyLaws
 pub use Rattle.running_calls.proofs.GoneOn as running_calls_GoneOn
 pub use Rattle.running_calls.proofs.views_Still
+pub use Rattle.running_calls.proofs.history_laws_OneShapeGrowing

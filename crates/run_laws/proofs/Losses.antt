@@ -9,7 +9,7 @@ use Rattle.md_base.specs.declared.answers.Refusal.{Refusal}
 use Rattle.md_base.specs.declared.answers.Refusal.TheVariants.{BackupFault, SlotFault}
 use Rattle.bank.specs.declared.bank.Operation.{Operation}
 use Rattle.md_base.specs.declared.answers.Who.{Who}
-use Rattle.superblocks.specs.declared.members.Members.{Members}
+use Rattle.running_calls.specs.superblocks_the_Members.{Members}
 use Rattle.flat_history.specs.declared.events.Entry.{Entry}
 use Rattle.flat_history.specs.declared.events.Event.{Event}
 use Rattle.flat_history.specs.declared.events.Event.TheVariants.{Lost, SpareLost, Stepped, Halted, Refused}
@@ -20,9 +20,9 @@ use Rattle.flat_history.specs.Growing.{grown}
 use Rattle.flat_history.specs.World.{World}
 use Rattle.md_base.specs.declared.status.Role.{Role}
 use Rattle.md_base.specs.declared.status.Role.TheVariants.{Whole, Recovering as HeldInPart, Missing}
-use Rattle.superblocks.specs.Reading.{Reading, is_whole, role_state}
-use Rattle.superblocks.specs.Reads.{has_spare}
-use Rattle.row_io.specs.Rows.{is_missing}
+use Rattle.running_calls.specs.superblocks_Reading.{Reading, is_whole, role_state}
+use Rattle.running_calls.specs.superblocks_Reads.{has_spare}
+use Rattle.running_calls.specs.row_io_Rows.{is_missing}
 use Rattle.running_calls.specs.array_kept_Adopting.{opener, found_loss, absent_loss, absent_losses}
 use Rattle.running_calls.specs.array_kept_Calls.{IsRoleLossBy, IsLossBy, AreLossesBy, AreLossesOf, AreSparesFewer, IsSameArray, IsEntered}
 use Rattle.running_calls.specs.views_Rebuilding.{Held, MayHold}

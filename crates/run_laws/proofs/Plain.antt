@@ -2,7 +2,7 @@
 use Rattle.std.proofs.Common.{◌≡◌, inl, inr, ℕ, ◌||◌, Bool, false, Option, Some, None, List, [], ◌∷◌, refl, sym, ◌∙◌, ap, true≢false}
 use Rattle.std.specs.Prelude.{MatchOption, IfSome, IsTrue, ⊤}
 use Rattle.std.specs.List.{list_any}
-use Rattle.superblocks.specs.Reading.{Reading, is_reshaping}
+use Rattle.running_calls.specs.superblocks_Reading.{Reading, is_reshaping}
 use Rattle.flat_history.specs.declared.events.Entry.{Entry}
 use Rattle.flat_history.specs.declared.events.Event.{Event}
 use Rattle.flat_history.specs.declared.events.Event.TheVariants.{Step}

@@ -18,17 +18,17 @@ use Rattle.md_base.proofs.Tabulated.{length-tabulate, get_or-tabulate}
 use Rattle.bank.specs.Given.{Given}
 use Rattle.grow_plan.specs.Plans.{phases, phases_steps, last_shape}
 use Rattle.grow_plan.proofs.Sound.{phases_lead}
-use Rattle.superblocks.specs.declared.members.Members.{Members}
-use Rattle.superblocks.specs.Reading.{is_reshaping, is_backup, shape_of, final_shape, role_count, role_state, holder}
-use Rattle.superblocks.specs.Reads.{has_spare}
-use Rattle.row_io.specs.Rows.{reading_of}
+use Rattle.running_calls.specs.superblocks_the_Members.{Members}
+use Rattle.running_calls.specs.superblocks_Reading.{is_reshaping, is_backup, shape_of, final_shape, role_count, role_state, holder}
+use Rattle.running_calls.specs.superblocks_Reads.{has_spare}
+use Rattle.running_calls.specs.row_io_Rows.{reading_of}
 use Rattle.flat_history.specs.declared.events.Event.TheVariants.{Visible, Planned, Refused}
 use Rattle.running_calls.specs.views_Placed.{is_vacant}
 use Rattle.running_calls.specs.views_Status.{left_of}
 use Rattle.running_calls.proofs.views_Still.{count-still}
-use Rattle.grow_asked.specs.Asked.{IsUngrowable, IsFirst, grow_refusal}
-use Rattle.grow_asked.specs.Left.{phases_of}
-use Rattle.grow_asked.proofs.FirstLaws.{judged}
+use Rattle.running_calls.specs.grow_asked_Asked.{IsUngrowable, IsFirst, grow_refusal}
+use Rattle.running_calls.specs.grow_asked_Left.{phases_of}
+use Rattle.running_calls.proofs.grow_asked_FirstLaws.{judged}
 use Rattle.running_calls.specs.Going.{is_added, MayBeNewSpare}
 use Rattle.running_calls.specs.growing_Planned.{asked_in}
 use Rattle.running_calls.specs.array_kept_Calls.{IsTaken}

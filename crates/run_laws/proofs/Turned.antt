@@ -17,7 +17,7 @@ use Rattle.md_base.specs.declared.status.Status.{Status}
 use Rattle.md_base.specs.declared.wishes.Phase.{Phase}
 use Rattle.bank.specs.declared.bank.Operation.{Operation}
 use Rattle.bank.specs.Given.{Given}
-use Rattle.superblocks.specs.Reading.{is_reshaping}
+use Rattle.running_calls.specs.superblocks_Reading.{is_reshaping}
 use Rattle.flat_history.specs.declared.events.Entry.{Entry}
 use Rattle.flat_history.specs.declared.events.Event.{Event}
 use Rattle.flat_history.specs.declared.events.Event.TheVariants.{Wrote, Planned, Step, Stepped, Shown, Refused}
@@ -30,7 +30,7 @@ use Rattle.flat_history.specs.Legal.{MayBeInner, call_before}
 use Rattle.flat_history.specs.Reshaped.{is_planned}
 use Rattle.flat_history.specs.Transfers.{IsRefusedAt, IsPastEnd}
 use Rattle.running_calls.specs.kept_history_Recorded.{entry_of}
-use Rattle.grow_asked.specs.Left.{phases_of}
+use Rattle.running_calls.specs.grow_asked_Left.{phases_of}
 use Rattle.running_calls.specs.moving_laws_Writing.{IsWriteReplied}
 use Rattle.running_calls.specs.running_words_Parts.{RunningParts}
 use Rattle.running_calls.specs.running_replies_Going.{is_begin, HasNoReshape, HasRunOn}

@@ -13,15 +13,15 @@ use Rattle.bank.specs.Tape.{Contents, disk, IsImage, IsDrawn, AreFlushes}
 use Rattle.bank.specs.Stretches.{AreWritesWithin}
 use Rattle.bank.proofs.Laws.{contents-earlier}
 use Rattle.bank.proofs.Images.{drawn-image}
-use Rattle.superblocks.specs.Reading.{Reading, reading, role_count, role_state, is_whole, is_reshaping, is_clean}
+use Rattle.running_calls.specs.superblocks_Reading.{Reading, reading, role_count, role_state, is_whole, is_reshaping, is_clean}
 use Rattle.running_calls.specs.shape_views_Regions.{header_in, open_by}
-use Rattle.grow_asked.specs.declared.window.Window.{Window}
-use Rattle.grow_asked.specs.Left.{grow_left}
+use Rattle.running_calls.specs.grow_asked_the_Window.{Window}
+use Rattle.running_calls.specs.grow_asked_Left.{grow_left}
 use Rattle.running_calls.specs.region_mends_Left.{resync_left}
 use Rattle.running_calls.specs.reshape_openings_Finding.{window_for}
 use Rattle.running_calls.specs.array_kept_Adopting.{found_work}
 use Rattle.running_calls.specs.views_Status.{left_of}
-use Rattle.superblocks.specs.Found.{AreLikeNewest}
+use Rattle.running_calls.specs.superblocks_Found.{AreLikeNewest}
 use Rattle.md_base.specs.declared.status.Status.{Status}
 use Rattle.flat_history.specs.declared.events.Entry.{Entry}
 use Rattle.flat_history.specs.declared.events.Event.{Event}
@@ -36,7 +36,7 @@ use Rattle.flat_history.specs.Opened.{IsSound, OpensSound}
 use Rattle.flat_history.specs.Reopened.{OpensAccepted}
 use Rattle.flat_history.specs.Sound.{FillsRight, LeavesSound, StaysSound}
 use Rattle.flat_history.specs.Growing.{grown, EndBy}
-use Rattle.history_laws.proofs.GrowingLaws.{marks-stay-safe}
+use Rattle.running_calls.proofs.history_laws_GrowingLaws.{marks-stay-safe}
 use Rattle.flat_history.proofs.SoundLaws.{fit-before, leaves-later, leaves-flushed}
 use Rattle.flat_history.proofs.StretchLaws.{bounds-serve}
 use Rattle.running_calls.specs.assemble_the_CreateSpec.{CreateSpec}

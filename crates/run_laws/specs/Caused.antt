@@ -4,12 +4,12 @@ use Rattle.md_base.specs.declared.answers.Refusal.{Refusal}
 use Rattle.md_base.specs.declared.answers.Refusal.TheVariants.{SlotFault}
 use Rattle.bank.specs.Given.{Given}
 use Rattle.grow_plan.specs.Plans.{phases, phases_steps}
-use Rattle.superblocks.specs.Reading.{shape_of, list_length}
+use Rattle.running_calls.specs.superblocks_Reading.{shape_of, list_length}
 use Rattle.flat_history.specs.declared.events.Entry.{Entry}
 use Rattle.flat_history.specs.declared.events.Event.{Event}
 use Rattle.flat_history.specs.declared.events.Event.TheVariants.{Visible, Planned, Stepped, Refused}
 use Rattle.flat_history.specs.Flat.{visible_of}
-use Rattle.grow_asked.specs.Asked.{grow_refusal}
+use Rattle.running_calls.specs.grow_asked_Asked.{grow_refusal}
 use Rattle.running_calls.specs.array_kept_Calls.{HasRole, IsUnaddable}
 use Rattle.running_calls.specs.growing_Planned.{asked_in}
 use Rattle.running_calls.specs.running_Calls.{running_left}

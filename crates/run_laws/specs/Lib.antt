@@ -50,3 +50,11 @@ pub use Rattle.running_calls.specs.views_the_Work
 pub use Rattle.running_calls.specs.views_Status
 pub use Rattle.running_calls.specs.views_Lacking
 pub use Rattle.running_calls.specs.shape_views_Regions
+pub use Rattle.running_calls.specs.grow_asked_Left
+pub use Rattle.running_calls.specs.grow_asked_the_Window
+pub use Rattle.running_calls.specs.grow_asked_the_PhasesLeft
+pub use Rattle.running_calls.specs.row_io_Rows
+pub use Rattle.running_calls.specs.superblocks_Reads
+pub use Rattle.running_calls.specs.superblocks_Reading
+pub use Rattle.running_calls.specs.superblocks_the_Members
+pub use Rattle.running_calls.specs.superblocks_Election

@@ -9,10 +9,10 @@ use Rattle.md_base.specs.Search.{tabulate}
 use Rattle.bank.specs.declared.bank.Operation.{Operation}
 use Rattle.bank.specs.Given.{Given, sizes}
 use Rattle.bank.specs.Tape.{Contents, contents}
-use Rattle.superblocks.specs.declared.members.Members.{Members}
-use Rattle.superblocks.specs.Reading.{Reading, shape_of, is_clean, is_reshaping, is_whole, role_count, role_state, holder}
-use Rattle.superblocks.specs.Reads.{has_spare}
-use Rattle.row_io.specs.Rows.{reading_of}
+use Rattle.running_calls.specs.superblocks_the_Members.{Members}
+use Rattle.running_calls.specs.superblocks_Reading.{Reading, shape_of, is_clean, is_reshaping, is_whole, role_count, role_state, holder}
+use Rattle.running_calls.specs.superblocks_Reads.{has_spare}
+use Rattle.running_calls.specs.row_io_Rows.{reading_of}
 use Rattle.flat_history.specs.declared.events.Entry.{Entry}
 use Rattle.flat_history.specs.declared.events.Event.{Event}
 use Rattle.flat_history.specs.declared.events.Event.TheVariants.{Added, Shown}
@@ -29,8 +29,8 @@ use Rattle.running_calls.specs.array_kept_Adopting.{opener, absent_losses, found
 use Rattle.running_calls.specs.assemble_Made.{HasCreateCause}
 use Rattle.running_calls.specs.assemble_Opening.{HasFoundNone}
 use Rattle.running_calls.specs.shape_views_Regions.{header_in, open_by}
-use Rattle.grow_asked.specs.declared.window.Window.{Window}
-use Rattle.grow_asked.specs.Left.{grow_left}
+use Rattle.running_calls.specs.grow_asked_the_Window.{Window}
+use Rattle.running_calls.specs.grow_asked_Left.{grow_left}
 use Rattle.running_calls.specs.region_mends_Left.{resync_left}
 use Rattle.running_calls.specs.reshape_openings_Finding.{window_for}
 use Rattle.run_laws.specs.Histories.{History}

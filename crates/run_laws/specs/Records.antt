@@ -8,10 +8,10 @@ use Rattle.md_base.specs.declared.status.Role.TheVariants.{Whole}
 use Rattle.md_base.specs.declared.status.Status.{Status}
 use Rattle.bank.specs.Given.{IsFaulted}
 use Rattle.grow_plan.specs.Plans.{phases}
-use Rattle.superblocks.specs.declared.members.Members.{Members}
-use Rattle.superblocks.specs.Reading.{is_reshaping, shape_of, final_shape, list_length}
-use Rattle.superblocks.specs.Reads.{has_spare}
-use Rattle.row_io.specs.Rows.{reading_of}
+use Rattle.running_calls.specs.superblocks_the_Members.{Members}
+use Rattle.running_calls.specs.superblocks_Reading.{is_reshaping, shape_of, final_shape, list_length}
+use Rattle.running_calls.specs.superblocks_Reads.{has_spare}
+use Rattle.running_calls.specs.row_io_Rows.{reading_of}
 use Rattle.flat_history.specs.declared.events.Entry.{Entry}
 use Rattle.flat_history.specs.declared.events.Event.{Event}
 use Rattle.flat_history.specs.declared.events.Event.TheVariants.{Failed, Added, Visible, Planned, Refused}
@@ -20,7 +20,7 @@ use Rattle.flat_history.specs.Legal.{told_left}
 use Rattle.flat_history.specs.Reshaped.{is_planned}
 use Rattle.running_calls.specs.views_Lacking.{AreTooMany, HaveRolesFailed}
 use Rattle.running_calls.specs.views_Placed.{AreStillHeld, is_vacant}
-use Rattle.grow_asked.specs.Left.{phases_of}
+use Rattle.running_calls.specs.grow_asked_Left.{phases_of}
 use Rattle.running_calls.specs.Going.{AreHeldSince, AreLossesSince, GoesItsWay}
 use Rattle.running_calls.specs.Turning.{IsTurningTold}
 use Rattle.running_calls.specs.array_kept_Calls.{IsRefusedFor, AreSparesFewer}

@@ -6,8 +6,8 @@ use Rattle.md_base.specs.declared.answers.Refusal.TheVariants.{SlotTaken, SlotFa
 use Rattle.md_base.specs.declared.wishes.Wish.{Wish}
 use Rattle.bank.specs.Given.{Given}
 use Rattle.grow_plan.specs.Plans.{target}
-use Rattle.superblocks.specs.Reading.{shape_of}
-use Rattle.superblocks.specs.Reads.{has_spare}
+use Rattle.running_calls.specs.superblocks_Reading.{shape_of}
+use Rattle.running_calls.specs.superblocks_Reads.{has_spare}
 use Rattle.flat_history.specs.declared.events.Event.{Event}
 use Rattle.flat_history.specs.declared.events.Event.TheVariants.{Planned, Refused}
 use Rattle.flat_history.specs.Legal.{told_left}

@@ -12,8 +12,8 @@ use Rattle.flat_history.specs.declared.events.LostCause.{LostCause}
 use Rattle.flat_history.specs.declared.events.LostCause.TheVariants.{Absent, Recovering, Command, Fault}
 use Rattle.flat_history.specs.Flat.{rest_of_call, next_number, length_of}
 use Rattle.running_calls.specs.views_Parts.{Parts}
-use Rattle.superblocks.specs.Reading.{is_reshaping, list_length}
-use Rattle.grow_asked.specs.Left.{phases_of}
+use Rattle.running_calls.specs.superblocks_Reading.{is_reshaping, list_length}
+use Rattle.running_calls.specs.grow_asked_Left.{phases_of}
 use Rattle.running_calls.specs.running_words_Parts.{RunningParts}
 use Rattle.running_calls.specs.running_replies_Replies.{IsRefusalBy}
 use Rattle.script.specs.declared.lines.Line.{Line}

@@ -12,7 +12,7 @@ use Rattle.flat_history.specs.Flat.{next_number, last_of}
 use Rattle.md_base.specs.declared.answers.Who.{Who}
 use Rattle.block_answers.specs.array_kept_Calls.{IsEntered}
 use Rattle.block_answers.specs.running_words_Parts.{RunningParts}
-use Rattle.superblocks.specs.Reading.{list_length}
+use Rattle.block_answers.specs.superblocks_Reading.{list_length}
 use Rattle.script.specs.declared.lines.Line.TheVariants.{Halt}
 use Rattle.script.specs.declared.lines.Numbered.{Numbered}
 use Rattle.script.specs.declared.reply.Lane.{Lane}

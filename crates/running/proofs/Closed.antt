@@ -14,7 +14,7 @@ use Rattle.bank.specs.Given.{Given}
 use Rattle.grow_plan.specs.Plans.{phases_steps}
 use Rattle.superblocks.specs.declared.members.Members.{Members}
 use Rattle.superblocks.specs.Reading.{is_whole, shape_of, final_shape, role_count, role_state, holder, list_length}
-use Rattle.row_io.specs.Rows.{reading_of}
+use Rattle.growing.specs.row_io_Rows.{reading_of}
 use Rattle.flat_history.specs.declared.events.Entry.{Entry}
 use Rattle.flat_history.specs.declared.events.Event.{Event}
 use Rattle.flat_history.specs.declared.events.Event.TheVariants.{Step, Rebuilt}

@@ -46,3 +46,15 @@ pub use Rattle.growing.specs.views_the_Work
 pub use Rattle.growing.specs.kept_history_Recorded
 pub use Rattle.growing.specs.kept_history_Safe
 pub use Rattle.growing.specs.shape_views_Regions
+pub use Rattle.grow_asked.specs.Left as grow_asked_Left
+pub use Rattle.grow_asked.specs.declared.window.PhasesLeft as grow_asked_the_PhasesLeft
+pub use Rattle.grow_asked.specs.declared.window.Window as grow_asked_the_Window
+pub use Rattle.grow_asked.specs.declared.window.Window.TheVariants as grow_asked_the_Window_TheVariants
+pub use Rattle.superblocks.specs.Reading as superblocks_Reading
+pub use Rattle.superblocks.specs.declared.change.Change as superblocks_the_Change
+pub use Rattle.superblocks.specs.declared.change.Give as superblocks_the_Give
+pub use Rattle.superblocks.specs.declared.members.Members as superblocks_the_Members
+pub use Rattle.superblocks.specs.Outcome as superblocks_Outcome
+pub use Rattle.superblocks.specs.Reads as superblocks_Reads
+pub use Rattle.superblocks.specs.Update as superblocks_Update
+pub use Rattle.growing.specs.row_io_Rows

@@ -1,7 +1,7 @@
 -- What a request leaves that was done.
 use Rattle.std.proofs.Common.{◌≡◌, ◌≤◌, List, [], ◌∷◌, ◌++◌, length, ◌∙◌, ap, arith, length-append}
 use Rattle.md_base.specs.declared.answers.Who.{Who}
-use Rattle.superblocks.specs.Reading.{list_length}
+use Rattle.openings.specs.superblocks_Reading.{list_length}
 use Rattle.flat_history.specs.declared.events.Entry.{Entry}
 use Rattle.flat_history.specs.declared.events.Event.{Event}
 use Rattle.flat_history.specs.declared.events.Request.{Request}

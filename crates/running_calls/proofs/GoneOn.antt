@@ -12,9 +12,9 @@ use Rattle.md_base.specs.declared.answers.Refusal.TheVariants.{SlotFault}
 use Rattle.md_base.specs.declared.status.Status.{Status}
 use Rattle.bank.specs.declared.bank.Operation.{Operation}
 use Rattle.bank.specs.Given.{Given, NeverFalls}
-use Rattle.superblocks.specs.declared.members.Members.{Members}
-use Rattle.superblocks.specs.Reading.{is_reshaping, shape_of, final_shape, list_length}
-use Rattle.superblocks.specs.Reads.{has_spare}
+use Rattle.openings.specs.superblocks_the_Members.{Members}
+use Rattle.openings.specs.superblocks_Reading.{is_reshaping, shape_of, final_shape, list_length}
+use Rattle.openings.specs.superblocks_Reads.{has_spare}
 use Rattle.flat_history.specs.declared.events.Entry.{Entry}
 use Rattle.flat_history.specs.declared.events.Event.{Event}
 use Rattle.flat_history.specs.declared.events.Event.TheVariants.{Added, Refused, Shown}
@@ -29,8 +29,8 @@ use Rattle.openings.specs.views_Moving.{Grows}
 use Rattle.openings.specs.views_Placed.{AreStillHeld}
 use Rattle.openings.specs.views_Rebuilding.{Held}
 use Rattle.openings.specs.array_kept_Calls.{AreSparesFewer, AreLossesBy, IsAddedFor, IsEntered}
-use Rattle.grow_asked.specs.declared.window.PhasesLeft.{PhasesLeft}
-use Rattle.grow_asked.specs.Left.{phases_of}
+use Rattle.openings.specs.grow_asked_the_PhasesLeft.{PhasesLeft}
+use Rattle.openings.specs.grow_asked_Left.{phases_of}
 use Rattle.openings.specs.running_words_Parts.{RunningParts}
 use Rattle.openings.specs.running_words_Calls.{IsSameReshape, IsCalled}
 use Rattle.openings.specs.running_words_Adding.{IsAddCalled}

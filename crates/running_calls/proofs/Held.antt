@@ -7,8 +7,8 @@ use Rattle.std.specs.Prelude.{length, drop, IsTrue}
 use Rattle.std.specs.List.{All, list_any}
 use Rattle.bank.specs.Given.{NeverFalls}
 use Rattle.bank.proofs.Causes.{faulted_longer}
-use Rattle.superblocks.specs.declared.members.Members.{Members}
-use Rattle.superblocks.specs.Reads.{has_spare}
+use Rattle.openings.specs.superblocks_the_Members.{Members}
+use Rattle.openings.specs.superblocks_Reads.{has_spare}
 use Rattle.flat_history.specs.declared.events.Entry.{Entry}
 use Rattle.flat_history.specs.declared.events.Event.{Event}
 use Rattle.flat_history.specs.declared.events.Event.TheVariants.{Lost, SpareLost}

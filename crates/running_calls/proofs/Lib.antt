@@ -15,3 +15,7 @@ pub use Rattle.call_entries.proofs.CallLaws as call_entries_CallLaws
 pub use Rattle.openings.proofs.views_Flushed
 pub use Rattle.openings.proofs.views_Still
 pub use Rattle.openings.proofs.kept_history_Turned
+pub use Rattle.openings.proofs.grow_asked_FirstLaws
+pub use Rattle.openings.proofs.history_laws_OneShapeGrowing
+pub use Rattle.openings.proofs.history_laws_ReshapedLaws
+pub use Rattle.openings.proofs.history_laws_GrowingLaws

@@ -9,7 +9,7 @@ use Rattle.md_base.specs.declared.answers.Fault.{Fault}
 use Rattle.md_base.specs.declared.answers.Fault.TheVariants.{Refused as IsRefusedWith, NoMemory as WantsMemory}
 use Rattle.md_base.specs.declared.answers.Refusal.{Refusal}
 use Rattle.md_base.specs.declared.answers.Refusal.TheVariants.{TooManyMissing, NotResynced, BackupFault, NoSuchRole, SlotFault}
-use Rattle.superblocks.specs.declared.members.Members.{Members}
+use Rattle.openings.specs.superblocks_the_Members.{Members}
 use Rattle.flat_history.specs.declared.events.Entry.{Entry}
 use Rattle.flat_history.specs.declared.events.Event.{Event}
 use Rattle.flat_history.specs.declared.events.Event.TheVariants.{Wrote, Added, Stepped, Refused}

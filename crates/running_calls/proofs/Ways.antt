@@ -6,15 +6,15 @@ use Rattle.std.specs.List.{list_any}
 use Rattle.md_base.specs.declared.answers.Who.{Who}
 use Rattle.md_base.specs.declared.wishes.Wish.{Wish}
 use Rattle.grow_plan.specs.Plans.{last_shape}
-use Rattle.superblocks.specs.declared.members.Members.{Members}
-use Rattle.superblocks.specs.Reading.{is_reshaping, shape_of, final_shape}
+use Rattle.openings.specs.superblocks_the_Members.{Members}
+use Rattle.openings.specs.superblocks_Reading.{is_reshaping, shape_of, final_shape}
 use Rattle.flat_history.specs.declared.events.Entry.{Entry}
 use Rattle.flat_history.specs.declared.events.Event.{Event}
 use Rattle.flat_history.specs.declared.events.Event.TheVariants.{Planned}
 use Rattle.flat_history.specs.declared.events.Request.TheVariants.{Grow as AsksGrow}
 use Rattle.flat_history.specs.Reshaped.{is_planned}
-use Rattle.grow_asked.specs.declared.window.PhasesLeft.{PhasesLeft}
-use Rattle.grow_asked.specs.Left.{phases_of}
+use Rattle.openings.specs.grow_asked_the_PhasesLeft.{PhasesLeft}
+use Rattle.openings.specs.grow_asked_Left.{phases_of}
 use Rattle.call_entries.proofs.PlainLaws.{one}
 use Rattle.openings.specs.running_words_Parts.{RunningParts}
 use Rattle.openings.specs.running_replies_Replies.{IsAnsweredWith}

@@ -1,14 +1,14 @@
 -- What callers' calls enter, whatever they ask.
 use Rattle.std.specs.Prelude.{◌≡◌, ◌++◌, ◌<◌, ◌≤◌, List, ⊤}
 use Rattle.std.specs.List.{All}
-use Rattle.superblocks.specs.Reading.{is_reshaping}
+use Rattle.openings.specs.superblocks_Reading.{is_reshaping}
 use Rattle.flat_history.specs.declared.events.Entry.{Entry}
 use Rattle.flat_history.specs.declared.events.Event.{Event}
 use Rattle.flat_history.specs.declared.events.Event.TheVariants.{Stopped, Halted}
 use Rattle.flat_history.specs.declared.events.Request.{Request}
 use Rattle.flat_history.specs.declared.events.Request.TheVariants.{Steps as AsksSteps}
 use Rattle.flat_history.specs.Flat.{next_number}
-use Rattle.grow_asked.specs.Left.{phases_of}
+use Rattle.openings.specs.grow_asked_Left.{phases_of}
 use Rattle.openings.specs.running_Calls.{running_left}
 use Rattle.openings.specs.running_replies_Going.{HasNoReshape}
 use Rattle.openings.specs.running_words_Parts.{RunningParts}

@@ -3,9 +3,9 @@ use Rattle.std.specs.Prelude.{◌≡◌, ◌⊎◌, ℕ, ◌++◌, ◌==◌, Boo
 use Rattle.std.specs.List.{list_any}
 use Rattle.bank.specs.declared.bank.Operation.{Operation}
 use Rattle.bank.specs.Given.{Given, NeverFalls}
-use Rattle.superblocks.specs.declared.members.Members.{Members}
-use Rattle.superblocks.specs.Reads.{has_spare}
-use Rattle.superblocks.specs.Reading.{is_reshaping, list_length}
+use Rattle.openings.specs.superblocks_the_Members.{Members}
+use Rattle.openings.specs.superblocks_Reads.{has_spare}
+use Rattle.openings.specs.superblocks_Reading.{is_reshaping, list_length}
 use Rattle.flat_history.specs.declared.events.Entry.{Entry}
 use Rattle.flat_history.specs.declared.events.Event.{Event}
 use Rattle.flat_history.specs.declared.events.Event.TheVariants.{Added}
@@ -14,7 +14,7 @@ use Rattle.flat_history.specs.Reshaped.{is_planned}
 use Rattle.openings.specs.views_Moving.{Grows}
 use Rattle.openings.specs.views_Rebuilding.{Held, MayHold}
 use Rattle.openings.specs.array_kept_Calls.{IsLossBy}
-use Rattle.grow_asked.specs.Left.{phases_of}
+use Rattle.openings.specs.grow_asked_Left.{phases_of}
 use Rattle.openings.specs.running_words_Parts.{RunningParts}
 use Rattle.openings.specs.running_words_Plans.{aim_of}
 use Rattle.openings.specs.running_replies_Replies.{HasToldBy}

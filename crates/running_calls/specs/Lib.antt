@@ -41,3 +41,13 @@ pub use Rattle.openings.specs.kept_history_Safe
 pub use Rattle.openings.specs.kept_history_Recorded
 pub use Rattle.openings.specs.shape_views_Regions
 pub use Rattle.openings.specs.views_the_Work
+pub use Rattle.openings.specs.superblocks_Reading
+pub use Rattle.openings.specs.grow_asked_Asked
+pub use Rattle.openings.specs.grow_asked_the_Window
+pub use Rattle.openings.specs.grow_asked_Left
+pub use Rattle.openings.specs.row_io_Rows
+pub use Rattle.openings.specs.superblocks_the_Members
+pub use Rattle.openings.specs.superblocks_Reads
+pub use Rattle.openings.specs.superblocks_Found
+pub use Rattle.openings.specs.grow_asked_the_PhasesLeft
+pub use Rattle.openings.specs.superblocks_Election

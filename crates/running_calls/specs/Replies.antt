@@ -5,7 +5,7 @@ use Rattle.md_base.specs.declared.answers.Fault.{Fault}
 use Rattle.md_base.specs.declared.answers.Fault.TheVariants.{Refused as IsRefusedWith, NoMemory as WantsMemory}
 use Rattle.md_base.specs.declared.answers.NoMemory.{NoMemory}
 use Rattle.md_base.specs.declared.status.Status.{Status}
-use Rattle.superblocks.specs.Reading.{list_length}
+use Rattle.openings.specs.superblocks_Reading.{list_length}
 use Rattle.flat_history.specs.declared.events.Entry.{Entry}
 use Rattle.flat_history.specs.declared.events.Event.{Event}
 use Rattle.flat_history.specs.declared.events.Event.TheVariants.{Shown, Refused}

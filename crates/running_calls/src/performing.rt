@@ -1,7 +1,7 @@
 //! The requests of a caller to a running array.
 
 ghost use Rattle.std.specs.Prelude.{◌≡◌, ◌≢◌, IfOk, IfErr};
-ghost use Rattle.superblocks.specs.Reading.{list_length};
+ghost use Rattle.openings.specs.superblocks_Reading.{list_length};
 ghost use Rattle.flat_history.specs.Flat.{next_number};
 ghost use Rattle.flat_history.specs.declared.events.Request.TheVariants.{Read as AsksRead, Write as AsksWrite, Flush as AsksFlush, Fail as AsksFail, Add as AsksAdd, Visible as AsksVisible, Grow as AsksGrow};
 ghost use Rattle.openings.specs.array_kept_Calls.{IsEndOf};

@@ -3,15 +3,15 @@ use Rattle.std.proofs.Common.{inl, inr, ℕ, ◌+◌, Bool, true, false, Some, N
 use Rattle.std.specs.Prelude.{MatchBool, nat_lt}
 use Rattle.md_base.specs.declared.answers.Refusal.{Refusal}
 use Rattle.md_base.specs.declared.answers.Refusal.TheVariants.{BackupFault, Degraded, NeedSpares, Nothing}
-use Rattle.flat_history.specs.declared.events.Entry.{Entry}
-use Rattle.flat_history.specs.declared.events.Event.{Event}
-use Rattle.flat_history.specs.declared.events.Event.TheVariants.{Resized, Stepped, Refused}
-use Rattle.flat_history.specs.declared.events.Request.TheVariants.{Write as AsksWrite, Steps as AsksSteps, Read as AsksRead, Flush as AsksFlush, Fail as AsksFail, Add as AsksAdd}
-use Rattle.flat_history.specs.Flat.{visible_of}
-use Rattle.flat_history.specs.Fits.{IsReadRefused, IsWriteRefused}
-use Rattle.flat_history.specs.Legal.{MayBeInner, call_before}
-use Rattle.flat_history.specs.OneShape.{OneShapeAnswers, OneShapeFits}
-use Rattle.flat_history.specs.Transfers.{IsRefusedAt, IsPastEnd}
+use Rattle.running_words.specs.flat_history_the_Entry.{Entry}
+use Rattle.running_words.specs.flat_history_the_Event.{Event}
+use Rattle.running_words.specs.flat_history_the_Event_TheVariants.{Resized, Stepped, Refused}
+use Rattle.running_words.specs.flat_history_the_Request_TheVariants.{Write as AsksWrite, Steps as AsksSteps, Read as AsksRead, Flush as AsksFlush, Fail as AsksFail, Add as AsksAdd}
+use Rattle.running_words.specs.flat_history_Flat.{visible_of}
+use Rattle.running_words.specs.flat_history_Fits.{IsReadRefused, IsWriteRefused}
+use Rattle.running_words.specs.flat_history_Legal.{MayBeInner, call_before}
+use Rattle.running_words.specs.flat_history_OneShape.{OneShapeAnswers, OneShapeFits}
+use Rattle.running_words.specs.flat_history_Transfers.{IsRefusedAt, IsPastEnd}
 use Rattle.running_words.specs.array_kept_Calls.{StandsInside}
 use Rattle.running_replies.specs.Replies.{MayEndBy, MayTellBy, RunningAnswers, RunningFits}
 

@@ -10,16 +10,16 @@ use Rattle.bank.specs.Given.{Given, IsFaulted, NeverFalls}
 use Rattle.bank.proofs.Causes.{faulted_longer}
 use Rattle.md_base.specs.declared.answers.Refusal.{Refusal}
 use Rattle.md_base.specs.declared.answers.Refusal.TheVariants.{SlotFault, BackupFault}
-use Rattle.superblocks.specs.declared.members.Members.{Members}
-use Rattle.superblocks.specs.Reading.{list_length}
-use Rattle.superblocks.specs.Reads.{has_spare}
-use Rattle.flat_history.specs.declared.events.Entry.{Entry}
-use Rattle.flat_history.specs.declared.events.Event.{Event}
-use Rattle.flat_history.specs.declared.events.Event.TheVariants.{Lost, SpareLost, Stepped, Refused}
-use Rattle.flat_history.specs.declared.events.LostCause.{LostCause}
-use Rattle.flat_history.specs.declared.events.LostCause.TheVariants.{Absent, Recovering, Command, Fault}
-use Rattle.flat_history.specs.Flat.{length_of, length_after}
-use Rattle.flat_history.specs.Reshaped.{is_planned}
+use Rattle.running_words.specs.superblocks_the_Members.{Members}
+use Rattle.running_words.specs.superblocks_Reading.{list_length}
+use Rattle.running_words.specs.superblocks_Reads.{has_spare}
+use Rattle.running_words.specs.flat_history_the_Entry.{Entry}
+use Rattle.running_words.specs.flat_history_the_Event.{Event}
+use Rattle.running_words.specs.flat_history_the_Event_TheVariants.{Lost, SpareLost, Stepped, Refused}
+use Rattle.running_words.specs.flat_history_the_LostCause.{LostCause}
+use Rattle.running_words.specs.flat_history_the_LostCause_TheVariants.{Absent, Recovering, Command, Fault}
+use Rattle.running_words.specs.flat_history_Flat.{length_of, length_after}
+use Rattle.running_words.specs.flat_history_Reshaped.{is_planned}
 use Rattle.running_words.specs.array_kept_Calls.{IsRoleLossBy, IsLossBy}
 use Rattle.running_words.specs.Parts.{RunningParts}
 use Rattle.running_replies.specs.Replies.{IsRefusalBy, IsRefusalToldBy, HasToldBy}

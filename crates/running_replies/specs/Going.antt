@@ -3,18 +3,18 @@ use Rattle.std.specs.Prelude.{◌≡◌, ◌⊎◌, ℕ, ◌++◌, Bool, true, f
 use Rattle.std.specs.List.{list_any}
 use Rattle.bank.specs.declared.bank.Operation.{Operation}
 use Rattle.bank.specs.Given.{Given, NeverFalls}
-use Rattle.superblocks.specs.declared.members.Members.{Members}
-use Rattle.superblocks.specs.Reads.{has_spare}
-use Rattle.superblocks.specs.Reading.{is_reshaping, list_length}
-use Rattle.flat_history.specs.declared.events.Entry.{Entry}
-use Rattle.flat_history.specs.declared.events.Event.{Event}
-use Rattle.flat_history.specs.declared.events.Event.TheVariants.{Step}
-use Rattle.flat_history.specs.declared.events.StepKind.TheVariants.{Begun, Finished, TakenOver}
-use Rattle.flat_history.specs.Flat.{length_of}
-use Rattle.flat_history.specs.Reshaped.{is_planned}
+use Rattle.running_words.specs.superblocks_the_Members.{Members}
+use Rattle.running_words.specs.superblocks_Reads.{has_spare}
+use Rattle.running_words.specs.superblocks_Reading.{is_reshaping, list_length}
+use Rattle.running_words.specs.flat_history_the_Entry.{Entry}
+use Rattle.running_words.specs.flat_history_the_Event.{Event}
+use Rattle.running_words.specs.flat_history_the_Event_TheVariants.{Step}
+use Rattle.running_words.specs.flat_history_the_StepKind_TheVariants.{Begun, Finished, TakenOver}
+use Rattle.running_words.specs.flat_history_Flat.{length_of}
+use Rattle.running_words.specs.flat_history_Reshaped.{is_planned}
 use Rattle.running_words.specs.views_Moving.{Grows}
 use Rattle.running_words.specs.views_Rebuilding.{Held, MayHold}
-use Rattle.grow_asked.specs.Left.{phases_of}
+use Rattle.running_words.specs.grow_asked_Left.{phases_of}
 use Rattle.running_words.specs.array_kept_Calls.{IsLossBy}
 use Rattle.running_words.specs.Parts.{RunningParts}
 use Rattle.running_replies.specs.Replies.{HasToldBy}

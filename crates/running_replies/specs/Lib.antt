@@ -10,3 +10,14 @@ pub use Rattle.running_words.specs.reshape_ends_Begun
 pub use Rattle.running_words.specs.reshape_updates_Beginning
 pub use Rattle.running_words.specs.safe_updates_First
 pub use Rattle.running_words.specs.safe_updates_Unused
+pub use Rattle.running_words.specs.flat_history_the_Entry
+pub use Rattle.running_words.specs.flat_history_the_Event
+pub use Rattle.running_words.specs.flat_history_the_Event_TheVariants
+pub use Rattle.running_words.specs.flat_history_the_Request
+pub use Rattle.running_words.specs.flat_history_the_Request_TheVariants
+pub use Rattle.running_words.specs.flat_history_Flat
+pub use Rattle.running_words.specs.flat_history_Legal
+pub use Rattle.running_words.specs.flat_history_Growing
+pub use Rattle.running_words.specs.flat_history_OneShape
+pub use Rattle.running_words.specs.flat_history_Seen
+pub use Rattle.running_words.specs.flat_history_Transfers

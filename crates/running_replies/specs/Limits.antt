@@ -3,7 +3,7 @@ use Rattle.std.specs.Prelude.{ℕ, if◌then◌else◌, Option, Some}
 use Rattle.md_base.specs.declared.answers.BusyKind.TheVariants.{Reshape}
 use Rattle.md_base.specs.declared.answers.Refusal.{Refusal}
 use Rattle.md_base.specs.declared.answers.Refusal.TheVariants.{Busy}
-use Rattle.superblocks.specs.Reading.{is_reshaping}
+use Rattle.running_words.specs.superblocks_Reading.{is_reshaping}
 use Rattle.running_words.specs.Parts.{RunningParts}
 use Rattle.running_words.specs.Visible.{still_refusal}
 

@@ -9,17 +9,17 @@ use Rattle.md_base.specs.declared.answers.Fault.{Fault}
 use Rattle.md_base.specs.declared.answers.Fault.TheVariants.{Refused as IsRefusedWith, NoMemory}
 use Rattle.md_base.specs.declared.answers.Who.{Who}
 use Rattle.bank.specs.Given.{IsFaulted}
-use Rattle.flat_history.specs.declared.events.Entry.{Entry}
-use Rattle.flat_history.specs.declared.events.Event.{Event}
-use Rattle.flat_history.specs.declared.events.Event.TheVariants.{Lost, Visible, Planned, Step, Stepped, Refused}
-use Rattle.flat_history.specs.declared.events.StepKind.TheVariants.{Finished}
-use Rattle.flat_history.specs.declared.events.Request.{Request}
-use Rattle.flat_history.specs.declared.events.Request.TheVariants.{Read as AsksRead, Write as AsksWrite, Flush as AsksFlush, Fail as AsksFail, Add as AsksAdd, Visible as AsksVisible, Grow as AsksGrow, Steps as AsksSteps, Show as AsksShow}
-use Rattle.flat_history.specs.Flat.{length_of, visible_of}
-use Rattle.flat_history.specs.Fits.{IsWriteRefused, AreTornOf, is_lost_event, is_step_event}
-use Rattle.flat_history.specs.Legal.{MayBeInner, call_before}
-use Rattle.flat_history.specs.OneShape.{IsOfCall, OneShapeAnswers}
-use Rattle.flat_history.specs.Transfers.{IsRefusedAt}
+use Rattle.running_words.specs.flat_history_the_Entry.{Entry}
+use Rattle.running_words.specs.flat_history_the_Event.{Event}
+use Rattle.running_words.specs.flat_history_the_Event_TheVariants.{Lost, Visible, Planned, Step, Stepped, Refused}
+use Rattle.running_words.specs.flat_history_the_StepKind_TheVariants.{Finished}
+use Rattle.running_words.specs.flat_history_the_Request.{Request}
+use Rattle.running_words.specs.flat_history_the_Request_TheVariants.{Read as AsksRead, Write as AsksWrite, Flush as AsksFlush, Fail as AsksFail, Add as AsksAdd, Visible as AsksVisible, Grow as AsksGrow, Steps as AsksSteps, Show as AsksShow}
+use Rattle.running_words.specs.flat_history_Flat.{length_of, visible_of}
+use Rattle.running_words.specs.flat_history_Fits.{IsWriteRefused, AreTornOf, is_lost_event, is_step_event}
+use Rattle.running_words.specs.flat_history_Legal.{MayBeInner, call_before}
+use Rattle.running_words.specs.flat_history_OneShape.{IsOfCall, OneShapeAnswers}
+use Rattle.running_words.specs.flat_history_Transfers.{IsRefusedAt}
 
 -- ---- steps
 

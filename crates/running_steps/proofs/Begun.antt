@@ -17,15 +17,15 @@ use Rattle.md_base.proofs.Tabulated.{length-tabulate, get_or-tabulate}
 use Rattle.bank.specs.declared.bank.Operation.{Operation}
 use Rattle.bank.specs.Given.{Given, NeverFalls}
 use Rattle.sb1.specs.declared.sb.Sb.{Sb}
-use Rattle.superblocks.specs.declared.change.Change.{Change}
-use Rattle.superblocks.specs.declared.change.Give.{Give}
-use Rattle.superblocks.specs.declared.members.Members.{Members}
-use Rattle.superblocks.specs.Outcome.{planned_state}
-use Rattle.superblocks.specs.Reading.{is_reshaping, shape_of, list_length, role_count, holder}
-use Rattle.superblocks.specs.Reads.{has_spare}
-use Rattle.superblocks.specs.Update.{give_of, planned_role, is_planned_spare}
-use Rattle.superblock_reads.proofs.SaidLists.{role-holder}
-use Rattle.superblock_reads.proofs.SaidSlots.{has-slots_below}
+use Rattle.running.specs.superblocks_the_Change.{Change}
+use Rattle.running.specs.superblocks_the_Give.{Give}
+use Rattle.running.specs.superblocks_the_Members.{Members}
+use Rattle.running.specs.superblocks_Outcome.{planned_state}
+use Rattle.running.specs.superblocks_Reading.{is_reshaping, shape_of, list_length, role_count, holder}
+use Rattle.running.specs.superblocks_Reads.{has_spare}
+use Rattle.running.specs.superblocks_Update.{give_of, planned_role, is_planned_spare}
+use Rattle.running.proofs.superblock_reads_SaidLists.{role-holder}
+use Rattle.running.proofs.superblock_reads_SaidSlots.{has-slots_below}
 use Rattle.flat_history.specs.declared.events.Entry.{Entry}
 use Rattle.flat_history.specs.declared.events.Event.{Event}
 use Rattle.flat_history.specs.declared.events.Event.TheVariants.{Resized, Step, Refused}
@@ -44,8 +44,8 @@ use Rattle.running.proofs.array_kept_LossLaws.{behind-alone}
 use Rattle.running.specs.reshape_updates_Beginning.{beginning, goes_back}
 use Rattle.running.proofs.reshape_updates_NewRoles.{new-or}
 use Rattle.running.specs.reshape_ends_Begun.{begun_plan}
-use Rattle.grow_asked.specs.declared.window.PhasesLeft.{PhasesLeft}
-use Rattle.grow_asked.specs.Left.{IsAtStartOf, phases_of}
+use Rattle.running.specs.grow_asked_the_PhasesLeft.{PhasesLeft}
+use Rattle.running.specs.grow_asked_Left.{IsAtStartOf, phases_of}
 use Rattle.running.specs.kept_history_Recorded.{MayGoOn, IsCallGoing}
 use Rattle.running.specs.running_words_Parts.{RunningParts, left_in}
 use Rattle.running.specs.turning_Begun.{is_resize, begun_length, IsReshapeBegun, IsGivenBack, IsBeginRefused}

@@ -7,7 +7,7 @@ use Rattle.md_base.specs.declared.answers.Refusal.{Refusal}
 use Rattle.md_base.specs.declared.answers.Who.{Who}
 use Rattle.bank.specs.declared.bank.Operation.{Operation}
 use Rattle.bank.specs.Given.{Given}
-use Rattle.superblocks.specs.Reading.{is_reshaping}
+use Rattle.running.specs.superblocks_Reading.{is_reshaping}
 use Rattle.flat_history.specs.declared.events.Entry.{Entry}
 use Rattle.running.specs.array_kept_Calls.{IsEndOf}
 use Rattle.running.specs.kept_history_Recorded.{IsCallGoing}

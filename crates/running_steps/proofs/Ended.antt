@@ -9,9 +9,9 @@ use Rattle.md_base.specs.declared.answers.Who.{Who}
 use Rattle.bank.specs.declared.bank.Operation.{Operation}
 use Rattle.bank.specs.Given.{Given}
 use Rattle.sb1.specs.declared.sb.Sb.{Sb}
-use Rattle.superblocks.specs.declared.members.Members.{Members}
-use Rattle.superblocks.specs.Reading.{is_reshaping, shape_of, final_shape, list_length}
-use Rattle.superblocks.specs.Reads.{has_spare}
+use Rattle.running.specs.superblocks_the_Members.{Members}
+use Rattle.running.specs.superblocks_Reading.{is_reshaping, shape_of, final_shape, list_length}
+use Rattle.running.specs.superblocks_Reads.{has_spare}
 use Rattle.flat_history.specs.declared.events.Entry.{Entry}
 use Rattle.flat_history.specs.declared.events.Event.{Event}
 use Rattle.flat_history.specs.declared.events.Event.TheVariants.{Lost, SpareLost, Resized, Step}
@@ -23,8 +23,8 @@ use Rattle.running.specs.call_entries_Losing.{losses_of}
 use Rattle.running.proofs.call_entries_CallLaws.{losses-are, length-losses}
 use Rattle.running.specs.views_Placed.{AreStillHeld}
 use Rattle.running.specs.views_Rebuilding.{Held}
-use Rattle.grow_asked.specs.Left.{phases_of}
-use Rattle.grow_asked.specs.declared.window.PhasesLeft.{PhasesLeft}
+use Rattle.running.specs.grow_asked_Left.{phases_of}
+use Rattle.running.specs.grow_asked_the_PhasesLeft.{PhasesLeft}
 use Rattle.running.specs.kept_history_Recorded.{MayGoOn, IsCallGoing}
 use Rattle.running.specs.running_words_Parts.{RunningParts, still_left}
 use Rattle.running.specs.still_laws_Steps.{IsClosable}

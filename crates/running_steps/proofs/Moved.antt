@@ -4,7 +4,7 @@ use Rattle.md_base.specs.declared.answers.Refusal.{Refusal}
 use Rattle.md_base.specs.declared.answers.Who.{Who}
 use Rattle.bank.specs.declared.bank.Operation.{Operation}
 use Rattle.bank.specs.Given.{Given}
-use Rattle.superblocks.specs.Reading.{is_reshaping}
+use Rattle.running.specs.superblocks_Reading.{is_reshaping}
 use Rattle.flat_history.specs.declared.events.Event.TheVariants.{Step, Refused}
 use Rattle.running.proofs.call_entries_PlainLaws.{one}
 use Rattle.running.specs.views_Lacking.{AreTooMany}

@@ -6,7 +6,7 @@ use Rattle.md_base.specs.declared.answers.Refusal.{Refusal}
 use Rattle.md_base.specs.declared.answers.Who.{Who}
 use Rattle.bank.specs.declared.bank.Operation.{Operation}
 use Rattle.bank.specs.Given.{Given, NeverFalls}
-use Rattle.superblocks.specs.Reading.{is_reshaping, list_length}
+use Rattle.running.specs.superblocks_Reading.{is_reshaping, list_length}
 use Rattle.flat_history.specs.declared.events.Entry.{Entry}
 use Rattle.flat_history.specs.declared.events.Event.{Event}
 use Rattle.flat_history.specs.declared.events.Event.TheVariants.{Refused}
@@ -18,8 +18,8 @@ use Rattle.running.specs.call_entries_Losing.{losses_of}
 use Rattle.running.specs.views_Moving.{Grows}
 use Rattle.running.specs.views_Rebuilding.{MayHold}
 use Rattle.running.specs.array_kept_Calls.{AreHeldOrSpare, AreLossesBy, AreStepsFewer, IsBehind, IsEndOf}
-use Rattle.grow_asked.specs.Left.{phases_of}
-use Rattle.grow_asked.specs.declared.window.PhasesLeft.{PhasesLeft}
+use Rattle.running.specs.grow_asked_Left.{phases_of}
+use Rattle.running.specs.grow_asked_the_PhasesLeft.{PhasesLeft}
 use Rattle.running.specs.kept_history_Recorded.{MayGoOn, IsCallGoing}
 use Rattle.running.specs.running_words_Parts.{RunningParts, left_in, still_left}
 use Rattle.running.specs.still_laws_Steps.{IsClosable}

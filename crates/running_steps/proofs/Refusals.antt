@@ -7,15 +7,15 @@ use Rattle.md_base.specs.declared.answers.Refusal.TheVariants.{PastEnd, TooManyM
 use Rattle.md_base.specs.declared.places.Shape.{Shape}
 use Rattle.bank.specs.Given.{IsFaulted}
 use Rattle.sb1.specs.declared.sb.Sb.{Sb}
-use Rattle.superblocks.specs.declared.members.Members.{Members}
-use Rattle.superblocks.specs.Reading.{is_reshaping, shape_of, next_window}
+use Rattle.running.specs.superblocks_the_Members.{Members}
+use Rattle.running.specs.superblocks_Reading.{is_reshaping, shape_of, next_window}
 use Rattle.running.specs.views_the_Work.{Work}
 use Rattle.running.specs.views_Lacking.{AreTooMany, IsNotResynced}
 use Rattle.running.specs.array_kept_Calls.{IsRefusedFor, IsUnmendable}
-use Rattle.grow_asked.specs.declared.window.Window.{Window}
-use Rattle.grow_asked.specs.declared.window.Window.TheVariants.{Closed, Entered, Unsure}
-use Rattle.grow_asked.specs.declared.window.PhasesLeft.{PhasesLeft}
-use Rattle.grow_asked.specs.Left.{stripes_in, zeroed_by, phases_of}
+use Rattle.running.specs.grow_asked_the_Window.{Window}
+use Rattle.running.specs.grow_asked_the_Window_TheVariants.{Closed, Entered, Unsure}
+use Rattle.running.specs.grow_asked_the_PhasesLeft.{PhasesLeft}
+use Rattle.running.specs.grow_asked_Left.{stripes_in, zeroed_by, phases_of}
 use Rattle.running.specs.region_mends_Mends.{mend_shape, IsNotMended}
 use Rattle.running.specs.course_kept_the_Course.{Course}
 use Rattle.running.specs.moving_state_Due.{due_in, due_of}

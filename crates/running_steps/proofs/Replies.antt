@@ -14,9 +14,9 @@ use Rattle.md_base.specs.declared.answers.Refusal.TheVariants.{Nothing}
 use Rattle.md_base.specs.declared.answers.Who.{Who}
 use Rattle.bank.specs.declared.bank.Operation.{Operation}
 use Rattle.bank.specs.Given.{Given, NeverFalls}
-use Rattle.superblocks.specs.declared.members.Members.{Members}
-use Rattle.superblocks.specs.Reading.{is_reshaping, list_length}
-use Rattle.superblocks.specs.Reads.{has_spare}
+use Rattle.running.specs.superblocks_the_Members.{Members}
+use Rattle.running.specs.superblocks_Reading.{is_reshaping, list_length}
+use Rattle.running.specs.superblocks_Reads.{has_spare}
 use Rattle.flat_history.specs.declared.events.Entry.{Entry}
 use Rattle.flat_history.specs.declared.events.Event.{Event}
 use Rattle.flat_history.specs.declared.events.Event.TheVariants.{Lost, SpareLost, Rebuilt, Resized, Step, Stepped, Refused}
@@ -36,8 +36,8 @@ use Rattle.running.specs.views_Moving.{Grows}
 use Rattle.running.specs.views_Rebuilding.{Held}
 use Rattle.running.specs.array_kept_Calls.{IsEntered, IsLossBy, AreStepsFewer, IsBehind, TellNoRoleLoss}
 use Rattle.running.proofs.array_kept_ReplyLaws.{none_before}
-use Rattle.grow_asked.specs.Left.{phases_of}
-use Rattle.grow_asked.specs.declared.window.PhasesLeft.{PhasesLeft}
+use Rattle.running.specs.grow_asked_Left.{phases_of}
+use Rattle.running.specs.grow_asked_the_PhasesLeft.{PhasesLeft}
 use Rattle.running.specs.course_kept_the_Course.{Course}
 use Rattle.running.specs.kept_history_Recorded.{MayGoOn}
 use Rattle.running.specs.running_words_Parts.{RunningParts, left_in, still_left}

@@ -10,9 +10,9 @@ use Rattle.md_base.specs.declared.wishes.Phase.{Phase}
 use Rattle.md_base.specs.declared.wishes.Phase.TheVariants.{UpTo6, DownTo5}
 use Rattle.bank.specs.declared.bank.Operation.{Operation}
 use Rattle.bank.specs.Given.{Given, NeverFalls}
-use Rattle.superblocks.specs.declared.members.Members.{Members}
-use Rattle.superblocks.specs.Reading.{is_reshaping, list_length}
-use Rattle.superblocks.specs.Reads.{has_spare}
+use Rattle.running.specs.superblocks_the_Members.{Members}
+use Rattle.running.specs.superblocks_Reading.{is_reshaping, list_length}
+use Rattle.running.specs.superblocks_Reads.{has_spare}
 use Rattle.flat_history.specs.declared.events.Entry.{Entry}
 use Rattle.flat_history.specs.declared.events.Event.{Event}
 use Rattle.flat_history.specs.declared.events.Event.TheVariants.{Step, Refused}
@@ -29,8 +29,8 @@ use Rattle.running.proofs.views_MovedLaws.{grows-none}
 use Rattle.running.specs.views_Rebuilding.{Held}
 use Rattle.running.specs.array_kept_Calls.{IsLossBy, IsEndOf}
 use Rattle.running.proofs.array_kept_LossLaws.{behind-alone}
-use Rattle.grow_asked.specs.declared.window.PhasesLeft.{PhasesLeft}
-use Rattle.grow_asked.specs.Left.{phases_of}
+use Rattle.running.specs.grow_asked_the_PhasesLeft.{PhasesLeft}
+use Rattle.running.specs.grow_asked_Left.{phases_of}
 use Rattle.running.specs.kept_history_Recorded.{MayGoOn, IsCallGoing}
 use Rattle.running.specs.running_words_Parts.{RunningParts, still_left}
 use Rattle.running.specs.still_laws_Steps.{IsClosable}

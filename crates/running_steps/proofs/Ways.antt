@@ -5,8 +5,8 @@ use Rattle.std.proofs.lemmas.List.Folds.{list_any-append}
 use Rattle.std.specs.List.{list_any}
 use Rattle.bank.specs.Given.{NeverFalls}
 use Rattle.bank.proofs.Causes.{faulted_longer}
-use Rattle.superblocks.specs.declared.members.Members.{Members}
-use Rattle.superblocks.specs.Reading.{is_reshaping, shape_of, final_shape}
+use Rattle.running.specs.superblocks_the_Members.{Members}
+use Rattle.running.specs.superblocks_Reading.{is_reshaping, shape_of, final_shape}
 use Rattle.flat_history.specs.declared.events.Entry.{Entry}
 use Rattle.flat_history.specs.World.{World}
 use Rattle.running.specs.views_Lacking.{HaveRolesFailed}

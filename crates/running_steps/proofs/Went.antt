@@ -3,9 +3,9 @@ use Rattle.std.proofs.Common.{◌≡◌, inl, ℕ, ◌*◌, ◌++◌, min, true,
 use Rattle.std.proofs.lemmas.List.Elements.{All-head, All-tail}
 use Rattle.std.specs.List.{All}
 use Rattle.md_base.specs.Shapes.{data_disks}
-use Rattle.superblocks.specs.declared.members.Members.{Members}
-use Rattle.superblocks.specs.Reading.{list_length}
-use Rattle.superblocks.specs.Reads.{has_spare}
+use Rattle.running.specs.superblocks_the_Members.{Members}
+use Rattle.running.specs.superblocks_Reading.{list_length}
+use Rattle.running.specs.superblocks_Reads.{has_spare}
 use Rattle.flat_history.specs.declared.events.Entry.{Entry}
 use Rattle.flat_history.specs.declared.events.Event.{Event}
 use Rattle.flat_history.specs.declared.events.Event.TheVariants.{Lost}

@@ -8,7 +8,7 @@ use Rattle.md_base.specs.declared.answers.Refusal.TheVariants.{Nothing}
 use Rattle.md_base.specs.declared.answers.Who.{Who}
 use Rattle.bank.specs.declared.bank.Operation.{Operation}
 use Rattle.bank.specs.Given.{Given}
-use Rattle.superblocks.specs.Reading.{is_reshaping, shape_of, final_shape}
+use Rattle.running.specs.superblocks_Reading.{is_reshaping, shape_of, final_shape}
 use Rattle.flat_history.specs.declared.events.Entry.{Entry}
 use Rattle.flat_history.specs.declared.events.Event.{Event}
 use Rattle.flat_history.specs.declared.events.Event.TheVariants.{Step, Stepped, Refused}

@@ -1,11 +1,11 @@
 //! As many background steps as a caller asks for.
 
 ghost use Rattle.std.specs.Prelude.{◌≡◌, ◌≢◌, ◌⊎◌, ◌+◌, ◌<◌, ◌≤◌, ◌^◌, [], true, false, None, IfOk, IfErr, IfSome, MatchOption, ⊤};
-ghost use Rattle.superblocks.specs.Reading.{is_reshaping, list_length};
+ghost use Rattle.running.specs.superblocks_Reading.{is_reshaping, list_length};
 ghost use Rattle.flat_history.specs.Flat.{next_number};
 ghost use Rattle.flat_history.specs.declared.events.Request.TheVariants.{Steps as AsksSteps};
 ghost use Rattle.running.specs.array_kept_Calls.{IsEndOf, TellNoLoss, TellNoRoleLoss};
-ghost use Rattle.grow_asked.specs.Left.{phases_of};
+ghost use Rattle.running.specs.grow_asked_Left.{phases_of};
 ghost use Rattle.running.specs.kept_history_Recorded.{IsCallGoing};
 ghost use Rattle.running.specs.still_laws_Steps.{IsClosable};
 ghost use Rattle.running.specs.running_replies_Replies.{IsAnsweredWith, EndsRunningSteps, MayTellBy, IsRefusalBy};

@@ -3,10 +3,10 @@
 ghost use Rattle.std.specs.Prelude.{◌≡◌, ◌≢◌, ◌+◌, ◌<◌, ◌≤◌, ◌∷◌, List, true, false, Ok};
 ghost use Rattle.md_base.specs.declared.wishes.Phase.{Phase};
 ghost use Rattle.md_base.specs.declared.wishes.Phase.TheVariants.{Reshape};
-ghost use Rattle.superblocks.specs.Reading.{is_reshaping};
+ghost use Rattle.running.specs.superblocks_Reading.{is_reshaping};
 ghost use Rattle.flat_history.specs.declared.events.StepKind.TheVariants.{RebuildEnded as EndsRebuild};
 ghost use Rattle.running.specs.views_Status.{left_of};
-ghost use Rattle.grow_asked.specs.Left.{phases_of};
+ghost use Rattle.running.specs.grow_asked_Left.{phases_of};
 ghost use Rattle.running.specs.kept_history_Recorded.{IsCallGoing};
 ghost use Rattle.running.specs.moving_state_Due.{due_of};
 ghost use Rattle.running.specs.moving_state_the_Due_TheVariants.{Finish as EndsReshape};

@@ -7,10 +7,10 @@ use Rattle.bank.specs.declared.bank.Operation.{Operation}
 use Rattle.bank.specs.Given.{Given, NeverFalls}
 use Rattle.md_base.specs.declared.answers.Refusal.{Refusal}
 use Rattle.md_base.specs.declared.answers.Who.{Who}
-use Rattle.superblocks.specs.declared.members.Members.{Members}
-use Rattle.flat_history.specs.declared.events.Entry.{Entry}
-use Rattle.flat_history.specs.declared.events.Event.{Event}
-use Rattle.flat_history.specs.Plain.{entries_of}
+use Rattle.moving_state.specs.superblocks_the_Members.{Members}
+use Rattle.moving_state.specs.flat_history_the_Entry.{Entry}
+use Rattle.moving_state.specs.flat_history_the_Event.{Event}
+use Rattle.moving_state.specs.flat_history_Plain.{entries_of}
 use Rattle.moving_state.proofs.call_entries_PlainLaws.{one}
 use Rattle.moving_state.specs.shape_changes_Safety.{IsRisen}
 use Rattle.moving_state.specs.views_Lacking.{AreTooMany}

@@ -4,11 +4,11 @@ use Rattle.std.specs.Prelude.{fold}
 use Rattle.md_base.specs.Sectors.{Sector}
 use Rattle.md_base.specs.declared.answers.Refusal.{Refusal}
 use Rattle.md_base.specs.declared.answers.Who.{Who}
-use Rattle.flat_history.specs.declared.events.Entry.{Entry}
-use Rattle.flat_history.specs.declared.events.Event.{Event}
-use Rattle.flat_history.specs.declared.events.Event.TheVariants.{Torn, Refused}
-use Rattle.flat_history.specs.Flat.{length_after, limit_after}
-use Rattle.flat_history.specs.Plain.{entries_of}
+use Rattle.moving_state.specs.flat_history_the_Entry.{Entry}
+use Rattle.moving_state.specs.flat_history_the_Event.{Event}
+use Rattle.moving_state.specs.flat_history_the_Event_TheVariants.{Torn, Refused}
+use Rattle.moving_state.specs.flat_history_Flat.{length_after, limit_after}
+use Rattle.moving_state.specs.flat_history_Plain.{entries_of}
 use Rattle.moving_state.specs.call_entries_Losing.{losses_of, failure_events}
 use Rattle.moving_state.proofs.call_entries_CallLaws.{losses-are, length-losses, limit-losses}
 

@@ -8,17 +8,17 @@ use Rattle.md_base.specs.Sectors.{Sector}
 use Rattle.md_base.specs.declared.answers.Who.{Who}
 use Rattle.md_base.specs.declared.answers.Refusal.{Refusal}
 use Rattle.md_base.specs.declared.answers.Refusal.TheVariants.{PastEnd}
-use Rattle.superblocks.specs.declared.members.Members.{Members}
-use Rattle.flat_history.specs.declared.events.Entry.{Entry}
-use Rattle.flat_history.specs.declared.events.Event.{Event}
-use Rattle.flat_history.specs.declared.events.Event.TheVariants.{Torn, Refused}
-use Rattle.flat_history.specs.declared.events.Request.{Request}
-use Rattle.flat_history.specs.declared.events.Request.TheVariants.{Read as AsksRead, Write as AsksWrite}
-use Rattle.flat_history.specs.Flat.{next_number, visible_of, length_of, limit_of, length_after, limit_after}
-use Rattle.flat_history.specs.Transfers.{IsRefusedAt, IsPastEnd}
-use Rattle.flat_history.specs.Fits.{AreTornOf, IsReadRefused}
-use Rattle.flat_history.specs.Plain.{entries_of}
-use Rattle.flat_history.specs.OneShape.{OneShapeAnswers}
+use Rattle.moving_state.specs.superblocks_the_Members.{Members}
+use Rattle.moving_state.specs.flat_history_the_Entry.{Entry}
+use Rattle.moving_state.specs.flat_history_the_Event.{Event}
+use Rattle.moving_state.specs.flat_history_the_Event_TheVariants.{Torn, Refused}
+use Rattle.moving_state.specs.flat_history_the_Request.{Request}
+use Rattle.moving_state.specs.flat_history_the_Request_TheVariants.{Read as AsksRead, Write as AsksWrite}
+use Rattle.moving_state.specs.flat_history_Flat.{next_number, visible_of, length_of, limit_of, length_after, limit_after}
+use Rattle.moving_state.specs.flat_history_Transfers.{IsRefusedAt, IsPastEnd}
+use Rattle.moving_state.specs.flat_history_Fits.{AreTornOf, IsReadRefused}
+use Rattle.moving_state.specs.flat_history_Plain.{entries_of}
+use Rattle.moving_state.specs.flat_history_OneShape.{OneShapeAnswers}
 use Rattle.moving_state.specs.call_entries_Losing.{losses_of, failure_events}
 use Rattle.moving_state.proofs.call_entries_PlainLaws.{one}
 use Rattle.moving_state.proofs.call_entries_LosingLaws.{entries-both}

@@ -3,12 +3,12 @@ use Rattle.std.proofs.Common.{◌≡◌, ◌⊎◌, inl, inr, ℕ, ◌<◌, ◌=
 use Rattle.md_base.specs.Shapes.{has_slot}
 use Rattle.md_base.specs.declared.answers.Who.{Who}
 use Rattle.bank.specs.Given.{Given}
-use Rattle.superblocks.specs.declared.members.Members.{Members}
-use Rattle.superblocks.specs.Reading.{role_count, role_state, holder}
-use Rattle.row_io.specs.Rows.{reading_of, is_missing, members_without}
-use Rattle.flat_history.specs.declared.events.Entry.{Entry}
-use Rattle.flat_history.specs.declared.events.Event.{Event}
-use Rattle.flat_history.specs.Plain.{entries_of}
+use Rattle.moving_state.specs.superblocks_the_Members.{Members}
+use Rattle.moving_state.specs.superblocks_Reading.{role_count, role_state, holder}
+use Rattle.moving_state.specs.row_io_Rows.{reading_of, is_missing, members_without}
+use Rattle.moving_state.specs.flat_history_the_Entry.{Entry}
+use Rattle.moving_state.specs.flat_history_the_Event.{Event}
+use Rattle.moving_state.specs.flat_history_Plain.{entries_of}
 use Rattle.moving_state.specs.shape_changes_Steady.{AreUnlost}
 use Rattle.moving_state.specs.views_Lacking.{HaveFailedSince, AreLostSince}
 use Rattle.moving_state.specs.views_Moving.{IsMoved}

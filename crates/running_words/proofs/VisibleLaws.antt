@@ -5,10 +5,10 @@ use Rattle.std.proofs.lemmas.List.Sums.{fold-append}
 use Rattle.std.specs.Prelude.{fold}
 use Rattle.std.specs.Option.{option_map_or}
 use Rattle.md_base.specs.declared.answers.Who.{Who}
-use Rattle.flat_history.specs.declared.events.Entry.{Entry}
-use Rattle.flat_history.specs.declared.events.Event.TheVariants.{Visible}
-use Rattle.flat_history.specs.Flat.{length_of, limit_of, limit_after, visible_of}
-use Rattle.flat_history.specs.Plain.{entries_of}
+use Rattle.moving_state.specs.flat_history_the_Entry.{Entry}
+use Rattle.moving_state.specs.flat_history_the_Event_TheVariants.{Visible}
+use Rattle.moving_state.specs.flat_history_Flat.{length_of, limit_of, limit_after, visible_of}
+use Rattle.moving_state.specs.flat_history_Plain.{entries_of}
 use Rattle.moving_state.specs.Left.{visible_by}
 
 -- the visible size, by the length and the limit that the entries tell

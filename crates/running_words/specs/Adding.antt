@@ -2,8 +2,8 @@
 use Rattle.std.specs.Prelude.{◌≡◌, ◌⊎◌, ℕ, true, List}
 use Rattle.bank.specs.declared.bank.Operation.{Operation}
 use Rattle.bank.specs.Given.{Given, NeverFalls}
-use Rattle.superblocks.specs.declared.members.Members.{Members}
-use Rattle.superblocks.specs.Reads.{has_spare}
+use Rattle.moving_state.specs.superblocks_the_Members.{Members}
+use Rattle.moving_state.specs.superblocks_Reads.{has_spare}
 use Rattle.moving_state.specs.views_Placed.{AreStillHeld}
 use Rattle.moving_state.specs.views_Moving.{Grows}
 use Rattle.moving_state.specs.array_kept_Calls.{AreLossesOf, IsEndOf, IsWorkAdded}

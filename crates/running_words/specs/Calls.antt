@@ -10,18 +10,18 @@ use Rattle.md_base.specs.declared.status.Status.{Status}
 use Rattle.geometry.specs.Geometry.{stripes, zeroed_stripes, is_critical}
 use Rattle.bank.specs.Given.{Given, IsFaulted, NeverFalls}
 use Rattle.bank.specs.declared.bank.Operation.{Operation}
-use Rattle.superblocks.specs.declared.members.Members.{Members}
-use Rattle.superblocks.specs.Reading.{is_backward, is_clean, shape_of, final_shape, list_length, next_window}
-use Rattle.flat_history.specs.declared.events.Entry.{Entry}
-use Rattle.flat_history.specs.declared.events.Epoch.{Epoch}
-use Rattle.flat_history.specs.declared.events.Event.TheVariants.{Step, Refused}
-use Rattle.flat_history.specs.declared.events.StepKind.{StepKind}
-use Rattle.flat_history.specs.CrashSafe.{IsCrashSafe}
-use Rattle.flat_history.specs.Epochs.{world_of}
-use Rattle.flat_history.specs.Legal.{IsLegal}
-use Rattle.flat_history.specs.Reshaped.{IsReshaped}
-use Rattle.flat_history.specs.Sound.{OpensFit, StaysSound}
-use Rattle.flat_history.specs.World.{World}
+use Rattle.moving_state.specs.superblocks_the_Members.{Members}
+use Rattle.moving_state.specs.superblocks_Reading.{is_backward, is_clean, shape_of, final_shape, list_length, next_window}
+use Rattle.moving_state.specs.flat_history_the_Entry.{Entry}
+use Rattle.moving_state.specs.flat_history_the_Epoch.{Epoch}
+use Rattle.moving_state.specs.flat_history_the_Event_TheVariants.{Step, Refused}
+use Rattle.moving_state.specs.flat_history_the_StepKind.{StepKind}
+use Rattle.moving_state.specs.flat_history_CrashSafe.{IsCrashSafe}
+use Rattle.moving_state.specs.flat_history_Epochs.{world_of}
+use Rattle.moving_state.specs.flat_history_Legal.{IsLegal}
+use Rattle.moving_state.specs.flat_history_Reshaped.{IsReshaped}
+use Rattle.moving_state.specs.flat_history_Sound.{OpensFit, StaysSound}
+use Rattle.moving_state.specs.flat_history_World.{World}
 use Rattle.moving_state.specs.views_Placed.{AreStillHeld}
 use Rattle.moving_state.specs.views_Lacking.{AreTooMany}
 use Rattle.moving_state.specs.views_Moving.{Grows}

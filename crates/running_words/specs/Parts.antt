@@ -1,13 +1,13 @@
 -- What contracts see of an array, whether a reshape is active in it or not.
 use Rattle.std.specs.Prelude.{ℕ, ◌+◌, Option}
 use Rattle.grow_plan.specs.Plans.{phases_steps}
-use Rattle.superblocks.specs.declared.members.Members.{Members}
-use Rattle.superblocks.specs.Reading.{shape_of, list_length}
+use Rattle.moving_state.specs.superblocks_the_Members.{Members}
+use Rattle.moving_state.specs.superblocks_Reading.{shape_of, list_length}
 use Rattle.moving_state.specs.views_the_Work.{Work}
 use Rattle.moving_state.specs.views_Parts.{Parts}
 use Rattle.moving_state.specs.views_Status.{left_of}
-use Rattle.grow_asked.specs.declared.window.PhasesLeft.{PhasesLeft}
-use Rattle.grow_asked.specs.Left.{phases_of, grow_left}
+use Rattle.moving_state.specs.grow_asked_the_PhasesLeft.{PhasesLeft}
+use Rattle.moving_state.specs.grow_asked_Left.{phases_of, grow_left}
 use Rattle.moving_state.specs.region_mends_Left.{resync_left}
 use Rattle.moving_state.specs.course_kept_the_Course.{Course}
 use Rattle.moving_state.specs.Left.{visible_by}

@@ -3,14 +3,14 @@ use Rattle.std.specs.Prelude.{◌≡◌, Bool, true, false, if◌then◌else◌,
 use Rattle.std.specs.List.{list_any, All}
 use Rattle.md_base.specs.declared.places.Shape.{Shape}
 use Rattle.grow_plan.specs.Plans.{last_shape}
-use Rattle.superblocks.specs.Reading.{is_reshaping, shape_of, final_shape}
-use Rattle.flat_history.specs.declared.events.Entry.{Entry}
-use Rattle.flat_history.specs.declared.events.Event.{Event}
-use Rattle.flat_history.specs.declared.events.Event.TheVariants.{Visible, Planned, Step}
-use Rattle.flat_history.specs.declared.events.StepKind.TheVariants.{Begun, Finished, TakenOver}
-use Rattle.flat_history.specs.Reshaped.{open_plans, planned_shape}
-use Rattle.flat_history.specs.World.{World, reading_at}
-use Rattle.grow_asked.specs.Left.{phases_of}
+use Rattle.moving_state.specs.superblocks_Reading.{is_reshaping, shape_of, final_shape}
+use Rattle.moving_state.specs.flat_history_the_Entry.{Entry}
+use Rattle.moving_state.specs.flat_history_the_Event.{Event}
+use Rattle.moving_state.specs.flat_history_the_Event_TheVariants.{Visible, Planned, Step}
+use Rattle.moving_state.specs.flat_history_the_StepKind_TheVariants.{Begun, Finished, TakenOver}
+use Rattle.moving_state.specs.flat_history_Reshaped.{open_plans, planned_shape}
+use Rattle.moving_state.specs.flat_history_World.{World, reading_at}
+use Rattle.moving_state.specs.grow_asked_Left.{phases_of}
 use Rattle.history_calls.specs.Reliable.{IsReliable}
 use Rattle.running_words.specs.Parts.{RunningParts}
 

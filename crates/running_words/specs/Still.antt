@@ -4,11 +4,11 @@ use Rattle.md_base.specs.declared.status.Status.{Status}
 use Rattle.bank.specs.declared.bank.Operation.{Operation}
 use Rattle.bank.specs.Given.{Given}
 use Rattle.bank.specs.Tape.{disk}
-use Rattle.superblocks.specs.declared.members.Members.{Members}
-use Rattle.superblocks.specs.Reading.{is_clean, shape_of, list_length, role_state, holder}
-use Rattle.row_io.specs.Rows.{reading_of, present}
-use Rattle.flat_history.specs.declared.events.Entry.{Entry}
-use Rattle.flat_history.specs.OneShape.{is_lost}
+use Rattle.moving_state.specs.superblocks_the_Members.{Members}
+use Rattle.moving_state.specs.superblocks_Reading.{is_clean, shape_of, list_length, role_state, holder}
+use Rattle.moving_state.specs.row_io_Rows.{reading_of, present}
+use Rattle.moving_state.specs.flat_history_the_Entry.{Entry}
+use Rattle.moving_state.specs.flat_history_OneShape.{is_lost}
 use Rattle.running_words.specs.Parts.{RunningParts, visible_in, still_left}
 
 -- this status tells the array as it is

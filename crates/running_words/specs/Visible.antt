@@ -7,15 +7,15 @@ use Rattle.md_base.specs.declared.answers.Fault.TheVariants.{Refused as IsRefuse
 use Rattle.md_base.specs.declared.answers.Refusal.{Refusal}
 use Rattle.md_base.specs.declared.answers.Refusal.TheVariants.{PastSize, Busy}
 use Rattle.md_base.specs.declared.answers.Who.{Who}
-use Rattle.superblocks.specs.Reading.{list_length}
-use Rattle.flat_history.specs.declared.events.Entry.{Entry}
-use Rattle.flat_history.specs.declared.events.Event.{Event}
-use Rattle.flat_history.specs.declared.events.Event.TheVariants.{Refused}
-use Rattle.flat_history.specs.declared.events.Request.TheVariants.{Visible as AsksVisible}
-use Rattle.flat_history.specs.Fits.{Fits, phases_left}
-use Rattle.flat_history.specs.Plain.{entries_of}
-use Rattle.flat_history.specs.World.{World}
-use Rattle.grow_asked.specs.Left.{phases_of}
+use Rattle.moving_state.specs.superblocks_Reading.{list_length}
+use Rattle.moving_state.specs.flat_history_the_Entry.{Entry}
+use Rattle.moving_state.specs.flat_history_the_Event.{Event}
+use Rattle.moving_state.specs.flat_history_the_Event_TheVariants.{Refused}
+use Rattle.moving_state.specs.flat_history_the_Request_TheVariants.{Visible as AsksVisible}
+use Rattle.moving_state.specs.flat_history_Fits.{Fits, phases_left}
+use Rattle.moving_state.specs.flat_history_Plain.{entries_of}
+use Rattle.moving_state.specs.flat_history_World.{World}
+use Rattle.moving_state.specs.grow_asked_Left.{phases_of}
 use Rattle.history_calls.specs.kept_history_Recorded.{entry_of}
 use Rattle.running_words.specs.Parts.{RunningParts}
 

@@ -12,9 +12,9 @@ use Rattle.superblocks.specs.Update.{is_held_by}
 use Rattle.superblocks.specs.Outcome.{live_set}
 use Rattle.superblocks.specs.Held.{AreHeld}
 use Rattle.superblocks.specs.Stages.{AreLeft}
-use Rattle.superblock_reads.proofs.StageReads.{held-reads}
-use Rattle.superblock_reads.proofs.RoundsRead.{more-held}
-use Rattle.row_io.specs.Rows.{role_without, members_without}
+use Rattle.safe_updates.proofs.superblock_reads_StageReads.{held-reads}
+use Rattle.safe_updates.proofs.superblock_reads_RoundsRead.{more-held}
+use Rattle.safe_updates.specs.row_io_Rows.{role_without, members_without}
 use Rattle.safe_updates.specs.shape_changes_Held.{IsHeldBy}
 use Rattle.views.specs.Lacking.{AreUnnamed}
 use Rattle.safe_updates.specs.shape_changes_Marking.{marking}

@@ -20,7 +20,7 @@ use Rattle.superblocks.specs.Update.{own_in, planned, give_of, is_held_by}
 use Rattle.superblocks.specs.Updating.{IsSomeLeft}
 use Rattle.superblocks.specs.Outcome.{live_set, with_added, IsStored, IsPlannedOwn, is_in_update, is_left}
 use Rattle.superblocks.specs.Crash.{IsWithin}
-use Rattle.row_io.specs.Rows.{reading_of, members_without}
+use Rattle.safe_updates.specs.row_io_Rows.{reading_of, members_without}
 use Rattle.views.specs.Placed.{IsPlaced, AreLess}
 use Rattle.views.specs.Rebuilding.{with_spare, AreSparesFree}
 use Rattle.safe_updates.specs.shape_changes_Steady.{AreUnlost, AreGoneTold, with_number, IsSteady, IsSpent, IsSafeStretch, AreViewsRight}
@@ -40,19 +40,19 @@ use Rattle.superblocks.specs.Reads.{SaysSame, has_spare, IsReadAs}
 use Rattle.superblocks.specs.Held.{IsStamped, IsSecondHalf, AreDrawn, said_by}
 use Rattle.superblocks.specs.Stages.{AreLeft, AreKept}
 use Rattle.superblocks.specs.Rounds.{round_at}
-use Rattle.superblock_reads.specs.Following.{AreHeldAlone}
-use Rattle.superblock_reads.specs.Said.{AreSaid}
-use Rattle.superblock_reads.proofs.Following.{next-held}
-use Rattle.superblock_reads.proofs.RoundReads.{left_set, left-are}
+use Rattle.safe_updates.specs.superblock_reads_Following.{AreHeldAlone}
+use Rattle.safe_updates.specs.superblock_reads_Said.{AreSaid}
+use Rattle.safe_updates.proofs.superblock_reads_Following.{next-held}
+use Rattle.safe_updates.proofs.superblock_reads_RoundReads.{left_set, left-are}
 use Rattle.superblocks.proofs.SlotSets.{has-set_of, none_there}
-use Rattle.superblock_reads.proofs.StageReads.{held-reads}
+use Rattle.safe_updates.proofs.superblock_reads_StageReads.{held-reads}
 use Rattle.superblocks.specs.Adding.{IsReadAsPlannedBut, IsReadInAdding, IsReadyToAdd}
 use Rattle.superblocks.proofs.ReadAlike.{count-same, tabulate-same}
 use Rattle.superblocks.proofs.ReadLists.{by_bool}
 use Rattle.superblocks.proofs.HeldReads.{known_at}
-use Rattle.superblock_reads.proofs.UpTo.{rounds-parts, end-room}
-use Rattle.superblock_laws.proofs.AddedReads.{added-before, added-fit}
-use Rattle.superblock_laws.proofs.AddedRounds.{in-first-reads, rounds-read, rounds-end, wider}
+use Rattle.safe_updates.proofs.superblock_reads_UpTo.{rounds-parts, end-room}
+use Rattle.safe_updates.proofs.superblock_laws_AddedReads.{added-before, added-fit}
+use Rattle.safe_updates.proofs.superblock_laws_AddedRounds.{in-first-reads, rounds-read, rounds-end, wider}
 use Rattle.safe_updates.specs.shape_changes_Held.{IsHeldBy}
 use Rattle.safe_updates.specs.shape_changes_Carried.{AreCarried}
 use Rattle.safe_updates.specs.shape_changes_Safety.{HasMarkRoom}

@@ -26,7 +26,7 @@ use Rattle.superblocks.specs.Outcome.{is_in_update, is_same, live_set, planned_s
 use Rattle.superblocks.specs.Reads.{SaysSame, held_in, spare_in, has_spare}
 use Rattle.superblocks.specs.Held.{IsKnown, Shows, AreHeld, known_of, said_by}
 use Rattle.superblocks.specs.Plans.{IsFitChange}
-use Rattle.superblock_reads.specs.Said.{AreSaid, AreSparesFit, AreSaidAsPlanned}
+use Rattle.safe_updates.specs.superblock_reads_Said.{AreSaid, AreSparesFit, AreSaidAsPlanned}
 use Rattle.superblocks.specs.Stages.{AreLeft, AreKept}
 use Rattle.superblocks.specs.Crash.{IsWithin}
 use Rattle.superblocks.specs.Adding.{IsReadyToAdd}
@@ -34,13 +34,13 @@ use Rattle.superblocks.proofs.ReadLists.{by_bool, holder-same, spares-at}
 use Rattle.superblocks.proofs.ReadAlike.{tabulate-same}
 use Rattle.superblocks.proofs.HeldReads.{known_at}
 use Rattle.superblocks.proofs.PlannedSb.{planned-of}
-use Rattle.superblock_reads.proofs.SaidSlots.{holder-own, listed, roles-count}
+use Rattle.safe_updates.proofs.superblock_reads_SaidSlots.{holder-own, listed, roles-count}
 use Rattle.superblocks.proofs.SlotSets.{has-set_of, slots-same, with_here, with_other, none_above}
-use Rattle.superblock_reads.proofs.RoundReads.{left_set, left-are, planned_list, planned-in, kept-of}
-use Rattle.superblock_laws.proofs.AddedReads.{put, put_ninth, of_put, none_read, known_put}
+use Rattle.safe_updates.proofs.superblock_reads_RoundReads.{left_set, left-are, planned_list, planned-in, kept-of}
+use Rattle.safe_updates.proofs.superblock_laws_AddedReads.{put, put_ninth, of_put, none_read, known_put}
 use Rattle.superblocks.proofs.UpdateReads.{fresh_less}
-use Rattle.superblock_reads.proofs.Tied.{IsPlannedNewest, planned-said, held-other}
-use Rattle.row_io.specs.Rows.{reading_of, role_without, members_without}
+use Rattle.safe_updates.proofs.superblock_reads_Tied.{IsPlannedNewest, planned-said, held-other}
+use Rattle.safe_updates.specs.row_io_Rows.{reading_of, role_without, members_without}
 use Rattle.safe_updates.specs.shape_changes_Held.{IsHeldBy}
 use Rattle.safe_updates.specs.shape_changes_Marking.{adding}
 use Rattle.views.specs.Numbers.{IsSpareSb}

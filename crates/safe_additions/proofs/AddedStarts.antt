@@ -33,13 +33,13 @@ use Rattle.superblocks.specs.Adding.{IsNewcomer, IsReadyToAdd}
 use Rattle.superblocks.proofs.ValidFields.{few-events}
 use Rattle.superblocks.proofs.ReadAlike.{count-same, fields-kept}
 use Rattle.superblocks.proofs.PlannedSb.{planned-of}
-use Rattle.superblock_reads.proofs.SaidLists.{role-holder}
-use Rattle.superblock_reads.proofs.SaidSlots.{role-below}
+use Rattle.safe_updates.proofs.superblock_reads_SaidLists.{role-holder}
+use Rattle.safe_updates.proofs.superblock_reads_SaidSlots.{role-below}
 use Rattle.superblocks.proofs.SlotSets.{has-set_of, none_above}
-use Rattle.superblock_reads.proofs.RoundReads.{left_set, left-are}
-use Rattle.superblock_reads.proofs.RoundsRead.{more-held}
-use Rattle.superblock_laws.proofs.AddingStarts.{adding-ready}
-use Rattle.row_io.specs.Rows.{role_without, members_without}
+use Rattle.safe_updates.proofs.superblock_reads_RoundReads.{left_set, left-are}
+use Rattle.safe_updates.proofs.superblock_reads_RoundsRead.{more-held}
+use Rattle.safe_updates.proofs.superblock_laws_AddingStarts.{adding-ready}
+use Rattle.safe_updates.specs.row_io_Rows.{role_without, members_without}
 use Rattle.safe_updates.specs.shape_changes_Held.{IsHeldBy}
 use Rattle.safe_updates.specs.shape_changes_Marking.{adding, marking}
 use Rattle.safe_updates.specs.shape_changes_Carried.{AreCarried}

@@ -22,7 +22,7 @@ use Rattle.superblocks.specs.Outcome.{AreLive, AreStored, IsPlannedOwn, live_set
 use Rattle.superblocks.specs.Rounds.{round_at, IsInRounds, ArePast}
 use Rattle.superblocks.proofs.PlannedSb.{planned-of}
 use Rattle.superblocks.proofs.SlotSets.{slots-same}
-use Rattle.row_io.specs.Rows.{reading_of}
+use Rattle.safe_updates.specs.row_io_Rows.{reading_of}
 use Rattle.views.specs.Placed.{IsPlaced, AreLess, HaveSameReshape}
 use Rattle.safe_updates.specs.shape_changes_Steady.{AreUnlost}
 use Rattle.views.specs.Flushing.{AreHolders}

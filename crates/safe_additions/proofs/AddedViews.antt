@@ -7,7 +7,7 @@ use Rattle.sb1.specs.declared.sb.Sb.{Sb}
 use Rattle.superblocks.specs.declared.members.Members.{Members}
 use Rattle.superblocks.specs.Reading.{is_whole, role_state, holder}
 use Rattle.superblocks.specs.Reads.{SaysSame}
-use Rattle.row_io.specs.Rows.{reading_of, role_without}
+use Rattle.safe_updates.specs.row_io_Rows.{reading_of, role_without}
 use Rattle.safe_updates.specs.shape_changes_Updates.{IsLessView}
 use Rattle.safe_updates.proofs.shape_changes_ChangeViews.{says-itself}
 use Rattle.safe_updates.proofs.shape_changes_Kept.{still-missing}

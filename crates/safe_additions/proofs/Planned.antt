@@ -11,9 +11,9 @@ use Rattle.superblocks.specs.declared.members.Members.{Members}
 use Rattle.superblocks.specs.Reading.{Scope, is_fresh, entry_of, holds_role, state_of, role_count, holder, holder_from}
 use Rattle.superblocks.specs.Reads.{held_in}
 use Rattle.superblocks.specs.Held.{known_of}
-use Rattle.superblock_reads.proofs.SaidLists.{state-here}
-use Rattle.superblock_reads.proofs.SaidSlots.{role-said, role-below, role-known}
-use Rattle.row_io.specs.Rows.{role_without}
+use Rattle.safe_updates.proofs.superblock_reads_SaidLists.{state-here}
+use Rattle.safe_updates.proofs.superblock_reads_SaidSlots.{role-said, role-below, role-known}
+use Rattle.safe_updates.specs.row_io_Rows.{role_without}
 use Rattle.safe_updates.specs.shape_changes_Held.{IsHeldBy}
 use Rattle.safe_additions.proofs.Ready.{known-small}
 

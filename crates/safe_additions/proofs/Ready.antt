@@ -18,8 +18,8 @@ use Rattle.superblocks.specs.Update.{is_held_by}
 use Rattle.superblocks.specs.Outcome.{live_set}
 use Rattle.superblocks.specs.Reads.{has_spare}
 use Rattle.superblocks.proofs.ReadLists.{by_bool}
-use Rattle.superblock_reads.proofs.SaidSlots.{role-known, spare-known}
-use Rattle.row_io.specs.Rows.{members_without}
+use Rattle.safe_updates.proofs.superblock_reads_SaidSlots.{role-known, spare-known}
+use Rattle.safe_updates.specs.row_io_Rows.{members_without}
 use Rattle.safe_updates.specs.shape_changes_Marking.{marking}
 use Rattle.safe_updates.specs.shape_changes_Held.{IsHeldBy}
 use Rattle.safe_updates.proofs.shape_changes_Without.{in-both, any-holds, live-is, live-before}

@@ -9,8 +9,8 @@ use Rattle.superblocks.specs.declared.members.Members.{Members}
 use Rattle.superblocks.specs.Reading.{Scope, Reading, is_recovering, role_state, rows_held, holder, own_of, data_offset_of}
 use Rattle.superblocks.specs.Reads.{SaysSame, IsReadAs, roles_refusal}
 use Rattle.superblocks.proofs.ReadAlike.{refused-same}
-use Rattle.superblock_reads.proofs.SaidSlots.{read-own}
-use Rattle.row_io.specs.Rows.{reading_of}
+use Rattle.safe_updates.proofs.superblock_reads_SaidSlots.{read-own}
+use Rattle.safe_updates.specs.row_io_Rows.{reading_of}
 use Rattle.safe_updates.specs.shape_views_Regions.{IsReadOf}
 
 -- a reading of superblocks says what these members do

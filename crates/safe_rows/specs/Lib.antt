@@ -11,3 +11,6 @@ pub use Rattle.safe_updates.specs.shape_changes_Safety
 pub use Rattle.safe_updates.specs.shape_views_Regions
 pub use Rattle.safe_updates.specs.shape_views_Views
 pub use Rattle.safe_updates.specs.shape_views_Windows
+pub use Rattle.safe_updates.specs.flat_history_Stands
+pub use Rattle.safe_updates.specs.flat_history_World
+pub use Rattle.safe_updates.specs.flat_history_Sound

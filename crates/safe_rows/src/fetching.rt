@@ -18,7 +18,7 @@ ghost use Rattle.list_io.specs.Buffers.{IsTouched};
 ghost use Rattle.list_io.specs.Full.{DataStands, RowStands};
 ghost use Rattle.safe_updates.specs.views_Lacking.{HaveFailedSince, IsAskedBeyond, IsUnread, DataStandsAmong, RowsStandAmong};
 ghost use Rattle.safe_updates.specs.First.{read_refusal};
-ghost use Rattle.flat_history.specs.World.{World};
+ghost use Rattle.safe_updates.specs.flat_history_World.{World};
 ghost use Rattle.safe_updates.specs.shape_changes_Safety.{HasRoomLeft, IsRisen};
 ghost use Rattle.safe_updates.specs.shape_views_Views.{Ledger};
 

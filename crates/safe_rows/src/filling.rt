@@ -12,7 +12,7 @@ ghost use Rattle.row_io.specs.Rows.{reading_of, present};
 ghost use Rattle.list_io.specs.Full.{full_sector};
 ghost use Rattle.list_io.specs.Buffers.{AreDistinct, IsTouched};
 ghost use Rattle.list_io.specs.Writing.{AreDataOf, AreDataFrom, AreSuperblocksKept, HasFull};
-ghost use Rattle.flat_history.specs.World.{World};
+ghost use Rattle.safe_updates.specs.flat_history_World.{World};
 ghost use Rattle.safe_updates.specs.views_Placed.{IsPlaced};
 ghost use Rattle.safe_updates.specs.shape_changes_Steady.{AreUnlost, IsSafeOver, KeepsSafe, AreGoneTold, IsUncleanTold};
 ghost use Rattle.safe_updates.specs.views_Moving.{Grows, IsMoved};

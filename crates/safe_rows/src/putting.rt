@@ -21,8 +21,8 @@ ghost use Rattle.safe_updates.specs.shape_views_Windows.{IsOfRegion};
 ghost use Rattle.safe_updates.specs.views_Lacking.{HaveFailedSince, LacksTooMany, IsUnwritten, DataStandsAmong, RowsStandAmong, AreOtherRowsKept, AreBytes, AreRowsRead, AreRowsWritten};
 ghost use Rattle.safe_updates.specs.First.{write_refusal};
 ghost use Rattle.safe_updates.specs.Unused.{IsUnusedKept};
-ghost use Rattle.flat_history.specs.World.{World};
-ghost use Rattle.flat_history.specs.Sound.{OpensFit};
+ghost use Rattle.safe_updates.specs.flat_history_World.{World};
+ghost use Rattle.safe_updates.specs.flat_history_Sound.{OpensFit};
 ghost use Rattle.safe_updates.specs.shape_views_Views.{Ledger, IsTailZero};
 
 use bank::Bank;

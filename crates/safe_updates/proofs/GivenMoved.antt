@@ -21,7 +21,7 @@ use Rattle.superblocks.specs.Updating.{IsLater, AreLosses, planned_newest}
 use Rattle.superblocks.specs.Outcome.{live_set, is_left, AreLive, AreStored, IsPlannedOwn, planned_roles, planned_spares}
 use Rattle.superblocks.proofs.ReadLists.{by_bool}
 use Rattle.superblocks.proofs.PlannedSb.{planned-of}
-use Rattle.superblock_reads.proofs.SaidSlots.{has-slots_below}
+use Rattle.views.proofs.superblock_reads_SaidSlots.{has-slots_below}
 use Rattle.row_io.specs.Rows.{reading_of, is_missing, role_without}
 use Rattle.views.specs.Flushing.{AreHolders}
 use Rattle.views.specs.Placed.{IsPlaced, AreLess, HaveSameReshape}

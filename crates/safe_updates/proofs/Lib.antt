@@ -68,3 +68,36 @@ pub use Rattle.views.proofs.shape_views_SoundViews
 pub use Rattle.views.proofs.shape_views_Standing
 pub use Rattle.views.proofs.GivenMembers as views_GivenMembers
 pub use Rattle.views.proofs.AddedRows as views_AddedRows
+pub use Rattle.views.proofs.superblock_laws_AddedReads
+pub use Rattle.views.proofs.superblock_laws_AddedRounds
+pub use Rattle.views.proofs.superblock_laws_AddingStarts
+pub use Rattle.views.proofs.superblock_reads_StageReads
+pub use Rattle.views.proofs.superblock_reads_RoundsRead
+pub use Rattle.views.proofs.superblock_reads_Following
+pub use Rattle.views.proofs.superblock_reads_RoundReads
+pub use Rattle.views.proofs.superblock_reads_UpTo
+pub use Rattle.views.proofs.superblock_reads_SaidSlots
+pub use Rattle.views.proofs.superblock_reads_Tied
+pub use Rattle.views.proofs.superblock_reads_SaidLists
+pub use Rattle.row_io.proofs.Losses as row_io_Losses
+pub use Rattle.views.proofs.superblock_reads_PlanFits
+pub use Rattle.row_io.proofs.Turns as row_io_Turns
+pub use Rattle.row_io.proofs.RowBytes as row_io_RowBytes
+pub use Rattle.list_io.proofs.FullLaws as list_io_FullLaws
+pub use Rattle.list_io.proofs.Parities as list_io_Parities
+pub use Rattle.views.proofs.flat_history_GivenLaws
+pub use Rattle.views.proofs.flat_history_SameLaws
+pub use Rattle.views.proofs.flat_history_SettledLaws
+pub use Rattle.row_io.proofs.NewRow as row_io_NewRow
+pub use Rattle.row_io.proofs.Apart as row_io_Apart
+pub use Rattle.views.proofs.superblock_reads_Accepted
+pub use Rattle.views.proofs.superblock_reads_FoundHeld
+pub use Rattle.row_io.proofs.Written as row_io_Written
+pub use Rattle.views.proofs.superblock_laws_Laws
+pub use Rattle.views.proofs.flat_history_SoundLaws
+pub use Rattle.views.proofs.flat_history_LegalLaws
+pub use Rattle.views.proofs.flat_history_OneShapeGone
+pub use Rattle.views.proofs.flat_history_OneShapeLegal
+pub use Rattle.views.proofs.flat_history_GoneCounts
+pub use Rattle.row_io.proofs.Lacks as row_io_Lacks
+pub use Rattle.row_io.proofs.Tables as row_io_Tables

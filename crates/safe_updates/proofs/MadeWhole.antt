@@ -21,8 +21,8 @@ use Rattle.superblocks.specs.Reads.{has_spare}
 use Rattle.superblocks.specs.Update.{own_in, is_held_by}
 use Rattle.superblocks.specs.Crash.{IsWithin}
 use Rattle.superblocks.specs.Held.{known_of}
-use Rattle.superblock_reads.proofs.SaidSlots.{role-said, role-known}
-use Rattle.superblock_laws.specs.MakingWhole.{without_gives, IsMakingWhole}
+use Rattle.views.proofs.superblock_reads_SaidSlots.{role-said, role-known}
+use Rattle.views.specs.superblock_laws_MakingWhole.{without_gives, IsMakingWhole}
 use Rattle.row_io.specs.Rows.{reading_of, present, held_slot, role_without, members_without}
 use Rattle.row_io.proofs.Losses.{holder-of, state_kept, state_after}
 use Rattle.list_io.specs.Full.{RowStands, full_sector}

@@ -13,8 +13,8 @@ use Rattle.superblocks.specs.declared.members.Members.{Members}
 use Rattle.superblocks.specs.Reading.{entry_of, role_count, holder}
 use Rattle.superblocks.specs.Update.{give_of, planned_role, is_planned_spare, entry_for, with_roles}
 use Rattle.superblocks.specs.Updating.{AreNamed}
-use Rattle.superblock_reads.proofs.PlanFits.{length-any, roles-at, entry-is}
-use Rattle.superblock_reads.proofs.SaidLists.{role-holder}
+use Rattle.views.proofs.superblock_reads_PlanFits.{length-any, roles-at, entry-is}
+use Rattle.views.proofs.superblock_reads_SaidLists.{role-holder}
 use Rattle.row_io.specs.Rows.{role_without}
 use Rattle.safe_updates.specs.Named.{AreNamedMissing}
 use Rattle.views.specs.shape_changes_Marking.{marking}

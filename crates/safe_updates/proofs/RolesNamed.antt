@@ -16,7 +16,7 @@ use Rattle.superblocks.specs.Reads.{held_in}
 use Rattle.superblocks.specs.Update.{own_in}
 use Rattle.superblocks.specs.Held.{known_of, IsKnown}
 use Rattle.superblocks.proofs.ReadLists.{held-here}
-use Rattle.superblock_reads.proofs.SaidSlots.{below-length, role-below, role-known, role-said}
+use Rattle.views.proofs.superblock_reads_SaidSlots.{below-length, role-below, role-known, role-said}
 use Rattle.row_io.specs.Rows.{role_without, members_without}
 use Rattle.views.specs.shape_changes_Held.{IsHeldBy}
 use Rattle.views.specs.Lacking.{IsNamed, AreUnnamed}

@@ -10,7 +10,7 @@ use Rattle.superblocks.specs.declared.members.Members.{Members}
 use Rattle.superblocks.specs.Outcome.{planned_spares}
 use Rattle.superblocks.specs.Reads.{has_spare}
 use Rattle.superblocks.specs.Update.{is_planned_spare, give_of}
-use Rattle.superblock_reads.proofs.SaidSlots.{has-slots_below}
+use Rattle.views.proofs.superblock_reads_SaidSlots.{has-slots_below}
 use Rattle.row_io.specs.Rows.{reading_of}
 use Rattle.views.specs.Flushing.{AreHolders}
 use Rattle.views.specs.shape_changes_Marking.{marking}

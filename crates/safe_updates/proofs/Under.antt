@@ -17,8 +17,8 @@ use Rattle.superblocks.proofs.ReadLists.{by_bool}
 use Rattle.row_io.specs.Rows.{reading_of, held_slot, members_without}
 use Rattle.row_io.proofs.Losses.{holder-of}
 use Rattle.list_io.specs.Full.{RowStands}
-use Rattle.flat_history.specs.Stands.{shape_for}
-use Rattle.flat_history.specs.ActiveSection.{section_for}
+use Rattle.views.specs.flat_history_Stands.{shape_for}
+use Rattle.views.specs.flat_history_ActiveSection.{section_for}
 use Rattle.views.specs.shape_views_Regions.{backup_of, open_by, place_by}
 use Rattle.views.specs.shape_views_Views.{Disk, Ledger}
 use Rattle.views.specs.shape_views_Windows.{IsShown}

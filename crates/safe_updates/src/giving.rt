@@ -8,8 +8,8 @@ ghost use Rattle.md_base.specs.declared.status.Role.TheVariants.{Whole as IsWhol
 ghost use Rattle.superblocks.specs.Reading.{is_reshaping, shape_of, is_clean, role_state};
 ghost use Rattle.superblocks.specs.Reads.{has_spare};
 ghost use Rattle.row_io.specs.Rows.{reading_of, present};
-ghost use Rattle.flat_history.specs.World.{World};
-ghost use Rattle.flat_history.specs.Sound.{OpensFit};
+ghost use Rattle.views.specs.flat_history_World.{World};
+ghost use Rattle.views.specs.flat_history_Sound.{OpensFit};
 ghost use Rattle.views.specs.Placed.{is_vacant, IsPlaced};
 ghost use Rattle.views.specs.shape_changes_Steady.{AreUnlost, IsSafeOver, KeepsSafe, AreGoneTold, IsUncleanTold, AreWritesAllowed, given_back};
 ghost use Rattle.views.specs.shape_changes_Marking.{giving, AreOthersPresent};

@@ -15,8 +15,8 @@ ghost use Rattle.views.specs.shape_changes_Safety.{HasLiveSlot, HasRoomLeft, IsR
 ghost use Rattle.views.specs.Under.{IsRestKept};
 ghost use Rattle.views.specs.Lacking.{HaveFailedSince, AreHoldersFlushed, IsNamed, AreUnnamed};
 ghost use Rattle.bank.specs.Tape.{EachMark, disk};
-ghost use Rattle.flat_history.specs.World.{World};
-ghost use Rattle.flat_history.specs.Sound.{OpensFit};
+ghost use Rattle.views.specs.flat_history_World.{World};
+ghost use Rattle.views.specs.flat_history_Sound.{OpensFit};
 ghost use Rattle.views.specs.shape_views_Views.{Ledger};
 ghost use Rattle.views.specs.shape_changes_Kinds.{IsMarkable};
 

@@ -6,12 +6,12 @@ use Rattle.std.proofs.lemmas.List.Elements.{All-head, All-tail}
 use Rattle.std.proofs.Math.Seq.{drop-append_seam}
 use Rattle.md_base.specs.declared.answers.Who.{Who}
 use Rattle.bank.specs.declared.bank.Operation.{Operation}
-use Rattle.flat_history.specs.declared.events.Entry.{Entry}
-use Rattle.flat_history.specs.Flat.{last_of}
-use Rattle.flat_history.specs.Transfers.{last_end_from}
-use Rattle.flat_history.specs.Growing.{BeginAnother}
-use Rattle.flat_history.specs.OneShape.{IsOfCall}
-use Rattle.flat_history.specs.Seen.{Seen}
+use Rattle.running_replies.specs.flat_history_the_Entry.{Entry}
+use Rattle.running_replies.specs.flat_history_Flat.{last_of}
+use Rattle.running_replies.specs.flat_history_Transfers.{last_end_from}
+use Rattle.running_replies.specs.flat_history_Growing.{BeginAnother}
+use Rattle.running_replies.specs.flat_history_OneShape.{IsOfCall}
+use Rattle.running_replies.specs.flat_history_Seen.{Seen}
 use Rattle.history_laws.proofs.OneShapeGrowing.{none-another}
 use Rattle.seen_laws.specs.Callers.{IsWhole, RepliesFrom, IsBefore, CallsComeLater, SeenGoesOn, ShorterIsBefore}
 use Rattle.seen_laws.proofs.PlaceLaws.{last-behind, ends, goes-on, call-apart}

@@ -9,12 +9,12 @@ use Rattle.std.proofs.lemmas.Bool.Decides.{nat_tests}
 use Rattle.std.proofs.lemmas.Option.{slice_get_within}
 use Rattle.std.proofs.Math.Seq.{drop-append_seam, drop-length, take-append_seam}
 use Rattle.md_base.specs.declared.answers.Who.{Who}
-use Rattle.flat_history.specs.declared.events.Entry.{Entry}
-use Rattle.flat_history.specs.declared.events.Request.{Request}
-use Rattle.flat_history.specs.Flat.{is_same_call, rest_of_call, last_of, number_after, next_number}
-use Rattle.flat_history.specs.Growing.{BeginAnother}
-use Rattle.flat_history.specs.OneShape.{IsOfCall}
-use Rattle.flat_history.specs.Seen.{ends_call, reply_places}
+use Rattle.running_replies.specs.flat_history_the_Entry.{Entry}
+use Rattle.running_replies.specs.flat_history_the_Request.{Request}
+use Rattle.running_replies.specs.flat_history_Flat.{is_same_call, rest_of_call, last_of, number_after, next_number}
+use Rattle.running_replies.specs.flat_history_Growing.{BeginAnother}
+use Rattle.running_replies.specs.flat_history_OneShape.{IsOfCall}
+use Rattle.running_replies.specs.flat_history_Seen.{ends_call, reply_places}
 use Rattle.history_laws.proofs.OneShapeGrowing.{next-begins}
 use Rattle.seen_laws.specs.Callers.{IsReplyTo, AreReplied, IsLastOf, AreNumbered, HasCalled, IsCalled, NoneHasCalled, CallsAreCounted, CallsAreOnesOwn}
 

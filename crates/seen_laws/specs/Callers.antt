@@ -2,16 +2,16 @@
 use Rattle.std.specs.Prelude.{◌≡◌, ◌≢◌, ℕ, ◌+◌, ◌-◌, ◌≤◌, true, List, [], ◌∷◌, ◌++◌, length, map, take, drop, slice_get, MatchOption, ⊤}
 use Rattle.std.specs.List.{All}
 use Rattle.md_base.specs.declared.answers.Who.{Who}
-use Rattle.flat_history.specs.declared.events.Entry.{Entry}
-use Rattle.flat_history.specs.declared.events.Event.{Event}
-use Rattle.flat_history.specs.declared.events.Event.TheVariants.{Shown}
-use Rattle.flat_history.specs.declared.events.Request.{Request}
-use Rattle.flat_history.specs.declared.events.Request.TheVariants.{Show as AsksShow}
-use Rattle.flat_history.specs.Flat.{rest_of_call, last_of, next_number, length_of, visible_of}
-use Rattle.flat_history.specs.Legal.{last_end}
-use Rattle.flat_history.specs.Growing.{BeginAnother}
-use Rattle.flat_history.specs.OneShape.{IsOfCall}
-use Rattle.flat_history.specs.Seen.{Seen, BeginsWith, ends_call, reply_places}
+use Rattle.running_replies.specs.flat_history_the_Entry.{Entry}
+use Rattle.running_replies.specs.flat_history_the_Event.{Event}
+use Rattle.running_replies.specs.flat_history_the_Event_TheVariants.{Shown}
+use Rattle.running_replies.specs.flat_history_the_Request.{Request}
+use Rattle.running_replies.specs.flat_history_the_Request_TheVariants.{Show as AsksShow}
+use Rattle.running_replies.specs.flat_history_Flat.{rest_of_call, last_of, next_number, length_of, visible_of}
+use Rattle.running_replies.specs.flat_history_Legal.{last_end}
+use Rattle.running_replies.specs.flat_history_Growing.{BeginAnother}
+use Rattle.running_replies.specs.flat_history_OneShape.{IsOfCall}
+use Rattle.running_replies.specs.flat_history_Seen.{Seen, BeginsWith, ends_call, reply_places}
 use Rattle.running_replies.specs.Replies.{RunningFits}
 
 -- ---- what was seen

@@ -4,12 +4,12 @@ use Rattle.md_base.specs.Shapes.{has_slot}
 use Rattle.bank.specs.declared.bank.Operation.{Operation}
 use Rattle.bank.specs.Given.{Given}
 use Rattle.bank.specs.Tape.{EachMark, disk}
-use Rattle.superblocks.specs.declared.change.Change.{Change}
-use Rattle.superblocks.specs.declared.members.Members.{Members}
-use Rattle.superblocks.specs.Updating.{IsUpdate, IsWrittenBy, AreNamed, IsSomeLeft}
-use Rattle.superblocks.specs.Outcome.{with_added, live_set, is_left, AreStored}
-use Rattle.superblocks.specs.Rounds.{round_at}
-use Rattle.superblocks.specs.Losing.{IsInTurns, ArePastTurns}
+use Rattle.shape_views.specs.superblocks_the_Change.{Change}
+use Rattle.shape_views.specs.superblocks_the_Members.{Members}
+use Rattle.shape_views.specs.superblocks_Updating.{IsUpdate, IsWrittenBy, AreNamed, IsSomeLeft}
+use Rattle.shape_views.specs.superblocks_Outcome.{with_added, live_set, is_left, AreStored}
+use Rattle.shape_views.specs.superblocks_Rounds.{round_at}
+use Rattle.shape_views.specs.superblocks_Losing.{IsInTurns, ArePastTurns}
 use Rattle.shape_changes.specs.Changing.{IsChanged}
 use Rattle.shape_changes.specs.Called.{HasUpdated, UpdateIsChange}
 

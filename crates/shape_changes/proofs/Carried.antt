@@ -12,19 +12,19 @@ use Rattle.bank.specs.declared.bank.Operation.{Operation}
 use Rattle.bank.specs.Given.{Given}
 use Rattle.bank.specs.Tape.{IsIn, disk}
 use Rattle.bank.proofs.Laws.{kept_in}
-use Rattle.superblocks.specs.declared.change.Give.{Give}
-use Rattle.superblocks.specs.declared.change.Give.TheVariants.{Same}
-use Rattle.superblocks.specs.declared.change.Change.{Change}
-use Rattle.superblocks.specs.declared.members.Members.{Members}
-use Rattle.superblocks.specs.Reading.{Scope, is_seen}
-use Rattle.superblocks.specs.Update.{planned, give_of, own_in, is_live, is_added}
-use Rattle.superblocks.specs.Writing.{IsFirstSector, IsPlanned}
-use Rattle.superblocks.specs.Updating.{IsTouched, IsUpdate, IsWrittenBy}
-use Rattle.superblocks.specs.Outcome.{is_in_update, live_set, IsPlannedOwn, AreStored}
-use Rattle.superblocks.specs.Held.{MayRead, IsSecondHalf, IsKnown}
-use Rattle.superblocks.proofs.PlannedSb.{planned-of}
-use Rattle.superblocks.proofs.SlotSets.{has-set_of}
-use Rattle.superblocks.proofs.WrittenReads.{planned-stamped}
+use Rattle.shape_views.specs.superblocks_the_Give.{Give}
+use Rattle.shape_views.specs.superblocks_the_Give_TheVariants.{Same}
+use Rattle.shape_views.specs.superblocks_the_Change.{Change}
+use Rattle.shape_views.specs.superblocks_the_Members.{Members}
+use Rattle.shape_views.specs.superblocks_Reading.{Scope, is_seen}
+use Rattle.shape_views.specs.superblocks_Update.{planned, give_of, own_in, is_live, is_added}
+use Rattle.shape_views.specs.superblocks_Writing.{IsFirstSector, IsPlanned}
+use Rattle.shape_views.specs.superblocks_Updating.{IsTouched, IsUpdate, IsWrittenBy}
+use Rattle.shape_views.specs.superblocks_Outcome.{is_in_update, live_set, IsPlannedOwn, AreStored}
+use Rattle.shape_views.specs.superblocks_Held.{MayRead, IsSecondHalf, IsKnown}
+use Rattle.shape_views.proofs.superblocks_PlannedSb.{planned-of}
+use Rattle.shape_views.proofs.superblocks_SlotSets.{has-set_of}
+use Rattle.shape_views.proofs.superblocks_WrittenReads.{planned-stamped}
 use Rattle.shape_changes.specs.Marking.{marking}
 use Rattle.shape_changes.specs.Rounds.{IsHeldSince}
 use Rattle.shape_changes.specs.Carried.{AreCarried}

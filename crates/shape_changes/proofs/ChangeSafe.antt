@@ -8,22 +8,22 @@ use Rattle.sb1.specs.declared.sb.Sb.{Sb}
 use Rattle.bank.specs.declared.bank.Operation.{Operation}
 use Rattle.bank.specs.Given.{Given}
 use Rattle.bank.specs.Tape.{Contents, EachMark, disk}
-use Rattle.superblocks.specs.declared.change.Change.{Change}
-use Rattle.superblocks.specs.declared.members.Members.{Members}
-use Rattle.superblocks.specs.Reading.{Scope}
-use Rattle.superblocks.specs.Update.{is_live}
-use Rattle.superblocks.specs.Updating.{IsSomeLeft, IsLater, AreNamed, planned_newest}
-use Rattle.superblocks.specs.Outcome.{live_set, AreGivesOfLive}
-use Rattle.superblocks.specs.Held.{AreDrawn}
-use Rattle.superblocks.specs.Stages.{AreLeft, AreKept}
-use Rattle.superblock_reads.specs.Following.{AreHeldAlone}
-use Rattle.superblocks.specs.Rounds.{round_at, IsReady}
-use Rattle.superblocks.specs.Crash.{IsWithin}
-use Rattle.superblock_reads.specs.Said.{AreSaidAsPlanned}
-use Rattle.superblocks.proofs.ReadLists.{by_bool}
-use Rattle.superblock_reads.proofs.RoundReads.{left_set}
+use Rattle.shape_views.specs.superblocks_the_Change.{Change}
+use Rattle.shape_views.specs.superblocks_the_Members.{Members}
+use Rattle.shape_views.specs.superblocks_Reading.{Scope}
+use Rattle.shape_views.specs.superblocks_Update.{is_live}
+use Rattle.shape_views.specs.superblocks_Updating.{IsSomeLeft, IsLater, AreNamed, planned_newest}
+use Rattle.shape_views.specs.superblocks_Outcome.{live_set, AreGivesOfLive}
+use Rattle.shape_views.specs.superblocks_Held.{AreDrawn}
+use Rattle.shape_views.specs.superblocks_Stages.{AreLeft, AreKept}
+use Rattle.shape_views.specs.superblock_reads_Following.{AreHeldAlone}
+use Rattle.shape_views.specs.superblocks_Rounds.{round_at, IsReady}
+use Rattle.shape_views.specs.superblocks_Crash.{IsWithin}
+use Rattle.shape_views.specs.superblock_reads_Said.{AreSaidAsPlanned}
+use Rattle.shape_views.proofs.superblocks_ReadLists.{by_bool}
+use Rattle.shape_views.proofs.superblock_reads_RoundReads.{left_set}
 use Rattle.superblock_laws.proofs.Laws.{turning-reads, turning-follows}
-use Rattle.row_io.specs.Rows.{members_without}
+use Rattle.shape_views.specs.row_io_Rows.{members_without}
 use Rattle.shape_views.specs.Views.{Disk, Ledger, IsViewRight, IsSeenRight}
 use Rattle.shape_changes.specs.Marking.{marking}
 use Rattle.shape_changes.specs.Held.{IsHeldBy}

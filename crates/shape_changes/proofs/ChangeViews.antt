@@ -10,23 +10,23 @@ use Rattle.sb1.specs.Superblock.{checksum}
 use Rattle.sb1.specs.Writable.{IsWritable}
 use Rattle.bank.specs.Given.{Given}
 use Rattle.bank.specs.Tape.{Contents}
-use Rattle.superblocks.specs.declared.change.Give.{Give}
-use Rattle.superblocks.specs.declared.change.Give.TheVariants.{Same, Spare}
-use Rattle.superblocks.specs.declared.change.Give.TheVariants as give
-use Rattle.superblocks.specs.declared.change.Change.{Change}
-use Rattle.superblocks.specs.declared.members.Members.{Members}
-use Rattle.superblocks.specs.Reading.{Scope, is_reshaping, role_state, rows_held, holder, own_of}
-use Rattle.superblocks.specs.Reads.{SaysSame, IsReadAs, roles_refusal}
-use Rattle.superblocks.specs.Update.{planned, with_give, give_of, own_in, is_live, is_added}
-use Rattle.superblocks.specs.Updating.{planned_newest, IsLater}
-use Rattle.superblocks.specs.Outcome.{live_set, is_left, IsStored, IsPlannedOwn, AreLive, AreStored, AreGivesOfLive, planned_roles, planned_spares}
-use Rattle.superblocks.specs.Held.{IsStamped, known_of, said_by}
-use Rattle.superblocks.specs.Stages.{AreLeft, AreKept}
-use Rattle.superblock_reads.specs.Said.{AreSaid}
-use Rattle.superblocks.proofs.ReadAlike.{count-same, refused-same}
-use Rattle.superblock_reads.proofs.SaidSlots.{read-own, role-said, role-known}
-use Rattle.row_io.specs.Rows.{reading_of, is_missing}
-use Rattle.flat_history.specs.Stands.{backup_absent}
+use Rattle.shape_views.specs.superblocks_the_Give.{Give}
+use Rattle.shape_views.specs.superblocks_the_Give_TheVariants.{Same, Spare}
+use Rattle.shape_views.specs.superblocks_the_Give_TheVariants as give
+use Rattle.shape_views.specs.superblocks_the_Change.{Change}
+use Rattle.shape_views.specs.superblocks_the_Members.{Members}
+use Rattle.shape_views.specs.superblocks_Reading.{Scope, is_reshaping, role_state, rows_held, holder, own_of}
+use Rattle.shape_views.specs.superblocks_Reads.{SaysSame, IsReadAs, roles_refusal}
+use Rattle.shape_views.specs.superblocks_Update.{planned, with_give, give_of, own_in, is_live, is_added}
+use Rattle.shape_views.specs.superblocks_Updating.{planned_newest, IsLater}
+use Rattle.shape_views.specs.superblocks_Outcome.{live_set, is_left, IsStored, IsPlannedOwn, AreLive, AreStored, AreGivesOfLive, planned_roles, planned_spares}
+use Rattle.shape_views.specs.superblocks_Held.{IsStamped, known_of, said_by}
+use Rattle.shape_views.specs.superblocks_Stages.{AreLeft, AreKept}
+use Rattle.shape_views.specs.superblock_reads_Said.{AreSaid}
+use Rattle.shape_views.proofs.superblocks_ReadAlike.{count-same, refused-same}
+use Rattle.shape_views.proofs.superblock_reads_SaidSlots.{read-own, role-said, role-known}
+use Rattle.shape_views.specs.row_io_Rows.{reading_of, is_missing}
+use Rattle.shape_views.specs.flat_history_Stands.{backup_absent}
 use Rattle.shape_views.specs.Regions.{AreShapesFit, ArePlaced, IsReadOf}
 use Rattle.shape_views.specs.Views.{Ledger}
 use Rattle.shape_changes.specs.Updates.{planned_view, IsLessView, HasOneHolder}

@@ -4,9 +4,9 @@ use Rattle.bank.specs.declared.bank.Operation.{Operation}
 use Rattle.bank.specs.Given.{Given}
 use Rattle.bank.specs.Tape.{Contents, IsIn, disk, value_after}
 use Rattle.bank.proofs.Images.{disk-some}
-use Rattle.superblocks.specs.Reading.{Scope, is_seen}
-use Rattle.superblocks.specs.Held.{AreDrawn}
-use Rattle.flat_history.proofs.SameLaws.{HaveSameMembers, read-same}
+use Rattle.shape_views.specs.superblocks_Reading.{Scope, is_seen}
+use Rattle.shape_views.specs.superblocks_Held.{AreDrawn}
+use Rattle.shape_views.proofs.flat_history_SameLaws.{HaveSameMembers, read-same}
 use Rattle.shape_views.specs.Views.{Disk, Ledger, IsSeenRight}
 use Rattle.shape_views.specs.Windows.{IsSomewhere}
 use Rattle.shape_changes.specs.Steady.{AreDrawnSuperblocks, AreViewsRight}

@@ -7,11 +7,11 @@ use Rattle.md_base.specs.declared.status.Role.{Role}
 use Rattle.md_base.specs.declared.status.Role.TheVariants.{Whole, Recovering, Missing}
 use Rattle.bank.specs.Given.{Given}
 use Rattle.bank.specs.Tape.{IsIn, disk}
-use Rattle.superblocks.specs.declared.members.Members.{Members}
+use Rattle.shape_views.specs.superblocks_the_Members.{Members}
 use Rattle.layout.specs.Layout.{place}
-use Rattle.superblocks.specs.Reading.{Scope, final_shape, role_state, rows_held, holder, data_offset_of}
-use Rattle.row_io.specs.Rows.{reading_of, held_slot, role_without, members_without}
-use Rattle.row_io.proofs.Losses.{holder-of, state_after}
+use Rattle.shape_views.specs.superblocks_Reading.{Scope, final_shape, role_state, rows_held, holder, data_offset_of}
+use Rattle.shape_views.specs.row_io_Rows.{reading_of, held_slot, role_without, members_without}
+use Rattle.shape_views.proofs.row_io_Losses.{holder-of, state_after}
 use Rattle.shape_views.specs.Regions.{backup_of, place_by, ArePlaced}
 use Rattle.shape_views.specs.Views.{Disk, Ledger, IsViewRight}
 use Rattle.shape_views.specs.Windows.{IsSomewhere, IsLess, IsWrittenAt}

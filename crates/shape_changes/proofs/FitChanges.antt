@@ -1,8 +1,8 @@
 -- A fit update makes a change that fits the superblocks that are held.
 use Rattle.std.proofs.Common.{◌≡◌, ◌&&◌, Bool, true, false, not, refl, sym, ◌∙◌}
 use Rattle.md_base.specs.Shapes.{has_slot}
-use Rattle.superblocks.specs.Outcome.{live_set}
-use Rattle.row_io.specs.Rows.{members_without}
+use Rattle.shape_views.specs.superblocks_Outcome.{live_set}
+use Rattle.shape_views.specs.row_io_Rows.{members_without}
 use Rattle.shape_changes.specs.Kinds.{FitUpdateIsFitChange}
 use Rattle.shape_changes.proofs.Started.{Lost, fits-of}
 

@@ -6,8 +6,8 @@ use Rattle.md_base.specs.declared.places.Shape.{Shape}
 use Rattle.md_base.specs.Shapes.{is_level, is_layout, is_chunk, is_disk_count, is_multiple, is_valid_shape}
 use Rattle.geometry.specs.Geometry.{is_size}
 use Rattle.sb1.specs.declared.sb.Sb.{Sb}
-use Rattle.superblocks.specs.Reading.{is_reshaping, shape_of, final_shape, list_length, count_of}
-use Rattle.superblocks.specs.Verdict.{judged_fields, is_bad_size}
+use Rattle.shape_views.specs.superblocks_Reading.{is_reshaping, shape_of, final_shape, list_length, count_of}
+use Rattle.shape_views.specs.superblocks_Verdict.{judged_fields, is_bad_size}
 use Rattle.shape_views.specs.Regions.{AreShapesFit}
 
 four : (a b c d : Bool) → (a && b && c && d) ≡ true → (a ≡ true) × (b ≡ true) × (c ≡ true) × (d ≡ true)

@@ -7,21 +7,21 @@ use Rattle.md_base.proofs.Tabulated.{length-tabulate, get_or-tabulate}
 use Rattle.md_base.specs.declared.status.Role.{Role}
 use Rattle.md_base.specs.declared.status.Role.TheVariants.{Whole, Recovering, Missing}
 use Rattle.sb1.specs.declared.sb.Sb.{Sb}
-use Rattle.superblocks.specs.declared.change.Give.{Give}
-use Rattle.superblocks.specs.declared.change.Give.TheVariants.{Same}
-use Rattle.superblocks.specs.declared.change.Give.TheVariants as give
-use Rattle.superblocks.specs.declared.change.Change.{Change}
-use Rattle.superblocks.specs.declared.members.Members.{Members}
-use Rattle.superblocks.specs.Reading.{Scope, reading_by, role_state, is_fresh, is_recovering, entry_of, holds_role, lies_within, role_count, holder, holder_from}
-use Rattle.superblocks.specs.Reads.{held_in, spare_in, has_spare}
-use Rattle.superblocks.specs.Update.{give_of, own_in, is_held_by, is_live, is_added, is_recovery, planned_role, is_planned_spare}
-use Rattle.superblocks.specs.Outcome.{is_in_update, AreGivesOfLive}
-use Rattle.superblocks.specs.Held.{known_of}
-use Rattle.superblocks.specs.Plans.{KeepsRecovery}
-use Rattle.superblocks.proofs.ReadLists.{spares-at}
-use Rattle.superblock_reads.proofs.SaidLists.{role-holder, state-here}
-use Rattle.superblock_reads.proofs.SaidSlots.{below-length, listed, roles-count, role-said, role-known}
-use Rattle.row_io.specs.Rows.{members_without}
+use Rattle.shape_views.specs.superblocks_the_Give.{Give}
+use Rattle.shape_views.specs.superblocks_the_Give_TheVariants.{Same}
+use Rattle.shape_views.specs.superblocks_the_Give_TheVariants as give
+use Rattle.shape_views.specs.superblocks_the_Change.{Change}
+use Rattle.shape_views.specs.superblocks_the_Members.{Members}
+use Rattle.shape_views.specs.superblocks_Reading.{Scope, reading_by, role_state, is_fresh, is_recovering, entry_of, holds_role, lies_within, role_count, holder, holder_from}
+use Rattle.shape_views.specs.superblocks_Reads.{held_in, spare_in, has_spare}
+use Rattle.shape_views.specs.superblocks_Update.{give_of, own_in, is_held_by, is_live, is_added, is_recovery, planned_role, is_planned_spare}
+use Rattle.shape_views.specs.superblocks_Outcome.{is_in_update, AreGivesOfLive}
+use Rattle.shape_views.specs.superblocks_Held.{known_of}
+use Rattle.shape_views.specs.superblocks_Plans.{KeepsRecovery}
+use Rattle.shape_views.proofs.superblocks_ReadLists.{spares-at}
+use Rattle.shape_views.proofs.superblock_reads_SaidLists.{role-holder, state-here}
+use Rattle.shape_views.proofs.superblock_reads_SaidSlots.{below-length, listed, roles-count, role-said, role-known}
+use Rattle.shape_views.specs.row_io_Rows.{members_without}
 use Rattle.shape_views.specs.Views.{Disk}
 use Rattle.shape_changes.specs.Held.{IsHeldBy}
 use Rattle.shape_changes.specs.Changing.{IsFitUpdate}

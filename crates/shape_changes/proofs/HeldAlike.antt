@@ -3,10 +3,10 @@ use Rattle.std.proofs.Common.{◌≡◌, inl, inr, ℕ, List, Option, Some, subs
 use Rattle.md_base.specs.Sectors.{Sector}
 use Rattle.sb1.specs.declared.sb.Sb.{Sb}
 use Rattle.bank.specs.Tape.{Contents, IsIn}
-use Rattle.superblocks.specs.declared.members.Members.{Members}
-use Rattle.superblocks.specs.Reading.{Scope}
-use Rattle.superblocks.specs.Update.{own_in}
-use Rattle.superblocks.specs.Held.{AreDrawn, MayRead, IsKnown, Shows, AreHeld}
+use Rattle.shape_views.specs.superblocks_the_Members.{Members}
+use Rattle.shape_views.specs.superblocks_Reading.{Scope}
+use Rattle.shape_views.specs.superblocks_Update.{own_in}
+use Rattle.shape_views.specs.superblocks_Held.{AreDrawn, MayRead, IsKnown, Shows, AreHeld}
 use Rattle.shape_changes.specs.Held.{IsHeldBy}
 
 module _ (scope : Scope) (d e : ℕ → ℕ → List Sector) (eighth : (s : ℕ) → e s 8 ≡ d s 8) (ninth : (s : ℕ) → e s 9 ≡ d s 9) where

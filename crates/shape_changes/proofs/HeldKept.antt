@@ -9,13 +9,13 @@ use Rattle.bank.specs.declared.bank.Operation.TheVariants.{Write, Flush}
 use Rattle.bank.specs.Tape.{Contents, IsIn, EachMark, disk, run, value_after}
 use Rattle.bank.proofs.Images.{disk-some}
 use Rattle.bank.proofs.Marks.{Along, each_mark-along}
-use Rattle.superblocks.specs.declared.members.Members.{Members}
-use Rattle.superblocks.specs.Reading.{Scope, is_seen, of_array}
-use Rattle.superblocks.specs.Update.{own_in}
-use Rattle.superblocks.specs.Held.{MayRead, IsKnown, Shows, AreHeld, said_by}
-use Rattle.superblocks.specs.Crash.{EachReads}
-use Rattle.flat_history.specs.Same.{IsElsewhere}
-use Rattle.flat_history.proofs.SameLaws.{read-same}
+use Rattle.shape_views.specs.superblocks_the_Members.{Members}
+use Rattle.shape_views.specs.superblocks_Reading.{Scope, is_seen, of_array}
+use Rattle.shape_views.specs.superblocks_Update.{own_in}
+use Rattle.shape_views.specs.superblocks_Held.{MayRead, IsKnown, Shows, AreHeld, said_by}
+use Rattle.shape_views.specs.superblocks_Crash.{EachReads}
+use Rattle.shape_views.specs.flat_history_Same.{IsElsewhere}
+use Rattle.shape_views.proofs.flat_history_SameLaws.{read-same}
 use Rattle.shape_changes.specs.Steady.{AreDrawnSuperblocks}
 use Rattle.shape_changes.specs.Held.{IsHeldBy, AreElsewhere}
 use Rattle.shape_views.specs.Windows.{IsSomewhere}

@@ -9,14 +9,14 @@ use Rattle.md_base.specs.declared.status.Role.{Role}
 use Rattle.md_base.specs.declared.status.Role.TheVariants.{Whole, Recovering, Missing}
 use Rattle.md_base.proofs.Tabulated.{length-tabulate, get_or-tabulate}
 use Rattle.sb1.specs.declared.sb.Sb.{Sb}
-use Rattle.superblocks.specs.declared.change.Give.{Give}
-use Rattle.superblocks.specs.declared.change.Give.TheVariants.{Same}
-use Rattle.superblocks.specs.declared.change.Change.{Change}
-use Rattle.superblocks.specs.declared.members.Members.{Members}
-use Rattle.superblocks.specs.Reading.{role_count, role_state, rows_held, holder, is_whole}
-use Rattle.superblocks.specs.Update.{with_give, give_of, own_in}
-use Rattle.superblocks.specs.Outcome.{is_planned_holder, held_state, planned_state}
-use Rattle.row_io.specs.Rows.{reading_of, role_without, members_without}
+use Rattle.shape_views.specs.superblocks_the_Give.{Give}
+use Rattle.shape_views.specs.superblocks_the_Give_TheVariants.{Same}
+use Rattle.shape_views.specs.superblocks_the_Change.{Change}
+use Rattle.shape_views.specs.superblocks_the_Members.{Members}
+use Rattle.shape_views.specs.superblocks_Reading.{role_count, role_state, rows_held, holder, is_whole}
+use Rattle.shape_views.specs.superblocks_Update.{with_give, give_of, own_in}
+use Rattle.shape_views.specs.superblocks_Outcome.{is_planned_holder, held_state, planned_state}
+use Rattle.shape_views.specs.row_io_Rows.{reading_of, role_without, members_without}
 use Rattle.shape_changes.specs.Updates.{planned_view, IsLessView}
 use Rattle.shape_changes.proofs.ChangeViews.{says-itself}
 use Rattle.shape_changes.proofs.PlannedRoles.{says-shared, planned-holds}

@@ -7,21 +7,21 @@ use Rattle.sb1.specs.declared.sb.Sb.{Sb}
 use Rattle.bank.specs.declared.bank.Operation.{Operation}
 use Rattle.bank.specs.Given.{Given}
 use Rattle.bank.specs.Tape.{disk}
-use Rattle.superblocks.specs.declared.change.Give.{Give}
-use Rattle.superblocks.specs.declared.change.Give.TheVariants.{Same}
-use Rattle.superblocks.specs.declared.change.Give.TheVariants as give
-use Rattle.superblocks.specs.declared.change.Change.{Change}
-use Rattle.superblocks.specs.declared.members.Members.{Members}
+use Rattle.shape_views.specs.superblocks_the_Give.{Give}
+use Rattle.shape_views.specs.superblocks_the_Give_TheVariants.{Same}
+use Rattle.shape_views.specs.superblocks_the_Give_TheVariants as give
+use Rattle.shape_views.specs.superblocks_the_Change.{Change}
+use Rattle.shape_views.specs.superblocks_the_Members.{Members}
 use Rattle.md_base.specs.declared.answers.Refusal.TheVariants.{PositionNotOnUnit}
 use Rattle.md_base.specs.Shapes.{is_multiple, is_valid_shape}
 use Rattle.geometry.specs.Geometry.{unit, is_size}
-use Rattle.superblocks.specs.Reading.{Scope, shape_of, final_shape, role_count}
-use Rattle.superblocks.specs.Reads.{SaysSame}
-use Rattle.superblocks.specs.Verdict.{off_unit}
-use Rattle.superblocks.specs.Update.{is_recovery}
-use Rattle.superblocks.specs.Updating.{planned_newest}
-use Rattle.row_io.specs.Rows.{reading_of, is_missing, members_without}
-use Rattle.flat_history.specs.Stands.{backup_absent}
+use Rattle.shape_views.specs.superblocks_Reading.{Scope, shape_of, final_shape, role_count}
+use Rattle.shape_views.specs.superblocks_Reads.{SaysSame}
+use Rattle.shape_views.specs.superblocks_Verdict.{off_unit}
+use Rattle.shape_views.specs.superblocks_Update.{is_recovery}
+use Rattle.shape_views.specs.superblocks_Updating.{planned_newest}
+use Rattle.shape_views.specs.row_io_Rows.{reading_of, is_missing, members_without}
+use Rattle.shape_views.specs.flat_history_Stands.{backup_absent}
 use Rattle.shape_views.specs.Regions.{AreShapesFit, ArePlaced}
 use Rattle.shape_views.specs.Views.{Disk, Ledger, IsTail, IsViewRight}
 use Rattle.shape_views.specs.Windows.{moved_past}

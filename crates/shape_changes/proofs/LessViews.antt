@@ -11,14 +11,14 @@ use Rattle.bank.specs.Tape.{Contents, IsIn}
 use Rattle.layout.specs.Layout.{place, stripe_of}
 use Rattle.geometry.specs.Geometry.{side}
 use Rattle.sb1.specs.declared.sb.Sb.{Sb}
-use Rattle.superblocks.specs.declared.members.Members.{Members}
-use Rattle.superblocks.specs.Reading.{Scope, is_clean, is_backward, shape_of, final_shape, list_length, role_state, rows_held, holder, data_offset_of}
-use Rattle.superblocks.specs.Reads.{SaysSame}
-use Rattle.row_io.specs.Rows.{reading_of, is_missing, held_slot, IsTolerated}
-use Rattle.row_io.proofs.Losses.{holder-of}
-use Rattle.list_io.specs.Full.{RowStands}
-use Rattle.flat_history.specs.ActiveSection.{section_for}
-use Rattle.flat_history.specs.Stands.{shape_for, covers}
+use Rattle.shape_views.specs.superblocks_the_Members.{Members}
+use Rattle.shape_views.specs.superblocks_Reading.{Scope, is_clean, is_backward, shape_of, final_shape, list_length, role_state, rows_held, holder, data_offset_of}
+use Rattle.shape_views.specs.superblocks_Reads.{SaysSame}
+use Rattle.shape_views.specs.row_io_Rows.{reading_of, is_missing, held_slot, IsTolerated}
+use Rattle.shape_views.proofs.row_io_Losses.{holder-of}
+use Rattle.shape_views.specs.list_io_Full.{RowStands}
+use Rattle.shape_views.specs.flat_history_ActiveSection.{section_for}
+use Rattle.shape_views.specs.flat_history_Stands.{shape_for, covers}
 use Rattle.shape_views.specs.Regions.{header_in, open_by, place_by, DoWithout}
 use Rattle.shape_views.specs.Views.{Disk, IsHeaderFit, IsTail, IsOutside, IsSettled}
 use Rattle.shape_changes.specs.Updates.{IsLessView, LessStaysRight, UpdatesAreSeenRight, AlikeStands, EndsPlaceAll}

@@ -24,3 +24,50 @@ pub mod Stretch
 pub mod UpdateViews
 pub mod Without
 pub mod WriteSafe
+pub use Rattle.shape_views.proofs.Alike as shape_views_Alike
+pub use Rattle.superblock_laws.proofs.Laws as superblock_laws_Laws
+pub use Rattle.superblock_laws.proofs.MadeWholeSaid as superblock_laws_MadeWholeSaid
+pub use Rattle.shape_views.proofs.row_io_Losses
+pub use Rattle.shape_views.proofs.superblock_reads_SaidLists
+pub use Rattle.shape_views.proofs.superblock_reads_SaidSlots
+pub use Rattle.shape_views.proofs.superblock_reads_RoundReads
+pub use Rattle.shape_views.proofs.superblock_reads_RoundsRead
+pub use Rattle.shape_views.proofs.superblocks_ReadAlike
+pub use Rattle.shape_views.proofs.superblocks_ReadLists
+pub use Rattle.shape_views.proofs.Stands as shape_views_Stands
+pub use Rattle.shape_views.proofs.UnderWay as shape_views_UnderWay
+pub use Rattle.shape_views.proofs.WindowLaws as shape_views_WindowLaws
+pub use Rattle.shape_views.proofs.Headers as shape_views_Headers
+pub use Rattle.shape_views.proofs.Tails as shape_views_Tails
+pub use Rattle.shape_views.proofs.SoundViews as shape_views_SoundViews
+pub use Rattle.shape_views.proofs.list_io_FullLaws
+pub use Rattle.shape_views.proofs.Judged as shape_views_Judged
+pub use Rattle.shape_views.proofs.BackupLaws as shape_views_BackupLaws
+pub use Rattle.shape_views.proofs.Standing as shape_views_Standing
+pub use Rattle.shape_views.proofs.flat_history_SoundLaws
+pub use Rattle.shape_views.proofs.flat_history_SameLaws
+pub use Rattle.shape_views.proofs.row_io_Tables
+pub use Rattle.shape_views.proofs.row_io_NewRow
+pub use Rattle.shape_views.proofs.row_io_Written
+pub use Rattle.shape_views.proofs.superblocks_SlotSets
+pub use Rattle.shape_views.proofs.superblocks_StoredSlots
+pub use Rattle.shape_views.proofs.superblocks_ValidFields
+pub use Rattle.shape_views.proofs.superblocks_UpdateReads
+pub use Rattle.shape_views.proofs.superblocks_PlannedSb
+pub use Rattle.shape_views.proofs.flat_history_OneShapeLegal
+pub use Rattle.shape_views.proofs.flat_history_LegalLaws
+pub use Rattle.shape_views.proofs.flat_history_GoneCounts
+pub use Rattle.shape_views.proofs.superblock_reads_PlanFits
+pub use Rattle.superblock_laws.proofs.AddedReads as superblock_laws_AddedReads
+pub use Rattle.superblock_laws.proofs.AddedRounds as superblock_laws_AddedRounds
+pub use Rattle.superblock_laws.proofs.AddingStarts as superblock_laws_AddingStarts
+pub use Rattle.shape_views.proofs.superblock_reads_StageReads
+pub use Rattle.shape_views.proofs.superblock_reads_Following
+pub use Rattle.shape_views.proofs.superblock_reads_UpTo
+pub use Rattle.shape_views.proofs.superblock_reads_Tied
+pub use Rattle.shape_views.proofs.row_io_Apart
+pub use Rattle.shape_views.proofs.superblock_reads_Accepted
+pub use Rattle.shape_views.proofs.superblock_reads_FoundHeld
+pub use Rattle.shape_views.proofs.flat_history_GivenLaws
+pub use Rattle.shape_views.proofs.flat_history_SettledLaws
+pub use Rattle.shape_views.proofs.flat_history_OneShapeGone

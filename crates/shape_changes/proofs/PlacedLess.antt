@@ -6,11 +6,11 @@ use Rattle.md_base.specs.Sectors.{Sector}
 use Rattle.bank.specs.Tape.{Contents, IsIn}
 use Rattle.layout.specs.Layout.{place}
 use Rattle.layout.proofs.Places.{place-role_below}
-use Rattle.superblocks.specs.declared.members.Members.{Members}
-use Rattle.superblocks.specs.Reading.{Scope, final_shape, list_length}
-use Rattle.row_io.specs.Rows.{reading_of, held_slot}
-use Rattle.list_io.specs.Full.{RowStands}
-use Rattle.flat_history.specs.Stands.{shape_for, covers}
+use Rattle.shape_views.specs.superblocks_the_Members.{Members}
+use Rattle.shape_views.specs.superblocks_Reading.{Scope, final_shape, list_length}
+use Rattle.shape_views.specs.row_io_Rows.{reading_of, held_slot}
+use Rattle.shape_views.specs.list_io_Full.{RowStands}
+use Rattle.shape_views.specs.flat_history_Stands.{shape_for, covers}
 use Rattle.shape_views.specs.Regions.{backup_of, header_in, place_by}
 use Rattle.shape_views.specs.Views.{Disk, IsOutside}
 use Rattle.shape_changes.specs.Giving.{IsPlacedLess, PlacedLessIsRight}

@@ -9,23 +9,23 @@ use Rattle.md_base.specs.declared.status.Role.{Role}
 use Rattle.md_base.specs.declared.status.Role.TheVariants.{Missing}
 use Rattle.md_base.proofs.Least.{least_below-only}
 use Rattle.md_base.proofs.Tabulated.{length-tabulate, get_or-tabulate}
-use Rattle.superblocks.specs.declared.change.Give.{Give}
-use Rattle.superblocks.specs.declared.change.Give.TheVariants.{Same, Spare}
-use Rattle.superblocks.specs.declared.change.Give.TheVariants as give
-use Rattle.superblocks.specs.declared.change.Change.{Change}
-use Rattle.superblocks.specs.declared.members.Members.{Members}
-use Rattle.superblocks.specs.Reading.{role_count, holder}
-use Rattle.superblocks.specs.Reads.{SaysSame, has_spare}
-use Rattle.superblocks.specs.Update.{give_of, is_held_by, is_live, is_added, role_from, planned_role, is_planned_spare}
-use Rattle.superblocks.specs.Updating.{planned_newest}
-use Rattle.superblocks.specs.Outcome.{is_in_update, live_set, AreGivesOfLive, is_same, is_planned_holder, held_state, planned_state, planned_roles, planned_spares}
-use Rattle.superblocks.proofs.PlannedSb.{planned-of}
-use Rattle.superblocks.proofs.ReadAlike.{count-same}
-use Rattle.superblocks.proofs.ReadLists.{by_bool}
-use Rattle.superblock_reads.proofs.SaidLists.{role-holder}
-use Rattle.superblock_reads.proofs.SaidSlots.{below-length, has-slots_below}
-use Rattle.superblocks.proofs.SlotSets.{some_role}
-use Rattle.row_io.specs.Rows.{role_without}
+use Rattle.shape_views.specs.superblocks_the_Give.{Give}
+use Rattle.shape_views.specs.superblocks_the_Give_TheVariants.{Same, Spare}
+use Rattle.shape_views.specs.superblocks_the_Give_TheVariants as give
+use Rattle.shape_views.specs.superblocks_the_Change.{Change}
+use Rattle.shape_views.specs.superblocks_the_Members.{Members}
+use Rattle.shape_views.specs.superblocks_Reading.{role_count, holder}
+use Rattle.shape_views.specs.superblocks_Reads.{SaysSame, has_spare}
+use Rattle.shape_views.specs.superblocks_Update.{give_of, is_held_by, is_live, is_added, role_from, planned_role, is_planned_spare}
+use Rattle.shape_views.specs.superblocks_Updating.{planned_newest}
+use Rattle.shape_views.specs.superblocks_Outcome.{is_in_update, live_set, AreGivesOfLive, is_same, is_planned_holder, held_state, planned_state, planned_roles, planned_spares}
+use Rattle.shape_views.proofs.superblocks_PlannedSb.{planned-of}
+use Rattle.shape_views.proofs.superblocks_ReadAlike.{count-same}
+use Rattle.shape_views.proofs.superblocks_ReadLists.{by_bool}
+use Rattle.shape_views.proofs.superblock_reads_SaidLists.{role-holder}
+use Rattle.shape_views.proofs.superblock_reads_SaidSlots.{below-length, has-slots_below}
+use Rattle.shape_views.proofs.superblocks_SlotSets.{some_role}
+use Rattle.shape_views.specs.row_io_Rows.{role_without}
 use Rattle.shape_changes.specs.Marking.{marking}
 use Rattle.shape_changes.specs.Updates.{HasOneHolder}
 use Rattle.shape_changes.proofs.PlansLose.{found-passes, same-role}

@@ -9,13 +9,13 @@ use Rattle.md_base.specs.declared.status.Role.TheVariants.{Whole, Recovering, Mi
 use Rattle.md_base.specs.Search.{tabulate, least_below}
 use Rattle.md_base.specs.Shapes.{has_slot}
 use Rattle.md_base.proofs.Tabulated.{length-tabulate, get_or-tabulate}
-use Rattle.superblocks.specs.declared.change.Change.{Change}
-use Rattle.superblocks.specs.declared.members.Members.{Members}
-use Rattle.superblocks.specs.Reading.{role_count, role_state, rows_held, holder, is_whole}
-use Rattle.superblocks.specs.Update.{give_of, planned_role}
-use Rattle.superblocks.specs.Outcome.{is_same, is_planned_holder, held_state, planned_state}
-use Rattle.superblocks.proofs.ReadAlike.{none_below}
-use Rattle.row_io.specs.Rows.{reading_of}
+use Rattle.shape_views.specs.superblocks_the_Change.{Change}
+use Rattle.shape_views.specs.superblocks_the_Members.{Members}
+use Rattle.shape_views.specs.superblocks_Reading.{role_count, role_state, rows_held, holder, is_whole}
+use Rattle.shape_views.specs.superblocks_Update.{give_of, planned_role}
+use Rattle.shape_views.specs.superblocks_Outcome.{is_same, is_planned_holder, held_state, planned_state}
+use Rattle.shape_views.proofs.superblocks_ReadAlike.{none_below}
+use Rattle.shape_views.specs.row_io_Rows.{reading_of}
 use Rattle.shape_changes.specs.Updates.{planned_view, IsLessView, HasOneHolder, PlansLoseRoles}
 
 -- what a search finds passes, and nothing lower does

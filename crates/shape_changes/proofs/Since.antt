@@ -4,10 +4,10 @@ use Rattle.md_base.specs.Sectors.{Sector}
 use Rattle.md_base.specs.Shapes.{has_slot}
 use Rattle.md_base.specs.declared.status.Role.{Role}
 use Rattle.md_base.specs.declared.status.Role.TheVariants.{Whole, Recovering, Missing}
-use Rattle.superblocks.specs.declared.members.Members.{Members}
-use Rattle.superblocks.specs.Reading.{Scope}
-use Rattle.superblocks.proofs.SlotSets.{same_set}
-use Rattle.row_io.specs.Rows.{role_without, members_without}
+use Rattle.shape_views.specs.superblocks_the_Members.{Members}
+use Rattle.shape_views.specs.superblocks_Reading.{Scope}
+use Rattle.shape_views.proofs.superblocks_SlotSets.{same_set}
+use Rattle.shape_views.specs.row_io_Rows.{role_without, members_without}
 use Rattle.shape_changes.specs.Held.{IsHeldBy}
 use Rattle.shape_changes.specs.Rounds.{IsHeldSince}
 use Rattle.shape_changes.proofs.Without.{in-both, without-none}

@@ -5,13 +5,13 @@ use Rattle.md_base.specs.Sectors.{Sector}
 use Rattle.md_base.specs.Shapes.{has_slot}
 use Rattle.md_base.specs.declared.places.Shape.{Shape}
 use Rattle.bank.specs.Given.{Given}
-use Rattle.superblocks.specs.declared.members.Members.{Members}
-use Rattle.superblocks.specs.Reading.{holder, role_state}
-use Rattle.superblocks.specs.Updating.{IsSomeLeft}
-use Rattle.superblocks.specs.Outcome.{live_set}
-use Rattle.superblocks.specs.Reads.{has_spare}
-use Rattle.row_io.specs.Rows.{reading_of}
-use Rattle.list_io.specs.Writing.{MayHaveFull, IsPutting}
+use Rattle.shape_views.specs.superblocks_the_Members.{Members}
+use Rattle.shape_views.specs.superblocks_Reading.{holder, role_state}
+use Rattle.shape_views.specs.superblocks_Updating.{IsSomeLeft}
+use Rattle.shape_views.specs.superblocks_Outcome.{live_set}
+use Rattle.shape_views.specs.superblocks_Reads.{has_spare}
+use Rattle.shape_views.specs.row_io_Rows.{reading_of}
+use Rattle.shape_views.specs.list_io_Writing.{MayHaveFull, IsPutting}
 use Rattle.shape_changes.specs.Steady.{AreHolders, AreUnlost}
 use Rattle.shape_changes.specs.Marking.{marking}
 use Rattle.shape_changes.proofs.Without.{any-held, live-is}

@@ -7,26 +7,26 @@ use Rattle.md_base.specs.Shapes.{has_slot}
 use Rattle.md_base.specs.declared.status.Role.{Role}
 use Rattle.md_base.specs.declared.status.Role.TheVariants.{Missing}
 use Rattle.sb1.specs.declared.sb.Sb.{Sb}
-use Rattle.superblocks.specs.declared.change.Change.{Change}
-use Rattle.superblocks.specs.declared.members.Members.{Members}
-use Rattle.superblocks.specs.Reading.{Scope, role_count, holder}
-use Rattle.superblocks.specs.Reads.{SaysSame, has_spare}
-use Rattle.superblocks.specs.Update.{give_of, is_held_by, is_live, is_added, planned_role, is_planned_spare, slot_entry, entry_for, with_entries, with_roles, faulty_role}
-use Rattle.superblocks.specs.Updating.{planned_newest, IsLater, AreNamed}
-use Rattle.superblocks.specs.Outcome.{is_in_update, live_set, planned_state, planned_roles}
-use Rattle.superblocks.specs.Verdict.{judged_fields}
-use Rattle.superblocks.specs.Stages.{AreLeft, AreKept}
-use Rattle.superblocks.specs.Plans.{IsFitChange}
-use Rattle.superblocks.specs.Rounds.{IsReady}
-use Rattle.superblocks.specs.Crash.{IsWithin}
-use Rattle.superblock_reads.specs.Said.{AreSaidAsPlanned}
-use Rattle.superblocks.proofs.ReadAlike.{tabulate-same}
-use Rattle.superblocks.proofs.ReadLists.{by_bool}
-use Rattle.superblock_reads.proofs.RoundReads.{left_set, left-are}
-use Rattle.superblock_reads.proofs.RoundsRead.{more-held}
-use Rattle.superblock_reads.proofs.SaidSlots.{role-known, spare-known}
-use Rattle.superblock_reads.proofs.Tied.{IsPlannedNewest, planned-said}
-use Rattle.row_io.specs.Rows.{role_without, members_without}
+use Rattle.shape_views.specs.superblocks_the_Change.{Change}
+use Rattle.shape_views.specs.superblocks_the_Members.{Members}
+use Rattle.shape_views.specs.superblocks_Reading.{Scope, role_count, holder}
+use Rattle.shape_views.specs.superblocks_Reads.{SaysSame, has_spare}
+use Rattle.shape_views.specs.superblocks_Update.{give_of, is_held_by, is_live, is_added, planned_role, is_planned_spare, slot_entry, entry_for, with_entries, with_roles, faulty_role}
+use Rattle.shape_views.specs.superblocks_Updating.{planned_newest, IsLater, AreNamed}
+use Rattle.shape_views.specs.superblocks_Outcome.{is_in_update, live_set, planned_state, planned_roles}
+use Rattle.shape_views.specs.superblocks_Verdict.{judged_fields}
+use Rattle.shape_views.specs.superblocks_Stages.{AreLeft, AreKept}
+use Rattle.shape_views.specs.superblocks_Plans.{IsFitChange}
+use Rattle.shape_views.specs.superblocks_Rounds.{IsReady}
+use Rattle.shape_views.specs.superblocks_Crash.{IsWithin}
+use Rattle.shape_views.specs.superblock_reads_Said.{AreSaidAsPlanned}
+use Rattle.shape_views.proofs.superblocks_ReadAlike.{tabulate-same}
+use Rattle.shape_views.proofs.superblocks_ReadLists.{by_bool}
+use Rattle.shape_views.proofs.superblock_reads_RoundReads.{left_set, left-are}
+use Rattle.shape_views.proofs.superblock_reads_RoundsRead.{more-held}
+use Rattle.shape_views.proofs.superblock_reads_SaidSlots.{role-known, spare-known}
+use Rattle.shape_views.proofs.superblock_reads_Tied.{IsPlannedNewest, planned-said}
+use Rattle.shape_views.specs.row_io_Rows.{role_without, members_without}
 use Rattle.shape_views.specs.Regions.{AreShapesFit}
 use Rattle.shape_views.specs.Views.{Disk}
 use Rattle.shape_changes.specs.Marking.{marking}

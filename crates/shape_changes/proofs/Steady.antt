@@ -8,10 +8,10 @@ use Rattle.bank.specs.declared.bank.Operation.TheVariants.{Write, Flush}
 use Rattle.bank.specs.Given.{Given}
 use Rattle.bank.specs.Tape.{IsIn, disk, run, AreFlushes}
 use Rattle.bank.proofs.Marks.{Along, each_mark-along}
-use Rattle.superblocks.specs.declared.members.Members.{Members}
-use Rattle.superblocks.specs.Reading.{Scope, list_length}
-use Rattle.row_io.specs.Rows.{members_without}
-use Rattle.flat_history.proofs.SameLaws.{read-same}
+use Rattle.shape_views.specs.superblocks_the_Members.{Members}
+use Rattle.shape_views.specs.superblocks_Reading.{Scope, list_length}
+use Rattle.shape_views.specs.row_io_Rows.{members_without}
+use Rattle.shape_views.proofs.flat_history_SameLaws.{read-same}
 use Rattle.shape_views.specs.Views.{Disk, Ledger, IsSettled, IsViewRight}
 use Rattle.shape_views.specs.Windows.{IsSomewhere, AreFewer}
 use Rattle.shape_views.proofs.Stands.{window-inside}

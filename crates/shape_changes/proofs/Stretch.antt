@@ -12,26 +12,26 @@ use Rattle.bank.specs.declared.bank.Operation.{Operation}
 use Rattle.bank.specs.Given.{Given}
 use Rattle.bank.specs.Tape.{Contents, IsIn, disk}
 use Rattle.bank.proofs.Laws.{kept_in}
-use Rattle.superblocks.specs.declared.change.Change.{Change}
-use Rattle.superblocks.specs.declared.members.Members.{Members}
-use Rattle.superblocks.specs.Reading.{Scope, is_seen, is_backup, role_count}
-use Rattle.superblocks.specs.Reads.{IsReadAs}
-use Rattle.superblocks.specs.Update.{give_of, own_in, is_live, planned_role}
-use Rattle.superblocks.specs.Updating.{IsSomeLeft, planned_newest}
-use Rattle.superblocks.specs.Outcome.{live_set, is_left, AreGivesOfLive}
-use Rattle.superblocks.specs.Held.{AreDrawn, said_by}
-use Rattle.superblocks.specs.Stages.{AreLeft}
-use Rattle.superblock_reads.specs.Following.{AreHeldAlone}
-use Rattle.superblocks.specs.Rounds.{IsReadAsPlanned}
-use Rattle.superblocks.specs.Crash.{IsWithin}
-use Rattle.superblock_reads.specs.Said.{AreSaidAsPlanned}
-use Rattle.superblocks.proofs.ReadLists.{by_bool}
-use Rattle.superblock_reads.proofs.RoundReads.{left_set, left-are}
-use Rattle.superblock_reads.proofs.StageReads.{held-reads}
-use Rattle.superblocks.proofs.UpdateReads.{some-or-all}
-use Rattle.superblocks.proofs.ValidFields.{few-roles}
-use Rattle.row_io.specs.Rows.{reading_of, is_missing, members_without}
-use Rattle.flat_history.specs.Stands.{backup_absent}
+use Rattle.shape_views.specs.superblocks_the_Change.{Change}
+use Rattle.shape_views.specs.superblocks_the_Members.{Members}
+use Rattle.shape_views.specs.superblocks_Reading.{Scope, is_seen, is_backup, role_count}
+use Rattle.shape_views.specs.superblocks_Reads.{IsReadAs}
+use Rattle.shape_views.specs.superblocks_Update.{give_of, own_in, is_live, planned_role}
+use Rattle.shape_views.specs.superblocks_Updating.{IsSomeLeft, planned_newest}
+use Rattle.shape_views.specs.superblocks_Outcome.{live_set, is_left, AreGivesOfLive}
+use Rattle.shape_views.specs.superblocks_Held.{AreDrawn, said_by}
+use Rattle.shape_views.specs.superblocks_Stages.{AreLeft}
+use Rattle.shape_views.specs.superblock_reads_Following.{AreHeldAlone}
+use Rattle.shape_views.specs.superblocks_Rounds.{IsReadAsPlanned}
+use Rattle.shape_views.specs.superblocks_Crash.{IsWithin}
+use Rattle.shape_views.specs.superblock_reads_Said.{AreSaidAsPlanned}
+use Rattle.shape_views.proofs.superblocks_ReadLists.{by_bool}
+use Rattle.shape_views.proofs.superblock_reads_RoundReads.{left_set, left-are}
+use Rattle.shape_views.proofs.superblock_reads_StageReads.{held-reads}
+use Rattle.shape_views.proofs.superblocks_UpdateReads.{some-or-all}
+use Rattle.shape_views.proofs.superblocks_ValidFields.{few-roles}
+use Rattle.shape_views.specs.row_io_Rows.{reading_of, is_missing, members_without}
+use Rattle.shape_views.specs.flat_history_Stands.{backup_absent}
 use Rattle.shape_views.specs.Regions.{IsReadOf}
 use Rattle.shape_views.specs.Views.{Disk, Ledger, IsViewRight, IsSeenRight}
 use Rattle.shape_views.specs.Windows.{IsSomewhere, IsUpdating}

@@ -8,22 +8,22 @@ use Rattle.md_base.specs.Shapes.{has_slot}
 use Rattle.md_base.proofs.Tabulated.{length-tabulate, get_or-tabulate}
 use Rattle.sb1.specs.declared.sb.Sb.{Sb}
 use Rattle.bank.specs.Tape.{Contents}
-use Rattle.superblocks.specs.declared.change.Give.{Give}
-use Rattle.superblocks.specs.declared.change.Give.TheVariants.{Same, Spare}
-use Rattle.superblocks.specs.declared.change.Give.TheVariants as give
-use Rattle.superblocks.specs.declared.change.Change.{Change}
-use Rattle.superblocks.specs.declared.members.Members.{Members}
-use Rattle.superblocks.specs.Reading.{Scope, Reading, reading_by, is_reshaping, is_backward, is_recovering, role_count, role_state, rows_held, holder, holder_from, holds_role, own_of}
-use Rattle.superblocks.specs.Update.{planned, with_give, give_of, own_in}
-use Rattle.superblocks.specs.Outcome.{planned_roles}
-use Rattle.superblocks.specs.Reads.{held_in, roles_refusal}
-use Rattle.superblocks.specs.Rounds.{IsReadAsPlanned}
-use Rattle.superblocks.specs.Held.{known_of, said_by}
-use Rattle.superblock_reads.specs.Said.{AreSaidAsPlanned}
-use Rattle.superblocks.proofs.ReadAlike.{refused-same}
-use Rattle.superblock_reads.proofs.SaidLists.{state-here}
-use Rattle.superblock_reads.proofs.SaidSlots.{below-length, holder-own, read-own, listed}
-use Rattle.row_io.specs.Rows.{reading_of}
+use Rattle.shape_views.specs.superblocks_the_Give.{Give}
+use Rattle.shape_views.specs.superblocks_the_Give_TheVariants.{Same, Spare}
+use Rattle.shape_views.specs.superblocks_the_Give_TheVariants as give
+use Rattle.shape_views.specs.superblocks_the_Change.{Change}
+use Rattle.shape_views.specs.superblocks_the_Members.{Members}
+use Rattle.shape_views.specs.superblocks_Reading.{Scope, Reading, reading_by, is_reshaping, is_backward, is_recovering, role_count, role_state, rows_held, holder, holder_from, holds_role, own_of}
+use Rattle.shape_views.specs.superblocks_Update.{planned, with_give, give_of, own_in}
+use Rattle.shape_views.specs.superblocks_Outcome.{planned_roles}
+use Rattle.shape_views.specs.superblocks_Reads.{held_in, roles_refusal}
+use Rattle.shape_views.specs.superblocks_Rounds.{IsReadAsPlanned}
+use Rattle.shape_views.specs.superblocks_Held.{known_of, said_by}
+use Rattle.shape_views.specs.superblock_reads_Said.{AreSaidAsPlanned}
+use Rattle.shape_views.proofs.superblocks_ReadAlike.{refused-same}
+use Rattle.shape_views.proofs.superblock_reads_SaidLists.{state-here}
+use Rattle.shape_views.proofs.superblock_reads_SaidSlots.{below-length, holder-own, read-own, listed}
+use Rattle.shape_views.specs.row_io_Rows.{reading_of}
 use Rattle.shape_views.specs.Regions.{IsReadOf}
 use Rattle.shape_changes.specs.Updates.{planned_view, PlannedIsRead}
 

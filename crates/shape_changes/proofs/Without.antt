@@ -9,15 +9,15 @@ use Rattle.md_base.specs.Shapes.{has_slot}
 use Rattle.md_base.specs.declared.status.Role.{Role}
 use Rattle.md_base.specs.declared.status.Role.TheVariants.{Whole, Recovering, Missing}
 use Rattle.sb1.specs.declared.sb.Sb.{Sb}
-use Rattle.superblocks.specs.declared.change.Change.{Change}
-use Rattle.superblocks.specs.declared.members.Members.{Members}
-use Rattle.superblocks.specs.Reading.{holder}
-use Rattle.superblocks.specs.Update.{is_held_by, is_live, is_added, role_from}
-use Rattle.superblocks.specs.Outcome.{is_in_update, live_set}
-use Rattle.superblocks.specs.Reads.{has_spare}
-use Rattle.superblocks.proofs.SlotSets.{has-set_of, some_role, none_there, same_set}
-use Rattle.superblock_reads.proofs.SaidLists.{role-holder}
-use Rattle.row_io.specs.Rows.{role_without, members_without}
+use Rattle.shape_views.specs.superblocks_the_Change.{Change}
+use Rattle.shape_views.specs.superblocks_the_Members.{Members}
+use Rattle.shape_views.specs.superblocks_Reading.{holder}
+use Rattle.shape_views.specs.superblocks_Update.{is_held_by, is_live, is_added, role_from}
+use Rattle.shape_views.specs.superblocks_Outcome.{is_in_update, live_set}
+use Rattle.shape_views.specs.superblocks_Reads.{has_spare}
+use Rattle.shape_views.proofs.superblocks_SlotSets.{has-set_of, some_role, none_there, same_set}
+use Rattle.shape_views.proofs.superblock_reads_SaidLists.{role-holder}
+use Rattle.shape_views.specs.row_io_Rows.{role_without, members_without}
 use Rattle.shape_changes.specs.Marking.{marking}
 
 -- ---- sets

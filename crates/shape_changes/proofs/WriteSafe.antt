@@ -4,11 +4,11 @@ use Rattle.md_base.specs.declared.places.Shape.{Shape}
 use Rattle.md_base.specs.Sectors.{Sector}
 use Rattle.bank.specs.Given.{Given}
 use Rattle.bank.specs.Tape.{IsIn}
-use Rattle.superblocks.specs.declared.members.Members.{Members}
-use Rattle.superblocks.specs.Reading.{Scope, is_clean}
-use Rattle.row_io.specs.Rows.{reading_of, members_without}
-use Rattle.row_io.proofs.Losses.{holder-after}
-use Rattle.list_io.specs.Writing.{MayHaveFull, IsPutting, AreSuperblocksKept}
+use Rattle.shape_views.specs.superblocks_the_Members.{Members}
+use Rattle.shape_views.specs.superblocks_Reading.{Scope, is_clean}
+use Rattle.shape_views.specs.row_io_Rows.{reading_of, members_without}
+use Rattle.shape_views.proofs.row_io_Losses.{holder-after}
+use Rattle.shape_views.specs.list_io_Writing.{MayHaveFull, IsPutting, AreSuperblocksKept}
 use Rattle.shape_views.specs.Views.{Disk, Ledger, IsTailZero, IsViewRight}
 use Rattle.shape_views.specs.Windows.{IsOfRegion}
 use Rattle.shape_views.proofs.WindowLaws.{putting-right}

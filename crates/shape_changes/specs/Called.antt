@@ -3,12 +3,12 @@ use Rattle.std.specs.Prelude.{◌≡◌, ℕ, List, None}
 use Rattle.bank.specs.declared.bank.Operation.{Operation}
 use Rattle.bank.specs.Given.{Given}
 use Rattle.bank.specs.Tape.{EachMark, disk}
-use Rattle.superblocks.specs.declared.change.Change.{Change}
-use Rattle.superblocks.specs.declared.members.Members.{Members}
-use Rattle.superblocks.specs.Updating.{IsUpdate, AreLosses, IsWrittenBy, AreNamed, IsLater, IsSomeLeft, RisesByOperations, planned_newest}
-use Rattle.superblocks.specs.Outcome.{with_added, live_set, is_left, AreLive, AreStored, planned_roles, planned_spares}
-use Rattle.superblocks.specs.Rounds.{round_at}
-use Rattle.superblocks.specs.Losing.{IsInTurns, ArePastTurns}
+use Rattle.shape_views.specs.superblocks_the_Change.{Change}
+use Rattle.shape_views.specs.superblocks_the_Members.{Members}
+use Rattle.shape_views.specs.superblocks_Updating.{IsUpdate, AreLosses, IsWrittenBy, AreNamed, IsLater, IsSomeLeft, RisesByOperations, planned_newest}
+use Rattle.shape_views.specs.superblocks_Outcome.{with_added, live_set, is_left, AreLive, AreStored, planned_roles, planned_spares}
+use Rattle.shape_views.specs.superblocks_Rounds.{round_at}
+use Rattle.shape_views.specs.superblocks_Losing.{IsInTurns, ArePastTurns}
 use Rattle.shape_changes.specs.Changing.{IsChanged}
 
 -- the clauses update, named, newest, turns, turned, rise, own, roles, spares, live and losses, word for word

@@ -2,9 +2,9 @@
 use Rattle.std.specs.Prelude.{◌≡◌, ℕ, Bool, true, List, Option, Some}
 use Rattle.md_base.specs.Sectors.{Sector}
 use Rattle.sb1.specs.declared.sb.Sb.{Sb}
-use Rattle.superblocks.specs.Reading.{Scope}
-use Rattle.superblocks.specs.Update.{own_in}
-use Rattle.superblocks.specs.Held.{MayRead}
+use Rattle.shape_views.specs.superblocks_Reading.{Scope}
+use Rattle.shape_views.specs.superblocks_Update.{own_in}
+use Rattle.shape_views.specs.superblocks_Held.{MayRead}
 
 -- each number that a kept superblock bears, or one that a slot may show, is among these
 pub record AreCarried (scope : Scope) (carried : ℕ → Bool) (own : List (Option Sb)) (d : ℕ → ℕ → List Sector) : Type 0 where

@@ -5,17 +5,17 @@ use Rattle.sb1.specs.declared.sb.Sb.{Sb}
 use Rattle.bank.specs.declared.bank.Operation.{Operation}
 use Rattle.bank.specs.Given.{Given}
 use Rattle.bank.specs.Tape.{Contents, EachMark, disk}
-use Rattle.superblocks.specs.declared.change.Change.{Change}
-use Rattle.superblocks.specs.declared.members.Members.{Members}
-use Rattle.superblocks.specs.Reading.{Scope, is_recovering, role_count}
-use Rattle.superblocks.specs.Reads.{has_spare}
-use Rattle.superblocks.specs.Update.{give_of, own_in, is_recovery, planned_role, is_planned_spare}
-use Rattle.superblocks.specs.Updating.{IsUpdate, IsWrittenBy, AreNamed, IsLater, IsSomeLeft, RisesByOperations, planned_newest}
-use Rattle.superblocks.specs.Outcome.{live_set, is_left, AreLive, AreStored, AreGivesOfLive, planned_roles, planned_spares}
-use Rattle.superblocks.specs.Plans.{KeepsRecovery}
-use Rattle.superblocks.specs.Rounds.{round_at}
-use Rattle.superblocks.specs.Losing.{IsInTurns, ArePastTurns}
-use Rattle.superblocks.specs.Crash.{IsWithin}
+use Rattle.shape_views.specs.superblocks_the_Change.{Change}
+use Rattle.shape_views.specs.superblocks_the_Members.{Members}
+use Rattle.shape_views.specs.superblocks_Reading.{Scope, is_recovering, role_count}
+use Rattle.shape_views.specs.superblocks_Reads.{has_spare}
+use Rattle.shape_views.specs.superblocks_Update.{give_of, own_in, is_recovery, planned_role, is_planned_spare}
+use Rattle.shape_views.specs.superblocks_Updating.{IsUpdate, IsWrittenBy, AreNamed, IsLater, IsSomeLeft, RisesByOperations, planned_newest}
+use Rattle.shape_views.specs.superblocks_Outcome.{live_set, is_left, AreLive, AreStored, AreGivesOfLive, planned_roles, planned_spares}
+use Rattle.shape_views.specs.superblocks_Plans.{KeepsRecovery}
+use Rattle.shape_views.specs.superblocks_Rounds.{round_at}
+use Rattle.shape_views.specs.superblocks_Losing.{IsInTurns, ArePastTurns}
+use Rattle.shape_views.specs.superblocks_Crash.{IsWithin}
 use Rattle.shape_views.specs.Views.{Disk, Ledger, IsViewRight, IsSeenRight}
 use Rattle.shape_changes.specs.Safety.{HasLiveSlot, HasMarkRoom, HasRoomLeft}
 use Rattle.shape_changes.specs.Steady.{AreDrawnSuperblocks, IsSteady, IsSafeNow, IsNamedNow, AreGoneTold}

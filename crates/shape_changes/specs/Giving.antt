@@ -6,11 +6,11 @@ use Rattle.md_base.specs.declared.status.Role.TheVariants.{Missing}
 use Rattle.bank.specs.declared.bank.Operation.{Operation}
 use Rattle.bank.specs.Given.{Given}
 use Rattle.bank.specs.Tape.{IsIn, disk}
-use Rattle.superblocks.specs.declared.members.Members.{Members}
-use Rattle.superblocks.specs.Reading.{Scope, is_clean, is_reshaping, final_shape, list_length, role_count, holder, data_offset_of}
-use Rattle.superblocks.specs.Reads.{has_spare}
-use Rattle.row_io.specs.Rows.{reading_of, held_slot, IsHolder}
-use Rattle.flat_history.specs.Stands.{shape_for}
+use Rattle.shape_views.specs.superblocks_the_Members.{Members}
+use Rattle.shape_views.specs.superblocks_Reading.{Scope, is_clean, is_reshaping, final_shape, list_length, role_count, holder, data_offset_of}
+use Rattle.shape_views.specs.superblocks_Reads.{has_spare}
+use Rattle.shape_views.specs.row_io_Rows.{reading_of, held_slot, IsHolder}
+use Rattle.shape_views.specs.flat_history_Stands.{shape_for}
 use Rattle.shape_views.specs.Regions.{backup_of, open_by, ArePlaced, DoWithout}
 use Rattle.shape_views.specs.Views.{Disk, Ledger, AreHeadersFit, IsTail, IsViewRight}
 use Rattle.shape_changes.specs.Marking.{giving}

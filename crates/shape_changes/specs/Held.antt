@@ -4,13 +4,13 @@ use Rattle.md_base.specs.Sectors.{Sector}
 use Rattle.bank.specs.declared.bank.Operation.{Operation}
 use Rattle.bank.specs.declared.bank.Operation.TheVariants.{Write, Flush}
 use Rattle.bank.specs.Tape.{Contents, EachMark, disk}
-use Rattle.superblocks.specs.declared.members.Members.{Members}
-use Rattle.superblocks.specs.Reading.{Scope}
-use Rattle.superblocks.specs.Outcome.{live_set}
-use Rattle.superblocks.specs.Stages.{AreLeft}
-use Rattle.superblocks.specs.Crash.{IsUpdatedTo}
-use Rattle.superblock_reads.specs.Said.{AreSaid}
-use Rattle.flat_history.specs.Same.{IsElsewhere}
+use Rattle.shape_views.specs.superblocks_the_Members.{Members}
+use Rattle.shape_views.specs.superblocks_Reading.{Scope}
+use Rattle.shape_views.specs.superblocks_Outcome.{live_set}
+use Rattle.shape_views.specs.superblocks_Stages.{AreLeft}
+use Rattle.shape_views.specs.superblocks_Crash.{IsUpdatedTo}
+use Rattle.shape_views.specs.superblock_reads_Said.{AreSaid}
+use Rattle.shape_views.specs.flat_history_Same.{IsElsewhere}
 use Rattle.shape_changes.specs.Marking.{marking}
 
 -- The superblocks of the live slots that weren't lost are known, whatever a stop leaves: each image reads as they say, the next

@@ -6,19 +6,19 @@ use Rattle.bank.specs.Given.{Given}
 use Rattle.bank.specs.Tape.{disk}
 use Rattle.md_base.specs.Shapes.{has_slot}
 use Rattle.md_base.specs.declared.status.Role.TheVariants.{Whole, Missing}
-use Rattle.superblocks.specs.declared.change.Give.TheVariants.{Same, Spare}
-use Rattle.superblocks.specs.declared.change.Give.TheVariants as give
-use Rattle.superblocks.specs.declared.change.Change.{Change}
-use Rattle.superblocks.specs.declared.members.Members.{Members}
-use Rattle.superblocks.specs.Reading.{Scope, role_count, holder}
-use Rattle.superblocks.specs.Reads.{has_spare}
-use Rattle.superblocks.specs.Update.{give_of, is_recovery}
-use Rattle.superblocks.specs.Updating.{planned_newest}
-use Rattle.superblocks.specs.Outcome.{live_set}
-use Rattle.superblocks.specs.Stages.{AreLeft}
-use Rattle.superblocks.specs.Plans.{IsFitChange}
-use Rattle.superblock_reads.specs.Said.{AreSparesFit}
-use Rattle.row_io.specs.Rows.{members_without}
+use Rattle.shape_views.specs.superblocks_the_Give_TheVariants.{Same, Spare}
+use Rattle.shape_views.specs.superblocks_the_Give_TheVariants as give
+use Rattle.shape_views.specs.superblocks_the_Change.{Change}
+use Rattle.shape_views.specs.superblocks_the_Members.{Members}
+use Rattle.shape_views.specs.superblocks_Reading.{Scope, role_count, holder}
+use Rattle.shape_views.specs.superblocks_Reads.{has_spare}
+use Rattle.shape_views.specs.superblocks_Update.{give_of, is_recovery}
+use Rattle.shape_views.specs.superblocks_Updating.{planned_newest}
+use Rattle.shape_views.specs.superblocks_Outcome.{live_set}
+use Rattle.shape_views.specs.superblocks_Stages.{AreLeft}
+use Rattle.shape_views.specs.superblocks_Plans.{IsFitChange}
+use Rattle.shape_views.specs.superblock_reads_Said.{AreSparesFit}
+use Rattle.shape_views.specs.row_io_Rows.{members_without}
 use Rattle.shape_views.specs.Regions.{AreShapesFit, DoWithout}
 use Rattle.shape_views.specs.Views.{Disk, Ledger, IsSettled, IsViewRight}
 use Rattle.shape_views.specs.Windows.{moved_past}

@@ -9,3 +9,64 @@ pub mod Changing
 pub mod Called
 pub mod Kinds
 pub mod Giving
+pub use Rattle.shape_views.specs.Views as shape_views_Views
+pub use Rattle.shape_views.specs.Regions as shape_views_Regions
+pub use Rattle.shape_views.specs.flat_history_ActiveSection
+pub use Rattle.superblock_laws.specs.MakingWhole as superblock_laws_MakingWhole
+pub use Rattle.shape_views.specs.row_io_Rows
+pub use Rattle.shape_views.specs.superblock_reads_Following
+pub use Rattle.shape_views.specs.superblock_reads_Said
+pub use Rattle.shape_views.specs.superblocks_the_Change
+pub use Rattle.shape_views.specs.superblocks_the_Members
+pub use Rattle.shape_views.specs.superblocks_Reading
+pub use Rattle.shape_views.specs.superblocks_Outcome
+pub use Rattle.shape_views.specs.superblocks_Rounds
+pub use Rattle.shape_views.specs.superblocks_Stages
+pub use Rattle.shape_views.specs.superblocks_the_Give
+pub use Rattle.shape_views.specs.superblocks_the_Give_TheVariants
+pub use Rattle.shape_views.specs.superblocks_Reads
+pub use Rattle.shape_views.specs.superblocks_Update
+pub use Rattle.shape_views.specs.superblocks_Updating
+pub use Rattle.shape_views.specs.superblocks_Held
+pub use Rattle.shape_views.specs.superblocks_Crash
+pub use Rattle.shape_views.specs.Windows as shape_views_Windows
+pub use Rattle.shape_views.specs.flat_history_Stands
+pub use Rattle.shape_views.specs.list_io_Full
+pub use Rattle.shape_views.specs.flat_history_the_Event_TheVariants
+pub use Rattle.shape_views.specs.flat_history_Flat
+pub use Rattle.shape_views.specs.flat_history_the_Entry
+pub use Rattle.shape_views.specs.flat_history_World
+pub use Rattle.shape_views.specs.flat_history_Sound
+pub use Rattle.shape_views.specs.flat_history_Opened
+pub use Rattle.shape_views.specs.row_io_Writes
+pub use Rattle.shape_views.specs.Backups as shape_views_Backups
+pub use Rattle.shape_views.specs.list_io_the_Unavailable
+pub use Rattle.shape_views.specs.list_io_the_Unavailable_TheVariants
+pub use Rattle.shape_views.specs.list_io_Buffers
+pub use Rattle.shape_views.specs.list_io_Writing
+pub use Rattle.shape_views.specs.list_io_Calls
+pub use Rattle.shape_views.specs.flat_history_the_Event
+pub use Rattle.shape_views.specs.flat_history_Growing
+pub use Rattle.shape_views.specs.flat_history_Same
+pub use Rattle.shape_views.specs.superblocks_Writing
+pub use Rattle.shape_views.specs.superblocks_Verdict
+pub use Rattle.shape_views.specs.flat_history_the_StepKind_TheVariants
+pub use Rattle.shape_views.specs.flat_history_Legal
+pub use Rattle.shape_views.specs.flat_history_OneShape
+pub use Rattle.shape_views.specs.flat_history_Plain
+pub use Rattle.shape_views.specs.flat_history_Reshaped
+pub use Rattle.shape_views.specs.flat_history_Transfers
+pub use Rattle.shape_views.specs.flat_history_Losses
+pub use Rattle.shape_views.specs.flat_history_CrashSafe
+pub use Rattle.shape_views.specs.flat_history_the_LostCause_TheVariants
+pub use Rattle.shape_views.specs.flat_history_Epochs
+pub use Rattle.shape_views.specs.flat_history_the_StepKind
+pub use Rattle.shape_views.specs.flat_history_the_LostCause
+pub use Rattle.shape_views.specs.superblocks_Found
+pub use Rattle.shape_views.specs.flat_history_Created
+pub use Rattle.shape_views.specs.flat_history_Settled
+pub use Rattle.shape_views.specs.flat_history_the_Epoch
+pub use Rattle.shape_views.specs.flat_history_the_Request_TheVariants
+pub use Rattle.shape_views.specs.flat_history_Fits
+pub use Rattle.shape_views.specs.flat_history_the_Request
+pub use Rattle.shape_views.specs.flat_history_Seen

@@ -2,10 +2,10 @@
 use Rattle.std.specs.Prelude.{◌≡◌, ◌≢◌, ℕ, ◌-◌, ◌^◌, Bool, replicate, slice_set, if◌then◌else◌, Option, Some, None}
 use Rattle.bank.specs.Tape.{Contents}
 use Rattle.sb1.specs.declared.sb.Sb.{Sb}
-use Rattle.superblocks.specs.declared.change.Give.TheVariants.{Same}
-use Rattle.superblocks.specs.declared.change.Give.TheVariants as give
-use Rattle.superblocks.specs.declared.change.Change.{Change}
-use Rattle.superblocks.specs.declared.members.Members.{Members}
+use Rattle.shape_views.specs.superblocks_the_Give_TheVariants.{Same}
+use Rattle.shape_views.specs.superblocks_the_Give_TheVariants as give
+use Rattle.shape_views.specs.superblocks_the_Change.{Change}
+use Rattle.shape_views.specs.superblocks_the_Members.{Members}
 
 -- resync_offset is all ones where the array is clean, and 0 where it is dirty
 abbrev pub resync_of : Bool → ℕ

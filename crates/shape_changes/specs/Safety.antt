@@ -1,9 +1,9 @@
 -- The room that marks need in the event count.
 use Rattle.std.specs.Prelude.{◌+◌, ◌^◌, ◌<◌, ◌≤◌, false, List, length}
 use Rattle.bank.specs.declared.bank.Operation.{Operation}
-use Rattle.superblocks.specs.declared.members.Members.{Members}
-use Rattle.superblocks.specs.Updating.{IsSomeLeft}
-use Rattle.superblocks.specs.Outcome.{live_set}
+use Rattle.shape_views.specs.superblocks_the_Members.{Members}
+use Rattle.shape_views.specs.superblocks_Updating.{IsSomeLeft}
+use Rattle.shape_views.specs.superblocks_Outcome.{live_set}
 use Rattle.shape_changes.specs.Marking.{marking}
 
 -- the event count may rise with each of the operations between

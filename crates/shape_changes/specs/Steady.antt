@@ -7,12 +7,12 @@ use Rattle.md_base.specs.declared.status.Role.TheVariants.{Recovering}
 use Rattle.bank.specs.declared.bank.Operation.{Operation}
 use Rattle.bank.specs.Given.{Given}
 use Rattle.bank.specs.Tape.{Contents, EachMark, IsIn, AreFlushes, disk}
-use Rattle.superblocks.specs.declared.members.Members.{Members}
-use Rattle.superblocks.specs.Reading.{Scope, Reading, reading, is_seen, is_clean, list_length, role_count, role_state, rows_held, holder, data_offset_of}
-use Rattle.row_io.specs.Rows.{reading_of, is_missing, members_without, IsHolder}
-use Rattle.list_io.specs.Writing.{IsPutting, AreSuperblocksKept}
-use Rattle.flat_history.specs.World.{World}
-use Rattle.flat_history.specs.Sound.{OpensFit}
+use Rattle.shape_views.specs.superblocks_the_Members.{Members}
+use Rattle.shape_views.specs.superblocks_Reading.{Scope, Reading, reading, is_seen, is_clean, list_length, role_count, role_state, rows_held, holder, data_offset_of}
+use Rattle.shape_views.specs.row_io_Rows.{reading_of, is_missing, members_without, IsHolder}
+use Rattle.shape_views.specs.list_io_Writing.{IsPutting, AreSuperblocksKept}
+use Rattle.shape_views.specs.flat_history_World.{World}
+use Rattle.shape_views.specs.flat_history_Sound.{OpensFit}
 use Rattle.shape_views.specs.Regions.{IsReadOf}
 use Rattle.shape_views.specs.Views.{Disk, Ledger, IsTailZero, IsViewRight, IsSeenRight}
 use Rattle.shape_views.specs.Windows.{IsOfRegion}

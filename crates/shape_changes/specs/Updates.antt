@@ -5,22 +5,22 @@ use Rattle.md_base.specs.Shapes.{has_slot}
 use Rattle.sb1.specs.declared.sb.Sb.{Sb}
 use Rattle.bank.specs.Given.{Given}
 use Rattle.bank.specs.Tape.{Contents}
-use Rattle.superblocks.specs.declared.change.Give.{Give}
-use Rattle.superblocks.specs.declared.change.Change.{Change}
-use Rattle.superblocks.specs.declared.members.Members.{Members}
+use Rattle.shape_views.specs.superblocks_the_Give.{Give}
+use Rattle.shape_views.specs.superblocks_the_Change.{Change}
+use Rattle.shape_views.specs.superblocks_the_Members.{Members}
 use Rattle.md_base.specs.Sectors.{Sector}
-use Rattle.superblocks.specs.Reading.{Scope, Reading, reading, is_reshaping, is_backward, shape_of, final_shape, list_length, role_state, rows_held, holder, data_offset_of}
-use Rattle.superblocks.specs.Update.{with_give, give_of, own_in, planned_role}
-use Rattle.superblocks.specs.Updating.{planned_newest}
-use Rattle.superblocks.specs.Outcome.{planned_roles, planned_spares}
-use Rattle.superblocks.specs.Rounds.{IsReadAsPlanned}
-use Rattle.superblock_reads.specs.Said.{AreSaidAsPlanned}
-use Rattle.superblocks.specs.Reads.{SaysSame}
-use Rattle.row_io.specs.Rows.{reading_of, is_missing, held_slot}
-use Rattle.flat_history.specs.Stands.{shape_for}
+use Rattle.shape_views.specs.superblocks_Reading.{Scope, Reading, reading, is_reshaping, is_backward, shape_of, final_shape, list_length, role_state, rows_held, holder, data_offset_of}
+use Rattle.shape_views.specs.superblocks_Update.{with_give, give_of, own_in, planned_role}
+use Rattle.shape_views.specs.superblocks_Updating.{planned_newest}
+use Rattle.shape_views.specs.superblocks_Outcome.{planned_roles, planned_spares}
+use Rattle.shape_views.specs.superblocks_Rounds.{IsReadAsPlanned}
+use Rattle.shape_views.specs.superblock_reads_Said.{AreSaidAsPlanned}
+use Rattle.shape_views.specs.superblocks_Reads.{SaysSame}
+use Rattle.shape_views.specs.row_io_Rows.{reading_of, is_missing, held_slot}
+use Rattle.shape_views.specs.flat_history_Stands.{shape_for}
 use Rattle.md_base.specs.declared.places.Span.{Span}
 use Rattle.geometry.specs.Geometry as geometry
-use Rattle.superblocks.specs.Reading.{next_window}
+use Rattle.shape_views.specs.superblocks_Reading.{next_window}
 use Rattle.backup.specs.Section.{names_span}
 use Rattle.shape_views.specs.Regions.{open_by, ArePlaced, IsReadOf}
 use Rattle.shape_views.specs.Views.{Disk, Ledger, IsViewRight, IsSeenRight}

@@ -19,24 +19,24 @@ use Rattle.geometry.specs.Geometry.{side, window}
 use Rattle.bank.specs.declared.bank.Operation.{Operation}
 use Rattle.bank.specs.Given.{Given}
 use Rattle.bank.specs.Tape.{Contents, disk}
-use Rattle.superblocks.specs.declared.change.Give.{Give}
-use Rattle.superblocks.specs.declared.change.Give.TheVariants.{Same, Spare}
-use Rattle.superblocks.specs.declared.change.Give.TheVariants as give
-use Rattle.superblocks.specs.declared.change.Change.{Change}
-use Rattle.superblocks.specs.declared.members.Members.{Members}
-use Rattle.superblocks.specs.Reading.{Scope, is_clean, is_reshaping, is_backward, shape_of, final_shape, list_length, next_window, role_count, role_state, rows_held, holder, is_whole, data_offset_of}
-use Rattle.superblocks.specs.Reads.{SaysSame}
-use Rattle.superblocks.specs.Updating.{planned_newest}
-use Rattle.superblocks.specs.Update.{with_give, give_of, own_in, planned_role}
-use Rattle.superblocks.specs.Outcome.{is_same, is_planned_holder, held_state, planned_state}
-use Rattle.superblock_reads.proofs.SaidLists.{role-holder}
-use Rattle.row_io.specs.Rows.{reading_of, is_missing, held_slot, IsTolerated}
-use Rattle.row_io.proofs.Losses.{holder-of}
-use Rattle.flat_history.specs.ActiveSection.{section_for}
-use Rattle.flat_history.specs.Stands.{shape_at, shape_for}
-use Rattle.shape_views.specs.Regions.{AreShapesFit}
-use Rattle.shape_views.specs.Views.{Disk, Ledger}
-use Rattle.shape_views.specs.Windows.{IsFlushedRight}
+use Rattle.shape_changes.specs.superblocks_the_Give.{Give}
+use Rattle.shape_changes.specs.superblocks_the_Give_TheVariants.{Same, Spare}
+use Rattle.shape_changes.specs.superblocks_the_Give_TheVariants as give
+use Rattle.shape_changes.specs.superblocks_the_Change.{Change}
+use Rattle.shape_changes.specs.superblocks_the_Members.{Members}
+use Rattle.shape_changes.specs.superblocks_Reading.{Scope, is_clean, is_reshaping, is_backward, shape_of, final_shape, list_length, next_window, role_count, role_state, rows_held, holder, is_whole, data_offset_of}
+use Rattle.shape_changes.specs.superblocks_Reads.{SaysSame}
+use Rattle.shape_changes.specs.superblocks_Updating.{planned_newest}
+use Rattle.shape_changes.specs.superblocks_Update.{with_give, give_of, own_in, planned_role}
+use Rattle.shape_changes.specs.superblocks_Outcome.{is_same, is_planned_holder, held_state, planned_state}
+use Rattle.shape_changes.proofs.superblock_reads_SaidLists.{role-holder}
+use Rattle.shape_changes.specs.row_io_Rows.{reading_of, is_missing, held_slot, IsTolerated}
+use Rattle.shape_changes.proofs.row_io_Losses.{holder-of}
+use Rattle.shape_changes.specs.flat_history_ActiveSection.{section_for}
+use Rattle.shape_changes.specs.flat_history_Stands.{shape_at, shape_for}
+use Rattle.shape_changes.specs.shape_views_Regions.{AreShapesFit}
+use Rattle.shape_changes.specs.shape_views_Views.{Disk, Ledger}
+use Rattle.shape_changes.specs.shape_views_Windows.{IsFlushedRight}
 use Rattle.shape_changes.specs.Updates.{planned_view}
 use Rattle.shape_changes.specs.Steady.{AreGoneTold, IsSteady}
 use Rattle.shape_changes.specs.Changing.{IsChanged, IsFitUpdate, IsPlannedSafe}
@@ -44,7 +44,7 @@ use Rattle.shape_changes.specs.Giving.{IsPlacedLess}
 use Rattle.shape_ends.specs.Ends.{IsCleared}
 use Rattle.shape_ends.specs.Flushed.{IsBeginning, BeginStaysSafe, FlushedChangeStaysSafe}
 use Rattle.shape_ends.proofs.EndLaws.{cleared-plain, starts-untailed}
-use Rattle.shape_views.proofs.Alike.{shape-alike, length-alike, placing-alike}
+use Rattle.shape_changes.proofs.shape_views_Alike.{shape-alike, length-alike, placing-alike}
 use Rattle.shape_changes.proofs.LessViews.{ends-place}
 use Rattle.shape_changes.proofs.PlansLose.{found-passes, same-role}
 use Rattle.shape_changes.proofs.PlannedRoles.{kept-and, says-shared, planned-holds}
@@ -52,7 +52,7 @@ use Rattle.shape_changes.proofs.ChangeViews.{plan-told}
 use Rattle.shape_changes.proofs.ChangeSafe.{safe-change}
 use Rattle.shape_changes.proofs.KeptSafe.{told-plan, steady-right}
 use Rattle.shape_changes.proofs.FitKinds.{taking-is-fit, taking-live, dropping-is-fit, dropping-live}
-use Rattle.shape_views.proofs.Stands.{flushed-right}
+use Rattle.shape_changes.proofs.shape_views_Stands.{flushed-right}
 use Rattle.shape_changes.proofs.PlacedLess.{placed-less-right}
 
 -- more are missing where more tests pass, below a bound

@@ -12,22 +12,22 @@ use Rattle.bank.specs.Tape.{Contents, IsIn}
 use Rattle.geometry.specs.Geometry.{window, side, beyond}
 use Rattle.region_laws.proofs.RegionLaws.{forward-is, backward-is, new-ahead, new-behind}
 use Rattle.geometry.proofs.Valid.{bounded_pair}
-use Rattle.superblocks.specs.declared.members.Members.{Members}
-use Rattle.superblocks.specs.Reading.{Scope, is_reshaping, is_backward, shape_of, final_shape, next_window}
+use Rattle.shape_changes.specs.superblocks_the_Members.{Members}
+use Rattle.shape_changes.specs.superblocks_Reading.{Scope, is_reshaping, is_backward, shape_of, final_shape, next_window}
 use Rattle.backup.specs.Section.{is_header_of, names_span, has_section}
-use Rattle.flat_history.specs.ActiveSection.{section_for}
-use Rattle.shape_views.specs.Regions.{backup_of, open_by}
-use Rattle.shape_views.specs.Views.{Disk, Ledger, IsHeaderFit, IsSeenRight}
-use Rattle.shape_views.specs.Windows.{moved_past, HasNoSection, IsFlushedRight}
+use Rattle.shape_changes.specs.flat_history_ActiveSection.{section_for}
+use Rattle.shape_changes.specs.shape_views_Regions.{backup_of, open_by}
+use Rattle.shape_changes.specs.shape_views_Views.{Disk, Ledger, IsHeaderFit, IsSeenRight}
+use Rattle.shape_changes.specs.shape_views_Windows.{moved_past, HasNoSection, IsFlushedRight}
 use Rattle.shape_ends.specs.Runs.{IsWindowStanding}
 use Rattle.shape_ends.specs.Copies.{FitHeadersArePlain, IsCopyRun, IsRightAndFit, CopiesStayFit, CopiesAreSeenRight, MovedIsRightAndFit, UpdatedIsRightAndFit}
-use Rattle.shape_views.proofs.UnderWay.{is-reshaping, window-is, under-way}
-use Rattle.shape_views.proofs.WindowLaws.{at-rows, fewer-right, copying-right, updating-right}
-use Rattle.shape_views.proofs.Stands.{span-order, moved-stands, moved-rows-stand, moved-placed, flushed-right}
+use Rattle.shape_changes.proofs.shape_views_UnderWay.{is-reshaping, window-is, under-way}
+use Rattle.shape_changes.proofs.shape_views_WindowLaws.{at-rows, fewer-right, copying-right, updating-right}
+use Rattle.shape_changes.proofs.shape_views_Stands.{span-order, moved-stands, moved-rows-stand, moved-placed, flushed-right}
 use Rattle.shape_ends.proofs.PastWindows.{begins-apart}
-use Rattle.shape_views.proofs.Headers.{backup-is, names-parts}
-use Rattle.shape_views.proofs.Headers as fits
-use Rattle.shape_views.proofs.Tails.{moved-tails}
+use Rattle.shape_changes.proofs.shape_views_Headers.{backup-is, names-parts}
+use Rattle.shape_changes.proofs.shape_views_Headers as fits
+use Rattle.shape_changes.proofs.shape_views_Tails.{moved-tails}
 use Rattle.shape_changes.proofs.LessViews.{updates-seen}
 
 -- ---- sides behind a window

@@ -14,24 +14,24 @@ use Rattle.bank.specs.Tape.{Contents, IsIn}
 use Rattle.layout.specs.Layout.{row_roles}
 use Rattle.geometry.specs.Geometry.{window}
 use Rattle.sb1.specs.declared.sb.Sb.{Sb}
-use Rattle.superblocks.specs.declared.members.Members.{Members}
-use Rattle.superblocks.specs.Reading.{Scope, is_clean, is_reshaping, is_backward, shape_of, final_shape, list_length, next_window, data_offset_of}
-use Rattle.row_io.specs.Rows.{reading_of, is_missing, held_slot, IsTolerated}
-use Rattle.row_io.specs.Writes.{is_parity}
-use Rattle.list_io.specs.Full.{full_sector, RowStands}
+use Rattle.shape_changes.specs.superblocks_the_Members.{Members}
+use Rattle.shape_changes.specs.superblocks_Reading.{Scope, is_clean, is_reshaping, is_backward, shape_of, final_shape, list_length, next_window, data_offset_of}
+use Rattle.shape_changes.specs.row_io_Rows.{reading_of, is_missing, held_slot, IsTolerated}
+use Rattle.shape_changes.specs.row_io_Writes.{is_parity}
+use Rattle.shape_changes.specs.list_io_Full.{full_sector, RowStands}
 use Rattle.backup.specs.Section.{is_header_of, names_span, has_section}
-use Rattle.flat_history.specs.ActiveSection.{section_for}
-use Rattle.flat_history.specs.Flat.{resized}
-use Rattle.flat_history.specs.Stands.{shape_for, covers}
-use Rattle.shape_views.specs.Regions.{backup_of, header_in, place_by, AreShapesFit, ArePlaced, DoWithout}
-use Rattle.shape_views.specs.Views.{Disk, IsTail, IsOutside}
-use Rattle.shape_views.specs.Windows.{HasNoSection, ListStands}
+use Rattle.shape_changes.specs.flat_history_ActiveSection.{section_for}
+use Rattle.shape_changes.specs.flat_history_Flat.{resized}
+use Rattle.shape_changes.specs.flat_history_Stands.{shape_for, covers}
+use Rattle.shape_changes.specs.shape_views_Regions.{backup_of, header_in, place_by, AreShapesFit, ArePlaced, DoWithout}
+use Rattle.shape_changes.specs.shape_views_Views.{Disk, IsTail, IsOutside}
+use Rattle.shape_changes.specs.shape_views_Windows.{HasNoSection, ListStands}
 use Rattle.shape_changes.specs.Updates.{IsAtStart}
 use Rattle.shape_ends.specs.Ends.{IsPlacedAs, IsKeptSlot, AreRolesKept, ArePlacesAlike, PlacesAlikeStand, ResizedTells, AlikePlansAreRight, ClearedIsPlain, BegunIsPlacedAlike, BeginsAreRight, BeginsAreSeenRight}
-use Rattle.shape_views.proofs.Alike.{role-in-shape}
-use Rattle.shape_views.proofs.Stands.{for-still, final-still, list-still}
+use Rattle.shape_changes.proofs.shape_views_Alike.{role-in-shape}
+use Rattle.shape_changes.proofs.shape_views_Stands.{for-still, final-still, list-still}
 use Rattle.shape_changes.proofs.LessViews.{ends-place, updates-seen}
-use Rattle.shape_views.proofs.Tails.{some-listed}
+use Rattle.shape_changes.proofs.shape_views_Tails.{some-listed}
 
 -- ---- a row that is placed alike
 

@@ -20,23 +20,23 @@ use Rattle.geometry.proofs.Valid.{bounded}
 use Rattle.geometry.proofs.Rows.{rows_hold}
 use Rattle.sb1.specs.declared.sb.Sb.{Sb}
 use Rattle.md_base.specs.Sectors.{IsSector}
-use Rattle.superblocks.specs.declared.members.Members.{Members}
-use Rattle.superblocks.specs.Reading.{Scope, is_clean, is_reshaping, is_backward, shape_of, final_shape, list_length, next_window, data_offset_of}
-use Rattle.row_io.specs.Rows.{reading_of, held_slot}
-use Rattle.list_io.specs.Full.{RowStands}
-use Rattle.list_io.proofs.FullLaws.{full-same, places-are-full}
-use Rattle.flat_history.specs.ActiveSection.{section_for}
-use Rattle.flat_history.specs.Stands.{shape_for}
-use Rattle.shape_views.specs.Regions.{backup_of, header_in, place_by, ArePlaced, DoWithout}
-use Rattle.shape_views.specs.Views.{Disk, Ledger, IsTail, IsViewRight}
-use Rattle.shape_views.specs.Windows.{HasNoSection}
+use Rattle.shape_changes.specs.superblocks_the_Members.{Members}
+use Rattle.shape_changes.specs.superblocks_Reading.{Scope, is_clean, is_reshaping, is_backward, shape_of, final_shape, list_length, next_window, data_offset_of}
+use Rattle.shape_changes.specs.row_io_Rows.{reading_of, held_slot}
+use Rattle.shape_changes.specs.list_io_Full.{RowStands}
+use Rattle.shape_changes.proofs.list_io_FullLaws.{full-same, places-are-full}
+use Rattle.shape_changes.specs.flat_history_ActiveSection.{section_for}
+use Rattle.shape_changes.specs.flat_history_Stands.{shape_for}
+use Rattle.shape_changes.specs.shape_views_Regions.{backup_of, header_in, place_by, ArePlaced, DoWithout}
+use Rattle.shape_changes.specs.shape_views_Views.{Disk, Ledger, IsTail, IsViewRight}
+use Rattle.shape_changes.specs.shape_views_Windows.{HasNoSection}
 use Rattle.shape_changes.specs.Updates.{IsAtEnd}
 use Rattle.shape_ends.specs.Ends.{IsKeptSlot, AreRolesKept, ArePlacesAlike, IsToldWith, IsEnded, IsGrown, EndsAreRight, EndsAreSeenRight}
-use Rattle.shape_views.proofs.Alike.{role-in-shape}
-use Rattle.shape_views.proofs.Stands.{for-still, list-still}
+use Rattle.shape_changes.proofs.shape_views_Alike.{role-in-shape}
+use Rattle.shape_changes.proofs.shape_views_Stands.{for-still, list-still}
 use Rattle.shape_changes.proofs.LessViews.{ends-place, updates-seen}
-use Rattle.shape_views.proofs.UnderWay.{under-way}
-use Rattle.shape_views.proofs.Tails.{some-listed, first, listed, same-row}
+use Rattle.shape_changes.proofs.shape_views_UnderWay.{under-way}
+use Rattle.shape_changes.proofs.shape_views_Tails.{some-listed, first, listed, same-row}
 use Rattle.shape_ends.proofs.EndLaws.{row-alike, same-placed, outside-none, clean-too, alike-plans, still-plain}
 
 -- ---- the end has no window left

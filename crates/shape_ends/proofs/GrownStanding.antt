@@ -10,23 +10,23 @@ use Rattle.md_base.specs.Shapes.{tolerance, tolerance_of}
 use Rattle.bank.specs.Given.{Given}
 use Rattle.bank.specs.Tape.{Contents, IsIn}
 use Rattle.layout.specs.Layout.{place, stripe_of}
-use Rattle.superblocks.specs.declared.members.Members.{Members}
-use Rattle.superblocks.specs.Reading.{Scope, is_backward, shape_of, final_shape, list_length, data_offset_of}
-use Rattle.row_io.specs.Rows.{reading_of, is_missing, held_slot, IsTolerated}
-use Rattle.list_io.specs.Full.{DataStands, RowStands}
-use Rattle.flat_history.specs.declared.events.Event.TheVariants.{Resized}
-use Rattle.flat_history.specs.declared.events.Entry.{Entry}
-use Rattle.flat_history.specs.Flat.{values_of, values_after, length_of, length_after, first_values}
-use Rattle.flat_history.specs.Stands.{shape_for}
-use Rattle.shape_views.specs.Regions.{place_by, ArePlaced}
-use Rattle.shape_views.specs.Views.{IsTail}
-use Rattle.shape_views.specs.Windows.{ListStands, RowsStand, AreTailsStanding}
+use Rattle.shape_changes.specs.superblocks_the_Members.{Members}
+use Rattle.shape_changes.specs.superblocks_Reading.{Scope, is_backward, shape_of, final_shape, list_length, data_offset_of}
+use Rattle.shape_changes.specs.row_io_Rows.{reading_of, is_missing, held_slot, IsTolerated}
+use Rattle.shape_changes.specs.list_io_Full.{DataStands, RowStands}
+use Rattle.shape_changes.specs.flat_history_the_Event_TheVariants.{Resized}
+use Rattle.shape_changes.specs.flat_history_the_Entry.{Entry}
+use Rattle.shape_changes.specs.flat_history_Flat.{values_of, values_after, length_of, length_after, first_values}
+use Rattle.shape_changes.specs.flat_history_Stands.{shape_for}
+use Rattle.shape_changes.specs.shape_views_Regions.{place_by, ArePlaced}
+use Rattle.shape_changes.specs.shape_views_Views.{IsTail}
+use Rattle.shape_changes.specs.shape_views_Windows.{ListStands, RowsStand, AreTailsStanding}
 use Rattle.shape_ends.specs.Ends.{IsKeptSlot, IsEnded}
 use Rattle.shape_ends.specs.Grown.{IsZeroPast, IsPastRow, GrownStands, GrownDoesWithout, LeaveList, ResizedIsTold}
-use Rattle.shape_views.proofs.Alike.{role-in-shape}
-use Rattle.shape_views.proofs.Stands.{for-still, data-at}
+use Rattle.shape_changes.proofs.shape_views_Alike.{role-in-shape}
+use Rattle.shape_changes.proofs.shape_views_Stands.{for-still, data-at}
 use Rattle.shape_changes.proofs.LessViews.{ends-place}
-use Rattle.shape_views.proofs.Tails.{some-listed, first, listed, same-row}
+use Rattle.shape_changes.proofs.shape_views_Tails.{some-listed, first, listed, same-row}
 use Rattle.shape_ends.proofs.EndLaws.{row-alike, same-placed, fewer-pass, resized-tells}
 use Rattle.shape_ends.proofs.GrownLaws.{row-list, past-or-tail, past-apart}
 

@@ -3,10 +3,10 @@ use Rattle.std.proofs.Common.{Option, sym, subst}
 use Rattle.std.specs.Prelude.{IfSome}
 use Rattle.bank.specs.Tape.{IsDrawn}
 use Rattle.bank.proofs.Images.{image-drawn}
-use Rattle.superblocks.specs.Reading.{Reading}
-use Rattle.flat_history.specs.Opened.{IsSound}
-use Rattle.flat_history.specs.Sound.{OpensFit}
-use Rattle.shape_views.proofs.SoundViews.{right-views-sound}
+use Rattle.shape_changes.specs.superblocks_Reading.{Reading}
+use Rattle.shape_changes.specs.flat_history_Opened.{IsSound}
+use Rattle.shape_changes.specs.flat_history_Sound.{OpensFit}
+use Rattle.shape_changes.proofs.shape_views_SoundViews.{right-views-sound}
 use Rattle.shape_ends.specs.LeftSound.{ViewsLeaveSound}
 
 pub views-leave-sound : ViewsLeaveSound

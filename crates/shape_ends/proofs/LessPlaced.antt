@@ -11,19 +11,19 @@ use Rattle.md_base.specs.Shapes.{is_valid_shape, is_multiple}
 use Rattle.geometry.specs.Geometry.{unit, is_size}
 use Rattle.layout.specs.Layout.{row_roles}
 use Rattle.sb1.specs.declared.sb.Sb.{Sb}
-use Rattle.superblocks.specs.Reads.{SaysSame}
-use Rattle.superblocks.specs.Update.{own_in}
+use Rattle.shape_changes.specs.superblocks_Reads.{SaysSame}
+use Rattle.shape_changes.specs.superblocks_Update.{own_in}
 use Rattle.std.specs.Option.{option_map_or}
-use Rattle.superblocks.specs.Reading.{shape_of, final_shape, list_length, role_state, rows_held, holder, data_offset_of}
-use Rattle.row_io.specs.Rows.{reading_of}
-use Rattle.row_io.specs.Writes.{is_parity}
-use Rattle.row_io.proofs.Losses.{holder-of}
-use Rattle.list_io.specs.Full.{full_sector, RowStands}
-use Rattle.shape_views.specs.Regions.{AreShapesFit}
+use Rattle.shape_changes.specs.superblocks_Reading.{shape_of, final_shape, list_length, role_state, rows_held, holder, data_offset_of}
+use Rattle.shape_changes.specs.row_io_Rows.{reading_of}
+use Rattle.shape_changes.specs.row_io_Writes.{is_parity}
+use Rattle.shape_changes.proofs.row_io_Losses.{holder-of}
+use Rattle.shape_changes.specs.list_io_Full.{full_sector, RowStands}
+use Rattle.shape_changes.specs.shape_views_Regions.{AreShapesFit}
 use Rattle.shape_changes.specs.Updates.{planned_view}
 use Rattle.shape_ends.specs.Plans.{LessIsPlaced, PlannedIsSeen, FlushedIsZeroed}
-use Rattle.shape_views.proofs.Alike.{shape-alike, final-alike, length-alike, backup-alike}
-use Rattle.shape_views.proofs.Stands.{alone}
+use Rattle.shape_changes.proofs.shape_views_Alike.{shape-alike, final-alike, length-alike, backup-alike}
+use Rattle.shape_changes.proofs.shape_views_Stands.{alone}
 use Rattle.shape_changes.proofs.UpdateViews.{planned-is-read}
 use Rattle.shape_changes.proofs.PlansLose.{plans-lose}
 

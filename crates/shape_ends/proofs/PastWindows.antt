@@ -12,19 +12,19 @@ use Rattle.geometry.specs.Geometry.{window, unit, beyond}
 use Rattle.region_laws.proofs.RegionLaws.{forward-is, backward-is}
 use Rattle.geometry.proofs.Rows.{rows_hold}
 use Rattle.geometry.proofs.Valid.{bounded_pair}
-use Rattle.superblocks.specs.declared.members.Members.{Members}
+use Rattle.shape_changes.specs.superblocks_the_Members.{Members}
 use Rattle.bank.specs.Given.{Given}
-use Rattle.superblocks.specs.Reading.{Scope, is_reshaping, is_backward, shape_of, final_shape, list_length, next_window}
+use Rattle.shape_changes.specs.superblocks_Reading.{Scope, is_reshaping, is_backward, shape_of, final_shape, list_length, next_window}
 use Rattle.backup.specs.Section.{names_span, has_section}
-use Rattle.flat_history.specs.ActiveSection.{section_for}
-use Rattle.shape_views.specs.Regions.{backup_of, place_by, ArePlaced}
-use Rattle.shape_views.specs.Views.{Disk}
-use Rattle.shape_views.specs.Windows.{moved_past}
+use Rattle.shape_changes.specs.flat_history_ActiveSection.{section_for}
+use Rattle.shape_changes.specs.shape_views_Regions.{backup_of, place_by, ArePlaced}
+use Rattle.shape_changes.specs.shape_views_Views.{Disk}
+use Rattle.shape_changes.specs.shape_views_Windows.{moved_past}
 use Rattle.shape_changes.specs.Updates.{PastWindowsArePlain, IsAtEnd, IsPastPlace, ZeroingStaysRight}
 use Rattle.shape_changes.proofs.LessViews.{ends-place}
-use Rattle.shape_views.proofs.UnderWay.{is-reshaping, window-is, under-way}
-use Rattle.shape_views.proofs.Tails.{row-within}
-use Rattle.shape_views.proofs.WindowLaws.{IsUnread, unread-right, at-rows, open-some}
+use Rattle.shape_changes.proofs.shape_views_UnderWay.{is-reshaping, window-is, under-way}
+use Rattle.shape_changes.proofs.shape_views_Tails.{row-within}
+use Rattle.shape_changes.proofs.shape_views_WindowLaws.{IsUnread, unread-right, at-rows, open-some}
 
 -- the next window begins elsewhere
 module _ (old new : Shape) (size : ℕ) (span next : Span) (some : 0 < unit old new) where

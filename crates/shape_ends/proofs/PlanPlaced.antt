@@ -5,18 +5,18 @@ use Rattle.md_base.specs.declared.status.Role.TheVariants.{Missing}
 use Rattle.md_base.proofs.Tabulated.{length-tabulate}
 use Rattle.bank.specs.Given.{Given}
 use Rattle.sb1.specs.declared.sb.Sb.{Sb}
-use Rattle.superblocks.specs.declared.change.Give.{Give}
-use Rattle.superblocks.specs.declared.change.Give.TheVariants.{Same, Spare}
-use Rattle.superblocks.specs.declared.change.Give.TheVariants as give
-use Rattle.superblocks.specs.declared.change.Change.{Change}
-use Rattle.superblocks.specs.declared.members.Members.{Members}
-use Rattle.superblocks.specs.Reading.{Scope, role_count, role_state, holder, data_offset_of}
-use Rattle.superblocks.specs.Update.{give_of, planned_role}
-use Rattle.superblocks.specs.Outcome.{held_state, planned_state}
-use Rattle.superblock_reads.proofs.SaidLists.{role-holder}
-use Rattle.row_io.specs.Rows.{reading_of, IsHolder}
+use Rattle.shape_changes.specs.superblocks_the_Give.{Give}
+use Rattle.shape_changes.specs.superblocks_the_Give_TheVariants.{Same, Spare}
+use Rattle.shape_changes.specs.superblocks_the_Give_TheVariants as give
+use Rattle.shape_changes.specs.superblocks_the_Change.{Change}
+use Rattle.shape_changes.specs.superblocks_the_Members.{Members}
+use Rattle.shape_changes.specs.superblocks_Reading.{Scope, role_count, role_state, holder, data_offset_of}
+use Rattle.shape_changes.specs.superblocks_Update.{give_of, planned_role}
+use Rattle.shape_changes.specs.superblocks_Outcome.{held_state, planned_state}
+use Rattle.shape_changes.proofs.superblock_reads_SaidLists.{role-holder}
+use Rattle.shape_changes.specs.row_io_Rows.{reading_of, IsHolder}
 use Rattle.std.proofs.Common.{get_or}
-use Rattle.shape_views.specs.Regions.{ArePlaced}
+use Rattle.shape_changes.specs.shape_views_Regions.{ArePlaced}
 use Rattle.shape_changes.specs.Updates.{planned_view}
 use Rattle.shape_ends.specs.Plans.{AreGivenFit, PlannedIsPlaced}
 use Rattle.shape_ends.proofs.PlanRoles.{IsPlanned, planned-or, own-same}

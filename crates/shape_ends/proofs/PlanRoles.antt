@@ -10,17 +10,17 @@ use Rattle.md_base.specs.Search.{tabulate, least_below}
 use Rattle.md_base.specs.Shapes.{has_slot}
 use Rattle.md_base.proofs.Tabulated.{length-tabulate, get_or-tabulate}
 use Rattle.sb1.specs.declared.sb.Sb.{Sb}
-use Rattle.superblocks.specs.declared.change.Give.{Give}
-use Rattle.superblocks.specs.declared.change.Give.TheVariants.{Same, Spare}
-use Rattle.superblocks.specs.declared.change.Give.TheVariants as give
-use Rattle.superblocks.specs.declared.change.Change.{Change}
-use Rattle.superblocks.specs.declared.members.Members.{Members}
-use Rattle.superblocks.specs.Reading.{is_reshaping, shape_of, final_shape, role_count, role_state, rows_held, holder, is_whole}
-use Rattle.superblocks.specs.Update.{with_give, give_of, own_in, planned_role}
-use Rattle.superblocks.specs.Outcome.{is_same, is_planned_holder, held_state, planned_state}
-use Rattle.superblock_reads.proofs.SaidLists.{role-holder}
-use Rattle.row_io.specs.Rows.{reading_of, is_missing, held_slot}
-use Rattle.row_io.proofs.Losses.{holder-of}
+use Rattle.shape_changes.specs.superblocks_the_Give.{Give}
+use Rattle.shape_changes.specs.superblocks_the_Give_TheVariants.{Same, Spare}
+use Rattle.shape_changes.specs.superblocks_the_Give_TheVariants as give
+use Rattle.shape_changes.specs.superblocks_the_Change.{Change}
+use Rattle.shape_changes.specs.superblocks_the_Members.{Members}
+use Rattle.shape_changes.specs.superblocks_Reading.{is_reshaping, shape_of, final_shape, role_count, role_state, rows_held, holder, is_whole}
+use Rattle.shape_changes.specs.superblocks_Update.{with_give, give_of, own_in, planned_role}
+use Rattle.shape_changes.specs.superblocks_Outcome.{is_same, is_planned_holder, held_state, planned_state}
+use Rattle.shape_changes.proofs.superblock_reads_SaidLists.{role-holder}
+use Rattle.shape_changes.specs.row_io_Rows.{reading_of, is_missing, held_slot}
+use Rattle.shape_changes.proofs.row_io_Losses.{holder-of}
 use Rattle.shape_changes.specs.Updates.{planned_view}
 use Rattle.shape_ends.specs.Ends.{AreRolesKept, AreMissingKept}
 use Rattle.shape_ends.specs.Plans.{GivesFrom, HasNoneRecovering, PlansKeepRoles, PlannedIsBegun, PlannedIsEnded, PlannedIsTakenUp, PlannedIsTakenDown}

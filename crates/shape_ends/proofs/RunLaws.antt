@@ -4,16 +4,16 @@ use Rattle.md_base.specs.declared.places.Span.{Span}
 use Rattle.md_base.specs.Sectors.{Sector}
 use Rattle.bank.specs.Given.{Given}
 use Rattle.bank.specs.Tape.{Contents, IsIn}
-use Rattle.superblocks.specs.declared.members.Members.{Members}
-use Rattle.superblocks.specs.Reading.{Scope}
-use Rattle.shape_views.specs.Regions.{backup_of, open_by}
-use Rattle.shape_views.specs.Views.{Disk, Ledger, IsHeaderFit, IsViewRight, IsSeenRight}
-use Rattle.shape_views.specs.Windows.{IsCopyable, moved_past, IsFlushedRight}
+use Rattle.shape_changes.specs.superblocks_the_Members.{Members}
+use Rattle.shape_changes.specs.superblocks_Reading.{Scope}
+use Rattle.shape_changes.specs.shape_views_Regions.{backup_of, open_by}
+use Rattle.shape_changes.specs.shape_views_Views.{Disk, Ledger, IsHeaderFit, IsViewRight, IsSeenRight}
+use Rattle.shape_changes.specs.shape_views_Windows.{IsCopyable, moved_past, IsFlushedRight}
 use Rattle.shape_ends.specs.Runs.{IsWindowRun, IsWindowStanding, IsRightThroughout, WindowsStayRight, RecordsAreSeenRight}
-use Rattle.shape_views.proofs.WindowLaws.{at-rows, fewer-right, storing-right, naming-right, copying-right}
-use Rattle.shape_views.proofs.Headers.{backup-is, next-headers}
-use Rattle.shape_views.proofs.Tails.{moved-tails}
-use Rattle.shape_views.proofs.Stands.{moved-stands, moved-rows-stand, moved-placed, flushed-right}
+use Rattle.shape_changes.proofs.shape_views_WindowLaws.{at-rows, fewer-right, storing-right, naming-right, copying-right}
+use Rattle.shape_changes.proofs.shape_views_Headers.{backup-is, next-headers}
+use Rattle.shape_changes.proofs.shape_views_Tails.{moved-tails}
+use Rattle.shape_changes.proofs.shape_views_Stands.{moved-stands, moved-rows-stand, moved-placed, flushed-right}
 use Rattle.shape_changes.proofs.LessViews.{updates-seen}
 use Rattle.shape_ends.proofs.PastWindows.{past-windows-plain}
 

@@ -23,9 +23,9 @@ use Rattle.parity.specs.Parity.{p_byte, p_holds, q_holds}
 use Rattle.parity.proofs.Columns.{bool_cases, weighed, weighed-is, data_sum-tabulate, total-more}
 use Rattle.parity.proofs.Totals.{total, total-same}
 use Rattle.parity.proofs.Contents.{filled-whole}
-use Rattle.row_io.specs.Writes.{is_parity, IsGoodRow}
-use Rattle.list_io.specs.Full.{full_sector, AreWholeIn}
-use Rattle.list_io.proofs.FullLaws.{full-data, full-good, sector_there}
+use Rattle.shape_changes.specs.row_io_Writes.{is_parity, IsGoodRow}
+use Rattle.shape_changes.specs.list_io_Full.{full_sector, AreWholeIn}
+use Rattle.shape_changes.proofs.list_io_FullLaws.{full-data, full-good, sector_there}
 use Rattle.shape_ends.specs.Takeovers.{TakenUpIsPlacedAlike}
 
 -- ---- what the two shapes have in common

@@ -6,14 +6,14 @@ use Rattle.md_base.specs.declared.places.Shape.{Shape}
 use Rattle.md_base.specs.Search.{count_below}
 use Rattle.md_base.specs.Shapes.{data_disks, tolerance, tolerance_of, is_valid_shape}
 use Rattle.grow_plan.specs.Plans.{taken_up}
-use Rattle.superblocks.specs.declared.members.Members.{Members}
-use Rattle.superblocks.specs.Reading.{is_reshaping, shape_of, list_length}
-use Rattle.row_io.specs.Rows.{reading_of, is_missing, IsTolerated}
-use Rattle.flat_history.specs.Stands.{shape_for}
-use Rattle.shape_views.specs.Regions.{DoWithout}
+use Rattle.shape_changes.specs.superblocks_the_Members.{Members}
+use Rattle.shape_changes.specs.superblocks_Reading.{is_reshaping, shape_of, list_length}
+use Rattle.shape_changes.specs.row_io_Rows.{reading_of, is_missing, IsTolerated}
+use Rattle.shape_changes.specs.flat_history_Stands.{shape_for}
+use Rattle.shape_changes.specs.shape_views_Regions.{DoWithout}
 use Rattle.shape_ends.specs.Ends.{IsPlacedAs, AreRolesKept}
 use Rattle.shape_ends.specs.Takeovers.{IsTakenUp, IsTakenDown, TakeoversPlaceAlike, TakeoversAreRight, TakeoversAreSeenRight}
-use Rattle.shape_views.proofs.Stands.{for-still, final-still, list-still}
+use Rattle.shape_changes.proofs.shape_views_Stands.{for-still, final-still, list-still}
 use Rattle.shape_ends.proofs.EndLaws.{alike-plans, still-plain, fewer-pass}
 use Rattle.shape_changes.proofs.LessViews.{updates-seen}
 use Rattle.shape_ends.proofs.TakenShapes.{taken-alike, taken-over}

@@ -4,11 +4,11 @@ use Rattle.md_base.specs.declared.places.Span.{Span}
 use Rattle.md_base.specs.Sectors.{Sector}
 use Rattle.bank.specs.Given.{Given}
 use Rattle.bank.specs.Tape.{Contents}
-use Rattle.superblocks.specs.declared.members.Members.{Members}
-use Rattle.superblocks.specs.Reading.{Scope, next_window}
-use Rattle.shape_views.specs.Regions.{open_by, ArePlaced}
-use Rattle.shape_views.specs.Views.{Disk, Ledger, IsHeaderFit, AreHeadersFit, IsViewRight, IsSeenRight}
-use Rattle.shape_views.specs.Windows.{IsSomewhere, AreFewer, HasNoSection, IsCopyable, IsCopying, IsUpdating, moved_past}
+use Rattle.shape_changes.specs.superblocks_the_Members.{Members}
+use Rattle.shape_changes.specs.superblocks_Reading.{Scope, next_window}
+use Rattle.shape_changes.specs.shape_views_Regions.{open_by, ArePlaced}
+use Rattle.shape_changes.specs.shape_views_Views.{Disk, Ledger, IsHeaderFit, AreHeadersFit, IsViewRight, IsSeenRight}
+use Rattle.shape_changes.specs.shape_views_Windows.{IsSomewhere, AreFewer, HasNoSection, IsCopyable, IsCopying, IsUpdating, moved_past}
 use Rattle.shape_changes.specs.Updates.{IsReadInUpdate}
 use Rattle.shape_ends.specs.Runs.{IsWindowStanding}
 

@@ -7,17 +7,17 @@ use Rattle.bank.specs.Given.{Given}
 use Rattle.bank.specs.Tape.{Contents, IsIn}
 use Rattle.layout.specs.Layout.{place}
 use Rattle.geometry.specs.Geometry.{rows}
-use Rattle.superblocks.specs.declared.members.Members.{Members}
-use Rattle.superblocks.specs.Reading.{Scope, is_reshaping, is_backward, shape_of, final_shape, list_length, data_offset_of}
-use Rattle.row_io.specs.Rows.{reading_of, is_missing, held_slot}
-use Rattle.list_io.specs.Full.{full_sector, AreWholeIn}
+use Rattle.shape_changes.specs.superblocks_the_Members.{Members}
+use Rattle.shape_changes.specs.superblocks_Reading.{Scope, is_reshaping, is_backward, shape_of, final_shape, list_length, data_offset_of}
+use Rattle.shape_changes.specs.row_io_Rows.{reading_of, is_missing, held_slot}
+use Rattle.shape_changes.specs.list_io_Full.{full_sector, AreWholeIn}
 use Rattle.backup.specs.Section.{is_header_of, names_span}
-use Rattle.flat_history.specs.declared.events.Event.TheVariants.{Resized}
-use Rattle.flat_history.specs.Flat.{values_after}
-use Rattle.flat_history.specs.Stands.{shape_for}
-use Rattle.shape_views.specs.Regions.{ArePlaced, DoWithout}
-use Rattle.shape_views.specs.Views.{Disk, Ledger, AreHeadersFit, IsTail, AreTailsZero, IsViewRight, IsSeenRight}
-use Rattle.shape_views.specs.Windows.{IsSomewhere, HasNoSection, IsUpdating, ListStands, RowsStand}
+use Rattle.shape_changes.specs.flat_history_the_Event_TheVariants.{Resized}
+use Rattle.shape_changes.specs.flat_history_Flat.{values_after}
+use Rattle.shape_changes.specs.flat_history_Stands.{shape_for}
+use Rattle.shape_changes.specs.shape_views_Regions.{ArePlaced, DoWithout}
+use Rattle.shape_changes.specs.shape_views_Views.{Disk, Ledger, AreHeadersFit, IsTail, AreTailsZero, IsViewRight, IsSeenRight}
+use Rattle.shape_changes.specs.shape_views_Windows.{IsSomewhere, HasNoSection, IsUpdating, ListStands, RowsStand}
 use Rattle.shape_changes.specs.Updates.{IsReadInUpdate, IsAtStart, IsAtEnd}
 use Rattle.shape_changes.specs.Steady.{AreGoneTold}
 

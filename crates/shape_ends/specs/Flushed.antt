@@ -4,14 +4,14 @@ use Rattle.bank.specs.declared.bank.Operation.{Operation}
 use Rattle.bank.specs.Given.{Given}
 use Rattle.md_base.specs.Sectors.{Sector}
 use Rattle.bank.specs.Tape.{Contents, disk}
-use Rattle.superblocks.specs.declared.change.Give.TheVariants as give
-use Rattle.superblocks.specs.declared.change.Change.{Change}
-use Rattle.superblocks.specs.declared.members.Members.{Members}
-use Rattle.superblocks.specs.Reading.{Scope, is_reshaping, shape_of}
-use Rattle.superblocks.specs.Update.{give_of}
-use Rattle.shape_views.specs.Regions.{ArePlaced}
-use Rattle.shape_views.specs.Views.{Ledger}
-use Rattle.shape_views.specs.Windows.{IsFlushedRight}
+use Rattle.shape_changes.specs.superblocks_the_Give_TheVariants as give
+use Rattle.shape_changes.specs.superblocks_the_Change.{Change}
+use Rattle.shape_changes.specs.superblocks_the_Members.{Members}
+use Rattle.shape_changes.specs.superblocks_Reading.{Scope, is_reshaping, shape_of}
+use Rattle.shape_changes.specs.superblocks_Update.{give_of}
+use Rattle.shape_changes.specs.shape_views_Regions.{ArePlaced}
+use Rattle.shape_changes.specs.shape_views_Views.{Ledger}
+use Rattle.shape_changes.specs.shape_views_Windows.{IsFlushedRight}
 use Rattle.shape_changes.specs.Safety.{HasRoomLeft}
 use Rattle.shape_changes.specs.Steady.{IsSteady, IsSafeNow, AreGoneTold}
 use Rattle.shape_changes.specs.Updates.{planned_view, IsAtStart}

@@ -4,15 +4,15 @@ use Rattle.md_base.specs.Sectors.{Sector, zero_sector}
 use Rattle.bank.specs.Given.{Given}
 use Rattle.bank.specs.Tape.{Contents, IsIn}
 use Rattle.geometry.specs.Geometry.{rows}
-use Rattle.superblocks.specs.declared.members.Members.{Members}
-use Rattle.superblocks.specs.Reading.{Scope, is_reshaping, is_backward, shape_of, final_shape, list_length}
-use Rattle.row_io.specs.Rows.{reading_of}
-use Rattle.list_io.specs.Full.{DataStands, RowStands}
-use Rattle.flat_history.specs.declared.events.Event.TheVariants.{Resized}
-use Rattle.flat_history.specs.declared.events.Entry.{Entry}
-use Rattle.flat_history.specs.Flat.{values_of, values_after, length_of, length_after}
-use Rattle.shape_views.specs.Regions.{ArePlaced, DoWithout}
-use Rattle.shape_views.specs.Windows.{ListStands, RowsStand, AreTailsStanding}
+use Rattle.shape_changes.specs.superblocks_the_Members.{Members}
+use Rattle.shape_changes.specs.superblocks_Reading.{Scope, is_reshaping, is_backward, shape_of, final_shape, list_length}
+use Rattle.shape_changes.specs.row_io_Rows.{reading_of}
+use Rattle.shape_changes.specs.list_io_Full.{DataStands, RowStands}
+use Rattle.shape_changes.specs.flat_history_the_Event_TheVariants.{Resized}
+use Rattle.shape_changes.specs.flat_history_the_Entry.{Entry}
+use Rattle.shape_changes.specs.flat_history_Flat.{values_of, values_after, length_of, length_after}
+use Rattle.shape_changes.specs.shape_views_Regions.{ArePlaced, DoWithout}
+use Rattle.shape_changes.specs.shape_views_Windows.{ListStands, RowsStand, AreTailsStanding}
 use Rattle.shape_ends.specs.Ends.{AreMissingKept, IsEnded}
 
 -- behind the list's end there are zeros

@@ -3,9 +3,9 @@ use Rattle.std.specs.Prelude.{◌≤◌, ℕ, length}
 use Rattle.md_base.specs.Sectors.{Sector}
 use Rattle.bank.specs.Given.{Given}
 use Rattle.bank.specs.Tape.{Contents, IsDrawn, IsIn}
-use Rattle.flat_history.specs.World.{World, may_hold}
-use Rattle.flat_history.specs.Sound.{OpensFit, LeavesSound}
-use Rattle.shape_views.specs.Views.{Disk, Ledger, IsSeenRight}
+use Rattle.shape_changes.specs.flat_history_World.{World, may_hold}
+use Rattle.shape_changes.specs.flat_history_Sound.{OpensFit, LeavesSound}
+use Rattle.shape_changes.specs.shape_views_Views.{Disk, Ledger, IsSeenRight}
 
 -- Where the values bound what a stop may leave at a mark, and each image of them is seen right, by whatever ledger, each image there is sound if it assembles.
 abbrev pub ViewsLeaveSound : Type 0

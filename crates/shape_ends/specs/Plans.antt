@@ -8,20 +8,20 @@ use Rattle.geometry.specs.Geometry.{rows}
 use Rattle.md_base.specs.declared.status.Role.TheVariants.{Recovering}
 use Rattle.sb1.specs.declared.sb.Sb.{Sb}
 use Rattle.grow_plan.specs.Plans.{taken_up}
-use Rattle.superblocks.specs.declared.change.Give.TheVariants as give
-use Rattle.superblocks.specs.declared.change.Change.{Change}
-use Rattle.superblocks.specs.declared.members.Members.{Members}
-use Rattle.superblocks.specs.Reading.{Scope, is_reshaping, shape_of, final_shape, list_length, role_count, role_state, data_offset_of}
-use Rattle.superblocks.specs.Update.{give_of, own_in}
-use Rattle.superblocks.specs.Updating.{planned_newest}
-use Rattle.superblocks.specs.Rounds.{IsReadAsPlanned}
-use Rattle.superblock_reads.specs.Said.{AreSaidAsPlanned}
-use Rattle.list_io.specs.Full.{RowStands}
-use Rattle.row_io.specs.Rows.{reading_of, IsHolder}
-use Rattle.flat_history.specs.Stands.{backup_absent}
-use Rattle.shape_views.specs.Regions.{AreShapesFit, ArePlaced, DoWithout}
-use Rattle.shape_views.specs.Views.{Disk, Ledger}
-use Rattle.shape_views.specs.Windows.{AreHoldersFlushed}
+use Rattle.shape_changes.specs.superblocks_the_Give_TheVariants as give
+use Rattle.shape_changes.specs.superblocks_the_Change.{Change}
+use Rattle.shape_changes.specs.superblocks_the_Members.{Members}
+use Rattle.shape_changes.specs.superblocks_Reading.{Scope, is_reshaping, shape_of, final_shape, list_length, role_count, role_state, data_offset_of}
+use Rattle.shape_changes.specs.superblocks_Update.{give_of, own_in}
+use Rattle.shape_changes.specs.superblocks_Updating.{planned_newest}
+use Rattle.shape_changes.specs.superblocks_Rounds.{IsReadAsPlanned}
+use Rattle.shape_changes.specs.superblock_reads_Said.{AreSaidAsPlanned}
+use Rattle.shape_changes.specs.list_io_Full.{RowStands}
+use Rattle.shape_changes.specs.row_io_Rows.{reading_of, IsHolder}
+use Rattle.shape_changes.specs.flat_history_Stands.{backup_absent}
+use Rattle.shape_changes.specs.shape_views_Regions.{AreShapesFit, ArePlaced, DoWithout}
+use Rattle.shape_changes.specs.shape_views_Views.{Disk, Ledger}
+use Rattle.shape_changes.specs.shape_views_Windows.{AreHoldersFlushed}
 use Rattle.shape_changes.specs.Updates.{planned_view, IsLessView, IsReadInUpdate, HasOneHolder, IsAtStart, IsAtEnd}
 use Rattle.shape_changes.specs.Steady.{AreGoneTold}
 use Rattle.shape_ends.specs.Ends.{AreRolesKept, AreMissingKept, AreZeroed, IsBegun, IsEnded}

@@ -6,14 +6,14 @@ use Rattle.bank.specs.Given.{Given}
 use Rattle.bank.specs.Tape.{Contents, IsIn}
 use Rattle.geometry.specs.Geometry.{rows}
 use Rattle.geometry.specs.Geometry as geometry
-use Rattle.superblocks.specs.declared.members.Members.{Members}
-use Rattle.superblocks.specs.Reading.{Scope, is_clean, final_shape, list_length, next_window}
-use Rattle.row_io.specs.Rows.{reading_of}
-use Rattle.list_io.specs.Full.{DataStands, RowStands}
+use Rattle.shape_changes.specs.superblocks_the_Members.{Members}
+use Rattle.shape_changes.specs.superblocks_Reading.{Scope, is_clean, final_shape, list_length, next_window}
+use Rattle.shape_changes.specs.row_io_Rows.{reading_of}
+use Rattle.shape_changes.specs.list_io_Full.{DataStands, RowStands}
 use Rattle.backup.specs.Section.{names_span}
-use Rattle.shape_views.specs.Regions.{backup_of, open_by, DoWithout}
-use Rattle.shape_views.specs.Views.{Disk, Ledger, IsTailZero, IsViewRight, IsSeenRight}
-use Rattle.shape_views.specs.Windows.{IsSomewhere, AreFewer, HasNoSection, IsStoring, IsNaming, IsCopying, IsUpdating, ListStands, RowsStand, AreHoldersFlushed, moved_past}
+use Rattle.shape_changes.specs.shape_views_Regions.{backup_of, open_by, DoWithout}
+use Rattle.shape_changes.specs.shape_views_Views.{Disk, Ledger, IsTailZero, IsViewRight, IsSeenRight}
+use Rattle.shape_changes.specs.shape_views_Windows.{IsSomewhere, AreFewer, HasNoSection, IsStoring, IsNaming, IsCopying, IsUpdating, ListStands, RowsStand, AreHoldersFlushed, moved_past}
 use Rattle.shape_changes.specs.Updates.{IsReadInUpdate}
 
 -- What the stretches of a window leave, one after another: its section is stored and flushed, named and flushed; its rows are copied, and the members flushed.

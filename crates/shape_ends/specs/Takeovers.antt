@@ -5,12 +5,12 @@ use Rattle.md_base.specs.Shapes.{is_valid_shape}
 use Rattle.bank.specs.Given.{Given}
 use Rattle.bank.specs.Tape.{Contents}
 use Rattle.grow_plan.specs.Plans.{taken_up}
-use Rattle.superblocks.specs.declared.members.Members.{Members}
-use Rattle.superblocks.specs.Reading.{Scope, is_reshaping, shape_of}
-use Rattle.row_io.specs.Rows.{reading_of, is_missing}
-use Rattle.shape_views.specs.Regions.{ArePlaced}
-use Rattle.shape_views.specs.Views.{Disk, Ledger, IsViewRight, IsSeenRight}
-use Rattle.shape_views.specs.Windows.{IsSomewhere, IsUpdating}
+use Rattle.shape_changes.specs.superblocks_the_Members.{Members}
+use Rattle.shape_changes.specs.superblocks_Reading.{Scope, is_reshaping, shape_of}
+use Rattle.shape_changes.specs.row_io_Rows.{reading_of, is_missing}
+use Rattle.shape_changes.specs.shape_views_Regions.{ArePlaced}
+use Rattle.shape_changes.specs.shape_views_Views.{Disk, Ledger, IsViewRight, IsSeenRight}
+use Rattle.shape_changes.specs.shape_views_Windows.{IsSomewhere, IsUpdating}
 use Rattle.shape_changes.specs.Updates.{IsReadInUpdate}
 use Rattle.shape_ends.specs.Ends.{IsPlacedAs, AreRolesKept, AreMissingKept, ArePlacesAlike, IsToldWith}
 

@@ -13,8 +13,8 @@ use Rattle.sb1.specs.declared.sb.Sb.{Sb}
 use Rattle.layout.specs.Layout.{place}
 use Rattle.layout.proofs.Places.{place-row_below, place-role_below}
 use Rattle.geometry.specs.Geometry.{unit, window, side, is_size}
-use Rattle.superblocks.specs.Reading.{Scope, is_reshaping, is_backward, shape_of, target_of, final_shape, role_count, list_length, next_window, count_of}
-use Rattle.superblocks.specs.Reads.{SaysSame}
+use Rattle.flat_history.specs.superblocks_Reading.{Scope, is_reshaping, is_backward, shape_of, target_of, final_shape, role_count, list_length, next_window, count_of}
+use Rattle.flat_history.specs.superblocks_Reads.{SaysSame}
 use Rattle.flat_history.specs.Stands.{shape_at, shape_for, has_room, backup_absent}
 use Rattle.shape_views.specs.Regions.{AreShapesFit, place_by}
 

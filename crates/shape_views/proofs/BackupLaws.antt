@@ -9,7 +9,7 @@ use Rattle.bank.specs.Tape.{IsIn, Kept, run}
 use Rattle.bank.specs.declared.bank.Operation.TheVariants.{Write}
 use Rattle.bank.proofs.Laws.{kept_in}
 use Rattle.sb1.specs.declared.sb.Sb.{Sb}
-use Rattle.superblocks.specs.Reading.{Scope, next_window}
+use Rattle.flat_history.specs.superblocks_Reading.{Scope, next_window}
 use Rattle.flat_history.specs.ActiveSection.{section_for}
 use Rattle.backup.specs.Section.{is_header_of, names_span, has_section}
 use Rattle.backup.specs.Written.{header_of, cleared_header, IsHeaderFor}

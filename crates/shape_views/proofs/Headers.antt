@@ -18,7 +18,7 @@ use Rattle.geometry.proofs.Valid.{the_unit}
 use Rattle.region_laws.specs.Regions.{IsUnderWay}
 use Rattle.region_laws.proofs.RegionLaws.{forward-is, backward-is}
 use Rattle.sb1.specs.declared.sb.Sb.{Sb}
-use Rattle.superblocks.specs.Reading.{Scope, is_backward, shape_of, final_shape, next_window}
+use Rattle.flat_history.specs.superblocks_Reading.{Scope, is_backward, shape_of, final_shape, next_window}
 use Rattle.backup.specs.Section.{is_header_of, names_span}
 use Rattle.backup.specs.Written.{header_of}
 use Rattle.backup.proofs.WrittenLaws.{headers-named}

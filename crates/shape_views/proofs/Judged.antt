@@ -18,13 +18,13 @@ use Rattle.layout.specs.Layout.{row_roles, is_parity_only}
 use Rattle.layout.proofs.Limits.{limited}
 use Rattle.layout.proofs.OnlyParity.{parity_only-all}
 use Rattle.parity.specs.Parity.{fill}
-use Rattle.superblocks.specs.declared.members.Members.{Members}
-use Rattle.superblocks.specs.Reading.{is_clean, shape_of, target_of, final_shape, shapes_in_force, role_count, list_length, data_offset_of, role_state, holder, is_whole}
-use Rattle.superblocks.specs.Verdict.{dirty_degraded, missing_count, too_many, holds_data}
-use Rattle.superblocks.specs.Verdict as verdicts
-use Rattle.superblocks.proofs.ReadAlike.{none_below}
-use Rattle.row_io.specs.Rows.{reading_of, is_missing, is_held, held_slot, held_sector, held_row, IsTolerated}
-use Rattle.row_io.proofs.Lacks.{lacking-missing}
+use Rattle.flat_history.specs.superblocks_the_Members.{Members}
+use Rattle.flat_history.specs.superblocks_Reading.{is_clean, shape_of, target_of, final_shape, shapes_in_force, role_count, list_length, data_offset_of, role_state, holder, is_whole}
+use Rattle.flat_history.specs.superblocks_Verdict.{dirty_degraded, missing_count, too_many, holds_data}
+use Rattle.flat_history.specs.superblocks_Verdict as verdicts
+use Rattle.flat_history.proofs.superblocks_ReadAlike.{none_below}
+use Rattle.list_io.specs.row_io_Rows.{reading_of, is_missing, is_held, held_slot, held_sector, held_row, IsTolerated}
+use Rattle.list_io.proofs.row_io_Lacks.{lacking-missing}
 use Rattle.list_io.proofs.FullLaws.{places-are-full, standing-is-full}
 use Rattle.flat_history.specs.declared.events.Entry.{Entry}
 use Rattle.flat_history.specs.Stands.{stands, verdict, shape_for, covers}

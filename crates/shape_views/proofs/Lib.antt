@@ -8,3 +8,36 @@ pub mod Stands
 pub mod Tails
 pub mod UnderWay
 pub mod WindowLaws
+pub use Rattle.flat_history.proofs.SameLaws as flat_history_SameLaws
+pub use Rattle.list_io.proofs.row_io_Losses
+pub use Rattle.flat_history.proofs.superblock_reads_RoundReads
+pub use Rattle.flat_history.proofs.superblock_reads_SaidSlots
+pub use Rattle.flat_history.proofs.superblock_reads_SaidLists
+pub use Rattle.flat_history.proofs.superblock_reads_RoundsRead
+pub use Rattle.flat_history.proofs.superblock_reads_Tied
+pub use Rattle.flat_history.proofs.superblock_reads_StageReads
+pub use Rattle.flat_history.proofs.superblocks_PlannedSb
+pub use Rattle.flat_history.proofs.superblocks_SlotSets
+pub use Rattle.flat_history.proofs.superblocks_WrittenReads
+pub use Rattle.flat_history.proofs.superblocks_ReadLists
+pub use Rattle.flat_history.proofs.superblocks_ReadAlike
+pub use Rattle.flat_history.proofs.superblocks_UpdateReads
+pub use Rattle.flat_history.proofs.superblocks_ValidFields
+pub use Rattle.list_io.proofs.FullLaws as list_io_FullLaws
+pub use Rattle.flat_history.proofs.SoundLaws as flat_history_SoundLaws
+pub use Rattle.list_io.proofs.row_io_Tables
+pub use Rattle.list_io.proofs.row_io_NewRow
+pub use Rattle.list_io.proofs.row_io_Written
+pub use Rattle.flat_history.proofs.superblocks_StoredSlots
+pub use Rattle.flat_history.proofs.OneShapeLegal as flat_history_OneShapeLegal
+pub use Rattle.flat_history.proofs.LegalLaws as flat_history_LegalLaws
+pub use Rattle.flat_history.proofs.GoneCounts as flat_history_GoneCounts
+pub use Rattle.flat_history.proofs.superblock_reads_PlanFits
+pub use Rattle.flat_history.proofs.superblock_reads_Following
+pub use Rattle.flat_history.proofs.superblock_reads_UpTo
+pub use Rattle.list_io.proofs.row_io_Apart
+pub use Rattle.flat_history.proofs.superblock_reads_Accepted
+pub use Rattle.flat_history.proofs.superblock_reads_FoundHeld
+pub use Rattle.flat_history.proofs.GivenLaws as flat_history_GivenLaws
+pub use Rattle.flat_history.proofs.SettledLaws as flat_history_SettledLaws
+pub use Rattle.flat_history.proofs.OneShapeGone as flat_history_OneShapeGone

@@ -19,15 +19,15 @@ use Rattle.parity.specs.Parity.{Row, lacking_in, AreEquationsMet, fill}
 use Rattle.parity.specs.Rows.{parity_count, row_without}
 use Rattle.parity.proofs.Columns.{tabulate-same}
 use Rattle.parity.proofs.OwnFills.{good-rows-stay-good}
-use Rattle.superblocks.specs.declared.members.Members.{Members}
-use Rattle.superblocks.specs.Reading.{Scope, Reading, reading, is_clean, is_backward, shape_of, target_of, final_shape, shapes_in_force, role_count, list_length, next_window, data_offset_of}
-use Rattle.superblocks.specs.Verdict.{missing_count, too_many, holds_data}
-use Rattle.superblocks.specs.Verdict as verdicts
-use Rattle.superblocks.proofs.ReadAlike.{none_below}
-use Rattle.row_io.specs.Rows.{reading_of, is_missing, is_held, held_slot, IsTolerated}
-use Rattle.row_io.specs.Rows as rows
-use Rattle.row_io.proofs.Losses.{row_is}
-use Rattle.row_io.proofs.NewRow.{lacking_few}
+use Rattle.flat_history.specs.superblocks_the_Members.{Members}
+use Rattle.flat_history.specs.superblocks_Reading.{Scope, Reading, reading, is_clean, is_backward, shape_of, target_of, final_shape, shapes_in_force, role_count, list_length, next_window, data_offset_of}
+use Rattle.flat_history.specs.superblocks_Verdict.{missing_count, too_many, holds_data}
+use Rattle.flat_history.specs.superblocks_Verdict as verdicts
+use Rattle.flat_history.proofs.superblocks_ReadAlike.{none_below}
+use Rattle.list_io.specs.row_io_Rows.{reading_of, is_missing, is_held, held_slot, IsTolerated}
+use Rattle.list_io.specs.row_io_Rows as rows
+use Rattle.list_io.proofs.row_io_Losses.{row_is}
+use Rattle.list_io.proofs.row_io_NewRow.{lacking_few}
 use Rattle.list_io.specs.Full.{full_sector, RowStands}
 use Rattle.list_io.proofs.FullLaws.{full-good, held-full, places-are-full, standing-is-full}
 use Rattle.flat_history.specs.Opened.{IsSound, HasGoodRows}

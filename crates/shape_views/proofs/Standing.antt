@@ -15,13 +15,13 @@ use Rattle.bank.specs.Tape.{Contents}
 use Rattle.layout.specs.Layout.{row_roles}
 use Rattle.parity.specs.Parity.{Row, fill}
 use Rattle.parity.proofs.Columns.{tabulate-same}
-use Rattle.superblocks.specs.declared.members.Members.{Members}
-use Rattle.superblocks.specs.Reading.{Scope, Reading, reading, list_length, next_window, role_state, rows_held, holder, data_offset_of}
-use Rattle.superblocks.specs.Verdict.{members_missing, dirty_degraded}
-use Rattle.superblocks.specs.Reads.{roles_refusal}
-use Rattle.superblocks.proofs.ReadAlike.{refused-same}
-use Rattle.row_io.specs.Rows.{reading_of}
-use Rattle.row_io.specs.Rows as rows
+use Rattle.flat_history.specs.superblocks_the_Members.{Members}
+use Rattle.flat_history.specs.superblocks_Reading.{Scope, Reading, reading, list_length, next_window, role_state, rows_held, holder, data_offset_of}
+use Rattle.flat_history.specs.superblocks_Verdict.{members_missing, dirty_degraded}
+use Rattle.flat_history.specs.superblocks_Reads.{roles_refusal}
+use Rattle.flat_history.proofs.superblocks_ReadAlike.{refused-same}
+use Rattle.list_io.specs.row_io_Rows.{reading_of}
+use Rattle.list_io.specs.row_io_Rows as rows
 use Rattle.backup.specs.Section.{section_sector}
 use Rattle.flat_history.specs.ActiveSection.{section_for, active_section}
 use Rattle.flat_history.specs.Stands.{stands, verdict, refusal_of, held_sector, placed_sector, shape_for, standing_sector, covers}

@@ -25,11 +25,11 @@ use Rattle.region_laws.specs.Regions.{IsUnderWay}
 use Rattle.geometry.proofs.GoingOn.{keeps_the_unit}
 use Rattle.region_laws.proofs.RegionLaws.{forward-is, backward-is, new-ahead, old-ahead, new-behind, old-behind}
 use Rattle.geometry.proofs.Rows.{rows_hold}
-use Rattle.superblocks.specs.declared.members.Members.{Members}
-use Rattle.superblocks.specs.Reading.{Scope, is_reshaping, is_backward, shape_of, final_shape, list_length, next_window, data_offset_of}
-use Rattle.superblocks.specs.Verdict.{off_unit, unit_of}
-use Rattle.row_io.specs.Rows.{reading_of, held_slot}
-use Rattle.row_io.proofs.Losses.{holder-of}
+use Rattle.flat_history.specs.superblocks_the_Members.{Members}
+use Rattle.flat_history.specs.superblocks_Reading.{Scope, is_reshaping, is_backward, shape_of, final_shape, list_length, next_window, data_offset_of}
+use Rattle.flat_history.specs.superblocks_Verdict.{off_unit, unit_of}
+use Rattle.list_io.specs.row_io_Rows.{reading_of, held_slot}
+use Rattle.list_io.proofs.row_io_Losses.{holder-of}
 use Rattle.list_io.specs.Full.{DataStands, RowStands}
 use Rattle.list_io.proofs.FullLaws.{data_here, full-data, sector_there}
 use Rattle.flat_history.specs.Stands.{shape_at, shape_for, covers}

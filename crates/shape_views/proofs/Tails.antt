@@ -18,7 +18,7 @@ use Rattle.md_base.specs.Shapes.{data_disks, is_valid_shape, stripe_sectors}
 use Rattle.sb1.specs.declared.sb.Sb.{Sb}
 use Rattle.layout.specs.Layout.{place, stripe_of}
 use Rattle.layout.proofs.Places.{chunk_some, data_some, place-sector, sector_at}
-use Rattle.superblocks.specs.Reading.{is_backward, shape_of, final_shape, list_length, next_window}
+use Rattle.flat_history.specs.superblocks_Reading.{is_backward, shape_of, final_shape, list_length, next_window}
 use Rattle.flat_history.specs.Stands.{shape_for}
 use Rattle.shape_views.specs.Regions.{AreShapesFit}
 use Rattle.shape_views.specs.Views.{IsTail}

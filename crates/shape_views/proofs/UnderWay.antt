@@ -18,8 +18,8 @@ use Rattle.geometry.specs.Geometry as geometry
 use Rattle.region_laws.specs.Regions.{IsDirected, IsUnderWay, IsWindowRow}
 use Rattle.region_laws.proofs.RegionLaws.{windows-write}
 use Rattle.geometry.proofs.Rows.{writes_apart}
-use Rattle.superblocks.specs.Reading.{is_reshaping, is_backward, shape_of, final_shape, list_length, next_window}
-use Rattle.superblocks.specs.Verdict.{off_unit, unit_of}
+use Rattle.flat_history.specs.superblocks_Reading.{is_reshaping, is_backward, shape_of, final_shape, list_length, next_window}
+use Rattle.flat_history.specs.superblocks_Verdict.{off_unit, unit_of}
 use Rattle.flat_history.specs.Stands.{shape_at, shape_for, covers}
 use Rattle.shape_views.specs.Regions.{AreShapesFit, place_by}
 

@@ -9,10 +9,10 @@ use Rattle.md_base.specs.Shapes.{has_slot}
 use Rattle.bank.specs.Given.{Given}
 use Rattle.bank.specs.Tape.{Contents, IsIn, IsDrawn}
 use Rattle.sb1.specs.declared.sb.Sb.{Sb}
-use Rattle.superblocks.specs.declared.members.Members.{Members}
-use Rattle.superblocks.specs.Reading.{Scope, next_window, final_shape, role_state, holder, data_offset_of}
-use Rattle.row_io.specs.Rows.{reading_of, held_slot}
-use Rattle.row_io.proofs.Losses.{holder-of}
+use Rattle.flat_history.specs.superblocks_the_Members.{Members}
+use Rattle.flat_history.specs.superblocks_Reading.{Scope, next_window, final_shape, role_state, holder, data_offset_of}
+use Rattle.list_io.specs.row_io_Rows.{reading_of, held_slot}
+use Rattle.list_io.proofs.row_io_Losses.{holder-of}
 use Rattle.list_io.specs.Full.{RowStands}
 use Rattle.backup.specs.Section.{has_section}
 use Rattle.flat_history.specs.ActiveSection.{section_for}
@@ -25,7 +25,7 @@ use Rattle.list_io.proofs.FullLaws.{places-are-full}
 use Rattle.region_laws.proofs.RegionLaws.{regions-apart}
 use Rattle.md_base.specs.declared.places.Side.TheVariants.{Old, New}
 use Rattle.layout.specs.Layout.{place}
-use Rattle.superblocks.specs.Reading.{is_backward, shape_of}
+use Rattle.flat_history.specs.superblocks_Reading.{is_backward, shape_of}
 use Rattle.shape_views.proofs.Alike.{valid-for}
 use Rattle.shape_views.proofs.Headers.{backup-is}
 use Rattle.shape_views.proofs.Tails.{no-tail, first, listed, same-row, new-there}

@@ -6,8 +6,8 @@ use Rattle.md_base.specs.Shapes.{has_slot}
 use Rattle.bank.specs.Given.{Given}
 use Rattle.bank.specs.Tape.{Contents, IsIn}
 use Rattle.sb1.specs.declared.sb.Sb.{Sb}
-use Rattle.superblocks.specs.declared.members.Members.{Members}
-use Rattle.superblocks.specs.Reading.{Scope, next_window}
+use Rattle.flat_history.specs.superblocks_the_Members.{Members}
+use Rattle.flat_history.specs.superblocks_Reading.{Scope, next_window}
 use Rattle.backup.specs.Section.{has_section}
 use Rattle.backup.specs.Written.{header_of, cleared_header}
 use Rattle.backup.specs.Storing.{nth_sector, IsStoring, IsNaming, IsStoringOrNaming, IsHeading, IsNamed, IsHeaded}

@@ -2,8 +2,8 @@
 use Rattle.std.specs.Prelude.{◌≡◌, None, Some}
 use Rattle.bank.specs.Given.{Given}
 use Rattle.bank.specs.Tape.{Contents, IsDrawn}
-use Rattle.superblocks.specs.declared.members.Members.{Members}
-use Rattle.superblocks.specs.Reading.{Scope, Reading, reading}
+use Rattle.flat_history.specs.superblocks_the_Members.{Members}
+use Rattle.flat_history.specs.superblocks_Reading.{Scope, Reading, reading}
 use Rattle.flat_history.specs.Opened.{IsSound}
 use Rattle.flat_history.specs.Stands.{verdict}
 use Rattle.shape_views.specs.Regions.{IsReadOf}

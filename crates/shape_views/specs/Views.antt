@@ -6,9 +6,9 @@ use Rattle.bank.specs.Given.{Given, sizes}
 use Rattle.bank.specs.Tape.{Contents, IsDrawn, IsIn}
 use Rattle.sb1.specs.declared.sb.Sb.{Sb}
 use Rattle.layout.specs.Layout.{place, stripe_of}
-use Rattle.superblocks.specs.declared.members.Members.{Members}
-use Rattle.superblocks.specs.Reading.{Scope, Reading, reading, is_clean, is_reshaping, is_backward, final_shape, role_count, list_length, next_window, data_offset_of}
-use Rattle.row_io.specs.Rows.{reading_of, is_missing, held_slot}
+use Rattle.flat_history.specs.superblocks_the_Members.{Members}
+use Rattle.flat_history.specs.superblocks_Reading.{Scope, Reading, reading, is_clean, is_reshaping, is_backward, final_shape, role_count, list_length, next_window, data_offset_of}
+use Rattle.list_io.specs.row_io_Rows.{reading_of, is_missing, held_slot}
 use Rattle.list_io.specs.Full.{RowStands}
 use Rattle.backup.specs.Section.{is_header_of, names_span}
 use Rattle.flat_history.specs.declared.events.Entry.{Entry}

@@ -8,9 +8,9 @@ use Rattle.sb1.specs.declared.sb.Sb.{Sb}
 use Rattle.layout.specs.Layout.{place}
 use Rattle.geometry.specs.Geometry.{rows, beyond, is_critical}
 use Rattle.geometry.specs.Geometry as geometry
-use Rattle.superblocks.specs.declared.members.Members.{Members}
-use Rattle.superblocks.specs.Reading.{Scope, is_clean, is_reshaping, is_backward, shape_of, final_shape, list_length, next_window, role_count, role_state, holder, data_offset_of}
-use Rattle.row_io.specs.Rows.{reading_of, is_missing, held_slot}
+use Rattle.flat_history.specs.superblocks_the_Members.{Members}
+use Rattle.flat_history.specs.superblocks_Reading.{Scope, is_clean, is_reshaping, is_backward, shape_of, final_shape, list_length, next_window, role_count, role_state, holder, data_offset_of}
+use Rattle.list_io.specs.row_io_Rows.{reading_of, is_missing, held_slot}
 use Rattle.list_io.specs.Full.{DataStands, RowStands}
 use Rattle.list_io.specs.Writing.{IsPutting}
 use Rattle.md_base.specs.declared.places.Shape.{Shape}

@@ -22,3 +22,5 @@ pub use Rattle.call_entries.proofs.CallLaws as call_entries_CallLaws
 pub use Rattle.still_laws.proofs.shape_changes_PlannedRoles
 pub use Rattle.still_laws.proofs.shape_changes_Kept
 pub use Rattle.still_laws.proofs.shape_views_Stands
+pub use Rattle.still_laws.proofs.superblock_reads_SaidLists
+pub use Rattle.still_laws.proofs.superblock_reads_SaidSlots

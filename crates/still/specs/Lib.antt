@@ -25,3 +25,15 @@ pub use Rattle.still_laws.specs.shape_changes_Safety
 pub use Rattle.still_laws.specs.shape_changes_Steady
 pub use Rattle.still_laws.specs.shape_changes_Changing
 pub use Rattle.still_laws.specs.shape_views_Views
+pub use Rattle.flat_history.specs.World as flat_history_World
+pub use Rattle.flat_history.specs.Flat as flat_history_Flat
+pub use Rattle.flat_history.specs.Sound as flat_history_Sound
+pub use Rattle.flat_history.specs.declared.events.StepKind.TheVariants as flat_history_the_StepKind_TheVariants
+pub use Rattle.flat_history.specs.declared.events.Event as flat_history_the_Event
+pub use Rattle.flat_history.specs.declared.events.Event.TheVariants as flat_history_the_Event_TheVariants
+pub use Rattle.flat_history.specs.declared.events.StepKind as flat_history_the_StepKind
+pub use Rattle.flat_history.specs.declared.events.Entry as flat_history_the_Entry
+pub use Rattle.flat_history.specs.declared.events.LostCause as flat_history_the_LostCause
+pub use Rattle.flat_history.specs.declared.events.LostCause.TheVariants as flat_history_the_LostCause_TheVariants
+pub use Rattle.flat_history.specs.Plain as flat_history_Plain
+pub use Rattle.row_io.specs.Rows as row_io_Rows

@@ -7,7 +7,7 @@ ghost use Rattle.md_base.specs.declared.status.Role.TheVariants.{Whole as IsWhol
 ghost use Rattle.superblocks.specs.Reading.{is_reshaping, shape_of, is_clean, role_state, rows_held};
 ghost use Rattle.superblocks.specs.Reads.{has_spare};
 ghost use Rattle.row_io.specs.Rows.{reading_of, present};
-ghost use Rattle.list_io.specs.Writing.{HasFull};
+ghost use Rattle.still_laws.specs.list_io_Writing.{HasFull};
 ghost use Rattle.flat_history.specs.World.{World};
 ghost use Rattle.flat_history.specs.Sound.{OpensFit};
 ghost use Rattle.still_laws.specs.shape_views_Regions.{DoWithout};

@@ -6,18 +6,18 @@ use Rattle.md_base.specs.declared.answers.Who.{Who}
 use Rattle.md_base.specs.declared.places.Shape.{Shape}
 use Rattle.bank.specs.declared.bank.Operation.{Operation}
 use Rattle.bank.specs.Given.{Given}
-use Rattle.superblocks.specs.declared.members.Members.{Members}
-use Rattle.superblocks.specs.Reading.{Scope, is_clean}
-use Rattle.superblocks.proofs.ValidFields.{few-roles}
-use Rattle.row_io.specs.Rows.{present}
-use Rattle.flat_history.specs.declared.events.Entry.{Entry}
-use Rattle.flat_history.specs.declared.events.Event.{Event}
-use Rattle.flat_history.specs.Flat.{now}
-use Rattle.flat_history.specs.Legal.{told_left}
-use Rattle.flat_history.specs.Losses.{is_resync_end, unsettles}
-use Rattle.flat_history.specs.Plain.{entries_of}
-use Rattle.flat_history.specs.Sound.{OpensFit}
-use Rattle.flat_history.specs.World.{opening_list}
+use Rattle.moving_kept.specs.superblocks_the_Members.{Members}
+use Rattle.moving_kept.specs.superblocks_Reading.{Scope, is_clean}
+use Rattle.moving_kept.proofs.superblocks_ValidFields.{few-roles}
+use Rattle.moving_kept.specs.row_io_Rows.{present}
+use Rattle.moving_kept.specs.flat_history_the_Entry.{Entry}
+use Rattle.moving_kept.specs.flat_history_the_Event.{Event}
+use Rattle.moving_kept.specs.flat_history_Flat.{now}
+use Rattle.moving_kept.specs.flat_history_Legal.{told_left}
+use Rattle.moving_kept.specs.flat_history_Losses.{is_resync_end, unsettles}
+use Rattle.moving_kept.specs.flat_history_Plain.{entries_of}
+use Rattle.moving_kept.specs.flat_history_Sound.{OpensFit}
+use Rattle.moving_kept.specs.flat_history_World.{opening_list}
 use Rattle.moving_kept.specs.shape_views_Regions.{DoWithout}
 use Rattle.moving_kept.specs.shape_changes_Safety.{HasLiveSlot}
 use Rattle.moving_kept.specs.views_the_Work.{Work}

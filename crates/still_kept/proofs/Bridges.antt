@@ -6,16 +6,16 @@ use Rattle.md_base.specs.Sectors.{Sector, zero_sector}
 use Rattle.bank.specs.declared.bank.Operation.{Operation}
 use Rattle.bank.specs.Given.{Given}
 use Rattle.parity.specs.Rows.{IsSector}
-use Rattle.superblocks.specs.declared.members.Members.{Members}
-use Rattle.superblocks.specs.Reading.{Scope, shape_of, list_length}
-use Rattle.row_io.specs.Rows.{present}
-use Rattle.flat_history.specs.declared.events.Entry.{Entry}
-use Rattle.flat_history.specs.Epochs.{HasRoomForEvents, OpensAlike}
-use Rattle.flat_history.specs.Flat.{now}
-use Rattle.flat_history.specs.Legal.{told_left}
-use Rattle.flat_history.specs.Losses.{is_unsynced}
-use Rattle.flat_history.specs.Sound.{OpensFit}
-use Rattle.flat_history.specs.World.{opening_list}
+use Rattle.moving_kept.specs.superblocks_the_Members.{Members}
+use Rattle.moving_kept.specs.superblocks_Reading.{Scope, shape_of, list_length}
+use Rattle.moving_kept.specs.row_io_Rows.{present}
+use Rattle.moving_kept.specs.flat_history_the_Entry.{Entry}
+use Rattle.moving_kept.specs.flat_history_Epochs.{HasRoomForEvents, OpensAlike}
+use Rattle.moving_kept.specs.flat_history_Flat.{now}
+use Rattle.moving_kept.specs.flat_history_Legal.{told_left}
+use Rattle.moving_kept.specs.flat_history_Losses.{is_unsynced}
+use Rattle.moving_kept.specs.flat_history_Sound.{OpensFit}
+use Rattle.moving_kept.specs.flat_history_World.{opening_list}
 use Rattle.moving_kept.specs.shape_views_Regions.{DoWithout}
 use Rattle.moving_kept.specs.shape_changes_Steady.{AreUnlost}
 use Rattle.moving_kept.specs.shape_ends_Plans.{HasNoneRecovering}

@@ -12,16 +12,16 @@ use Rattle.bank.specs.declared.bank.Operation.{Operation}
 use Rattle.bank.specs.Given.{Given}
 use Rattle.bank.specs.Tape.{disk}
 use Rattle.parity.proofs.Columns.{tabulate-same}
-use Rattle.superblocks.specs.declared.members.Members.{Members}
-use Rattle.superblocks.specs.Reading.{Scope, Reading, reading, is_reshaping, is_clean, is_whole, holder, role_state, shape_of, target_of}
-use Rattle.row_io.specs.Rows.{reading_of, present, is_missing, missing_count, role_without, members_without, IsTolerated}
-use Rattle.row_io.specs.Rows as rows
-use Rattle.list_io.specs.Full.{RowStands}
-use Rattle.flat_history.specs.declared.events.Entry.{Entry}
-use Rattle.flat_history.specs.Losses.{is_gone_after}
-use Rattle.flat_history.specs.Reshaped.{IsConsistent, IsConsistentBy, IsConsistentAt}
-use Rattle.flat_history.specs.Sound.{OpensFit}
-use Rattle.flat_history.specs.Stands.{held_row, held_sector}
+use Rattle.moving_kept.specs.superblocks_the_Members.{Members}
+use Rattle.moving_kept.specs.superblocks_Reading.{Scope, Reading, reading, is_reshaping, is_clean, is_whole, holder, role_state, shape_of, target_of}
+use Rattle.moving_kept.specs.row_io_Rows.{reading_of, present, is_missing, missing_count, role_without, members_without, IsTolerated}
+use Rattle.moving_kept.specs.row_io_Rows as rows
+use Rattle.moving_kept.specs.list_io_Full.{RowStands}
+use Rattle.moving_kept.specs.flat_history_the_Entry.{Entry}
+use Rattle.moving_kept.specs.flat_history_Losses.{is_gone_after}
+use Rattle.moving_kept.specs.flat_history_Reshaped.{IsConsistent, IsConsistentBy, IsConsistentAt}
+use Rattle.moving_kept.specs.flat_history_Sound.{OpensFit}
+use Rattle.moving_kept.specs.flat_history_Stands.{held_row, held_sector}
 use Rattle.moving_kept.specs.shape_views_Regions.{DoWithout, IsReadOf, header_in}
 use Rattle.moving_kept.specs.shape_views_Views.{Ledger, IsSettled}
 use Rattle.moving_kept.specs.shape_views_Windows.{RowsStand}

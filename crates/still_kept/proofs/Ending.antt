@@ -8,28 +8,28 @@ use Rattle.md_base.specs.declared.status.Role.{Role}
 use Rattle.md_base.specs.declared.status.Role.TheVariants.{Recovering}
 use Rattle.bank.specs.declared.bank.Operation.{Operation}
 use Rattle.bank.specs.Given.{Given}
-use Rattle.superblocks.specs.declared.members.Members.{Members}
-use Rattle.superblocks.specs.Reading.{Scope, is_clean, is_whole, shape_of, role_count, role_state}
-use Rattle.row_io.specs.Rows.{reading_of, present, is_missing}
-use Rattle.flat_history.specs.declared.events.Entry.{Entry}
-use Rattle.flat_history.specs.declared.events.Event.TheVariants.{Step}
+use Rattle.moving_kept.specs.superblocks_the_Members.{Members}
+use Rattle.moving_kept.specs.superblocks_Reading.{Scope, is_clean, is_whole, shape_of, role_count, role_state}
+use Rattle.moving_kept.specs.row_io_Rows.{reading_of, present, is_missing}
+use Rattle.moving_kept.specs.flat_history_the_Entry.{Entry}
+use Rattle.moving_kept.specs.flat_history_the_Event_TheVariants.{Step}
 use Rattle.std.specs.List.{Contains}
-use Rattle.superblocks.proofs.ValidFields.{few-roles}
+use Rattle.moving_kept.proofs.superblocks_ValidFields.{few-roles}
 use Rattle.moving_kept.proofs.array_kept_DegradedLaws.{count-moved}
 use Rattle.moving_kept.proofs.array_kept_ToldLosses.{role-told}
 use Rattle.calls_kept.proofs.RebuildLaws.{losses-end, some-lost}
 use Rattle.moving_kept.specs.kept_history_Recorded.{IsLegalCall}
 use Rattle.moving_kept.proofs.history_calls_Quiet.{quiet-none, numbers-kept}
-use Rattle.flat_history.specs.Transfers.{last_end_from}
-use Rattle.flat_history.specs.Legal.{told_left}
+use Rattle.moving_kept.specs.flat_history_Transfers.{last_end_from}
+use Rattle.moving_kept.specs.flat_history_Legal.{told_left}
 use Rattle.still_kept.proofs.Quiet.{tail-stands}
-use Rattle.flat_history.specs.declared.events.Event.{Event}
-use Rattle.flat_history.specs.declared.events.Event.TheVariants.{Lost}
-use Rattle.flat_history.specs.declared.events.LostCause.TheVariants.{Fault}
-use Rattle.flat_history.specs.Flat.{now}
-use Rattle.flat_history.specs.Plain.{entries_of}
-use Rattle.flat_history.specs.Sound.{OpensFit}
-use Rattle.flat_history.specs.World.{World, opening_list}
+use Rattle.moving_kept.specs.flat_history_the_Event.{Event}
+use Rattle.moving_kept.specs.flat_history_the_Event_TheVariants.{Lost}
+use Rattle.moving_kept.specs.flat_history_the_LostCause_TheVariants.{Fault}
+use Rattle.moving_kept.specs.flat_history_Flat.{now}
+use Rattle.moving_kept.specs.flat_history_Plain.{entries_of}
+use Rattle.moving_kept.specs.flat_history_Sound.{OpensFit}
+use Rattle.moving_kept.specs.flat_history_World.{World, opening_list}
 use Rattle.moving_kept.specs.shape_views_Regions.{DoWithout}
 use Rattle.moving_kept.specs.shape_views_Views.{Ledger}
 use Rattle.moving_kept.specs.shape_changes_Marking.{AreOthersPresent}
@@ -57,12 +57,12 @@ use Rattle.moving_kept.proofs.history_calls_LastStep.{AreWithin, losses-within}
 use Rattle.moving_kept.proofs.history_calls_Behind.{AreLostOrMissing, IsAmong, early-losses, legal-losses}
 use Rattle.still_kept.specs.Still.{AreAtRest, HasListStood, IsStill}
 use Rattle.std.proofs.Common.{append_assoc}
-use Rattle.superblocks.specs.Reading.{list_length}
+use Rattle.moving_kept.specs.superblocks_Reading.{list_length}
 use Rattle.md_base.specs.declared.status.Role.TheVariants.{Whole}
-use Rattle.flat_history.specs.declared.events.Event.TheVariants.{Rebuilt}
-use Rattle.flat_history.specs.declared.events.StepKind.TheVariants.{RebuildEnded}
-use Rattle.flat_history.specs.Legal.{told_left}
-use Rattle.flat_history.specs.Losses.{is_resync_end}
+use Rattle.moving_kept.specs.flat_history_the_Event_TheVariants.{Rebuilt}
+use Rattle.moving_kept.specs.flat_history_the_StepKind_TheVariants.{RebuildEnded}
+use Rattle.moving_kept.specs.flat_history_Legal.{told_left}
+use Rattle.moving_kept.specs.flat_history_Losses.{is_resync_end}
 use Rattle.moving_kept.specs.shape_changes_Steady.{IsMoreTold, AreWritesAllowed, given_back}
 use Rattle.moving_kept.specs.views_Lacking.{RowsStand}
 use Rattle.moving_kept.specs.views_Rebuilding.{with_whole, AreRowsFull}
@@ -84,9 +84,9 @@ use Rattle.still_kept.proofs.Stood.{stood-moved}
 use Rattle.still_kept.proofs.Quiet.{tail-stands}
 use Rattle.std.specs.List.{list_any}
 use Rattle.std.specs.Prelude.{fold, slice_index_or, is_some}
-use Rattle.superblocks.specs.Reading.{holder}
-use Rattle.flat_history.specs.Flat.{values_of, values_after}
-use Rattle.flat_history.specs.Losses.{loses}
+use Rattle.moving_kept.specs.superblocks_Reading.{holder}
+use Rattle.moving_kept.specs.flat_history_Flat.{values_of, values_after}
+use Rattle.moving_kept.specs.flat_history_Losses.{loses}
 use Rattle.moving_kept.specs.kept_history_Safe.{TakesNone, is_taken_over}
 use Rattle.moving_kept.proofs.kept_history_Entered.{values-more}
 use Rattle.moving_kept.proofs.kept_history_Growing.{takes-grown}

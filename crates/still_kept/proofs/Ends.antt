@@ -7,19 +7,19 @@ use Rattle.md_base.specs.Sectors.{Sector}
 use Rattle.md_base.specs.declared.answers.Who.{Who}
 use Rattle.bank.specs.declared.bank.Operation.{Operation}
 use Rattle.bank.specs.Given.{Given}
-use Rattle.superblocks.specs.declared.members.Members.{Members}
-use Rattle.superblocks.specs.Reading.{Scope, shape_of}
-use Rattle.row_io.specs.Rows.{present}
-use Rattle.flat_history.specs.declared.events.Entry.{Entry}
-use Rattle.flat_history.specs.declared.events.Event.{Event}
-use Rattle.flat_history.specs.declared.events.Event.TheVariants.{Step}
-use Rattle.flat_history.specs.declared.events.StepKind.TheVariants.{Finished}
-use Rattle.flat_history.specs.Growing.{EndBy}
-use Rattle.flat_history.specs.Plain.{entries_of}
-use Rattle.flat_history.specs.Reshaped.{behind, comes_with_finish, comes_with_step, IsConsistentAt, IsFinishedRight, is_done, open_plans, ArePlansDone, IsReshapedBy}
-use Rattle.flat_history.specs.Sound.{OpensFit}
-use Rattle.flat_history.specs.World.{World}
-use Rattle.flat_history.proofs.SoundLaws.{fit-before}
+use Rattle.moving_kept.specs.superblocks_the_Members.{Members}
+use Rattle.moving_kept.specs.superblocks_Reading.{Scope, shape_of}
+use Rattle.moving_kept.specs.row_io_Rows.{present}
+use Rattle.moving_kept.specs.flat_history_the_Entry.{Entry}
+use Rattle.moving_kept.specs.flat_history_the_Event.{Event}
+use Rattle.moving_kept.specs.flat_history_the_Event_TheVariants.{Step}
+use Rattle.moving_kept.specs.flat_history_the_StepKind_TheVariants.{Finished}
+use Rattle.moving_kept.specs.flat_history_Growing.{EndBy}
+use Rattle.moving_kept.specs.flat_history_Plain.{entries_of}
+use Rattle.moving_kept.specs.flat_history_Reshaped.{behind, comes_with_finish, comes_with_step, IsConsistentAt, IsFinishedRight, is_done, open_plans, ArePlansDone, IsReshapedBy}
+use Rattle.moving_kept.specs.flat_history_Sound.{OpensFit}
+use Rattle.moving_kept.specs.flat_history_World.{World}
+use Rattle.moving_kept.proofs.flat_history_SoundLaws.{fit-before}
 use Rattle.moving_kept.specs.shape_views_Regions.{DoWithout}
 use Rattle.moving_kept.specs.views_the_Work.{Work}
 use Rattle.moving_kept.specs.views_Lacking.{RowsStandBelow, mended_rows}

@@ -4,16 +4,16 @@ use Rattle.std.specs.Prelude.{IsFalse, IfSome, ⊤}
 use Rattle.md_base.specs.declared.answers.Who.{Who}
 use Rattle.bank.specs.declared.bank.Operation.{Operation}
 use Rattle.bank.specs.Given.{Given}
-use Rattle.superblocks.specs.declared.members.Members.{Members}
-use Rattle.superblocks.specs.Reading.{Scope, is_clean, role_count}
-use Rattle.row_io.specs.Rows.{reading_of, present, is_missing}
-use Rattle.flat_history.specs.declared.events.Entry.{Entry}
-use Rattle.flat_history.specs.declared.events.Event.TheVariants.{Lost, Failed}
-use Rattle.flat_history.specs.declared.events.LostCause.TheVariants.{Command}
-use Rattle.flat_history.specs.Flat.{now}
-use Rattle.flat_history.specs.Plain.{entries_of}
-use Rattle.flat_history.specs.Sound.{OpensFit}
-use Rattle.flat_history.specs.World.{World, opening_list}
+use Rattle.moving_kept.specs.superblocks_the_Members.{Members}
+use Rattle.moving_kept.specs.superblocks_Reading.{Scope, is_clean, role_count}
+use Rattle.moving_kept.specs.row_io_Rows.{reading_of, present, is_missing}
+use Rattle.moving_kept.specs.flat_history_the_Entry.{Entry}
+use Rattle.moving_kept.specs.flat_history_the_Event_TheVariants.{Lost, Failed}
+use Rattle.moving_kept.specs.flat_history_the_LostCause_TheVariants.{Command}
+use Rattle.moving_kept.specs.flat_history_Flat.{now}
+use Rattle.moving_kept.specs.flat_history_Plain.{entries_of}
+use Rattle.moving_kept.specs.flat_history_Sound.{OpensFit}
+use Rattle.moving_kept.specs.flat_history_World.{World, opening_list}
 use Rattle.moving_kept.specs.shape_views_Views.{Ledger}
 use Rattle.moving_kept.specs.shape_changes_Marking.{AreOthersPresent}
 use Rattle.moving_kept.specs.shape_changes_Safety.{HasLiveSlot, HasRoomLeft, IsRisen}

@@ -6,22 +6,22 @@ use Rattle.std.proofs.lemmas.Bool.{and_parts}
 use Rattle.md_base.specs.Shapes.{tolerance_of}
 use Rattle.bank.specs.declared.bank.Operation.{Operation}
 use Rattle.bank.specs.Given.{Given}
-use Rattle.superblocks.specs.declared.members.Members.{Members}
-use Rattle.superblocks.specs.Reading.{Scope, Reading, list_length}
-use Rattle.row_io.specs.Rows.{present}
-use Rattle.flat_history.specs.declared.events.Entry.{Entry}
-use Rattle.flat_history.specs.declared.events.Event.{Event}
-use Rattle.flat_history.specs.declared.events.Event.TheVariants.{Lost, Step}
-use Rattle.flat_history.specs.declared.events.StepKind.TheVariants.{TakenOver}
-use Rattle.flat_history.specs.Flat.{now}
-use Rattle.flat_history.specs.Legal.{level_at, level_after}
-use Rattle.flat_history.specs.Losses.{takes, loses}
-use Rattle.flat_history.specs.OneShape.{opening_in, is_lost, is_unsettled, keeps_shape_event, KeepShape}
-use Rattle.flat_history.specs.Plain.{loses_role}
-use Rattle.flat_history.specs.Sound.{FillsRight, OpensFit}
-use Rattle.flat_history.specs.World.{World, reading_at, opening_list}
-use Rattle.flat_history.proofs.OneShapeGone.{after-gone}
-use Rattle.flat_history.proofs.OneShapeLegal.{entries-keep, found-in, one_shape-legal}
+use Rattle.moving_kept.specs.superblocks_the_Members.{Members}
+use Rattle.moving_kept.specs.superblocks_Reading.{Scope, Reading, list_length}
+use Rattle.moving_kept.specs.row_io_Rows.{present}
+use Rattle.moving_kept.specs.flat_history_the_Entry.{Entry}
+use Rattle.moving_kept.specs.flat_history_the_Event.{Event}
+use Rattle.moving_kept.specs.flat_history_the_Event_TheVariants.{Lost, Step}
+use Rattle.moving_kept.specs.flat_history_the_StepKind_TheVariants.{TakenOver}
+use Rattle.moving_kept.specs.flat_history_Flat.{now}
+use Rattle.moving_kept.specs.flat_history_Legal.{level_at, level_after}
+use Rattle.moving_kept.specs.flat_history_Losses.{takes, loses}
+use Rattle.moving_kept.specs.flat_history_OneShape.{opening_in, is_lost, is_unsettled, keeps_shape_event, KeepShape}
+use Rattle.moving_kept.specs.flat_history_Plain.{loses_role}
+use Rattle.moving_kept.specs.flat_history_Sound.{FillsRight, OpensFit}
+use Rattle.moving_kept.specs.flat_history_World.{World, reading_at, opening_list}
+use Rattle.moving_kept.proofs.flat_history_OneShapeGone.{after-gone}
+use Rattle.moving_kept.proofs.flat_history_OneShapeLegal.{entries-keep, found-in, one_shape-legal}
 use Rattle.moving_kept.specs.shape_views_Regions.{DoWithout}
 use Rattle.moving_kept.specs.views_the_Work.{Work}
 use Rattle.moving_kept.specs.views_Status.{left_of}
@@ -31,7 +31,7 @@ use Rattle.moving_kept.proofs.array_kept_ReadyLaws.{kept-legal}
 use Rattle.moving_kept.specs.kept_history_Recorded.{IsHistoryKept}
 use Rattle.moving_kept.proofs.kept_history_Lists.{past-none}
 use Rattle.std.proofs.Common.{◌<◌, append-nil, subst, []}
-use Rattle.row_io.specs.Rows.{reading_of, is_missing}
+use Rattle.moving_kept.specs.row_io_Rows.{reading_of, is_missing}
 use Rattle.calls_kept.proofs.RebuildEnded.{role-lost}
 use Rattle.moving_kept.specs.kept_history_Safe.{TakesNone, KeepsLevel}
 use Rattle.still_kept.specs.Still.{AreNoneMissing}

@@ -91,3 +91,12 @@ pub use Rattle.moving_kept.proofs.kept_history_Records
 pub use Rattle.moving_kept.proofs.shape_changes_Risen
 pub use Rattle.moving_kept.proofs.shape_changes_PlannedRoles
 pub use Rattle.moving_kept.proofs.shape_changes_Kept
+pub use Rattle.moving_kept.proofs.flat_history_SoundLaws
+pub use Rattle.moving_kept.proofs.superblocks_ValidFields
+pub use Rattle.moving_kept.proofs.history_laws_NumberLaws
+pub use Rattle.moving_kept.proofs.history_laws_OneShapeGrowing
+pub use Rattle.moving_kept.proofs.flat_history_OneShapeLegal
+pub use Rattle.moving_kept.proofs.row_io_Tables
+pub use Rattle.moving_kept.proofs.superblocks_SlotSets
+pub use Rattle.moving_kept.proofs.superblock_reads_SaidLists
+pub use Rattle.moving_kept.proofs.superblock_reads_SaidSlots

@@ -10,14 +10,14 @@ use Rattle.md_base.proofs.Tabulated.{get_or-tabulate}
 use Rattle.md_base.specs.declared.status.Role.TheVariants.{Missing}
 use Rattle.sb1.specs.declared.sb.Sb.{Sb}
 use Rattle.bank.specs.Given.{Given}
-use Rattle.superblocks.specs.declared.members.Members.{Members}
-use Rattle.superblocks.specs.Reading.{Scope, is_fresh, entry_of, holder, holder_from, role_count, state_of}
-use Rattle.superblocks.specs.Reads.{held_in}
-use Rattle.superblocks.specs.Update.{own_in}
-use Rattle.superblocks.specs.Held.{known_of, IsKnown}
-use Rattle.superblocks.proofs.ReadLists.{held-here}
-use Rattle.superblock_reads.proofs.SaidSlots.{below-length, role-below, role-known, role-said}
-use Rattle.row_io.specs.Rows.{role_without, members_without}
+use Rattle.moving_kept.specs.superblocks_the_Members.{Members}
+use Rattle.moving_kept.specs.superblocks_Reading.{Scope, is_fresh, entry_of, holder, holder_from, role_count, state_of}
+use Rattle.moving_kept.specs.superblocks_Reads.{held_in}
+use Rattle.moving_kept.specs.superblocks_Update.{own_in}
+use Rattle.moving_kept.specs.superblocks_Held.{known_of, IsKnown}
+use Rattle.moving_kept.proofs.superblocks_ReadLists.{held-here}
+use Rattle.moving_kept.proofs.superblock_reads_SaidSlots.{below-length, role-below, role-known, role-said}
+use Rattle.moving_kept.specs.row_io_Rows.{role_without, members_without}
 use Rattle.moving_kept.specs.shape_changes_Held.{IsHeldBy}
 use Rattle.moving_kept.specs.views_Placed.{IsPlaced}
 use Rattle.moving_kept.specs.shape_views_Views.{Ledger}

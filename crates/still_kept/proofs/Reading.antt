@@ -17,18 +17,18 @@ use Rattle.layout.specs.Layout.{place}
 use Rattle.layout.proofs.Places.{place-role_below}
 use Rattle.parity.specs.Rows.{sector_of}
 use Rattle.sb1.specs.declared.sb.Sb.{Sb}
-use Rattle.superblocks.specs.declared.members.Members.{Members}
-use Rattle.superblocks.specs.Reading.{Scope, shape_of, list_length}
-use Rattle.row_io.specs.Rows.{reading_of, present, is_missing}
-use Rattle.flat_history.specs.declared.events.Entry.{Entry}
-use Rattle.flat_history.specs.declared.events.Event.{Event}
-use Rattle.flat_history.specs.declared.events.Event.TheVariants.{Read, Refused}
-use Rattle.flat_history.specs.Flat.{now, length_of, limit_of, limit_after, visible_of, values_of, values_after}
-use Rattle.flat_history.specs.Legal.{visible_at}
-use Rattle.flat_history.specs.Plain.{entries_of}
-use Rattle.flat_history.specs.Sound.{OpensFit}
-use Rattle.flat_history.specs.Transfers.{IsReadOver}
-use Rattle.flat_history.specs.World.{opening_list}
+use Rattle.moving_kept.specs.superblocks_the_Members.{Members}
+use Rattle.moving_kept.specs.superblocks_Reading.{Scope, shape_of, list_length}
+use Rattle.moving_kept.specs.row_io_Rows.{reading_of, present, is_missing}
+use Rattle.moving_kept.specs.flat_history_the_Entry.{Entry}
+use Rattle.moving_kept.specs.flat_history_the_Event.{Event}
+use Rattle.moving_kept.specs.flat_history_the_Event_TheVariants.{Read, Refused}
+use Rattle.moving_kept.specs.flat_history_Flat.{now, length_of, limit_of, limit_after, visible_of, values_of, values_after}
+use Rattle.moving_kept.specs.flat_history_Legal.{visible_at}
+use Rattle.moving_kept.specs.flat_history_Plain.{entries_of}
+use Rattle.moving_kept.specs.flat_history_Sound.{OpensFit}
+use Rattle.moving_kept.specs.flat_history_Transfers.{IsReadOver}
+use Rattle.moving_kept.specs.flat_history_World.{opening_list}
 use Rattle.moving_kept.specs.shape_views_Regions.{DoWithout}
 use Rattle.moving_kept.proofs.shape_views_Stands.{for-still, list-still}
 use Rattle.moving_kept.specs.views_the_Work.{Work}

@@ -10,16 +10,16 @@ use Rattle.md_base.specs.declared.status.Role.{Role}
 use Rattle.md_base.specs.declared.status.Role.TheVariants.{Recovering}
 use Rattle.bank.specs.declared.bank.Operation.{Operation}
 use Rattle.bank.specs.Given.{Given}
-use Rattle.superblocks.specs.declared.members.Members.{Members}
-use Rattle.superblocks.specs.Reading.{Scope, is_clean, is_whole, shape_of, role_count, role_state, rows_held}
-use Rattle.superblocks.specs.Reads.{has_spare}
-use Rattle.row_io.specs.Rows.{reading_of, present, is_missing}
-use Rattle.list_io.specs.Writing.{HasFull}
-use Rattle.flat_history.specs.declared.events.Entry.{Entry}
-use Rattle.flat_history.specs.declared.events.Event.TheVariants.{Step, Refused}
-use Rattle.flat_history.specs.declared.events.StepKind.TheVariants.{RebuildTaken, RebuildStripe}
+use Rattle.moving_kept.specs.superblocks_the_Members.{Members}
+use Rattle.moving_kept.specs.superblocks_Reading.{Scope, is_clean, is_whole, shape_of, role_count, role_state, rows_held}
+use Rattle.moving_kept.specs.superblocks_Reads.{has_spare}
+use Rattle.moving_kept.specs.row_io_Rows.{reading_of, present, is_missing}
+use Rattle.moving_kept.specs.list_io_Writing.{HasFull}
+use Rattle.moving_kept.specs.flat_history_the_Entry.{Entry}
+use Rattle.moving_kept.specs.flat_history_the_Event_TheVariants.{Step, Refused}
+use Rattle.moving_kept.specs.flat_history_the_StepKind_TheVariants.{RebuildTaken, RebuildStripe}
 use Rattle.std.specs.List.{Contains}
-use Rattle.superblocks.proofs.ValidFields.{few-roles}
+use Rattle.moving_kept.proofs.superblocks_ValidFields.{few-roles}
 use Rattle.moving_kept.proofs.array_kept_DegradedLaws.{count-moved}
 use Rattle.moving_kept.proofs.array_kept_ToldLosses.{role-told}
 use Rattle.moving_kept.proofs.call_entries_CallLaws.{last_end-behind}
@@ -27,22 +27,22 @@ use Rattle.calls_kept.proofs.RebuildLaws.{losses-end, some-lost}
 use Rattle.calls_kept.proofs.RebuildFilled.{not-vacant}
 use Rattle.moving_kept.specs.kept_history_Recorded.{IsLegalCall}
 use Rattle.moving_kept.proofs.history_calls_Quiet.{AreQuietLast, quiet-none, numbers-kept, numbers-of}
-use Rattle.flat_history.specs.Transfers.{last_end_from}
+use Rattle.moving_kept.specs.flat_history_Transfers.{last_end_from}
 use Rattle.moving_kept.specs.kept_history_Recorded.{ends_reshape}
 use Rattle.std.specs.List.{list_any}
 use Rattle.moving_kept.proofs.kept_history_Reshapes.{call-ends_none}
 use Rattle.still_kept.proofs.Ends.{EndsPlans, ends-right}
-use Rattle.flat_history.specs.Legal.{told_left}
+use Rattle.moving_kept.specs.flat_history_Legal.{told_left}
 use Rattle.still_kept.proofs.Quiet.{tail-stands}
 use Rattle.still_kept.proofs.Leaving.{rest-moved}
 use Rattle.moving_kept.proofs.views_HeldRows.{without-before}
-use Rattle.flat_history.specs.declared.events.Event.{Event}
-use Rattle.flat_history.specs.declared.events.Event.TheVariants.{Lost}
-use Rattle.flat_history.specs.declared.events.LostCause.TheVariants.{Fault}
-use Rattle.flat_history.specs.Flat.{now}
-use Rattle.flat_history.specs.Plain.{entries_of}
-use Rattle.flat_history.specs.Sound.{OpensFit}
-use Rattle.flat_history.specs.World.{World, opening_list}
+use Rattle.moving_kept.specs.flat_history_the_Event.{Event}
+use Rattle.moving_kept.specs.flat_history_the_Event_TheVariants.{Lost}
+use Rattle.moving_kept.specs.flat_history_the_LostCause_TheVariants.{Fault}
+use Rattle.moving_kept.specs.flat_history_Flat.{now}
+use Rattle.moving_kept.specs.flat_history_Plain.{entries_of}
+use Rattle.moving_kept.specs.flat_history_Sound.{OpensFit}
+use Rattle.moving_kept.specs.flat_history_World.{World, opening_list}
 use Rattle.moving_kept.specs.shape_views_Regions.{DoWithout}
 use Rattle.moving_kept.specs.shape_views_Views.{Ledger}
 use Rattle.moving_kept.specs.shape_changes_Marking.{AreOthersPresent}

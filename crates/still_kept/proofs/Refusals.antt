@@ -10,18 +10,18 @@ use Rattle.md_base.specs.Search.{count_below}
 use Rattle.md_base.specs.Shapes.{tolerance, tolerance_of}
 use Rattle.bank.specs.declared.bank.Operation.{Operation}
 use Rattle.bank.specs.Given.{Given}
-use Rattle.superblocks.specs.declared.members.Members.{Members}
-use Rattle.superblocks.specs.Reading.{Scope, shape_of, final_shape, role_count}
-use Rattle.superblocks.proofs.ValidFields.{few-roles}
-use Rattle.row_io.specs.Rows.{reading_of, is_missing}
-use Rattle.flat_history.specs.declared.events.Entry.{Entry}
-use Rattle.flat_history.specs.declared.events.Event.{Event}
-use Rattle.flat_history.specs.declared.events.Event.TheVariants.{Refused}
-use Rattle.flat_history.specs.Legal.{level_at, IsTooManyMissing, IsRefusedRight}
-use Rattle.flat_history.specs.Losses.{is_gone_after, is_resync_end, is_unsynced}
-use Rattle.flat_history.specs.Plain.{entries_of}
-use Rattle.flat_history.specs.World.{World}
-use Rattle.flat_history.proofs.GoneCounts.{few_missing}
+use Rattle.moving_kept.specs.superblocks_the_Members.{Members}
+use Rattle.moving_kept.specs.superblocks_Reading.{Scope, shape_of, final_shape, role_count}
+use Rattle.moving_kept.proofs.superblocks_ValidFields.{few-roles}
+use Rattle.moving_kept.specs.row_io_Rows.{reading_of, is_missing}
+use Rattle.moving_kept.specs.flat_history_the_Entry.{Entry}
+use Rattle.moving_kept.specs.flat_history_the_Event.{Event}
+use Rattle.moving_kept.specs.flat_history_the_Event_TheVariants.{Refused}
+use Rattle.moving_kept.specs.flat_history_Legal.{level_at, IsTooManyMissing, IsRefusedRight}
+use Rattle.moving_kept.specs.flat_history_Losses.{is_gone_after, is_resync_end, is_unsynced}
+use Rattle.moving_kept.specs.flat_history_Plain.{entries_of}
+use Rattle.moving_kept.specs.flat_history_World.{World}
+use Rattle.moving_kept.proofs.flat_history_GoneCounts.{few_missing}
 use Rattle.moving_kept.specs.views_Placed.{IsPlaced, IsInForce}
 use Rattle.moving_kept.specs.views_Lacking.{lacking, LacksTooMany, AreTooMany}
 use Rattle.moving_kept.specs.views_Moving.{Grows}

@@ -7,24 +7,24 @@ use Rattle.md_base.specs.Shapes.{tolerance_of}
 use Rattle.md_base.specs.declared.answers.Who.{Who}
 use Rattle.bank.specs.declared.bank.Operation.{Operation}
 use Rattle.bank.specs.Given.{Given}
-use Rattle.superblocks.specs.declared.members.Members.{Members}
-use Rattle.superblocks.specs.Reading.{Scope, list_length}
-use Rattle.superblocks.proofs.ValidFields.{few-roles}
-use Rattle.row_io.specs.Rows.{present}
-use Rattle.flat_history.specs.declared.events.Entry.{Entry}
-use Rattle.flat_history.specs.declared.events.Event.{Event}
-use Rattle.flat_history.specs.Epochs.{HasRoomForEvents, OpensAlike}
-use Rattle.flat_history.specs.Flat.{now, values_of, values_after}
-use Rattle.flat_history.specs.Legal.{told_left, level_at, level_after, IsLegalEvent}
-use Rattle.flat_history.specs.Plain.{entries_of}
-use Rattle.flat_history.specs.Sound.{OpensFit}
-use Rattle.flat_history.specs.World.{World, opening_list}
+use Rattle.moving_kept.specs.superblocks_the_Members.{Members}
+use Rattle.moving_kept.specs.superblocks_Reading.{Scope, list_length}
+use Rattle.moving_kept.proofs.superblocks_ValidFields.{few-roles}
+use Rattle.moving_kept.specs.row_io_Rows.{present}
+use Rattle.moving_kept.specs.flat_history_the_Entry.{Entry}
+use Rattle.moving_kept.specs.flat_history_the_Event.{Event}
+use Rattle.moving_kept.specs.flat_history_Epochs.{HasRoomForEvents, OpensAlike}
+use Rattle.moving_kept.specs.flat_history_Flat.{now, values_of, values_after}
+use Rattle.moving_kept.specs.flat_history_Legal.{told_left, level_at, level_after, IsLegalEvent}
+use Rattle.moving_kept.specs.flat_history_Plain.{entries_of}
+use Rattle.moving_kept.specs.flat_history_Sound.{OpensFit}
+use Rattle.moving_kept.specs.flat_history_World.{World, opening_list}
 use Rattle.moving_kept.specs.views_the_Work.{Work}
 use Rattle.moving_kept.specs.views_Numbers.{is_carried}
 use Rattle.moving_kept.proofs.call_entries_CallLaws.{last_end-behind}
 use Rattle.moving_kept.specs.kept_history_Recorded.{IsHistoryKept, IsCallGoing, entry_of, gives_some}
 use Rattle.moving_kept.proofs.kept_history_Tests.{none-before}
-use Rattle.flat_history.specs.Losses.{loses}
+use Rattle.moving_kept.specs.flat_history_Losses.{loses}
 use Rattle.moving_kept.specs.kept_history_Safe.{world_in, is_taken_over, IsFilledRight, IsSafeHistory}
 use Rattle.moving_kept.specs.kept_history_Told.{told_now}
 use Rattle.moving_kept.proofs.kept_history_Entered.{adds_only, AreAdding, values-more, length-adding, settle-none}

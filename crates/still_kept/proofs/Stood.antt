@@ -10,10 +10,10 @@ use Rattle.bank.specs.Given.{Given, sizes}
 use Rattle.bank.specs.Tape.{Contents}
 use Rattle.layout.specs.Layout.{place}
 use Rattle.layout.proofs.Places.{chunk_some, data_some, place-sector, place-sector_below, place-row_below, sector_at}
-use Rattle.superblocks.specs.declared.members.Members.{Members}
-use Rattle.superblocks.specs.Reading.{Scope, shape_of, list_length, role_count}
-use Rattle.row_io.specs.Rows.{reading_of}
-use Rattle.list_io.specs.Full.{RowStands}
+use Rattle.moving_kept.specs.superblocks_the_Members.{Members}
+use Rattle.moving_kept.specs.superblocks_Reading.{Scope, shape_of, list_length, role_count}
+use Rattle.moving_kept.specs.row_io_Rows.{reading_of}
+use Rattle.moving_kept.specs.list_io_Full.{RowStands}
 use Rattle.moving_kept.specs.shape_views_Regions.{ArePlaced}
 use Rattle.moving_kept.specs.shape_views_Windows.{ListStands as ListIsShown, RowsStand as RowsAreShown}
 use Rattle.moving_kept.proofs.shape_views_Stands.{for-still, list-still, still-stands}

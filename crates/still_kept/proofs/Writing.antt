@@ -13,21 +13,21 @@ use Rattle.md_base.proofs.SectorLaws.{length-sectors_of}
 use Rattle.bank.specs.declared.bank.Operation.{Operation}
 use Rattle.bank.specs.Given.{Given}
 use Rattle.bank.specs.Tape.{IsIn}
-use Rattle.superblocks.specs.declared.members.Members.{Members}
-use Rattle.superblocks.specs.Reading.{Scope, is_clean, shape_of, list_length, role_state}
-use Rattle.row_io.specs.Rows.{reading_of, present}
-use Rattle.list_io.specs.Writing.{IsWritten, HasFull}
-use Rattle.flat_history.specs.declared.events.Entry.{Entry}
-use Rattle.flat_history.specs.declared.events.Event.{Event}
-use Rattle.flat_history.specs.declared.events.Event.TheVariants.{Wrote, Torn, Refused}
-use Rattle.flat_history.specs.Flat.{now, visible_of, sector_at, values_of, values_after}
-use Rattle.flat_history.specs.Legal.{told_left, visible_at, level_at, level_after, IsRefusedRight, IsLegalEvent}
-use Rattle.flat_history.specs.Losses.{is_unsynced, unsettles}
-use Rattle.flat_history.specs.OneShape.{is_lost}
-use Rattle.flat_history.specs.Plain.{entries_of}
-use Rattle.flat_history.specs.Sound.{OpensFit}
-use Rattle.flat_history.specs.Transfers.{IsTooMany}
-use Rattle.flat_history.specs.World.{World, opening_list}
+use Rattle.moving_kept.specs.superblocks_the_Members.{Members}
+use Rattle.moving_kept.specs.superblocks_Reading.{Scope, is_clean, shape_of, list_length, role_state}
+use Rattle.moving_kept.specs.row_io_Rows.{reading_of, present}
+use Rattle.moving_kept.specs.list_io_Writing.{IsWritten, HasFull}
+use Rattle.moving_kept.specs.flat_history_the_Entry.{Entry}
+use Rattle.moving_kept.specs.flat_history_the_Event.{Event}
+use Rattle.moving_kept.specs.flat_history_the_Event_TheVariants.{Wrote, Torn, Refused}
+use Rattle.moving_kept.specs.flat_history_Flat.{now, visible_of, sector_at, values_of, values_after}
+use Rattle.moving_kept.specs.flat_history_Legal.{told_left, visible_at, level_at, level_after, IsRefusedRight, IsLegalEvent}
+use Rattle.moving_kept.specs.flat_history_Losses.{is_unsynced, unsettles}
+use Rattle.moving_kept.specs.flat_history_OneShape.{is_lost}
+use Rattle.moving_kept.specs.flat_history_Plain.{entries_of}
+use Rattle.moving_kept.specs.flat_history_Sound.{OpensFit}
+use Rattle.moving_kept.specs.flat_history_Transfers.{IsTooMany}
+use Rattle.moving_kept.specs.flat_history_World.{World, opening_list}
 use Rattle.moving_kept.specs.shape_views_Regions.{DoWithout}
 use Rattle.moving_kept.specs.shape_views_Views.{Ledger}
 use Rattle.moving_kept.specs.shape_changes_Marking.{AreOthersPresent}

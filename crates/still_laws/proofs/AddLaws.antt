@@ -10,18 +10,18 @@ use Rattle.bank.specs.declared.bank.Operation.{Operation}
 use Rattle.bank.specs.Given.{Given}
 use Rattle.bank.specs.Tape.{IsIn, disk}
 use Rattle.sb1.specs.declared.sb.Sb.{Sb}
-use Rattle.superblocks.specs.declared.members.Members.{Members}
-use Rattle.superblocks.specs.Held.{IsSecondHalf}
-use Rattle.superblocks.specs.Reading.{Scope}
-use Rattle.superblocks.specs.Reads.{has_spare}
-use Rattle.superblocks.proofs.SlotSets.{none_there}
-use Rattle.flat_history.specs.declared.events.Entry.{Entry}
-use Rattle.flat_history.specs.declared.events.Event.{Event}
-use Rattle.flat_history.specs.declared.events.Event.TheVariants.{Added, Refused}
-use Rattle.flat_history.specs.Epochs.{HasRoomForEvents, OpensAlike}
-use Rattle.flat_history.specs.Flat.{next_number}
-use Rattle.flat_history.specs.Plain.{entries_of}
-use Rattle.flat_history.specs.Sound.{OpensFit}
+use Rattle.still_kept.specs.superblocks_the_Members.{Members}
+use Rattle.still_kept.specs.superblocks_Held.{IsSecondHalf}
+use Rattle.still_kept.specs.superblocks_Reading.{Scope}
+use Rattle.still_kept.specs.superblocks_Reads.{has_spare}
+use Rattle.still_kept.proofs.superblocks_SlotSets.{none_there}
+use Rattle.still_kept.specs.flat_history_the_Entry.{Entry}
+use Rattle.still_kept.specs.flat_history_the_Event.{Event}
+use Rattle.still_kept.specs.flat_history_the_Event_TheVariants.{Added, Refused}
+use Rattle.still_kept.specs.flat_history_Epochs.{HasRoomForEvents, OpensAlike}
+use Rattle.still_kept.specs.flat_history_Flat.{next_number}
+use Rattle.still_kept.specs.flat_history_Plain.{entries_of}
+use Rattle.still_kept.specs.flat_history_Sound.{OpensFit}
 use Rattle.still_kept.specs.shape_changes_Safety.{HasLiveSlot}
 use Rattle.still_kept.specs.views_the_Work.{Work}
 use Rattle.still_kept.specs.views_Flushing.{OnlyFlushesAdded}
@@ -36,7 +36,7 @@ use Rattle.still_kept.specs.array_kept_Kept.{scope_in}
 use Rattle.still_kept.specs.array_kept_Calls.{IsUnaddable}
 use Rattle.still_kept.proofs.calls_kept_AddedKept.{with_carried, AddsSafe}
 use Rattle.still_kept.proofs.calls_kept_AddedLosses.{IsAddDone, left-carried, left-refused}
-use Rattle.grow_asked.specs.declared.window.PhasesLeft.{PhasesLeft}
+use Rattle.still_kept.specs.grow_asked_the_PhasesLeft.{PhasesLeft}
 use Rattle.still_kept.specs.kept_history_Safe.{world_in, IsFilledRight, IsSafeHistory}
 use Rattle.still_kept.proofs.kept_history_Records.{begins-going}
 use Rattle.still_kept.specs.Still.{IsStill}

@@ -4,15 +4,15 @@ use Rattle.std.proofs.lemmas.List.Elements.{All-nil, All-cons}
 use Rattle.md_base.specs.declared.answers.Who.{Who}
 use Rattle.bank.specs.declared.bank.Operation.{Operation}
 use Rattle.bank.specs.Given.{Given}
-use Rattle.superblocks.specs.declared.members.Members.{Members}
-use Rattle.superblocks.specs.Reading.{Scope, shape_of}
-use Rattle.row_io.specs.Rows.{reading_of}
-use Rattle.flat_history.specs.declared.events.Entry.{Entry}
-use Rattle.flat_history.specs.declared.events.Event.{Event}
-use Rattle.flat_history.specs.declared.events.Event.TheVariants.{Lost}
-use Rattle.flat_history.specs.declared.events.LostCause.TheVariants.{Absent, Recovering}
-use Rattle.flat_history.specs.Flat.{length_of}
-use Rattle.flat_history.specs.Plain.{entries_of}
+use Rattle.still_kept.specs.superblocks_the_Members.{Members}
+use Rattle.still_kept.specs.superblocks_Reading.{Scope, shape_of}
+use Rattle.still_kept.specs.row_io_Rows.{reading_of}
+use Rattle.still_kept.specs.flat_history_the_Entry.{Entry}
+use Rattle.still_kept.specs.flat_history_the_Event.{Event}
+use Rattle.still_kept.specs.flat_history_the_Event_TheVariants.{Lost}
+use Rattle.still_kept.specs.flat_history_the_LostCause_TheVariants.{Absent, Recovering}
+use Rattle.still_kept.specs.flat_history_Flat.{length_of}
+use Rattle.still_kept.specs.flat_history_Plain.{entries_of}
 use Rattle.still_kept.specs.views_the_Work.{Work}
 use Rattle.still_kept.specs.views_Status.{left_of}
 use Rattle.still_kept.proofs.views_Still.{length-still}
@@ -21,7 +21,7 @@ use Rattle.still_kept.specs.array_kept_Adopting.{opener, found_losses}
 use Rattle.still_kept.specs.array_kept_Kept as kept
 use Rattle.still_kept.proofs.array_kept_ReadyLaws.{kept-legal}
 use Rattle.still_kept.proofs.calls_kept_AbsentLaws.{AreAbsent, absents-are}
-use Rattle.grow_asked.specs.declared.window.PhasesLeft.{PhasesLeft}
+use Rattle.still_kept.specs.grow_asked_the_PhasesLeft.{PhasesLeft}
 use Rattle.still_kept.specs.Still.{IsStill}
 use Rattle.still_kept.proofs.KeptStands.{kept-stands}
 use Rattle.running_words.specs.Parts.{still_left}

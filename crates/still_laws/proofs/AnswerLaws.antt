@@ -7,21 +7,21 @@ use Rattle.md_base.specs.declared.answers.Refusal.TheVariants.{Degraded, NeedSpa
 use Rattle.md_base.specs.declared.answers.Who.{Who}
 use Rattle.bank.specs.declared.bank.Operation.{Operation}
 use Rattle.bank.specs.Given.{Given}
-use Rattle.superblocks.specs.declared.members.Members.{Members}
-use Rattle.superblocks.specs.Reading.{Scope, shape_of}
-use Rattle.flat_history.specs.declared.events.Entry.{Entry}
-use Rattle.flat_history.specs.declared.events.Event.{Event}
-use Rattle.flat_history.specs.declared.events.Event.TheVariants.{Refused, Stepped}
-use Rattle.flat_history.specs.Legal.{IsRefusedRight}
-use Rattle.flat_history.specs.Plain.{entries_of}
-use Rattle.flat_history.specs.World.{World}
+use Rattle.still_kept.specs.superblocks_the_Members.{Members}
+use Rattle.still_kept.specs.superblocks_Reading.{Scope, shape_of}
+use Rattle.still_kept.specs.flat_history_the_Entry.{Entry}
+use Rattle.still_kept.specs.flat_history_the_Event.{Event}
+use Rattle.still_kept.specs.flat_history_the_Event_TheVariants.{Refused, Stepped}
+use Rattle.still_kept.specs.flat_history_Legal.{IsRefusedRight}
+use Rattle.still_kept.specs.flat_history_Plain.{entries_of}
+use Rattle.still_kept.specs.flat_history_World.{World}
 use Rattle.still_kept.specs.views_the_Work.{Work}
 use Rattle.still_kept.specs.views_Status.{left_of}
-use Rattle.grow_asked.specs.Left.{phases_of}
+use Rattle.still_kept.specs.grow_asked_Left.{phases_of}
 use Rattle.still_kept.proofs.views_LackingLaws.{never-both}
 use Rattle.still_kept.proofs.call_entries_LeftLaws.{left-more, keeps-left}
 use Rattle.still_kept.specs.array_kept_Calls.{IsLossBy}
-use Rattle.grow_asked.specs.declared.window.PhasesLeft.{PhasesLeft}
+use Rattle.still_kept.specs.grow_asked_the_PhasesLeft.{PhasesLeft}
 use Rattle.still_kept.specs.kept_history_Recorded.{IsCallGoing, entry_of}
 use Rattle.still_kept.specs.kept_history_Safe.{world_in}
 use Rattle.still_kept.specs.history_calls_Reliable.{IsReliable}

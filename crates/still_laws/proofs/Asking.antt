@@ -5,17 +5,17 @@ use Rattle.md_base.specs.declared.answers.Who.{Who}
 use Rattle.md_base.specs.declared.status.Status.{Status}
 use Rattle.bank.specs.declared.bank.Operation.{Operation}
 use Rattle.bank.specs.Given.{Given}
-use Rattle.superblocks.specs.declared.members.Members.{Members}
-use Rattle.superblocks.specs.Reading.{Scope}
-use Rattle.flat_history.specs.declared.events.Entry.{Entry}
-use Rattle.flat_history.specs.declared.events.Epoch.{Epoch}
-use Rattle.flat_history.specs.declared.events.Event.TheVariants.{Shown, Halted, Refused}
-use Rattle.flat_history.specs.Epochs.{world_of}
-use Rattle.flat_history.specs.Flat.{next_number}
-use Rattle.flat_history.specs.Legal.{IsRefusedRight}
-use Rattle.flat_history.specs.Plain.{entries_of}
-use Rattle.flat_history.proofs.SoundLaws.{stays-throughout}
-use Rattle.history_laws.proofs.NumberLaws.{safe-throughout}
+use Rattle.still_kept.specs.superblocks_the_Members.{Members}
+use Rattle.still_kept.specs.superblocks_Reading.{Scope}
+use Rattle.still_kept.specs.flat_history_the_Entry.{Entry}
+use Rattle.still_kept.specs.flat_history_the_Epoch.{Epoch}
+use Rattle.still_kept.specs.flat_history_the_Event_TheVariants.{Shown, Halted, Refused}
+use Rattle.still_kept.specs.flat_history_Epochs.{world_of}
+use Rattle.still_kept.specs.flat_history_Flat.{next_number}
+use Rattle.still_kept.specs.flat_history_Legal.{IsRefusedRight}
+use Rattle.still_kept.specs.flat_history_Plain.{entries_of}
+use Rattle.still_kept.proofs.flat_history_SoundLaws.{stays-throughout}
+use Rattle.still_kept.proofs.history_laws_NumberLaws.{safe-throughout}
 use Rattle.still_kept.specs.views_the_Work.{Work}
 use Rattle.still_kept.specs.views_Lacking.{AreTooMany}
 use Rattle.still_kept.proofs.call_entries_LeftLaws.{left-more, keeps-left}

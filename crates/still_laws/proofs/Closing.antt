@@ -8,17 +8,17 @@ use Rattle.md_base.specs.declared.places.Shape.{Shape}
 use Rattle.md_base.specs.declared.wishes.Phase.{Phase}
 use Rattle.md_base.specs.declared.wishes.Phase.TheVariants.{Reshape, UpTo6, DownTo5}
 use Rattle.grow_plan.specs.Plans.{phase_steps, phases_steps, last_shape}
-use Rattle.superblocks.specs.declared.members.Members.{Members}
-use Rattle.superblocks.specs.Reading.{is_reshaping, shape_of, final_shape}
-use Rattle.flat_history.specs.declared.events.Entry.{Entry}
-use Rattle.flat_history.specs.declared.events.Event.{Event}
-use Rattle.flat_history.specs.Reshaped.{open_plans, planned_shape}
-use Rattle.flat_history.specs.World.{World}
+use Rattle.still_kept.specs.superblocks_the_Members.{Members}
+use Rattle.still_kept.specs.superblocks_Reading.{is_reshaping, shape_of, final_shape}
+use Rattle.still_kept.specs.flat_history_the_Entry.{Entry}
+use Rattle.still_kept.specs.flat_history_the_Event.{Event}
+use Rattle.still_kept.specs.flat_history_Reshaped.{open_plans, planned_shape}
+use Rattle.still_kept.specs.flat_history_World.{World}
 use Rattle.still_kept.specs.shape_views_Regions.{DoWithout}
 use Rattle.still_kept.specs.views_the_Work.{Work}
 use Rattle.still_kept.specs.views_Status.{stripes_of, vacant_count, spare_count, resync_left, recovery_left}
-use Rattle.grow_asked.specs.declared.window.PhasesLeft.{PhasesLeft}
-use Rattle.grow_asked.specs.Left.{phases_of}
+use Rattle.still_kept.specs.grow_asked_the_PhasesLeft.{PhasesLeft}
+use Rattle.still_kept.specs.grow_asked_Left.{phases_of}
 use Rattle.still_kept.specs.kept_history_Recorded.{ends_reshape}
 use Rattle.still_kept.specs.history_calls_Reliable.{IsReliable}
 use Rattle.still_kept.proofs.history_calls_Plans.{ArePlannedTo}

@@ -6,12 +6,12 @@ use Rattle.std.proofs.lemmas.Bool.Decides.{nat_tests}
 use Rattle.std.proofs.lemmas.List.Elements.{All-nil, All-cons, All-head, All-tail}
 use Rattle.std.proofs.lemmas.List.Sums.{fold-append}
 use Rattle.md_base.specs.declared.answers.Who.{Who}
-use Rattle.flat_history.specs.declared.events.Entry.{Entry}
-use Rattle.flat_history.specs.declared.events.Event.{Event}
-use Rattle.flat_history.specs.declared.events.Event.TheVariants.{Resized}
-use Rattle.flat_history.specs.Flat.{next_number, number_after}
-use Rattle.flat_history.specs.OneShape.{IsOfCall, GoesOnBehind}
-use Rattle.flat_history.specs.Plain.{entries_of}
+use Rattle.still_kept.specs.flat_history_the_Entry.{Entry}
+use Rattle.still_kept.specs.flat_history_the_Event.{Event}
+use Rattle.still_kept.specs.flat_history_the_Event_TheVariants.{Resized}
+use Rattle.still_kept.specs.flat_history_Flat.{next_number, number_after}
+use Rattle.still_kept.specs.flat_history_OneShape.{IsOfCall, GoesOnBehind}
+use Rattle.still_kept.specs.flat_history_Plain.{entries_of}
 use Rattle.still_kept.specs.call_entries_Losing.{losses_of}
 use Rattle.still_kept.proofs.call_entries_CallLaws.{losses-are}
 use Rattle.still_kept.proofs.call_entries_PlainLaws.{one}

@@ -7,16 +7,16 @@ use Rattle.bank.specs.declared.bank.Operation.{Operation}
 use Rattle.bank.specs.Given.{Given, NeverFalls}
 use Rattle.sb1.specs.declared.sb.Sb.{Sb}
 use Rattle.grow_plan.specs.Plans.{AreSound}
-use Rattle.superblocks.specs.declared.members.Members.{Members}
-use Rattle.superblocks.specs.Reading.{Scope, shape_of, list_length}
-use Rattle.flat_history.specs.declared.events.Entry.{Entry}
-use Rattle.flat_history.specs.Flat.{length_of}
+use Rattle.still_kept.specs.superblocks_the_Members.{Members}
+use Rattle.still_kept.specs.superblocks_Reading.{Scope, shape_of, list_length}
+use Rattle.still_kept.specs.flat_history_the_Entry.{Entry}
+use Rattle.still_kept.specs.flat_history_Flat.{length_of}
 use Rattle.still_kept.specs.views_the_Work.{Work}
 use Rattle.still_kept.specs.views_Moving.{IsMoved}
 use Rattle.still_kept.proofs.views_Fit.{list-alike}
 use Rattle.still_kept.proofs.array_kept_NowLaws.{length-more}
-use Rattle.grow_asked.specs.declared.window.PhasesLeft.{PhasesLeft}
-use Rattle.grow_asked.specs.Left.{phases_of}
+use Rattle.still_kept.specs.grow_asked_the_PhasesLeft.{PhasesLeft}
+use Rattle.still_kept.specs.grow_asked_Left.{phases_of}
 use Rattle.still_kept.proofs.kept_history_Tests.{none-before}
 use Rattle.still_kept.specs.Still.{IsStill}
 use Rattle.running_words.specs.Parts.{still_left}

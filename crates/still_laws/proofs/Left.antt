@@ -8,10 +8,10 @@ use Rattle.md_base.specs.declared.status.Role.TheVariants.{Whole, Recovering, Mi
 use Rattle.layout.proofs.Limits.{limited}
 use Rattle.bank.specs.Given.{Given}
 use Rattle.grow_plan.specs.Plans.{phases_steps}
-use Rattle.superblocks.specs.declared.members.Members.{Members}
-use Rattle.superblocks.specs.Reading.{shape_of, role_state}
-use Rattle.row_io.specs.Rows.{reading_of}
-use Rattle.row_io.proofs.Tables.{count_below-le}
+use Rattle.still_kept.specs.superblocks_the_Members.{Members}
+use Rattle.still_kept.specs.superblocks_Reading.{shape_of, role_state}
+use Rattle.still_kept.specs.row_io_Rows.{reading_of}
+use Rattle.still_kept.proofs.row_io_Tables.{count_below-le}
 use Rattle.still_kept.specs.views_the_Work.{Work}
 use Rattle.still_kept.specs.views_Lacking.{AreLostSince}
 use Rattle.still_kept.specs.views_Moving.{IsMoved}
@@ -19,8 +19,8 @@ use Rattle.still_kept.specs.views_Placed.{is_vacant}
 use Rattle.still_kept.specs.views_Status.{stripes_of, rebuilt_of, vacant_count, spare_count, resync_left, role_left, recovery_left, left_of}
 use Rattle.still_kept.specs.call_entries_Losing.{losses_of}
 use Rattle.still_kept.proofs.array_kept_StepsLeft.{left-moved}
-use Rattle.grow_asked.specs.declared.window.PhasesLeft.{PhasesLeft}
-use Rattle.grow_asked.specs.Left.{phases_of}
+use Rattle.still_kept.specs.grow_asked_the_PhasesLeft.{PhasesLeft}
+use Rattle.still_kept.specs.grow_asked_Left.{phases_of}
 use Rattle.running_words.specs.Parts.{still_left}
 
 -- ---- how many they are

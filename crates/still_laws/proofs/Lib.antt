@@ -59,3 +59,5 @@ pub use Rattle.still_kept.proofs.shape_changes_Risen
 pub use Rattle.still_kept.proofs.shape_views_Stands
 pub use Rattle.still_kept.proofs.shape_changes_PlannedRoles
 pub use Rattle.still_kept.proofs.shape_changes_Kept
+pub use Rattle.still_kept.proofs.superblock_reads_SaidLists
+pub use Rattle.still_kept.proofs.superblock_reads_SaidSlots

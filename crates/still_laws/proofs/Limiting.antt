@@ -10,24 +10,24 @@ use Rattle.md_base.specs.declared.answers.Refusal.TheVariants.{PastSize, Busy}
 use Rattle.md_base.specs.declared.answers.Who.{Who}
 use Rattle.bank.specs.declared.bank.Operation.{Operation}
 use Rattle.bank.specs.Given.{Given}
-use Rattle.superblocks.specs.declared.members.Members.{Members}
-use Rattle.superblocks.specs.Reading.{Scope, list_length}
-use Rattle.flat_history.specs.declared.events.Entry.{Entry}
-use Rattle.flat_history.specs.declared.events.Event.{Event}
-use Rattle.flat_history.specs.declared.events.Event.TheVariants.{Visible, Refused}
-use Rattle.flat_history.specs.declared.events.Request.TheVariants.{Visible as AsksVisible}
-use Rattle.flat_history.specs.Fits.{Answers, Fits, AreTornOf, IsVisibleRefused, phases_left}
-use Rattle.flat_history.specs.Flat.{next_number, length_after}
-use Rattle.flat_history.specs.Legal.{visible_at, IsRefusedRight}
-use Rattle.flat_history.specs.OneShape.{opening_in, IsOneShapeRefusal}
-use Rattle.flat_history.specs.Plain.{entries_of}
-use Rattle.flat_history.specs.World.{World, until, opening_list}
+use Rattle.still_kept.specs.superblocks_the_Members.{Members}
+use Rattle.still_kept.specs.superblocks_Reading.{Scope, list_length}
+use Rattle.still_kept.specs.flat_history_the_Entry.{Entry}
+use Rattle.still_kept.specs.flat_history_the_Event.{Event}
+use Rattle.still_kept.specs.flat_history_the_Event_TheVariants.{Visible, Refused}
+use Rattle.still_kept.specs.flat_history_the_Request_TheVariants.{Visible as AsksVisible}
+use Rattle.still_kept.specs.flat_history_Fits.{Answers, Fits, AreTornOf, IsVisibleRefused, phases_left}
+use Rattle.still_kept.specs.flat_history_Flat.{next_number, length_after}
+use Rattle.still_kept.specs.flat_history_Legal.{visible_at, IsRefusedRight}
+use Rattle.still_kept.specs.flat_history_OneShape.{opening_in, IsOneShapeRefusal}
+use Rattle.still_kept.specs.flat_history_Plain.{entries_of}
+use Rattle.still_kept.specs.flat_history_World.{World, until, opening_list}
 use Rattle.still_kept.specs.views_the_Work.{Work}
 use Rattle.still_kept.specs.views_Moving.{Grows}
 use Rattle.still_kept.proofs.call_entries_LeftLaws.{left-more}
 use Rattle.still_kept.proofs.array_kept_NowLaws.{length-more}
 use Rattle.still_kept.proofs.array_kept_ReplyLaws.{none_before}
-use Rattle.grow_asked.specs.declared.window.PhasesLeft.{PhasesLeft}
+use Rattle.still_kept.specs.grow_asked_the_PhasesLeft.{PhasesLeft}
 use Rattle.still_kept.specs.kept_history_Recorded.{IsCallGoing, entry_of}
 use Rattle.still_kept.specs.kept_history_Safe.{world_in}
 use Rattle.still_kept.proofs.kept_history_Records.{begins-going, until-all}

@@ -7,14 +7,14 @@ use Rattle.md_base.specs.declared.places.Shape.{Shape}
 use Rattle.bank.specs.declared.bank.Operation.{Operation}
 use Rattle.bank.specs.Given.{Given}
 use Rattle.grow_plan.specs.Plans.{phases_steps}
-use Rattle.superblocks.specs.declared.members.Members.{Members}
-use Rattle.superblocks.specs.Reading.{Scope, shape_of}
-use Rattle.row_io.specs.Rows.{reading_of, present}
-use Rattle.list_io.specs.Full.{AreWholeIn, RowStands}
-use Rattle.flat_history.specs.declared.events.Entry.{Entry}
-use Rattle.flat_history.specs.declared.events.Event.TheVariants.{Step, Refused}
-use Rattle.flat_history.specs.declared.events.StepKind.TheVariants.{ResyncStripe, ResyncEnded}
-use Rattle.flat_history.specs.Plain.{entries_of}
+use Rattle.still_kept.specs.superblocks_the_Members.{Members}
+use Rattle.still_kept.specs.superblocks_Reading.{Scope, shape_of}
+use Rattle.still_kept.specs.row_io_Rows.{reading_of, present}
+use Rattle.still_kept.specs.list_io_Full.{AreWholeIn, RowStands}
+use Rattle.still_kept.specs.flat_history_the_Entry.{Entry}
+use Rattle.still_kept.specs.flat_history_the_Event_TheVariants.{Step, Refused}
+use Rattle.still_kept.specs.flat_history_the_StepKind_TheVariants.{ResyncStripe, ResyncEnded}
+use Rattle.still_kept.specs.flat_history_Plain.{entries_of}
 use Rattle.still_kept.specs.shape_views_Regions.{DoWithout}
 use Rattle.still_kept.specs.views_the_Work.{Work}
 use Rattle.still_kept.specs.views_Lacking.{AreTooMany, IsUnwritten, IsOfStripe, DataStandsAmong}
@@ -23,8 +23,8 @@ use Rattle.still_kept.proofs.views_LiveLeft.{without-left}
 use Rattle.still_kept.specs.call_entries_Losing.{losses_of}
 use Rattle.still_kept.proofs.array_kept_StepsLeft.{left-mended, left-ended}
 use Rattle.still_kept.proofs.calls_kept_EndLaws.{enough-mended}
-use Rattle.grow_asked.specs.declared.window.PhasesLeft.{PhasesLeft}
-use Rattle.grow_asked.specs.Left.{phases_of}
+use Rattle.still_kept.specs.grow_asked_the_PhasesLeft.{PhasesLeft}
+use Rattle.still_kept.specs.grow_asked_Left.{phases_of}
 use Rattle.still_kept.specs.kept_history_Recorded.{IsCallGoing}
 use Rattle.still_kept.specs.kept_history_Safe.{world_in}
 use Rattle.still_kept.specs.Still.{IsStill}

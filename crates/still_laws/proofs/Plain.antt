@@ -10,20 +10,20 @@ use Rattle.md_base.specs.declared.answers.Who.{Who}
 use Rattle.md_base.specs.declared.places.Shape.{Shape}
 use Rattle.bank.specs.declared.bank.Operation.{Operation}
 use Rattle.bank.specs.Given.{Given}
-use Rattle.superblocks.specs.declared.members.Members.{Members}
-use Rattle.superblocks.specs.Reading.{Scope, Reading, is_reshaping, shape_of}
-use Rattle.flat_history.specs.declared.events.Entry.{Entry}
-use Rattle.flat_history.specs.declared.events.Epoch.{Epoch}
-use Rattle.flat_history.specs.declared.events.Event.{Event}
-use Rattle.flat_history.specs.declared.events.Event.TheVariants.{Resized, Step}
-use Rattle.flat_history.specs.declared.events.StepKind.TheVariants.{Begun, TakenOver}
-use Rattle.flat_history.specs.Flat.{rest_of_call}
-use Rattle.flat_history.specs.OneShape.{ShapeOpening, opening_in, is_used_now, adds_slot, keeps_shape_event, KeepShape, GoesOnBehind, IsOfCall, IsCallOpen, IsOneShapeEvent, AreOneShape, IsOneShapeLegal}
-use Rattle.flat_history.specs.Plain.{entries_of}
-use Rattle.flat_history.specs.Sound.{FillsRight}
-use Rattle.flat_history.specs.World.{World, contents_at, reading_at}
-use Rattle.flat_history.proofs.OneShapeLegal.{opening-grown}
-use Rattle.history_laws.proofs.OneShapeGrowing.{IsOneShapeCall}
+use Rattle.still_kept.specs.superblocks_the_Members.{Members}
+use Rattle.still_kept.specs.superblocks_Reading.{Scope, Reading, is_reshaping, shape_of}
+use Rattle.still_kept.specs.flat_history_the_Entry.{Entry}
+use Rattle.still_kept.specs.flat_history_the_Epoch.{Epoch}
+use Rattle.still_kept.specs.flat_history_the_Event.{Event}
+use Rattle.still_kept.specs.flat_history_the_Event_TheVariants.{Resized, Step}
+use Rattle.still_kept.specs.flat_history_the_StepKind_TheVariants.{Begun, TakenOver}
+use Rattle.still_kept.specs.flat_history_Flat.{rest_of_call}
+use Rattle.still_kept.specs.flat_history_OneShape.{ShapeOpening, opening_in, is_used_now, adds_slot, keeps_shape_event, KeepShape, GoesOnBehind, IsOfCall, IsCallOpen, IsOneShapeEvent, AreOneShape, IsOneShapeLegal}
+use Rattle.still_kept.specs.flat_history_Plain.{entries_of}
+use Rattle.still_kept.specs.flat_history_Sound.{FillsRight}
+use Rattle.still_kept.specs.flat_history_World.{World, contents_at, reading_at}
+use Rattle.still_kept.proofs.flat_history_OneShapeLegal.{opening-grown}
+use Rattle.still_kept.proofs.history_laws_OneShapeGrowing.{IsOneShapeCall}
 use Rattle.still_kept.specs.views_the_Work.{Work}
 use Rattle.still_kept.specs.views_Moving.{Grows}
 use Rattle.still_kept.proofs.call_entries_StepLaws.{call-goes_on, used-more}

@@ -12,19 +12,19 @@ use Rattle.md_base.specs.declared.answers.Who.{Who}
 use Rattle.bank.specs.declared.bank.Operation.{Operation}
 use Rattle.bank.specs.Given.{Given, Sizes}
 use Rattle.sb1.specs.declared.sb.Sb.{Sb}
-use Rattle.superblocks.specs.declared.members.Members.{Members}
-use Rattle.superblocks.specs.Reading.{Scope, role_count, is_backup}
-use Rattle.superblocks.specs.Reads.{has_spare}
-use Rattle.superblocks.proofs.ValidFields.{few-roles}
-use Rattle.row_io.specs.Rows.{reading_of, is_missing}
-use Rattle.flat_history.specs.declared.events.Entry.{Entry}
-use Rattle.flat_history.specs.declared.events.Event.{Event}
-use Rattle.flat_history.specs.declared.events.Event.TheVariants.{Lost, Failed, Added, Refused}
-use Rattle.flat_history.specs.declared.events.LostCause.TheVariants.{Command}
-use Rattle.flat_history.specs.OneShape.{opening_in, is_lost, is_gone_now, is_spare_now, adds_slot, IsTakenNow, IsTooSmallNow}
-use Rattle.flat_history.specs.Plain.{loses_role, entries_of}
-use Rattle.flat_history.specs.Sound.{LosesNoRole}
-use Rattle.history_laws.proofs.OneShapeGrowing.{IsOneShapeCall, call-faults, call-fails}
+use Rattle.still_kept.specs.superblocks_the_Members.{Members}
+use Rattle.still_kept.specs.superblocks_Reading.{Scope, role_count, is_backup}
+use Rattle.still_kept.specs.superblocks_Reads.{has_spare}
+use Rattle.still_kept.proofs.superblocks_ValidFields.{few-roles}
+use Rattle.still_kept.specs.row_io_Rows.{reading_of, is_missing}
+use Rattle.still_kept.specs.flat_history_the_Entry.{Entry}
+use Rattle.still_kept.specs.flat_history_the_Event.{Event}
+use Rattle.still_kept.specs.flat_history_the_Event_TheVariants.{Lost, Failed, Added, Refused}
+use Rattle.still_kept.specs.flat_history_the_LostCause_TheVariants.{Command}
+use Rattle.still_kept.specs.flat_history_OneShape.{opening_in, is_lost, is_gone_now, is_spare_now, adds_slot, IsTakenNow, IsTooSmallNow}
+use Rattle.still_kept.specs.flat_history_Plain.{loses_role, entries_of}
+use Rattle.still_kept.specs.flat_history_Sound.{LosesNoRole}
+use Rattle.still_kept.proofs.history_laws_OneShapeGrowing.{IsOneShapeCall, call-faults, call-fails}
 use Rattle.still_kept.specs.views_the_Work.{Work}
 use Rattle.still_kept.specs.views_Flushing.{OnlyFlushesAdded}
 use Rattle.still_kept.specs.views_Lacking.{AreLostSince}
@@ -46,7 +46,7 @@ use Rattle.still_kept.proofs.array_kept_OnlyLaws.{MakeSpares, TellsOnly, either,
 use Rattle.still_kept.proofs.array_kept_RecordLaws.{told-more, gone-lately}
 use Rattle.still_kept.proofs.calls_kept_AddedLosses.{IsAddDone, told-added, spares-added}
 use Rattle.still_kept.proofs.calls_kept_AddLaws.{lowest}
-use Rattle.grow_asked.specs.declared.window.PhasesLeft.{PhasesLeft}
+use Rattle.still_kept.specs.grow_asked_the_PhasesLeft.{PhasesLeft}
 use Rattle.still_kept.specs.kept_history_Recorded.{IsCallGoing}
 use Rattle.still_kept.specs.kept_history_Safe.{world_in}
 use Rattle.still_laws.specs.Plain.{MayTellPlainly, IsPlainKept}

@@ -20,23 +20,23 @@ use Rattle.bank.specs.declared.bank.Operation.{Operation}
 use Rattle.bank.specs.Given.{Given}
 use Rattle.layout.proofs.Limits.{limited}
 use Rattle.parity.specs.Rows.{sector_of}
-use Rattle.superblocks.specs.declared.members.Members.{Members}
-use Rattle.superblocks.specs.Reading.{Scope, shape_of, list_length, role_state, is_whole, holder}
-use Rattle.superblocks.specs.Reads.{has_spare}
-use Rattle.superblocks.proofs.ValidFields.{few-roles}
-use Rattle.row_io.specs.Rows.{reading_of, present}
-use Rattle.flat_history.specs.declared.events.Entry.{Entry}
-use Rattle.flat_history.specs.declared.events.Event.{Event}
-use Rattle.flat_history.specs.declared.events.Event.TheVariants.{Read, Wrote, Torn, Shown, Halted, Step, Stepped, Refused}
-use Rattle.flat_history.specs.declared.events.StepKind.{StepKind}
-use Rattle.flat_history.specs.Flat.{visible_of}
-use Rattle.flat_history.specs.Legal.{told_left}
-use Rattle.flat_history.specs.Losses.{is_unsynced, is_resync_end}
-use Rattle.flat_history.specs.OneShape.{opening_in, is_gone_now, is_spare_now, EndsIdleSteps, IsNothingLeft, IsIdleStep, IsOneShapeEvent, IsOneShapeRefusal}
-use Rattle.flat_history.specs.Plain.{entries_of}
-use Rattle.flat_history.specs.Sound.{FillsRight, LosesNoRole}
-use Rattle.flat_history.specs.World.{World, opening_list}
-use Rattle.history_laws.proofs.OneShapeGrowing.{IsOneShapeCall, call-faults}
+use Rattle.still_kept.specs.superblocks_the_Members.{Members}
+use Rattle.still_kept.specs.superblocks_Reading.{Scope, shape_of, list_length, role_state, is_whole, holder}
+use Rattle.still_kept.specs.superblocks_Reads.{has_spare}
+use Rattle.still_kept.proofs.superblocks_ValidFields.{few-roles}
+use Rattle.still_kept.specs.row_io_Rows.{reading_of, present}
+use Rattle.still_kept.specs.flat_history_the_Entry.{Entry}
+use Rattle.still_kept.specs.flat_history_the_Event.{Event}
+use Rattle.still_kept.specs.flat_history_the_Event_TheVariants.{Read, Wrote, Torn, Shown, Halted, Step, Stepped, Refused}
+use Rattle.still_kept.specs.flat_history_the_StepKind.{StepKind}
+use Rattle.still_kept.specs.flat_history_Flat.{visible_of}
+use Rattle.still_kept.specs.flat_history_Legal.{told_left}
+use Rattle.still_kept.specs.flat_history_Losses.{is_unsynced, is_resync_end}
+use Rattle.still_kept.specs.flat_history_OneShape.{opening_in, is_gone_now, is_spare_now, EndsIdleSteps, IsNothingLeft, IsIdleStep, IsOneShapeEvent, IsOneShapeRefusal}
+use Rattle.still_kept.specs.flat_history_Plain.{entries_of}
+use Rattle.still_kept.specs.flat_history_Sound.{FillsRight, LosesNoRole}
+use Rattle.still_kept.specs.flat_history_World.{World, opening_list}
+use Rattle.still_kept.proofs.history_laws_OneShapeGrowing.{IsOneShapeCall, call-faults}
 use Rattle.still_kept.specs.shape_views_Regions.{DoWithout}
 use Rattle.still_kept.specs.views_the_Work.{Work}
 use Rattle.still_kept.specs.views_Lacking.{lacking, AreLostSince, AreTooMany, LacksTooMany, IsUnread, IsUnwritten, ListStands, RowsStandBelow, are_mended, mended_rows}
@@ -60,8 +60,8 @@ use Rattle.still_kept.proofs.array_kept_NowLaws.{sectors_of-at}
 use Rattle.still_kept.proofs.array_kept_OnlyLaws.{MakeSpares, only-more, only-since}
 use Rattle.still_kept.proofs.array_kept_ReadyLaws.{settles-of}
 use Rattle.still_kept.proofs.array_kept_RecordLaws.{told-more}
-use Rattle.grow_asked.specs.declared.window.PhasesLeft.{PhasesLeft}
-use Rattle.grow_asked.specs.Left.{phases_of}
+use Rattle.still_kept.specs.grow_asked_the_PhasesLeft.{PhasesLeft}
+use Rattle.still_kept.specs.grow_asked_Left.{phases_of}
 use Rattle.still_kept.specs.kept_history_Recorded.{IsCallGoing}
 use Rattle.still_kept.specs.kept_history_Safe.{world_in}
 use Rattle.still_kept.proofs.kept_history_Ledgers.{unsynced-still}

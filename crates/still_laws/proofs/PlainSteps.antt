@@ -11,19 +11,19 @@ use Rattle.md_base.specs.declared.status.Role.{Role}
 use Rattle.md_base.specs.declared.status.Role.TheVariants.{Whole, Recovering}
 use Rattle.bank.specs.declared.bank.Operation.{Operation}
 use Rattle.bank.specs.Given.{Given}
-use Rattle.superblocks.specs.declared.members.Members.{Members}
-use Rattle.superblocks.specs.Reading.{Scope, shape_of, role_state, is_whole, holder}
-use Rattle.superblocks.specs.Reads.{has_spare}
-use Rattle.superblocks.proofs.ValidFields.{few-roles}
-use Rattle.row_io.specs.Rows.{reading_of, is_missing}
-use Rattle.flat_history.specs.declared.events.Entry.{Entry}
-use Rattle.flat_history.specs.declared.events.Event.{Event}
-use Rattle.flat_history.specs.declared.events.Event.TheVariants.{Step, Rebuilt}
-use Rattle.flat_history.specs.declared.events.StepKind.TheVariants.{ResyncStripe, ResyncEnded, RebuildTaken, RebuildStripe, RebuildEnded}
-use Rattle.flat_history.specs.Legal.{told_left}
-use Rattle.flat_history.specs.OneShape.{opening_in, gives_role, is_gone_now, is_gone_with, is_spare_now}
-use Rattle.flat_history.specs.Plain.{entries_of}
-use Rattle.history_laws.proofs.OneShapeGrowing.{gone-more}
+use Rattle.still_kept.specs.superblocks_the_Members.{Members}
+use Rattle.still_kept.specs.superblocks_Reading.{Scope, shape_of, role_state, is_whole, holder}
+use Rattle.still_kept.specs.superblocks_Reads.{has_spare}
+use Rattle.still_kept.proofs.superblocks_ValidFields.{few-roles}
+use Rattle.still_kept.specs.row_io_Rows.{reading_of, is_missing}
+use Rattle.still_kept.specs.flat_history_the_Entry.{Entry}
+use Rattle.still_kept.specs.flat_history_the_Event.{Event}
+use Rattle.still_kept.specs.flat_history_the_Event_TheVariants.{Step, Rebuilt}
+use Rattle.still_kept.specs.flat_history_the_StepKind_TheVariants.{ResyncStripe, ResyncEnded, RebuildTaken, RebuildStripe, RebuildEnded}
+use Rattle.still_kept.specs.flat_history_Legal.{told_left}
+use Rattle.still_kept.specs.flat_history_OneShape.{opening_in, gives_role, is_gone_now, is_gone_with, is_spare_now}
+use Rattle.still_kept.specs.flat_history_Plain.{entries_of}
+use Rattle.still_kept.proofs.history_laws_OneShapeGrowing.{gone-more}
 use Rattle.still_kept.specs.shape_views_Regions.{DoWithout}
 use Rattle.still_kept.specs.views_the_Work.{Work}
 use Rattle.still_kept.specs.views_Lacking.{AreLostSince}
@@ -49,7 +49,7 @@ use Rattle.still_kept.proofs.array_kept_StepsLeft.{left-mended, left-ended, left
 use Rattle.still_kept.proofs.calls_kept_RebuildEnded.{holder-before, holder-still, spare-still, moved-vacant}
 use Rattle.still_kept.proofs.calls_kept_RebuildGiven.{receiver-spare, receiver-recovering, missing-given}
 use Rattle.still_kept.proofs.calls_kept_RebuildLaws.{call-stepped_on}
-use Rattle.grow_asked.specs.declared.window.PhasesLeft.{PhasesLeft}
+use Rattle.still_kept.specs.grow_asked_the_PhasesLeft.{PhasesLeft}
 use Rattle.still_kept.specs.kept_history_Recorded.{IsCallGoing}
 use Rattle.still_kept.specs.kept_history_Safe.{world_in}
 use Rattle.running_words.specs.Parts.{still_left}

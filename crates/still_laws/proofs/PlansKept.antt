@@ -14,24 +14,24 @@ use Rattle.md_base.specs.declared.wishes.Phase.TheVariants.{Reshape}
 use Rattle.bank.specs.declared.bank.Operation.{Operation}
 use Rattle.bank.specs.Given.{Given}
 use Rattle.grow_plan.specs.Plans.{last_shape}
-use Rattle.superblocks.specs.Reading.{is_reshaping, shape_of, final_shape}
-use Rattle.flat_history.specs.declared.events.Entry.{Entry}
-use Rattle.flat_history.specs.declared.events.Event.{Event}
-use Rattle.flat_history.specs.declared.events.Event.TheVariants.{Planned, Step, Lost, SpareLost, Refused}
-use Rattle.flat_history.specs.declared.events.LostCause.TheVariants.{Fault as ByFault}
-use Rattle.flat_history.specs.declared.events.Request.{Request}
-use Rattle.flat_history.specs.declared.events.StepKind.{StepKind}
-use Rattle.flat_history.specs.Growing.{grown, EndBy}
-use Rattle.flat_history.specs.Plain.{entries_of}
-use Rattle.flat_history.specs.Reshaped.{is_done, is_planned, plans_after, open_plans, planned_shape}
-use Rattle.flat_history.specs.World.{World}
+use Rattle.still_kept.specs.superblocks_Reading.{is_reshaping, shape_of, final_shape}
+use Rattle.still_kept.specs.flat_history_the_Entry.{Entry}
+use Rattle.still_kept.specs.flat_history_the_Event.{Event}
+use Rattle.still_kept.specs.flat_history_the_Event_TheVariants.{Planned, Step, Lost, SpareLost, Refused}
+use Rattle.still_kept.specs.flat_history_the_LostCause_TheVariants.{Fault as ByFault}
+use Rattle.still_kept.specs.flat_history_the_Request.{Request}
+use Rattle.still_kept.specs.flat_history_the_StepKind.{StepKind}
+use Rattle.still_kept.specs.flat_history_Growing.{grown, EndBy}
+use Rattle.still_kept.specs.flat_history_Plain.{entries_of}
+use Rattle.still_kept.specs.flat_history_Reshaped.{is_done, is_planned, plans_after, open_plans, planned_shape}
+use Rattle.still_kept.specs.flat_history_World.{World}
 use Rattle.still_kept.specs.views_Moving.{Grows}
 use Rattle.still_kept.specs.call_entries_Losing.{losses_of}
 use Rattle.still_kept.proofs.call_entries_CallLaws.{AreLossEvents, losses-are}
 use Rattle.still_kept.proofs.call_entries_LosingLaws.{entries-both}
 use Rattle.still_kept.specs.array_kept_Kept.{scope_in}
 use Rattle.still_kept.specs.array_kept_Calls.{IsEntered, StandsInside, IsReplied, IsAnswered, IsBehind, IsBehindAll}
-use Rattle.grow_asked.specs.Left.{phases_of}
+use Rattle.still_kept.specs.grow_asked_Left.{phases_of}
 use Rattle.still_kept.specs.kept_history_Recorded.{entry_of}
 use Rattle.still_kept.specs.kept_history_Safe.{world_in}
 use Rattle.still_kept.proofs.kept_history_Growing.{alike-before, room-before}

@@ -9,18 +9,18 @@ use Rattle.md_base.specs.declared.places.Shape.{Shape}
 use Rattle.bank.specs.declared.bank.Operation.{Operation}
 use Rattle.bank.specs.Given.{Given}
 use Rattle.parity.specs.Rows.{sector_of}
-use Rattle.superblocks.specs.declared.members.Members.{Members}
-use Rattle.superblocks.specs.Reading.{Scope, is_reshaping, shape_of, list_length}
-use Rattle.superblocks.proofs.ValidFields.{few-roles}
-use Rattle.row_io.specs.Rows.{present}
-use Rattle.list_io.specs.Buffers.{IsTouched}
-use Rattle.flat_history.specs.declared.events.Entry.{Entry}
-use Rattle.flat_history.specs.declared.events.Event.{Event}
-use Rattle.flat_history.specs.Flat.{now, limit_of}
-use Rattle.flat_history.specs.Legal.{visible_at, IsRefusedRight}
-use Rattle.flat_history.specs.Losses.{loses}
-use Rattle.flat_history.specs.Plain.{entries_of}
-use Rattle.flat_history.specs.World.{opening_list}
+use Rattle.still_kept.specs.superblocks_the_Members.{Members}
+use Rattle.still_kept.specs.superblocks_Reading.{Scope, is_reshaping, shape_of, list_length}
+use Rattle.still_kept.proofs.superblocks_ValidFields.{few-roles}
+use Rattle.still_kept.specs.row_io_Rows.{present}
+use Rattle.still_kept.specs.list_io_Buffers.{IsTouched}
+use Rattle.still_kept.specs.flat_history_the_Entry.{Entry}
+use Rattle.still_kept.specs.flat_history_the_Event.{Event}
+use Rattle.still_kept.specs.flat_history_Flat.{now, limit_of}
+use Rattle.still_kept.specs.flat_history_Legal.{visible_at, IsRefusedRight}
+use Rattle.still_kept.specs.flat_history_Losses.{loses}
+use Rattle.still_kept.specs.flat_history_Plain.{entries_of}
+use Rattle.still_kept.specs.flat_history_World.{opening_list}
 use Rattle.still_kept.specs.shape_views_Regions.{DoWithout}
 use Rattle.still_kept.proofs.shape_views_Stands.{list-still}
 use Rattle.still_kept.specs.views_the_Work.{Work}

@@ -12,18 +12,18 @@ use Rattle.md_base.specs.declared.status.Role.TheVariants.{Whole, Recovering}
 use Rattle.bank.specs.declared.bank.Operation.{Operation}
 use Rattle.bank.specs.Given.{Given}
 use Rattle.grow_plan.specs.Plans.{phases_steps}
-use Rattle.superblocks.specs.declared.members.Members.{Members}
-use Rattle.superblocks.specs.Reading.{Scope, shape_of, role_count, role_state, holder, rows_held}
-use Rattle.superblocks.proofs.ValidFields.{few-roles}
-use Rattle.row_io.specs.Rows.{reading_of, present}
-use Rattle.list_io.specs.Writing.{HasFull}
-use Rattle.flat_history.specs.declared.events.Entry.{Entry}
-use Rattle.flat_history.specs.declared.events.Event.{Event}
-use Rattle.flat_history.specs.declared.events.Event.TheVariants.{Lost, Step, Refused, Rebuilt}
-use Rattle.flat_history.specs.declared.events.LostCause.TheVariants.{Fault}
-use Rattle.flat_history.specs.declared.events.StepKind.TheVariants.{RebuildTaken, RebuildStripe, RebuildEnded}
-use Rattle.flat_history.specs.Growing.{EndBy}
-use Rattle.flat_history.specs.Plain.{entries_of}
+use Rattle.still_kept.specs.superblocks_the_Members.{Members}
+use Rattle.still_kept.specs.superblocks_Reading.{Scope, shape_of, role_count, role_state, holder, rows_held}
+use Rattle.still_kept.proofs.superblocks_ValidFields.{few-roles}
+use Rattle.still_kept.specs.row_io_Rows.{reading_of, present}
+use Rattle.still_kept.specs.list_io_Writing.{HasFull}
+use Rattle.still_kept.specs.flat_history_the_Entry.{Entry}
+use Rattle.still_kept.specs.flat_history_the_Event.{Event}
+use Rattle.still_kept.specs.flat_history_the_Event_TheVariants.{Lost, Step, Refused, Rebuilt}
+use Rattle.still_kept.specs.flat_history_the_LostCause_TheVariants.{Fault}
+use Rattle.still_kept.specs.flat_history_the_StepKind_TheVariants.{RebuildTaken, RebuildStripe, RebuildEnded}
+use Rattle.still_kept.specs.flat_history_Growing.{EndBy}
+use Rattle.still_kept.specs.flat_history_Plain.{entries_of}
 use Rattle.still_kept.specs.shape_views_Regions.{DoWithout}
 use Rattle.still_kept.specs.views_the_Work.{Work}
 use Rattle.still_kept.specs.views_Lacking.{AreLostSince, LacksTooMany, IsOfStripe, DataStandsAmong, RowsStandAmong}
@@ -42,8 +42,8 @@ use Rattle.still_kept.proofs.array_kept_ToldLosses.{role-told}
 use Rattle.still_kept.proofs.array_kept_StepsLeft.{left-taken, left-filled, left-whole}
 use Rattle.still_kept.proofs.calls_kept_RebuildEnded.{whole-spare}
 use Rattle.still_kept.proofs.calls_kept_RebuildGiven.{receiver-spare}
-use Rattle.grow_asked.specs.declared.window.PhasesLeft.{PhasesLeft}
-use Rattle.grow_asked.specs.Left.{phases_of}
+use Rattle.still_kept.specs.grow_asked_the_PhasesLeft.{PhasesLeft}
+use Rattle.still_kept.specs.grow_asked_Left.{phases_of}
 use Rattle.still_kept.specs.kept_history_Recorded.{IsCallGoing, IsLengthKept, IsOpenBehind}
 use Rattle.still_kept.specs.kept_history_Safe.{world_in}
 use Rattle.still_kept.proofs.kept_history_Growing.{alike-before, room-before}

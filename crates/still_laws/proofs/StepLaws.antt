@@ -9,13 +9,13 @@ use Rattle.grow_plan.specs.Plans.{phases_steps}
 use Rattle.md_base.specs.declared.answers.Refusal.{Refusal}
 use Rattle.md_base.specs.declared.answers.Who.{Who}
 use Rattle.sb1.specs.declared.sb.Sb.{Sb}
-use Rattle.superblocks.specs.Reading.{Scope, is_backward, shape_of, final_shape}
-use Rattle.superblocks.specs.declared.members.Members.{Members}
-use Rattle.flat_history.specs.declared.events.Entry.{Entry}
-use Rattle.flat_history.specs.declared.events.Event.{Event}
-use Rattle.flat_history.specs.declared.events.Event.TheVariants.{Lost, Refused}
-use Rattle.flat_history.specs.declared.events.LostCause.TheVariants.{Fault, Command}
-use Rattle.flat_history.specs.Plain.{entries_of}
+use Rattle.still_kept.specs.superblocks_Reading.{Scope, is_backward, shape_of, final_shape}
+use Rattle.still_kept.specs.superblocks_the_Members.{Members}
+use Rattle.still_kept.specs.flat_history_the_Entry.{Entry}
+use Rattle.still_kept.specs.flat_history_the_Event.{Event}
+use Rattle.still_kept.specs.flat_history_the_Event_TheVariants.{Lost, Refused}
+use Rattle.still_kept.specs.flat_history_the_LostCause_TheVariants.{Fault, Command}
+use Rattle.still_kept.specs.flat_history_Plain.{entries_of}
 use Rattle.still_kept.specs.views_the_Work.{Work}
 use Rattle.still_kept.specs.views_Lacking.{AreLostSince, AreTooMany, HaveRolesFailed}
 use Rattle.still_kept.specs.views_Moving.{Grows, IsMoved}
@@ -27,8 +27,8 @@ use Rattle.still_kept.specs.array_kept_Calls.{IsLossBy, AreLossesBy, AreStepsFew
 use Rattle.still_kept.proofs.array_kept_KeptLaws.{left-lost}
 use Rattle.still_kept.proofs.array_kept_ReadyLaws.{list-same}
 use Rattle.still_kept.proofs.array_kept_StepsLeft.{left-moved}
-use Rattle.grow_asked.specs.declared.window.PhasesLeft.{PhasesLeft}
-use Rattle.grow_asked.specs.Left.{phases_of}
+use Rattle.still_kept.specs.grow_asked_the_PhasesLeft.{PhasesLeft}
+use Rattle.still_kept.specs.grow_asked_Left.{phases_of}
 use Rattle.still_kept.specs.kept_history_Recorded.{IsCallGoing}
 use Rattle.still_kept.specs.kept_history_Safe.{world_in}
 use Rattle.still_kept.specs.Still.{IsStill}

@@ -12,19 +12,19 @@ use Rattle.bank.specs.declared.bank.Operation.{Operation}
 use Rattle.bank.specs.Given.{Given}
 use Rattle.bank.specs.Tape.{Contents}
 use Rattle.layout.proofs.Places.{place-row_below}
-use Rattle.superblocks.specs.declared.members.Members.{Members}
-use Rattle.superblocks.specs.Reading.{Scope, is_clean, shape_of, list_length, role_state}
-use Rattle.row_io.specs.Rows.{reading_of, present}
-use Rattle.list_io.specs.Buffers.{IsTouched}
-use Rattle.list_io.specs.Full.{RowStands, AreWholeIn}
-use Rattle.list_io.specs.Writing.{IsWritten, HasFull}
-use Rattle.flat_history.specs.declared.events.Entry.{Entry}
-use Rattle.flat_history.specs.declared.events.Event.TheVariants.{Refused}
-use Rattle.flat_history.specs.Legal.{visible_at}
-use Rattle.flat_history.specs.Losses.{unsettles}
-use Rattle.flat_history.specs.Plain.{entries_of}
-use Rattle.flat_history.specs.Sound.{OpensFit}
-use Rattle.flat_history.specs.World.{World}
+use Rattle.still_kept.specs.superblocks_the_Members.{Members}
+use Rattle.still_kept.specs.superblocks_Reading.{Scope, is_clean, shape_of, list_length, role_state}
+use Rattle.still_kept.specs.row_io_Rows.{reading_of, present}
+use Rattle.still_kept.specs.list_io_Buffers.{IsTouched}
+use Rattle.still_kept.specs.list_io_Full.{RowStands, AreWholeIn}
+use Rattle.still_kept.specs.list_io_Writing.{IsWritten, HasFull}
+use Rattle.still_kept.specs.flat_history_the_Entry.{Entry}
+use Rattle.still_kept.specs.flat_history_the_Event_TheVariants.{Refused}
+use Rattle.still_kept.specs.flat_history_Legal.{visible_at}
+use Rattle.still_kept.specs.flat_history_Losses.{unsettles}
+use Rattle.still_kept.specs.flat_history_Plain.{entries_of}
+use Rattle.still_kept.specs.flat_history_Sound.{OpensFit}
+use Rattle.still_kept.specs.flat_history_World.{World}
 use Rattle.still_kept.specs.shape_views_Regions.{DoWithout}
 use Rattle.still_kept.specs.shape_views_Views.{Ledger, IsTailZero}
 use Rattle.still_kept.specs.shape_views_Windows.{IsOfRegion}

@@ -25,3 +25,4 @@ pub use Rattle.still_kept.specs.shape_views_Views
 pub use Rattle.still_kept.specs.shape_ends_Ends
 pub use Rattle.still_kept.specs.shape_ends_Takeovers
 pub use Rattle.still_kept.specs.shape_changes_Changing
+pub use Rattle.still_kept.specs.list_io_Writing

@@ -5,16 +5,16 @@ use Rattle.md_base.specs.Shapes.{tolerance}
 use Rattle.md_base.specs.declared.answers.Refusal.TheVariants.{BackupFault}
 use Rattle.bank.specs.declared.bank.Operation.{Operation}
 use Rattle.bank.specs.Given.{Given}
-use Rattle.superblocks.specs.declared.members.Members.{Members}
-use Rattle.superblocks.specs.Reading.{shape_of}
-use Rattle.flat_history.specs.declared.events.Entry.{Entry}
-use Rattle.flat_history.specs.declared.events.Epoch.{Epoch}
-use Rattle.flat_history.specs.declared.events.Event.{Event}
-use Rattle.flat_history.specs.declared.events.Event.TheVariants.{Resized, Refused, Stepped}
-use Rattle.flat_history.specs.Epochs.{world_of}
-use Rattle.flat_history.specs.OneShape.{opening_in, IsOneShapeLegal, EndsIdleSteps}
-use Rattle.flat_history.specs.Sound.{FillsRight}
-use Rattle.flat_history.specs.World.{World}
+use Rattle.still_kept.specs.superblocks_the_Members.{Members}
+use Rattle.still_kept.specs.superblocks_Reading.{shape_of}
+use Rattle.still_kept.specs.flat_history_the_Entry.{Entry}
+use Rattle.still_kept.specs.flat_history_the_Epoch.{Epoch}
+use Rattle.still_kept.specs.flat_history_the_Event.{Event}
+use Rattle.still_kept.specs.flat_history_the_Event_TheVariants.{Resized, Refused, Stepped}
+use Rattle.still_kept.specs.flat_history_Epochs.{world_of}
+use Rattle.still_kept.specs.flat_history_OneShape.{opening_in, IsOneShapeLegal, EndsIdleSteps}
+use Rattle.still_kept.specs.flat_history_Sound.{FillsRight}
+use Rattle.still_kept.specs.flat_history_World.{World}
 use Rattle.still_kept.specs.array_kept_Kept.{AreTold, AreOnlyTold, AreUsed}
 
 -- The event tells nothing that a reshape alone can: no other length of the list, no refusal for a backup that failed, and no end of steps but for what is missing or not synced.

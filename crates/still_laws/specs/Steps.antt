@@ -5,17 +5,17 @@ use Rattle.md_base.specs.declared.answers.Refusal.TheVariants.{Degraded, NeedSpa
 use Rattle.md_base.specs.declared.answers.Who.{Who}
 use Rattle.bank.specs.Given.{Given, NeverFalls}
 use Rattle.bank.specs.declared.bank.Operation.{Operation}
-use Rattle.superblocks.specs.declared.members.Members.{Members}
-use Rattle.flat_history.specs.declared.events.Entry.{Entry}
-use Rattle.flat_history.specs.declared.events.Event.{Event}
-use Rattle.flat_history.specs.declared.events.Event.TheVariants.{Refused, Stepped}
-use Rattle.flat_history.specs.Reshaped.{open_plans}
-use Rattle.flat_history.specs.World.{World}
+use Rattle.still_kept.specs.superblocks_the_Members.{Members}
+use Rattle.still_kept.specs.flat_history_the_Entry.{Entry}
+use Rattle.still_kept.specs.flat_history_the_Event.{Event}
+use Rattle.still_kept.specs.flat_history_the_Event_TheVariants.{Refused, Stepped}
+use Rattle.still_kept.specs.flat_history_Reshaped.{open_plans}
+use Rattle.still_kept.specs.flat_history_World.{World}
 use Rattle.still_kept.specs.views_the_Work.{Work}
 use Rattle.still_kept.specs.views_Lacking.{AreTooMany, HaveRolesFailed}
 use Rattle.still_kept.specs.views_Moving.{Grows}
-use Rattle.grow_asked.specs.declared.window.PhasesLeft.{PhasesLeft}
-use Rattle.grow_asked.specs.Left.{phases_of}
+use Rattle.still_kept.specs.grow_asked_the_PhasesLeft.{PhasesLeft}
+use Rattle.still_kept.specs.grow_asked_Left.{phases_of}
 use Rattle.still_kept.specs.array_kept_Calls.{AreLossesBy, IsEndOf, IsUnmendable}
 use Rattle.still_kept.specs.kept_history_Recorded.{IsCallGoing, IsOpenBehind}
 use Rattle.still_kept.specs.history_calls_Reliable.{IsReliable}

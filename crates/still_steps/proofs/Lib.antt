@@ -25,3 +25,5 @@ pub use Rattle.still.proofs.still_kept_Resting
 pub use Rattle.still.proofs.shape_changes_PlannedRoles
 pub use Rattle.still.proofs.shape_changes_Kept
 pub use Rattle.still.proofs.shape_views_Stands
+pub use Rattle.still.proofs.superblock_reads_SaidLists
+pub use Rattle.still.proofs.superblock_reads_SaidSlots

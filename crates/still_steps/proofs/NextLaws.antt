@@ -12,9 +12,9 @@ use Rattle.bank.specs.declared.bank.Operation.{Operation}
 use Rattle.superblocks.specs.declared.members.Members.{Members}
 use Rattle.superblocks.specs.Reading.{shape_of, role_state}
 use Rattle.superblocks.specs.Reads.{has_spare}
-use Rattle.row_io.specs.Rows.{reading_of}
-use Rattle.flat_history.specs.declared.events.StepKind.{StepKind}
-use Rattle.flat_history.specs.declared.events.StepKind.TheVariants.{RebuildTaken, RebuildStripe, RebuildEnded, ResyncStripe, ResyncEnded}
+use Rattle.still.specs.row_io_Rows.{reading_of}
+use Rattle.still.specs.flat_history_the_StepKind.{StepKind}
+use Rattle.still.specs.flat_history_the_StepKind_TheVariants.{RebuildTaken, RebuildStripe, RebuildEnded, ResyncStripe, ResyncEnded}
 use Rattle.still.specs.views_the_Work.{Work}
 use Rattle.still.specs.views_Placed.{is_vacant}
 use Rattle.still.specs.views_Status.{stripes_of, rebuilt_of, vacant_count, spare_count, resync_left, role_left, recovery_left, left_of}

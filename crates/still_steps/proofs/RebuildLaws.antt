@@ -14,16 +14,16 @@ use Rattle.md_base.specs.declared.status.Role.TheVariants.{Whole, Recovering, Mi
 use Rattle.superblocks.specs.declared.members.Members.{Members}
 use Rattle.superblocks.specs.Reading.{shape_of, final_shape, role_state}
 use Rattle.superblocks.specs.Reads.{has_spare}
-use Rattle.row_io.specs.Rows.{reading_of}
-use Rattle.flat_history.specs.declared.events.Entry.{Entry}
-use Rattle.flat_history.specs.declared.events.Event.{Event}
-use Rattle.flat_history.specs.declared.events.Event.TheVariants.{Lost, SpareLost, Refused}
-use Rattle.flat_history.specs.declared.events.LostCause.{LostCause}
-use Rattle.flat_history.specs.declared.events.LostCause.TheVariants.{Fault as ByFault, Command}
-use Rattle.flat_history.specs.declared.events.StepKind.{StepKind}
-use Rattle.flat_history.specs.declared.events.StepKind.TheVariants.{RebuildTaken, RebuildStripe, RebuildEnded}
-use Rattle.flat_history.specs.Flat.{values_after, values_of}
-use Rattle.flat_history.specs.Plain.{entries_of}
+use Rattle.still.specs.row_io_Rows.{reading_of}
+use Rattle.still.specs.flat_history_the_Entry.{Entry}
+use Rattle.still.specs.flat_history_the_Event.{Event}
+use Rattle.still.specs.flat_history_the_Event_TheVariants.{Lost, SpareLost, Refused}
+use Rattle.still.specs.flat_history_the_LostCause.{LostCause}
+use Rattle.still.specs.flat_history_the_LostCause_TheVariants.{Fault as ByFault, Command}
+use Rattle.still.specs.flat_history_the_StepKind.{StepKind}
+use Rattle.still.specs.flat_history_the_StepKind_TheVariants.{RebuildTaken, RebuildStripe, RebuildEnded}
+use Rattle.still.specs.flat_history_Flat.{values_after, values_of}
+use Rattle.still.specs.flat_history_Plain.{entries_of}
 use Rattle.still.specs.views_the_Work.{Work}
 use Rattle.still.specs.call_entries_Losing.{losses_of}
 use Rattle.still.specs.views_Placed.{is_vacant}

@@ -6,12 +6,12 @@ use Rattle.md_base.specs.declared.answers.Who.{Who}
 use Rattle.md_base.specs.declared.answers.Fault.{Fault}
 use Rattle.md_base.specs.declared.answers.Fault.TheVariants.{Refused as IsRefusedWith, NoMemory}
 use Rattle.superblocks.specs.declared.members.Members.{Members}
-use Rattle.flat_history.specs.declared.events.Entry.{Entry}
-use Rattle.flat_history.specs.declared.events.Event.{Event}
-use Rattle.flat_history.specs.declared.events.Event.TheVariants.{Step, Refused}
-use Rattle.flat_history.specs.declared.events.StepKind.{StepKind}
-use Rattle.flat_history.specs.Flat.{values_after, values_of}
-use Rattle.flat_history.specs.Plain.{entries_of}
+use Rattle.still.specs.flat_history_the_Entry.{Entry}
+use Rattle.still.specs.flat_history_the_Event.{Event}
+use Rattle.still.specs.flat_history_the_Event_TheVariants.{Step, Refused}
+use Rattle.still.specs.flat_history_the_StepKind.{StepKind}
+use Rattle.still.specs.flat_history_Flat.{values_after, values_of}
+use Rattle.still.specs.flat_history_Plain.{entries_of}
 use Rattle.still.specs.call_entries_Losing.{losses_of}
 use Rattle.still.specs.views_Status.{stripes_of}
 use Rattle.still.specs.array_kept_Calls.{IsBehind, IsCausedBy, AreValuesKept}

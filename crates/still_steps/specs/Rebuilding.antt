@@ -7,11 +7,11 @@ use Rattle.md_base.specs.declared.status.Role.TheVariants.{Recovering}
 use Rattle.superblocks.specs.declared.members.Members.{Members}
 use Rattle.superblocks.specs.Reading.{shape_of, role_state}
 use Rattle.superblocks.specs.Reads.{has_spare}
-use Rattle.row_io.specs.Rows.{reading_of}
-use Rattle.flat_history.specs.declared.events.Event.{Event}
-use Rattle.flat_history.specs.declared.events.Event.TheVariants.{Step, Rebuilt}
-use Rattle.flat_history.specs.declared.events.StepKind.{StepKind}
-use Rattle.flat_history.specs.declared.events.StepKind.TheVariants.{RebuildTaken, RebuildStripe, RebuildEnded}
+use Rattle.still.specs.row_io_Rows.{reading_of}
+use Rattle.still.specs.flat_history_the_Event.{Event}
+use Rattle.still.specs.flat_history_the_Event_TheVariants.{Step, Rebuilt}
+use Rattle.still.specs.flat_history_the_StepKind.{StepKind}
+use Rattle.still.specs.flat_history_the_StepKind_TheVariants.{RebuildTaken, RebuildStripe, RebuildEnded}
 use Rattle.still.specs.views_the_Work.{Work}
 use Rattle.still.specs.views_Placed.{is_vacant}
 use Rattle.still.specs.views_Status.{stripes_of, rebuilt_of}

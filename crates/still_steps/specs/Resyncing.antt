@@ -2,8 +2,8 @@
 use Rattle.std.specs.Prelude.{ℕ, ◌==◌, Bool, true, false, if◌then◌else◌, Option, Some, None}
 use Rattle.md_base.specs.declared.answers.Refusal.{Refusal}
 use Rattle.superblocks.specs.declared.members.Members.{Members}
-use Rattle.flat_history.specs.declared.events.StepKind.{StepKind}
-use Rattle.flat_history.specs.declared.events.StepKind.TheVariants.{ResyncStripe, ResyncEnded}
+use Rattle.still.specs.flat_history_the_StepKind.{StepKind}
+use Rattle.still.specs.flat_history_the_StepKind_TheVariants.{ResyncStripe, ResyncEnded}
 use Rattle.still.specs.views_Status.{stripes_of}
 use Rattle.still.specs.views_Lacking.{AreTooMany}
 use Rattle.still.specs.array_kept_Calls.{one_more, IsUnmendable}

@@ -5,9 +5,9 @@ use Rattle.md_base.specs.declared.answers.Fault.{Fault}
 use Rattle.md_base.specs.declared.answers.Refusal.{Refusal}
 use Rattle.md_base.specs.declared.answers.Who.{Who}
 use Rattle.superblocks.specs.declared.members.Members.{Members}
-use Rattle.flat_history.specs.declared.events.Entry.{Entry}
-use Rattle.flat_history.specs.declared.events.StepKind.{StepKind}
-use Rattle.flat_history.specs.declared.events.StepKind.TheVariants.{ResyncEnded, RebuildTaken, RebuildEnded}
+use Rattle.still.specs.flat_history_the_Entry.{Entry}
+use Rattle.still.specs.flat_history_the_StepKind.{StepKind}
+use Rattle.still.specs.flat_history_the_StepKind_TheVariants.{ResyncEnded, RebuildTaken, RebuildEnded}
 use Rattle.still.specs.views_the_Work.{Work}
 use Rattle.still.specs.views_Lacking.{AreTooMany}
 use Rattle.still.specs.views_Rebuilding.{Held}

@@ -3,11 +3,11 @@
 ghost use Rattle.std.specs.Prelude.{◌≡◌, ◌≢◌, ◌+◌, ◌≤◌, None, Err, OnOk, OnErr};
 ghost use Rattle.md_base.specs.declared.answers.Fault.TheVariants.{NoMemory as WantsMemory};
 ghost use Rattle.superblocks.specs.Reading.{is_clean, list_length};
-ghost use Rattle.row_io.specs.Rows.{present};
-ghost use Rattle.flat_history.specs.World.{opening_list};
-ghost use Rattle.flat_history.specs.Flat.{now};
-ghost use Rattle.flat_history.specs.Sound.{OpensFit};
-ghost use Rattle.flat_history.specs.declared.events.StepKind.TheVariants.{RebuildTaken as TakesRole, RebuildEnded as EndsRebuild};
+ghost use Rattle.still.specs.row_io_Rows.{present};
+ghost use Rattle.still.specs.flat_history_World.{opening_list};
+ghost use Rattle.still.specs.flat_history_Flat.{now};
+ghost use Rattle.still.specs.flat_history_Sound.{OpensFit};
+ghost use Rattle.still.specs.flat_history_the_StepKind_TheVariants.{RebuildTaken as TakesRole, RebuildEnded as EndsRebuild};
 ghost use Rattle.still.specs.views_Lacking.{AreTooMany, RowsStand};
 ghost use Rattle.still.specs.shape_views_Regions.{DoWithout};
 ghost use Rattle.still.specs.array_kept_Calls.{AreHeldOrSpare, IsWholeOrLost, by_answer, AreStepsFewer, AreStepsKept, AreValuesKept, IsRebuildStepped, IsCausedBy};

@@ -2,10 +2,10 @@
 
 ghost use Rattle.std.specs.Prelude.{◌≡◌, ◌≢◌, ◌+◌, ◌≤◌, OnOk, OnErr, IsSome, IsTrue};
 ghost use Rattle.superblocks.specs.Reading.{is_clean, list_length};
-ghost use Rattle.row_io.specs.Rows.{reading_of, present};
-ghost use Rattle.flat_history.specs.World.{opening_list};
-ghost use Rattle.flat_history.specs.Flat.{now};
-ghost use Rattle.flat_history.specs.Sound.{OpensFit};
+ghost use Rattle.still.specs.row_io_Rows.{reading_of, present};
+ghost use Rattle.still.specs.flat_history_World.{opening_list};
+ghost use Rattle.still.specs.flat_history_Flat.{now};
+ghost use Rattle.still.specs.flat_history_Sound.{OpensFit};
 ghost use Rattle.still.specs.views_Placed.{AreStillHeld};
 ghost use Rattle.still.specs.views_Lacking.{AreHoldersFlushed, RowsStand};
 ghost use Rattle.still.specs.views_Rebuilding.{Held};

@@ -6,28 +6,28 @@ use Rattle.md_base.specs.Sectors.{Sector}
 use Rattle.md_base.specs.Shapes.{has_slot}
 use Rattle.sb1.specs.declared.sb.Sb.{Sb}
 use Rattle.bank.specs.Tape.{Contents, IsIn}
-use Rattle.superblocks.specs.declared.change.Give.{Give}
-use Rattle.superblocks.specs.declared.change.Give.TheVariants.{Same, Spare}
-use Rattle.superblocks.specs.declared.change.Give.TheVariants as give
-use Rattle.superblocks.specs.declared.change.Change.{Change}
-use Rattle.superblocks.specs.declared.members.Members.{Members}
-use Rattle.superblocks.specs.Reading.{Scope, is_fresh}
-use Rattle.superblocks.specs.Update.{planned, give_of, own_in, is_behind, is_recovery, planned_role}
-use Rattle.superblocks.specs.Writing.{IsPlanned}
-use Rattle.superblocks.specs.Updating.{planned_newest, IsLater}
-use Rattle.superblocks.specs.Reads.{IsReadAs, IsSuited, held_in}
-use Rattle.superblocks.specs.Held.{AreDrawn, MayRead, IsStamped, IsKnown, IsOther, Shows, AreHeld, AreLevel, said_by}
-use Rattle.superblocks.specs.Stages.{AreLeft, IsCatchingUp, IsTaking, AreTaken, IsFitPlan, AreKept, AreFirstKept}
-use Rattle.superblocks.specs.Plans.{IsFitChange}
-use Rattle.superblocks.specs.Rounds.{Round, first_newest, IsRewriting, IsRewritten, IsCatchingUpTo, IsCaughtUpTo, IsFirstRewriting}
-use Rattle.superblocks.specs.Adding.{IsReadAsPlannedBut, IsReadInAdding, IsReadyToAdd}
-use Rattle.superblocks.proofs.ReadLists.{by_bool}
-use Rattle.superblocks.proofs.Exact.{all_same}
-use Rattle.superblocks.proofs.SlotSets.{with_here, with_other}
-use Rattle.superblocks.proofs.PlannedSb.{planned-of}
+use Rattle.superblock_reads.specs.superblocks_the_Give.{Give}
+use Rattle.superblock_reads.specs.superblocks_the_Give_TheVariants.{Same, Spare}
+use Rattle.superblock_reads.specs.superblocks_the_Give_TheVariants as give
+use Rattle.superblock_reads.specs.superblocks_the_Change.{Change}
+use Rattle.superblock_reads.specs.superblocks_the_Members.{Members}
+use Rattle.superblock_reads.specs.superblocks_Reading.{Scope, is_fresh}
+use Rattle.superblock_reads.specs.superblocks_Update.{planned, give_of, own_in, is_behind, is_recovery, planned_role}
+use Rattle.superblock_reads.specs.superblocks_Writing.{IsPlanned}
+use Rattle.superblock_reads.specs.superblocks_Updating.{planned_newest, IsLater}
+use Rattle.superblock_reads.specs.superblocks_Reads.{IsReadAs, IsSuited, held_in}
+use Rattle.superblock_reads.specs.superblocks_Held.{AreDrawn, MayRead, IsStamped, IsKnown, IsOther, Shows, AreHeld, AreLevel, said_by}
+use Rattle.superblock_reads.specs.superblocks_Stages.{AreLeft, IsCatchingUp, IsTaking, AreTaken, IsFitPlan, AreKept, AreFirstKept}
+use Rattle.superblock_reads.specs.superblocks_Plans.{IsFitChange}
+use Rattle.superblock_reads.specs.superblocks_Rounds.{Round, first_newest, IsRewriting, IsRewritten, IsCatchingUpTo, IsCaughtUpTo, IsFirstRewriting}
+use Rattle.superblock_reads.specs.superblocks_Adding.{IsReadAsPlannedBut, IsReadInAdding, IsReadyToAdd}
+use Rattle.superblock_reads.proofs.superblocks_ReadLists.{by_bool}
+use Rattle.superblock_reads.proofs.superblocks_Exact.{all_same}
+use Rattle.superblock_reads.proofs.superblocks_SlotSets.{with_here, with_other}
+use Rattle.superblock_reads.proofs.superblocks_PlannedSb.{planned-of}
 use Rattle.superblock_reads.proofs.PlanFits.{IsNext, IsPlanScope, length-any, wide-fits, plan-fits, shown-of, known-numbers, idle-number}
-use Rattle.superblocks.proofs.UpdateReads.{fresh_less, new_suited}
-use Rattle.superblocks.proofs.ValidFields.{few-events}
+use Rattle.superblock_reads.proofs.superblocks_UpdateReads.{fresh_less, new_suited}
+use Rattle.superblock_reads.proofs.superblocks_ValidFields.{few-events}
 use Rattle.superblock_reads.proofs.StageReads.{caught_of, caught-held, catching-reads, other_read, new_of, taking-reads, taking-later, taken-held, taken-level, taken_read, shows-before}
 use Rattle.superblock_reads.proofs.RoundReads.{IsAt, IsFit, left_set, left-are, and_first, and_second, planned_list, planned-in, kept-of}
 use Rattle.superblock_reads.proofs.RoundsRead.{more-held}

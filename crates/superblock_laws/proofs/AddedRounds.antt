@@ -4,16 +4,16 @@ use Rattle.md_base.specs.Sectors.{Sector}
 use Rattle.md_base.specs.Shapes.{has_slot}
 use Rattle.sb1.specs.declared.sb.Sb.{Sb}
 use Rattle.bank.specs.Tape.{Contents, IsIn}
-use Rattle.superblocks.specs.declared.change.Give.{Give}
-use Rattle.superblocks.specs.declared.change.Change.{Change}
-use Rattle.superblocks.specs.declared.members.Members.{Members}
-use Rattle.superblocks.specs.Reading.{Scope}
-use Rattle.superblocks.specs.Held.{AreDrawn}
-use Rattle.superblocks.specs.Rounds.{Round, naming, first_newest, IsRewriting, IsRewritten, IsNaming, AreNamings, IsInNaming, IsCaughtUpTo, IsFirstRewriting, IsFirstRewritten, IsInFirst, IsPastFirst, members_at}
-use Rattle.superblocks.specs.Crash.{IsWithin}
-use Rattle.superblocks.specs.Adding.{IsReadAsPlannedBut, IsReadInAdding, IsReadyToAdd}
-use Rattle.superblocks.proofs.ReadLists.{by_bool}
-use Rattle.superblocks.proofs.UpdateReads.{some-or-all}
+use Rattle.superblock_reads.specs.superblocks_the_Give.{Give}
+use Rattle.superblock_reads.specs.superblocks_the_Change.{Change}
+use Rattle.superblock_reads.specs.superblocks_the_Members.{Members}
+use Rattle.superblock_reads.specs.superblocks_Reading.{Scope}
+use Rattle.superblock_reads.specs.superblocks_Held.{AreDrawn}
+use Rattle.superblock_reads.specs.superblocks_Rounds.{Round, naming, first_newest, IsRewriting, IsRewritten, IsNaming, AreNamings, IsInNaming, IsCaughtUpTo, IsFirstRewriting, IsFirstRewritten, IsInFirst, IsPastFirst, members_at}
+use Rattle.superblock_reads.specs.superblocks_Crash.{IsWithin}
+use Rattle.superblock_reads.specs.superblocks_Adding.{IsReadAsPlannedBut, IsReadInAdding, IsReadyToAdd}
+use Rattle.superblock_reads.proofs.superblocks_ReadLists.{by_bool}
+use Rattle.superblock_reads.proofs.superblocks_UpdateReads.{some-or-all}
 use Rattle.superblock_reads.proofs.RoundReads.{IsAt, naming-reads, naming-end}
 use Rattle.superblock_laws.proofs.AddedReads.{added-fit, added-first, added-end}
 

@@ -5,16 +5,16 @@ use Rattle.std.proofs.lemmas.Bool.Decides.{nat_tests}
 use Rattle.md_base.specs.Sectors.{Sector}
 use Rattle.md_base.specs.Shapes.{has_slot}
 use Rattle.sb1.specs.declared.sb.Sb.{Sb}
-use Rattle.superblocks.specs.declared.change.Change.{Change}
-use Rattle.superblocks.specs.declared.members.Members.{Members}
-use Rattle.superblocks.specs.Reading.{Scope}
-use Rattle.superblocks.specs.Update.{own_in}
-use Rattle.superblocks.specs.Outcome.{with_added}
-use Rattle.superblocks.specs.Held.{IsKnown, Shows, AreHeld}
-use Rattle.superblocks.specs.Stages.{AreLeft}
-use Rattle.superblocks.specs.Plans.{IsFitChange}
-use Rattle.superblocks.specs.Adding.{IsNewcomer, IsReadyToAdd, IsAdding}
-use Rattle.superblocks.proofs.SlotSets.{in-set_of, set_of-past, none_above}
+use Rattle.superblock_reads.specs.superblocks_the_Change.{Change}
+use Rattle.superblock_reads.specs.superblocks_the_Members.{Members}
+use Rattle.superblock_reads.specs.superblocks_Reading.{Scope}
+use Rattle.superblock_reads.specs.superblocks_Update.{own_in}
+use Rattle.superblock_reads.specs.superblocks_Outcome.{with_added}
+use Rattle.superblock_reads.specs.superblocks_Held.{IsKnown, Shows, AreHeld}
+use Rattle.superblock_reads.specs.superblocks_Stages.{AreLeft}
+use Rattle.superblock_reads.specs.superblocks_Plans.{IsFitChange}
+use Rattle.superblock_reads.specs.superblocks_Adding.{IsNewcomer, IsReadyToAdd, IsAdding}
+use Rattle.superblock_reads.proofs.superblocks_SlotSets.{in-set_of, set_of-past, none_above}
 
 abbrev Disk : Type 0
 Disk = ℕ → ℕ → List Sector

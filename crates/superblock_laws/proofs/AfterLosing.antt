@@ -5,17 +5,17 @@ use Rattle.md_base.specs.Sectors.{Sector}
 use Rattle.md_base.specs.Shapes.{has_slot}
 use Rattle.sb1.specs.declared.sb.Sb.{Sb}
 use Rattle.bank.specs.Tape.{Contents, IsIn}
-use Rattle.superblocks.specs.declared.change.Give.{Give}
-use Rattle.superblocks.specs.Reading.{Scope, Reading, is_fresh}
-use Rattle.superblocks.specs.Update.{planned, give_of, own_in, is_recovery}
-use Rattle.superblocks.specs.Writing.{IsPlanned}
-use Rattle.superblocks.specs.Reads.{IsFitting, IsSuited, IsReadAs, held_in}
-use Rattle.superblocks.specs.Held.{AreDrawn, own_at, MayRead, IsStamped, IsKnown, IsOther, Shows, AreHeld, AreLevel, said_by}
-use Rattle.superblocks.specs.Stages.{IsTaking, AreTaken, IsFitPlan}
-use Rattle.superblocks.specs.Crash.{IsRoundEnd}
-use Rattle.superblocks.specs.Losing.{IsLosing, IsLost, IsNamingAfter}
-use Rattle.superblocks.proofs.ReadLists.{by_bool}
-use Rattle.superblocks.proofs.PlannedSb.{planned-of}
+use Rattle.superblock_reads.specs.superblocks_the_Give.{Give}
+use Rattle.superblock_reads.specs.superblocks_Reading.{Scope, Reading, is_fresh}
+use Rattle.superblock_reads.specs.superblocks_Update.{planned, give_of, own_in, is_recovery}
+use Rattle.superblock_reads.specs.superblocks_Writing.{IsPlanned}
+use Rattle.superblock_reads.specs.superblocks_Reads.{IsFitting, IsSuited, IsReadAs, held_in}
+use Rattle.superblock_reads.specs.superblocks_Held.{AreDrawn, own_at, MayRead, IsStamped, IsKnown, IsOther, Shows, AreHeld, AreLevel, said_by}
+use Rattle.superblock_reads.specs.superblocks_Stages.{IsTaking, AreTaken, IsFitPlan}
+use Rattle.superblock_reads.specs.superblocks_Crash.{IsRoundEnd}
+use Rattle.superblock_reads.specs.superblocks_Losing.{IsLosing, IsLost, IsNamingAfter}
+use Rattle.superblock_reads.proofs.superblocks_ReadLists.{by_bool}
+use Rattle.superblock_reads.proofs.superblocks_PlannedSb.{planned-of}
 use Rattle.superblock_reads.proofs.StageReads.{new_of, taking-reads, taken-held, taken-level, shows-before}
 use Rattle.superblock_laws.proofs.AddedReads.{put, put_is, put_here, put_slot, put_ninth, in_put, to_put}
 use Rattle.superblock_reads.proofs.MixedReads.{IsOutside, least-or-all, planned-fitting, old-less, mixed-reads}

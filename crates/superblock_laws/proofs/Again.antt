@@ -4,23 +4,23 @@ use Rattle.md_base.specs.Sectors.{Sector}
 use Rattle.md_base.specs.Shapes.{has_slot}
 use Rattle.sb1.specs.declared.sb.Sb.{Sb}
 use Rattle.bank.specs.Tape.{Contents, IsIn}
-use Rattle.superblocks.specs.declared.change.Give.{Give}
-use Rattle.superblocks.specs.declared.change.Give.TheVariants.{Same}
-use Rattle.superblocks.specs.declared.change.Change.{Change}
-use Rattle.superblocks.specs.declared.members.Members.{Members}
-use Rattle.superblocks.specs.Reading.{Scope}
-use Rattle.superblocks.specs.Update.{planned, give_of, own_in, is_recovery}
-use Rattle.superblocks.specs.Writing.{IsFirstSector, IsPlanned}
-use Rattle.superblocks.specs.Updating.{planned_newest, IsLater}
-use Rattle.superblocks.specs.Reads.{held_in}
-use Rattle.superblocks.specs.Held.{AreDrawn, MayRead, IsStamped, AreHeld, AreLevel}
-use Rattle.superblocks.specs.Stages.{AreLeft, IsTaking, AreTaken, IsFitPlan, AreKept}
-use Rattle.superblocks.specs.Plans.{KeepsRecovery, IsFitChange}
-use Rattle.superblocks.specs.Rounds.{Round, naming, first_newest, IsRewriting, IsRewritten, IsCaughtUpTo, IsReadInUpdate, IsReady}
-use Rattle.superblocks.specs.Crash.{IsRoundEnd}
-use Rattle.superblocks.specs.Losing.{IsLosing, IsTakingWithout, IsLost, IsNamingAfter}
-use Rattle.superblocks.proofs.Exact.{all_same}
-use Rattle.superblocks.proofs.PlannedSb.{planned-of}
+use Rattle.superblock_reads.specs.superblocks_the_Give.{Give}
+use Rattle.superblock_reads.specs.superblocks_the_Give_TheVariants.{Same}
+use Rattle.superblock_reads.specs.superblocks_the_Change.{Change}
+use Rattle.superblock_reads.specs.superblocks_the_Members.{Members}
+use Rattle.superblock_reads.specs.superblocks_Reading.{Scope}
+use Rattle.superblock_reads.specs.superblocks_Update.{planned, give_of, own_in, is_recovery}
+use Rattle.superblock_reads.specs.superblocks_Writing.{IsFirstSector, IsPlanned}
+use Rattle.superblock_reads.specs.superblocks_Updating.{planned_newest, IsLater}
+use Rattle.superblock_reads.specs.superblocks_Reads.{held_in}
+use Rattle.superblock_reads.specs.superblocks_Held.{AreDrawn, MayRead, IsStamped, AreHeld, AreLevel}
+use Rattle.superblock_reads.specs.superblocks_Stages.{AreLeft, IsTaking, AreTaken, IsFitPlan, AreKept}
+use Rattle.superblock_reads.specs.superblocks_Plans.{KeepsRecovery, IsFitChange}
+use Rattle.superblock_reads.specs.superblocks_Rounds.{Round, naming, first_newest, IsRewriting, IsRewritten, IsCaughtUpTo, IsReadInUpdate, IsReady}
+use Rattle.superblock_reads.specs.superblocks_Crash.{IsRoundEnd}
+use Rattle.superblock_reads.specs.superblocks_Losing.{IsLosing, IsTakingWithout, IsLost, IsNamingAfter}
+use Rattle.superblock_reads.proofs.superblocks_Exact.{all_same}
+use Rattle.superblock_reads.proofs.superblocks_PlannedSb.{planned-of}
 use Rattle.superblock_reads.proofs.PlannedAgain.{planned-again}
 use Rattle.superblock_reads.proofs.PlanFits.{IsNext, length-any, idle-number, next-fits}
 use Rattle.superblock_reads.proofs.StageReads.{new_of, taken-held, taken-level}

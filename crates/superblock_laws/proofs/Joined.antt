@@ -7,24 +7,24 @@ use Rattle.md_base.specs.Sectors.{Sector}
 use Rattle.md_base.specs.Shapes.{has_slot}
 use Rattle.sb1.specs.declared.sb.Sb.{Sb}
 use Rattle.bank.specs.Tape.{Contents, IsIn}
-use Rattle.superblocks.specs.declared.change.Give.{Give}
-use Rattle.superblocks.specs.declared.change.Give.TheVariants.{Same}
-use Rattle.superblocks.specs.declared.change.Change.{Change}
-use Rattle.superblocks.specs.declared.members.Members.{Members}
-use Rattle.superblocks.specs.Reading.{Scope}
-use Rattle.superblocks.specs.Update.{give_of, own_in, is_recovery}
-use Rattle.superblocks.specs.Writing.{IsPlanned}
-use Rattle.superblocks.specs.Updating.{planned_newest}
-use Rattle.superblocks.specs.Outcome.{set_of}
-use Rattle.superblocks.specs.Held.{AreDrawn}
-use Rattle.superblocks.specs.Rounds.{Round, naming, first_newest, IsRewriting, IsRewritten, IsNaming, AreNamings, IsInNaming, IsCaughtUpTo, IsFirstRewriting, members_at, IsReadInUpdate, IsReady}
-use Rattle.superblocks.specs.Losing.{AreRecoveriesOver, AreTakenInTurn, IsPastTurns, planned_at, IsTakingWithout}
-use Rattle.superblocks.specs.Updating.{AreRecoveriesKept}
-use Rattle.superblocks.specs.Crash.{IsWithin}
-use Rattle.superblocks.proofs.ReadLists.{by_bool}
-use Rattle.superblocks.proofs.Exact.{alone}
-use Rattle.superblocks.proofs.SlotSets.{same_set, set_of-below, set_of-past}
-use Rattle.superblocks.proofs.UpdateReads.{some-or-all}
+use Rattle.superblock_reads.specs.superblocks_the_Give.{Give}
+use Rattle.superblock_reads.specs.superblocks_the_Give_TheVariants.{Same}
+use Rattle.superblock_reads.specs.superblocks_the_Change.{Change}
+use Rattle.superblock_reads.specs.superblocks_the_Members.{Members}
+use Rattle.superblock_reads.specs.superblocks_Reading.{Scope}
+use Rattle.superblock_reads.specs.superblocks_Update.{give_of, own_in, is_recovery}
+use Rattle.superblock_reads.specs.superblocks_Writing.{IsPlanned}
+use Rattle.superblock_reads.specs.superblocks_Updating.{planned_newest}
+use Rattle.superblock_reads.specs.superblocks_Outcome.{set_of}
+use Rattle.superblock_reads.specs.superblocks_Held.{AreDrawn}
+use Rattle.superblock_reads.specs.superblocks_Rounds.{Round, naming, first_newest, IsRewriting, IsRewritten, IsNaming, AreNamings, IsInNaming, IsCaughtUpTo, IsFirstRewriting, members_at, IsReadInUpdate, IsReady}
+use Rattle.superblock_reads.specs.superblocks_Losing.{AreRecoveriesOver, AreTakenInTurn, IsPastTurns, planned_at, IsTakingWithout}
+use Rattle.superblock_reads.specs.superblocks_Updating.{AreRecoveriesKept}
+use Rattle.superblock_reads.specs.superblocks_Crash.{IsWithin}
+use Rattle.superblock_reads.proofs.superblocks_ReadLists.{by_bool}
+use Rattle.superblock_reads.proofs.superblocks_Exact.{alone}
+use Rattle.superblock_reads.proofs.superblocks_SlotSets.{same_set, set_of-below, set_of-past}
+use Rattle.superblock_reads.proofs.superblocks_UpdateReads.{some-or-all}
 use Rattle.superblock_reads.proofs.RoundReads.{IsAt, left_set, fit-of, naming-reads, naming-end, all-named, wider}
 use Rattle.superblock_reads.proofs.RoundsRead.{more-held, first-reads, first-end}
 use Rattle.superblock_laws.proofs.NamedTwice.{named-twice}

@@ -5,20 +5,20 @@ use Rattle.md_base.specs.declared.status.Role.{Role}
 use Rattle.md_base.specs.Shapes.{has_slot}
 use Rattle.sb1.specs.declared.sb.Sb.{Sb}
 use Rattle.bank.specs.Tape.{Contents, IsIn}
-use Rattle.superblocks.specs.declared.change.Give.{Give}
-use Rattle.superblocks.specs.declared.change.Give.TheVariants.{Same, Spare}
-use Rattle.superblocks.specs.declared.change.Give.TheVariants as give
-use Rattle.superblocks.specs.declared.change.Change.{Change}
-use Rattle.superblocks.specs.declared.members.Members.{Members}
-use Rattle.superblocks.specs.Reading.{Scope}
-use Rattle.superblocks.specs.Update.{planned, give_of, own_in, is_recovery, planned_role}
-use Rattle.superblocks.specs.Updating.{AreOthersKept, AreRecoveriesKept}
-use Rattle.superblocks.specs.Reads.{IsReadAs, held_in}
-use Rattle.superblocks.specs.Held.{AreDrawn, AreHeld, said_by}
-use Rattle.superblocks.specs.Rounds.{Round, first_newest, IsRewriting, IsCaughtUpTo, IsReadInUpdate, IsReady}
-use Rattle.superblocks.specs.Losing.{IsLosing, IsTakingWithout}
-use Rattle.superblocks.proofs.ReadLists.{by_bool}
-use Rattle.superblocks.proofs.PlannedSb.{planned-of}
+use Rattle.superblock_reads.specs.superblocks_the_Give.{Give}
+use Rattle.superblock_reads.specs.superblocks_the_Give_TheVariants.{Same, Spare}
+use Rattle.superblock_reads.specs.superblocks_the_Give_TheVariants as give
+use Rattle.superblock_reads.specs.superblocks_the_Change.{Change}
+use Rattle.superblock_reads.specs.superblocks_the_Members.{Members}
+use Rattle.superblock_reads.specs.superblocks_Reading.{Scope}
+use Rattle.superblock_reads.specs.superblocks_Update.{planned, give_of, own_in, is_recovery, planned_role}
+use Rattle.superblock_reads.specs.superblocks_Updating.{AreOthersKept, AreRecoveriesKept}
+use Rattle.superblock_reads.specs.superblocks_Reads.{IsReadAs, held_in}
+use Rattle.superblock_reads.specs.superblocks_Held.{AreDrawn, AreHeld, said_by}
+use Rattle.superblock_reads.specs.superblocks_Rounds.{Round, first_newest, IsRewriting, IsCaughtUpTo, IsReadInUpdate, IsReady}
+use Rattle.superblock_reads.specs.superblocks_Losing.{IsLosing, IsTakingWithout}
+use Rattle.superblock_reads.proofs.superblocks_ReadLists.{by_bool}
+use Rattle.superblock_reads.proofs.superblocks_PlannedSb.{planned-of}
 use Rattle.superblock_reads.proofs.PlanFits.{IsNext, IsPlanScope, length-any, idle-number, known-numbers}
 use Rattle.superblock_reads.proofs.RoundReads.{left_set, planned_list}
 use Rattle.superblock_laws.proofs.LosingReads.{losing-reads}

@@ -12,30 +12,30 @@ use Rattle.md_base.specs.declared.status.Role.{Role}
 use Rattle.md_base.specs.declared.status.Role.TheVariants.{Whole, Recovering, Missing}
 use Rattle.md_base.proofs.Tabulated.{length-tabulate, get_or-tabulate}
 use Rattle.sb1.specs.declared.sb.Sb.{Sb}
-use Rattle.superblocks.specs.declared.change.Give.{Give}
-use Rattle.superblocks.specs.declared.change.Give.TheVariants.{Same}
-use Rattle.superblocks.specs.declared.change.Give.TheVariants as give
-use Rattle.superblocks.specs.declared.change.Change.{Change}
-use Rattle.superblocks.specs.declared.members.Members.{Members}
-use Rattle.superblocks.specs.Reading.{Scope, is_fresh, is_recovering, entry_of, holds_role, state_of, is_spare, lies_within, role_count, holder, holder_from, spares_from}
-use Rattle.superblocks.specs.Update.{planned, give_of, own_in, is_added, planned_role, is_planned_spare}
-use Rattle.superblocks.specs.Outcome.{is_in_update, slots_below, is_same, is_planned_holder, held_state, planned_state, live_set}
-use Rattle.superblocks.specs.Reads.{SaysSame, held_in, spare_in, has_spare}
-use Rattle.superblocks.specs.Held.{IsStamped, known_of}
-use Rattle.superblocks.specs.Stages.{AreLeft, AreKept}
-use Rattle.superblocks.specs.Plans.{KeepsRecovery, IsFitChange}
-use Rattle.superblocks.specs.Updating.{planned_newest, IsLater, AreNamed}
-use Rattle.superblocks.specs.Rounds.{IsReady}
-use Rattle.superblocks.specs.Crash.{IsWithin}
+use Rattle.superblock_reads.specs.superblocks_the_Give.{Give}
+use Rattle.superblock_reads.specs.superblocks_the_Give_TheVariants.{Same}
+use Rattle.superblock_reads.specs.superblocks_the_Give_TheVariants as give
+use Rattle.superblock_reads.specs.superblocks_the_Change.{Change}
+use Rattle.superblock_reads.specs.superblocks_the_Members.{Members}
+use Rattle.superblock_reads.specs.superblocks_Reading.{Scope, is_fresh, is_recovering, entry_of, holds_role, state_of, is_spare, lies_within, role_count, holder, holder_from, spares_from}
+use Rattle.superblock_reads.specs.superblocks_Update.{planned, give_of, own_in, is_added, planned_role, is_planned_spare}
+use Rattle.superblock_reads.specs.superblocks_Outcome.{is_in_update, slots_below, is_same, is_planned_holder, held_state, planned_state, live_set}
+use Rattle.superblock_reads.specs.superblocks_Reads.{SaysSame, held_in, spare_in, has_spare}
+use Rattle.superblock_reads.specs.superblocks_Held.{IsStamped, known_of}
+use Rattle.superblock_reads.specs.superblocks_Stages.{AreLeft, AreKept}
+use Rattle.superblock_reads.specs.superblocks_Plans.{KeepsRecovery, IsFitChange}
+use Rattle.superblock_reads.specs.superblocks_Updating.{planned_newest, IsLater, AreNamed}
+use Rattle.superblock_reads.specs.superblocks_Rounds.{IsReady}
+use Rattle.superblock_reads.specs.superblocks_Crash.{IsWithin}
 use Rattle.superblock_reads.specs.Said.{AreSaid, AreSparesFit, AreSaidAsPlanned}
-use Rattle.superblocks.proofs.ReadLists.{Own, by_bool, holder-step, spare-step, spares-at}
-use Rattle.superblocks.proofs.ReadAlike.{none_below, tabulate-same}
-use Rattle.superblocks.proofs.HeldReads.{known_at}
-use Rattle.superblocks.proofs.Exact.{all_same}
-use Rattle.superblocks.proofs.PlannedSb.{planned-of, recovering-same, recovering-none}
-use Rattle.superblocks.proofs.ValidFields.{valid-shapes, few-roles}
+use Rattle.superblock_reads.proofs.superblocks_ReadLists.{Own, by_bool, holder-step, spare-step, spares-at}
+use Rattle.superblock_reads.proofs.superblocks_ReadAlike.{none_below, tabulate-same}
+use Rattle.superblock_reads.proofs.superblocks_HeldReads.{known_at}
+use Rattle.superblock_reads.proofs.superblocks_Exact.{all_same}
+use Rattle.superblock_reads.proofs.superblocks_PlannedSb.{planned-of, recovering-same, recovering-none}
+use Rattle.superblock_reads.proofs.superblocks_ValidFields.{valid-shapes, few-roles}
 use Rattle.superblock_reads.proofs.RoundReads.{and_first, and_second}
-use Rattle.superblocks.proofs.SlotSets.{has-set_of}
+use Rattle.superblock_reads.proofs.superblocks_SlotSets.{has-set_of}
 use Rattle.superblock_reads.proofs.SaidLists.{state-here, role-holder}
 use Rattle.superblock_reads.proofs.SaidSlots.{role-known}
 use Rattle.superblock_reads.proofs.Tied.{planned-said}

@@ -7,22 +7,22 @@ use Rattle.md_base.specs.Shapes.{has_slot}
 use Rattle.sb1.specs.declared.sb.Sb.{Sb}
 use Rattle.sb1.specs.Superblock.{sb_of, checksum}
 use Rattle.bank.specs.Tape.{IsIn}
-use Rattle.superblocks.specs.declared.change.Give.{Give}
-use Rattle.superblocks.specs.declared.change.Give.TheVariants.{Same}
-use Rattle.superblocks.specs.declared.change.Give.TheVariants as give
-use Rattle.superblocks.specs.declared.change.Change.{Change}
-use Rattle.superblocks.specs.declared.members.Members.{Members}
-use Rattle.superblocks.specs.Reading.{Scope, is_fresh}
-use Rattle.superblocks.specs.Update.{planned, give_of, own_in}
-use Rattle.superblocks.specs.Updating.{planned_newest, IsLater, AreNamed}
-use Rattle.superblocks.specs.Outcome.{IsStored, IsPlannedOwn, AreStored, is_left}
-use Rattle.superblocks.specs.Held.{MayRead, IsKnown, IsOther, Shows}
-use Rattle.superblocks.specs.Stages.{AreLeft}
-use Rattle.superblocks.specs.Rounds.{Round, AreNamings, IsPastFirst, members_at, IsReady}
-use Rattle.superblocks.specs.Crash.{AreHeldAsPlanned}
+use Rattle.superblock_reads.specs.superblocks_the_Give.{Give}
+use Rattle.superblock_reads.specs.superblocks_the_Give_TheVariants.{Same}
+use Rattle.superblock_reads.specs.superblocks_the_Give_TheVariants as give
+use Rattle.superblock_reads.specs.superblocks_the_Change.{Change}
+use Rattle.superblock_reads.specs.superblocks_the_Members.{Members}
+use Rattle.superblock_reads.specs.superblocks_Reading.{Scope, is_fresh}
+use Rattle.superblock_reads.specs.superblocks_Update.{planned, give_of, own_in}
+use Rattle.superblock_reads.specs.superblocks_Updating.{planned_newest, IsLater, AreNamed}
+use Rattle.superblock_reads.specs.superblocks_Outcome.{IsStored, IsPlannedOwn, AreStored, is_left}
+use Rattle.superblock_reads.specs.superblocks_Held.{MayRead, IsKnown, IsOther, Shows}
+use Rattle.superblock_reads.specs.superblocks_Stages.{AreLeft}
+use Rattle.superblock_reads.specs.superblocks_Rounds.{Round, AreNamings, IsPastFirst, members_at, IsReady}
+use Rattle.superblock_reads.specs.superblocks_Crash.{AreHeldAsPlanned}
 use Rattle.superblock_reads.specs.Following.{AreHeldAlone}
-use Rattle.superblocks.proofs.ReadLists.{by_bool}
-use Rattle.superblocks.proofs.PlannedSb.{planned-of}
+use Rattle.superblock_reads.proofs.superblocks_ReadLists.{by_bool}
+use Rattle.superblock_reads.proofs.superblocks_PlannedSb.{planned-of}
 use Rattle.superblock_reads.proofs.StageReads.{held-reads}
 use Rattle.superblock_reads.proofs.RoundReads.{fit-of, and_second}
 use Rattle.superblock_reads.proofs.RoundsRead.{rounds-end}

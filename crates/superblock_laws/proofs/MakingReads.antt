@@ -5,20 +5,20 @@ use Rattle.md_base.specs.Sectors.{Sector}
 use Rattle.md_base.specs.Shapes.{has_slot}
 use Rattle.sb1.specs.declared.sb.Sb.{Sb}
 use Rattle.bank.specs.Tape.{Contents, IsIn}
-use Rattle.superblocks.specs.declared.change.Give.TheVariants.{Same}
-use Rattle.superblocks.specs.declared.change.Change.{Change}
-use Rattle.superblocks.specs.declared.members.Members.{Members}
-use Rattle.superblocks.specs.Reading.{Scope}
-use Rattle.superblocks.specs.Update.{give_of, own_in, is_recovery}
-use Rattle.superblocks.specs.Writing.{IsPlanned}
-use Rattle.superblocks.specs.Held.{AreDrawn}
-use Rattle.superblocks.specs.Stages.{IsTaking}
-use Rattle.superblocks.specs.Rounds.{Round, naming, first_newest, IsRewriting, AreNamings, IsInNaming, IsCaughtUpTo, IsFirstRewriting, IsInFirst, IsPastFirst, members_at, IsReadAsBefore, IsReadAsPlanned, IsReadInUpdate, IsReady}
-use Rattle.superblocks.proofs.ReadLists.{by_bool}
-use Rattle.superblocks.proofs.Exact.{all_same}
-use Rattle.superblocks.proofs.UpdateReads.{some-or-all}
+use Rattle.superblock_reads.specs.superblocks_the_Give_TheVariants.{Same}
+use Rattle.superblock_reads.specs.superblocks_the_Change.{Change}
+use Rattle.superblock_reads.specs.superblocks_the_Members.{Members}
+use Rattle.superblock_reads.specs.superblocks_Reading.{Scope}
+use Rattle.superblock_reads.specs.superblocks_Update.{give_of, own_in, is_recovery}
+use Rattle.superblock_reads.specs.superblocks_Writing.{IsPlanned}
+use Rattle.superblock_reads.specs.superblocks_Held.{AreDrawn}
+use Rattle.superblock_reads.specs.superblocks_Stages.{IsTaking}
+use Rattle.superblock_reads.specs.superblocks_Rounds.{Round, naming, first_newest, IsRewriting, AreNamings, IsInNaming, IsCaughtUpTo, IsFirstRewriting, IsInFirst, IsPastFirst, members_at, IsReadAsBefore, IsReadAsPlanned, IsReadInUpdate, IsReady}
+use Rattle.superblock_reads.proofs.superblocks_ReadLists.{by_bool}
+use Rattle.superblock_reads.proofs.superblocks_Exact.{all_same}
+use Rattle.superblock_reads.proofs.superblocks_UpdateReads.{some-or-all}
 use Rattle.superblock_reads.proofs.StageReads.{new_of, taking-later}
-use Rattle.superblocks.specs.Crash.{IsWithin}
+use Rattle.superblock_reads.specs.superblocks_Crash.{IsWithin}
 use Rattle.superblock_reads.proofs.PlanFits.{length-any}
 use Rattle.superblock_reads.proofs.RoundReads.{fit-of, planned_list, naming-reads, all-named, planned-wider}
 use Rattle.superblock_reads.proofs.RoundsRead.{before-reads, first-reads, rounds-read, rounds-end}

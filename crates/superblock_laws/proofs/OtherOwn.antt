@@ -5,15 +5,15 @@ use Rattle.md_base.specs.Sectors.{Sector}
 use Rattle.md_base.specs.Shapes.{has_slot}
 use Rattle.sb1.specs.declared.sb.Sb.{Sb}
 use Rattle.bank.specs.Tape.{Contents, IsIn}
-use Rattle.superblocks.specs.declared.change.Give.{Give}
-use Rattle.superblocks.specs.declared.change.Give.TheVariants.{Same}
-use Rattle.superblocks.specs.declared.change.Change.{Change}
-use Rattle.superblocks.specs.declared.members.Members.{Members}
-use Rattle.superblocks.specs.Update.{planned, give_of, own_in, with_roles}
-use Rattle.superblocks.specs.Updating.{planned_newest}
-use Rattle.superblocks.specs.Writing.{IsFirstSector, IsPlanned}
-use Rattle.superblocks.specs.Held.{AreDrawn}
-use Rattle.superblocks.specs.Rounds.{Round, naming, first_newest, IsRewriting, IsRewritten, AreNamings, members_at}
+use Rattle.superblock_reads.specs.superblocks_the_Give.{Give}
+use Rattle.superblock_reads.specs.superblocks_the_Give_TheVariants.{Same}
+use Rattle.superblock_reads.specs.superblocks_the_Change.{Change}
+use Rattle.superblock_reads.specs.superblocks_the_Members.{Members}
+use Rattle.superblock_reads.specs.superblocks_Update.{planned, give_of, own_in, with_roles}
+use Rattle.superblock_reads.specs.superblocks_Updating.{planned_newest}
+use Rattle.superblock_reads.specs.superblocks_Writing.{IsFirstSector, IsPlanned}
+use Rattle.superblock_reads.specs.superblocks_Held.{AreDrawn}
+use Rattle.superblock_reads.specs.superblocks_Rounds.{Round, naming, first_newest, IsRewriting, IsRewritten, AreNamings, members_at}
 use Rattle.superblock_laws.proofs.AddedReads.{put, put_here, put_slot, put_ninth, in_put}
 use Rattle.superblock_laws.specs.MakingWhole.{without_gives}
 use Rattle.superblock_laws.proofs.Wide as wide

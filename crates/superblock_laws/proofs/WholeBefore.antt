@@ -7,22 +7,22 @@ use Rattle.md_base.specs.Sectors.{Sector}
 use Rattle.md_base.specs.Shapes.{has_slot}
 use Rattle.sb1.specs.declared.sb.Sb.{Sb}
 use Rattle.bank.specs.Tape.{Contents, IsIn}
-use Rattle.superblocks.specs.declared.change.Give.{Give}
-use Rattle.superblocks.specs.declared.change.Give.TheVariants.{Same}
-use Rattle.superblocks.specs.declared.change.Give.TheVariants as give
-use Rattle.superblocks.specs.declared.change.Change.{Change}
-use Rattle.superblocks.specs.declared.members.Members.{Members}
-use Rattle.superblocks.specs.Reading.{Scope, is_fresh}
-use Rattle.superblocks.specs.Update.{planned, give_of, own_in, is_behind, planned_role, is_planned_spare, slot_entry, entry_for, with_entry, with_entries, with_roles}
-use Rattle.superblocks.specs.Writing.{IsPlanned}
-use Rattle.superblocks.specs.Reads.{IsSound}
-use Rattle.superblocks.specs.Held.{MayRead, IsKnown, Shows, AreHeld}
-use Rattle.superblocks.specs.Plans.{KeepsRecovery}
-use Rattle.superblocks.specs.Rounds.{Round, IsRewriting, IsCaughtUpTo, IsReady, IsReadAsPlanned}
-use Rattle.superblocks.proofs.Exact.{all_same}
-use Rattle.superblocks.proofs.PlannedSb.{planned-of, planned-new, joined_drop}
+use Rattle.superblock_reads.specs.superblocks_the_Give.{Give}
+use Rattle.superblock_reads.specs.superblocks_the_Give_TheVariants.{Same}
+use Rattle.superblock_reads.specs.superblocks_the_Give_TheVariants as give
+use Rattle.superblock_reads.specs.superblocks_the_Change.{Change}
+use Rattle.superblock_reads.specs.superblocks_the_Members.{Members}
+use Rattle.superblock_reads.specs.superblocks_Reading.{Scope, is_fresh}
+use Rattle.superblock_reads.specs.superblocks_Update.{planned, give_of, own_in, is_behind, planned_role, is_planned_spare, slot_entry, entry_for, with_entry, with_entries, with_roles}
+use Rattle.superblock_reads.specs.superblocks_Writing.{IsPlanned}
+use Rattle.superblock_reads.specs.superblocks_Reads.{IsSound}
+use Rattle.superblock_reads.specs.superblocks_Held.{MayRead, IsKnown, Shows, AreHeld}
+use Rattle.superblock_reads.specs.superblocks_Plans.{KeepsRecovery}
+use Rattle.superblock_reads.specs.superblocks_Rounds.{Round, IsRewriting, IsCaughtUpTo, IsReady, IsReadAsPlanned}
+use Rattle.superblock_reads.proofs.superblocks_Exact.{all_same}
+use Rattle.superblock_reads.proofs.superblocks_PlannedSb.{planned-of, planned-new, joined_drop}
 use Rattle.superblock_reads.proofs.PlannedAgain.{planned-again}
-use Rattle.superblocks.proofs.UpdateReads.{fresh_less, planned-suited}
+use Rattle.superblock_reads.proofs.superblocks_UpdateReads.{fresh_less, planned-suited}
 use Rattle.superblock_reads.proofs.RoundReads.{and_first}
 use Rattle.superblock_laws.proofs.AddedReads.{put, put_here, put_slot, in_put}
 use Rattle.superblock_laws.specs.MakingWhole.{without_gives, IsMakingWhole}

@@ -4,20 +4,20 @@ use Rattle.std.proofs.lemmas.Bool.Decides.{nat_tests}
 use Rattle.md_base.specs.Sectors.{Sector}
 use Rattle.md_base.specs.Shapes.{has_slot}
 use Rattle.sb1.specs.declared.sb.Sb.{Sb}
-use Rattle.superblocks.specs.declared.change.Give.{Give}
-use Rattle.superblocks.specs.declared.change.Give.TheVariants.{Same}
-use Rattle.superblocks.specs.declared.change.Change.{Change}
-use Rattle.superblocks.specs.declared.members.Members.{Members}
-use Rattle.superblocks.specs.Reading.{Scope}
-use Rattle.superblocks.specs.Update.{planned, give_of, own_in, is_behind}
-use Rattle.superblocks.specs.Writing.{IsPlanned}
-use Rattle.superblocks.specs.Updating.{planned_newest, IsLater}
-use Rattle.superblocks.specs.Held.{AreHeld, AreLevel}
-use Rattle.superblocks.specs.Stages.{AreLeft, IsCatchingUp, IsFitPlan, AreKept}
-use Rattle.superblocks.specs.Plans.{IsFitChange}
-use Rattle.superblocks.specs.Rounds.{Round, first_newest, IsRewriting, IsCaughtUpTo, IsReady}
-use Rattle.superblocks.proofs.ReadLists.{by_bool}
-use Rattle.superblocks.proofs.Exact.{all_same}
+use Rattle.superblock_reads.specs.superblocks_the_Give.{Give}
+use Rattle.superblock_reads.specs.superblocks_the_Give_TheVariants.{Same}
+use Rattle.superblock_reads.specs.superblocks_the_Change.{Change}
+use Rattle.superblock_reads.specs.superblocks_the_Members.{Members}
+use Rattle.superblock_reads.specs.superblocks_Reading.{Scope}
+use Rattle.superblock_reads.specs.superblocks_Update.{planned, give_of, own_in, is_behind}
+use Rattle.superblock_reads.specs.superblocks_Writing.{IsPlanned}
+use Rattle.superblock_reads.specs.superblocks_Updating.{planned_newest, IsLater}
+use Rattle.superblock_reads.specs.superblocks_Held.{AreHeld, AreLevel}
+use Rattle.superblock_reads.specs.superblocks_Stages.{AreLeft, IsCatchingUp, IsFitPlan, AreKept}
+use Rattle.superblock_reads.specs.superblocks_Plans.{IsFitChange}
+use Rattle.superblock_reads.specs.superblocks_Rounds.{Round, first_newest, IsRewriting, IsCaughtUpTo, IsReady}
+use Rattle.superblock_reads.proofs.superblocks_ReadLists.{by_bool}
+use Rattle.superblock_reads.proofs.superblocks_Exact.{all_same}
 use Rattle.superblock_reads.proofs.PlanFits.{plan-fits}
 use Rattle.superblock_reads.proofs.StageReads.{caught_of, caught-held}
 use Rattle.superblock_reads.proofs.RoundReads.{left_set, left-are, and_first, and_second, planned_list, planned-in, kept-of}

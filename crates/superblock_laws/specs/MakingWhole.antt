@@ -4,17 +4,17 @@ use Rattle.md_base.specs.Sectors.{Sector}
 use Rattle.md_base.specs.Shapes.{has_slot}
 use Rattle.sb1.specs.declared.sb.Sb.{Sb}
 use Rattle.bank.specs.Tape.{Contents}
-use Rattle.superblocks.specs.declared.change.Give.TheVariants.{Same}
-use Rattle.superblocks.specs.declared.change.Give.TheVariants as give
-use Rattle.superblocks.specs.declared.change.Change.{Change}
-use Rattle.superblocks.specs.declared.members.Members.{Members}
-use Rattle.superblocks.specs.Reading.{Scope, is_recovering}
-use Rattle.superblocks.specs.Update.{give_of, own_in, role_from}
-use Rattle.superblocks.specs.Updating.{AreNamed, IsSomeLeft}
-use Rattle.superblocks.specs.Outcome.{AreStored, is_left, live_set}
-use Rattle.superblocks.specs.Rounds.{Round, IsInRounds, ArePast, IsReady, IsReadAsBefore, IsReadAsPlanned}
-use Rattle.superblocks.specs.Held.{AreDrawn}
-use Rattle.superblocks.specs.Crash.{AreHeldAsPlanned}
+use Rattle.superblock_reads.specs.superblocks_the_Give_TheVariants.{Same}
+use Rattle.superblock_reads.specs.superblocks_the_Give_TheVariants as give
+use Rattle.superblock_reads.specs.superblocks_the_Change.{Change}
+use Rattle.superblock_reads.specs.superblocks_the_Members.{Members}
+use Rattle.superblock_reads.specs.superblocks_Reading.{Scope, is_recovering}
+use Rattle.superblock_reads.specs.superblocks_Update.{give_of, own_in, role_from}
+use Rattle.superblock_reads.specs.superblocks_Updating.{AreNamed, IsSomeLeft}
+use Rattle.superblock_reads.specs.superblocks_Outcome.{AreStored, is_left, live_set}
+use Rattle.superblock_reads.specs.superblocks_Rounds.{Round, IsInRounds, ArePast, IsReady, IsReadAsBefore, IsReadAsPlanned}
+use Rattle.superblock_reads.specs.superblocks_Held.{AreDrawn}
+use Rattle.superblock_reads.specs.superblocks_Crash.{AreHeldAsPlanned}
 use Rattle.superblock_reads.specs.Following.{IsFollowedBy}
 use Rattle.superblock_reads.specs.Said.{AreSaid, AreSaidAsPlanned}
 

@@ -1,13 +1,13 @@
 -- A whole update, by what images read, in which the slot that gets a recovery offset may be lost in its own write.
 use Rattle.std.specs.Prelude.{ℕ, ◌^◌, ◌<◌, List}
 use Rattle.md_base.specs.Sectors.{Sector}
-use Rattle.superblocks.specs.declared.change.Change.{Change}
-use Rattle.superblocks.specs.declared.members.Members.{Members}
-use Rattle.superblocks.specs.Reading.{Scope}
-use Rattle.superblocks.specs.Updating.{IsSomeLeft}
-use Rattle.superblocks.specs.Rounds.{Round, IsReady}
-use Rattle.superblocks.specs.Crash.{IsWithin, EachReadsInUpdate, AreHeldAsPlanned}
-use Rattle.superblocks.specs.Losing.{IsInTurns, ArePastTurns}
+use Rattle.superblock_reads.specs.superblocks_the_Change.{Change}
+use Rattle.superblock_reads.specs.superblocks_the_Members.{Members}
+use Rattle.superblock_reads.specs.superblocks_Reading.{Scope}
+use Rattle.superblock_reads.specs.superblocks_Updating.{IsSomeLeft}
+use Rattle.superblock_reads.specs.superblocks_Rounds.{Round, IsReady}
+use Rattle.superblock_reads.specs.superblocks_Crash.{IsWithin, EachReadsInUpdate, AreHeldAsPlanned}
+use Rattle.superblock_reads.specs.superblocks_Losing.{IsInTurns, ArePastTurns}
 use Rattle.superblock_reads.specs.Following.{IsFollowedBy}
 
 -- the slots that an update doesn't name, since they were lost before, are lost when it starts

@@ -3,8 +3,8 @@
 
 ghost use Rattle.superblock_laws.specs.Turning.{UpdateTurningReads, UpdateTurningEnds, UpdateTurningMayFollow};
 ghost use Rattle.superblock_laws.specs.MakingWhole.{UpdateMakingWholeReads, UpdateMakingWholeEnds, UpdateMakingWholeMayFollow, MembersMadeWholeStaySaid};
-ghost use Rattle.superblocks.specs.Adding.{AddingIsReady, UpdateAddingReads, UpdateAddingEnds};
-ghost use Rattle.superblocks.specs.Losing.{RoundLosingReads, RoundAfterLosingReads, RoundAfterLosingEnds};
+ghost use Rattle.superblock_reads.specs.superblocks_Adding.{AddingIsReady, UpdateAddingReads, UpdateAddingEnds};
+ghost use Rattle.superblock_reads.specs.superblocks_Losing.{RoundLosingReads, RoundAfterLosingReads, RoundAfterLosingEnds};
 ghost use Rattle.superblock_reads.specs.Following.{AddingMayFollow};
 
 /// At each mark of an update an image reads as before it, or as planned by one of its rounds, each of which names the slots

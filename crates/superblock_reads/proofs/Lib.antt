@@ -12,3 +12,14 @@ pub mod RoundsRead
 pub mod Following
 pub mod MixedReads
 pub mod UpTo
+pub use Rattle.superblocks.proofs.ReadLists as superblocks_ReadLists
+pub use Rattle.superblocks.proofs.Exact as superblocks_Exact
+pub use Rattle.superblocks.proofs.SlotSets as superblocks_SlotSets
+pub use Rattle.superblocks.proofs.PlannedSb as superblocks_PlannedSb
+pub use Rattle.superblocks.proofs.UpdateReads as superblocks_UpdateReads
+pub use Rattle.superblocks.proofs.ValidFields as superblocks_ValidFields
+pub use Rattle.superblocks.proofs.ReadAlike as superblocks_ReadAlike
+pub use Rattle.superblocks.proofs.HeldReads as superblocks_HeldReads
+pub use Rattle.superblocks.proofs.SameLaws as superblocks_SameLaws
+pub use Rattle.superblocks.proofs.WrittenReads as superblocks_WrittenReads
+pub use Rattle.superblocks.proofs.StoredSlots as superblocks_StoredSlots

@@ -16,8 +16,8 @@ use Rattle.superblocks.specs.Outcome.{planned_state}
 use Rattle.superblocks.specs.Reading.{role_count, holder}
 use Rattle.superblocks.specs.Reads.{has_spare}
 use Rattle.superblocks.specs.Update.{give_of, planned_role, is_planned_spare}
-use Rattle.superblock_reads.proofs.SaidLists.{role-holder}
-use Rattle.superblock_reads.proofs.SaidSlots.{has-slots_below}
+use Rattle.still_steps.proofs.superblock_reads_SaidLists.{role-holder}
+use Rattle.still_steps.proofs.superblock_reads_SaidSlots.{has-slots_below}
 use Rattle.still_steps.proofs.shape_changes_Kept.{give_of-same}
 use Rattle.still_steps.proofs.shape_changes_PlannedRoles.{planned-holds}
 use Rattle.takeover_updates.specs.TakingOver.{level_give, taking_over, taken_plan}

@@ -8,8 +8,8 @@ use Rattle.md_base.specs.declared.places.Shape.{Shape}
 use Rattle.bank.specs.Given.{Given}
 use Rattle.bank.specs.Tape.{Contents}
 use Rattle.grow_plan.specs.Plans.{taken_up}
-use Rattle.superblocks.specs.declared.members.Members.{Members}
-use Rattle.superblocks.specs.Reading.{Scope, is_reshaping, shape_of, list_length, role_count}
+use Rattle.still_kept.specs.superblocks_the_Members.{Members}
+use Rattle.still_kept.specs.superblocks_Reading.{Scope, is_reshaping, shape_of, list_length, role_count}
 use Rattle.still_kept.specs.shape_views_Regions.{ArePlaced}
 use Rattle.still_kept.specs.shape_views_Windows.{ListStands, RowsStand}
 use Rattle.still_kept.proofs.shape_views_Stands.{list-still}

@@ -15,25 +15,25 @@ use Rattle.bank.specs.declared.bank.Operation.{Operation}
 use Rattle.bank.specs.Given.{Given}
 use Rattle.bank.specs.Tape.{IsIn, disk}
 use Rattle.sb1.specs.declared.sb.Sb.{Sb}
-use Rattle.superblocks.specs.declared.members.Members.{Members}
-use Rattle.superblocks.specs.Reading.{Scope, Reading, reading, is_reshaping, shape_of, final_shape, list_length, role_count}
-use Rattle.superblocks.proofs.ValidFields.{few-roles}
-use Rattle.row_io.specs.Rows.{reading_of, present, is_missing}
-use Rattle.flat_history.specs.declared.events.Entry.{Entry}
-use Rattle.flat_history.specs.declared.events.Event.{Event}
-use Rattle.flat_history.specs.declared.events.Event.TheVariants.{Lost, SpareLost, Step}
-use Rattle.flat_history.specs.declared.events.LostCause.TheVariants.{Fault}
-use Rattle.flat_history.specs.declared.events.StepKind.TheVariants.{TakenOver}
-use Rattle.flat_history.specs.Epochs.{HasRoomForEvents, OpensAlike}
-use Rattle.flat_history.specs.Flat.{length_of, values_of, values_after, now}
-use Rattle.flat_history.specs.Legal.{call_before, disturbs, level_after, level_at, told_left}
-use Rattle.flat_history.specs.Losses.{is_gone_after, is_this, is_unsynced, last_of_six, loses, takes, unsettles}
-use Rattle.flat_history.specs.OneShape.{is_lost, is_unsettled}
-use Rattle.flat_history.specs.Plain.{entries_of}
-use Rattle.flat_history.specs.Reshaped.{behind, comes_with_step, open_plans, ArePlansDone, IsConsistentAt, IsReshapedBy}
-use Rattle.flat_history.specs.Sound.{OpensFit}
-use Rattle.flat_history.specs.World.{World, reading_at, opening_list}
-use Rattle.flat_history.proofs.SoundLaws.{fit-before}
+use Rattle.still_kept.specs.superblocks_the_Members.{Members}
+use Rattle.still_kept.specs.superblocks_Reading.{Scope, Reading, reading, is_reshaping, shape_of, final_shape, list_length, role_count}
+use Rattle.still_kept.proofs.superblocks_ValidFields.{few-roles}
+use Rattle.still_kept.specs.row_io_Rows.{reading_of, present, is_missing}
+use Rattle.still_kept.specs.flat_history_the_Entry.{Entry}
+use Rattle.still_kept.specs.flat_history_the_Event.{Event}
+use Rattle.still_kept.specs.flat_history_the_Event_TheVariants.{Lost, SpareLost, Step}
+use Rattle.still_kept.specs.flat_history_the_LostCause_TheVariants.{Fault}
+use Rattle.still_kept.specs.flat_history_the_StepKind_TheVariants.{TakenOver}
+use Rattle.still_kept.specs.flat_history_Epochs.{HasRoomForEvents, OpensAlike}
+use Rattle.still_kept.specs.flat_history_Flat.{length_of, values_of, values_after, now}
+use Rattle.still_kept.specs.flat_history_Legal.{call_before, disturbs, level_after, level_at, told_left}
+use Rattle.still_kept.specs.flat_history_Losses.{is_gone_after, is_this, is_unsynced, last_of_six, loses, takes, unsettles}
+use Rattle.still_kept.specs.flat_history_OneShape.{is_lost, is_unsettled}
+use Rattle.still_kept.specs.flat_history_Plain.{entries_of}
+use Rattle.still_kept.specs.flat_history_Reshaped.{behind, comes_with_step, open_plans, ArePlansDone, IsConsistentAt, IsReshapedBy}
+use Rattle.still_kept.specs.flat_history_Sound.{OpensFit}
+use Rattle.still_kept.specs.flat_history_World.{World, reading_at, opening_list}
+use Rattle.still_kept.proofs.flat_history_SoundLaws.{fit-before}
 use Rattle.still_kept.specs.shape_views_Regions.{DoWithout}
 use Rattle.still_kept.specs.shape_views_Views.{Ledger}
 use Rattle.still_kept.proofs.shape_views_Alike.{shape-alike}

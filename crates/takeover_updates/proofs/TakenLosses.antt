@@ -19,8 +19,8 @@ use Rattle.superblocks.specs.Update.{give_of, is_held_by, is_live, role_from, pl
 use Rattle.superblocks.specs.Updating.{AreLosses}
 use Rattle.superblocks.specs.Outcome.{live_set, planned_state, planned_roles}
 use Rattle.superblocks.proofs.SlotSets.{some_role}
-use Rattle.superblock_reads.proofs.SaidSlots.{below-length}
-use Rattle.row_io.specs.Rows.{reading_of}
+use Rattle.reshape_ends.proofs.superblock_reads_SaidSlots.{below-length}
+use Rattle.reshape_ends.specs.row_io_Rows.{reading_of}
 use Rattle.reshape_ends.specs.shape_changes_Changing.{IsChanged}
 use Rattle.reshape_ends.specs.shape_changes_Updates.{planned_view}
 use Rattle.reshape_ends.proofs.shape_changes_PlannedRoles.{held-planned, planned-held}

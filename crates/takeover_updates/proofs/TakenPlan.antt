@@ -25,9 +25,9 @@ use Rattle.superblocks.specs.Update.{IsRoleGive, give_of, is_recovery, role_from
 use Rattle.superblocks.specs.Updating.{planned_newest}
 use Rattle.superblocks.specs.Outcome.{AreGivesOfLive}
 use Rattle.superblocks.proofs.SlotSets.{some_role}
-use Rattle.superblock_reads.proofs.SaidLists.{role-holder}
-use Rattle.superblock_reads.proofs.SaidSlots.{below-length}
-use Rattle.row_io.specs.Rows.{reading_of}
+use Rattle.reshape_ends.proofs.superblock_reads_SaidLists.{role-holder}
+use Rattle.reshape_ends.proofs.superblock_reads_SaidSlots.{below-length}
+use Rattle.reshape_ends.specs.row_io_Rows.{reading_of}
 use Rattle.reshape_ends.specs.shape_views_Regions.{AreShapesFit, ArePlaced}
 use Rattle.reshape_ends.specs.shape_views_Views.{Disk}
 use Rattle.reshape_ends.proofs.shape_views_Alike.{shape-alike}

@@ -11,7 +11,7 @@ use Rattle.superblocks.specs.declared.change.Change.{Change}
 use Rattle.superblocks.specs.declared.members.Members.{Members}
 use Rattle.superblocks.specs.Reading.{is_reshaping, shape_of, role_state}
 use Rattle.superblocks.specs.Reads.{has_spare}
-use Rattle.row_io.specs.Rows.{reading_of}
+use Rattle.reshape_ends.specs.row_io_Rows.{reading_of}
 use Rattle.reshape_ends.specs.shape_changes_Updates.{planned_view}
 
 -- A superblock with the level, the layout and the disk count of this shape. The chunk stays.

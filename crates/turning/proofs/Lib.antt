@@ -43,3 +43,9 @@ pub use Rattle.moving_steps.proofs.shape_views_Headers
 pub use Rattle.moving_steps.proofs.shape_changes_PlannedRoles
 pub use Rattle.moving_steps.proofs.shape_views_Stands
 pub use Rattle.moving_steps.proofs.kept_history_Opened
+pub use Rattle.moving_steps.proofs.superblock_reads_SaidLists
+pub use Rattle.moving_steps.proofs.superblock_reads_SaidSlots
+pub use Rattle.row_io.proofs.Losses as row_io_Losses
+pub use Rattle.moving_steps.proofs.history_laws_OneShapeGrowing
+pub use Rattle.moving_steps.proofs.history_laws_ReshapedLaws
+pub use Rattle.moving_steps.proofs.history_laws_GrowingLaws

@@ -20,7 +20,7 @@ use Rattle.superblocks.specs.declared.members.Members.{Members}
 use Rattle.superblocks.specs.Outcome.{is_planned_holder, held_state, planned_state}
 use Rattle.superblocks.specs.Reading.{is_reshaping, is_whole, shape_of, role_count, role_state, holder}
 use Rattle.superblocks.specs.Update.{give_of, is_held_by, planned_role}
-use Rattle.superblock_reads.proofs.SaidLists.{held-holder}
+use Rattle.moving_steps.proofs.superblock_reads_SaidLists.{held-holder}
 use Rattle.row_io.specs.Rows.{reading_of, is_missing}
 use Rattle.moving_steps.specs.shape_changes_Safety.{HasLiveSlot}
 use Rattle.moving_steps.specs.shape_changes_Steady.{AreUnlost}

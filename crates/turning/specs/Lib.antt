@@ -39,3 +39,4 @@ pub use Rattle.views.specs.Lacking as views_Lacking
 pub use Rattle.views.specs.Moving as views_Moving
 pub use Rattle.moving_steps.specs.shape_changes_Marking
 pub use Rattle.moving_steps.specs.shape_views_Regions
+pub use Rattle.row_io.specs.Rows as row_io_Rows

@@ -9,16 +9,16 @@ use Rattle.md_base.specs.Shapes.{has_slot}
 use Rattle.sb1.specs.declared.sb.Sb.{Sb}
 use Rattle.sb1.specs.Writable.{IsWritable}
 use Rattle.bank.specs.Given.{Given}
-use Rattle.superblocks.specs.declared.members.Members.{Members}
-use Rattle.superblocks.specs.Reading.{role_state, holder, data_offset_of}
-use Rattle.superblocks.specs.Reads.{has_spare}
-use Rattle.superblocks.specs.Update.{own_in, is_held_by, is_live}
-use Rattle.superblocks.specs.Writing.{IsMember}
-use Rattle.superblocks.specs.Outcome.{IsAddable, is_in_update, live_set}
-use Rattle.superblocks.proofs.SlotSets.{has-set_of}
-use Rattle.superblocks.proofs.StoredSlots.{set_apart}
-use Rattle.superblock_reads.proofs.SaidSlots.{has-slots_below}
-use Rattle.row_io.specs.Rows.{reading_of}
+use Rattle.shape_changes.specs.superblocks_the_Members.{Members}
+use Rattle.shape_changes.specs.superblocks_Reading.{role_state, holder, data_offset_of}
+use Rattle.shape_changes.specs.superblocks_Reads.{has_spare}
+use Rattle.shape_changes.specs.superblocks_Update.{own_in, is_held_by, is_live}
+use Rattle.shape_changes.specs.superblocks_Writing.{IsMember}
+use Rattle.shape_changes.specs.superblocks_Outcome.{IsAddable, is_in_update, live_set}
+use Rattle.shape_changes.proofs.superblocks_SlotSets.{has-set_of}
+use Rattle.shape_changes.proofs.superblocks_StoredSlots.{set_apart}
+use Rattle.shape_changes.proofs.superblock_reads_SaidSlots.{has-slots_below}
+use Rattle.shape_changes.specs.row_io_Rows.{reading_of}
 use Rattle.views.specs.Placed.{IsPlaced}
 use Rattle.shape_changes.specs.Steady.{AreUnlost}
 use Rattle.shape_changes.specs.Marking.{adding, marking}

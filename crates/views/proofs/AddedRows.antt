@@ -7,11 +7,11 @@ use Rattle.md_base.specs.declared.status.Role.{Role}
 use Rattle.md_base.specs.declared.status.Role.TheVariants.{Whole, Recovering, Missing}
 use Rattle.sb1.specs.declared.sb.Sb.{Sb}
 use Rattle.bank.specs.Tape.{Contents}
-use Rattle.superblocks.specs.declared.members.Members.{Members}
-use Rattle.superblocks.specs.Reading.{shape_of, is_reshaping, role_state, rows_held, holder, data_offset_of}
-use Rattle.row_io.specs.Rows.{reading_of, held_slot}
-use Rattle.row_io.proofs.Losses.{holder-of}
-use Rattle.list_io.specs.Full.{DataStands, ParityStands}
+use Rattle.shape_changes.specs.superblocks_the_Members.{Members}
+use Rattle.shape_changes.specs.superblocks_Reading.{shape_of, is_reshaping, role_state, rows_held, holder, data_offset_of}
+use Rattle.shape_changes.specs.row_io_Rows.{reading_of, held_slot}
+use Rattle.shape_changes.proofs.row_io_Losses.{holder-of}
+use Rattle.shape_changes.specs.list_io_Full.{DataStands, ParityStands}
 use Rattle.views.specs.declared.work.Work.{Work}
 use Rattle.views.specs.Lacking.{ListStands, RowsStandAmong}
 use Rattle.views.specs.Rebuilding.{AreRebuilt, with_spare}

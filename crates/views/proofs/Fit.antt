@@ -10,18 +10,18 @@ use Rattle.md_base.specs.Shapes.{is_valid_shape, is_multiple, data_disks}
 use Rattle.bank.specs.Given.{Given}
 use Rattle.sb1.specs.declared.sb.Sb.{Sb}
 use Rattle.geometry.specs.Geometry.{is_size, unit, side}
-use Rattle.superblocks.specs.declared.members.Members.{Members}
-use Rattle.superblocks.specs.Reading.{is_reshaping, is_backward, shape_of, final_shape, role_count, list_length}
-use Rattle.flat_history.specs.Stands.{shape_at, shape_for}
+use Rattle.shape_changes.specs.superblocks_the_Members.{Members}
+use Rattle.shape_changes.specs.superblocks_Reading.{is_reshaping, is_backward, shape_of, final_shape, role_count, list_length}
+use Rattle.shape_changes.specs.flat_history_Stands.{shape_at, shape_for}
 use Rattle.md_base.specs.declared.places.Side.{Side}
 use Rattle.md_base.specs.declared.places.Side.TheVariants.{Old, New}
-use Rattle.superblocks.specs.Reads.{SaysSame}
-use Rattle.superblocks.proofs.ValidFields.{few-roles}
-use Rattle.row_io.specs.Rows.{reading_of}
-use Rattle.list_io.specs.Calls.{HasRows}
-use Rattle.shape_views.specs.Regions.{AreShapesFit}
-use Rattle.shape_views.proofs.Alike.{final-alike}
-use Rattle.shape_views.proofs.Stands.{final-still}
+use Rattle.shape_changes.specs.superblocks_Reads.{SaysSame}
+use Rattle.shape_changes.proofs.superblocks_ValidFields.{few-roles}
+use Rattle.shape_changes.specs.row_io_Rows.{reading_of}
+use Rattle.shape_changes.specs.list_io_Calls.{HasRows}
+use Rattle.shape_changes.specs.shape_views_Regions.{AreShapesFit}
+use Rattle.shape_changes.proofs.shape_views_Alike.{final-alike}
+use Rattle.shape_changes.proofs.shape_views_Stands.{final-still}
 use Rattle.views.specs.Placed.{IsPlaced, IsInForce, HaveSameReshape}
 
 -- ---- a superblock whose shapes fit

@@ -11,13 +11,13 @@ use Rattle.md_base.specs.declared.status.Role.TheVariants.{Whole, Recovering, Mi
 use Rattle.sb1.specs.declared.sb.Sb.{Sb}
 use Rattle.sb1.specs.Writable.{IsWritable}
 use Rattle.bank.specs.Given.{Given}
-use Rattle.superblocks.specs.declared.members.Members.{Members}
-use Rattle.superblocks.specs.Reading.{is_reshaping, role_state, rows_held, holder, data_offset_of}
-use Rattle.superblocks.specs.Reads.{has_spare}
-use Rattle.superblocks.specs.Update.{own_in, with_recovery, is_held_by, is_live}
-use Rattle.superblocks.specs.Writing.{IsMember}
-use Rattle.superblock_reads.proofs.SaidSlots.{has-slots_below}
-use Rattle.row_io.specs.Rows.{reading_of, IsHolder}
+use Rattle.shape_changes.specs.superblocks_the_Members.{Members}
+use Rattle.shape_changes.specs.superblocks_Reading.{is_reshaping, role_state, rows_held, holder, data_offset_of}
+use Rattle.shape_changes.specs.superblocks_Reads.{has_spare}
+use Rattle.shape_changes.specs.superblocks_Update.{own_in, with_recovery, is_held_by, is_live}
+use Rattle.shape_changes.specs.superblocks_Writing.{IsMember}
+use Rattle.shape_changes.proofs.superblock_reads_SaidSlots.{has-slots_below}
+use Rattle.shape_changes.specs.row_io_Rows.{reading_of, IsHolder}
 use Rattle.views.specs.Placed.{IsPlaced}
 use Rattle.shape_changes.specs.Steady.{AreUnlost}
 use Rattle.views.proofs.HeldRows.{recovered_of}

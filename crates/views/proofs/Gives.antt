@@ -10,15 +10,15 @@ use Rattle.md_base.specs.declared.status.Role.{Role}
 use Rattle.md_base.specs.declared.status.Role.TheVariants.{Whole, Recovering, Missing}
 use Rattle.md_base.proofs.Least.{least_below-none, least_below-only}
 use Rattle.md_base.proofs.Tabulated.{length-tabulate, get_or-tabulate}
-use Rattle.superblocks.specs.declared.change.Give.{Give}
-use Rattle.superblocks.specs.declared.change.Give.TheVariants.{Same}
-use Rattle.superblocks.specs.declared.change.Give.TheVariants as give
-use Rattle.superblocks.specs.declared.members.Members.{Members}
-use Rattle.superblocks.specs.Reading.{holder}
-use Rattle.superblocks.specs.Update.{role_from, give_of, planned_role}
-use Rattle.superblocks.specs.Outcome.{is_same, is_planned_holder, held_state, planned_state}
-use Rattle.superblock_reads.proofs.SaidLists.{role-holder}
-use Rattle.row_io.specs.Rows.{role_without}
+use Rattle.shape_changes.specs.superblocks_the_Give.{Give}
+use Rattle.shape_changes.specs.superblocks_the_Give_TheVariants.{Same}
+use Rattle.shape_changes.specs.superblocks_the_Give_TheVariants as give
+use Rattle.shape_changes.specs.superblocks_the_Members.{Members}
+use Rattle.shape_changes.specs.superblocks_Reading.{holder}
+use Rattle.shape_changes.specs.superblocks_Update.{role_from, give_of, planned_role}
+use Rattle.shape_changes.specs.superblocks_Outcome.{is_same, is_planned_holder, held_state, planned_state}
+use Rattle.shape_changes.proofs.superblock_reads_SaidLists.{role-holder}
+use Rattle.shape_changes.specs.row_io_Rows.{role_without}
 use Rattle.views.specs.Rebuilding.{with_state}
 use Rattle.views.proofs.MarkLaws.{Apart, state-kept}
 use Rattle.shape_changes.proofs.Kept.{give_of-same}

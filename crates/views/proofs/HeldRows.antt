@@ -9,16 +9,16 @@ use Rattle.md_base.specs.Shapes.{tolerance}
 use Rattle.md_base.specs.declared.places.Shape.{Shape}
 use Rattle.bank.specs.Given.{Given}
 use Rattle.bank.specs.Tape.{Contents}
-use Rattle.superblocks.specs.declared.members.Members.{Members}
-use Rattle.superblocks.specs.Reading.{Reading, shape_of, is_reshaping, is_whole, role_state, rows_held, holder, own_of, data_offset_of, final_shape}
-use Rattle.row_io.specs.Rows.{reading_of, is_held, is_missing, held_slot, held_sector, role_without, missing_count}
-use Rattle.row_io.proofs.Losses.{holder-of, state_kept}
-use Rattle.row_io.proofs.Tables.{get_or-map}
+use Rattle.shape_changes.specs.superblocks_the_Members.{Members}
+use Rattle.shape_changes.specs.superblocks_Reading.{Reading, shape_of, is_reshaping, is_whole, role_state, rows_held, holder, own_of, data_offset_of, final_shape}
+use Rattle.shape_changes.specs.row_io_Rows.{reading_of, is_held, is_missing, held_slot, held_sector, role_without, missing_count}
+use Rattle.shape_changes.proofs.row_io_Losses.{holder-of, state_kept}
+use Rattle.shape_changes.proofs.row_io_Tables.{get_or-map}
 use Rattle.views.specs.Placed.{IsPlaced, is_vacant, AreLess}
 use Rattle.views.specs.Moving.{IsMoved}
 use Rattle.views.specs.Lacking.{DoesWithout}
 use Rattle.views.proofs.Counts.{count-implied}
-use Rattle.shape_views.specs.Regions.{DoWithout}
+use Rattle.shape_changes.specs.shape_views_Regions.{DoWithout}
 
 -- ---- by the state of the role
 

@@ -12,30 +12,30 @@ use Rattle.bank.specs.Given.{Given, IsFaulted, NeverFalls}
 use Rattle.bank.specs.declared.bank.Operation.{Operation}
 use Rattle.bank.specs.Tape.{disk}
 use Rattle.bank.proofs.Causes.{faulted_longer}
-use Rattle.superblocks.specs.declared.members.Members.{Members}
-use Rattle.superblocks.specs.Updating.{IsUpdate}
-use Rattle.superblocks.specs.Reading.{Reading, shape_of, role_state, holder, final_shape, is_reshaping, role_count}
-use Rattle.superblocks.specs.Reads.{has_spare}
-use Rattle.superblocks.proofs.SlotSets.{none_there}
-use Rattle.row_io.specs.Rows.{reading_of, present, is_missing, role_without, missing_count}
+use Rattle.shape_changes.specs.superblocks_the_Members.{Members}
+use Rattle.shape_changes.specs.superblocks_Updating.{IsUpdate}
+use Rattle.shape_changes.specs.superblocks_Reading.{Reading, shape_of, role_state, holder, final_shape, is_reshaping, role_count}
+use Rattle.shape_changes.specs.superblocks_Reads.{has_spare}
+use Rattle.shape_changes.proofs.superblocks_SlotSets.{none_there}
+use Rattle.shape_changes.specs.row_io_Rows.{reading_of, present, is_missing, role_without, missing_count}
 use Rattle.views.specs.Placed.{is_vacant, AreStillHeld, AreWhole, IsPlaced, AreLost, AreLess, IsInForce}
 use Rattle.views.specs.Flushing.{AreMembersFlushed}
 use Rattle.views.specs.Moving.{IsMoved, AreFailed}
-use Rattle.row_io.proofs.Losses.{state_kept}
+use Rattle.shape_changes.proofs.row_io_Losses.{state_kept}
 use Rattle.views.proofs.HeldRows.{missing-before, vacant-missing}
 use Rattle.views.proofs.MemberLaws.{less-without}
 use Rattle.shape_changes.proofs.Without.{in-both, state-without}
 use Rattle.views.specs.Lacking.{HaveFailedSince, AreLostSince, AreHoldersFlushed, AreTooMany, DoesWithout, lacking, refused_by, too_many, LacksTooMany}
 use Rattle.std.specs.Prelude.{MatchOption, ⊤, Result, Ok, Err}
 use Rattle.md_base.specs.declared.answers.Refusal.{Refusal}
-use Rattle.list_io.specs.declared.outcome.Unavailable.{Unavailable}
-use Rattle.list_io.specs.declared.outcome.Unavailable.TheVariants.{TooManyMissing, NotResynced}
-use Rattle.list_io.specs.Calls.{IsAnswer}
+use Rattle.shape_changes.specs.list_io_the_Unavailable.{Unavailable}
+use Rattle.shape_changes.specs.list_io_the_Unavailable_TheVariants.{TooManyMissing, NotResynced}
+use Rattle.shape_changes.specs.list_io_Calls.{IsAnswer}
 use Rattle.views.proofs.MovedLaws.{not-whole}
 use Rattle.views.proofs.MarkedLaws.{others-updated, single-kept}
-use Rattle.shape_views.specs.Regions.{DoWithout}
+use Rattle.shape_changes.specs.shape_views_Regions.{DoWithout}
 use Rattle.views.proofs.Fit.{count-alike}
-use Rattle.shape_views.proofs.Stands.{final-still}
+use Rattle.shape_changes.proofs.shape_views_Stands.{final-still}
 
 -- ---- the slots that failed
 

@@ -12,19 +12,19 @@ use Rattle.bank.specs.Given.{Given}
 use Rattle.bank.specs.Tape.{Contents}
 use Rattle.layout.specs.Layout.{place, row_roles}
 use Rattle.parity.specs.Rows.{IsSector, sector_of}
-use Rattle.superblocks.specs.declared.members.Members.{Members}
-use Rattle.superblocks.specs.Reading.{shape_of, role_count, role_state, holder, data_offset_of}
-use Rattle.row_io.specs.Rows.{reading_of, held_slot}
-use Rattle.row_io.specs.Writes.{is_parity}
-use Rattle.row_io.proofs.Losses.{holder-of}
-use Rattle.row_io.proofs.NewRow.{whole_sector}
-use Rattle.list_io.specs.Full.{full_sector, AreWholeIn, DataStands, RowStands}
-use Rattle.list_io.specs.Buffers.{buffered, AreTouched, AreStanding, IsTouched}
-use Rattle.list_io.specs.Writing.{IsWritten, AreDataFrom, HasFull}
+use Rattle.shape_changes.specs.superblocks_the_Members.{Members}
+use Rattle.shape_changes.specs.superblocks_Reading.{shape_of, role_count, role_state, holder, data_offset_of}
+use Rattle.shape_changes.specs.row_io_Rows.{reading_of, held_slot}
+use Rattle.shape_changes.specs.row_io_Writes.{is_parity}
+use Rattle.shape_changes.proofs.row_io_Losses.{holder-of}
+use Rattle.shape_changes.proofs.row_io_NewRow.{whole_sector}
+use Rattle.shape_changes.specs.list_io_Full.{full_sector, AreWholeIn, DataStands, RowStands}
+use Rattle.shape_changes.specs.list_io_Buffers.{buffered, AreTouched, AreStanding, IsTouched}
+use Rattle.shape_changes.specs.list_io_Writing.{IsWritten, AreDataFrom, HasFull}
 use Rattle.layout.proofs.Places.{place-role_below}
 use Rattle.views.specs.Rows.{row_sector}
 use Rattle.views.proofs.MemberLaws.{holder-is}
-use Rattle.list_io.proofs.FullLaws.{data_here, full-data, full-same, sector_there}
+use Rattle.shape_changes.proofs.list_io_FullLaws.{data_here, full-data, full-same, sector_there}
 use Rattle.views.specs.Placed.{places_of, AreWhole, IsPlaced, IsInForce}
 use Rattle.shape_changes.specs.Marking.{AreOthersPresent}
 use Rattle.views.specs.Moving.{IsMoved}

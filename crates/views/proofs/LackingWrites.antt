@@ -16,16 +16,16 @@ use Rattle.layout.proofs.Limits.{limited}
 use Rattle.md_base.specs.Shapes.{is_valid_shape}
 use Rattle.std.specs.Prelude.{IsTrue, Result, Ok, Err, OnOk, is_some}
 use Rattle.parity.specs.Rows.{sector_of}
-use Rattle.superblocks.specs.declared.members.Members.{Members}
-use Rattle.superblocks.specs.Reading.{shape_of, role_state, holder, data_offset_of}
-use Rattle.row_io.specs.Rows.{reading_of}
-use Rattle.row_io.proofs.Losses.{holder-of}
-use Rattle.list_io.specs.Calls.{HasRows, AreLost as IsListLost}
-use Rattle.list_io.specs.Buffers.{buffered, AreDistinct, AreStanding}
-use Rattle.list_io.specs.Full.{full_sector}
-use Rattle.list_io.specs.Writing.{IsWritten, AreDataFrom, HasFull}
+use Rattle.shape_changes.specs.superblocks_the_Members.{Members}
+use Rattle.shape_changes.specs.superblocks_Reading.{shape_of, role_state, holder, data_offset_of}
+use Rattle.shape_changes.specs.row_io_Rows.{reading_of}
+use Rattle.shape_changes.proofs.row_io_Losses.{holder-of}
+use Rattle.shape_changes.specs.list_io_Calls.{HasRows, AreLost as IsListLost}
+use Rattle.shape_changes.specs.list_io_Buffers.{buffered, AreDistinct, AreStanding}
+use Rattle.shape_changes.specs.list_io_Full.{full_sector}
+use Rattle.shape_changes.specs.list_io_Writing.{IsWritten, AreDataFrom, HasFull}
 use Rattle.views.specs.Placed.{IsPlaced, AreLost, IsInForce}
-use Rattle.list_io.specs.declared.outcome.Unavailable.{Unavailable}
+use Rattle.shape_changes.specs.list_io_the_Unavailable.{Unavailable}
 use Rattle.views.proofs.HeldRows.{held-moved}
 use Rattle.views.proofs.MemberLaws.{are_lost}
 use Rattle.bank.proofs.Marks.{each_mark-along}

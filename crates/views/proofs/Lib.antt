@@ -39,21 +39,47 @@ pub use Rattle.shape_changes.proofs.Stretch as shape_changes_Stretch
 pub use Rattle.shape_changes.proofs.CalledLaws as shape_changes_CalledLaws
 pub use Rattle.shape_changes.proofs.ChangeSafe as shape_changes_ChangeSafe
 pub use Rattle.shape_changes.proofs.Risen as shape_changes_Risen
-pub use Rattle.shape_views.proofs.Stands as shape_views_Stands
-pub use Rattle.shape_views.proofs.Alike as shape_views_Alike
+pub use Rattle.shape_changes.proofs.shape_views_Stands
+pub use Rattle.shape_changes.proofs.shape_views_Alike
 pub use Rattle.shape_changes.proofs.Steady as shape_changes_Steady
-pub use Rattle.shape_views.proofs.Judged as shape_views_Judged
+pub use Rattle.shape_changes.proofs.shape_views_Judged
 pub use Rattle.shape_changes.proofs.Drawn as shape_changes_Drawn
 pub use Rattle.shape_changes.proofs.Since as shape_changes_Since
 pub use Rattle.shape_changes.proofs.Spent as shape_changes_Spent
-pub use Rattle.shape_views.proofs.WindowLaws as shape_views_WindowLaws
+pub use Rattle.shape_changes.proofs.shape_views_WindowLaws
 pub use Rattle.shape_changes.proofs.FitKinds as shape_changes_FitKinds
 pub use Rattle.shape_changes.proofs.HeldKept as shape_changes_HeldKept
-pub use Rattle.shape_views.proofs.BackupLaws as shape_views_BackupLaws
-pub use Rattle.shape_views.proofs.UnderWay as shape_views_UnderWay
-pub use Rattle.shape_views.proofs.Headers as shape_views_Headers
-pub use Rattle.shape_views.proofs.Tails as shape_views_Tails
+pub use Rattle.shape_changes.proofs.shape_views_BackupLaws
+pub use Rattle.shape_changes.proofs.shape_views_UnderWay
+pub use Rattle.shape_changes.proofs.shape_views_Headers
+pub use Rattle.shape_changes.proofs.shape_views_Tails
 pub use Rattle.shape_changes.proofs.PlansLose as shape_changes_PlansLose
 pub use Rattle.shape_changes.proofs.Started as shape_changes_Started
-pub use Rattle.shape_views.proofs.SoundViews as shape_views_SoundViews
-pub use Rattle.shape_views.proofs.Standing as shape_views_Standing
+pub use Rattle.shape_changes.proofs.shape_views_SoundViews
+pub use Rattle.shape_changes.proofs.shape_views_Standing
+pub use Rattle.shape_changes.proofs.superblock_reads_SaidSlots
+pub use Rattle.shape_changes.proofs.superblock_reads_PlanFits
+pub use Rattle.shape_changes.proofs.superblock_reads_SaidLists
+pub use Rattle.shape_changes.proofs.superblock_laws_AddedReads
+pub use Rattle.shape_changes.proofs.superblock_laws_AddedRounds
+pub use Rattle.shape_changes.proofs.superblock_laws_AddingStarts
+pub use Rattle.shape_changes.proofs.superblock_reads_StageReads
+pub use Rattle.shape_changes.proofs.superblock_reads_RoundsRead
+pub use Rattle.shape_changes.proofs.superblock_reads_Following
+pub use Rattle.shape_changes.proofs.superblock_reads_RoundReads
+pub use Rattle.shape_changes.proofs.superblock_reads_UpTo
+pub use Rattle.shape_changes.proofs.superblock_reads_Tied
+pub use Rattle.shape_changes.proofs.list_io_FullLaws
+pub use Rattle.shape_changes.proofs.row_io_Losses
+pub use Rattle.shape_changes.proofs.row_io_Apart
+pub use Rattle.shape_changes.proofs.superblock_reads_Accepted
+pub use Rattle.shape_changes.proofs.superblock_reads_FoundHeld
+pub use Rattle.shape_changes.proofs.flat_history_GivenLaws
+pub use Rattle.shape_changes.proofs.flat_history_SameLaws
+pub use Rattle.shape_changes.proofs.flat_history_SettledLaws
+pub use Rattle.shape_changes.proofs.superblock_laws_Laws
+pub use Rattle.shape_changes.proofs.flat_history_SoundLaws
+pub use Rattle.shape_changes.proofs.flat_history_LegalLaws
+pub use Rattle.shape_changes.proofs.flat_history_OneShapeGone
+pub use Rattle.shape_changes.proofs.flat_history_OneShapeLegal
+pub use Rattle.shape_changes.proofs.flat_history_GoneCounts

@@ -8,16 +8,16 @@ use Rattle.md_base.specs.declared.status.Role.{Role}
 use Rattle.md_base.specs.declared.status.Role.TheVariants.{Whole, Recovering, Missing}
 use Rattle.bank.specs.Given.{Given}
 use Rattle.layout.proofs.Limits.{limited}
-use Rattle.superblocks.specs.declared.members.Members.{Members}
-use Rattle.superblocks.specs.Reading.{Scope, is_whole, shape_of, role_state, holder}
-use Rattle.row_io.specs.Rows.{reading_of, is_missing}
+use Rattle.shape_changes.specs.superblocks_the_Members.{Members}
+use Rattle.shape_changes.specs.superblocks_Reading.{Scope, is_whole, shape_of, role_state, holder}
+use Rattle.shape_changes.specs.row_io_Rows.{reading_of, is_missing}
 use Rattle.views.specs.Placed.{IsPlaced}
 use Rattle.shape_changes.specs.Steady.{AreUnlost, IsSteady, IsSafeNow}
 use Rattle.views.specs.Lacking.{DoesWithout}
 use Rattle.shape_changes.specs.Safety.{HasLiveSlot}
-use Rattle.shape_views.specs.Views.{Ledger}
+use Rattle.shape_changes.specs.shape_views_Views.{Ledger}
 use Rattle.shape_changes.proofs.Spent.{live-holder}
-use Rattle.shape_views.specs.Regions.{DoWithout}
+use Rattle.shape_changes.specs.shape_views_Regions.{DoWithout}
 
 -- a test that fails somewhere, or passes everywhere
 fails-or-all : (n : ℕ) (test : ℕ → Bool) → ((k : ℕ) × (test k ≡ false)) ⊎ (count_below n test ≡ n)

@@ -5,17 +5,17 @@ use Rattle.std.proofs.lemmas.Bool.Decides.{nat_tests}
 use Rattle.md_base.specs.Shapes.{has_slot}
 use Rattle.md_base.specs.declared.places.Shape.{Shape}
 use Rattle.md_base.specs.declared.status.Role.{Role}
-use Rattle.superblocks.specs.declared.change.Give.{Give}
-use Rattle.superblocks.specs.declared.change.Give.TheVariants.{Same}
-use Rattle.superblocks.specs.declared.members.Members.{Members}
-use Rattle.superblocks.specs.Reading.{is_reshaping, shape_of, role_count}
-use Rattle.superblocks.specs.Update.{give_of, is_held_by, is_planned_spare}
-use Rattle.superblocks.specs.Updating.{IsSomeLeft}
-use Rattle.superblocks.specs.Outcome.{live_set, planned_spares}
-use Rattle.superblocks.specs.Reads.{has_spare}
-use Rattle.superblocks.proofs.ReadLists.{by_bool}
-use Rattle.superblock_reads.proofs.SaidSlots.{has-slots_below}
-use Rattle.superblocks.proofs.UpdateReads.{some-or-all}
+use Rattle.shape_changes.specs.superblocks_the_Give.{Give}
+use Rattle.shape_changes.specs.superblocks_the_Give_TheVariants.{Same}
+use Rattle.shape_changes.specs.superblocks_the_Members.{Members}
+use Rattle.shape_changes.specs.superblocks_Reading.{is_reshaping, shape_of, role_count}
+use Rattle.shape_changes.specs.superblocks_Update.{give_of, is_held_by, is_planned_spare}
+use Rattle.shape_changes.specs.superblocks_Updating.{IsSomeLeft}
+use Rattle.shape_changes.specs.superblocks_Outcome.{live_set, planned_spares}
+use Rattle.shape_changes.specs.superblocks_Reads.{has_spare}
+use Rattle.shape_changes.proofs.superblocks_ReadLists.{by_bool}
+use Rattle.shape_changes.proofs.superblock_reads_SaidSlots.{has-slots_below}
+use Rattle.shape_changes.proofs.superblocks_UpdateReads.{some-or-all}
 use Rattle.views.specs.Placed.{AreLess}
 use Rattle.shape_changes.specs.Marking.{marking}
 use Rattle.shape_changes.specs.Safety.{HasLiveSlot}

@@ -9,15 +9,15 @@ use Rattle.md_base.proofs.Least.{least_below-none, least_below-only}
 use Rattle.md_base.proofs.Tabulated.{length-tabulate, get_or-tabulate}
 use Rattle.md_base.specs.declared.status.Role.{Role}
 use Rattle.md_base.specs.declared.status.Role.TheVariants.{Whole, Recovering, Missing}
-use Rattle.superblocks.specs.declared.change.Give.{Give}
-use Rattle.superblocks.specs.declared.change.Give.TheVariants.{Same}
-use Rattle.superblocks.specs.Reading.{holder}
+use Rattle.shape_changes.specs.superblocks_the_Give.{Give}
+use Rattle.shape_changes.specs.superblocks_the_Give_TheVariants.{Same}
+use Rattle.shape_changes.specs.superblocks_Reading.{holder}
 use Rattle.shape_changes.proofs.Kept.{give_of-same}
-use Rattle.superblocks.specs.Update.{is_held_by, role_from, give_of, planned_role}
-use Rattle.superblocks.specs.declared.change.Change.{Change}
-use Rattle.superblocks.specs.declared.members.Members.{Members}
-use Rattle.superblocks.specs.Outcome.{slots_below, is_same, is_planned_holder, held_state, planned_state, planned_spares}
-use Rattle.row_io.specs.Rows.{role_without}
+use Rattle.shape_changes.specs.superblocks_Update.{is_held_by, role_from, give_of, planned_role}
+use Rattle.shape_changes.specs.superblocks_the_Change.{Change}
+use Rattle.shape_changes.specs.superblocks_the_Members.{Members}
+use Rattle.shape_changes.specs.superblocks_Outcome.{slots_below, is_same, is_planned_holder, held_state, planned_state, planned_spares}
+use Rattle.shape_changes.specs.row_io_Rows.{role_without}
 
 -- no slot holds two roles
 abbrev pub Apart : List Role → Type 0

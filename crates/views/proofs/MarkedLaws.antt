@@ -8,9 +8,9 @@ use Rattle.bank.specs.Given.{Given}
 use Rattle.bank.specs.Tape.{Contents, Kept, EachMark, disk, value_after}
 use Rattle.bank.specs.declared.bank.Operation.{Operation}
 use Rattle.bank.proofs.Laws.{choices-present}
-use Rattle.superblocks.specs.declared.members.Members.{Members}
-use Rattle.superblocks.specs.Updating.{AreLosses, IsUpdate}
-use Rattle.row_io.specs.Rows.{present}
+use Rattle.shape_changes.specs.superblocks_the_Members.{Members}
+use Rattle.shape_changes.specs.superblocks_Updating.{AreLosses, IsUpdate}
+use Rattle.shape_changes.specs.row_io_Rows.{present}
 use Rattle.shape_changes.specs.Steady.{AreUnlost}
 use Rattle.views.specs.Placed.{AreLess}
 use Rattle.shape_changes.specs.Marking.{AreOthersPresent}

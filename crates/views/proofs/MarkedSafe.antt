@@ -5,20 +5,20 @@ use Rattle.md_base.specs.Sectors.{Sector}
 use Rattle.bank.specs.declared.bank.Operation.{Operation}
 use Rattle.bank.specs.Given.{Given}
 use Rattle.bank.specs.Tape.{EachMark, disk}
-use Rattle.superblocks.specs.declared.members.Members.{Members}
-use Rattle.superblocks.specs.Reading.{Scope, is_clean}
-use Rattle.row_io.specs.Rows.{reading_of, present, members_without}
+use Rattle.shape_changes.specs.superblocks_the_Members.{Members}
+use Rattle.shape_changes.specs.superblocks_Reading.{Scope, is_clean}
+use Rattle.shape_changes.specs.row_io_Rows.{reading_of, present, members_without}
 use Rattle.views.specs.Placed.{IsPlaced}
 use Rattle.shape_changes.specs.Steady.{AreUnlost, IsSteady, IsSafeNow, IsSafeStretch, AreGoneTold, IsUncleanTold, AreWritesAllowed}
 use Rattle.views.specs.Lacking.{AreHoldersFlushed}
 use Rattle.views.specs.Under.{RowsStandUnder}
 use Rattle.views.specs.Flushing.{OnlyFlushesAdded}
-use Rattle.shape_views.specs.Views.{Ledger, IsSettled}
+use Rattle.shape_changes.specs.shape_views_Views.{Ledger, IsSettled}
 use Rattle.shape_changes.specs.Kinds.{IsMarkable}
 use Rattle.views.proofs.Still.{told-same, flushed-is-settled}
 use Rattle.views.proofs.LiveLeft.{without-left, left-steady}
 use Rattle.shape_changes.proofs.Steady.{safe-is-seen, losing-stays-safe, flushes-stay-safe}
-use Rattle.shape_views.specs.Regions.{DoWithout}
+use Rattle.shape_changes.specs.shape_views_Regions.{DoWithout}
 use Rattle.shape_changes.proofs.Kept.{without-less}
 use Rattle.shape_changes.proofs.LessViews.{less-settled, does-without}
 

@@ -16,14 +16,14 @@ use Rattle.md_base.specs.Shapes.{has_slot, data_disks}
 use Rattle.bank.specs.Given.{Given, NeverFalls}
 use Rattle.layout.proofs.Limits.{limited}
 use Rattle.parity.proofs.Columns.{bool_cases}
-use Rattle.superblocks.specs.declared.members.Members.{Members}
-use Rattle.superblocks.specs.Reading.{role_state, holder, shape_of, is_whole, role_count}
-use Rattle.superblocks.specs.Update.{is_held_by}
-use Rattle.superblocks.proofs.SlotSets.{same_set, none_there}
-use Rattle.row_io.specs.Rows.{reading_of, is_missing, missing_count, role_without, members_without, HaveFailed}
-use Rattle.row_io.proofs.Losses.{state_after, state_kept, holder-after}
-use Rattle.row_io.proofs.Written.{members_without-none}
-use Rattle.row_io.proofs.Tables.{count_below-above, length-mapped}
+use Rattle.shape_changes.specs.superblocks_the_Members.{Members}
+use Rattle.shape_changes.specs.superblocks_Reading.{role_state, holder, shape_of, is_whole, role_count}
+use Rattle.shape_changes.specs.superblocks_Update.{is_held_by}
+use Rattle.shape_changes.proofs.superblocks_SlotSets.{same_set, none_there}
+use Rattle.shape_changes.specs.row_io_Rows.{reading_of, is_missing, missing_count, role_without, members_without, HaveFailed}
+use Rattle.shape_changes.proofs.row_io_Losses.{state_after, state_kept, holder-after}
+use Rattle.shape_changes.proofs.row_io_Written.{members_without-none}
+use Rattle.shape_changes.proofs.row_io_Tables.{count_below-above, length-mapped}
 use Rattle.views.specs.Whole.{AreFit, placed, list_size}
 use Rattle.views.specs.Placed.{places_of, AreWhole, IsPlaced, AreLess, AreLost, IsInForce}
 use Rattle.shape_changes.specs.Steady.{AreUnlost}

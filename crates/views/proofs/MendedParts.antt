@@ -12,14 +12,14 @@ use Rattle.bank.specs.Given.{Given}
 use Rattle.bank.specs.declared.bank.Operation.{Operation}
 use Rattle.layout.proofs.Limits.{limited}
 use Rattle.layout.proofs.Places.{data_some}
-use Rattle.superblocks.specs.declared.members.Members.{Members}
-use Rattle.superblocks.specs.Reading.{shape_of, role_state, holder}
-use Rattle.row_io.specs.Rows.{reading_of, present}
-use Rattle.list_io.specs.Buffers.{IsTouched}
-use Rattle.list_io.specs.Full.{AreWholeIn, RowStands}
-use Rattle.list_io.specs.Writing.{IsWritten, HasFull}
-use Rattle.flat_history.specs.World.{World}
-use Rattle.flat_history.specs.Sound.{OpensFit}
+use Rattle.shape_changes.specs.superblocks_the_Members.{Members}
+use Rattle.shape_changes.specs.superblocks_Reading.{shape_of, role_state, holder}
+use Rattle.shape_changes.specs.row_io_Rows.{reading_of, present}
+use Rattle.shape_changes.specs.list_io_Buffers.{IsTouched}
+use Rattle.shape_changes.specs.list_io_Full.{AreWholeIn, RowStands}
+use Rattle.shape_changes.specs.list_io_Writing.{IsWritten, HasFull}
+use Rattle.shape_changes.specs.flat_history_World.{World}
+use Rattle.shape_changes.specs.flat_history_Sound.{OpensFit}
 use Rattle.views.specs.Whole.{list_size}
 use Rattle.views.specs.Placed.{places_of, IsPlaced, IsInForce}
 use Rattle.shape_changes.specs.Marking.{AreOthersPresent}
@@ -27,7 +27,7 @@ use Rattle.views.specs.Moving.{Grows, IsMoved}
 use Rattle.shape_changes.specs.Safety.{HasRoomLeft, IsRisen}
 use Rattle.views.specs.Status.{stripes_of}
 use Rattle.views.specs.Lacking.{AreBytes, AreTooMany, DoesWithout, ListStands, DataStandsAmong, LacksTooMany, AreOtherRowsKept}
-use Rattle.shape_views.specs.Views.{Ledger}
+use Rattle.shape_changes.specs.shape_views_Views.{Ledger}
 use Rattle.shape_changes.specs.Steady.{IsSafeOver, KeepsSafe, AreGoneTold}
 use Rattle.views.proofs.LackingLists.{list-moved, row-moved, data-among-moved}
 use Rattle.views.proofs.LackingWrites.{recovering-before, full-later, others-then, others-same}

@@ -10,16 +10,16 @@ use Rattle.md_base.specs.declared.status.Role.TheVariants.{Whole, Recovering, Mi
 use Rattle.bank.specs.Given.{Given}
 use Rattle.sb1.specs.Superblock.{checksum}
 use Rattle.sb1.specs.declared.sb.Sb.{Sb}
-use Rattle.superblocks.specs.declared.change.Give.TheVariants.{Same}
-use Rattle.superblocks.specs.declared.members.Members.{Members}
-use Rattle.superblocks.specs.Reading.{count_of, is_reshaping, shape_of, role_count, role_state, holder, data_offset_of, final_shape, is_backward, target_of}
-use Rattle.superblocks.specs.Reads.{SaysSame}
-use Rattle.superblocks.specs.Update.{own_in, planned}
-use Rattle.superblocks.specs.Updating.{IsLater, planned_newest}
-use Rattle.superblocks.specs.Outcome.{AreLive, AreStored, IsPlannedOwn, planned_roles}
-use Rattle.superblocks.proofs.SlotSets.{none_there}
-use Rattle.superblocks.proofs.PlannedSb.{planned-of}
-use Rattle.row_io.specs.Rows.{reading_of, role_without, IsHolder}
+use Rattle.shape_changes.specs.superblocks_the_Give_TheVariants.{Same}
+use Rattle.shape_changes.specs.superblocks_the_Members.{Members}
+use Rattle.shape_changes.specs.superblocks_Reading.{count_of, is_reshaping, shape_of, role_count, role_state, holder, data_offset_of, final_shape, is_backward, target_of}
+use Rattle.shape_changes.specs.superblocks_Reads.{SaysSame}
+use Rattle.shape_changes.specs.superblocks_Update.{own_in, planned}
+use Rattle.shape_changes.specs.superblocks_Updating.{IsLater, planned_newest}
+use Rattle.shape_changes.specs.superblocks_Outcome.{AreLive, AreStored, IsPlannedOwn, planned_roles}
+use Rattle.shape_changes.proofs.superblocks_SlotSets.{none_there}
+use Rattle.shape_changes.proofs.superblocks_PlannedSb.{planned-of}
+use Rattle.shape_changes.specs.row_io_Rows.{reading_of, role_without, IsHolder}
 use Rattle.shape_changes.proofs.Without.{state-without}
 use Rattle.views.specs.Placed.{places_of, IsPlaced, AreLess}
 use Rattle.shape_changes.specs.Steady.{AreUnlost}
@@ -28,8 +28,8 @@ use Rattle.views.proofs.MarkLaws.{roles-kept}
 use Rattle.shape_changes.proofs.Kept.{give_of-same}
 use Rattle.views.proofs.HeldRows.{rows-same}
 use Rattle.views.proofs.Fit.{fit-alike, count-alike}
-use Rattle.superblocks.specs.Verdict.{AreValidShapes}
-use Rattle.superblocks.proofs.ValidFields.{few-roles}
+use Rattle.shape_changes.specs.superblocks_Verdict.{AreValidShapes}
+use Rattle.shape_changes.proofs.superblocks_ValidFields.{few-roles}
 
 -- ---- a role whose slot may be lost
 

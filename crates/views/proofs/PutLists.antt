@@ -7,14 +7,14 @@ use Rattle.md_base.specs.declared.status.Role.TheVariants.{Recovering}
 use Rattle.bank.specs.Given.{Given}
 use Rattle.bank.specs.Tape.{Contents}
 use Rattle.layout.specs.Layout.{place}
-use Rattle.superblocks.specs.declared.members.Members.{Members}
-use Rattle.superblocks.specs.Reading.{shape_of, role_state, holder, data_offset_of}
-use Rattle.row_io.specs.Rows.{reading_of, held_slot}
-use Rattle.row_io.proofs.Losses.{holder-of}
-use Rattle.list_io.specs.Full.{full_sector, DataStands, RowStands}
-use Rattle.list_io.specs.Buffers.{IsTouched}
-use Rattle.list_io.specs.Writing.{IsWritten, HasFull}
-use Rattle.list_io.proofs.FullLaws.{full-same}
+use Rattle.shape_changes.specs.superblocks_the_Members.{Members}
+use Rattle.shape_changes.specs.superblocks_Reading.{shape_of, role_state, holder, data_offset_of}
+use Rattle.shape_changes.specs.row_io_Rows.{reading_of, held_slot}
+use Rattle.shape_changes.proofs.row_io_Losses.{holder-of}
+use Rattle.shape_changes.specs.list_io_Full.{full_sector, DataStands, RowStands}
+use Rattle.shape_changes.specs.list_io_Buffers.{IsTouched}
+use Rattle.shape_changes.specs.list_io_Writing.{IsWritten, HasFull}
+use Rattle.shape_changes.proofs.list_io_FullLaws.{full-same}
 use Rattle.parity.specs.Rows.{IsSector}
 use Rattle.views.specs.Placed.{IsPlaced}
 use Rattle.views.specs.Moving.{IsMoved}

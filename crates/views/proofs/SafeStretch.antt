@@ -8,21 +8,21 @@ use Rattle.bank.specs.Given.{Given}
 use Rattle.bank.specs.Tape.{EachMark, disk}
 use Rattle.bank.proofs.Marks.{each_mark-then}
 use Rattle.sb1.specs.declared.sb.Sb.{Sb}
-use Rattle.superblocks.specs.declared.members.Members.{Members}
-use Rattle.superblocks.specs.Reading.{Scope, is_clean, shape_of, list_length}
-use Rattle.row_io.specs.Rows.{members_without}
-use Rattle.flat_history.specs.World.{World}
+use Rattle.shape_changes.specs.superblocks_the_Members.{Members}
+use Rattle.shape_changes.specs.superblocks_Reading.{Scope, is_clean, shape_of, list_length}
+use Rattle.shape_changes.specs.row_io_Rows.{members_without}
+use Rattle.shape_changes.specs.flat_history_World.{World}
 use Rattle.views.specs.Placed.{IsPlaced, HaveSameReshape}
 use Rattle.shape_changes.specs.Steady.{AreUnlost, IsSafeNow, IsSafeStretch, IsSafeOver, KeepsSafe, AreGoneTold, AreWritesAllowed}
 use Rattle.views.proofs.HeldRows.{missing-moved}
 use Rattle.views.specs.Moving.{Grows, IsMoved}
 use Rattle.views.specs.Lacking.{IsListPut}
-use Rattle.shape_views.specs.Views.{Ledger, IsTailZero}
+use Rattle.shape_changes.specs.shape_views_Views.{Ledger, IsTailZero}
 use Rattle.shape_changes.proofs.Steady.{safe-is-seen, losing-stays-safe}
 use Rattle.shape_changes.proofs.WriteSafe.{writes-stay-safe}
 use Rattle.views.proofs.LackingWrites.{marks-here}
 use Rattle.layout.specs.Layout.{place, stripe_of}
-use Rattle.shape_views.specs.Windows.{IsOfRegion}
+use Rattle.shape_changes.specs.shape_views_Windows.{IsOfRegion}
 use Rattle.views.proofs.Fit.{count-alike, list-alike, for-alike}
 use Rattle.views.proofs.Still.{told-same}
 

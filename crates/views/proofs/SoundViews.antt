@@ -5,16 +5,16 @@ use Rattle.md_base.specs.Sectors.{Sector}
 use Rattle.bank.specs.declared.bank.Operation.{Operation}
 use Rattle.bank.specs.Given.{Given}
 use Rattle.bank.specs.Tape.{Contents, EachMark, IsDrawn, IsIn, disk}
-use Rattle.superblocks.specs.declared.members.Members.{Members}
-use Rattle.superblocks.specs.Reading.{Scope, Reading, reading}
-use Rattle.flat_history.specs.Growing.{grown}
-use Rattle.flat_history.specs.Opened.{IsSound}
-use Rattle.flat_history.specs.Sound.{OpensFit, LeavesSound, LeavesSoundThroughout}
-use Rattle.flat_history.specs.Stands.{verdict}
-use Rattle.flat_history.specs.World.{World, may_hold}
-use Rattle.flat_history.proofs.SoundLaws.{fit-before, leaves-drawn, throughout-grown}
-use Rattle.shape_views.specs.Views.{Disk, Ledger, IsSeenRight}
-use Rattle.shape_views.proofs.SoundViews.{right-views-sound}
+use Rattle.shape_changes.specs.superblocks_the_Members.{Members}
+use Rattle.shape_changes.specs.superblocks_Reading.{Scope, Reading, reading}
+use Rattle.shape_changes.specs.flat_history_Growing.{grown}
+use Rattle.shape_changes.specs.flat_history_Opened.{IsSound}
+use Rattle.shape_changes.specs.flat_history_Sound.{OpensFit, LeavesSound, LeavesSoundThroughout}
+use Rattle.shape_changes.specs.flat_history_Stands.{verdict}
+use Rattle.shape_changes.specs.flat_history_World.{World, may_hold}
+use Rattle.shape_changes.proofs.flat_history_SoundLaws.{fit-before, leaves-drawn, throughout-grown}
+use Rattle.shape_changes.specs.shape_views_Views.{Disk, Ledger, IsSeenRight}
+use Rattle.shape_changes.proofs.shape_views_SoundViews.{right-views-sound}
 use Rattle.shape_changes.specs.Steady.{IsSafeOver}
 use Rattle.shape_changes.specs.Changing.{AreEitherRight}
 use Rattle.shape_changes.proofs.Steady.{safe-is-seen}

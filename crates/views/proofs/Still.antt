@@ -14,18 +14,18 @@ use Rattle.sb1.specs.declared.sb.Sb.{Sb}
 use Rattle.layout.specs.Layout.{place}
 use Rattle.layout.proofs.Places.{chunk_some, data_some, place-sector, place-sector_below, place-row_below, sector_at}
 use Rattle.geometry.specs.Geometry.{window}
-use Rattle.superblocks.specs.declared.members.Members.{Members}
-use Rattle.superblocks.specs.Reading.{Scope, is_reshaping, is_backward, shape_of, final_shape, role_count, list_length, next_window, role_state, holder, data_offset_of}
-use Rattle.superblock_reads.proofs.SaidSlots.{role-known}
-use Rattle.row_io.specs.Rows.{reading_of, present, held_slot, is_missing, IsTolerated}
-use Rattle.row_io.proofs.Losses.{holder-of}
-use Rattle.list_io.specs.Full.{RowStands}
-use Rattle.flat_history.specs.Stands.{has_room, backup_absent, covers, reach_of}
-use Rattle.flat_history.specs.ActiveSection.{section_for}
-use Rattle.shape_views.specs.Regions.{backup_of, header_in, open_by, place_by, ArePlaced, DoWithout}
-use Rattle.shape_views.specs.Views.{Disk, Ledger, IsTail, IsTailZero, IsOutside, IsSettled}
-use Rattle.shape_views.specs.Windows.{IsOfRegion}
-use Rattle.shape_views.proofs.Stands.{for-still, final-still, list-still}
+use Rattle.shape_changes.specs.superblocks_the_Members.{Members}
+use Rattle.shape_changes.specs.superblocks_Reading.{Scope, is_reshaping, is_backward, shape_of, final_shape, role_count, list_length, next_window, role_state, holder, data_offset_of}
+use Rattle.shape_changes.proofs.superblock_reads_SaidSlots.{role-known}
+use Rattle.shape_changes.specs.row_io_Rows.{reading_of, present, held_slot, is_missing, IsTolerated}
+use Rattle.shape_changes.proofs.row_io_Losses.{holder-of}
+use Rattle.shape_changes.specs.list_io_Full.{RowStands}
+use Rattle.shape_changes.specs.flat_history_Stands.{has_room, backup_absent, covers, reach_of}
+use Rattle.shape_changes.specs.flat_history_ActiveSection.{section_for}
+use Rattle.shape_changes.specs.shape_views_Regions.{backup_of, header_in, open_by, place_by, ArePlaced, DoWithout}
+use Rattle.shape_changes.specs.shape_views_Views.{Disk, Ledger, IsTail, IsTailZero, IsOutside, IsSettled}
+use Rattle.shape_changes.specs.shape_views_Windows.{IsOfRegion}
+use Rattle.shape_changes.proofs.shape_views_Stands.{for-still, final-still, list-still}
 use Rattle.shape_changes.specs.Held.{IsHeldBy}
 use Rattle.shape_changes.specs.Steady.{IsMoreTold, AreGoneTold}
 use Rattle.shape_changes.proofs.Stretch.{seen-own}

@@ -7,7 +7,7 @@ use Rattle.md_base.specs.declared.places.Place.{Place}
 use Rattle.md_base.specs.Shapes.{is_valid_shape, is_multiple, data_disks}
 use Rattle.layout.specs.Layout.{place}
 use Rattle.layout.proofs.Places.{chunk_some, data_some, place-sector, place-row_below, place-sector_below}
-use Rattle.list_io.specs.Buffers.{IsTouched}
+use Rattle.shape_changes.specs.list_io_Buffers.{IsTouched}
 
 -- ---- whole stripes
 

@@ -15,10 +15,10 @@ use Rattle.layout.specs.Layout.{place, row_roles}
 use Rattle.layout.proofs.Places.{place-row_below, place-role_below}
 use Rattle.parity.specs.Parity.{fill}
 use Rattle.backup.specs.Section.{section_sector}
-use Rattle.superblocks.specs.Reading.{Scope, Reading, reading, is_reshaping, shape_of, target_of, final_shape, next_window, list_length, rows_held, holder, data_offset_of}
-use Rattle.flat_history.specs.ActiveSection.{section_for}
-use Rattle.flat_history.specs.Stands.{stands, verdict, refusal_of, held_sector, held_row, placed_sector, shape_for, standing_sector, covers}
-use Rattle.flat_history.proofs.SameLaws.{stands-is}
+use Rattle.shape_changes.specs.superblocks_Reading.{Scope, Reading, reading, is_reshaping, shape_of, target_of, final_shape, next_window, list_length, rows_held, holder, data_offset_of}
+use Rattle.shape_changes.specs.flat_history_ActiveSection.{section_for}
+use Rattle.shape_changes.specs.flat_history_Stands.{stands, verdict, refusal_of, held_sector, held_row, placed_sector, shape_for, standing_sector, covers}
+use Rattle.shape_changes.proofs.flat_history_SameLaws.{stands-is}
 use Rattle.views.specs.Whole.{Places, AreFit, in_row, placed, list_size, IsReadWhole}
 
 module _ (scope : Scope) (p : Places) (fit : AreFit p) (c : Contents) (r : Reading) (whole : IsReadWhole scope p r) where

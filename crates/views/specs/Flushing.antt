@@ -4,7 +4,7 @@ use Rattle.md_base.specs.Shapes.{has_slot}
 use Rattle.bank.specs.declared.bank.Operation.{Operation}
 use Rattle.bank.specs.Given.{Given, IsFaulted}
 use Rattle.bank.specs.Tape.{contents, disk, AreFlushes}
-use Rattle.superblocks.specs.Reading.{Reading, role_state, holder}
+use Rattle.shape_changes.specs.superblocks_Reading.{Reading, role_state, holder}
 
 -- no count falls, and only those of the bank's slots may rise
 pub record OnlyItsSlotsFail (bank : Given) (before after : ℕ → ℕ) : Type 0 where

@@ -9,17 +9,17 @@ use Rattle.layout.specs.Layout.{place}
 use Rattle.bank.specs.declared.bank.Operation.{Operation}
 use Rattle.bank.specs.Given.{Given, IsFaulted}
 use Rattle.bank.specs.Tape.{Contents, disk}
-use Rattle.superblocks.specs.declared.members.Members.{Members}
+use Rattle.shape_changes.specs.superblocks_the_Members.{Members}
 use Rattle.sb1.specs.declared.sb.Sb.{Sb}
-use Rattle.superblocks.specs.Reading.{Reading, shape_of, final_shape, role_count, role_state, holder, data_offset_of, entry_of}
-use Rattle.superblocks.specs.Reads.{has_spare}
-use Rattle.row_io.specs.Rows.{reading_of, present, is_missing, missing_count, IsTolerated}
+use Rattle.shape_changes.specs.superblocks_Reading.{Reading, shape_of, final_shape, role_count, role_state, holder, data_offset_of, entry_of}
+use Rattle.shape_changes.specs.superblocks_Reads.{has_spare}
+use Rattle.shape_changes.specs.row_io_Rows.{reading_of, present, is_missing, missing_count, IsTolerated}
 use Rattle.views.specs.Placed.{is_vacant}
-use Rattle.list_io.specs.declared.outcome.Unavailable.{Unavailable}
-use Rattle.list_io.specs.declared.outcome.Unavailable.TheVariants.{TooManyMissing, NotResynced}
-use Rattle.list_io.specs.Full.{DataStands, RowStands}
-use Rattle.list_io.specs.Buffers.{buffered, AreStanding, HasData}
-use Rattle.list_io.specs.Writing.{IsWritten, AreDataFrom, IsFull, StaysRebuilt, IsPutting, AreSuperblocksKept}
+use Rattle.shape_changes.specs.list_io_the_Unavailable.{Unavailable}
+use Rattle.shape_changes.specs.list_io_the_Unavailable_TheVariants.{TooManyMissing, NotResynced}
+use Rattle.shape_changes.specs.list_io_Full.{DataStands, RowStands}
+use Rattle.shape_changes.specs.list_io_Buffers.{buffered, AreStanding, HasData}
+use Rattle.shape_changes.specs.list_io_Writing.{IsWritten, AreDataFrom, IsFull, StaysRebuilt, IsPutting, AreSuperblocksKept}
 
 -- ---- why a call is refused
 

@@ -3,10 +3,10 @@ use Rattle.std.specs.Prelude.{◌≡◌, ℕ, ◌≤◌, true, List, ◌++◌, l
 use Rattle.md_base.specs.Shapes.{has_slot}
 use Rattle.bank.specs.declared.bank.Operation.{Operation}
 use Rattle.bank.specs.Given.{Given, IsFaulted}
-use Rattle.superblocks.specs.declared.members.Members.{Members}
-use Rattle.superblocks.specs.Reading.{shape_of, role_state, rows_held, holder, data_offset_of}
-use Rattle.superblocks.specs.Reads.{has_spare}
-use Rattle.row_io.specs.Rows.{reading_of}
+use Rattle.shape_changes.specs.superblocks_the_Members.{Members}
+use Rattle.shape_changes.specs.superblocks_Reading.{shape_of, role_state, rows_held, holder, data_offset_of}
+use Rattle.shape_changes.specs.superblocks_Reads.{has_spare}
+use Rattle.shape_changes.specs.row_io_Rows.{reading_of}
 use Rattle.views.specs.Rebuilding.{AreSparesFree}
 use Rattle.views.specs.Placed.{places_of, AreWhole, IsPlaced, AreStillHeld, HaveSameReshape, AreLess}
 use Rattle.shape_changes.specs.Steady.{AreUnlost}

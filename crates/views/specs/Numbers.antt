@@ -9,7 +9,7 @@ use Rattle.md_base.specs.Search.{least_below}
 use Rattle.sb1.specs.declared.sb.Sb.{Sb}
 use Rattle.sb1.specs.Superblock.{two_by_two}
 use Rattle.bank.specs.Given.{Given, sizes}
-use Rattle.superblocks.specs.Reading.{Scope, is_seen, entry_of}
+use Rattle.shape_changes.specs.superblocks_Reading.{Scope, is_seen, entry_of}
 use Rattle.views.specs.declared.work.Work.{Work}
 
 -- a superblock of the array bears the number; one from 128 on counts as such

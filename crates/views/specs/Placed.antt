@@ -5,12 +5,12 @@ use Rattle.md_base.specs.declared.status.Role.{Role}
 use Rattle.md_base.specs.Shapes.{has_slot}
 use Rattle.sb1.specs.declared.sb.Sb.{Sb}
 use Rattle.bank.specs.Given.{Given, NeverFalls}
-use Rattle.superblocks.specs.declared.members.Members.{Members}
-use Rattle.superblocks.specs.Reading.{Reading, is_reshaping, is_backward, shape_of, final_shape, role_count, role_state, rows_held, holder, data_offset_of}
-use Rattle.superblocks.specs.Outcome.{AreLive}
-use Rattle.row_io.specs.Rows.{reading_of, is_missing, missing_count, role_without, members_without, IsHolder, HaveFailed}
-use Rattle.row_io.specs.Writes.{AreApart}
-use Rattle.shape_views.specs.Regions.{AreShapesFit}
+use Rattle.shape_changes.specs.superblocks_the_Members.{Members}
+use Rattle.shape_changes.specs.superblocks_Reading.{Reading, is_reshaping, is_backward, shape_of, final_shape, role_count, role_state, rows_held, holder, data_offset_of}
+use Rattle.shape_changes.specs.superblocks_Outcome.{AreLive}
+use Rattle.shape_changes.specs.row_io_Rows.{reading_of, is_missing, missing_count, role_without, members_without, IsHolder, HaveFailed}
+use Rattle.shape_changes.specs.row_io_Writes.{AreApart}
+use Rattle.shape_changes.specs.shape_views_Regions.{AreShapesFit}
 use Rattle.views.specs.Whole.{Places}
 
 -- each role has the slot that holds it, and its rows begin at that slot's data offset

@@ -8,17 +8,17 @@ use Rattle.md_base.specs.declared.status.Role.TheVariants.{Whole, Recovering}
 use Rattle.sb1.specs.declared.sb.Sb.{Sb}
 use Rattle.bank.specs.Given.{Given}
 use Rattle.bank.specs.Tape.{Contents}
-use Rattle.superblocks.specs.declared.members.Members.{Members}
-use Rattle.superblocks.specs.Reading.{shape_of, role_state, rows_held, holder, data_offset_of}
-use Rattle.superblocks.specs.Reads.{has_spare}
-use Rattle.superblocks.specs.Update.{own_in, with_recovery}
-use Rattle.superblocks.specs.Outcome.{with_added, slots_below}
-use Rattle.row_io.specs.Rows.{reading_of, IsHolder}
-use Rattle.list_io.specs.Full.{full_sector}
-use Rattle.list_io.specs.Writing.{HasFull}
-use Rattle.flat_history.specs.declared.events.Entry.{Entry}
-use Rattle.flat_history.specs.declared.events.Event.{Event}
-use Rattle.flat_history.specs.declared.events.Event.TheVariants.{Rebuilt}
+use Rattle.shape_changes.specs.superblocks_the_Members.{Members}
+use Rattle.shape_changes.specs.superblocks_Reading.{shape_of, role_state, rows_held, holder, data_offset_of}
+use Rattle.shape_changes.specs.superblocks_Reads.{has_spare}
+use Rattle.shape_changes.specs.superblocks_Update.{own_in, with_recovery}
+use Rattle.shape_changes.specs.superblocks_Outcome.{with_added, slots_below}
+use Rattle.shape_changes.specs.row_io_Rows.{reading_of, IsHolder}
+use Rattle.shape_changes.specs.list_io_Full.{full_sector}
+use Rattle.shape_changes.specs.list_io_Writing.{HasFull}
+use Rattle.shape_changes.specs.flat_history_the_Entry.{Entry}
+use Rattle.shape_changes.specs.flat_history_the_Event.{Event}
+use Rattle.shape_changes.specs.flat_history_the_Event_TheVariants.{Rebuilt}
 use Rattle.views.specs.declared.work.Work.{Work}
 use Rattle.views.specs.Status.{rebuilt_of}
 

@@ -2,9 +2,9 @@
 use Rattle.std.specs.Prelude.{ℕ, not, ◌&&◌, Option}
 use Rattle.md_base.specs.Search.{least_below}
 use Rattle.layout.specs.Layout.{is_parity_only}
-use Rattle.superblocks.specs.declared.members.Members.{Members}
+use Rattle.shape_changes.specs.superblocks_the_Members.{Members}
 use Rattle.md_base.specs.declared.places.Shape.{Shape}
-use Rattle.row_io.specs.Rows.{reading_of, is_missing}
+use Rattle.shape_changes.specs.row_io_Rows.{reading_of, is_missing}
 
 -- the lowest missing role that holds data in this shape
 abbrev pub lowest_missing : Shape → Members → Option ℕ

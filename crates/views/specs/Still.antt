@@ -4,15 +4,15 @@ use Rattle.md_base.specs.Sectors.{Sector}
 use Rattle.bank.specs.declared.bank.Operation.{Operation}
 use Rattle.bank.specs.Given.{Given}
 use Rattle.bank.specs.Tape.{IsIn, disk}
-use Rattle.superblocks.specs.declared.members.Members.{Members}
-use Rattle.superblocks.specs.Reading.{Scope, list_length}
-use Rattle.flat_history.specs.Stands.{backup_absent}
-use Rattle.row_io.specs.Rows.{reading_of, present}
-use Rattle.flat_history.specs.World.{World, may_hold}
-use Rattle.flat_history.specs.Growing.{grown}
-use Rattle.flat_history.specs.Sound.{OpensFit, LeavesSound, LeavesSoundThroughout}
-use Rattle.shape_views.specs.Regions.{ArePlaced}
-use Rattle.shape_views.specs.Views.{Disk, Ledger, IsSettled}
+use Rattle.shape_changes.specs.superblocks_the_Members.{Members}
+use Rattle.shape_changes.specs.superblocks_Reading.{Scope, list_length}
+use Rattle.shape_changes.specs.flat_history_Stands.{backup_absent}
+use Rattle.shape_changes.specs.row_io_Rows.{reading_of, present}
+use Rattle.shape_changes.specs.flat_history_World.{World, may_hold}
+use Rattle.shape_changes.specs.flat_history_Growing.{grown}
+use Rattle.shape_changes.specs.flat_history_Sound.{OpensFit, LeavesSound, LeavesSoundThroughout}
+use Rattle.shape_changes.specs.shape_views_Regions.{ArePlaced}
+use Rattle.shape_changes.specs.shape_views_Views.{Disk, Ledger, IsSettled}
 use Rattle.shape_changes.specs.Held.{IsHeldBy}
 use Rattle.shape_changes.specs.Steady.{AreViewsRight, KeepsSafe}
 use Rattle.shape_changes.specs.Changing.{IsSafeChange}

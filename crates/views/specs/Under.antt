@@ -3,12 +3,12 @@ use Rattle.std.specs.Prelude.{◌≡◌, ◌≢◌, ◌⊎◌, ℕ, true, false,
 use Rattle.md_base.specs.Sectors.{Sector}
 use Rattle.md_base.specs.Shapes.{has_slot}
 use Rattle.bank.specs.Tape.{Contents, IsIn}
-use Rattle.superblocks.specs.declared.members.Members.{Members}
-use Rattle.superblocks.specs.Reading.{Scope}
-use Rattle.superblocks.specs.Outcome.{live_set}
-use Rattle.shape_views.specs.Regions.{backup_of, open_by}
-use Rattle.shape_views.specs.Views.{Disk, IsTailZero, AreSectionsAllowed}
-use Rattle.shape_views.specs.Windows.{ListStands, RowsStand}
+use Rattle.shape_changes.specs.superblocks_the_Members.{Members}
+use Rattle.shape_changes.specs.superblocks_Reading.{Scope}
+use Rattle.shape_changes.specs.superblocks_Outcome.{live_set}
+use Rattle.shape_changes.specs.shape_views_Regions.{backup_of, open_by}
+use Rattle.shape_changes.specs.shape_views_Views.{Disk, IsTailZero, AreSectionsAllowed}
+use Rattle.shape_changes.specs.shape_views_Windows.{ListStands, RowsStand}
 use Rattle.shape_changes.specs.Marking.{marking}
 
 -- Each sector that no active section covers stands as the list, and an active section has the list's sectors alone.

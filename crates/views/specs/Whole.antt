@@ -8,9 +8,9 @@ use Rattle.bank.specs.declared.bank.Operation.{Operation}
 use Rattle.bank.specs.declared.bank.Operation.TheVariants.{Write, Flush}
 use Rattle.bank.specs.Tape.{Contents, IsIn}
 use Rattle.layout.specs.Layout.{place}
-use Rattle.superblocks.specs.Reading.{Scope, Reading, reading, is_seen, is_reshaping, shape_of, role_state, data_offset_of}
-use Rattle.flat_history.specs.Stands.{refusal_of}
-use Rattle.flat_history.specs.Same.{IsElsewhere}
+use Rattle.shape_changes.specs.superblocks_Reading.{Scope, Reading, reading, is_seen, is_reshaping, shape_of, role_state, data_offset_of}
+use Rattle.shape_changes.specs.flat_history_Stands.{refusal_of}
+use Rattle.shape_changes.specs.flat_history_Same.{IsElsewhere}
 
 -- The shape, the rows of a member, and for each role its slot and the sector at which its rows begin.
 pub record Places : Type 0 where

@@ -13,9 +13,9 @@ use Rattle.layout.specs.Layout.{place}
 use Rattle.parity.specs.Rows.{sector_of}
 use Rattle.superblocks.specs.declared.members.Members.{Members}
 use Rattle.superblocks.specs.Reading.{data_offset_of}
-use Rattle.row_io.specs.Rows.{reading_of, held_slot}
-use Rattle.list_io.specs.Full.{RowStands}
-use Rattle.flat_history.specs.Stands.{covers, shape_for}
+use Rattle.window_steps.specs.row_io_Rows.{reading_of, held_slot}
+use Rattle.window_steps.specs.list_io_Full.{RowStands}
+use Rattle.window_steps.specs.flat_history_Stands.{covers, shape_for}
 use Rattle.window_steps.specs.shape_views_Regions.{place_by}
 use Rattle.window_steps.specs.shape_views_Windows.{IsShown}
 use Rattle.window_steps.proofs.shape_views_UnderWay.{in-or-out}

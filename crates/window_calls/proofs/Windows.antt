@@ -17,10 +17,10 @@ use Rattle.geometry.specs.Geometry as geometry
 use Rattle.geometry.proofs.Divisions.{next_multiple}
 use Rattle.superblocks.specs.declared.members.Members.{Members}
 use Rattle.superblocks.specs.Reading.{Scope, is_clean, final_shape, next_window, role_state, holder, data_offset_of}
-use Rattle.row_io.specs.Rows.{reading_of, held_slot}
-use Rattle.row_io.proofs.Losses.{holder-of}
-use Rattle.list_io.specs.Full.{RowStands}
-use Rattle.flat_history.specs.Stands.{shape_for, has_room, backup_absent}
+use Rattle.window_steps.specs.row_io_Rows.{reading_of, held_slot}
+use Rattle.window_steps.proofs.row_io_Losses.{holder-of}
+use Rattle.window_steps.specs.list_io_Full.{RowStands}
+use Rattle.window_steps.specs.flat_history_Stands.{shape_for, has_room, backup_absent}
 use Rattle.window_steps.specs.shape_views_Regions.{backup_of, place_by, ArePlaced}
 use Rattle.window_steps.specs.shape_views_Views.{AreHeadersFit, Disk, Ledger}
 use Rattle.window_steps.specs.shape_views_Windows.{IsShown, IsCopyable, ListStands, RowsStand, moved_past}

@@ -6,7 +6,7 @@ use Rattle.md_base.specs.declared.answers.Refusal.{Refusal}
 use Rattle.md_base.specs.declared.answers.Refusal.TheVariants.{NotResynced as Unsynced}
 use Rattle.sb1.specs.declared.sb.Sb.{Sb}
 use Rattle.superblocks.specs.declared.members.Members.{Members}
-use Rattle.flat_history.specs.Stands.{shape_for, covers}
+use Rattle.window_steps.specs.flat_history_Stands.{shape_for, covers}
 use Rattle.window_steps.specs.shape_views_Regions.{place_by}
 use Rattle.window_steps.specs.views_Lacking.{LacksTooMany}
 use Rattle.region_rows.specs.Stretches.{IsUnrelied}

@@ -8,8 +8,8 @@ use Rattle.bank.specs.Tape.{Contents}
 use Rattle.geometry.specs.Geometry.{rows}
 use Rattle.superblocks.specs.declared.members.Members.{Members}
 use Rattle.superblocks.specs.Reading.{Scope, is_clean, final_shape}
-use Rattle.row_io.specs.Rows.{reading_of}
-use Rattle.list_io.specs.Full.{RowStands}
+use Rattle.window_steps.specs.row_io_Rows.{reading_of}
+use Rattle.window_steps.specs.list_io_Full.{RowStands}
 use Rattle.window_steps.specs.shape_views_Regions.{DoWithout}
 use Rattle.window_steps.specs.shape_views_Views.{AreHeadersFit, IsTailZero, Disk, Ledger}
 use Rattle.window_steps.specs.shape_views_Windows.{IsCopyable, ListStands, RowsStand, moved_past}

@@ -11,8 +11,8 @@ use Rattle.bank.specs.Tape.{disk}
 use Rattle.bank.proofs.Causes.{faulted_longer}
 use Rattle.superblocks.specs.declared.members.Members.{Members}
 use Rattle.superblocks.specs.Reading.{Scope, data_offset_of}
-use Rattle.row_io.specs.Rows.{present, reading_of}
-use Rattle.row_io.proofs.Written.{present-same}
+use Rattle.course_kept.specs.row_io_Rows.{present, reading_of}
+use Rattle.course_kept.proofs.row_io_Written.{present-same}
 use Rattle.backup.specs.declared.section.SectionFault.{SectionFault}
 use Rattle.backup.specs.declared.section.SectionFault.TheVariants.{Before, Attempted}
 use Rattle.course_kept.specs.shape_views_Regions.{backup_of, DoWithout}

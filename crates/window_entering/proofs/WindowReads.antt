@@ -15,7 +15,7 @@ use Rattle.parity.specs.Rows.{sector_of}
 use Rattle.geometry.specs.Geometry as geometry
 use Rattle.superblocks.specs.declared.members.Members.{Members}
 use Rattle.superblocks.specs.Reading.{shape_of, list_length, next_window}
-use Rattle.flat_history.specs.Stands.{shape_for}
+use Rattle.course_kept.specs.flat_history_Stands.{shape_for}
 use Rattle.course_kept.specs.shape_views_Regions.{AreShapesFit, DoWithout}
 use Rattle.course_kept.specs.shape_views_Windows.{IsShown, ListStands, RowsStand}
 use Rattle.course_kept.proofs.shape_views_Alike.{row-below}

@@ -9,7 +9,7 @@ ghost use Rattle.superblocks.specs.Reading.{Scope};
 ghost use Rattle.superblocks.specs.declared.members.Members.{Members};
 ghost use Rattle.backup.specs.Written.{cleared_header};
 ghost use Rattle.backup.specs.Storing.{IsHeading};
-ghost use Rattle.flat_history.specs.World.{World};
+ghost use Rattle.course_kept.specs.flat_history_World.{World};
 ghost use Rattle.course_kept.specs.shape_views_Regions.{open_by};
 ghost use Rattle.course_kept.specs.shape_views_Views.{Ledger};
 ghost use Rattle.course_kept.specs.shape_views_Windows.{HasNoSection};

@@ -8,7 +8,7 @@ ghost use Rattle.superblocks.specs.declared.members.Members.{Members};
 ghost use Rattle.backup.specs.declared.section.SectionFault.TheVariants.{Before, Attempted};
 ghost use Rattle.backup.specs.Written.{header_of};
 ghost use Rattle.backup.specs.Storing.{IsStoringOrNaming};
-ghost use Rattle.flat_history.specs.World.{World};
+ghost use Rattle.course_kept.specs.flat_history_World.{World};
 ghost use Rattle.course_kept.specs.shape_views_Regions.{AreShapesFit};
 ghost use Rattle.course_kept.specs.shape_views_Views.{Ledger};
 ghost use Rattle.course_kept.specs.shape_views_Windows.{HasNoSection};

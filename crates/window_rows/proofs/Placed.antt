@@ -12,7 +12,7 @@ use Rattle.superblocks.specs.declared.members.Members.{Members}
 use Rattle.superblocks.specs.Reading.{Scope, shape_of, final_shape}
 use Rattle.row_io.specs.Rows.{reading_of}
 use Rattle.list_io.specs.Calls.{HasRows}
-use Rattle.shape_views.specs.Regions.{ArePlaced}
+use Rattle.shape_changes.specs.shape_views_Regions.{ArePlaced}
 use Rattle.window_rows.specs.Laws.{PlacedHaveRows}
 
 module _ (scope : Scope) (given : Given) (m : Members) (placed : ArePlaced scope given m) where

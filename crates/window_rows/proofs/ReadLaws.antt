@@ -19,11 +19,11 @@ use Rattle.superblocks.specs.Reading.{is_backward, shape_of, final_shape, list_l
 use Rattle.row_io.specs.Rows.{reading_of, is_held, held_sector}
 use Rattle.list_io.specs.Full.{DataStands}
 use Rattle.list_io.specs.Calls.{IsListed}
-use Rattle.flat_history.specs.Stands.{shape_for}
-use Rattle.shape_views.specs.Regions.{AreShapesFit}
-use Rattle.shape_views.specs.Windows.{ListStands}
-use Rattle.shape_views.proofs.Stands.{StandsAt, data-from}
-use Rattle.shape_views.proofs.UnderWay.{is-reshaping, window-is, under-way, shape-on, side-or}
+use Rattle.shape_changes.specs.flat_history_Stands.{shape_for}
+use Rattle.shape_changes.specs.shape_views_Regions.{AreShapesFit}
+use Rattle.shape_changes.specs.shape_views_Windows.{ListStands}
+use Rattle.shape_changes.proofs.shape_views_Stands.{StandsAt, data-from}
+use Rattle.shape_changes.proofs.shape_views_UnderWay.{is-reshaping, window-is, under-way, shape-on, side-or}
 use Rattle.window_rows.specs.Copies.{AreLackingGood}
 
 -- ---- the window's sectors, and those of their rows

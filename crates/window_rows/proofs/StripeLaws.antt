@@ -23,9 +23,9 @@ use Rattle.row_io.proofs.NewRow.{whole_sector}
 use Rattle.list_io.specs.Full.{AreWholeIn, RowStands}
 use Rattle.list_io.specs.Writing.{IsFull, IsRowKept, AreBehind, AreSuperblocksKept}
 use Rattle.list_io.proofs.PutLaws.{full_later, kept_then, full_stands}
-use Rattle.shape_views.specs.Regions.{AreShapesFit}
-use Rattle.shape_views.specs.Windows.{IsLess, IsWrittenAt, IsWindowPlace, IsCopying}
-use Rattle.shape_views.proofs.UnderWay.{window-row}
+use Rattle.shape_changes.specs.shape_views_Regions.{AreShapesFit}
+use Rattle.shape_changes.specs.shape_views_Windows.{IsLess, IsWrittenAt, IsWindowPlace, IsCopying}
+use Rattle.shape_changes.proofs.shape_views_UnderWay.{window-row}
 use Rattle.shape_changes.specs.Updates.{IsPastPlace}
 use Rattle.window_rows.proofs.RunLaws.{marks_then}
 use Rattle.window_rows.specs.Copies.{IsRoomFor, tail_of, IsCopied, IsZeroIn, IsOwnRow, IsStripeOf, IsPastStripe, IsChangedAt, IsRowsPlace}

@@ -4,7 +4,7 @@ use Rattle.superblocks.specs.declared.members.Members.{Members}
 use Rattle.superblocks.specs.Reading.{Scope, shape_of, final_shape}
 use Rattle.row_io.specs.Rows.{reading_of}
 use Rattle.list_io.specs.Calls.{HasRows}
-use Rattle.shape_views.specs.Regions.{ArePlaced}
+use Rattle.shape_changes.specs.shape_views_Regions.{ArePlaced}
 
 -- They have the rows of both.
 abbrev pub PlacedHaveRows : Type 0

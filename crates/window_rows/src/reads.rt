@@ -5,8 +5,8 @@ ghost use Rattle.md_base.specs.Sectors.{Sector};
 ghost use Rattle.superblocks.specs.Reading.{shape_of, next_window};
 ghost use Rattle.row_io.specs.Rows.{present, reading_of};
 ghost use Rattle.list_io.specs.Calls.{HasRows, AreLost, IsAnswer, IsAsked};
-ghost use Rattle.shape_views.specs.Regions.{AreShapesFit};
-ghost use Rattle.shape_views.specs.Windows.{ListStands};
+ghost use Rattle.shape_changes.specs.shape_views_Regions.{AreShapesFit};
+ghost use Rattle.shape_changes.specs.shape_views_Windows.{ListStands};
 ghost use Rattle.window_rows.specs.Copies.{HasWindow, IsRoomFor, AreLackingGood};
 
 use bank::Bank;

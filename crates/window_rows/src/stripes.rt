@@ -10,8 +10,8 @@ ghost use Rattle.row_io.specs.Writes.{AreApart};
 ghost use Rattle.list_io.specs.Calls.{HasRows, AreLost, IsAnswer};
 ghost use Rattle.list_io.specs.Full.{RowStands};
 ghost use Rattle.list_io.specs.Writing.{IsFull, IsRowKept, AreBehind, AreSuperblocksKept};
-ghost use Rattle.shape_views.specs.Regions.{AreShapesFit};
-ghost use Rattle.shape_views.specs.Windows.{IsWrittenAt, IsCopying};
+ghost use Rattle.shape_changes.specs.shape_views_Regions.{AreShapesFit};
+ghost use Rattle.shape_changes.specs.shape_views_Windows.{IsWrittenAt, IsCopying};
 ghost use Rattle.shape_changes.specs.Updates.{IsPastPlace};
 ghost use Rattle.window_rows.specs.Copies.{IsRoomFor, tail_of, IsCopied, IsZeroIn, IsOwnRow, IsStripeOf, IsPastStripe, IsChangedAt, IsRowsPlace};
 

@@ -18,11 +18,11 @@ use Rattle.safe_updates.proofs.views_Fit.{list-alike}
 use Rattle.window_rows.specs.Copies.{tail_of, IsCopied}
 use Rattle.superblocks.specs.declared.members.Members.{Members}
 use Rattle.superblocks.specs.Reading.{Scope, is_backward, shape_of, final_shape, next_window, data_offset_of}
-use Rattle.row_io.specs.Rows.{reading_of, held_slot, members_without}
-use Rattle.row_io.proofs.Losses.{holder-of}
+use Rattle.safe_updates.specs.row_io_Rows.{reading_of, held_slot, members_without}
+use Rattle.safe_updates.proofs.row_io_Losses.{holder-of}
 use Rattle.list_io.specs.Full.{RowStands}
 use Rattle.list_io.specs.Writing.{AreSuperblocksKept}
-use Rattle.flat_history.specs.ActiveSection.{section_for}
+use Rattle.safe_updates.specs.flat_history_ActiveSection.{section_for}
 use Rattle.safe_updates.specs.shape_views_Regions.{backup_of, open_by}
 use Rattle.safe_updates.specs.shape_views_Views.{Disk, Ledger}
 use Rattle.safe_updates.specs.shape_views_Windows.{IsCopying, IsCopyable}

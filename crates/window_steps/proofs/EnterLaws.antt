@@ -16,8 +16,8 @@ use Rattle.parity.specs.Rows.{sector_of}
 use Rattle.sb1.specs.declared.sb.Sb.{Sb}
 use Rattle.superblocks.specs.declared.members.Members.{Members}
 use Rattle.superblocks.specs.Reading.{Scope, Reading, is_backward, shape_of, final_shape, list_length, next_window}
-use Rattle.row_io.specs.Rows.{reading_of, members_without, IsTolerated}
-use Rattle.row_io.proofs.Losses.{holder-after}
+use Rattle.safe_updates.specs.row_io_Rows.{reading_of, members_without, IsTolerated}
+use Rattle.safe_updates.proofs.row_io_Losses.{holder-after}
 use Rattle.list_io.specs.declared.outcome.Unavailable.{Unavailable}
 use Rattle.list_io.specs.declared.outcome.Unavailable.TheVariants.{TooManyMissing, NotResynced}
 use Rattle.list_io.specs.Calls.{AreLost, IsAnswer}

@@ -59,3 +59,26 @@ pub use Rattle.safe_updates.proofs.views_MemberLaws
 pub use Rattle.reshape_updates.proofs.shape_ends_TakenShapes
 pub use Rattle.reshape_updates.proofs.shape_ends_Takeovers
 pub use Rattle.safe_updates.proofs.shape_changes_Kept
+pub use Rattle.list_io.proofs.FullLaws as list_io_FullLaws
+pub use Rattle.safe_updates.proofs.row_io_Losses
+pub use Rattle.list_io.proofs.LossLaws as list_io_LossLaws
+pub use Rattle.list_io.proofs.ListLaws as list_io_ListLaws
+pub use Rattle.safe_updates.proofs.row_io_Written
+pub use Rattle.safe_updates.proofs.row_io_RowBytes
+pub use Rattle.safe_updates.proofs.superblock_laws_Laws
+pub use Rattle.superblocks.proofs.ValidFields as superblocks_ValidFields
+pub use Rattle.safe_updates.proofs.flat_history_SoundLaws
+pub use Rattle.safe_updates.proofs.flat_history_LegalLaws
+pub use Rattle.safe_updates.proofs.superblock_reads_SaidSlots
+pub use Rattle.superblocks.proofs.Searches as superblocks_Searches
+pub use Rattle.safe_updates.proofs.flat_history_OneShapeGone
+pub use Rattle.safe_updates.proofs.flat_history_OneShapeLegal
+pub use Rattle.safe_updates.proofs.flat_history_GoneCounts
+pub use Rattle.superblocks.proofs.ReadLists as superblocks_ReadLists
+pub use Rattle.list_io.proofs.Parities as list_io_Parities
+pub use Rattle.safe_updates.proofs.flat_history_GivenLaws
+pub use Rattle.safe_updates.proofs.row_io_NewRow
+pub use Rattle.safe_updates.proofs.row_io_Lacks
+pub use Rattle.safe_updates.proofs.row_io_Tables
+pub use Rattle.superblocks.proofs.SlotSets as superblocks_SlotSets
+pub use Rattle.safe_updates.proofs.superblock_reads_SaidLists

@@ -22,10 +22,10 @@ use Rattle.superblocks.specs.Reading.{Scope, is_clean, is_reshaping, shape_of, f
 use Rattle.superblocks.specs.Reads.{SaysSame}
 use Rattle.superblocks.specs.Update.{own_in, planned}
 use Rattle.superblocks.specs.Outcome.{AreStored, IsPlannedOwn, planned_roles}
-use Rattle.row_io.specs.Rows.{present, reading_of}
+use Rattle.safe_updates.specs.row_io_Rows.{present, reading_of}
 use Rattle.list_io.specs.Full.{RowStands}
-use Rattle.flat_history.specs.ActiveSection.{section_for}
-use Rattle.flat_history.specs.Stands.{reach_of}
+use Rattle.safe_updates.specs.flat_history_ActiveSection.{section_for}
+use Rattle.safe_updates.specs.flat_history_Stands.{reach_of}
 use Rattle.safe_updates.specs.shape_views_Regions.{backup_of, open_by, ArePlaced}
 use Rattle.safe_updates.specs.shape_views_Views.{Disk, Ledger, IsHeaderFit, AreHeadersFit, IsViewRight}
 use Rattle.safe_updates.specs.shape_views_Windows.{HasNoSection, moved_past}

@@ -10,8 +10,8 @@ use Rattle.bank.specs.Tape.{IsIn}
 use Rattle.superblocks.specs.declared.members.Members.{Members}
 use Rattle.superblocks.specs.Reading.{Scope, is_seen, is_reshaping, next_window, of_array, holder, role_state, data_offset_of}
 use Rattle.superblocks.specs.Held.{MayRead}
-use Rattle.row_io.specs.Rows.{reading_of, members_without}
-use Rattle.row_io.proofs.Losses.{holder-after}
+use Rattle.safe_updates.specs.row_io_Rows.{reading_of, members_without}
+use Rattle.safe_updates.proofs.row_io_Losses.{holder-after}
 use Rattle.backup.specs.Written.{header_of}
 use Rattle.backup.specs.Storing.{IsStoringOrNaming}
 use Rattle.safe_updates.specs.shape_views_Regions.{open_by, ArePlaced}

@@ -10,7 +10,7 @@ use Rattle.bank.specs.Tape.{EachMark, disk}
 use Rattle.geometry.specs.Geometry.{ceiling, IsIn as IsIn_span}
 use Rattle.superblocks.specs.declared.members.Members.{Members}
 use Rattle.superblocks.specs.Reading.{Scope, list_length}
-use Rattle.row_io.specs.Rows.{members_without}
+use Rattle.safe_updates.specs.row_io_Rows.{members_without}
 use Rattle.list_io.specs.Writing.{AreSuperblocksKept}
 use Rattle.safe_updates.specs.shape_views_Views.{Ledger}
 use Rattle.safe_updates.specs.shape_views_Windows.{IsWrittenAt}

@@ -7,7 +7,7 @@ use Rattle.md_base.specs.Shapes.{has_slot, tolerance}
 use Rattle.bank.specs.Tape.{Contents}
 use Rattle.superblocks.specs.declared.members.Members.{Members}
 use Rattle.superblocks.specs.Reading.{Scope, Reading, shape_of}
-use Rattle.row_io.specs.Rows.{reading_of, missing_count, is_missing, IsTolerated}
+use Rattle.safe_updates.specs.row_io_Rows.{reading_of, missing_count, is_missing, IsTolerated}
 use Rattle.list_io.specs.declared.outcome.Unavailable.{Unavailable}
 use Rattle.list_io.specs.declared.outcome.Unavailable.TheVariants.{TooManyMissing, NotResynced}
 use Rattle.safe_updates.specs.shape_views_Views.{Disk, Ledger}

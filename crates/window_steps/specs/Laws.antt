@@ -10,7 +10,7 @@ use Rattle.geometry.specs.Geometry.{rows}
 use Rattle.geometry.specs.Geometry as geometry
 use Rattle.superblocks.specs.declared.members.Members.{Members}
 use Rattle.superblocks.specs.Reading.{Scope, is_reshaping, next_window}
-use Rattle.row_io.specs.Rows.{members_without}
+use Rattle.safe_updates.specs.row_io_Rows.{members_without}
 use Rattle.backup.specs.Written.{header_of, cleared_header}
 use Rattle.backup.specs.Storing.{IsStoringOrNaming, IsHeading}
 use Rattle.safe_updates.specs.shape_views_Regions.{open_by}

@@ -9,7 +9,7 @@ use Rattle.geometry.specs.Geometry.{rows}
 use Rattle.geometry.specs.Geometry as geometry
 use Rattle.superblocks.specs.declared.members.Members.{Members}
 use Rattle.superblocks.specs.Reading.{Scope, is_clean, final_shape}
-use Rattle.row_io.specs.Rows.{reading_of}
+use Rattle.safe_updates.specs.row_io_Rows.{reading_of}
 use Rattle.list_io.specs.Full.{RowStands}
 use Rattle.safe_updates.specs.shape_views_Regions.{DoWithout}
 use Rattle.safe_updates.specs.shape_views_Views.{Disk, Ledger, AreHeadersFit, IsTailZero}

@@ -7,7 +7,7 @@ ghost use Rattle.bank.specs.Given.{NeverFalls};
 ghost use Rattle.bank.specs.Tape.{disk};
 ghost use Rattle.superblocks.specs.Reading.{is_clean, final_shape, list_length, next_window};
 ghost use Rattle.row_io.specs.Rows.{present, reading_of};
-ghost use Rattle.list_io.specs.Full.{RowStands};
+ghost use Rattle.moving_laws.specs.list_io_Full.{RowStands};
 ghost use Rattle.flat_history.specs.World.{World};
 ghost use Rattle.flat_history.specs.declared.events.StepKind.TheVariants.{Copied as CopiesStripe};
 ghost use Rattle.moving_laws.specs.shape_views_Views.{Ledger};

@@ -2,7 +2,7 @@
 
 ghost use Rattle.std.specs.Prelude.{◌≡◌, ◌≢◌, OnOk};
 ghost use Rattle.superblocks.specs.Reading.{is_reshaping, is_clean, list_length};
-ghost use Rattle.row_io.specs.Rows.{present};
+ghost use Rattle.growing.specs.row_io_Rows.{present};
 ghost use Rattle.flat_history.specs.Flat.{next_number};
 ghost use Rattle.flat_history.specs.declared.events.Event.TheVariants.{Added};
 ghost use Rattle.flat_history.specs.declared.events.Request.TheVariants.{Add as AsksAdd};

@@ -5,7 +5,7 @@ ghost use Rattle.std.specs.List.{list_any};
 ghost use Rattle.md_base.specs.declared.answers.Refusal.{Refusal};
 ghost use Rattle.bank.specs.Given.{NeverFalls};
 ghost use Rattle.superblocks.specs.Reading.{is_reshaping, list_length};
-ghost use Rattle.row_io.specs.Rows.{present};
+ghost use Rattle.growing.specs.row_io_Rows.{present};
 ghost use Rattle.flat_history.specs.Epochs.{world_of};
 ghost use Rattle.flat_history.specs.Flat.{next_number, now};
 ghost use Rattle.flat_history.specs.Growing.{EndBy};

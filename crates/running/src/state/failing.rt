@@ -2,7 +2,7 @@
 
 ghost use Rattle.std.specs.Prelude.{◌≡◌, ◌≢◌};
 ghost use Rattle.superblocks.specs.Reading.{is_reshaping, is_clean, list_length};
-ghost use Rattle.row_io.specs.Rows.{present};
+ghost use Rattle.growing.specs.row_io_Rows.{present};
 ghost use Rattle.flat_history.specs.Flat.{next_number};
 ghost use Rattle.flat_history.specs.declared.events.Event.TheVariants.{Failed};
 ghost use Rattle.flat_history.specs.declared.events.Request.TheVariants.{Fail as AsksFail};

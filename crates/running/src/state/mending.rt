@@ -3,7 +3,7 @@
 ghost use Rattle.std.specs.Prelude.{◌≡◌, ◌≢◌, ◌+◌, ◌<◌, ◌≤◌, is_some, if◌then◌else◌, Err, OnOk, OnErr, IsTrue, false};
 ghost use Rattle.md_base.specs.declared.answers.Fault.TheVariants.{NoMemory as WantsMemory};
 ghost use Rattle.superblocks.specs.Reading.{is_reshaping, is_clean, list_length};
-ghost use Rattle.row_io.specs.Rows.{reading_of, present};
+ghost use Rattle.growing.specs.row_io_Rows.{reading_of, present};
 ghost use Rattle.flat_history.specs.World.{opening_list};
 ghost use Rattle.flat_history.specs.Flat.{now};
 ghost use Rattle.flat_history.specs.Sound.{OpensFit};

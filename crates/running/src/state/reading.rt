@@ -4,7 +4,7 @@ ghost use Rattle.std.specs.Prelude.{◌≡◌, ◌≢◌, ◌+◌, ◌/◌, ◌^
 ghost use Rattle.md_base.specs.Sectors.{IsWhole, sectors_of};
 ghost use Rattle.bank.specs.Tape.{AreSectors};
 ghost use Rattle.superblocks.specs.Reading.{is_reshaping, is_clean, shape_of, list_length};
-ghost use Rattle.row_io.specs.Rows.{present};
+ghost use Rattle.growing.specs.row_io_Rows.{present};
 ghost use Rattle.flat_history.specs.Flat.{next_number, now};
 ghost use Rattle.flat_history.specs.World.{opening_list};
 ghost use Rattle.flat_history.specs.declared.events.Event.TheVariants.{Read};

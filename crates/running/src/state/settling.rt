@@ -2,7 +2,7 @@
 
 ghost use Rattle.std.specs.Prelude.{◌≡◌, ◌≢◌, true, None, OnOk};
 ghost use Rattle.superblocks.specs.Reading.{is_reshaping, is_clean, list_length};
-ghost use Rattle.row_io.specs.Rows.{reading_of, present};
+ghost use Rattle.growing.specs.row_io_Rows.{reading_of, present};
 ghost use Rattle.flat_history.specs.Flat.{next_number};
 ghost use Rattle.flat_history.specs.declared.events.Event.TheVariants.{Flushed};
 ghost use Rattle.flat_history.specs.declared.events.Request.TheVariants.{Flush as AsksFlush};

@@ -6,7 +6,7 @@ ghost use Rattle.md_base.specs.declared.answers.Fault.TheVariants.{Refused as Is
 ghost use Rattle.md_base.specs.declared.answers.Refusal.TheVariants.{BackupFault};
 ghost use Rattle.bank.specs.Given.{IsFaulted};
 ghost use Rattle.superblocks.specs.Reading.{is_reshaping, is_clean, shape_of, list_length};
-ghost use Rattle.row_io.specs.Rows.{present};
+ghost use Rattle.growing.specs.row_io_Rows.{present};
 ghost use Rattle.flat_history.specs.Flat.{next_number};
 ghost use Rattle.flat_history.specs.declared.events.Event.TheVariants.{Wrote};
 ghost use Rattle.flat_history.specs.declared.events.Request.TheVariants.{Write as AsksWrite};

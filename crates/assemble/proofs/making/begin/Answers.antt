@@ -1,7 +1,7 @@
 use Rattle.std.proofs.Common.{List, ap, ◌∙◌}
 use Rattle.bank.specs.declared.bank.Operation.{Operation}
 use Rattle.bank.specs.Given.{Given}
-use Rattle.row_io.specs.Rows.{present}
+use Rattle.safe_additions.specs.row_io_Rows.{present}
 use Rattle.safe_additions.proofs.views_Flushed.{contents-added}
 use Rattle.assemble.proofs.NewLaws.{used-answer, lost-slot}
 use Rattle.assemble.proofs.making.begin.Goals as goal

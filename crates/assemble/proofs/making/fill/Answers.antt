@@ -1,6 +1,6 @@
 use Rattle.std.proofs.Common.{subst}
 use Rattle.bank.specs.Given.{Given}
-use Rattle.row_io.specs.Rows.{present}
+use Rattle.safe_additions.specs.row_io_Rows.{present}
 use Rattle.assemble.specs.Filling.{AreStored, AreSlotsDone}
 use Rattle.assemble.proofs.FillLaws.{below-then}
 use Rattle.assemble.proofs.FirstLaws.{slots-both}

@@ -1,7 +1,7 @@
 use Rattle.std.proofs.Common.{◌≤◌, ℕ, List, inr, sym, subst, arith}
 use Rattle.bank.specs.declared.bank.Operation.{Operation}
 use Rattle.bank.specs.Given.{Given}
-use Rattle.row_io.specs.Rows.{present}
+use Rattle.safe_additions.specs.row_io_Rows.{present}
 use Rattle.assemble.specs.Filling.{AreFilled, AreStored, AreSlotsDone, AreZeros}
 use Rattle.assemble.proofs.CreateLaws.{fewer}
 use Rattle.assemble.proofs.FillLaws.{below-then}

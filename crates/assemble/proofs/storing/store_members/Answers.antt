@@ -4,7 +4,7 @@ use Rattle.sb1.specs.declared.sb.Sb.{Sb}
 use Rattle.bank.specs.declared.bank.Operation.{Operation}
 use Rattle.bank.specs.Given.{Given}
 use Rattle.bank.specs.Tape.{Contents}
-use Rattle.row_io.specs.Rows.{present}
+use Rattle.safe_additions.specs.row_io_Rows.{present}
 use Rattle.assemble.specs.Filling.{IsSlotDone, IsStored, AreSlotsDone, AreFirst}
 use Rattle.assemble.proofs.FillLaws.{below-then, below-more}
 use Rattle.assemble.proofs.FirstLaws.{first-none, slots-more, slot-first, stored-none, stored-more, apart-present, counts-none, counts-more, counts-wider, fault-later}

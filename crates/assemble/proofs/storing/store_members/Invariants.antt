@@ -1,6 +1,6 @@
 use Rattle.std.proofs.Common.{◌≡◌, ◌≢◌, ℕ, Some, None}
 use Rattle.std.specs.Prelude.{slice_index_or}
-use Rattle.row_io.specs.Rows.{present}
+use Rattle.safe_additions.specs.row_io_Rows.{present}
 use Rattle.assemble.specs.Filling.{OnlyBelow, AreSlotsDone, OnlyFirstFail, AreFirst, AreStored}
 use Rattle.assemble.proofs.storing.store_members.Given as goal
 

@@ -1,6 +1,6 @@
 use Rattle.std.proofs.Common.{sym, subst, Option}
 use Rattle.sb1.specs.declared.sb.Sb.{Sb}
-use Rattle.row_io.specs.Rows.{present}
+use Rattle.safe_additions.specs.row_io_Rows.{present}
 use Rattle.assemble.specs.Filling.{IsStored}
 use Rattle.assemble.proofs.FirstLaws.{first-more, set-here}
 use Rattle.assemble.proofs.storing.store_next.Goals as goal

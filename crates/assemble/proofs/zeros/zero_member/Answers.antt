@@ -5,7 +5,7 @@ use Rattle.bank.specs.declared.bank.Operation.{Operation}
 use Rattle.bank.specs.Given.{Given}
 use Rattle.assemble.specs.Filling.{IsSlotDone}
 use Rattle.assemble.proofs.FillLaws.{below-did, below-then, written-here, written-other, present-same, flushed-present, flushed-other, flushed-here, on-flush}
-use Rattle.row_io.specs.Rows.{present}
+use Rattle.safe_additions.specs.row_io_Rows.{present}
 use Rattle.assemble.proofs.zeros.zero_member.Goals as goal
 
 pub write_sector-requires-clause-size : goal.write_sector-requires-clause-size

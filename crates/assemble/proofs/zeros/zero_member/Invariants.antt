@@ -2,7 +2,7 @@ use Rattle.std.proofs.Common.{◌≡◌, ◌≢◌, ◌+◌, ◌<◌, ℕ}
 use Rattle.md_base.specs.Sectors.{zero_sector}
 use Rattle.bank.specs.Given.{NeverFalls}
 use Rattle.bank.specs.Tape.{disk}
-use Rattle.row_io.specs.Rows.{present}
+use Rattle.safe_additions.specs.row_io_Rows.{present}
 use Rattle.assemble.specs.Filling.{OnlyBelow}
 use Rattle.assemble.proofs.zeros.zero_member.Given as goal
 

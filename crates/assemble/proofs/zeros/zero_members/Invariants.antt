@@ -1,5 +1,5 @@
 use Rattle.std.proofs.Common.{◌≡◌}
-use Rattle.row_io.specs.Rows.{present}
+use Rattle.safe_additions.specs.row_io_Rows.{present}
 use Rattle.assemble.specs.Filling.{OnlyBelow, AreSlotsDone, OnlyFirstFail, AreZeros}
 use Rattle.assemble.proofs.zeros.zero_members.Given as goal
 

@@ -1,7 +1,7 @@
 use Rattle.std.proofs.Common.{◌≡◌, ℕ, length, sym, subst, arith, [], ◌∷◌, ◌++◌, ◌+◌, ◌≤◌, List, Option, Result}
 use Rattle.std.specs.Prelude.{IfOk}
 use Rattle.md_base.specs.declared.answers.NoMemory.{NoMemory}
-use Rattle.superblocks.specs.Reading.{list_length}
+use Rattle.line_answers.specs.superblocks_Reading.{list_length}
 use Rattle.lanes.specs.Blocks.{HasWorkedBy}
 use Rattle.lanes.specs.Pace.{asked_by}
 use Rattle.line_answers.specs.running_Calls.{running_left}

@@ -14,7 +14,7 @@ use Rattle.run_laws.specs.Ended.{IsRunKept}
 use Rattle.run_laws.proofs.Legal.{grows_longer, going_grown, going_asked}
 use Rattle.run_laws.proofs.Losses.{losses-of, losses-steps, held-before, on-lost, on-added}
 use Rattle.line_answers.proofs.Called.{epoch-opening, epoch-later, ran-sized, ran-later, ran-on, parts-unchanged, told-backup}
-use Rattle.superblocks.specs.Reading.{list_length}
+use Rattle.run_laws.specs.superblocks_Reading.{list_length}
 use Rattle.run_laws.specs.Caused.{record_of}
 use Rattle.run_laws.proofs.CausedLaws.{unjudged-asked, detail-judged, mdstat-judged}
 use Rattle.run_laws.proofs.RecordLaws.{untouched-asked, stepped-asked}

@@ -21,7 +21,7 @@ use Rattle.run_laws.specs.declared.report.Outside.TheVariants.{Assembled}
 use Rattle.run_laws.specs.declared.states.State.TheVariants.{Idle as IsIdle, Running as IsRunning}
 use Rattle.run_laws.proofs.Causes.{flushes-grow, grows-none, assemble-refused, backup-known}
 use Rattle.run_laws.proofs.Legal.{grows_longer, idle_grown, accepted-grown, going_begun}
-use Rattle.superblocks.specs.declared.members.Members.{Members}
+use Rattle.run_laws.specs.superblocks_the_Members.{Members}
 use Rattle.run_laws.proofs.CausedLaws.{shown-later}
 use Rattle.line_answers.proofs.Found.{found_here}
 use Rattle.run_laws.proofs.Losses.{held-later}

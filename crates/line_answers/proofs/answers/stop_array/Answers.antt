@@ -3,7 +3,7 @@ use Rattle.md_base.specs.declared.answers.Fault.{Fault}
 use Rattle.flat_history.specs.declared.events.Epoch.{Epoch}
 use Rattle.flat_history.specs.declared.events.Event.{Event}
 use Rattle.run_laws.specs.Histories.{history_of, is_end}
-use Rattle.superblocks.specs.Reading.{list_length}
+use Rattle.run_laws.specs.superblocks_Reading.{list_length}
 use Rattle.run_laws.specs.views_Lacking.{AreTooMany}
 use Rattle.run_laws.specs.array_kept_Calls.{IsUnsettled, IsFaultFor}
 use Rattle.script.specs.declared.lines.Line.TheVariants.{Stop as AsksStop}
@@ -21,8 +21,8 @@ use Rattle.run_laws.proofs.Legal.{grows_longer, going_grown, former_more, legal_
 use Rattle.run_laws.proofs.Sizes.{sized-none, sized-behind}
 use Rattle.run_laws.proofs.Told.{told_none, told_behind, stop_told}
 use Rattle.run_laws.proofs.Losses.{losses-of, held-before, on-lost}
-use Rattle.grow_asked.specs.Left.{phases_of}
-use Rattle.grow_asked.specs.declared.window.PhasesLeft.{PhasesLeft}
+use Rattle.run_laws.specs.grow_asked_Left.{phases_of}
+use Rattle.run_laws.specs.grow_asked_the_PhasesLeft.{PhasesLeft}
 use Rattle.run_laws.specs.Caused.{record_of}
 use Rattle.run_laws.proofs.CausedLaws.{unjudged-asked}
 use Rattle.run_laws.proofs.Turned.{told-same, told-alike, asked-tellable, stop-unstepped, stop-told}

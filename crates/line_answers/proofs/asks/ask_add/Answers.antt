@@ -3,7 +3,7 @@ use Rattle.flat_history.specs.declared.events.Entry.{Entry}
 use Rattle.flat_history.specs.declared.events.Event.TheVariants.{Added}
 use Rattle.flat_history.specs.declared.events.Request.TheVariants.{Add as AsksAdd}
 use Rattle.flat_history.specs.OneShape.{OneShapeFits}
-use Rattle.superblocks.specs.Reading.{list_length}
+use Rattle.run_laws.specs.superblocks_Reading.{list_length}
 use Rattle.run_laws.specs.running_words_Parts.{RunningParts}
 use Rattle.script.specs.declared.lines.Line.TheVariants.{Add as AddLine}
 use Rattle.run_laws.proofs.AskLaws.{on_no_memory, grew, asked_at, answered_reply, answered_none, spares_told, spares_short}
@@ -11,8 +11,8 @@ use Rattle.run_laws.proofs.Sizes.{sized-answered}
 use Rattle.line_answers.proofs.Called.{added-length}
 use Rattle.run_laws.proofs.Told.{told_added}
 use Rattle.run_laws.proofs.running_replies_Fitting.{fits-add}
-use Rattle.grow_asked.specs.Left.{phases_of}
-use Rattle.grow_asked.specs.declared.window.PhasesLeft.{PhasesLeft}
+use Rattle.run_laws.specs.grow_asked_Left.{phases_of}
+use Rattle.run_laws.specs.grow_asked_the_PhasesLeft.{PhasesLeft}
 use Rattle.run_laws.specs.Caused.{record_of}
 use Rattle.run_laws.proofs.CausedLaws.{added-judged}
 use Rattle.line_answers.proofs.Lefts.{with-spare, left-added}

@@ -3,15 +3,15 @@ use Rattle.flat_history.specs.declared.events.Entry.{Entry}
 use Rattle.flat_history.specs.declared.events.Event.TheVariants.{Failed}
 use Rattle.flat_history.specs.declared.events.Request.TheVariants.{Fail as AsksFail}
 use Rattle.flat_history.specs.OneShape.{OneShapeFits}
-use Rattle.superblocks.specs.Reading.{list_length}
+use Rattle.run_laws.specs.superblocks_Reading.{list_length}
 use Rattle.script.specs.declared.lines.Line.TheVariants.{Fail as FailLine}
 use Rattle.run_laws.proofs.AskLaws.{on_no_memory, grew, asked_at, answered_reply, answered_none}
 use Rattle.run_laws.proofs.Sizes.{sized-answered}
 use Rattle.line_answers.proofs.Called.{called-length}
 use Rattle.run_laws.proofs.Told.{told_answered, fail_told}
 use Rattle.run_laws.proofs.running_replies_Fitting.{fits-fail}
-use Rattle.grow_asked.specs.Left.{phases_of}
-use Rattle.grow_asked.specs.declared.window.PhasesLeft.{PhasesLeft}
+use Rattle.run_laws.specs.grow_asked_Left.{phases_of}
+use Rattle.run_laws.specs.grow_asked_the_PhasesLeft.{PhasesLeft}
 use Rattle.run_laws.specs.Caused.{record_of}
 use Rattle.run_laws.proofs.CausedLaws.{failed-judged}
 use Rattle.line_answers.proofs.Lefts.{less-called, left-failed}

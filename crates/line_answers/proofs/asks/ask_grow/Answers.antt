@@ -1,9 +1,9 @@
 use Rattle.std.proofs.Common.{length, refl, sym}
-use Rattle.superblocks.specs.Reading.{list_length}
+use Rattle.run_laws.specs.superblocks_Reading.{list_length}
 use Rattle.flat_history.specs.declared.events.Event.TheVariants.{Planned}
 use Rattle.flat_history.specs.declared.events.Request.TheVariants.{Grow as AsksGrow}
 use Rattle.script.specs.declared.lines.Line.TheVariants.{Grow as GrowLine}
-use Rattle.grow_asked.specs.Left.{phases_of}
+use Rattle.run_laws.specs.grow_asked_Left.{phases_of}
 use Rattle.run_laws.specs.running_Calls.{running_left}
 use Rattle.run_laws.specs.running_words_Calls.{moving_world}
 use Rattle.run_laws.specs.Caused.{record_of}

@@ -4,7 +4,7 @@ use Rattle.flat_history.specs.declared.events.Entry.{Entry}
 use Rattle.flat_history.specs.declared.events.Event.TheVariants.{Read}
 use Rattle.flat_history.specs.declared.events.Request.TheVariants.{Read as AsksRead}
 use Rattle.flat_history.specs.OneShape.{OneShapeFits}
-use Rattle.superblocks.specs.Reading.{list_length}
+use Rattle.run_laws.specs.superblocks_Reading.{list_length}
 use Rattle.script.specs.declared.lines.Line.TheVariants.{Read as ReadLine}
 use Rattle.run_laws.proofs.AskLaws.{on_no_memory, grew, asked_at, answered_reply, answered_none}
 use Rattle.run_laws.proofs.Sizes.{sized-answered, sized-none}
@@ -14,8 +14,8 @@ use Rattle.run_laws.specs.running_replies_Replies.{RunningFits}
 use Rattle.run_laws.proofs.running_replies_Fitting.{fits-read}
 use Rattle.run_laws.specs.Caused.{record_of}
 use Rattle.run_laws.specs.Records.{IsLeftAt}
-use Rattle.grow_asked.specs.Left.{phases_of}
-use Rattle.grow_asked.specs.declared.window.PhasesLeft.{PhasesLeft}
+use Rattle.run_laws.specs.grow_asked_Left.{phases_of}
+use Rattle.run_laws.specs.grow_asked_the_PhasesLeft.{PhasesLeft}
 use Rattle.run_laws.proofs.Turned.{told-same, told-still, asked-unstepped, asked-told}
 use Rattle.line_answers.proofs.Lefts.{left-called, left-read}
 use Rattle.line_answers.proofs.asks.ask_read.Goals as goal

@@ -3,7 +3,7 @@ use Rattle.md_base.specs.declared.answers.Refusal.{Refusal}
 use Rattle.flat_history.specs.declared.events.Event.{Event}
 use Rattle.run_laws.specs.running_Calls.{running_left}
 use Rattle.run_laws.specs.running_steps_Steps.{IsStepCount}
-use Rattle.superblocks.specs.Reading.{list_length}
+use Rattle.run_laws.specs.superblocks_Reading.{list_length}
 use Rattle.run_laws.specs.Caused.{record_of}
 use Rattle.run_laws.proofs.CausedLaws.{steps-judged}
 use Rattle.run_laws.proofs.RecordLaws.{steps-answered}

@@ -1,8 +1,8 @@
 -- Each call so far left more to do.
 use Rattle.std.proofs.Common.{ℕ, ◌-◌, ◌^◌, List, length}
-use Rattle.superblocks.specs.Reading.{is_reshaping, list_length}
+use Rattle.run_laws.specs.superblocks_Reading.{is_reshaping, list_length}
 use Rattle.run_laws.specs.array_kept_Calls.{IsEndOf}
-use Rattle.grow_asked.specs.Left.{phases_of}
+use Rattle.run_laws.specs.grow_asked_Left.{phases_of}
 use Rattle.run_laws.specs.running_replies_Going.{HasRunOn}
 use Rattle.run_laws.specs.Asked.{IsStillWaiting}
 use Rattle.run_laws.specs.Caused.{Record, record_of}

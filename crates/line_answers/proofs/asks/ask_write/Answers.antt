@@ -2,7 +2,7 @@ use Rattle.std.proofs.Common.{refl, ◌∙◌, subst, arith, ap}
 use Rattle.std.proofs.Common.{◌≡◌, ◌/◌, ℕ, List, length}
 use Rattle.bank.specs.Given.{IsFaulted}
 use Rattle.md_base.specs.Sectors.{Sector, sectors_of}
-use Rattle.superblocks.specs.Reading.{is_reshaping, list_length}
+use Rattle.run_laws.specs.superblocks_Reading.{is_reshaping, list_length}
 use Rattle.flat_history.specs.declared.events.Entry.{Entry}
 use Rattle.flat_history.specs.declared.events.Request.TheVariants.{Write as AsksWrite}
 use Rattle.flat_history.specs.Flat.{visible_of}
@@ -17,8 +17,8 @@ use Rattle.line_answers.proofs.Barred.{barred-backup, barred-still, barred-end}
 use Rattle.line_answers.proofs.Called.{called-length, script-numbered, all-seen}
 use Rattle.run_laws.specs.Caused.{record_of}
 use Rattle.run_laws.specs.Records.{IsLeftAt}
-use Rattle.grow_asked.specs.Left.{phases_of}
-use Rattle.grow_asked.specs.declared.window.PhasesLeft.{PhasesLeft}
+use Rattle.run_laws.specs.grow_asked_Left.{phases_of}
+use Rattle.run_laws.specs.grow_asked_the_PhasesLeft.{PhasesLeft}
 use Rattle.script.specs.Seeds.{seeded}
 use Rattle.run_laws.proofs.Turned.{told-same, told-still, asked-unstepped, told-active, write-tellable}
 use Rattle.line_answers.proofs.Lefts.{left-called, left-written}

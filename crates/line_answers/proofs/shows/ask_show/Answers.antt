@@ -4,10 +4,10 @@ use Rattle.run_laws.specs.running_words_Parts.{RunningParts}
 use Rattle.run_laws.proofs.Sizes.{sized-none, sized-entered}
 use Rattle.run_laws.proofs.Told.{told_none, told_entered}
 use Rattle.line_answers.proofs.Called.{reshape-length}
-use Rattle.superblocks.specs.declared.members.Members.{Members}
-use Rattle.superblocks.specs.Reading.{is_reshaping, list_length}
-use Rattle.grow_asked.specs.Left.{phases_of}
-use Rattle.grow_asked.specs.declared.window.PhasesLeft.{PhasesLeft}
+use Rattle.run_laws.specs.superblocks_the_Members.{Members}
+use Rattle.run_laws.specs.superblocks_Reading.{is_reshaping, list_length}
+use Rattle.run_laws.specs.grow_asked_Left.{phases_of}
+use Rattle.run_laws.specs.grow_asked_the_PhasesLeft.{PhasesLeft}
 use Rattle.run_laws.proofs.Turned.{told-same, told-still, asked-tellable, shown-unstepped, shown-told}
 use Rattle.line_answers.proofs.Lefts.{left-untouched}
 use Rattle.line_answers.proofs.shows.ask_show.Goals as goal

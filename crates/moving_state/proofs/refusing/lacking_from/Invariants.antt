@@ -1,5 +1,5 @@
 use Rattle.std.proofs.Common.{◌-◌, ◌<◌, ◌≤◌, ℕ}
-use Rattle.flat_history.specs.Stands.{shape_for}
+use Rattle.course_kept.specs.flat_history_Stands.{shape_for}
 use Rattle.course_kept.specs.views_Lacking.{DoesWithout}
 use Rattle.moving_state.proofs.refusing.lacking_from.Given as goal
 

@@ -1,7 +1,7 @@
 use Rattle.std.proofs.Common.{◌<◌, ◌≤◌, ◌-◌}
 use Rattle.md_base.specs.declared.places.Span.{Span}
 use Rattle.superblocks.specs.Reading.{list_length}
-use Rattle.flat_history.specs.Stands.{reach_of}
+use Rattle.course_kept.specs.flat_history_Stands.{reach_of}
 use Rattle.course_kept.proofs.shape_views_Headers.{window-filled}
 use Rattle.course_kept.proofs.shape_views_Stands.{window-inside}
 use Rattle.course_kept.specs.window_steps_Zeroing.{IsThrough}

@@ -3,7 +3,7 @@ use Rattle.std.proofs.lemmas.List.{length-map}
 use Rattle.bank.specs.Given.{Given}
 use Rattle.superblocks.specs.declared.members.Members.{Members}
 use Rattle.superblocks.specs.Reading.{role_count}
-use Rattle.row_io.specs.Rows.{reading_of, role_without, members_without}
+use Rattle.running_steps.specs.row_io_Rows.{reading_of, role_without, members_without}
 use Rattle.flat_history.specs.declared.events.Entry.{Entry}
 use Rattle.flat_history.specs.Plain.{entries_of}
 use Rattle.views.specs.Placed.{IsPlaced}

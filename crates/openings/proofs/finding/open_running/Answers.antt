@@ -3,7 +3,7 @@ use Rattle.bank.specs.declared.bank.Operation.{Operation}
 use Rattle.bank.specs.Given.{Given}
 use Rattle.bank.specs.Tape.{contents}
 use Rattle.superblocks.specs.Reading.{is_reshaping}
-use Rattle.row_io.specs.Rows.{present}
+use Rattle.running_steps.specs.row_io_Rows.{present}
 use Rattle.views.specs.Flushing.{OnlyItsSlotsFail}
 use Rattle.running_steps.specs.array_kept_Adopting.{IsAdoptable, IsAdopted}
 use Rattle.grow_asked.specs.Left.{phases_of}

@@ -6,9 +6,9 @@ use Rattle.bank.specs.Tape.{Contents, IsIn}
 use Rattle.md_base.specs.declared.status.Role.TheVariants.{Recovering}
 use Rattle.superblocks.specs.declared.members.Members.{Members}
 use Rattle.superblocks.specs.Reading.{role_state}
-use Rattle.row_io.specs.Rows.{reading_of, present}
-use Rattle.list_io.specs.Full.{AreWholeIn, RowStands}
-use Rattle.list_io.specs.Writing.{HasFull}
+use Rattle.region_writes.specs.row_io_Rows.{reading_of, present}
+use Rattle.region_writes.specs.list_io_Full.{AreWholeIn, RowStands}
+use Rattle.region_writes.specs.list_io_Writing.{HasFull}
 use Rattle.region_writes.specs.shape_views_Regions.{DoWithout}
 use Rattle.region_writes.specs.shape_views_Windows.{IsOfRegion}
 use Rattle.region_writes.specs.views_Placed.{IsInForce}

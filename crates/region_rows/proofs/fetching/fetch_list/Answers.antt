@@ -4,7 +4,7 @@ use Rattle.bank.specs.Given.{Given}
 use Rattle.md_base.specs.declared.answers.Refusal.{Refusal}
 use Rattle.superblocks.specs.declared.members.Members.{Members}
 use Rattle.row_io.specs.Rows.{present}
-use Rattle.flat_history.specs.Sound.{OpensFit}
+use Rattle.safe_rows.specs.flat_history_Sound.{OpensFit}
 use Rattle.safe_rows.specs.shape_changes_Steady.{IsUncleanTold}
 use Rattle.safe_rows.specs.shape_changes_Marking.{AreOthersPresent}
 use Rattle.safe_rows.proofs.shape_changes_Risen.{risen-then, risen-lost, room-then}

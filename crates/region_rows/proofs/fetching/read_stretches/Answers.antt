@@ -14,7 +14,7 @@ use Rattle.list_io.specs.Full.{DataStands, RowStands}
 use Rattle.row_io.proofs.Written.{members_without-none}
 use Rattle.list_io.proofs.LossLaws.{members_then}
 use Rattle.list_io.proofs.ListLaws.{present_same}
-use Rattle.flat_history.specs.Stands.{shape_for}
+use Rattle.safe_rows.specs.flat_history_Stands.{shape_for}
 use Rattle.safe_rows.specs.views_Placed.{AreWhole, AreLost, IsInForce}
 use Rattle.safe_rows.specs.views_Moving.{IsMoved}
 use Rattle.safe_rows.proofs.views_MovedLaws.{moved-same, moved-lost, moved-then, lost-none}

@@ -1,5 +1,5 @@
 use Rattle.std.proofs.Common.{◌-◌, ◌<◌, ◌≤◌, ℕ}
-use Rattle.flat_history.specs.Stands.{shape_for}
+use Rattle.safe_rows.specs.flat_history_Stands.{shape_for}
 use Rattle.safe_rows.specs.views_Lacking.{DoesWithout}
 use Rattle.region_rows.proofs.fetching.too_many_in.Given as goal
 

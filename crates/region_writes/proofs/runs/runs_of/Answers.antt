@@ -1,7 +1,7 @@
 use Rattle.std.proofs.Common.{◌≡◌, inl, inr, ◌<◌, true, refl, sym, ap, arith}
 use Rattle.md_base.specs.Shapes.{data_disks}
 use Rattle.superblocks.specs.Reading.{is_reshaping}
-use Rattle.flat_history.specs.Stands.{shape_for}
+use Rattle.region_rows.specs.flat_history_Stands.{shape_for}
 use Rattle.region_writes.proofs.Together.{wider-low}
 use Rattle.region_writes.proofs.runs.runs_of.Goals as goal
 

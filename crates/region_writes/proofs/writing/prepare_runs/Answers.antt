@@ -3,7 +3,7 @@ use Rattle.bank.specs.Given.{Given}
 use Rattle.bank.specs.declared.bank.Operation.{Operation}
 use Rattle.superblocks.specs.declared.members.Members.{Members}
 use Rattle.superblocks.specs.Reading.{is_clean}
-use Rattle.row_io.specs.Rows.{present}
+use Rattle.region_rows.specs.row_io_Rows.{present}
 use Rattle.list_io.specs.Buffers.{buffered}
 use Rattle.region_rows.specs.views_Placed.{IsPlaced}
 use Rattle.region_rows.specs.views_Moving.{Grows, IsMoved}
@@ -13,7 +13,7 @@ use Rattle.region_rows.proofs.views_Fit.{alike-force}
 use Rattle.region_rows.proofs.views_LackingLaws.{since-then, in-second}
 use Rattle.region_rows.proofs.views_LackingWrites.{standing-later}
 use Rattle.region_rows.proofs.views_SafeStretch.{safe-then, safe-lost, over-at, keeps-from}
-use Rattle.flat_history.specs.Sound.{OpensFit}
+use Rattle.region_rows.specs.flat_history_Sound.{OpensFit}
 use Rattle.region_rows.specs.shape_changes_Marking.{AreOthersPresent}
 use Rattle.region_rows.proofs.shape_changes_Risen.{risen-then, risen-lost, room-then}
 use Rattle.region_rows.proofs.safe_rows_UnusedReads.{read-unused, named-unused}

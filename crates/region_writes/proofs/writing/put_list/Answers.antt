@@ -4,7 +4,7 @@ use Rattle.md_base.specs.declared.answers.Refusal.{Refusal}
 use Rattle.md_base.specs.declared.places.Shape.{Shape}
 use Rattle.bank.specs.Given.{Given}
 use Rattle.bank.specs.Tape.{disk}
-use Rattle.row_io.specs.Rows.{reading_of, present}
+use Rattle.region_rows.specs.row_io_Rows.{reading_of, present}
 use Rattle.list_io.specs.Buffers.{buffered, AreStanding}
 use Rattle.list_io.specs.Writing.{AreDataFrom}
 use Rattle.region_rows.specs.shape_views_Regions.{place_by}
@@ -20,7 +20,7 @@ use Rattle.region_rows.proofs.views_LackingLists.{none-of, sectors-whole}
 use Rattle.region_rows.proofs.views_LackingWrites.{standing-later, others-same, others-then}
 use Rattle.region_rows.proofs.views_SafeStretch.{gone-before, safe-then, allowed-later, zeros-later, region-later, grows-longer, over-at, keeps-from}
 use Rattle.superblocks.specs.Reading.{list_length}
-use Rattle.flat_history.specs.Sound.{OpensFit}
+use Rattle.region_rows.specs.flat_history_Sound.{OpensFit}
 use Rattle.region_rows.proofs.shape_changes_Risen.{risen-then, room-first, room-then}
 use Rattle.region_rows.proofs.StretchLaws.{list-short, data-few}
 use Rattle.region_rows.specs.Stretches.{IsShapeOf}

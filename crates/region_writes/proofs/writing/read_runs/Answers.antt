@@ -4,7 +4,7 @@ use Rattle.bank.specs.Given.{Given}
 use Rattle.bank.specs.Tape.{Contents}
 use Rattle.sb1.specs.declared.sb.Sb.{Sb}
 use Rattle.superblocks.specs.declared.members.Members.{Members}
-use Rattle.row_io.specs.Rows.{reading_of, present, members_without}
+use Rattle.region_rows.specs.row_io_Rows.{reading_of, present, members_without}
 use Rattle.list_io.specs.Calls.{HasRows}
 use Rattle.list_io.specs.Buffers.{buffered, AreRead}
 use Rattle.list_io.proofs.BufferLaws.{data_read}

@@ -2,7 +2,7 @@ use Rattle.std.proofs.Common.{◌⊎◌, inl, inr, ◌<◌, ℕ, refl, sym, ◌�
 use Rattle.std.specs.Prelude.{Contains, slice_index}
 use Rattle.bank.specs.Given.{Given}
 use Rattle.bank.specs.Tape.{disk}
-use Rattle.row_io.specs.Rows.{reading_of, present}
+use Rattle.region_rows.specs.row_io_Rows.{reading_of, present}
 use Rattle.list_io.specs.Buffers.{buffered, AreStanding}
 use Rattle.region_rows.specs.views_Moving.{IsMoved}
 use Rattle.region_rows.specs.views_Rebuilding.{AreSparesFree}
@@ -14,7 +14,7 @@ use Rattle.region_rows.proofs.views_LackingLaws.{since-then, in-either}
 use Rattle.region_rows.proofs.views_LackingLists.{none-of}
 use Rattle.region_rows.proofs.views_LackingWrites.{others-then}
 use Rattle.region_rows.proofs.views_SafeStretch.{gone-before, safe-then, allowed-later, zeros-later, region-later, grows-longer, over-at, keeps-from}
-use Rattle.flat_history.specs.Sound.{OpensFit}
+use Rattle.region_rows.specs.flat_history_Sound.{OpensFit}
 use Rattle.region_rows.proofs.shape_changes_Risen.{risen-then, room-first, room-then}
 use Rattle.region_writes.proofs.RunLaws.{told-as}
 use Rattle.region_writes.proofs.WriteLaws.{some-none, row-apart, rows-apart, standing-apart, full-done, full-kept, rebuilt-kept}

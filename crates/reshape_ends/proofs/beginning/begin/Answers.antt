@@ -10,7 +10,7 @@ use Rattle.superblocks.specs.declared.members.Members.{Members}
 use Rattle.superblocks.specs.Reading.{Scope, shape_of}
 use Rattle.superblocks.specs.Outcome.{AreLive}
 use Rattle.superblocks.proofs.SlotSets.{none_above}
-use Rattle.flat_history.specs.Sound.{OpensFit}
+use Rattle.safe_updates.specs.flat_history_Sound.{OpensFit}
 use Rattle.safe_updates.specs.shape_views_Regions.{ArePlaced}
 use Rattle.safe_updates.specs.shape_changes_Giving.{IsToldOf}
 use Rattle.safe_updates.specs.shape_changes_Steady.{IsSafeOver}

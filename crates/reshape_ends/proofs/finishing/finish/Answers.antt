@@ -7,8 +7,8 @@ use Rattle.superblocks.specs.declared.members.Members.{Members}
 use Rattle.superblocks.specs.Outcome.{AreLive}
 use Rattle.superblocks.proofs.ReadAlike.{count-same}
 use Rattle.superblocks.specs.Updating.{planned_newest}
-use Rattle.row_io.specs.Rows.{reading_of, present}
-use Rattle.flat_history.specs.Sound.{OpensFit}
+use Rattle.safe_updates.specs.row_io_Rows.{reading_of, present}
+use Rattle.safe_updates.specs.flat_history_Sound.{OpensFit}
 use Rattle.safe_updates.specs.shape_views_Windows.{IsFlushedRight}
 use Rattle.safe_updates.specs.shape_changes_Changing.{IsChanged, IsSafeChange}
 use Rattle.safe_updates.specs.shape_changes_Steady.{IsSteady, IsSafeOver}

@@ -11,20 +11,20 @@ use Rattle.superblocks.specs.Reads.{SaysSame}
 use Rattle.superblocks.specs.Update.{IsRoleGive, give_of}
 use Rattle.superblocks.specs.Updating.{AreLosses, planned_newest}
 use Rattle.superblocks.specs.Outcome.{with_added, live_set, AreLive, AreGivesOfLive}
-use Rattle.flat_history.specs.Sound.{OpensFit}
-use Rattle.shape_views.specs.Regions.{ArePlaced}
-use Rattle.shape_views.proofs.Alike.{backup-alike}
-use Rattle.shape_changes.specs.Changing.{IsChanged}
-use Rattle.shape_changes.specs.Kinds.{IsTaking}
+use Rattle.shape_ends.specs.flat_history_Sound.{OpensFit}
+use Rattle.shape_ends.specs.shape_views_Regions.{ArePlaced}
+use Rattle.shape_ends.proofs.shape_views_Alike.{backup-alike}
+use Rattle.shape_ends.specs.shape_changes_Changing.{IsChanged}
+use Rattle.shape_ends.specs.shape_changes_Kinds.{IsTaking}
 use Rattle.layout.proofs.Limits.{limited}
-use Rattle.shape_changes.specs.Updates.{IsLessView, planned_view}
+use Rattle.shape_ends.specs.shape_changes_Updates.{IsLessView, planned_view}
 use Rattle.shape_ends.proofs.Begin.{begin-safe}
-use Rattle.shape_changes.proofs.CalledLaws.{changed-by}
-use Rattle.shape_changes.proofs.ChangeSafe.{told-changed, risen-changed}
-use Rattle.shape_changes.proofs.ChangeViews.{new-less, later-says, later-fits}
-use Rattle.shape_changes.proofs.FitKinds.{taking-live}
-use Rattle.shape_changes.proofs.PlannedRoles.{count-planned}
-use Rattle.shape_changes.proofs.PlansLose.{plans-lose}
+use Rattle.shape_ends.proofs.shape_changes_CalledLaws.{changed-by}
+use Rattle.shape_ends.proofs.shape_changes_ChangeSafe.{told-changed, risen-changed}
+use Rattle.shape_ends.proofs.shape_changes_ChangeViews.{new-less, later-says, later-fits}
+use Rattle.shape_ends.proofs.shape_changes_FitKinds.{taking-live}
+use Rattle.shape_ends.proofs.shape_changes_PlannedRoles.{count-planned}
+use Rattle.shape_ends.proofs.shape_changes_PlansLose.{plans-lose}
 use Rattle.shape_ends.proofs.LessPlaced.{less-placed}
 use Rattle.shape_ends.proofs.PlanPlaced.{planned-placed}
 use Rattle.reshape_updates.specs.Beginning.{beginning}

@@ -11,24 +11,24 @@ use Rattle.superblocks.specs.Reads.{SaysSame, has_spare}
 use Rattle.superblocks.specs.Update.{IsRoleGive, give_of}
 use Rattle.superblocks.specs.Updating.{AreLosses, planned_newest}
 use Rattle.superblocks.specs.Outcome.{with_added, live_set, AreLive, AreGivesOfLive}
-use Rattle.flat_history.specs.Sound.{OpensFit}
-use Rattle.shape_views.specs.Regions.{ArePlaced}
-use Rattle.shape_changes.specs.Changing.{IsChanged}
+use Rattle.shape_ends.specs.flat_history_Sound.{OpensFit}
+use Rattle.shape_ends.specs.shape_views_Regions.{ArePlaced}
+use Rattle.shape_ends.specs.shape_changes_Changing.{IsChanged}
 use Rattle.superblocks.proofs.ValidFields.{few-roles}
 use Rattle.std.proofs.lemmas.Bool.Decides.{nat_tests}
-use Rattle.shape_changes.specs.Updates.{IsLessView, planned_view}
-use Rattle.shape_changes.proofs.CalledLaws.{changed-by}
-use Rattle.shape_changes.proofs.ChangeSafe.{told-changed, risen-changed}
-use Rattle.shape_changes.proofs.PlansLose.{plans-lose}
+use Rattle.shape_ends.specs.shape_changes_Updates.{IsLessView, planned_view}
+use Rattle.shape_ends.proofs.shape_changes_CalledLaws.{changed-by}
+use Rattle.shape_ends.proofs.shape_changes_ChangeSafe.{told-changed, risen-changed}
+use Rattle.shape_ends.proofs.shape_changes_PlansLose.{plans-lose}
 use Rattle.shape_ends.proofs.LessPlaced.{less-placed}
-use Rattle.shape_changes.specs.Kinds.{IsDropping}
+use Rattle.shape_ends.specs.shape_changes_Kinds.{IsDropping}
 use Rattle.shape_ends.proofs.Begin.{flushed-change-safe}
-use Rattle.shape_changes.proofs.ChangeSafe.{safe-change}
-use Rattle.shape_changes.proofs.ChangeViews.{new-less, later-says, later-fits}
-use Rattle.shape_changes.proofs.FitKinds.{dropping-is-fit, dropping-live}
-use Rattle.shape_changes.proofs.KeptSafe.{steady-right, told-plan}
+use Rattle.shape_ends.proofs.shape_changes_ChangeSafe.{safe-change}
+use Rattle.shape_ends.proofs.shape_changes_ChangeViews.{new-less, later-says, later-fits}
+use Rattle.shape_ends.proofs.shape_changes_FitKinds.{dropping-is-fit, dropping-live}
+use Rattle.shape_ends.proofs.shape_changes_KeptSafe.{steady-right, told-plan}
 use Rattle.shape_ends.proofs.GrownLaws.{ends}
-use Rattle.superblock_reads.proofs.SaidSlots.{has-slots_below}
+use Rattle.shape_ends.proofs.superblock_reads_SaidSlots.{has-slots_below}
 use Rattle.superblocks.specs.Update.{is_planned_spare}
 use Rattle.md_base.proofs.Tabulated.{length-tabulate}
 use Rattle.superblocks.specs.Outcome.{planned_state}

@@ -7,17 +7,17 @@ use Rattle.superblocks.specs.Update.{IsRoleGive, give_of}
 use Rattle.superblocks.specs.Updating.{AreLosses}
 use Rattle.superblocks.specs.Outcome.{with_added, live_set, AreLive, AreGivesOfLive}
 use Rattle.md_base.specs.Shapes.{has_slot}
-use Rattle.flat_history.specs.Sound.{OpensFit}
-use Rattle.shape_views.specs.Regions.{ArePlaced}
-use Rattle.shape_views.specs.Windows.{moved_past}
-use Rattle.shape_changes.specs.Kinds.{recording}
-use Rattle.shape_changes.specs.Changing.{IsChanged}
-use Rattle.shape_changes.specs.Updates.{IsLessView, planned_view}
-use Rattle.shape_changes.proofs.CalledLaws.{changed-by}
-use Rattle.shape_changes.proofs.ChangeSafe.{told-changed, risen-changed}
-use Rattle.shape_changes.proofs.ChangeViews.{new-less}
-use Rattle.shape_changes.proofs.Kept.{give_of-same, kept-less}
-use Rattle.shape_changes.proofs.KeptSafe.{record-safe}
+use Rattle.shape_ends.specs.flat_history_Sound.{OpensFit}
+use Rattle.shape_ends.specs.shape_views_Regions.{ArePlaced}
+use Rattle.shape_ends.specs.shape_views_Windows.{moved_past}
+use Rattle.shape_ends.specs.shape_changes_Kinds.{recording}
+use Rattle.shape_ends.specs.shape_changes_Changing.{IsChanged}
+use Rattle.shape_ends.specs.shape_changes_Updates.{IsLessView, planned_view}
+use Rattle.shape_ends.proofs.shape_changes_CalledLaws.{changed-by}
+use Rattle.shape_ends.proofs.shape_changes_ChangeSafe.{told-changed, risen-changed}
+use Rattle.shape_ends.proofs.shape_changes_ChangeViews.{new-less}
+use Rattle.shape_ends.proofs.shape_changes_Kept.{give_of-same, kept-less}
+use Rattle.shape_ends.proofs.shape_changes_KeptSafe.{record-safe}
 use Rattle.shape_ends.proofs.LessPlaced.{less-placed}
 use Rattle.reshape_updates.proofs.MoreLess.{less-then}
 use Rattle.reshape_updates.proofs.position.record_position.Given.{Over}

@@ -1,6 +1,6 @@
 use Rattle.std.proofs.Common.{rules, ◌≡◌, ◌-◌, [], ◌∷◌, ◌++◌, length, refl, sym, ap, subst, arith}
 use Rattle.flat_history.specs.declared.events.Epoch.{Epoch}
-use Rattle.superblocks.specs.Reading.{list_length}
+use Rattle.block_answers.specs.superblocks_Reading.{list_length}
 use Rattle.block_answers.specs.run_laws_Ended.{IsRunKept, AreFormer}
 use Rattle.block_answers.specs.run_laws_States.{histories_in, bank_in, RunsOwn}
 use Rattle.block_answers.proofs.run_laws_Legal.{former_halted}

@@ -1,4 +1,4 @@
-use Rattle.superblocks.specs.Reading.{list_length}
+use Rattle.openings.specs.superblocks_Reading.{list_length}
 use Rattle.flat_history.specs.declared.events.Event.TheVariants.{Added}
 use Rattle.flat_history.specs.declared.events.Request.TheVariants.{Add as AsksAdd}
 use Rattle.running_replies.proofs.Fitting.{fits-add}

@@ -1,7 +1,7 @@
 use Rattle.std.proofs.Common.{◌≡◌, ◌*◌, ◌/◌, ℕ, List, length, drop, sym, ◌∙◌, ap, subst₂, arith}
 use Rattle.std.proofs.lemmas.List.{take_at}
 use Rattle.md_base.specs.Sectors.{Sector, sectors_of}
-use Rattle.superblocks.specs.Reading.{list_length}
+use Rattle.openings.specs.superblocks_Reading.{list_length}
 use Rattle.flat_history.specs.declared.events.Event.TheVariants.{Read}
 use Rattle.flat_history.specs.declared.events.Request.TheVariants.{Read as AsksRead}
 use Rattle.openings.specs.array_kept_Calls.{IsAnswered}

@@ -1,5 +1,5 @@
 use Rattle.std.proofs.Common.{ℕ, sym, subst}
-use Rattle.superblocks.specs.Reading.{list_length}
+use Rattle.openings.specs.superblocks_Reading.{list_length}
 use Rattle.flat_history.specs.declared.events.Event.TheVariants.{Visible}
 use Rattle.flat_history.specs.declared.events.Request.TheVariants.{Visible as AsksVisible}
 use Rattle.openings.specs.running_replies_Replies.{IsAnsweredWith}

@@ -3,7 +3,7 @@ use Rattle.std.proofs.lemmas.Bool.{cases_lt}
 use Rattle.std.specs.Prelude.{IfSome}
 use Rattle.md_base.specs.declared.answers.Refusal.TheVariants.{Nothing}
 use Rattle.flat_history.specs.declared.events.Event.TheVariants.{Stepped, Refused}
-use Rattle.superblocks.specs.Reading.{list_length}
+use Rattle.running.specs.superblocks_Reading.{list_length}
 use Rattle.running.specs.running_replies_Replies.{IsRefusalBy}
 use Rattle.running.proofs.running_replies_GoneOn.{gone-none}
 use Rattle.running.specs.Calls.{running_left}

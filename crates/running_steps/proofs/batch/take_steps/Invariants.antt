@@ -1,5 +1,5 @@
 use Rattle.std.proofs.Common.{◌≡◌, ◌≢◌, ◌+◌, ◌<◌, ◌≤◌, false}
-use Rattle.superblocks.specs.Reading.{is_reshaping}
+use Rattle.running.specs.superblocks_Reading.{is_reshaping}
 use Rattle.running.specs.array_kept_Calls.{IsEndOf, TellNoLoss, TellNoRoleLoss}
 use Rattle.running.specs.kept_history_Recorded.{IsCallGoing}
 use Rattle.running.specs.still_laws_Steps.{IsClosable}

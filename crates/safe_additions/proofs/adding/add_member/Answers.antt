@@ -6,7 +6,7 @@ use Rattle.bank.specs.Given.{Given}
 use Rattle.bank.specs.Tape.{EachMark, disk}
 use Rattle.superblocks.specs.declared.change.Give.TheVariants.{Same}
 use Rattle.superblocks.specs.declared.change.Change.{Change}
-use Rattle.flat_history.specs.Sound.{OpensFit}
+use Rattle.safe_updates.specs.flat_history_Sound.{OpensFit}
 use Rattle.superblocks.specs.Reading.{role_count}
 use Rattle.superblocks.specs.Update.{IsRoleGive, give_of, is_recovery}
 use Rattle.superblocks.specs.Updating.{IsUpdate, IsWrittenBy, AreLosses, AreNamed, IsLater, IsSomeLeft, RisesByOperations, planned_newest}

@@ -18,7 +18,7 @@ use Rattle.safe_updates.specs.views_Moving.{Grows}
 use Rattle.safe_updates.proofs.views_LackingLaws.{since-lost, since-then, in-second}
 use Rattle.safe_updates.proofs.views_LackingWrites.{lost-of}
 use Rattle.safe_updates.proofs.RefusingLaws.{read-cause, read-told, told-first, told-why, not-err}
-use Rattle.flat_history.specs.Sound.{OpensFit}
+use Rattle.safe_updates.specs.flat_history_Sound.{OpensFit}
 use Rattle.safe_updates.specs.shape_changes_Steady.{IsUncleanTold}
 use Rattle.safe_updates.proofs.views_SafeStretch.{safe-then, safe-lost, over-at, keeps-from}
 use Rattle.safe_updates.proofs.shape_changes_Risen.{risen-then, risen-lost, room-then}

@@ -7,7 +7,7 @@ use Rattle.superblocks.specs.Reading.{role_state, rows_held, data_offset_of, hol
 use Rattle.row_io.specs.Rows.{reading_of, present}
 use Rattle.list_io.specs.Buffers.{IsTouched}
 use Rattle.list_io.specs.Writing.{HasFull}
-use Rattle.flat_history.specs.Sound.{OpensFit}
+use Rattle.safe_updates.specs.flat_history_Sound.{OpensFit}
 use Rattle.safe_updates.specs.views_Moving.{IsMoved}
 use Rattle.safe_updates.specs.views_Lacking.{IsOfStripe, DataStandsAmong, RowsStandAmong}
 use Rattle.safe_updates.specs.views_Rebuilding.{AreSparesFree, IsFilledAmong}

@@ -8,7 +8,7 @@ use Rattle.list_io.specs.Writing.{HasFull}
 use Rattle.safe_updates.specs.views_Moving.{Grows, IsMoved}
 use Rattle.safe_updates.specs.shape_changes_Safety.{HasRoomLeft, IsRisen}
 use Rattle.safe_updates.specs.views_Lacking.{HaveFailedSince, DataStandsAmong, RowsStandAmong, IsOfStripe}
-use Rattle.flat_history.specs.World.{World}
+use Rattle.safe_updates.specs.flat_history_World.{World}
 use Rattle.safe_updates.specs.views_Rebuilding.{IsFilledAmong}
 use Rattle.safe_updates.specs.shape_views_Views.{Ledger}
 use Rattle.safe_updates.specs.shape_changes_Steady.{IsSafeOver, KeepsSafe, AreGoneTold, IsUncleanTold}

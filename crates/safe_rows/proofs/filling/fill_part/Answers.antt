@@ -10,7 +10,7 @@ use Rattle.row_io.specs.Rows.{present, reading_of}
 use Rattle.list_io.specs.Buffers.{IsTouched}
 use Rattle.list_io.specs.Writing.{AreDataFrom, HasFull}
 use Rattle.list_io.proofs.BufferLaws.{data_read}
-use Rattle.flat_history.specs.Sound.{OpensFit}
+use Rattle.safe_updates.specs.flat_history_Sound.{OpensFit}
 use Rattle.safe_updates.specs.views_Placed.{AreLost, IsPlaced}
 use Rattle.safe_updates.specs.shape_changes_Marking.{AreOthersPresent}
 use Rattle.safe_updates.specs.views_Moving.{Grows, IsMoved}

@@ -10,7 +10,7 @@ use Rattle.md_base.specs.Shapes.{has_slot}
 use Rattle.row_io.specs.Rows.{reading_of, present}
 use Rattle.list_io.specs.Writing.{AreSuperblocksKept}
 use Rattle.list_io.proofs.LossLaws.{slot_lost, recovering-after}
-use Rattle.flat_history.specs.Sound.{OpensFit}
+use Rattle.safe_updates.specs.flat_history_Sound.{OpensFit}
 use Rattle.safe_updates.specs.views_Placed.{AreLost, IsPlaced}
 use Rattle.safe_updates.specs.shape_changes_Marking.{AreOthersPresent}
 use Rattle.safe_updates.specs.views_Moving.{IsMoved}

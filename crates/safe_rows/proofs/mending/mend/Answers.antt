@@ -5,7 +5,7 @@ use Rattle.row_io.specs.Rows.{reading_of, present}
 use Rattle.md_base.specs.Shapes.{data_disks}
 use Rattle.safe_updates.specs.shape_views_Regions.{place_by}
 use Rattle.list_io.specs.Buffers.{IsTouched}
-use Rattle.flat_history.specs.Sound.{OpensFit}
+use Rattle.safe_updates.specs.flat_history_Sound.{OpensFit}
 use Rattle.safe_updates.specs.views_Moving.{IsMoved}
 use Rattle.safe_updates.specs.views_Rebuilding.{AreSparesFree}
 use Rattle.safe_updates.specs.views_Lacking.{DataStandsAmong, AreOtherRowsKept, IsOfStripe}

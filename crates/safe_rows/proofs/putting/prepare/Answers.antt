@@ -14,7 +14,7 @@ use Rattle.safe_updates.proofs.views_Fit.{has-rows, force-valid}
 use Rattle.safe_updates.proofs.views_LackingLaws.{since-lost, since-then, in-second}
 use Rattle.safe_updates.proofs.views_LackingWrites.{lost-of, standing-later}
 use Rattle.safe_updates.proofs.RefusingLaws.{write-cause, write-told, told-first, told-why, many-told, not-err}
-use Rattle.flat_history.specs.Sound.{OpensFit}
+use Rattle.safe_updates.specs.flat_history_Sound.{OpensFit}
 use Rattle.safe_updates.specs.shape_changes_Safety.{IsRisen}
 use Rattle.safe_updates.specs.shape_changes_Steady.{KeepsSafe}
 use Rattle.safe_updates.proofs.shape_changes_Risen.{risen-then, risen-lost, room-then}

@@ -15,7 +15,7 @@ use Rattle.safe_updates.proofs.views_LackingLaws.{since-then, in-either}
 use Rattle.safe_updates.proofs.views_LackingWrites.{standing-later, others-then, others-same}
 use Rattle.safe_updates.proofs.views_Elements.{contains-at}
 use Rattle.safe_updates.proofs.views_LackingLists.{data-touched, row-written, rebuilt-written, data-read, sectors-whole, none-of}
-use Rattle.flat_history.specs.Sound.{OpensFit}
+use Rattle.safe_updates.specs.flat_history_Sound.{OpensFit}
 use Rattle.safe_updates.proofs.shape_changes_Risen.{risen-then, room-first, room-then}
 use Rattle.safe_updates.proofs.views_SafeStretch.{gone-before, safe-then, allowed-later, zeros-later, region-later, grows-longer, over-at, keeps-from}
 use Rattle.safe_updates.proofs.RefusingLaws.{many-told}

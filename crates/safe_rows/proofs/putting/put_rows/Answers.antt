@@ -10,7 +10,7 @@ use Rattle.safe_updates.proofs.views_LackingLaws.{since-same, since-then, in-eit
 use Rattle.safe_updates.proofs.views_LackingWrites.{written-then}
 use Rattle.std.specs.Prelude.{Contains}
 use Rattle.safe_updates.proofs.views_Fit.{force-valid, alike-force}
-use Rattle.flat_history.specs.Sound.{OpensFit}
+use Rattle.safe_updates.specs.flat_history_Sound.{OpensFit}
 use Rattle.safe_updates.proofs.views_LackingWrites.{data-later}
 use Rattle.safe_updates.proofs.shape_changes_Risen.{risen-none, risen-then, room-first, room-then}
 use Rattle.safe_updates.proofs.views_SafeStretch.{gone-before, safe-none, safe-then, allowed-later, zeros-later, region-later, grows-longer, over-at, keeps-from}

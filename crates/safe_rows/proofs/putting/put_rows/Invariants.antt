@@ -8,8 +8,8 @@ use Rattle.list_io.specs.Writing.{IsWritten, AreDataFrom}
 use Rattle.safe_updates.specs.views_Placed.{AreWhole}
 use Rattle.safe_updates.specs.views_Moving.{Grows, IsMoved}
 use Rattle.safe_updates.specs.views_Lacking.{HaveFailedSince, AreRowsWritten}
-use Rattle.flat_history.specs.World.{World}
-use Rattle.flat_history.specs.Sound.{OpensFit}
+use Rattle.safe_updates.specs.flat_history_World.{World}
+use Rattle.safe_updates.specs.flat_history_Sound.{OpensFit}
 use Rattle.safe_updates.specs.shape_changes_Safety.{HasRoomLeft, IsRisen}
 use Rattle.safe_updates.specs.shape_views_Views.{Ledger, IsTailZero}
 use Rattle.safe_updates.specs.shape_views_Windows.{IsOfRegion}

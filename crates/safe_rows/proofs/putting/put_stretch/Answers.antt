@@ -8,7 +8,7 @@ use Rattle.safe_updates.specs.views_Under.{IsRestKept}
 use Rattle.safe_updates.proofs.views_MovedLaws.{moved-then, moved-from, grows-then}
 use Rattle.safe_updates.proofs.views_LackingLaws.{since-then, in-second}
 use Rattle.safe_updates.proofs.views_LackingWrites.{written-later}
-use Rattle.flat_history.specs.Sound.{OpensFit}
+use Rattle.safe_updates.specs.flat_history_Sound.{OpensFit}
 use Rattle.safe_updates.proofs.shape_changes_Risen.{risen-then, room-then}
 use Rattle.safe_updates.proofs.views_SafeStretch.{safe-then, over-at, keeps-from}
 use Rattle.safe_updates.proofs.Unused.{rest-unused, unused-then}

@@ -14,7 +14,7 @@ use Rattle.safe_updates.proofs.views_MarkedLaws.{grows-marks}
 use Rattle.safe_updates.proofs.views_LackingLaws.{since-lost, too-many-answer}
 use Rattle.safe_updates.proofs.views_Fit.{has-rows}
 use Rattle.safe_updates.proofs.views_LackingWrites.{list-in, list-in-is, list-with, list-with-is}
-use Rattle.flat_history.specs.Sound.{OpensFit}
+use Rattle.safe_updates.specs.flat_history_Sound.{OpensFit}
 use Rattle.safe_updates.proofs.shape_changes_Risen.{risen-lost}
 use Rattle.safe_updates.proofs.views_SafeStretch.{safe-put}
 use Rattle.safe_updates.proofs.Unused.{unused-role}

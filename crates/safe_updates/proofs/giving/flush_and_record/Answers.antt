@@ -5,8 +5,8 @@ use Rattle.md_base.specs.Sectors.{Sector}
 use Rattle.superblocks.specs.declared.members.Members.{Members}
 use Rattle.superblocks.specs.Reading.{holder}
 use Rattle.row_io.specs.Rows.{present}
-use Rattle.flat_history.specs.World.{World}
-use Rattle.flat_history.specs.Sound.{OpensFit}
+use Rattle.views.specs.flat_history_World.{World}
+use Rattle.views.specs.flat_history_Sound.{OpensFit}
 use Rattle.views.specs.Flushing.{OnlyFlushesAdded}
 use Rattle.views.specs.shape_changes_Marking.{AreOthersPresent}
 use Rattle.views.specs.Lacking.{RowsStand}

@@ -8,7 +8,7 @@ use Rattle.superblocks.specs.Reading.{shape_of, role_count}
 use Rattle.superblocks.specs.Update.{IsRoleGive, give_of}
 use Rattle.superblocks.specs.Outcome.{AreLive, AreGivesOfLive, is_in_update, with_added}
 use Rattle.superblocks.proofs.SlotSets.{none_above}
-use Rattle.flat_history.specs.Sound.{OpensFit}
+use Rattle.views.specs.flat_history_Sound.{OpensFit}
 use Rattle.views.specs.shape_changes_Marking.{giving}
 use Rattle.views.proofs.MarkedLaws.{grows-marks, others-of}
 use Rattle.views.proofs.Gives.{gives_of, give-here, give-other}

@@ -13,8 +13,8 @@ use Rattle.superblocks.specs.Stages.{AreFirstKept}
 use Rattle.superblocks.specs.Rounds.{round_at, IsInRounds, ArePast}
 use Rattle.superblocks.specs.Outcome.{AreLive, AreGivesOfLive, is_in_update, live_set, with_added}
 use Rattle.superblocks.proofs.SlotSets.{none_above}
-use Rattle.flat_history.specs.World.{World}
-use Rattle.flat_history.specs.Sound.{OpensFit}
+use Rattle.views.specs.flat_history_World.{World}
+use Rattle.views.specs.flat_history_Sound.{OpensFit}
 use Rattle.row_io.specs.Rows.{present}
 use Rattle.views.specs.shape_views_Regions.{DoWithout}
 use Rattle.views.specs.Lacking.{RowsStand}

@@ -18,7 +18,7 @@ use Rattle.safe_updates.proofs.Under.{rest-touched}
 use Rattle.safe_updates.proofs.SparesLaws.{spare-left, spare-stays, free-told}
 use Rattle.views.proofs.MarkedLaws.{grows-marks, others-updated, failed-marked}
 use Rattle.views.proofs.LackingLaws.{since-failed, holders-updated}
-use Rattle.flat_history.specs.Sound.{OpensFit}
+use Rattle.views.specs.flat_history_Sound.{OpensFit}
 use Rattle.views.proofs.shape_changes_ChangeSafe.{told-changed, risen-changed}
 use Rattle.views.proofs.shape_changes_KeptSafe.{mark-safe, mark-named}
 use Rattle.views.proofs.MarkEnds.{left-in-mark}

@@ -1,7 +1,7 @@
 use Rattle.std.proofs.Common.{inl, refl, arith, ◌≡◌, sym, ◌∙◌, true, ℕ, ◌<◌}
 use Rattle.bank.specs.Tape.{disk}
 use Rattle.safe_updates.specs.Named.{AreDataKept}
-use Rattle.flat_history.specs.Sound.{OpensFit}
+use Rattle.views.specs.flat_history_Sound.{OpensFit}
 use Rattle.views.proofs.LiveLeft.{left-steady}
 use Rattle.views.proofs.Fit.{few}
 use Rattle.views.proofs.HeldRows.{vacant-missing}

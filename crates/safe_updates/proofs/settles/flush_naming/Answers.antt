@@ -9,7 +9,7 @@ use Rattle.views.specs.Rebuilding.{AreSparesFree}
 use Rattle.views.proofs.Flushed.{contents-added}
 use Rattle.views.proofs.MovedLaws.{moved-lost, moved-then, lost-none, moved-from, grows-then}
 use Rattle.views.proofs.LackingLaws.{since-lost, since-then, in-second, holders-flushed, holders-fewer, holders-at}
-use Rattle.flat_history.specs.Sound.{OpensFit}
+use Rattle.views.specs.flat_history_Sound.{OpensFit}
 use Rattle.superblocks.specs.declared.members.Members.{Members}
 use Rattle.views.specs.shape_changes_Steady.{IsNamedOver, IsUncleanTold}
 use Rattle.views.proofs.MarkedSafe.{lost-safe, added-longer}

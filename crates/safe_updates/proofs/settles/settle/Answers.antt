@@ -3,7 +3,7 @@ use Rattle.std.specs.Prelude.{Option, Some, None, MatchOption, is_some}
 use Rattle.md_base.specs.declared.answers.Refusal.{Refusal}
 use Rattle.bank.specs.Given.{Given}
 use Rattle.bank.specs.Tape.{disk}
-use Rattle.flat_history.specs.Sound.{OpensFit}
+use Rattle.views.specs.flat_history_Sound.{OpensFit}
 use Rattle.views.specs.shape_views_Regions.{DoWithout}
 use Rattle.views.specs.Lacking.{AreTooMany}
 use Rattle.views.specs.Rebuilding.{AreSparesFree}

@@ -1,7 +1,7 @@
 use Rattle.std.proofs.Common.{sym, ◌∙◌, ap, arith}
 use Rattle.md_base.proofs.Least.{least_below-none}
 use Rattle.superblocks.specs.Reading.{shape_of, role_state}
-use Rattle.row_io.specs.Rows.{reading_of}
+use Rattle.still.specs.row_io_Rows.{reading_of}
 use Rattle.still_steps.specs.Rebuilding.{recovers}
 use Rattle.still_steps.proofs.Lowest.{lowest-reached}
 use Rattle.still_steps.proofs.choosing.first_recovering.Goals as goal

@@ -1,6 +1,6 @@
 use Rattle.std.proofs.Common.{◌≡◌, ◌<◌, ℕ, false}
 use Rattle.superblocks.specs.Reading.{role_state}
-use Rattle.row_io.specs.Rows.{reading_of}
+use Rattle.still.specs.row_io_Rows.{reading_of}
 use Rattle.still_steps.specs.Rebuilding.{recovers}
 use Rattle.still_steps.proofs.choosing.first_recovering.Given as goal
 

@@ -2,7 +2,7 @@ use Rattle.std.proofs.Common.{not, is_some, sym, ◌∙◌, ap, arith}
 use Rattle.md_base.specs.declared.status.Role.{Role}
 use Rattle.md_base.proofs.Least.{least_below-none}
 use Rattle.superblocks.specs.Reading.{shape_of, holder}
-use Rattle.row_io.specs.Rows.{reading_of}
+use Rattle.still.specs.row_io_Rows.{reading_of}
 use Rattle.still.specs.views_Placed.{is_vacant}
 use Rattle.still_steps.proofs.Lowest.{lowest-reached}
 use Rattle.still_steps.proofs.choosing.first_vacant.Goals as goal

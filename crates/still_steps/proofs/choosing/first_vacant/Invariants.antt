@@ -1,5 +1,5 @@
 use Rattle.std.proofs.Common.{◌≡◌, ◌<◌, ℕ, false}
-use Rattle.row_io.specs.Rows.{reading_of}
+use Rattle.still.specs.row_io_Rows.{reading_of}
 use Rattle.still.specs.views_Placed.{is_vacant}
 use Rattle.still_steps.proofs.choosing.first_vacant.Given as goal
 

@@ -1,7 +1,7 @@
 use Rattle.std.proofs.Common.{◌≡◌, inl, inr, ℕ, Option, Some, None, sym, ◌∙◌, ap, subst₂, arith}
 use Rattle.superblocks.specs.declared.members.Members.{Members}
 use Rattle.std.specs.Prelude.{unwrap_or}
-use Rattle.flat_history.specs.declared.events.StepKind.TheVariants.{RebuildTaken, RebuildStripe, RebuildEnded}
+use Rattle.still.specs.flat_history_the_StepKind_TheVariants.{RebuildTaken, RebuildStripe, RebuildEnded}
 use Rattle.still.specs.running_words_Parts.{still_left}
 use Rattle.still.specs.array_kept_Calls.{IsHeldOrGiven}
 use Rattle.still.specs.views_Rebuilding.{Held}

@@ -1,5 +1,5 @@
 use Rattle.std.proofs.Common.{true, false, ◌∙◌, sym}
-use Rattle.flat_history.specs.declared.events.StepKind.TheVariants.{ResyncStripe, ResyncEnded}
+use Rattle.still.specs.flat_history_the_StepKind_TheVariants.{ResyncStripe, ResyncEnded}
 use Rattle.superblocks.specs.Reading.{list_length}
 use Rattle.still.specs.running_words_Parts.{still_left}
 use Rattle.still_steps.specs.Resyncing.{is_at_end}

@@ -13,9 +13,9 @@ use Rattle.superblocks.specs.Updating.{AreLosses, planned_newest}
 use Rattle.superblocks.specs.Outcome.{with_added, live_set, AreLive, AreGivesOfLive}
 use Rattle.superblocks.proofs.SlotSets.{none_above}
 use Rattle.superblocks.proofs.ValidFields.{few-roles}
-use Rattle.superblock_reads.proofs.SaidSlots.{spare-known}
-use Rattle.flat_history.specs.Sound.{OpensFit}
-use Rattle.flat_history.specs.World.{World}
+use Rattle.reshape_ends.proofs.superblock_reads_SaidSlots.{spare-known}
+use Rattle.reshape_ends.specs.flat_history_Sound.{OpensFit}
+use Rattle.reshape_ends.specs.flat_history_World.{World}
 use Rattle.reshape_ends.specs.shape_views_Regions.{ArePlaced}
 use Rattle.reshape_ends.specs.shape_views_Views.{Ledger}
 use Rattle.reshape_ends.specs.shape_changes_Changing.{IsChanged}

@@ -3,8 +3,8 @@ use Rattle.bank.specs.declared.bank.Operation.{Operation}
 use Rattle.bank.specs.Given.{Given}
 use Rattle.md_base.specs.declared.answers.Refusal.{Refusal}
 use Rattle.superblocks.specs.declared.members.Members.{Members}
-use Rattle.row_io.specs.Rows.{present}
-use Rattle.flat_history.specs.Sound.{OpensFit}
+use Rattle.window_steps.specs.row_io_Rows.{present}
+use Rattle.window_steps.specs.flat_history_Sound.{OpensFit}
 use Rattle.window_steps.specs.shape_changes_Steady.{IsUncleanTold}
 use Rattle.window_steps.specs.shape_changes_Marking.{AreOthersPresent}
 use Rattle.window_steps.proofs.shape_changes_Risen.{risen-then, risen-lost, room-then}

@@ -2,8 +2,8 @@ use Rattle.std.proofs.Common.{inl, inr, ◌+◌, ◌/◌, length, Option, sym, a
 use Rattle.std.specs.Prelude.{MatchOption, IfSome, ⊤}
 use Rattle.md_base.specs.declared.places.Shape.{Shape}
 use Rattle.md_base.specs.declared.places.Span.{Span}
-use Rattle.row_io.specs.Rows.{present}
-use Rattle.flat_history.specs.Stands.{covers}
+use Rattle.window_steps.specs.row_io_Rows.{present}
+use Rattle.window_steps.specs.flat_history_Stands.{covers}
 use Rattle.window_steps.specs.window_rows_Copies.{HasWindow, IsRoomFor}
 use Rattle.region_rows.specs.Stretches.{IsShapeOf, ListStandsIn, RowsStandIn}
 use Rattle.region_rows.proofs.StretchReads.{list-among, rows-among}

@@ -8,9 +8,9 @@ use Rattle.bank.specs.Tape.{Contents}
 use Rattle.sb1.specs.declared.sb.Sb.{Sb}
 use Rattle.superblocks.specs.declared.members.Members.{Members}
 use Rattle.superblocks.specs.Reading.{list_length}
-use Rattle.row_io.specs.Rows.{present, members_without}
-use Rattle.list_io.proofs.LossLaws.{members_then}
-use Rattle.list_io.proofs.ListLaws.{present_same}
+use Rattle.window_steps.specs.row_io_Rows.{present, members_without}
+use Rattle.window_steps.proofs.list_io_LossLaws.{members_then}
+use Rattle.window_steps.proofs.list_io_ListLaws.{present_same}
 use Rattle.window_steps.specs.views_Moving.{IsMoved}
 use Rattle.window_steps.proofs.views_MovedLaws.{moved-then, moved-from}
 use Rattle.window_steps.proofs.views_LackingLaws.{since-then, in-second}

@@ -6,9 +6,9 @@ use Rattle.bank.specs.Given.{Given}
 use Rattle.bank.specs.Tape.{disk}
 use Rattle.geometry.specs.Geometry.{ceiling}
 use Rattle.geometry.proofs.ClosedForms.{rounded_up}
-use Rattle.row_io.specs.Rows.{present, reading_of}
-use Rattle.list_io.specs.Full.{RowStands}
-use Rattle.flat_history.specs.Sound.{OpensFit}
+use Rattle.window_steps.specs.row_io_Rows.{present, reading_of}
+use Rattle.window_steps.specs.list_io_Full.{RowStands}
+use Rattle.window_steps.specs.flat_history_Sound.{OpensFit}
 use Rattle.window_steps.specs.shape_views_Windows.{IsCopyable}
 use Rattle.window_steps.proofs.shape_changes_Risen.{risen-none, risen-then}
 use Rattle.window_steps.specs.views_Moving.{IsMoved}

@@ -4,8 +4,8 @@ use Rattle.bank.specs.Tape.{disk}
 use Rattle.md_base.specs.Sectors.{Sector}
 use Rattle.geometry.specs.Geometry.{stripes}
 use Rattle.superblocks.specs.Reading.{is_clean}
-use Rattle.row_io.specs.Rows.{present, reading_of}
-use Rattle.flat_history.specs.World.{World}
+use Rattle.window_steps.specs.row_io_Rows.{present, reading_of}
+use Rattle.window_steps.specs.flat_history_World.{World}
 use Rattle.window_steps.specs.shape_views_Views.{Ledger}
 use Rattle.window_steps.specs.shape_views_Windows.{IsCopyable}
 use Rattle.window_steps.specs.shape_changes_Safety.{HasRoomLeft, IsRisen}

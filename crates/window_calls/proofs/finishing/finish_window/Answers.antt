@@ -10,9 +10,9 @@ use Rattle.bank.specs.Tape.{disk}
 use Rattle.geometry.specs.Geometry.{stripes}
 use Rattle.superblocks.specs.declared.members.Members.{Members}
 use Rattle.superblocks.specs.Reading.{final_shape, next_window}
-use Rattle.row_io.specs.Rows.{present, reading_of}
-use Rattle.flat_history.specs.World.{World}
-use Rattle.flat_history.specs.Sound.{OpensFit}
+use Rattle.window_steps.specs.row_io_Rows.{present, reading_of}
+use Rattle.window_steps.specs.flat_history_World.{World}
+use Rattle.window_steps.specs.flat_history_Sound.{OpensFit}
 use Rattle.window_steps.specs.shape_views_Regions.{ArePlaced}
 use Rattle.window_steps.specs.shape_views_Views.{AreHeadersFit, Ledger}
 use Rattle.window_steps.specs.shape_views_Windows.{HasNoSection, moved_past}

@@ -3,10 +3,10 @@ use Rattle.bank.specs.declared.bank.Operation.{Operation}
 use Rattle.bank.specs.Given.{Given}
 use Rattle.bank.specs.Tape.{EachMark, disk}
 use Rattle.bank.proofs.Marks.{each_mark-told}
-use Rattle.row_io.proofs.RowBytes.{on_ok}
+use Rattle.course_kept.proofs.row_io_RowBytes.{on_ok}
 use Rattle.backup.specs.Written.{cleared_header}
 use Rattle.backup.specs.Storing.{IsHeading, IsHeaded}
-use Rattle.flat_history.specs.Sound.{OpensFit}
+use Rattle.course_kept.specs.flat_history_Sound.{OpensFit}
 use Rattle.course_kept.specs.shape_views_Views.{Disk}
 use Rattle.course_kept.proofs.shape_views_BackupLaws.{cleared-closed}
 use Rattle.course_kept.specs.shape_changes_Steady.{KeepsSafe}

@@ -1,9 +1,9 @@
 use Rattle.std.proofs.Common.{ℕ, List, length, ◌∙◌, ap}
 use Rattle.bank.specs.Tape.{disk}
-use Rattle.row_io.proofs.RowBytes.{on_ok}
+use Rattle.course_kept.proofs.row_io_RowBytes.{on_ok}
 use Rattle.backup.specs.Written.{header_of}
 use Rattle.backup.specs.Storing.{IsStoringOrNaming}
-use Rattle.flat_history.specs.Sound.{OpensFit}
+use Rattle.course_kept.specs.flat_history_Sound.{OpensFit}
 use Rattle.course_kept.specs.shape_views_Views.{Disk}
 use Rattle.course_kept.proofs.shape_views_BackupLaws.{stored-closed}
 use Rattle.window_entering.proofs.SectionLaws.{opened, unsure, marks-by, saved-safe}

@@ -8,8 +8,8 @@ use Rattle.bank.specs.Given.{Given, IsFaulted}
 use Rattle.bank.specs.Tape.{disk}
 use Rattle.superblocks.specs.declared.members.Members.{Members}
 use Rattle.superblocks.specs.Reading.{next_window}
-use Rattle.row_io.specs.Rows.{present}
-use Rattle.flat_history.specs.Sound.{OpensFit}
+use Rattle.course_kept.specs.row_io_Rows.{present}
+use Rattle.course_kept.specs.flat_history_Sound.{OpensFit}
 use Rattle.course_kept.specs.shape_views_Regions.{DoWithout}
 use Rattle.course_kept.specs.shape_views_Windows.{HasNoSection}
 use Rattle.course_kept.proofs.shape_views_Headers.{window-filled}

@@ -1,6 +1,6 @@
 use Rattle.std.proofs.Common.{Bool, sym, subst}
 use Rattle.bank.specs.Tape.{disk}
-use Rattle.flat_history.specs.Sound.{OpensFit}
+use Rattle.course_kept.specs.flat_history_Sound.{OpensFit}
 use Rattle.course_kept.proofs.views_MarkedLaws.{grows-marks}
 use Rattle.course_kept.proofs.views_SafeStretch.{safe-none}
 use Rattle.course_kept.specs.Course.{IsStored}

@@ -3,7 +3,7 @@ use Rattle.bank.specs.Tape.{disk}
 use Rattle.bank.proofs.Marks.{each_mark-map}
 use Rattle.row_io.specs.Rows.{present, reading_of}
 use Rattle.list_io.specs.Writing.{AreSuperblocksKept}
-use Rattle.shape_views.specs.Windows.{IsCopying}
+use Rattle.shape_changes.specs.shape_views_Windows.{IsCopying}
 use Rattle.window_rows.specs.Copies.{tail_of}
 use Rattle.window_rows.proofs.StripeLaws.{stripe_below, own_row, copying, superblocks_kept, own_whole, row_stands}
 use Rattle.window_rows.proofs.stripes.copy_stripe.Goals as goal

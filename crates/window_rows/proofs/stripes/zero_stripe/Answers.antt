@@ -3,7 +3,7 @@ use Rattle.bank.specs.Tape.{disk}
 use Rattle.bank.proofs.Marks.{each_mark-map}
 use Rattle.row_io.specs.Rows.{present, reading_of}
 use Rattle.list_io.specs.Writing.{AreSuperblocksKept}
-use Rattle.shape_views.specs.Windows.{IsWrittenAt}
+use Rattle.shape_changes.specs.shape_views_Windows.{IsWrittenAt}
 use Rattle.shape_changes.specs.Updates.{IsPastPlace}
 use Rattle.window_rows.specs.Copies.{tail_of}
 use Rattle.window_rows.proofs.StripeLaws.{past_below, past_row, zeroing, superblocks_kept, nothing, own_whole, row_stands, nothing_copied}

@@ -5,9 +5,9 @@ use Rattle.bank.specs.Given.{Given}
 use Rattle.bank.specs.Tape.{disk}
 use Rattle.safe_updates.specs.Unused.{IsUnusedKept}
 use Rattle.safe_updates.proofs.Unused.{unused-then}
-use Rattle.row_io.specs.Rows.{present, reading_of}
+use Rattle.safe_updates.specs.row_io_Rows.{present, reading_of}
 use Rattle.list_io.specs.Full.{RowStands}
-use Rattle.flat_history.specs.Sound.{OpensFit}
+use Rattle.safe_updates.specs.flat_history_Sound.{OpensFit}
 use Rattle.safe_updates.specs.shape_views_Windows.{IsCopyable}
 use Rattle.safe_updates.proofs.shape_changes_Risen.{risen-none, risen-then}
 use Rattle.safe_updates.specs.views_Moving.{IsMoved}

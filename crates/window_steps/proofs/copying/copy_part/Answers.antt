@@ -5,9 +5,9 @@ use Rattle.md_base.specs.declared.places.Shape.{Shape}
 use Rattle.superblocks.specs.Reading.{final_shape}
 use Rattle.bank.specs.Given.{Given}
 use Rattle.bank.specs.Tape.{EachMark, disk}
-use Rattle.row_io.proofs.Turns.{marks_last}
-use Rattle.row_io.specs.Rows.{present}
-use Rattle.flat_history.specs.Sound.{OpensFit}
+use Rattle.safe_updates.proofs.row_io_Turns.{marks_last}
+use Rattle.safe_updates.specs.row_io_Rows.{present}
+use Rattle.safe_updates.specs.flat_history_Sound.{OpensFit}
 use Rattle.safe_updates.specs.shape_views_Regions.{backup_of, DoWithout}
 use Rattle.safe_updates.specs.shape_changes_Marking.{AreOthersPresent}
 use Rattle.safe_updates.proofs.shape_changes_Risen.{risen-then, room-then}

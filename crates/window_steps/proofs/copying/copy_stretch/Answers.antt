@@ -3,15 +3,15 @@ use Rattle.md_base.specs.Sectors.{Sector}
 use Rattle.sb1.specs.declared.sb.Sb.{Sb}
 use Rattle.bank.specs.Tape.{IsIn, disk}
 use Rattle.safe_updates.proofs.Unused.{unused-role}
-use Rattle.row_io.proofs.Turns.{marks_last}
+use Rattle.safe_updates.proofs.row_io_Turns.{marks_last}
 use Rattle.superblocks.specs.Reading.{shape_of, data_offset_of}
 use Rattle.list_io.specs.Full.{RowStands}
 use Rattle.safe_updates.specs.shape_views_Regions.{backup_of}
 use Rattle.safe_updates.specs.views_Placed.{HaveSameReshape}
 use Rattle.bank.specs.Given.{Given}
 use Rattle.superblocks.specs.declared.members.Members.{Members}
-use Rattle.row_io.specs.Rows.{present, reading_of}
-use Rattle.flat_history.specs.Sound.{OpensFit}
+use Rattle.safe_updates.specs.row_io_Rows.{present, reading_of}
+use Rattle.safe_updates.specs.flat_history_Sound.{OpensFit}
 use Rattle.safe_updates.proofs.shape_changes_Risen.{risen-lost}
 use Rattle.safe_updates.specs.views_Placed.{AreLost}
 use Rattle.safe_updates.proofs.views_Fit.{has-rows, reshape-same}

@@ -9,13 +9,13 @@ use Rattle.bank.proofs.Causes.{faulted_longer}
 use Rattle.bank.proofs.Marks.{each_mark-told}
 use Rattle.superblocks.specs.declared.members.Members.{Members}
 use Rattle.superblocks.specs.Reading.{shape_of, next_window}
-use Rattle.row_io.specs.Rows.{present, reading_of, IsTolerated}
-use Rattle.row_io.proofs.RowBytes.{on_ok}
+use Rattle.safe_updates.specs.row_io_Rows.{present, reading_of, IsTolerated}
+use Rattle.safe_updates.proofs.row_io_RowBytes.{on_ok}
 use Rattle.list_io.specs.Calls.{IsAsked}
 use Rattle.backup.specs.Written.{header_of}
 use Rattle.backup.specs.Storing.{IsStoring, IsNaming, IsStoringOrNaming}
-use Rattle.flat_history.specs.World.{World}
-use Rattle.flat_history.specs.Sound.{OpensFit}
+use Rattle.safe_updates.specs.flat_history_World.{World}
+use Rattle.safe_updates.specs.flat_history_Sound.{OpensFit}
 use Rattle.safe_updates.specs.shape_views_Views.{Disk, Ledger}
 use Rattle.safe_updates.proofs.shape_views_BackupLaws.{stored-closed}
 use Rattle.safe_updates.specs.shape_changes_Safety.{HasLiveSlot}

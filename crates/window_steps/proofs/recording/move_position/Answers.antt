@@ -2,8 +2,8 @@ use Rattle.std.proofs.Common.{refl, sym, ◌∙◌, subst, arith}
 use Rattle.bank.specs.Given.{Given}
 use Rattle.bank.specs.Tape.{EachMark, disk}
 use Rattle.bank.proofs.Laws.{kept_in}
-use Rattle.row_io.proofs.Turns.{marks_last}
-use Rattle.row_io.specs.Rows.{present, reading_of}
+use Rattle.safe_updates.proofs.row_io_Turns.{marks_last}
+use Rattle.safe_updates.specs.row_io_Rows.{present, reading_of}
 use Rattle.safe_updates.specs.shape_views_Windows.{moved_past}
 use Rattle.safe_updates.specs.shape_changes_Marking.{AreOthersPresent}
 use Rattle.safe_updates.proofs.shape_changes_Risen.{risen-then}

@@ -8,8 +8,8 @@ use Rattle.bank.proofs.Laws.{kept_in}
 use Rattle.superblocks.specs.declared.members.Members.{Members}
 use Rattle.superblocks.specs.Outcome.{live_set, is_left}
 use Rattle.superblocks.proofs.SlotSets.{none_above}
-use Rattle.row_io.specs.Rows.{reading_of}
-use Rattle.flat_history.specs.Sound.{OpensFit}
+use Rattle.safe_updates.specs.row_io_Rows.{reading_of}
+use Rattle.safe_updates.specs.flat_history_Sound.{OpensFit}
 use Rattle.safe_updates.specs.shape_views_Windows.{moved_past}
 use Rattle.safe_updates.specs.shape_changes_Kinds.{recording}
 use Rattle.safe_updates.proofs.shape_changes_ChangeSafe.{told-changed, one-stretch}

@@ -3,8 +3,8 @@ use Rattle.std.specs.Prelude.{MatchOption, is_some, true}
 use Rattle.md_base.specs.declared.answers.Refusal.{Refusal}
 use Rattle.bank.specs.Given.{Given}
 use Rattle.bank.specs.Tape.{disk}
-use Rattle.row_io.specs.Rows.{present, reading_of}
-use Rattle.flat_history.specs.Sound.{OpensFit}
+use Rattle.safe_updates.specs.row_io_Rows.{present, reading_of}
+use Rattle.safe_updates.specs.flat_history_Sound.{OpensFit}
 use Rattle.safe_updates.specs.shape_views_Regions.{DoWithout}
 use Rattle.safe_updates.specs.shape_views_Views.{Disk, IsViewRight}
 use Rattle.safe_updates.specs.shape_views_Windows.{moved_past}

@@ -2,9 +2,9 @@ use Rattle.std.proofs.Common.{inl, inr, ◌+◌, ◌*◌, refl, sym, ◌∙◌, 
 use Rattle.std.proofs.lemmas.Bool.{cases_lt}
 use Rattle.layout.proofs.Places.{chunk_some}
 use Rattle.bank.specs.Given.{Given}
-use Rattle.row_io.specs.Rows.{present, reading_of}
+use Rattle.safe_updates.specs.row_io_Rows.{present, reading_of}
 use Rattle.list_io.specs.Full.{RowStands}
-use Rattle.flat_history.specs.Sound.{OpensFit}
+use Rattle.safe_updates.specs.flat_history_Sound.{OpensFit}
 use Rattle.safe_updates.proofs.shape_changes_Risen.{risen-none, risen-then}
 use Rattle.safe_updates.specs.views_Moving.{IsMoved}
 use Rattle.safe_updates.specs.views_Rebuilding.{AreSparesFree}

@@ -2,9 +2,9 @@ use Rattle.std.proofs.Common.{◌≡◌, ◌-◌, ◌<◌, ◌≤◌, ℕ}
 use Rattle.bank.specs.Given.{NeverFalls}
 use Rattle.md_base.specs.Sectors.{Sector}
 use Rattle.superblocks.specs.Reading.{is_clean}
-use Rattle.row_io.specs.Rows.{present, reading_of}
+use Rattle.safe_updates.specs.row_io_Rows.{present, reading_of}
 use Rattle.list_io.specs.Full.{RowStands}
-use Rattle.flat_history.specs.World.{World}
+use Rattle.safe_updates.specs.flat_history_World.{World}
 use Rattle.safe_updates.specs.shape_views_Views.{Ledger}
 use Rattle.safe_updates.specs.shape_changes_Safety.{HasLiveSlot, HasRoomLeft, IsRisen}
 use Rattle.safe_updates.specs.Named.{AreNamedMissing}

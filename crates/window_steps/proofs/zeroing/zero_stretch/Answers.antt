@@ -2,8 +2,8 @@ use Rattle.std.proofs.Common.{◌≡◌, inl, inr, ℕ, ◌+◌, ◌-◌, ◌*�
 use Rattle.superblocks.specs.Reading.{data_offset_of}
 use Rattle.list_io.specs.Full.{RowStands}
 use Rattle.bank.specs.Given.{Given}
-use Rattle.row_io.specs.Rows.{present, reading_of}
-use Rattle.flat_history.specs.Sound.{OpensFit}
+use Rattle.safe_updates.specs.row_io_Rows.{present, reading_of}
+use Rattle.safe_updates.specs.flat_history_Sound.{OpensFit}
 use Rattle.safe_updates.proofs.shape_changes_Risen.{risen-lost}
 use Rattle.safe_updates.specs.views_Placed.{AreLost}
 use Rattle.safe_updates.proofs.views_Fit.{has-rows}
@@ -15,7 +15,7 @@ use Rattle.window_steps.proofs.CopyLaws.{out-of}
 use Rattle.window_steps.proofs.ZeroLaws.{safe-zeroed}
 use Rattle.md_base.specs.Sectors.{Sector}
 use Rattle.bank.specs.Tape.{IsIn}
-use Rattle.row_io.proofs.Turns.{marks_last}
+use Rattle.safe_updates.proofs.row_io_Turns.{marks_last}
 use Rattle.safe_updates.proofs.Unused.{unused-role}
 use Rattle.window_steps.proofs.zeroing.zero_stretch.Goals as goal
 

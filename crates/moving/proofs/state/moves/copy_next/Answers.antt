@@ -3,7 +3,7 @@ use Rattle.md_base.specs.declared.places.Shape.{Shape}
 use Rattle.superblocks.specs.Reading.{final_shape}
 use Rattle.superblocks.proofs.ValidFields.{few-roles}
 use Rattle.row_io.specs.Rows.{reading_of, present}
-use Rattle.list_io.specs.Full.{RowStands}
+use Rattle.moving_laws.specs.list_io_Full.{RowStands}
 use Rattle.moving_laws.proofs.shape_views_Stands.{span-order}
 use Rattle.views.specs.Lacking.{AreOtherRowsKept, IsOfStripe}
 use Rattle.views.proofs.LackingLaws.{lost-since}
