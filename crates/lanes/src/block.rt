@@ -11,9 +11,9 @@ ghost use Rattle.lanes.specs.Serving.{IsEarlier, HasMade};
 ghost use Rattle.lanes.specs.Blocks.{HasRun, HasWorkedBy};
 
 use crate::starting::{begun, closed, ran, rooms};
+use crate::{Pace, Reply, Running, Worked};
 use bank::Bank;
 use flat_history::Request;
-use crate::{Pace, Reply, Running, Worked};
 use std::alloc::Global;
 use std::sync::Wait;
 use std::thread::Threads;

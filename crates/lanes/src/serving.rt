@@ -1,9 +1,9 @@
 //! A running array that answers the requests of numbered callers.
 ghost use Rattle.std.specs.Prelude.{◌≡◌};
 
+use crate::{Reply, Running, perform, tells_sizes};
 use bank::Bank;
 use flat_history::Request;
-use crate::{Reply, Running, perform, tells_sizes};
 use md_base::Who;
 use std::alloc::Global;
 use std::marker::Model;

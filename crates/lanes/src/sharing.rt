@@ -7,9 +7,9 @@ ghost use Rattle.lanes.specs.Serving.{array_ways};
 ghost use Rattle.lanes.specs.Lanes.{own_requests};
 
 use crate::serving::Answering;
+use crate::{Reply, Running, Service};
 use bank::Bank;
 use flat_history::Request;
-use crate::{Reply, Running, Service};
 use std::alloc::Global;
 use std::sync::Wait;
 use turn_lock::Lock;

@@ -10,9 +10,9 @@ ghost use Rattle.lanes.specs.Lanes.{carried_by};
 ghost use Rattle.lanes.specs.Threads.{HasPassed, HasWorkedBy};
 
 use crate::rows::{put_back, taken};
+use crate::{Pace, Pass, Reply, Running, Shared, Worked, at_once};
 use bank::Bank;
 use flat_history::Request;
-use crate::{Pace, Pass, Reply, Running, Shared, Worked, at_once};
 use std::alloc::Global;
 use std::sync::Wait;
 use std::thread::Threads;

@@ -5,8 +5,8 @@ ghost use Rattle.lanes.specs.running_calls_Replies.{IsAskable};
 ghost use Rattle.lanes.specs.Pace.{AnswersSteps, asked_by};
 ghost use Rattle.lanes.specs.Threads.{HasPassed, HasWorkedBy};
 
-use flat_history::Request;
 use crate::{Pace, Reply, Service, Worked, run_lane, run_worker};
+use flat_history::Request;
 use std::sync::Wait;
 use std::thread::{Threads, join};
 
