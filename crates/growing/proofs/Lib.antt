@@ -44,3 +44,4 @@ pub use Rattle.turning.proofs.row_io_Losses
 pub use Rattle.turning.proofs.history_laws_OneShapeGrowing
 pub use Rattle.turning.proofs.history_laws_ReshapedLaws
 pub use Rattle.turning.proofs.history_laws_GrowingLaws
+mod Parted

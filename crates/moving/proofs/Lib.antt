@@ -36,3 +36,5 @@ pub use Rattle.moving_laws.proofs.superblock_reads_SaidSlots
 pub use Rattle.moving_laws.proofs.history_laws_OneShapeGrowing
 pub use Rattle.moving_laws.proofs.history_laws_ReshapedLaws
 pub use Rattle.moving_laws.proofs.history_laws_GrowingLaws
+pub mod StepLaws
+mod Calls

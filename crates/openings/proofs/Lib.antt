@@ -18,3 +18,4 @@ pub use Rattle.grow_asked.proofs.FirstLaws as grow_asked_FirstLaws
 pub use Rattle.running_steps.proofs.history_laws_OneShapeGrowing
 pub use Rattle.running_steps.proofs.history_laws_ReshapedLaws
 pub use Rattle.running_steps.proofs.history_laws_GrowingLaws
+mod Handed

@@ -9,3 +9,4 @@ pub mod ShownLaws
 pub mod Steps
 pub mod Texts
 pub mod WritesPlaced
+mod NothingDone

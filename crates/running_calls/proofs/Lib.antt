@@ -19,3 +19,4 @@ pub use Rattle.openings.proofs.grow_asked_FirstLaws
 pub use Rattle.openings.proofs.history_laws_OneShapeGrowing
 pub use Rattle.openings.proofs.history_laws_ReshapedLaws
 pub use Rattle.openings.proofs.history_laws_GrowingLaws
+mod Arms

@@ -1,7 +1,7 @@
 -- Where an array goes by callers' calls.
 use Rattle.std.proofs.Common.{◌≡◌, ℕ, true, false, List, [], ◌∷◌, ◌++◌, length, drop, refl, sym, ◌∙◌, ap}
 use Rattle.std.proofs.Math.Seq.{drop-append_seam}
-use Rattle.std.specs.Prelude.{if◌then◌else◌, IsTrue}
+use Rattle.std.specs.Prelude.{if◌then◌else◌}
 use Rattle.std.specs.List.{list_any}
 use Rattle.md_base.specs.declared.answers.Who.{Who}
 use Rattle.md_base.specs.declared.wishes.Wish.{Wish}
@@ -9,11 +9,9 @@ use Rattle.grow_plan.specs.Plans.{last_shape}
 use Rattle.openings.specs.superblocks_the_Members.{Members}
 use Rattle.openings.specs.superblocks_Reading.{is_reshaping, shape_of, final_shape}
 use Rattle.flat_history.specs.declared.events.Entry.{Entry}
-use Rattle.flat_history.specs.declared.events.Event.{Event}
 use Rattle.flat_history.specs.declared.events.Event.TheVariants.{Planned}
 use Rattle.flat_history.specs.declared.events.Request.TheVariants.{Grow as AsksGrow}
 use Rattle.flat_history.specs.Reshaped.{is_planned}
-use Rattle.openings.specs.grow_asked_the_PhasesLeft.{PhasesLeft}
 use Rattle.openings.specs.grow_asked_Left.{phases_of}
 use Rattle.call_entries.proofs.PlainLaws.{one}
 use Rattle.openings.specs.running_words_Parts.{RunningParts}

@@ -18,3 +18,5 @@ pub use Rattle.safe_updates.proofs.views_Elements
 pub use Rattle.safe_updates.proofs.shape_views_Alike
 pub use Rattle.safe_updates.proofs.shape_views_UnderWay
 pub use Rattle.safe_updates.proofs.views_MendedParts
+pub mod CallLaws
+pub mod RefusedLaws

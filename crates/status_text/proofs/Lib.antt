@@ -1,1 +1,3 @@
 pub mod UuidLaws
+pub mod AppendedOn
+pub mod LoopLines

@@ -24,3 +24,5 @@ pub use Rattle.still_laws.proofs.shape_changes_Kept
 pub use Rattle.still_laws.proofs.shape_views_Stands
 pub use Rattle.still_laws.proofs.superblock_reads_SaidLists
 pub use Rattle.still_laws.proofs.superblock_reads_SaidSlots
+pub mod Rested
+mod Asked

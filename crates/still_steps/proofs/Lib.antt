@@ -27,3 +27,5 @@ pub use Rattle.still.proofs.shape_changes_Kept
 pub use Rattle.still.proofs.shape_views_Stands
 pub use Rattle.still.proofs.superblock_reads_SaidLists
 pub use Rattle.still.proofs.superblock_reads_SaidSlots
+mod RebuildParts
+mod StepParts

@@ -4,3 +4,4 @@ pub mod LeftThen
 pub mod Untaken
 pub mod TakenReady
 pub mod TakenFrom
+mod Parted

@@ -49,3 +49,4 @@ pub use Rattle.row_io.proofs.Losses as row_io_Losses
 pub use Rattle.moving_steps.proofs.history_laws_OneShapeGrowing
 pub use Rattle.moving_steps.proofs.history_laws_ReshapedLaws
 pub use Rattle.moving_steps.proofs.history_laws_GrowingLaws
+mod Parted

@@ -1,8 +1,9 @@
-use Rattle.std.proofs.Common.{◌≡◌, ◌+◌, ◌++◌, [], ◌∷◌, ℕ, List, length, take, drop, refl, sym, ap, ◌∙◌, subst, arith, Some}
+use Rattle.std.proofs.Common.{◌≡◌, ◌+◌, ◌<◌, ◌≤◌, Ok, Err, ◌++◌, [], ◌∷◌, ℕ, List, length, take, drop, refl, sym, ap, ◌∙◌, subst, arith, Some}
 use Rattle.std.proofs.lemmas.List.{length-take-le}
 use Rattle.bank.specs.declared.bank.Operation.{Operation}
 use Rattle.bank.specs.declared.bank.Operation.TheVariants.{Write, Flush}
-use Rattle.bank.specs.Given.{Given}
+use Rattle.bank.specs.Given.{Given, IsPlace, HasCause}
+use Rattle.bank.proofs.Causes.{cause_after_ok}
 use Rattle.sb1.specs.declared.sb.Sb.{Sb}
 use Rattle.safe_additions.specs.row_io_Rows.{present}
 use Rattle.assemble.specs.Filling.{IsMade}
@@ -62,3 +63,37 @@ returns-in-Ok-put_sector-clause-done g c = λ told.
     let new : List Operation = g.B.Bank.tape c.put_sector.new.bank in
     put-done given.start old new c.args.slot 8 c.first_sector.result.now
     (c.in-Ok-put_sector.ensures.did.all told refl ∙ ap (λ (l : List Operation). l ++ Write c.args.slot 8 c.first_sector.result.now ∷ Flush c.args.slot ∷ []) (c.read.ensures.tape told))
+
+-- ---- what is asked
+
+place-at : (given : Given) (slot : ℕ) → slot < given.slots → 10 ≤ given.sectors slot → IsPlace given slot 8 512
+place-at given slot known room = record { known = known; some = omega arith; whole = refl; within = omega arith }
+
+pub prepare-stored-requires-clause-long : goal.prepare-stored-requires-clause-long
+prepare-stored-requires-clause-long g c = subst (λ (n : ℕ). c.args.spec.now.offset ≤ n) (sym (c.len-sectors.ensures ∙ ap (λ (b : Given). b.sectors c.args.slot) c.read.ensures.given)) c.requires.long
+
+pub put_sector-requires-clause-place : goal.put_sector-requires-clause-place
+put_sector-requires-clause-place g c = subst (λ (b : Given). IsPlace b c.args.slot 8 512) (sym c.read.ensures.given) (place-at (g.B.Bank.given c.args.bank.now) c.args.slot c.requires.slot c.requires.room)
+
+-- ---- what failed
+
+cause-err : {T E U : Type 0} {slot : ℕ} {a b : ℕ → ℕ} {fault : E} → HasCause {T = T} {E = E} slot a b (Err fault) → HasCause {T = U} {E = E} slot a b (Err fault)
+cause-err was = record { never_falls = was.never_falls; others = was.others; failed = was.failed; stays_failed = was.stays_failed }
+
+cause-ok : {T E U F : Type 0} {slot : ℕ} {a b : ℕ → ℕ} {x : T} {y : U} → HasCause {T = T} {E = E} slot a b (Ok x) → HasCause {T = U} {E = F} slot a b (Ok y)
+cause-ok was = record { never_falls = was.never_falls; others = was.others; failed = was.failed; stays_failed = was.stays_failed }
+
+pub returns-in-Err-clause-cause : goal.returns-in-Err-clause-cause
+returns-in-Err-clause-cause g c = cause-err c.in-Err.ensures.cause
+
+pub returns-in-Err-put_sector-clause-given : goal.returns-in-Err-put_sector-clause-given
+returns-in-Err-put_sector-clause-given g c = c.put_sector.ensures.given ∙ c.read.ensures.given
+
+pub returns-in-Err-put_sector-clause-cause : goal.returns-in-Err-put_sector-clause-cause
+returns-in-Err-put_sector-clause-cause g c = cause-err (cause_after_ok c.args.slot _ _ _ _ _ c.in-Ok.ensures.cause c.in-Err-put_sector.ensures.cause)
+
+pub returns-in-Ok-put_sector-clause-given : goal.returns-in-Ok-put_sector-clause-given
+returns-in-Ok-put_sector-clause-given g c = c.put_sector.ensures.given ∙ c.read.ensures.given
+
+pub returns-in-Ok-put_sector-clause-cause : goal.returns-in-Ok-put_sector-clause-cause
+returns-in-Ok-put_sector-clause-cause g c = cause-ok (cause_after_ok c.args.slot _ _ _ _ _ c.in-Ok.ensures.cause c.in-Ok-put_sector.ensures.cause)

@@ -1,4 +1,7 @@
-use Rattle.std.proofs.Common.{◌++◌, ◌∷◌, [], List, sym, subst, arith}
+use Rattle.std.proofs.Common.{◌≡◌, ◌++◌, ◌∷◌, [], List, refl, sym, subst, arith, append-nil}
+use Rattle.bank.specs.Given.{NeverFalls}
+use Rattle.lane_blocks.specs.views_Moving.{Grows}
+use Rattle.line_answers.specs.run_laws_Ended.{IsRunKept}
 use Rattle.line_answers.specs.run_laws_the_Answered.{Answered}
 use Rattle.line_answers.specs.run_laws_the_State.{State}
 use Rattle.line_answers.specs.run_laws_the_State_TheVariants.{Idle}
@@ -34,3 +37,48 @@ pub returns-in-Idle-clause-written : goal.returns-in-Idle-clause-written
 returns-in-Idle-clause-written g c t =
     subst (λ (s : State g.row.B.Denot). IsWritten (setting_of g.B.Bank.tells (g.B.Bank.given (bank_in s)) (g.B.Bank.tape (bank_in s)) (g.B.Bank.tape c.in-Idle.bank) c.args.backup (g.B.Bank.faults_of (bank_in s)) (g.B.Bank.faults_of c.in-Idle.bank)) (histories_in s) (histories_in (Idle c.in-Idle.bank c.in-Idle.epochs)) (λ slot. ⊥)) (sym c.in-Idle.is)
     (written-nothing (setting_of g.B.Bank.tells (g.B.Bank.given c.in-Idle.bank) (g.B.Bank.tape c.in-Idle.bank) (g.B.Bank.tape c.in-Idle.bank) c.args.backup (g.B.Bank.faults_of c.in-Idle.bank) (g.B.Bank.faults_of c.in-Idle.bank)) (histories_in (Idle c.in-Idle.bank c.in-Idle.epochs)) (λ slot. ⊥) (omega arith))
+
+pub returns-in-Running-clause-answered : goal.returns-in-Running-clause-answered
+returns-in-Running-clause-answered g c = subst (λ (s : State g.row.B.Denot). IsBlockAnswered (setting_of g.B.Bank.tells (g.B.Bank.given (bank_in s)) (g.B.Bank.tape (bank_in s)) (g.B.Bank.tape (bank_in c.answer_running.result.0)) c.args.backup (g.B.Bank.faults_of (bank_in s)) (g.B.Bank.faults_of (bank_in c.answer_running.result.0))) s c.answer_running.result.0 (c.args.first.now ++ (c.args.second.now ++ c.args.worker ∷ [])) c.answer_running.result.1.items) (sym c.in-Running.is) c.answer_running.ensures.answered
+
+pub returns-in-Running-clause-written : goal.returns-in-Running-clause-written
+returns-in-Running-clause-written g c = subst (λ (s : State g.row.B.Denot). g.B.Bank.tells → IsWritten (setting_of g.B.Bank.tells (g.B.Bank.given (bank_in s)) (g.B.Bank.tape (bank_in s)) (g.B.Bank.tape (bank_in c.answer_running.result.0)) c.args.backup (g.B.Bank.faults_of (bank_in s)) (g.B.Bank.faults_of (bank_in c.answer_running.result.0))) (histories_in s) (histories_in c.answer_running.result.0) (λ slot. ⊥)) (sym c.in-Running.is) c.answer_running.ensures.written
+
+pub returns-in-Running-clause-former : goal.returns-in-Running-clause-former
+returns-in-Running-clause-former g c = subst (λ (s : State g.row.B.Denot). IsRunKept g.B.Bank.tells (g.B.Bank.given (bank_in s)) (g.B.Bank.tape (bank_in c.answer_running.result.0)) c.args.backup c.answer_running.result.0) (sym c.in-Running.is) c.answer_running.ensures.former
+
+pub returns-in-Running-clause-never_falls : goal.returns-in-Running-clause-never_falls
+returns-in-Running-clause-never_falls g c = subst (λ (s : State g.row.B.Denot). NeverFalls (g.B.Bank.faults_of (bank_in s)) (g.B.Bank.faults_of (bank_in c.answer_running.result.0))) (sym c.in-Running.is) c.answer_running.ensures.never_falls
+
+pub returns-in-Running-clause-grows : goal.returns-in-Running-clause-grows
+returns-in-Running-clause-grows g c = subst (λ (s : State g.row.B.Denot). Grows g.B.Bank.tells (g.B.Bank.tape (bank_in s)) (g.B.Bank.tape (bank_in c.answer_running.result.0))) (sym c.in-Running.is) c.answer_running.ensures.grows
+
+pub returns-in-Running-clause-given : goal.returns-in-Running-clause-given
+returns-in-Running-clause-given g c = subst (λ (s : State g.row.B.Denot). g.B.Bank.given (bank_in c.answer_running.result.0) ≡ g.B.Bank.given (bank_in s)) (sym c.in-Running.is) c.answer_running.ensures.given
+
+pub answer_running-requires-clause-own : goal.answer_running-requires-clause-own
+answer_running-requires-clause-own g c κs within = subst (λ (s : State g.row.B.Denot). RunsOwn s) c.in-Running.is c.requires.own
+
+pub answer_running-requires-clause-former : goal.answer_running-requires-clause-former
+answer_running-requires-clause-former g c κs within =
+    subst (λ (s : State g.row.B.Denot). IsRunKept g.B.Bank.tells (g.B.Bank.given (bank_in s)) (g.B.Bank.tape (bank_in s)) c.args.backup s) c.in-Running.is c.requires.former
+
+pub returns-in-Idle-clause-former : goal.returns-in-Idle-clause-former
+returns-in-Idle-clause-former g c =
+    subst (λ (s : State g.row.B.Denot). IsRunKept g.B.Bank.tells (g.B.Bank.given (bank_in s)) (g.B.Bank.tape c.in-Idle.bank) c.args.backup (Idle c.in-Idle.bank c.in-Idle.epochs)) (sym c.in-Idle.is)
+    (subst (λ (s : State g.row.B.Denot). IsRunKept g.B.Bank.tells (g.B.Bank.given (bank_in s)) (g.B.Bank.tape (bank_in s)) c.args.backup s) c.in-Idle.is c.requires.former)
+
+pub returns-in-Idle-clause-never_falls : goal.returns-in-Idle-clause-never_falls
+returns-in-Idle-clause-never_falls g c = subst (λ (s : State g.row.B.Denot). NeverFalls (g.B.Bank.faults_of (bank_in s)) (g.B.Bank.faults_of c.in-Idle.bank)) (sym c.in-Idle.is) (λ slot. omega arith)
+
+pub returns-in-Idle-clause-grows : goal.returns-in-Idle-clause-grows
+returns-in-Idle-clause-grows g c = subst (λ (s : State g.row.B.Denot). Grows g.B.Bank.tells (g.B.Bank.tape (bank_in s)) (g.B.Bank.tape c.in-Idle.bank)) (sym c.in-Idle.is) (record { more = λ t. ([], sym (append-nil (g.B.Bank.tape c.in-Idle.bank))) })
+
+pub returns-in-Idle-clause-given : goal.returns-in-Idle-clause-given
+returns-in-Idle-clause-given g c = subst (λ (s : State g.row.B.Denot). g.B.Bank.given c.in-Idle.bank ≡ g.B.Bank.given (bank_in s)) (sym c.in-Idle.is) refl
+
+pub returns-in_default-clause-never_falls : goal.returns-in_default-clause-never_falls
+returns-in_default-clause-never_falls g c = λ slot. omega arith
+
+pub returns-in_default-clause-grows : goal.returns-in_default-clause-grows
+returns-in_default-clause-grows g c = record { more = λ t. ([], sym (append-nil (g.B.Bank.tape (bank_in c.args.state)))) }

@@ -2,8 +2,8 @@ use Rattle.std.proofs.Common.{◌≡◌, ℕ, length, sym, subst, arith, [], ◌
 use Rattle.std.specs.Prelude.{IfOk}
 use Rattle.md_base.specs.declared.answers.NoMemory.{NoMemory}
 use Rattle.line_answers.specs.superblocks_Reading.{list_length}
-use Rattle.lanes.specs.Blocks.{HasWorkedBy}
-use Rattle.lanes.specs.Pace.{asked_by}
+use Rattle.lane_blocks.specs.Blocks.{HasWorkedBy}
+use Rattle.lane_blocks.specs.lanes_Pace.{asked_by}
 use Rattle.line_answers.specs.running_Calls.{running_left}
 use Rattle.line_answers.specs.running_words_Parts.{RunningParts}
 use Rattle.line_answers.specs.run_laws_the_Answered.{Answered}
@@ -103,3 +103,27 @@ returns-in-Err-clause-written g c =
 pub returns-in-Err-clause-former : goal.returns-in-Err-clause-former
 returns-in-Err-clause-former g c =
     block-going g.B.Bank.given g.B.Bank.tape g.B.Bank.faults_of c.args.backup c.args.array c.ask_together-array.result.0 c.args.epochs c.requires.former c.ask_together-array.ensures.went c.ask_together-array.ensures.ended
+
+pub returns-in-Ok-clause-never_falls : goal.returns-in-Ok-clause-never_falls
+returns-in-Ok-clause-never_falls g c = c.ask_together-array.ensures.went.never_falls
+
+pub returns-in-Ok-clause-grows : goal.returns-in-Ok-clause-grows
+returns-in-Ok-clause-grows g c = c.ask_together-array.ensures.went.grows
+
+pub returns-in-Ok-clause-given : goal.returns-in-Ok-clause-given
+returns-in-Ok-clause-given g c = c.ask_together-array.ensures.went.given_is
+
+pub returns-in-Err-clause-never_falls : goal.returns-in-Err-clause-never_falls
+returns-in-Err-clause-never_falls g c = c.ask_together-array.ensures.went.never_falls
+
+pub returns-in-Err-clause-grows : goal.returns-in-Err-clause-grows
+returns-in-Err-clause-grows g c = c.ask_together-array.ensures.went.grows
+
+pub returns-in-Err-clause-given : goal.returns-in-Err-clause-given
+returns-in-Err-clause-given g c = c.ask_together-array.ensures.went.given_is
+
+pub ask_together-array-requires-clause-turning : goal.ask_together-array-requires-clause-turning
+ask_together-array-requires-clause-turning g c κs within = c.requires.own.turning
+
+pub ask_together-array-requires-clause-ended : goal.ask_together-array-requires-clause-ended
+ask_together-array-requires-clause-ended g c κs within = c.requires.former.ended

@@ -1,8 +1,9 @@
-use Rattle.std.proofs.Common.{◌≤◌, ◌^◌, List, length, sym, ap, subst, arith}
+use Rattle.std.proofs.Common.{ℕ, ◌≤◌, ◌^◌, List, [], ◌∷◌, length, drop, sym, ap, subst, arith}
 use Rattle.std.specs.List.{All}
 use Rattle.std.proofs.lemmas.List.Elements.{All-get_or}
 use Rattle.flat_history.specs.declared.events.Entry.{Entry}
 use Rattle.flat_history.specs.declared.events.Request.{Request}
+use Rattle.lane_blocks.specs.seen_laws_Callers.{RepliesFrom}
 use Rattle.line_answers.specs.running_Calls.{running_left}
 use Rattle.line_answers.specs.running_calls_Replies.{IsAskable}
 use Rattle.line_answers.proofs.running_calls_GoneOn.{gone-none, gone-same}
@@ -41,3 +42,22 @@ returns-clause-worked g c =
 
 pub returns-clause-entered : goal.returns-clause-entered
 returns-clause-entered g c = block-entered c.args.array c.in-Ok-run_block.joined.array c.in-Ok-run_block.ensures.entered c.in-Ok-run_block.ensures.others
+
+-- no reply stands behind all entries
+nothing-later : (mark : ℕ) (entries : List Entry) → RepliesFrom mark (drop (length entries) entries)
+nothing-later mark [] = tt
+nothing-later mark (e ∷ entries) = nothing-later mark entries
+
+pub returns-in_default-clause-later : goal.returns-in_default-clause-later
+returns-in_default-clause-later g c = λ t. nothing-later (length (g.B.Bank.tape c.args.array.parts.bank)) c.args.array.parts.entries
+
+pub returns-in_default-requests_of-clause-later : goal.returns-in_default-requests_of-clause-later
+returns-in_default-requests_of-clause-later g c = λ t. nothing-later (length (g.B.Bank.tape c.args.array.parts.bank)) c.args.array.parts.entries
+
+pub returns-in-Err-clause-later : goal.returns-in-Err-clause-later
+returns-in-Err-clause-later g c = λ t.
+    subst (λ a. RepliesFrom (length (g.B.Bank.tape c.args.array.parts.bank)) (drop (length c.args.array.parts.entries) a.parts.entries)) (sym c.in-Err.ensures.back)
+    (nothing-later (length (g.B.Bank.tape c.args.array.parts.bank)) c.args.array.parts.entries)
+
+pub returns-then-len-clause-entered : goal.returns-then-len-clause-entered
+returns-then-len-clause-entered g c = block-entered c.args.array c.in-Ok-run_block.joined.array c.in-Ok-run_block.ensures.entered c.in-Ok-run_block.ensures.others

@@ -7,6 +7,7 @@ use Rattle.flat_history.specs.OneShape.{opening_in}
 use Rattle.flat_history.specs.Plain.{entries_of}
 use Rattle.turning.proofs.views_MovedLaws.{grows-none}
 use Rattle.running_replies.specs.array_kept_Kept.{scope_in, world_in}
+use Rattle.running_replies.proofs.array_kept_LossLaws.{ended-behind}
 use Rattle.running_replies.proofs.array_kept_ReadyLaws.{scope-same}
 use Rattle.grow_asked.specs.Asked.{asked_of, grow_refusal}
 use Rattle.grow_asked.specs.Left.{phases_of}
@@ -19,7 +20,8 @@ use Rattle.turning.proofs.still_laws_StepLaws.{refused-going}
 use Rattle.growing.specs.Planned.{asked_in}
 use Rattle.growing.proofs.Idle.{grow-plain, grow-shaped, grow-plainly}
 use Rattle.growing.proofs.Fitting.{told-by, first-of, refusal-fits}
-use Rattle.growing.proofs.Told.{reply-as}
+use Rattle.growing.proofs.Told.{reply-as, end-as}
+use Rattle.growing.proofs.Parted.{before-as, both-limit, both-ahead, room-for}
 use Rattle.growing.proofs.planning.enter_refusal.Goals as goal
 
 pub of_pieces-requires : goal.of_pieces-requires
@@ -68,3 +70,29 @@ returns-clause-reply g c =
       fits = λ t right ahead read. refusal-fits (world_in given tape (scope_in given p.epoch.uuid p.epoch.given p.backup) p.epoch.first) p.epoch.entries.items who end a wish refusal number (c.ops-end.ensures.count t)
           (told-by (length (phases_of p.ahead)) end was.kept was.limited t right (c.ops-end.ensures.count t) ahead read) why;
     })
+
+pub overflow_sub-pieces : goal.overflow_sub-pieces
+overflow_sub-pieces g c = subst (λ s. 1 ≤ s.parts.steps) c.take_apart-pieces.ensures.same c.requires.room
+
+pub check_number-requires : goal.check_number-requires
+check_number-requires g c = subst (λ s. c.args.who.number ≡ next_number c.args.who.caller s.parts.entries) c.take_apart-pieces.ensures.same c.requires.next
+
+pub enter-requires-clause-room : goal.enter-requires-clause-room
+enter-requires-clause-room g c =
+    room-for 1 c.take_apart-pieces.result.steps c.take_apart-pieces.result.epoch.entries.room c.take_apart-pieces.ensures.ready.room_left (subst (λ s. 1 ≤ s.parts.steps) c.take_apart-pieces.ensures.same c.requires.room) (omega arith)
+
+pub returns-clause-as_before : goal.returns-clause-as_before
+returns-clause-as_before g c = before-as c.args.still c.of_pieces.result _ _ c.take_apart-pieces.ensures.same c.of_pieces.ensures.same
+    (record { bank = refl; uuid = c.enter.ensures.uuid; given = c.enter.ensures.given; first = c.enter.ensures.first; backup = refl; members = refl; work = refl; course = refl })
+
+pub returns-clause-limit : goal.returns-clause-limit
+returns-clause-limit g c = both-limit c.args.still c.of_pieces.result _ _ c.take_apart-pieces.ensures.same c.of_pieces.ensures.same refl
+
+pub returns-clause-ahead : goal.returns-clause-ahead
+returns-clause-ahead g c = both-ahead c.args.still c.of_pieces.result _ _ c.take_apart-pieces.ensures.same c.of_pieces.ensures.same refl
+
+pub returns-clause-ended : goal.returns-clause-ended
+returns-clause-ended g c =
+    let p = c.take_apart-pieces.result in
+    end-as g.B.Bank.tape c.of_pieces.result _ c.of_pieces.ensures.same
+    (ended-behind (g.B.Bank.tape p.bank) c.enter.new.epoch.first p.epoch.entries.items c.args.who c.ops-end.result [] (Refused c.args.refusal) c.enter.ensures.items c.ops-end.ensures.count)

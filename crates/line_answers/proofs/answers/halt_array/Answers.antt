@@ -1,4 +1,4 @@
-use Rattle.std.proofs.Common.{rules, ◌≡◌, ◌-◌, [], ◌∷◌, ◌++◌, length, sym, ap, subst, arith}
+use Rattle.std.proofs.Common.{◌≡◌, ℕ, ◌+◌, ◌-◌, ◌≤◌, [], ◌∷◌, ◌++◌, length, sym, ap, ◌∙◌, subst, le_of_eq, arith}
 use Rattle.flat_history.specs.declared.events.Epoch.{Epoch}
 use Rattle.flat_history.specs.declared.events.Event.{Event}
 use Rattle.run_laws.specs.Histories.{history_of, is_end}
@@ -18,29 +18,33 @@ use Rattle.run_laws.specs.Written.{HasWritten}
 use Rattle.run_laws.proofs.Writing.{entered_end, written_ended}
 use Rattle.line_answers.proofs.answers.halt_array.Goals as goal
 
+place : (n k : ℕ) → 1 ≤ n → k ≡ n → (k - 1) + 1 ≡ n
+place n k some is = omega arith
+
+pub overflow_sub-len : goal.overflow_sub-len
+overflow_sub-len g c = subst (λ n. 1 ≤ n) (sym c.len.ensures) (halt_grew c.script_call-who.result c.halt-bank.ensures.entered)
+
 pub returns-clause-answered : goal.returns-clause-answered
 returns-clause-answered g c =
     let array = c.args.array in
     let bank = c.halt-bank.result.0 in
     let epoch : Epoch = c.halt-bank.result.1 in
     let did = c.halt-bank.ensures in
-    let room = c.requires.own.room in
-    let items : c.push_reserved.new.self.items ≡ c.args.epochs.items ++ epoch ∷ [] = search rules in
+    let items : c.push_reserved.new.self.items ≡ c.args.epochs.items ++ epoch ∷ [] = c.push_reserved.ensures.items in
     let setting = setting_of g.B.Bank.tells (g.B.Bank.given array.parts.bank) (g.B.Bank.tape array.parts.bank) (g.B.Bank.tape bank) c.args.backup (g.B.Bank.faults_of array.parts.bank) (g.B.Bank.faults_of bank) in
     let grew = halt_grew c.script_call-who.result did.entered in
-    let asked = asked_halt (list_length array.parts.members.newest) (c.len.result - 1) c.script_call-who.result c.script_call-who.ensures did.entered (omega (arith, grew, c.len.ensures)) in
+    let asked = asked_halt (list_length array.parts.members.newest) (c.len.result - 1) c.script_call-who.result c.script_call-who.ensures did.entered (place _ _ grew c.len.ensures) in
     let lost = losses-halted setting c.script_call-who.result (history_of epoch) did.entered in
     subst (λ (what : Answered). IsTurn setting (IsRunning array c.args.epochs) (IsIdle bank c.push_reserved.new.self) AsksHalt what) (sym c.inside-what.ensures)
     (turn_ended setting array epoch bank c.args.epochs c.push_reserved.new.self items c.requires.own lost did.uuid did.given did.first AsksHalt (c.len.result - 1) asked.0 (asked-tellable asked.0 (halt-told asked.0.event asked.0.fits)) tt
-    (λ t. let at = asked.2 t in let same = ap (λ (b : g.row.B.Denot). length (g.B.Bank.tape b)) did.bank in (omega (arith, at), omega (arith, at, same))) (ap (λ (e : Event). is_end e) (asked.1)))
+    (λ t. let at = asked.2 t in let same = ap (λ (b : g.row.B.Denot). length (g.B.Bank.tape b)) did.bank in (le_of_eq (sym at), le_of_eq (at ∙ sym same))) (ap (λ (e : Event). is_end e) (asked.1)))
 
 pub returns-clause-former : goal.returns-clause-former
 returns-clause-former g c =
     let array = c.args.array in
     let epoch : Epoch = c.halt-bank.result.1 in
     let did = c.halt-bank.ensures in
-    let room = c.requires.own.room in
-    let items : c.push_reserved.new.self.items ≡ c.args.epochs.items ++ epoch ∷ [] = search rules in
+    let items : c.push_reserved.new.self.items ≡ c.args.epochs.items ++ epoch ∷ [] = c.push_reserved.ensures.items in
     former_halted g.B.Bank.tells (λ (b : g.row.B.Denot). g.B.Bank.given b) (λ (b : g.row.B.Denot). g.B.Bank.tape b) c.args.backup array.parts c.halt-bank.result.0 epoch c.args.epochs.items c.push_reserved.new.self.items items did.bank did.uuid did.given did.first
     did.ends did.last did.right did.plain c.requires.former
 
@@ -49,11 +53,10 @@ returns-clause-written g c told =
     let array = c.args.array in
     let epoch : Epoch = c.halt-bank.result.1 in
     let did = c.halt-bank.ensures in
-    let room = c.requires.own.room in
-    let items : c.push_reserved.new.self.items ≡ c.args.epochs.items ++ epoch ∷ [] = search rules in
+    let items : c.push_reserved.new.self.items ≡ c.args.epochs.items ++ epoch ∷ [] = c.push_reserved.ensures.items in
     let bank = c.halt-bank.result.0 in
     let setting = setting_of g.B.Bank.tells (g.B.Bank.given array.parts.bank) (g.B.Bank.tape array.parts.bank) (g.B.Bank.tape bank) c.args.backup (g.B.Bank.faults_of array.parts.bank) (g.B.Bank.faults_of bank) in
     let same = ap (λ (b : g.row.B.Denot). length (g.B.Bank.tape b)) did.bank in
     let end = entered_end epoch.first c.script_call-who.result Halted did.entered told in
-    written_ended setting array bank epoch c.args.epochs c.push_reserved.new.self (HasWritten (g.B.Bank.given array.parts.bank) c.args.backup AsksHalt _) items did.first (c.requires.former.begun told) (omega (arith, same))
-    (c.requires.former.ended told) (omega (arith, end, same))
+    written_ended setting array bank epoch c.args.epochs c.push_reserved.new.self (HasWritten (g.B.Bank.given array.parts.bank) c.args.backup AsksHalt _) items did.first (c.requires.former.begun told) (le_of_eq (sym same))
+    (c.requires.former.ended told) (end ∙ sym same)

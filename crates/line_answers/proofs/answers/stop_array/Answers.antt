@@ -1,4 +1,4 @@
-use Rattle.std.proofs.Common.{rules, ◌≡◌, ◌-◌, [], ◌∷◌, ◌++◌, ℕ, Option, Ok, Err, refl, sym, ◌∙◌, ap, subst, arith}
+use Rattle.std.proofs.Common.{◌≡◌, ◌+◌, ◌-◌, ◌≤◌, [], ◌∷◌, ◌++◌, ℕ, Option, Ok, Err, refl, sym, ◌∙◌, ap, subst, arith}
 use Rattle.md_base.specs.declared.answers.Fault.{Fault}
 use Rattle.flat_history.specs.declared.events.Epoch.{Epoch}
 use Rattle.flat_history.specs.declared.events.Event.{Event}
@@ -34,18 +34,20 @@ use Rattle.run_laws.proofs.Writing.{written_ended, written_going}
 use Rattle.line_answers.proofs.answers.stop_array.Goals as goal
 
 pub overflow_sub-len : goal.overflow_sub-len
-overflow_sub-len g c = let grew = behind_grew c.script_call-who.result c.in-Ok.ensures.stopped in omega (arith, grew, c.len.ensures)
+overflow_sub-len g c = subst (λ n. 1 ≤ n) (sym c.len.ensures) (behind_grew c.script_call-who.result c.in-Ok.ensures.stopped)
+
+place : (n k : ℕ) → 1 ≤ n → k ≡ n → (k - 1) + 1 ≡ n
+place n k some is = omega arith
 
 pub returns-in-Ok-clause-answered : goal.returns-in-Ok-clause-answered
 returns-in-Ok-clause-answered g c =
     let array = c.args.array in
     let epoch : Epoch = c.in-Ok.ended.1 in
     let did = c.in-Ok.ensures in
-    let room = c.requires.own.room in
-    let items : c.push_reserved.new.self.items ≡ c.args.epochs.items ++ epoch ∷ [] = search rules in
+    let items : c.push_reserved.new.self.items ≡ c.args.epochs.items ++ epoch ∷ [] = c.push_reserved.ensures.items in
     let setting = setting_of g.B.Bank.tells (g.B.Bank.given array.parts.bank) (g.B.Bank.tape array.parts.bank) (g.B.Bank.tape c.in-Ok.ended.0) c.args.backup (g.B.Bank.faults_of array.parts.bank) (g.B.Bank.faults_of c.in-Ok.ended.0) in
     let grew = behind_grew c.script_call-who.result did.stopped in
-    let asked = asked_stop (list_length array.parts.members.newest) (c.len.result - 1) c.script_call-who.result c.script_call-who.ensures did.stopped (omega (arith, grew, c.len.ensures)) in
+    let asked = asked_stop (list_length array.parts.members.newest) (c.len.result - 1) c.script_call-who.result c.script_call-who.ensures did.stopped (place _ _ grew c.len.ensures) in
     subst (λ (what : Answered). IsTurn setting (IsRunning array c.args.epochs) (IsIdle c.in-Ok.ended.0 c.push_reserved.new.self) AsksStop what) (sym c.inside-what.ensures)
     (turn_ended setting array epoch c.in-Ok.ended.0 c.args.epochs c.push_reserved.new.self items c.requires.own (losses-of setting (history_of epoch) (held-before (g.B.Bank.given array.parts.bank) c.args.backup (running_history array.parts) (history_of epoch) array.parts.members did.grows (record { uuid = did.uuid; given = did.slots; first = did.first }) c.requires.former.held) did.losses (told_behind c.args.backup (g.B.Bank.faults_of array.parts.bank) (g.B.Bank.faults_of c.in-Ok.ended.0) did.stopped tt)) did.uuid did.slots did.first AsksStop (c.len.result - 1) asked.0 (asked-tellable asked.0 (stop-told asked.0.event asked.0.fits)) tt
     (λ t. at_the_end setting array.parts.entries epoch.entries.items asked.0 epoch.first t (grows_longer did.grows t) did.ended) (ap (λ (e : Event). is_end e) (asked.1)))
@@ -89,8 +91,7 @@ returns-in-Ok-clause-former g c =
     let array = c.args.array in
     let epoch : Epoch = c.in-Ok.ended.1 in
     let did = c.in-Ok.ensures in
-    let room = c.requires.own.room in
-    let items : c.push_reserved.new.self.items ≡ c.args.epochs.items ++ epoch ∷ [] = search rules in
+    let items : c.push_reserved.new.self.items ≡ c.args.epochs.items ++ epoch ∷ [] = c.push_reserved.ensures.items in
     let given = g.B.Bank.given array.parts.bank in
     let tape = g.B.Bank.tape c.in-Ok.ended.0 in
     let backup = c.requires.former.backup_is in
@@ -117,8 +118,7 @@ returns-in-Ok-clause-written g c told =
     let array = c.args.array in
     let epoch : Epoch = c.in-Ok.ended.1 in
     let did = c.in-Ok.ensures in
-    let room = c.requires.own.room in
-    let items : c.push_reserved.new.self.items ≡ c.args.epochs.items ++ epoch ∷ [] = search rules in
+    let items : c.push_reserved.new.self.items ≡ c.args.epochs.items ++ epoch ∷ [] = c.push_reserved.ensures.items in
     let setting = setting_of g.B.Bank.tells (g.B.Bank.given array.parts.bank) (g.B.Bank.tape array.parts.bank) (g.B.Bank.tape c.in-Ok.ended.0) c.args.backup (g.B.Bank.faults_of array.parts.bank) (g.B.Bank.faults_of c.in-Ok.ended.0) in
     written_ended setting array c.in-Ok.ended.0 epoch c.args.epochs c.push_reserved.new.self (HasWritten (g.B.Bank.given array.parts.bank) c.args.backup AsksStop _) items did.first (c.requires.former.begun told) (grows_longer did.grows told)
     (c.requires.former.ended told) (did.ended told)

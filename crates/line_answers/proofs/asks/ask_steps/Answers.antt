@@ -1,13 +1,21 @@
-use Rattle.std.proofs.Common.{ℕ, Option, subst}
+use Rattle.std.proofs.Common.{◌≡◌, ℕ, ◌<◌, List, ◌∷◌, [], ◌++◌, length, length-append, Option, ap, subst, arith}
 use Rattle.md_base.specs.declared.answers.Refusal.{Refusal}
+use Rattle.md_base.specs.declared.answers.Who.{Who}
+use Rattle.flat_history.specs.declared.events.Entry.{Entry}
 use Rattle.flat_history.specs.declared.events.Event.{Event}
+use Rattle.flat_history.specs.declared.events.Request.TheVariants.{Steps as AsksSteps}
+use Rattle.script.specs.declared.lines.Line.TheVariants.{Step as StepLine}
+use Rattle.run_laws.specs.running_replies_Replies.{RunningFits}
+use Rattle.run_laws.specs.running_words_Parts.{RunningParts}
 use Rattle.run_laws.specs.running_Calls.{running_left}
 use Rattle.run_laws.specs.running_steps_Steps.{IsStepCount}
 use Rattle.run_laws.specs.superblocks_Reading.{list_length}
 use Rattle.run_laws.specs.Caused.{record_of}
+use Rattle.run_laws.proofs.AskLaws.{with-grew, asked_with}
 use Rattle.run_laws.proofs.CausedLaws.{steps-judged}
 use Rattle.run_laws.proofs.RecordLaws.{steps-answered}
 use Rattle.run_laws.proofs.Turned.{told-still, told-steps, steps-tellable}
+use Rattle.line_answers.proofs.Called.{script-numbered}
 use Rattle.line_answers.proofs.asks.ask_steps.Goals as goal
 
 pub returns-clause-turning : goal.returns-clause-turning
@@ -36,3 +44,32 @@ pub returns-clause-stepped : goal.returns-clause-stepped
 returns-clause-stepped g c =
     let did = c.in-Ok.ensures in
     steps-answered g.B.Bank.tells g.B.Bank.given g.B.Bank.tape g.B.Bank.faults_of c.args.array.now c.steps.new.array did.went did.replied did.counted did.rest did.kept
+
+-- the script isn't the opening's caller
+apart : (n : ℕ) → n ≡ 0 → n ≡ 254 → ⊥
+apart n zero is = absurd (omega (arith, zero, is))
+
+longer : (old inner new : List Entry) (e : Entry) → new ≡ old ++ (inner ++ e ∷ []) → length old < length new
+longer old inner new e is = let long = ap (λ (l : List Entry). length l) is in omega (arith, long, length-append old (inner ++ e ∷ []), length-append inner (e ∷ []))
+
+pub steps-requires-clause-next : goal.steps-requires-clause-next
+steps-requires-clause-next g c = script-numbered c.args.array.now.parts.entries c.script_call-who.result c.script_call-who.ensures
+
+pub steps-requires-clause-caller : goal.steps-requires-clause-caller
+steps-requires-clause-caller g c = apart c.script_call-who.result.caller (ap (λ (w : Who). w.caller) c.script_call-who.ensures)
+
+pub last_place-requires : goal.last_place-requires
+last_place-requires g c = with-grew c.in-Ok.ensures.replied
+
+pub returns-clause-asked : goal.returns-clause-asked
+returns-clause-asked g c =
+    let size = list_length c.args.array.now.parts.members.newest in
+    asked_with (StepLine c.args.most) c.last_place.result c.in-Ok.ensures.replied
+    (λ (before : List Entry) (e : Entry) (fits : RunningFits size before e (AsksSteps c.from.result)). subst (λ (n : ℕ). RunningFits size before e (AsksSteps n)) c.from.ensures fits)
+    c.script_call-who.ensures c.last_place.ensures
+
+pub returns-clause-more : goal.returns-clause-more
+returns-clause-more g c = let was = c.in-Ok.ensures.replied in longer c.args.array.now.parts.entries was.inner c.steps.new.array.parts.entries _ was.is
+
+pub returns-in-Err-clause-asked : goal.returns-in-Err-clause-asked
+returns-in-Err-clause-asked g c = ap (λ (a : RunningParts g.row.B.Denot). a.parts.entries) c.in-Err.ensures.unchanged

@@ -1,4 +1,4 @@
-use Rattle.std.proofs.Common.{◌≡◌, ◌≢◌, ◌++◌, ℕ, ◌<◌, ◌≤◌, List, length, take, take_all, drop, sym, ◌∙◌, ap, subst, arith}
+use Rattle.std.proofs.Common.{◌≡◌, ◌≢◌, ◌++◌, ℕ, ◌<◌, ◌≤◌, inl, inr, List, length, take, take_all, drop, refl, sym, ◌∙◌, ap, subst, arith}
 use Rattle.std.proofs.lemmas.List.{take-append-le}
 use Rattle.bank.specs.declared.bank.Operation.{Operation}
 use Rattle.bank.specs.Given.{Given}
@@ -78,3 +78,40 @@ returns-clause-counts g c =
     subst (λ b. OnlyItsSlotsFail (g.B.Bank.given c.args.bank) (g.B.Bank.faults_of c.args.bank) (g.B.Bank.faults_of b)) (sym c.begin_moving-moving.ensures.bank)
     (backup-fails (g.B.Bank.given c.args.bank) c.args.backup (g.B.Bank.faults_of c.args.bank) (g.B.Bank.faults_of c.find_window.new.bank) c.requires.slot
     c.in-Ok-find_window.ensures.never_falls c.in-Ok-find_window.ensures.others)
+
+pub begin_moving-moving-requires-clause-wide : goal.begin_moving-moving-requires-clause-wide
+begin_moving-moving-requires-clause-wide g c =
+    let buffer = c.find_window.new.buffer in
+    let did = c.in-Ok-find_window.ensures in
+    let same = ap (λ (l : List ℕ). length l) (written-whole c.in-Ok-zeros.window.len c.in-Ok-zeros.window.items buffer (omega (arith, did.long, c.deref_mut.ensures.len, c.in-Ok-zeros.window.ok.0)) c.in-Ok-zeros.window.ok.0) in
+    omega (arith, same, did.long, c.deref_mut.ensures.len, c.in-Ok-zeros.ensures.len, c.in-Ok-zeros.window.ok.0, c.longest_window.ensures.reach)
+
+pub returns-in-Err-find_window-clause-refused : goal.returns-in-Err-find_window-clause-refused
+returns-in-Err-find_window-clause-refused g c = inr (refl, c.in-Err-find_window.ensures.failed)
+
+pub returns-in-Err-find_window-clause-left_given : goal.returns-in-Err-find_window-clause-left_given
+returns-in-Err-find_window-clause-left_given g c = c.find_window.ensures.given
+
+pub returns-in-Err-zeros-clause-refused : goal.returns-in-Err-zeros-clause-refused
+returns-in-Err-zeros-clause-refused g c = inl (c.in-Err-zeros.ensures.no_memory, refl)
+
+pub returns-in-Err-room_for-clause-refused : goal.returns-in-Err-room_for-clause-refused
+returns-in-Err-room_for-clause-refused g c = inl (refl, refl)
+
+pub begin_moving-moving-requires-clause-buffer : goal.begin_moving-moving-requires-clause-buffer
+begin_moving-moving-requires-clause-buffer g c = c.in-Ok.ensures.buffer
+
+pub begin_moving-moving-requires-clause-empty : goal.begin_moving-moving-requires-clause-empty
+begin_moving-moving-requires-clause-empty g c = c.in-Ok.ensures.empty
+
+pub begin_moving-moving-requires-clause-room : goal.begin_moving-moving-requires-clause-room
+begin_moving-moving-requires-clause-room g c = c.in-Ok.ensures.entries
+
+pub begin_moving-moving-requires-clause-rows : goal.begin_moving-moving-requires-clause-rows
+begin_moving-moving-requires-clause-rows g c = c.in-Ok.ensures.rows
+
+pub begin_moving-moving-requires-clause-first : goal.begin_moving-moving-requires-clause-first
+begin_moving-moving-requires-clause-first g c = c.ops-first.ensures.count
+
+pub begin_moving-moving-requires-clause-far_buffer : goal.begin_moving-moving-requires-clause-far_buffer
+begin_moving-moving-requires-clause-far_buffer g c = c.in-Ok-room_for.ensures.buffer

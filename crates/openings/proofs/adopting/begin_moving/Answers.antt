@@ -99,3 +99,6 @@ returns-clause-adopted g c =
       planless = refl;
       unlimited = refl;
     })
+
+pub returns-clause-bank : goal.returns-clause-bank
+returns-clause-bank g c = ap (λ r. r.parts.bank) c.of_pieces.ensures.same

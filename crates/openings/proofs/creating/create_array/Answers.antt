@@ -1,12 +1,23 @@
-use Rattle.std.proofs.Common.{List, ap, subst, sym, arith}
+use Rattle.std.proofs.Common.{◌≡◌, inr, ℕ, List, Some, None, sym, ◌∙◌, ap, subst, arith}
+use Rattle.md_base.specs.declared.answers.Fault.{Fault}
+use Rattle.md_base.specs.declared.answers.Fault.TheVariants.{Refused, NoMemory}
+use Rattle.md_base.specs.declared.answers.Refusal.{Refusal}
+use Rattle.md_base.specs.declared.answers.Refusal.TheVariants.{UuidInUse}
 use Rattle.bank.specs.declared.bank.Operation.{Operation}
 use Rattle.bank.specs.Given.{Given}
+use Rattle.assemble.specs.Filling.{OnlyBelow}
+use Rattle.running_steps.specs.row_io_Rows.{present}
+use Rattle.views.specs.Flushing.{OnlyItsSlotsFail, OnlyFlushesAdded}
 use Rattle.running_steps.specs.array_kept_Adopting.{IsAdoptable, IsAdopted}
 use Rattle.assemble.specs.declared.opening.Opened.{Opened}
 use Rattle.assemble.specs.Opening.{scope_of}
+use Rattle.assemble.specs.Creating.{create_refusal}
+use Rattle.assemble.specs.Made.{used_slot, HasCreateCause}
 use Rattle.assemble.specs.Running.{IsCreated}
 use Rattle.assemble.proofs.RunningLaws.{new-adoptable, new-failed, created, ok-then}
 use Rattle.openings.proofs.Aside.{made-aside}
+use Rattle.openings.proofs.FoundArrays.{err-then}
+use Rattle.openings.proofs.Handed.{never-refused, adopted-on, back-on, ok-any}
 use Rattle.openings.proofs.creating.create_array.Goals as goal
 
 pub run_still-requires-clause-adoptable : goal.run_still-requires-clause-adoptable
@@ -38,3 +49,51 @@ returns-clause-created g c =
     (λ made adopted. subst (λ (b : g.row.B.Denot). IsCreated g.B.Bank.tells bank (g.B.Bank.tape b) c.args.backup c.args.spec made.parts) (sym adopted.bank_is)
     (created c.make.new.bank bank tape c.args.backup opened made.parts adopted c.args.spec c.in-Ok.ensures.new c.in-Ok.ensures.opened c.in-Ok.ensures.zeros))
     c.run_still.ensures.run
+
+pub returns-clause-unrefused : goal.returns-clause-unrefused
+returns-clause-unrefused g c = ok-any c.run_still.result _ c.in-Ok.ensures.unrefused
+
+pub returns-clause-tape : goal.returns-clause-tape
+returns-clause-tape g c = adopted-on g.B.Bank.tells c.make.new.bank (g.B.Bank.tape c.make.new.bank) c.in-Ok.opened.given c.args.backup c.in-Ok.opened.members c.run_still.result (λ b. g.B.Bank.tells → OnlyBelow c.args.spec.shape.disks (g.B.Bank.tape c.args.bank) (g.B.Bank.tape b)) c.run_still.ensures.run c.make.ensures.tape
+
+pub returns-clause-left_tape : goal.returns-clause-left_tape
+returns-clause-left_tape g c = back-on c.make.new.bank c.run_still.result (λ b. g.B.Bank.tells → OnlyBelow c.args.spec.shape.disks (g.B.Bank.tape c.args.bank) (g.B.Bank.tape b)) c.run_still.ensures.handed_back c.make.ensures.tape
+
+pub returns-clause-given : goal.returns-clause-given
+returns-clause-given g c = adopted-on g.B.Bank.tells c.make.new.bank (g.B.Bank.tape c.make.new.bank) c.in-Ok.opened.given c.args.backup c.in-Ok.opened.members c.run_still.result (λ b. g.B.Bank.given b ≡ g.B.Bank.given c.args.bank) c.run_still.ensures.run c.make.ensures.slots
+
+pub returns-clause-left_given : goal.returns-clause-left_given
+returns-clause-left_given g c = back-on c.make.new.bank c.run_still.result (λ b. g.B.Bank.given b ≡ g.B.Bank.given c.args.bank) c.run_still.ensures.handed_back c.make.ensures.slots
+
+pub returns-clause-counts : goal.returns-clause-counts
+returns-clause-counts g c = adopted-on g.B.Bank.tells c.make.new.bank (g.B.Bank.tape c.make.new.bank) c.in-Ok.opened.given c.args.backup c.in-Ok.opened.members c.run_still.result (λ b. OnlyItsSlotsFail (g.B.Bank.given c.args.bank) (g.B.Bank.faults_of c.args.bank) (g.B.Bank.faults_of b)) c.run_still.ensures.run c.make.ensures.counts
+
+pub returns-clause-left_counts : goal.returns-clause-left_counts
+returns-clause-left_counts g c = back-on c.make.new.bank c.run_still.result (λ b. OnlyItsSlotsFail (g.B.Bank.given c.args.bank) (g.B.Bank.faults_of c.args.bank) (g.B.Bank.faults_of b)) c.run_still.ensures.handed_back c.make.ensures.counts
+
+pub returns-clause-refused : goal.returns-clause-refused
+returns-clause-refused g c =
+    let bank : Given = g.B.Bank.given c.args.bank in
+    err-then c.run_still.result (λ e. e.1 ≡ NoMemory)
+    (λ e. HasCreateCause g.B.Bank.tells bank (present bank (g.B.Bank.tape c.args.bank)) c.args.backup c.args.spec (g.B.Bank.faults_of c.args.bank) (g.B.Bank.faults_of e.0) e.1)
+    (λ e is. subst (λ (f : Fault). HasCreateCause g.B.Bank.tells bank (present bank (g.B.Bank.tape c.args.bank)) c.args.backup c.args.spec (g.B.Bank.faults_of c.args.bank) (g.B.Bank.faults_of e.0) f) (sym is)
+    (inr (c.in-Ok.ensures.unrefused, tt))) c.run_still.ensures.short
+
+pub returns-clause-free : goal.returns-clause-free
+returns-clause-free g c =
+    let bank : Given = g.B.Bank.given c.args.bank in
+    let opened : Opened = c.in-Ok.opened in
+    ok-then c.run_still.result
+    (λ made. IsAdopted g.B.Bank.tells c.make.new.bank (g.B.Bank.tape c.make.new.bank) opened.given c.args.backup opened.members made.parts)
+    (λ made. g.B.Bank.tells → used_slot (scope_of bank c.args.backup made.parts.given c.args.spec.uuid) (present bank (g.B.Bank.tape c.args.bank)) c.args.spec.shape.disks ≡ None)
+    (λ made adopted. subst (λ (n : ℕ). g.B.Bank.tells → used_slot (scope_of bank c.args.backup n c.args.spec.uuid) (present bank (g.B.Bank.tape c.args.bank)) c.args.spec.shape.disks ≡ None) (sym adopted.given) c.in-Ok.ensures.free)
+    c.run_still.ensures.run
+
+pub returns-clause-untouched : goal.returns-clause-untouched
+returns-clause-untouched g c =
+    back-on c.make.new.bank c.run_still.result (λ b. (refusal : Refusal) → create_refusal (g.B.Bank.given c.args.bank) c.args.backup c.args.spec ≡ Some refusal → b ≡ c.args.bank) c.run_still.ensures.handed_back c.make.ensures.untouched
+
+pub returns-clause-unwritten : goal.returns-clause-unwritten
+returns-clause-unwritten g c =
+    err-then c.run_still.result (λ e. e.1 ≡ NoMemory) (λ e. (slot : ℕ) → e.1 ≡ Refused (UuidInUse slot) → g.B.Bank.tells → OnlyFlushesAdded (g.B.Bank.tape c.args.bank) (g.B.Bank.tape e.0))
+    (λ e is slot was t. absurd (never-refused (UuidInUse slot) (sym is ∙ was))) c.run_still.ensures.short

@@ -1,10 +1,11 @@
 use Rattle.std.proofs.Common.{◌≡◌, false, None, List, [], length, sym, ◌∙◌, ap, subst, arith}
+use Rattle.md_base.specs.declared.answers.Fault.TheVariants.{NoMemory}
 use Rattle.bank.specs.declared.bank.Operation.{Operation}
 use Rattle.bank.specs.Given.{Given}
 use Rattle.bank.specs.Tape.{contents}
 use Rattle.superblocks.specs.Reading.{is_reshaping}
 use Rattle.running_steps.specs.row_io_Rows.{present}
-use Rattle.views.specs.Flushing.{OnlyItsSlotsFail}
+use Rattle.views.specs.Flushing.{OnlyFlushesAdded, OnlyItsSlotsFail}
 use Rattle.running_steps.specs.array_kept_Adopting.{IsAdoptable, IsAdopted}
 use Rattle.grow_asked.specs.Left.{phases_of}
 use Rattle.assemble.specs.declared.opening.Opened.{Opened}
@@ -16,7 +17,8 @@ use Rattle.moving_opens.specs.Opening.{AreOpenedMoving}
 use Rattle.openings.specs.Adopted.{IsMovingAdopted, IsNotAdopted}
 use Rattle.openings.specs.Found.{IsRunningFound}
 use Rattle.openings.proofs.Aside.{found-aside}
-use Rattle.openings.proofs.FoundArrays.{ok-both, err-then, err-both, opened-still, still-found, found-there, moving-found, counts-both, none-found, not-adopted}
+use Rattle.openings.proofs.FoundArrays.{ok-both, err-then, err-both, opened-still, still-found, found-there, moving-found, no-memory, counts-both, none-found, not-adopted}
+use Rattle.openings.proofs.Handed.{adopted-on, back-on}
 use Rattle.openings.proofs.finding.open_running.Goals as goal
 
 pub run_moving-requires-clause-opened : goal.run_moving-requires-clause-opened
@@ -46,6 +48,11 @@ run_still-requires-clause-adoptable g c =
     (placed-found bank c.requires.few opened.members found.found.elected still found.writable found.counted)
     (unlost-found bank c.requires.few opened.members found.found.elected still found.writable found.counted opened.given found.own found.found.lost)
     (free-found bank c.requires.few opened.members found.found.elected still found.writable found.counted opened.given found.own found.found.lost))
+
+pub run_still-requires-clause-failed : goal.run_still-requires-clause-failed
+run_still-requires-clause-failed g c slot known out =
+    slots-failed (g.B.Bank.given c.args.bank) c.in-Ok.found.given (g.B.Bank.faults_of c.args.bank) (g.B.Bank.faults_of c.find.new.bank) c.find.ensures.counts.never_falls c.in-Ok.ensures.given
+    slot (omega (arith, known, ap (λ (b : Given). b.slots) c.find.ensures.slots)) out
 
 pub run_still-requires-clause-aside : goal.run_still-requires-clause-aside
 run_still-requires-clause-aside g c =
@@ -123,3 +130,81 @@ returns-in-Some-clause-refused g c =
     opened e.1 c.requires.few found.found (sym c.is_reshaping.ensures ∙ c.if-is_reshaping.true) found.given c.find.ensures.counts.never_falls now.1.never_falls now.0))
     (err-both (λ e. IsNotAdopted c.in-Some.slot c.find.new.bank e.0 (g.B.Bank.faults_of c.find.new.bank) (g.B.Bank.faults_of e.0) e.1)
     (λ e. OnlyItsSlotsFail (g.B.Bank.given c.find.new.bank) (g.B.Bank.faults_of c.find.new.bank) (g.B.Bank.faults_of e.0)) c.run_moving.result c.run_moving.ensures.refused c.run_moving.ensures.left_counts)
+
+pub returns-else-is_reshaping-clause-tape : goal.returns-else-is_reshaping-clause-tape
+returns-else-is_reshaping-clause-tape g c =
+    adopted-on g.B.Bank.tells c.find.new.bank (g.B.Bank.tape c.find.new.bank) c.in-Ok.found.given c.args.backup c.in-Ok.found.members c.run_still.result (λ b. g.B.Bank.tells → OnlyFlushesAdded (g.B.Bank.tape c.args.bank) (g.B.Bank.tape b)) c.run_still.ensures.run c.find.ensures.tape
+
+pub returns-else-is_reshaping-clause-left_tape : goal.returns-else-is_reshaping-clause-left_tape
+returns-else-is_reshaping-clause-left_tape g c =
+    back-on c.find.new.bank c.run_still.result (λ b. g.B.Bank.tells → OnlyFlushesAdded (g.B.Bank.tape c.args.bank) (g.B.Bank.tape b)) c.run_still.ensures.handed_back c.find.ensures.tape
+
+pub returns-else-is_reshaping-clause-contents : goal.returns-else-is_reshaping-clause-contents
+returns-else-is_reshaping-clause-contents g c =
+    adopted-on g.B.Bank.tells c.find.new.bank (g.B.Bank.tape c.find.new.bank) c.in-Ok.found.given c.args.backup c.in-Ok.found.members c.run_still.result (λ b. g.B.Bank.tells → contents (g.B.Bank.given c.args.bank).start (g.B.Bank.tape b) (length (g.B.Bank.tape b)) ≡ contents (g.B.Bank.given c.args.bank).start (g.B.Bank.tape c.args.bank) (length (g.B.Bank.tape c.args.bank))) c.run_still.ensures.run c.find.ensures.contents
+
+pub returns-else-is_reshaping-clause-left_contents : goal.returns-else-is_reshaping-clause-left_contents
+returns-else-is_reshaping-clause-left_contents g c =
+    back-on c.find.new.bank c.run_still.result (λ b. g.B.Bank.tells → contents (g.B.Bank.given c.args.bank).start (g.B.Bank.tape b) (length (g.B.Bank.tape b)) ≡ contents (g.B.Bank.given c.args.bank).start (g.B.Bank.tape c.args.bank) (length (g.B.Bank.tape c.args.bank))) c.run_still.ensures.handed_back c.find.ensures.contents
+
+pub returns-else-is_reshaping-clause-given : goal.returns-else-is_reshaping-clause-given
+returns-else-is_reshaping-clause-given g c =
+    adopted-on g.B.Bank.tells c.find.new.bank (g.B.Bank.tape c.find.new.bank) c.in-Ok.found.given c.args.backup c.in-Ok.found.members c.run_still.result (λ b. g.B.Bank.given b ≡ g.B.Bank.given c.args.bank) c.run_still.ensures.run c.find.ensures.slots
+
+pub returns-else-is_reshaping-clause-left_given : goal.returns-else-is_reshaping-clause-left_given
+returns-else-is_reshaping-clause-left_given g c =
+    back-on c.find.new.bank c.run_still.result (λ b. g.B.Bank.given b ≡ g.B.Bank.given c.args.bank) c.run_still.ensures.handed_back c.find.ensures.slots
+
+pub returns-else-is_reshaping-clause-counts : goal.returns-else-is_reshaping-clause-counts
+returns-else-is_reshaping-clause-counts g c =
+    adopted-on g.B.Bank.tells c.find.new.bank (g.B.Bank.tape c.find.new.bank) c.in-Ok.found.given c.args.backup c.in-Ok.found.members c.run_still.result (λ b. OnlyItsSlotsFail (g.B.Bank.given c.args.bank) (g.B.Bank.faults_of c.args.bank) (g.B.Bank.faults_of b)) c.run_still.ensures.run c.find.ensures.counts
+
+pub returns-else-is_reshaping-clause-left_counts : goal.returns-else-is_reshaping-clause-left_counts
+returns-else-is_reshaping-clause-left_counts g c =
+    back-on c.find.new.bank c.run_still.result (λ b. OnlyItsSlotsFail (g.B.Bank.given c.args.bank) (g.B.Bank.faults_of c.args.bank) (g.B.Bank.faults_of b)) c.run_still.ensures.handed_back c.find.ensures.counts
+
+pub returns-else-is_reshaping-clause-refused : goal.returns-else-is_reshaping-clause-refused
+returns-else-is_reshaping-clause-refused g c =
+    let bank : Given = g.B.Bank.given c.args.bank in
+    let there = present bank (g.B.Bank.tape c.args.bank) in
+    err-then c.run_still.result (λ e. e.1 ≡ NoMemory) (λ e. HasFoundNone g.B.Bank.tells bank there c.args.backup c.args.uuid (g.B.Bank.faults_of c.args.bank) (g.B.Bank.faults_of e.0) e.1)
+    (λ e is. no-memory g.B.Bank.tells bank there c.args.backup c.args.uuid (g.B.Bank.faults_of c.args.bank) (g.B.Bank.faults_of e.0) e.1 is) c.run_still.ensures.short
+
+pub returns-in-Err-clause-refused : goal.returns-in-Err-clause-refused
+returns-in-Err-clause-refused g c =
+    let bank : Given = g.B.Bank.given c.args.bank in
+    let tape : List Operation = g.B.Bank.tape c.find.new.bank in
+    none-found g.B.Bank.tells bank (present bank (g.B.Bank.tape c.args.bank)) (contents bank.start tape (length tape)) c.args.backup c.args.uuid (g.B.Bank.faults_of c.args.bank) (g.B.Bank.faults_of c.find.new.bank) c.in-Err.fault
+    c.find.ensures.contents c.in-Err.ensures.refused
+
+pub returns-in-Some-clause-tape : goal.returns-in-Some-clause-tape
+returns-in-Some-clause-tape g c =
+    ok-then c.run_moving.result (λ run. g.B.Bank.tells → g.B.Bank.tape run.parts.bank ≡ g.B.Bank.tape c.find.new.bank)
+    (λ run. g.B.Bank.tells → OnlyFlushesAdded (g.B.Bank.tape c.args.bank) (g.B.Bank.tape run.parts.bank))
+    (λ run is t. subst (λ (l : List Operation). OnlyFlushesAdded (g.B.Bank.tape c.args.bank) l) (sym (is t)) (c.find.ensures.tape t)) c.run_moving.ensures.tape
+
+pub returns-in-Some-clause-left_tape : goal.returns-in-Some-clause-left_tape
+returns-in-Some-clause-left_tape g c =
+    err-then c.run_moving.result (λ e. g.B.Bank.tells → g.B.Bank.tape e.0 ≡ g.B.Bank.tape c.find.new.bank)
+    (λ e. g.B.Bank.tells → OnlyFlushesAdded (g.B.Bank.tape c.args.bank) (g.B.Bank.tape e.0))
+    (λ e is t. subst (λ (l : List Operation). OnlyFlushesAdded (g.B.Bank.tape c.args.bank) l) (sym (is t)) (c.find.ensures.tape t)) c.run_moving.ensures.left_tape
+
+pub returns-in-Some-clause-contents : goal.returns-in-Some-clause-contents
+returns-in-Some-clause-contents g c =
+    ok-then c.run_moving.result (λ run. g.B.Bank.tells → g.B.Bank.tape run.parts.bank ≡ g.B.Bank.tape c.find.new.bank)
+    (λ run. g.B.Bank.tells → contents (g.B.Bank.given c.args.bank).start (g.B.Bank.tape run.parts.bank) (length (g.B.Bank.tape run.parts.bank)) ≡ contents (g.B.Bank.given c.args.bank).start (g.B.Bank.tape c.args.bank) (length (g.B.Bank.tape c.args.bank)))
+    (λ run is t. subst (λ (l : List Operation). contents (g.B.Bank.given c.args.bank).start l (length l) ≡ contents (g.B.Bank.given c.args.bank).start (g.B.Bank.tape c.args.bank) (length (g.B.Bank.tape c.args.bank))) (sym (is t)) (c.find.ensures.contents t)) c.run_moving.ensures.tape
+
+pub returns-in-Some-clause-left_contents : goal.returns-in-Some-clause-left_contents
+returns-in-Some-clause-left_contents g c =
+    err-then c.run_moving.result (λ e. g.B.Bank.tells → g.B.Bank.tape e.0 ≡ g.B.Bank.tape c.find.new.bank)
+    (λ e. g.B.Bank.tells → contents (g.B.Bank.given c.args.bank).start (g.B.Bank.tape e.0) (length (g.B.Bank.tape e.0)) ≡ contents (g.B.Bank.given c.args.bank).start (g.B.Bank.tape c.args.bank) (length (g.B.Bank.tape c.args.bank)))
+    (λ e is t. subst (λ (l : List Operation). contents (g.B.Bank.given c.args.bank).start l (length l) ≡ contents (g.B.Bank.given c.args.bank).start (g.B.Bank.tape c.args.bank) (length (g.B.Bank.tape c.args.bank))) (sym (is t)) (c.find.ensures.contents t)) c.run_moving.ensures.left_tape
+
+pub returns-in-Some-clause-given : goal.returns-in-Some-clause-given
+returns-in-Some-clause-given g c =
+    ok-then c.run_moving.result (λ run. g.B.Bank.given run.parts.bank ≡ g.B.Bank.given c.find.new.bank) (λ run. g.B.Bank.given run.parts.bank ≡ g.B.Bank.given c.args.bank) (λ run is. is ∙ c.find.ensures.slots) c.run_moving.ensures.given
+
+pub returns-in-Some-clause-left_given : goal.returns-in-Some-clause-left_given
+returns-in-Some-clause-left_given g c =
+    err-then c.run_moving.result (λ e. g.B.Bank.given e.0 ≡ g.B.Bank.given c.find.new.bank) (λ e. g.B.Bank.given e.0 ≡ g.B.Bank.given c.args.bank) (λ e is. is ∙ c.find.ensures.slots) c.run_moving.ensures.left_given

@@ -1,3 +1,5 @@
+use Rattle.std.proofs.Common.{sym, subst}
+use Rattle.running_steps.specs.array_kept_Adopting.{IsAdopted}
 use Rattle.openings.proofs.Unplanned.{still-unplanned}
 use Rattle.openings.proofs.Aside.{adopted-aside}
 use Rattle.openings.proofs.finding.run_still.Goals as goal
@@ -10,3 +12,7 @@ of_still-requires-clause-unplanned g c = still-unplanned c.in-Ok.ensures.adopted
 
 pub of_still-requires-clause-aside : goal.of_still-requires-clause-aside
 of_still-requires-clause-aside g c = adopted-aside c.in-Ok.ensures.adopted c.requires.aside
+
+pub returns-in-Ok-clause-run : goal.returns-in-Ok-clause-run
+returns-in-Ok-clause-run g c =
+    subst (λ r. IsAdopted g.B.Bank.tells c.args.bank (g.B.Bank.tape c.args.bank) c.args.found.given c.args.backup c.args.found.members r.parts) (sym c.of_still.ensures) c.in-Ok.ensures.adopted

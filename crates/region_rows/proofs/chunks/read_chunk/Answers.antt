@@ -1,4 +1,4 @@
-use Rattle.std.proofs.Common.{◌≡◌, inl, inr, ℕ, ◌+◌, ◌*◌, ◌/◌, Option, unwrap_or, sym, ap, subst, arith}
+use Rattle.std.proofs.Common.{◌≡◌, inl, inr, ℕ, ◌+◌, ◌*◌, ◌/◌, Option, unwrap_or, sym, ap, subst, arith, ◌∙◌}
 use Rattle.md_base.specs.Shapes.{data_disks}
 use Rattle.bank.specs.Given.{Given}
 use Rattle.bank.specs.Tape.{Contents}
@@ -73,3 +73,6 @@ returns-clause-sectors g c =
 
 pub returns-in_default-clause-sectors : goal.returns-in_default-clause-sectors
 returns-in_default-clause-sectors g c = λ told list i lt stands fills. c.read_run.ensures.read c.in_default.is told list i lt stands
+
+pub returns-clause-tape : goal.returns-clause-tape
+returns-clause-tape g c told = c.read_parts-rest.ensures.tape told ∙ c.read_run.ensures.tape told

@@ -1,4 +1,4 @@
-use Rattle.std.proofs.Common.{◌≡◌, ◌⊎◌, ◌+◌, ◌-◌, ◌*◌, ◌/◌, ◌<◌, ◌≤◌, ℕ, [], length, take, drop, inl, inr, refl, sym, ◌∙◌, ap, subst, arith}
+use Rattle.std.proofs.Common.{◌≡◌, ◌⊎◌, ◌+◌, ◌-◌, ◌*◌, ◌/◌, ◌<◌, ◌≤◌, ℕ, [], length, take, drop, inl, inr, refl, sym, ◌∙◌, ap, subst, arith, le_trans}
 use Rattle.std.specs.Prelude.{bit_or}
 use Rattle.std.proofs.lemmas.Bool.{cases_lt}
 use Rattle.md_base.specs.Sectors.{Sector}
@@ -15,7 +15,7 @@ use Rattle.row_io.proofs.Written.{members_without-none}
 use Rattle.list_io.proofs.LossLaws.{members_then}
 use Rattle.list_io.proofs.ListLaws.{present_same}
 use Rattle.safe_rows.specs.flat_history_Stands.{shape_for}
-use Rattle.safe_rows.specs.views_Placed.{AreWhole, AreLost, IsInForce}
+use Rattle.safe_rows.specs.views_Placed.{AreWhole, AreLost, IsInForce, IsPlaced}
 use Rattle.safe_rows.specs.views_Moving.{IsMoved}
 use Rattle.safe_rows.proofs.views_MovedLaws.{moved-same, moved-lost, moved-then, lost-none}
 use Rattle.safe_rows.proofs.views_LackingLaws.{since-same, since-lost, since-then, in-second}
@@ -25,11 +25,16 @@ use Rattle.region_rows.specs.Stretches.{IsStretch, IsOneRun, IsShapeOf, relied_r
 use Rattle.region_rows.proofs.StretchLaws.{list-short, data-few}
 use Rattle.region_rows.proofs.UnreadLaws.{answer-lacked}
 use Rattle.region_rows.proofs.StretchReads.{part-count, part-long, sector-here, sector-before, sector-read}
+use Rattle.bank.specs.Given.{Given}
 use Rattle.region_rows.proofs.fetching.read_stretches.Goals as goal
 
 -- a shape in force is one before, where slots were lost
 force-old : (old mid : Members) (lost : ℕ) → mid ≡ members_without lost old → (shape : Shape) → IsInForce mid.newest shape → IsInForce old.newest shape
 force-old old mid lost is shape force = subst (λ (m : Members). IsInForce m.newest shape) is force
+
+-- behind the end is nothing below it
+not-below : {X : Type 0} (a b : ℕ) → a < b → b ≤ a → X
+not-below a b below end = absurd (omega (arith, below, end))
 
 pub overflow_add-to : goal.overflow_add-to
 overflow_add-to g c =
@@ -137,12 +142,10 @@ pub returns-then-is_err-clause-moved : goal.returns-then-is_err-clause-moved
 returns-then-is_err-clause-moved g c =
     let was = c.loop-at.invariant in
     let did = c.read_chunk-read.ensures in
-    let stretch = c.run_at-stretch.ensures in
     let old = c.args.members.now in
     let mid = c.loop-at.members in
     let new = c.read_chunk-read.new.members in
     let given = g.B.Bank.given c.args.bank.now in
-    let f0 = g.B.Bank.faults_of c.args.bank.now in
     let f1 = g.B.Bank.faults_of c.loop-at.bank in
     let f2 = g.B.Bank.faults_of c.read_chunk-read.new.bank in
     let r = c.read_chunk-read.result.lost in
@@ -155,25 +158,14 @@ pub returns-then-is_err-clause-lost : goal.returns-then-is_err-clause-lost
 returns-then-is_err-clause-lost g c =
     let was = c.loop-at.invariant in
     let did = c.read_chunk-read.ensures in
-    let stretch = c.run_at-stretch.ensures in
     let old = c.args.members.now in
-    let mid = c.loop-at.members in
-    let new = c.read_chunk-read.new.members in
-    let given = g.B.Bank.given c.args.bank.now in
-    let f0 = g.B.Bank.faults_of c.args.bank.now in
-    let f1 = g.B.Bank.faults_of c.loop-at.bank in
-    let f2 = g.B.Bank.faults_of c.read_chunk-read.new.bank in
     let r = c.read_chunk-read.result.lost in
-    let shape = c.run_at-stretch.result.shape in
-    let lost1 : AreLost given shape mid new r f1 f2 = lost-of given shape mid new r f1 f2 was.moved.placed did.lost in
-    let two : IsMoved given mid new = moved-lost given shape mid new r f1 f2 was.moved.placed lost1 was.moved.unlost in
     (bit_or was.lost.0 r, did.lost.members ∙ ap (members_without r) was.lost.1 ∙ members_then was.lost.0 r old)
 
 pub returns-then-is_err-clause-failed : goal.returns-then-is_err-clause-failed
 returns-then-is_err-clause-failed g c =
     let was = c.loop-at.invariant in
     let did = c.read_chunk-read.ensures in
-    let stretch = c.run_at-stretch.ensures in
     let old = c.args.members.now in
     let mid = c.loop-at.members in
     let new = c.read_chunk-read.new.members in
@@ -184,7 +176,6 @@ returns-then-is_err-clause-failed g c =
     let r = c.read_chunk-read.result.lost in
     let shape = c.run_at-stretch.result.shape in
     let lost1 : AreLost given shape mid new r f1 f2 = lost-of given shape mid new r f1 f2 was.moved.placed did.lost in
-    let two : IsMoved given mid new = moved-lost given shape mid new r f1 f2 was.moved.placed lost1 was.moved.unlost in
     since-then old mid new 0 0 0 f0 f1 f2 was.counts did.lost.never_falls was.failed (since-lost given shape mid new r f1 f2 lost1) (in-second 0)
 
 pub returns-then-is_err-clause-kept : goal.returns-then-is_err-clause-kept
@@ -192,11 +183,9 @@ returns-then-is_err-clause-kept g c =
     let was = c.loop-at.invariant in
     let did = c.read_chunk-read.ensures in
     let stretch = c.run_at-stretch.ensures in
-    let old = c.args.members.now in
     let mid = c.loop-at.members in
     let new = c.read_chunk-read.new.members in
     let given = g.B.Bank.given c.args.bank.now in
-    let f0 = g.B.Bank.faults_of c.args.bank.now in
     let f1 = g.B.Bank.faults_of c.loop-at.bank in
     let f2 = g.B.Bank.faults_of c.read_chunk-read.new.bank in
     let r = c.read_chunk-read.result.lost in
@@ -207,26 +196,16 @@ returns-then-is_err-clause-kept g c =
 
 pub returns-then-is_err-clause-counts : goal.returns-then-is_err-clause-counts
 returns-then-is_err-clause-counts g c =
-    let was = c.loop-at.invariant in
-    let did = c.read_chunk-read.ensures in
-    λ s. let one = was.counts s in let late = did.lost.never_falls s in omega (arith, one, late)
+    λ s. le_trans (c.loop-at.invariant.counts s) (c.read_chunk-read.ensures.lost.never_falls s)
 
 pub returns-then-is_err-clause-unread : goal.returns-then-is_err-clause-unread
 returns-then-is_err-clause-unread g c =
     let was = c.loop-at.invariant in
     let did = c.read_chunk-read.ensures in
     let stretch = c.run_at-stretch.ensures in
-    let old = c.args.members.now in
     let mid = c.loop-at.members in
     let new = c.read_chunk-read.new.members in
-    let given = g.B.Bank.given c.args.bank.now in
-    let f0 = g.B.Bank.faults_of c.args.bank.now in
-    let f1 = g.B.Bank.faults_of c.loop-at.bank in
-    let f2 = g.B.Bank.faults_of c.read_chunk-read.new.bank in
-    let r = c.read_chunk-read.result.lost in
     let shape = c.run_at-stretch.result.shape in
-    let lost1 : AreLost given shape mid new r f1 f2 = lost-of given shape mid new r f1 f2 was.moved.placed did.lost in
-    let two : IsMoved given mid new = moved-lost given shape mid new r f1 f2 was.moved.placed lost1 was.moved.unlost in
     let at = c.loop-at.at in
     let end = c.run_at-stretch.result.end in
     let d = at - c.args.first in
@@ -248,11 +227,9 @@ returns-then-is_err-clause-holds g c =
     let was = c.loop-at.invariant in
     let did = c.read_chunk-read.ensures in
     let stretch = c.run_at-stretch.ensures in
-    let old = c.args.members.now in
     let mid = c.loop-at.members in
     let new = c.read_chunk-read.new.members in
     let given = g.B.Bank.given c.args.bank.now in
-    let f0 = g.B.Bank.faults_of c.args.bank.now in
     let f1 = g.B.Bank.faults_of c.loop-at.bank in
     let f2 = g.B.Bank.faults_of c.read_chunk-read.new.bank in
     let r = c.read_chunk-read.result.lost in
@@ -332,5 +309,71 @@ loop-at-preserved g c =
       ];
       tape = λ told. did.tape told ∙ was.tape told;
       given = did.given ∙ was.given;
-      counts = λ s. let one = was.counts s in let late = did.lost.never_falls s in omega (arith, one, late);
+      counts = λ s. le_trans (was.counts s) (did.lost.never_falls s);
     }
+
+pub run_at-stretch-requires-clause-fit : goal.run_at-stretch-requires-clause-fit
+run_at-stretch-requires-clause-fit g c = c.loop-at.invariant.moved.placed.fit
+
+pub run_at-stretch-requires-clause-some : goal.run_at-stretch-requires-clause-some
+run_at-stretch-requires-clause-some g c = c.loop-at-test.true
+
+pub relied_rows-rows-requires-clause-fit : goal.relied_rows-rows-requires-clause-fit
+relied_rows-rows-requires-clause-fit g c = c.loop-at.invariant.moved.placed.fit
+
+pub relied_rows-rows-requires-clause-shape : goal.relied_rows-rows-requires-clause-shape
+relied_rows-rows-requires-clause-shape g c = c.run_at-stretch.ensures.force
+
+pub read_chunk-read-requires-clause-placed : goal.read_chunk-read-requires-clause-placed
+read_chunk-read-requires-clause-placed g c = subst (λ (b : Given). IsPlaced b c.loop-at.members) (sym c.loop-at.invariant.given) c.loop-at.invariant.moved.placed
+
+pub read_chunk-read-requires-clause-shape : goal.read_chunk-read-requires-clause-shape
+read_chunk-read-requires-clause-shape g c = c.run_at-stretch.ensures.force
+
+pub read_chunk-read-requires-clause-mended : goal.read_chunk-read-requires-clause-mended
+read_chunk-read-requires-clause-mended g c = c.relied_rows-rows.ensures.within
+
+pub read_chunk-read-requires-clause-stripes : goal.read_chunk-read-requires-clause-stripes
+read_chunk-read-requires-clause-stripes g c = c.relied_rows-rows.ensures.stripes
+
+pub returns-then-is_err-clause-from : goal.returns-then-is_err-clause-from
+returns-then-is_err-clause-from g c = c.loop-at.invariant.from
+
+pub returns-then-is_err-clause-within : goal.returns-then-is_err-clause-within
+returns-then-is_err-clause-within g c = c.loop-at.invariant.within
+
+pub returns-then-is_err-clause-tape : goal.returns-then-is_err-clause-tape
+returns-then-is_err-clause-tape g c told = c.read_chunk-read.ensures.tape told ∙ c.loop-at.invariant.tape told
+
+pub returns-then-is_err-clause-given : goal.returns-then-is_err-clause-given
+returns-then-is_err-clause-given g c = c.read_chunk-read.ensures.given ∙ c.loop-at.invariant.given
+
+pub returns-clause-moved : goal.returns-clause-moved
+returns-clause-moved g c = c.loop-at.invariant.moved
+
+pub returns-clause-lost : goal.returns-clause-lost
+returns-clause-lost g c = c.loop-at.invariant.lost
+
+pub returns-clause-failed : goal.returns-clause-failed
+returns-clause-failed g c = c.loop-at.invariant.failed
+
+pub returns-clause-kept : goal.returns-clause-kept
+returns-clause-kept g c = c.loop-at.invariant.kept
+
+pub returns-clause-from : goal.returns-clause-from
+returns-clause-from g c = c.loop-at.invariant.from
+
+pub returns-clause-within : goal.returns-clause-within
+returns-clause-within g c = c.loop-at.invariant.within
+
+pub returns-clause-tape : goal.returns-clause-tape
+returns-clause-tape g c = c.loop-at.invariant.tape
+
+pub returns-clause-given : goal.returns-clause-given
+returns-clause-given g c = c.loop-at.invariant.given
+
+pub returns-clause-counts : goal.returns-clause-counts
+returns-clause-counts g c = c.loop-at.invariant.counts
+
+pub returns-clause-unread : goal.returns-clause-unread
+returns-clause-unread g c low = not-below c.loop-at.at _ low c.loop-at-test.false

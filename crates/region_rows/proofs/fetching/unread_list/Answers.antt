@@ -1,7 +1,8 @@
-use Rattle.std.proofs.Common.{inl, inr, sym, ◌∙◌, arith}
+use Rattle.std.proofs.Common.{inl, inr, sym, ◌∙◌, arith, ◌≤◌, ℕ, subst}
 use Rattle.std.proofs.lemmas.Bool.{cases_lt}
 use Rattle.region_rows.proofs.StretchLaws.{list-short, data-few}
 use Rattle.region_rows.proofs.UnreadLaws.{none-match, told-unread, none-unread}
+use Rattle.safe_rows.proofs.views_Fit.{force-valid, force-multiple, force-disks}
 use Rattle.region_rows.proofs.fetching.unread_list.Goals as goal
 
 pub unread-refusal-requires-clause-within : goal.unread-refusal-requires-clause-within
@@ -47,3 +48,12 @@ returns c = λ x low high is.
       | inl above ↦ absurd (let few = none-match _ c.too_many_in-refusal.result (sym c.is_some.ensures ∙ c.if-is_some.false) c.too_many_in-refusal.ensures x low high in omega (arith, above, few))
       | inr un ↦ c.loop-at.invariant.fine x low (omega (arith, high, end)) un
     ]
+
+pub unread-refusal-requires-clause-shape : goal.unread-refusal-requires-clause-shape
+unread-refusal-requires-clause-shape c = force-valid c.args.members.now.newest c.requires.fit c.stretch_at-stretch.result.shape c.stretch_at-stretch.ensures.force
+
+pub unread-refusal-requires-clause-multiple : goal.unread-refusal-requires-clause-multiple
+unread-refusal-requires-clause-multiple c = force-multiple c.args.members.now.newest c.requires.fit c.stretch_at-stretch.result.shape c.stretch_at-stretch.ensures.force
+
+pub unread-refusal-requires-clause-roles : goal.unread-refusal-requires-clause-roles
+unread-refusal-requires-clause-roles c = subst (λ (n : ℕ). c.stretch_at-stretch.result.shape.disks ≤ n) (sym c.requires.roles) (force-disks c.args.members.now.newest c.requires.fit c.stretch_at-stretch.result.shape c.stretch_at-stretch.ensures.force)

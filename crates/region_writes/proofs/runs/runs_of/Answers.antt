@@ -1,9 +1,12 @@
-use Rattle.std.proofs.Common.{◌≡◌, inl, inr, ◌<◌, true, refl, sym, ap, arith}
+use Rattle.std.proofs.Common.{◌≡◌, inl, inr, ◌<◌, true, refl, sym, ap, arith, false}
 use Rattle.md_base.specs.Shapes.{data_disks}
 use Rattle.superblocks.specs.Reading.{is_reshaping}
 use Rattle.region_rows.specs.flat_history_Stands.{shape_for}
 use Rattle.region_writes.proofs.Together.{wider-low}
 use Rattle.region_writes.proofs.runs.runs_of.Goals as goal
+
+true-false : {X : Type 0} → true ≡ false → X
+true-false is = absurd (cc)
 
 pub returns-then-low-to : goal.returns-then-low-to
 returns-then-low-to c =
@@ -20,7 +23,7 @@ returns-then-low-to c =
       low_relied = did.relied;
       high_relied = record {
         rows = λ synced x low high out. absurd (omega (arith, low, high));
-        some = λ unsynced. absurd (cc);
+        some = λ unsynced. true-false unsynced;
       };
       begins = did.first;
       some = let some = did.some in let first = did.first in omega (arith, some, first);

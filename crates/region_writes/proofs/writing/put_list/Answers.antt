@@ -1,5 +1,5 @@
-use Rattle.std.proofs.Common.{◌≡◌, ◌⊎◌, inl, inr, ◌+◌, ◌-◌, ◌/◌, ◌<◌, ◌≤◌, ℕ, true, List, length, refl, sym, ◌∙◌, subst, arith}
-use Rattle.std.specs.Prelude.{Contains, slice_index, None}
+use Rattle.std.proofs.Common.{◌≡◌, ◌⊎◌, inl, inr, ◌+◌, ◌-◌, ◌/◌, ◌<◌, ◌≤◌, ℕ, true, List, length, refl, sym, ◌∙◌, subst, arith, le_trans, false}
+use Rattle.std.specs.Prelude.{Contains, slice_index, None, Option, Some}
 use Rattle.md_base.specs.declared.answers.Refusal.{Refusal}
 use Rattle.md_base.specs.declared.places.Shape.{Shape}
 use Rattle.bank.specs.Given.{Given}
@@ -30,7 +30,16 @@ use Rattle.region_writes.proofs.RunLists.{list-in-one, rows-in-one, tails-in-one
 use Rattle.region_writes.proofs.WriteLaws.{some-none, rows-in, runs-alike}
 use Rattle.region_rows.specs.safe_updates_Unused.{IsUnusedKept}
 use Rattle.region_rows.proofs.safe_updates_Unused.{unused-then}
+use mathlib.Core.List.{not-mem-nil}
+use Rattle.region_rows.specs.views_Placed.{IsPlaced}
 use Rattle.region_writes.proofs.writing.put_list.Goals as goal
+
+-- nothing is what is some
+no-some : {A X : Type 0} (a : A) → ◌≡◌ {A = Option A} None (Some a) → X
+no-some a is = absurd (cc)
+
+false-true : {X : Type 0} → false ≡ true → X
+false-true is = absurd (cc)
 
 pub overflow_add-to : goal.overflow_add-to
 overflow_add-to g c =
@@ -61,11 +70,7 @@ pub returns-then-is_some-clause-refused : goal.returns-then-is_some-clause-refus
 returns-then-is_some-clause-refused g c =
     let m = c.args.members.now in
     let n = c.prepare_runs-begun.new.members in
-    let given = g.B.Bank.given c.args.bank.now in
-    let given1 = g.B.Bank.given c.prepare_runs-begun.new.bank in
     let did = c.prepare_runs-begun.ensures in
-    let tape0 = g.B.Bank.tape c.args.bank.now in
-    let tape1 = g.B.Bank.tape c.prepare_runs-begun.new.bank in
     let cut = c.runs_of-cut.result in
     let are = c.runs_of-cut.ensures in
     let to = c.args.first + length c.args.from.now / 512 in
@@ -101,12 +106,9 @@ returns-then-is_some-clause-others g c =
     let m = c.args.members.now in
     let n = c.prepare_runs-begun.new.members in
     let given = g.B.Bank.given c.args.bank.now in
-    let given1 = g.B.Bank.given c.prepare_runs-begun.new.bank in
     let did = c.prepare_runs-begun.ensures in
     let tape0 = g.B.Bank.tape c.args.bank.now in
     let tape1 = g.B.Bank.tape c.prepare_runs-begun.new.bank in
-    let cut = c.runs_of-cut.result in
-    let are = c.runs_of-cut.ensures in
     let to = c.args.first + length c.args.from.now / 512 in
     λ told. others-same given (IsListTouched m.newest c.args.first to) m n (present given tape0) (present given tape1) did.moved c.requires.placed (did.others told)
 
@@ -130,28 +132,18 @@ pub write_runs-done-requires-clause-low : goal.write_runs-done-requires-clause-l
 write_runs-done-requires-clause-low g c =
     let m = c.args.members.now in
     let n = c.prepare_runs-begun.new.members in
-    let given = g.B.Bank.given c.args.bank.now in
-    let given1 = g.B.Bank.given c.prepare_runs-begun.new.bank in
     let did = c.prepare_runs-begun.ensures in
-    let tape0 = g.B.Bank.tape c.args.bank.now in
-    let tape1 = g.B.Bank.tape c.prepare_runs-begun.new.bank in
     let cut = c.runs_of-cut.result in
     let are = c.runs_of-cut.ensures in
-    let to = c.args.first + length c.args.from.now / 512 in
     alike-force m.newest n.newest did.moved.reshape did.moved.shape did.moved.size cut.low.shape are.low.force
 
 pub write_runs-done-requires-clause-high : goal.write_runs-done-requires-clause-high
 write_runs-done-requires-clause-high g c =
     let m = c.args.members.now in
     let n = c.prepare_runs-begun.new.members in
-    let given = g.B.Bank.given c.args.bank.now in
-    let given1 = g.B.Bank.given c.prepare_runs-begun.new.bank in
     let did = c.prepare_runs-begun.ensures in
-    let tape0 = g.B.Bank.tape c.args.bank.now in
-    let tape1 = g.B.Bank.tape c.prepare_runs-begun.new.bank in
     let cut = c.runs_of-cut.result in
     let are = c.runs_of-cut.ensures in
-    let to = c.args.first + length c.args.from.now / 512 in
     alike-force m.newest n.newest did.moved.reshape did.moved.shape did.moved.size cut.high.shape are.high.force
 
 pub write_runs-done-requires-clause-short : goal.write_runs-done-requires-clause-short
@@ -163,94 +155,51 @@ write_runs-done-requires-clause-short g c =
 
 pub write_runs-done-requires-clause-free : goal.write_runs-done-requires-clause-free
 write_runs-done-requires-clause-free g c =
-    let m = c.args.members.now in
     let n = c.prepare_runs-begun.new.members in
     let given = g.B.Bank.given c.args.bank.now in
-    let given1 = g.B.Bank.given c.prepare_runs-begun.new.bank in
     let did = c.prepare_runs-begun.ensures in
-    let tape0 = g.B.Bank.tape c.args.bank.now in
-    let tape1 = g.B.Bank.tape c.prepare_runs-begun.new.bank in
-    let cut = c.runs_of-cut.result in
-    let are = c.runs_of-cut.ensures in
-    let to = c.args.first + length c.args.from.now / 512 in
     subst (λ (b : Given). AreSparesFree b n) (sym did.given) (did.moved.free c.requires.free)
 
 pub write_runs-done-requires-clause-low_rows : goal.write_runs-done-requires-clause-low_rows
 write_runs-done-requires-clause-low_rows g c =
-    let m = c.args.members.now in
     let n = c.prepare_runs-begun.new.members in
-    let given = g.B.Bank.given c.args.bank.now in
-    let given1 = g.B.Bank.given c.prepare_runs-begun.new.bank in
     let did = c.prepare_runs-begun.ensures in
-    let tape0 = g.B.Bank.tape c.args.bank.now in
-    let tape1 = g.B.Bank.tape c.prepare_runs-begun.new.bank in
     let cut = c.runs_of-cut.result in
-    let are = c.runs_of-cut.ensures in
-    let to = c.args.first + length c.args.from.now / 512 in
     let none = none-of c.prepare_runs-begun.result.refusal (sym c.is_some.ensures ∙ c.if-is_some.false) in
     let rows = c.prepare_runs-begun.new.rows.items in
-    let far_rows = c.prepare_runs-begun.new.far_rows.items in
-    let buffer = c.prepare_runs-begun.new.buffer.items in
-    let far_buffer = c.prepare_runs-begun.new.far_buffer.items in
     subst (λ (l : List ℕ). AreRowsOf cut.low n.newest.size l) (sym c.as_slice.ensures.value) (subst (λ (k : ℕ). AreRowsOf cut.low k rows) (sym did.moved.size) (did.low_rows none))
 
 pub write_runs-done-requires-clause-high_rows : goal.write_runs-done-requires-clause-high_rows
 write_runs-done-requires-clause-high_rows g c =
-    let m = c.args.members.now in
     let n = c.prepare_runs-begun.new.members in
-    let given = g.B.Bank.given c.args.bank.now in
-    let given1 = g.B.Bank.given c.prepare_runs-begun.new.bank in
     let did = c.prepare_runs-begun.ensures in
-    let tape0 = g.B.Bank.tape c.args.bank.now in
-    let tape1 = g.B.Bank.tape c.prepare_runs-begun.new.bank in
     let cut = c.runs_of-cut.result in
-    let are = c.runs_of-cut.ensures in
-    let to = c.args.first + length c.args.from.now / 512 in
     let none = none-of c.prepare_runs-begun.result.refusal (sym c.is_some.ensures ∙ c.if-is_some.false) in
-    let rows = c.prepare_runs-begun.new.rows.items in
     let far_rows = c.prepare_runs-begun.new.far_rows.items in
-    let buffer = c.prepare_runs-begun.new.buffer.items in
-    let far_buffer = c.prepare_runs-begun.new.far_buffer.items in
     subst (λ (l : List ℕ). AreRowsOf cut.high n.newest.size l) (sym c.as_slice-2.ensures.value) (subst (λ (k : ℕ). AreRowsOf cut.high k far_rows) (sym did.moved.size) (did.high_rows none))
 
 pub write_runs-done-requires-clause-apart : goal.write_runs-done-requires-clause-apart
 write_runs-done-requires-clause-apart g c =
     let m = c.args.members.now in
-    let n = c.prepare_runs-begun.new.members in
-    let given = g.B.Bank.given c.args.bank.now in
-    let given1 = g.B.Bank.given c.prepare_runs-begun.new.bank in
     let did = c.prepare_runs-begun.ensures in
-    let tape0 = g.B.Bank.tape c.args.bank.now in
-    let tape1 = g.B.Bank.tape c.prepare_runs-begun.new.bank in
     let cut = c.runs_of-cut.result in
     let are = c.runs_of-cut.ensures in
     let to = c.args.first + length c.args.from.now / 512 in
     let none = none-of c.prepare_runs-begun.result.refusal (sym c.is_some.ensures ∙ c.if-is_some.false) in
-    let rows = c.prepare_runs-begun.new.rows.items in
-    let far_rows = c.prepare_runs-begun.new.far_rows.items in
-    let buffer = c.prepare_runs-begun.new.buffer.items in
-    let far_buffer = c.prepare_runs-begun.new.far_buffer.items in
     λ row near far. runs-apart m.newest c.requires.placed.fit c.args.window c.args.relied c.args.first to cut.low cut.high are row
     ((did.low_rows none).touched.only row (subst (λ (l : List ℕ). Contains l row) c.as_slice.ensures.value near))
     ((did.high_rows none).touched.only row (subst (λ (l : List ℕ). Contains l row) c.as_slice-2.ensures.value far))
 
 pub write_runs-done-requires-clause-low_standing : goal.write_runs-done-requires-clause-low_standing
 write_runs-done-requires-clause-low_standing g c =
-    let m = c.args.members.now in
     let n = c.prepare_runs-begun.new.members in
     let given = g.B.Bank.given c.args.bank.now in
-    let given1 = g.B.Bank.given c.prepare_runs-begun.new.bank in
     let did = c.prepare_runs-begun.ensures in
     let tape0 = g.B.Bank.tape c.args.bank.now in
     let tape1 = g.B.Bank.tape c.prepare_runs-begun.new.bank in
     let cut = c.runs_of-cut.result in
-    let are = c.runs_of-cut.ensures in
-    let to = c.args.first + length c.args.from.now / 512 in
     let none = none-of c.prepare_runs-begun.result.refusal (sym c.is_some.ensures ∙ c.if-is_some.false) in
-    let rows = c.prepare_runs-begun.new.rows.items in
-    let far_rows = c.prepare_runs-begun.new.far_rows.items in
     let buffer = c.prepare_runs-begun.new.buffer.items in
-    let far_buffer = c.prepare_runs-begun.new.far_buffer.items in
     λ told.
     subst (λ (b : Given). (i : ℕ) → i < length c.as_slice.result.now → AreStanding (reading_of n) (present b tape1) cut.low.shape (slice_index c.as_slice.result.now i) (buffered buffer i)) (sym did.given)
     (subst (λ (l : List ℕ). (i : ℕ) → i < length l → AreStanding (reading_of n) (present given tape1) cut.low.shape (slice_index l i) (buffered buffer i)) (sym c.as_slice.ensures.value)
@@ -259,20 +208,13 @@ write_runs-done-requires-clause-low_standing g c =
 
 pub write_runs-done-requires-clause-high_standing : goal.write_runs-done-requires-clause-high_standing
 write_runs-done-requires-clause-high_standing g c =
-    let m = c.args.members.now in
     let n = c.prepare_runs-begun.new.members in
     let given = g.B.Bank.given c.args.bank.now in
-    let given1 = g.B.Bank.given c.prepare_runs-begun.new.bank in
     let did = c.prepare_runs-begun.ensures in
     let tape0 = g.B.Bank.tape c.args.bank.now in
     let tape1 = g.B.Bank.tape c.prepare_runs-begun.new.bank in
     let cut = c.runs_of-cut.result in
-    let are = c.runs_of-cut.ensures in
-    let to = c.args.first + length c.args.from.now / 512 in
     let none = none-of c.prepare_runs-begun.result.refusal (sym c.is_some.ensures ∙ c.if-is_some.false) in
-    let rows = c.prepare_runs-begun.new.rows.items in
-    let far_rows = c.prepare_runs-begun.new.far_rows.items in
-    let buffer = c.prepare_runs-begun.new.buffer.items in
     let far_buffer = c.prepare_runs-begun.new.far_buffer.items in
     λ told.
     subst (λ (b : Given). (i : ℕ) → i < length c.as_slice-2.result.now → AreStanding (reading_of n) (present b tape1) cut.high.shape (slice_index c.as_slice-2.result.now i) (buffered far_buffer i)) (sym did.given)
@@ -287,19 +229,8 @@ returns-clause-moved g c =
     let given = g.B.Bank.given c.args.bank.now in
     let given1 = g.B.Bank.given c.prepare_runs-begun.new.bank in
     let did = c.prepare_runs-begun.ensures in
-    let tape0 = g.B.Bank.tape c.args.bank.now in
-    let tape1 = g.B.Bank.tape c.prepare_runs-begun.new.bank in
-    let cut = c.runs_of-cut.result in
-    let are = c.runs_of-cut.ensures in
-    let to = c.args.first + length c.args.from.now / 512 in
-    let none = none-of c.prepare_runs-begun.result.refusal (sym c.is_some.ensures ∙ c.if-is_some.false) in
-    let rows = c.prepare_runs-begun.new.rows.items in
-    let far_rows = c.prepare_runs-begun.new.far_rows.items in
-    let buffer = c.prepare_runs-begun.new.buffer.items in
-    let far_buffer = c.prepare_runs-begun.new.far_buffer.items in
     let p = c.write_runs-done.new.members in
     let did2 = c.write_runs-done.ensures in
-    let tape2 = g.B.Bank.tape c.write_runs-done.new.bank in
     let two : IsMoved given n p = moved-from given given1 n n p did.given refl did2.moved in
     moved-then given m n p did.moved two
 
@@ -307,23 +238,9 @@ pub returns-clause-failed : goal.returns-clause-failed
 returns-clause-failed g c =
     let m = c.args.members.now in
     let n = c.prepare_runs-begun.new.members in
-    let given = g.B.Bank.given c.args.bank.now in
-    let given1 = g.B.Bank.given c.prepare_runs-begun.new.bank in
     let did = c.prepare_runs-begun.ensures in
-    let tape0 = g.B.Bank.tape c.args.bank.now in
-    let tape1 = g.B.Bank.tape c.prepare_runs-begun.new.bank in
-    let cut = c.runs_of-cut.result in
-    let are = c.runs_of-cut.ensures in
-    let to = c.args.first + length c.args.from.now / 512 in
-    let none = none-of c.prepare_runs-begun.result.refusal (sym c.is_some.ensures ∙ c.if-is_some.false) in
-    let rows = c.prepare_runs-begun.new.rows.items in
-    let far_rows = c.prepare_runs-begun.new.far_rows.items in
-    let buffer = c.prepare_runs-begun.new.buffer.items in
-    let far_buffer = c.prepare_runs-begun.new.far_buffer.items in
     let p = c.write_runs-done.new.members in
     let did2 = c.write_runs-done.ensures in
-    let tape2 = g.B.Bank.tape c.write_runs-done.new.bank in
-    let two : IsMoved given n p = moved-from given given1 n n p did.given refl did2.moved in
     since-then m n p c.prepare_runs-begun.result.spares c.write_runs-done.result.spares _ (g.B.Bank.faults_of c.args.bank.now) (g.B.Bank.faults_of c.prepare_runs-begun.new.bank) (g.B.Bank.faults_of c.write_runs-done.new.bank)
     did.counts did2.counts did.failed did2.failed (in-either c.prepare_runs-begun.result.spares c.write_runs-done.result.spares)
 
@@ -334,19 +251,11 @@ returns-clause-refused g c =
     let given = g.B.Bank.given c.args.bank.now in
     let given1 = g.B.Bank.given c.prepare_runs-begun.new.bank in
     let did = c.prepare_runs-begun.ensures in
-    let tape0 = g.B.Bank.tape c.args.bank.now in
-    let tape1 = g.B.Bank.tape c.prepare_runs-begun.new.bank in
     let cut = c.runs_of-cut.result in
     let are = c.runs_of-cut.ensures in
     let to = c.args.first + length c.args.from.now / 512 in
-    let none = none-of c.prepare_runs-begun.result.refusal (sym c.is_some.ensures ∙ c.if-is_some.false) in
-    let rows = c.prepare_runs-begun.new.rows.items in
-    let far_rows = c.prepare_runs-begun.new.far_rows.items in
-    let buffer = c.prepare_runs-begun.new.buffer.items in
-    let far_buffer = c.prepare_runs-begun.new.far_buffer.items in
     let p = c.write_runs-done.new.members in
     let did2 = c.write_runs-done.ensures in
-    let tape2 = g.B.Bank.tape c.write_runs-done.new.bank in
     let two : IsMoved given n p = moved-from given given1 n n p did.given refl did2.moved in
     let all : IsMoved given m p = moved-then given m n p did.moved two in
     let still = runs-alike m.newest p.newest all.reshape all.shape all.size c.args.window c.args.relied c.args.first to cut.low cut.high are in
@@ -359,19 +268,11 @@ returns-clause-torn g c =
     let given = g.B.Bank.given c.args.bank.now in
     let given1 = g.B.Bank.given c.prepare_runs-begun.new.bank in
     let did = c.prepare_runs-begun.ensures in
-    let tape0 = g.B.Bank.tape c.args.bank.now in
-    let tape1 = g.B.Bank.tape c.prepare_runs-begun.new.bank in
     let cut = c.runs_of-cut.result in
     let are = c.runs_of-cut.ensures in
     let to = c.args.first + length c.args.from.now / 512 in
-    let none = none-of c.prepare_runs-begun.result.refusal (sym c.is_some.ensures ∙ c.if-is_some.false) in
-    let rows = c.prepare_runs-begun.new.rows.items in
-    let far_rows = c.prepare_runs-begun.new.far_rows.items in
-    let buffer = c.prepare_runs-begun.new.buffer.items in
-    let far_buffer = c.prepare_runs-begun.new.far_buffer.items in
     let p = c.write_runs-done.new.members in
     let did2 = c.write_runs-done.ensures in
-    let tape2 = g.B.Bank.tape c.write_runs-done.new.bank in
     let two : IsMoved given n p = moved-from given given1 n n p did.given refl did2.moved in
     λ begun.
     let all : IsMoved given m p = moved-then given m n p did.moved two in
@@ -435,7 +336,6 @@ returns-clause-put g c =
     let tape1 = g.B.Bank.tape c.prepare_runs-begun.new.bank in
     let cut = c.runs_of-cut.result in
     let are = c.runs_of-cut.ensures in
-    let to = c.args.first + length c.args.from.now / 512 in
     let none = none-of c.prepare_runs-begun.result.refusal (sym c.is_some.ensures ∙ c.if-is_some.false) in
     let rows = c.prepare_runs-begun.new.rows.items in
     let far_rows = c.prepare_runs-begun.new.far_rows.items in
@@ -470,7 +370,6 @@ returns-clause-tail g c =
     let tape1 = g.B.Bank.tape c.prepare_runs-begun.new.bank in
     let cut = c.runs_of-cut.result in
     let are = c.runs_of-cut.ensures in
-    let to = c.args.first + length c.args.from.now / 512 in
     let none = none-of c.prepare_runs-begun.result.refusal (sym c.is_some.ensures ∙ c.if-is_some.false) in
     let rows = c.prepare_runs-begun.new.rows.items in
     let far_rows = c.prepare_runs-begun.new.far_rows.items in
@@ -505,7 +404,6 @@ returns-clause-ends g c =
     let tape1 = g.B.Bank.tape c.prepare_runs-begun.new.bank in
     let cut = c.runs_of-cut.result in
     let are = c.runs_of-cut.ensures in
-    let to = c.args.first + length c.args.from.now / 512 in
     let none = none-of c.prepare_runs-begun.result.refusal (sym c.is_some.ensures ∙ c.if-is_some.false) in
     let rows = c.prepare_runs-begun.new.rows.items in
     let far_rows = c.prepare_runs-begun.new.far_rows.items in
@@ -540,7 +438,6 @@ returns-clause-rebuilt g c =
     let tape1 = g.B.Bank.tape c.prepare_runs-begun.new.bank in
     let cut = c.runs_of-cut.result in
     let are = c.runs_of-cut.ensures in
-    let to = c.args.first + length c.args.from.now / 512 in
     let none = none-of c.prepare_runs-begun.result.refusal (sym c.is_some.ensures ∙ c.if-is_some.false) in
     let rows = c.prepare_runs-begun.new.rows.items in
     let far_rows = c.prepare_runs-begun.new.far_rows.items in
@@ -561,7 +458,7 @@ returns-clause-rebuilt g c =
     let low_shown : (x : ℕ) → cut.low.first ≤ x → x < cut.low.end → IsShown None m.newest x =
     λ x from end. record { within = let within = are.low.within in omega (arith, end, within); outside = refl } in
     let chosen = choose given m n p did.moved two c.requires.placed cut.low are.low (present given tape0) c.args.first c.args.from.now rows buffer (did.low_rows none) (did.low none told)
-    c.args.window c.args.relied are.low_relied None list low_shown (λ span is. absurd (cc)) (λ x slot own out held. stands x slot out held) (λ own x slot tail held. absurd (let both = sym still ∙ tail.active in cc))
+    c.args.window c.args.relied are.low_relied None list low_shown (λ span is. no-some span is) (λ x slot own out held. stands x slot out held) (λ own x slot tail held. false-true (sym still ∙ tail.active))
     (elim which [ inl whole ↦ inl whole | inr rows ↦ inr ((λ x lt own out. rows.0 x lt out), rows.1) ]) list' w in
     rebuilt-written given m n p did.moved two c.requires.placed (present given tape0) (present given tape1) (present given tape2) (did.others told) c.args.window c.args.relied c.args.first c.args.from.now cut.low cut.high are
     rows buffer far_rows far_buffer (did.low_rows none) (did.high_rows none) (did.low none told) (did.high none told) kept still list list' w rebuilt chosen
@@ -619,7 +516,6 @@ returns-clause-good g c =
     let tape1 = g.B.Bank.tape c.prepare_runs-begun.new.bank in
     let cut = c.runs_of-cut.result in
     let are = c.runs_of-cut.ensures in
-    let to = c.args.first + length c.args.from.now / 512 in
     let none = none-of c.prepare_runs-begun.result.refusal (sym c.is_some.ensures ∙ c.if-is_some.false) in
     let rows = c.prepare_runs-begun.new.rows.items in
     let far_rows = c.prepare_runs-begun.new.far_rows.items in
@@ -649,65 +545,25 @@ returns-clause-begun g c =
     let m = c.args.members.now in
     let n = c.prepare_runs-begun.new.members in
     let given = g.B.Bank.given c.args.bank.now in
-    let given1 = g.B.Bank.given c.prepare_runs-begun.new.bank in
     let did = c.prepare_runs-begun.ensures in
-    let tape0 = g.B.Bank.tape c.args.bank.now in
-    let tape1 = g.B.Bank.tape c.prepare_runs-begun.new.bank in
     let cut = c.runs_of-cut.result in
     let are = c.runs_of-cut.ensures in
     let to = c.args.first + length c.args.from.now / 512 in
     let none = none-of c.prepare_runs-begun.result.refusal (sym c.is_some.ensures ∙ c.if-is_some.false) in
-    let rows = c.prepare_runs-begun.new.rows.items in
-    let far_rows = c.prepare_runs-begun.new.far_rows.items in
-    let buffer = c.prepare_runs-begun.new.buffer.items in
-    let far_buffer = c.prepare_runs-begun.new.far_buffer.items in
     let does = did.does none in
     λ begun. each-does m c.args.window c.args.relied c.args.first to cut.low cut.high are (shape-without-before given m n did.moved cut.low.shape does.0) (shape-without-before given m n did.moved cut.high.shape does.1)
 
 pub returns-clause-dirty : goal.returns-clause-dirty
 returns-clause-dirty g c =
-    let m = c.args.members.now in
-    let n = c.prepare_runs-begun.new.members in
-    let given = g.B.Bank.given c.args.bank.now in
-    let given1 = g.B.Bank.given c.prepare_runs-begun.new.bank in
     let did = c.prepare_runs-begun.ensures in
-    let tape0 = g.B.Bank.tape c.args.bank.now in
-    let tape1 = g.B.Bank.tape c.prepare_runs-begun.new.bank in
-    let cut = c.runs_of-cut.result in
-    let are = c.runs_of-cut.ensures in
-    let to = c.args.first + length c.args.from.now / 512 in
     let none = none-of c.prepare_runs-begun.result.refusal (sym c.is_some.ensures ∙ c.if-is_some.false) in
-    let rows = c.prepare_runs-begun.new.rows.items in
-    let far_rows = c.prepare_runs-begun.new.far_rows.items in
-    let buffer = c.prepare_runs-begun.new.buffer.items in
-    let far_buffer = c.prepare_runs-begun.new.far_buffer.items in
-    let p = c.write_runs-done.new.members in
     let did2 = c.write_runs-done.ensures in
-    let tape2 = g.B.Bank.tape c.write_runs-done.new.bank in
-    let two : IsMoved given n p = moved-from given given1 n n p did.given refl did2.moved in
     λ ok. did2.clean ∙ did.dirty none
 
 pub returns-clause-stays : goal.returns-clause-stays
 returns-clause-stays g c =
-    let m = c.args.members.now in
-    let n = c.prepare_runs-begun.new.members in
-    let given = g.B.Bank.given c.args.bank.now in
-    let given1 = g.B.Bank.given c.prepare_runs-begun.new.bank in
     let did = c.prepare_runs-begun.ensures in
-    let tape0 = g.B.Bank.tape c.args.bank.now in
-    let tape1 = g.B.Bank.tape c.prepare_runs-begun.new.bank in
-    let cut = c.runs_of-cut.result in
-    let are = c.runs_of-cut.ensures in
-    let to = c.args.first + length c.args.from.now / 512 in
-    let none = none-of c.prepare_runs-begun.result.refusal (sym c.is_some.ensures ∙ c.if-is_some.false) in
-    let rows = c.prepare_runs-begun.new.rows.items in
-    let far_rows = c.prepare_runs-begun.new.far_rows.items in
-    let buffer = c.prepare_runs-begun.new.buffer.items in
-    let far_buffer = c.prepare_runs-begun.new.far_buffer.items in
-    let p = c.write_runs-done.new.members in
     let did2 = c.write_runs-done.ensures in
-    let tape2 = g.B.Bank.tape c.write_runs-done.new.bank in
-    let two : IsMoved given n p = moved-from given given1 n n p did.given refl did2.moved in
     λ dirty. did2.clean ∙ did.stays dirty
 
 pub returns-clause-rise : goal.returns-clause-rise
@@ -772,4 +628,103 @@ returns-clause-safe g c =
 
 pub returns-clause-counts : goal.returns-clause-counts
 returns-clause-counts g c =
-    λ s. let one = c.prepare_runs-begun.ensures.counts s in let two = c.write_runs-done.ensures.counts s in omega (arith, one, two)
+    λ s. le_trans (c.prepare_runs-begun.ensures.counts s) (c.write_runs-done.ensures.counts s)
+
+pub prepare_runs-begun-requires-clause-slots : goal.prepare_runs-begun-requires-clause-slots
+prepare_runs-begun-requires-clause-slots g c = c.requires.slots
+
+pub prepare_runs-begun-requires-clause-placed : goal.prepare_runs-begun-requires-clause-placed
+prepare_runs-begun-requires-clause-placed g c = c.requires.placed
+
+pub prepare_runs-begun-requires-clause-unlost : goal.prepare_runs-begun-requires-clause-unlost
+prepare_runs-begun-requires-clause-unlost g c = c.requires.unlost
+
+pub prepare_runs-begun-requires-clause-free : goal.prepare_runs-begun-requires-clause-free
+prepare_runs-begun-requires-clause-free g c = c.requires.free
+
+pub prepare_runs-begun-requires-clause-rows : goal.prepare_runs-begun-requires-clause-rows
+prepare_runs-begun-requires-clause-rows g c = c.requires.rows
+
+pub prepare_runs-begun-requires-clause-far_rows : goal.prepare_runs-begun-requires-clause-far_rows
+prepare_runs-begun-requires-clause-far_rows g c = c.requires.far_rows
+
+pub prepare_runs-begun-requires-clause-buffer : goal.prepare_runs-begun-requires-clause-buffer
+prepare_runs-begun-requires-clause-buffer g c = c.requires.buffer
+
+pub prepare_runs-begun-requires-clause-far_buffer : goal.prepare_runs-begun-requires-clause-far_buffer
+prepare_runs-begun-requires-clause-far_buffer g c = c.requires.far_buffer
+
+pub is_some-requires : goal.is_some-requires
+is_some-requires g c κs a has = absurd (not-mem-nil has)
+
+pub returns-then-is_some-clause-moved : goal.returns-then-is_some-clause-moved
+returns-then-is_some-clause-moved g c = c.prepare_runs-begun.ensures.moved
+
+pub returns-then-is_some-clause-failed : goal.returns-then-is_some-clause-failed
+returns-then-is_some-clause-failed g c = c.prepare_runs-begun.ensures.failed
+
+pub returns-then-is_some-clause-grows : goal.returns-then-is_some-clause-grows
+returns-then-is_some-clause-grows g c = c.prepare_runs-begun.ensures.grows
+
+pub returns-then-is_some-clause-unused : goal.returns-then-is_some-clause-unused
+returns-then-is_some-clause-unused g c = c.prepare_runs-begun.ensures.unused
+
+pub returns-then-is_some-clause-stays : goal.returns-then-is_some-clause-stays
+returns-then-is_some-clause-stays g c = c.prepare_runs-begun.ensures.stays
+
+pub returns-then-is_some-clause-rise : goal.returns-then-is_some-clause-rise
+returns-then-is_some-clause-rise g c = c.prepare_runs-begun.ensures.rise
+
+pub returns-then-is_some-clause-given : goal.returns-then-is_some-clause-given
+returns-then-is_some-clause-given g c = c.prepare_runs-begun.ensures.given
+
+pub returns-then-is_some-clause-counts : goal.returns-then-is_some-clause-counts
+returns-then-is_some-clause-counts g c = c.prepare_runs-begun.ensures.counts
+
+pub returns-then-is_some-clause-rows : goal.returns-then-is_some-clause-rows
+returns-then-is_some-clause-rows g c = c.prepare_runs-begun.ensures.rows
+
+pub returns-then-is_some-clause-far_rows : goal.returns-then-is_some-clause-far_rows
+returns-then-is_some-clause-far_rows g c = c.prepare_runs-begun.ensures.far_rows
+
+pub returns-then-is_some-clause-buffer : goal.returns-then-is_some-clause-buffer
+returns-then-is_some-clause-buffer g c = c.prepare_runs-begun.ensures.buffer
+
+pub returns-then-is_some-clause-far_buffer : goal.returns-then-is_some-clause-far_buffer
+returns-then-is_some-clause-far_buffer g c = c.prepare_runs-begun.ensures.far_buffer
+
+pub returns-then-is_some-clause-untouched : goal.returns-then-is_some-clause-untouched
+returns-then-is_some-clause-untouched g c begun = c.prepare_runs-begun.ensures.others
+
+pub write_runs-done-requires-clause-slots : goal.write_runs-done-requires-clause-slots
+write_runs-done-requires-clause-slots g c = subst (λ (b : Given). b.slots ≤ 32) (sym c.prepare_runs-begun.ensures.given) c.requires.slots
+
+pub write_runs-done-requires-clause-placed : goal.write_runs-done-requires-clause-placed
+write_runs-done-requires-clause-placed g c = subst (λ (b : Given). IsPlaced b c.prepare_runs-begun.new.members) (sym c.prepare_runs-begun.ensures.given) c.prepare_runs-begun.ensures.moved.placed
+
+pub write_runs-done-requires-clause-unlost : goal.write_runs-done-requires-clause-unlost
+write_runs-done-requires-clause-unlost g c = c.prepare_runs-begun.ensures.moved.unlost
+
+pub write_runs-done-requires-clause-from : goal.write_runs-done-requires-clause-from
+write_runs-done-requires-clause-from g c = c.requires.from
+
+pub write_runs-done-requires-clause-buffer : goal.write_runs-done-requires-clause-buffer
+write_runs-done-requires-clause-buffer g c = subst (λ (n : ℕ). 1048576 ≤ n) (sym c.prepare_runs-begun.ensures.buffer) c.requires.buffer
+
+pub write_runs-done-requires-clause-far_buffer : goal.write_runs-done-requires-clause-far_buffer
+write_runs-done-requires-clause-far_buffer g c = subst (λ (n : ℕ). 1048576 ≤ n) (sym c.prepare_runs-begun.ensures.far_buffer) c.requires.far_buffer
+
+pub returns-clause-given : goal.returns-clause-given
+returns-clause-given g c = c.write_runs-done.ensures.given ∙ c.prepare_runs-begun.ensures.given
+
+pub returns-clause-rows : goal.returns-clause-rows
+returns-clause-rows g c = c.prepare_runs-begun.ensures.rows
+
+pub returns-clause-far_rows : goal.returns-clause-far_rows
+returns-clause-far_rows g c = c.prepare_runs-begun.ensures.far_rows
+
+pub returns-clause-buffer : goal.returns-clause-buffer
+returns-clause-buffer g c = c.write_runs-done.ensures.buffer ∙ c.prepare_runs-begun.ensures.buffer
+
+pub returns-clause-far_buffer : goal.returns-clause-far_buffer
+returns-clause-far_buffer g c = c.write_runs-done.ensures.far_buffer ∙ c.prepare_runs-begun.ensures.far_buffer

@@ -1,4 +1,4 @@
-use Rattle.std.proofs.Common.{◌≡◌, ℕ, ◌<◌, refl, sym, ◌∙◌, ap, subst, arith}
+use Rattle.std.proofs.Common.{◌≡◌, ℕ, ◌<◌, refl, sym, ◌∙◌, ap, subst, arith, le_trans, true, false}
 use Rattle.std.specs.Prelude.{bit_or, Contains}
 use Rattle.bank.specs.Given.{Given}
 use Rattle.bank.specs.Tape.{Contents}
@@ -21,6 +21,9 @@ use Rattle.region_rows.proofs.safe_updates_RefusingLaws.{write-told, not-err}
 use Rattle.region_writes.specs.Runs.{IsRun}
 use Rattle.region_writes.proofs.RunLaws.{run-within, run-short, ok-err, err-ok}
 use Rattle.region_writes.proofs.writing.read_runs.Goals as goal
+
+false-true : {X : Type 0} → false ≡ true → X
+false-true is = absurd (cc)
 
 pub read_touched-near-requires-clause-rows : goal.read_touched-near-requires-clause-rows
 read_touched-near-requires-clause-rows g c =
@@ -97,16 +100,8 @@ returns-then-is_err-clause-moved g c =
 
 pub returns-then-is_err-clause-lost : goal.returns-then-is_err-clause-lost
 returns-then-is_err-clause-lost g c =
-    let m = c.args.members.now in
-    let n = c.read_touched-near.new.members in
-    let given = g.B.Bank.given c.args.bank.now in
-    let f0 = g.B.Bank.faults_of c.args.bank.now in
-    let f1 = g.B.Bank.faults_of c.read_touched-near.new.bank in
     let r = c.read_touched-near.result.lost in
-    let low = c.args.low.now in
     let did = c.read_touched-near.ensures in
-    let lost1 : AreLost given low.shape m n r f0 f1 = lost-of given low.shape m n r f0 f1 c.requires.placed did.lost in
-    let one : IsMoved given m n = moved-lost given low.shape m n r f0 f1 c.requires.placed lost1 c.requires.unlost in
     (r, did.lost.members)
 
 pub returns-then-is_err-clause-failed : goal.returns-then-is_err-clause-failed
@@ -120,21 +115,13 @@ returns-then-is_err-clause-failed g c =
     let low = c.args.low.now in
     let did = c.read_touched-near.ensures in
     let lost1 : AreLost given low.shape m n r f0 f1 = lost-of given low.shape m n r f0 f1 c.requires.placed did.lost in
-    let one : IsMoved given m n = moved-lost given low.shape m n r f0 f1 c.requires.placed lost1 c.requires.unlost in
     since-lost given low.shape m n r f0 f1 lost1
 
 pub returns-then-is_err-clause-unread : goal.returns-then-is_err-clause-unread
 returns-then-is_err-clause-unread g c =
-    let m = c.args.members.now in
     let n = c.read_touched-near.new.members in
-    let given = g.B.Bank.given c.args.bank.now in
-    let f0 = g.B.Bank.faults_of c.args.bank.now in
-    let f1 = g.B.Bank.faults_of c.read_touched-near.new.bank in
-    let r = c.read_touched-near.result.lost in
     let low = c.args.low.now in
     let did = c.read_touched-near.ensures in
-    let lost1 : AreLost given low.shape m n r f0 f1 = lost-of given low.shape m n r f0 f1 c.requires.placed did.lost in
-    let one : IsMoved given m n = moved-lost given low.shape m n r f0 f1 c.requires.placed lost1 c.requires.unlost in
     λ no both. write-told n low.shape low.synced c.read_touched-near.result.answer (sym c.is_err.ensures.value ∙ c.if-is_err.true) did.answer both.0
 
 pub returns-clause-moved : goal.returns-clause-moved
@@ -161,22 +148,10 @@ returns-clause-moved g c =
 pub returns-clause-lost : goal.returns-clause-lost
 returns-clause-lost g c =
     let m = c.args.members.now in
-    let n = c.read_touched-near.new.members in
-    let given = g.B.Bank.given c.args.bank.now in
-    let f0 = g.B.Bank.faults_of c.args.bank.now in
-    let f1 = g.B.Bank.faults_of c.read_touched-near.new.bank in
     let r = c.read_touched-near.result.lost in
-    let low = c.args.low.now in
     let did = c.read_touched-near.ensures in
-    let lost1 : AreLost given low.shape m n r f0 f1 = lost-of given low.shape m n r f0 f1 c.requires.placed did.lost in
-    let one : IsMoved given m n = moved-lost given low.shape m n r f0 f1 c.requires.placed lost1 c.requires.unlost in
-    let p = c.read_touched-far.new.members in
-    let f2 = g.B.Bank.faults_of c.read_touched-far.new.bank in
     let r2 = c.read_touched-far.result.lost in
-    let high = c.args.high.now in
     let did2 = c.read_touched-far.ensures in
-    let lost2 : AreLost given high.shape n p r2 f1 f2 = lost-of given high.shape n p r2 f1 f2 one.placed did2.lost in
-    let two : IsMoved given n p = moved-lost given high.shape n p r2 f1 f2 one.placed lost2 one.unlost in
     (bit_or r r2, did2.lost.members ∙ ap (members_without r2) did.lost.members ∙ members_then r r2 m)
 
 pub returns-clause-failed : goal.returns-clause-failed
@@ -197,28 +172,13 @@ returns-clause-failed g c =
     let high = c.args.high.now in
     let did2 = c.read_touched-far.ensures in
     let lost2 : AreLost given high.shape n p r2 f1 f2 = lost-of given high.shape n p r2 f1 f2 one.placed did2.lost in
-    let two : IsMoved given n p = moved-lost given high.shape n p r2 f1 f2 one.placed lost2 one.unlost in
     since-then m n p 0 0 0 f0 f1 f2 did.lost.never_falls did2.lost.never_falls (since-lost given low.shape m n r f0 f1 lost1) (since-lost given high.shape n p r2 f1 f2 lost2) (in-second 0)
 
 pub returns-clause-unread : goal.returns-clause-unread
 returns-clause-unread g c =
-    let m = c.args.members.now in
-    let n = c.read_touched-near.new.members in
-    let given = g.B.Bank.given c.args.bank.now in
-    let f0 = g.B.Bank.faults_of c.args.bank.now in
-    let f1 = g.B.Bank.faults_of c.read_touched-near.new.bank in
-    let r = c.read_touched-near.result.lost in
-    let low = c.args.low.now in
-    let did = c.read_touched-near.ensures in
-    let lost1 : AreLost given low.shape m n r f0 f1 = lost-of given low.shape m n r f0 f1 c.requires.placed did.lost in
-    let one : IsMoved given m n = moved-lost given low.shape m n r f0 f1 c.requires.placed lost1 c.requires.unlost in
     let p = c.read_touched-far.new.members in
-    let f2 = g.B.Bank.faults_of c.read_touched-far.new.bank in
-    let r2 = c.read_touched-far.result.lost in
     let high = c.args.high.now in
     let did2 = c.read_touched-far.ensures in
-    let lost2 : AreLost given high.shape n p r2 f1 f2 = lost-of given high.shape n p r2 f1 f2 one.placed did2.lost in
-    let two : IsMoved given n p = moved-lost given high.shape n p r2 f1 f2 one.placed lost2 one.unlost in
     λ no both. write-told p high.shape high.synced c.read_touched-far.result.answer (ok-err c.read_touched-far.result.answer (sym c.is_ok.ensures.value ∙ no)) did2.answer both.1
 
 pub returns-clause-low : goal.returns-clause-low
@@ -265,12 +225,8 @@ returns-clause-high g c =
     let lost1 : AreLost given low.shape m n r f0 f1 = lost-of given low.shape m n r f0 f1 c.requires.placed did.lost in
     let one : IsMoved given m n = moved-lost given low.shape m n r f0 f1 c.requires.placed lost1 c.requires.unlost in
     let p = c.read_touched-far.new.members in
-    let f2 = g.B.Bank.faults_of c.read_touched-far.new.bank in
-    let r2 = c.read_touched-far.result.lost in
     let high = c.args.high.now in
     let did2 = c.read_touched-far.ensures in
-    let lost2 : AreLost given high.shape n p r2 f1 f2 = lost-of given high.shape n p r2 f1 f2 one.placed did2.lost in
-    let two : IsMoved given n p = moved-lost given high.shape n p r2 f1 f2 one.placed lost2 one.unlost in
     λ yes told.
     let c0 = present given (g.B.Bank.tape c.args.bank.now) in
     let c1 = present (g.B.Bank.given c.read_touched-near.new.bank) (g.B.Bank.tape c.read_touched-near.new.bank) in
@@ -289,47 +245,66 @@ returns-clause-high g c =
 
 pub returns-clause-low_rows : goal.returns-clause-low_rows
 returns-clause-low_rows g c =
-    let m = c.args.members.now in
-    let n = c.read_touched-near.new.members in
-    let given = g.B.Bank.given c.args.bank.now in
-    let f0 = g.B.Bank.faults_of c.args.bank.now in
-    let f1 = g.B.Bank.faults_of c.read_touched-near.new.bank in
-    let r = c.read_touched-near.result.lost in
-    let low = c.args.low.now in
     let did = c.read_touched-near.ensures in
-    let lost1 : AreLost given low.shape m n r f0 f1 = lost-of given low.shape m n r f0 f1 c.requires.placed did.lost in
-    let one : IsMoved given m n = moved-lost given low.shape m n r f0 f1 c.requires.placed lost1 c.requires.unlost in
-    let p = c.read_touched-far.new.members in
-    let f2 = g.B.Bank.faults_of c.read_touched-far.new.bank in
-    let r2 = c.read_touched-far.result.lost in
-    let high = c.args.high.now in
-    let did2 = c.read_touched-far.ensures in
-    let lost2 : AreLost given high.shape n p r2 f1 f2 = lost-of given high.shape n p r2 f1 f2 one.placed did2.lost in
-    let two : IsMoved given n p = moved-lost given high.shape n p r2 f1 f2 one.placed lost2 one.unlost in
     λ yes. record { touched = did.touched; below = did.below; few = let few = did.few in omega (arith, few, c.requires.low_few) }
 
 pub returns-clause-high_rows : goal.returns-clause-high_rows
 returns-clause-high_rows g c =
-    let m = c.args.members.now in
-    let n = c.read_touched-near.new.members in
-    let given = g.B.Bank.given c.args.bank.now in
-    let f0 = g.B.Bank.faults_of c.args.bank.now in
-    let f1 = g.B.Bank.faults_of c.read_touched-near.new.bank in
-    let r = c.read_touched-near.result.lost in
-    let low = c.args.low.now in
     let did = c.read_touched-near.ensures in
-    let lost1 : AreLost given low.shape m n r f0 f1 = lost-of given low.shape m n r f0 f1 c.requires.placed did.lost in
-    let one : IsMoved given m n = moved-lost given low.shape m n r f0 f1 c.requires.placed lost1 c.requires.unlost in
-    let p = c.read_touched-far.new.members in
-    let f2 = g.B.Bank.faults_of c.read_touched-far.new.bank in
-    let r2 = c.read_touched-far.result.lost in
-    let high = c.args.high.now in
     let did2 = c.read_touched-far.ensures in
-    let lost2 : AreLost given high.shape n p r2 f1 f2 = lost-of given high.shape n p r2 f1 f2 one.placed did2.lost in
-    let two : IsMoved given n p = moved-lost given high.shape n p r2 f1 f2 one.placed lost2 one.unlost in
     λ yes. record { touched = did2.touched; below = λ row has. subst (λ (x : Members). row < x.newest.size) did.lost.members (did2.below row has); few = let few = did2.few in omega (arith, few, c.requires.high_few) }
 
 pub returns-clause-counts : goal.returns-clause-counts
 returns-clause-counts g c =
-    let did = c.read_touched-near.ensures in
-    λ s. let one = did.lost.never_falls s in let two = c.read_touched-far.ensures.lost.never_falls s in omega (arith, one, two)
+    λ s. le_trans (c.read_touched-near.ensures.lost.never_falls s) (c.read_touched-far.ensures.lost.never_falls s)
+
+pub read_touched-near-requires-clause-room : goal.read_touched-near-requires-clause-room
+read_touched-near-requires-clause-room g c = c.requires.rows
+
+pub read_touched-near-requires-clause-buffer : goal.read_touched-near-requires-clause-buffer
+read_touched-near-requires-clause-buffer g c = c.requires.buffer
+
+pub read_touched-far-requires-clause-room : goal.read_touched-far-requires-clause-room
+read_touched-far-requires-clause-room g c = c.requires.far_rows
+
+pub read_touched-far-requires-clause-buffer : goal.read_touched-far-requires-clause-buffer
+read_touched-far-requires-clause-buffer g c = c.requires.far_buffer
+
+pub returns-then-is_err-clause-tape : goal.returns-then-is_err-clause-tape
+returns-then-is_err-clause-tape g c = c.read_touched-near.ensures.tape
+
+pub returns-then-is_err-clause-given : goal.returns-then-is_err-clause-given
+returns-then-is_err-clause-given g c = c.read_touched-near.ensures.given
+
+pub returns-then-is_err-clause-counts : goal.returns-then-is_err-clause-counts
+returns-then-is_err-clause-counts g c = c.read_touched-near.ensures.lost.never_falls
+
+pub returns-then-is_err-clause-rows : goal.returns-then-is_err-clause-rows
+returns-then-is_err-clause-rows g c = c.read_touched-near.ensures.capacity
+
+pub returns-then-is_err-clause-buffer : goal.returns-then-is_err-clause-buffer
+returns-then-is_err-clause-buffer g c = c.read_touched-near.ensures.size
+
+pub returns-clause-tape : goal.returns-clause-tape
+returns-clause-tape g c told = c.read_touched-far.ensures.tape told ∙ c.read_touched-near.ensures.tape told
+
+pub returns-clause-given : goal.returns-clause-given
+returns-clause-given g c = c.read_touched-far.ensures.given ∙ c.read_touched-near.ensures.given
+
+pub returns-clause-rows : goal.returns-clause-rows
+returns-clause-rows g c = c.read_touched-near.ensures.capacity
+
+pub returns-clause-buffer : goal.returns-clause-buffer
+returns-clause-buffer g c = c.read_touched-near.ensures.size
+
+pub returns-clause-far_rows : goal.returns-clause-far_rows
+returns-clause-far_rows g c = c.read_touched-far.ensures.capacity
+
+pub returns-clause-far_buffer : goal.returns-clause-far_buffer
+returns-clause-far_buffer g c = c.read_touched-far.ensures.size
+
+pub returns-then-is_err-clause-low_rows : goal.returns-then-is_err-clause-low_rows
+returns-then-is_err-clause-low_rows g c read = false-true read
+
+pub returns-then-is_err-clause-high_rows : goal.returns-then-is_err-clause-high_rows
+returns-then-is_err-clause-high_rows g c read = false-true read

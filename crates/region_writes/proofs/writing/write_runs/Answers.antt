@@ -1,4 +1,4 @@
-use Rattle.std.proofs.Common.{◌⊎◌, inl, inr, ◌<◌, ℕ, refl, sym, ◌∙◌, subst, arith}
+use Rattle.std.proofs.Common.{◌⊎◌, inl, inr, ◌<◌, ℕ, refl, sym, ◌∙◌, subst, ◌≤◌, le_trans}
 use Rattle.std.specs.Prelude.{Contains, slice_index}
 use Rattle.bank.specs.Given.{Given}
 use Rattle.bank.specs.Tape.{disk}
@@ -20,6 +20,8 @@ use Rattle.region_writes.proofs.RunLaws.{told-as}
 use Rattle.region_writes.proofs.WriteLaws.{some-none, row-apart, rows-apart, standing-apart, full-done, full-kept, rebuilt-kept}
 use Rattle.region_rows.specs.safe_updates_Unused.{IsUnusedKept}
 use Rattle.region_rows.proofs.safe_updates_Unused.{unused-then}
+use mathlib.Core.List.{not-mem-nil}
+use Rattle.region_rows.specs.views_Placed.{IsPlaced}
 use Rattle.region_writes.proofs.writing.write_runs.Goals as goal
 
 pub put_rows-near-requires-clause-below : goal.put_rows-near-requires-clause-below
@@ -36,47 +38,22 @@ put_rows-near-requires-clause-few g c =
 
 pub put_rows-far-requires-clause-free : goal.put_rows-far-requires-clause-free
 put_rows-far-requires-clause-free g c =
-    let m = c.args.members.now in
     let n = c.put_rows-near.new.members in
     let given = g.B.Bank.given c.args.bank.now in
-    let given1 = g.B.Bank.given c.put_rows-near.new.bank in
     let did = c.put_rows-near.ensures in
-    let tape0 = g.B.Bank.tape c.args.bank.now in
-    let tape1 = g.B.Bank.tape c.put_rows-near.new.bank in
-    let low = c.args.low.now in
-    let high = c.args.high.now in
-    let rows = c.args.rows.now in
-    let far_rows = c.args.far_rows.now in
     subst (λ (b : Given). AreSparesFree b n) (sym did.given) (did.moved.free c.requires.free)
 
 pub put_rows-far-requires-clause-shape : goal.put_rows-far-requires-clause-shape
 put_rows-far-requires-clause-shape g c =
     let m = c.args.members.now in
     let n = c.put_rows-near.new.members in
-    let given = g.B.Bank.given c.args.bank.now in
-    let given1 = g.B.Bank.given c.put_rows-near.new.bank in
     let did = c.put_rows-near.ensures in
-    let tape0 = g.B.Bank.tape c.args.bank.now in
-    let tape1 = g.B.Bank.tape c.put_rows-near.new.bank in
-    let low = c.args.low.now in
     let high = c.args.high.now in
-    let rows = c.args.rows.now in
-    let far_rows = c.args.far_rows.now in
     alike-force m.newest n.newest did.moved.reshape did.moved.shape did.moved.size high.shape c.requires.high
 
 pub put_rows-far-requires-clause-below : goal.put_rows-far-requires-clause-below
 put_rows-far-requires-clause-below g c =
-    let m = c.args.members.now in
-    let n = c.put_rows-near.new.members in
-    let given = g.B.Bank.given c.args.bank.now in
-    let given1 = g.B.Bank.given c.put_rows-near.new.bank in
     let did = c.put_rows-near.ensures in
-    let tape0 = g.B.Bank.tape c.args.bank.now in
-    let tape1 = g.B.Bank.tape c.put_rows-near.new.bank in
-    let low = c.args.low.now in
-    let high = c.args.high.now in
-    let rows = c.args.rows.now in
-    let far_rows = c.args.far_rows.now in
     λ row has. subst (λ (k : ℕ). row < k) (sym did.moved.size) (c.requires.high_rows.below row has)
 
 pub put_rows-far-requires-clause-once : goal.put_rows-far-requires-clause-once
@@ -92,7 +69,6 @@ put_rows-far-requires-clause-standing g c =
     let m = c.args.members.now in
     let n = c.put_rows-near.new.members in
     let given = g.B.Bank.given c.args.bank.now in
-    let given1 = g.B.Bank.given c.put_rows-near.new.bank in
     let did = c.put_rows-near.ensures in
     let tape0 = g.B.Bank.tape c.args.bank.now in
     let tape1 = g.B.Bank.tape c.put_rows-near.new.bank in
@@ -138,15 +114,12 @@ returns-then-is_some-clause-high g c =
 
 pub returns-then-is_some-clause-others : goal.returns-then-is_some-clause-others
 returns-then-is_some-clause-others g c =
-    let m = c.args.members.now in
     let n = c.put_rows-near.new.members in
     let given = g.B.Bank.given c.args.bank.now in
-    let given1 = g.B.Bank.given c.put_rows-near.new.bank in
     let did = c.put_rows-near.ensures in
     let tape0 = g.B.Bank.tape c.args.bank.now in
     let tape1 = g.B.Bank.tape c.put_rows-near.new.bank in
     let low = c.args.low.now in
-    let high = c.args.high.now in
     let rows = c.args.rows.now in
     let far_rows = c.args.far_rows.now in
     λ told. rows-apart low.shape c.args.first c.args.from.now rows c.put_rows-near.result.next n (present given tape0) (present given tape1) c.args.buffer.now.items c.put_rows-near.new.buffer.items
@@ -164,15 +137,8 @@ returns-clause-moved g c =
     let given = g.B.Bank.given c.args.bank.now in
     let given1 = g.B.Bank.given c.put_rows-near.new.bank in
     let did = c.put_rows-near.ensures in
-    let tape0 = g.B.Bank.tape c.args.bank.now in
-    let tape1 = g.B.Bank.tape c.put_rows-near.new.bank in
-    let low = c.args.low.now in
-    let high = c.args.high.now in
-    let rows = c.args.rows.now in
-    let far_rows = c.args.far_rows.now in
     let p = c.put_rows-far.new.members in
     let did2 = c.put_rows-far.ensures in
-    let tape2 = g.B.Bank.tape c.put_rows-far.new.bank in
     let two : IsMoved given n p = moved-from given given1 n n p did.given refl did2.moved in
     moved-then given m n p did.moved two
 
@@ -180,19 +146,9 @@ pub returns-clause-failed : goal.returns-clause-failed
 returns-clause-failed g c =
     let m = c.args.members.now in
     let n = c.put_rows-near.new.members in
-    let given = g.B.Bank.given c.args.bank.now in
-    let given1 = g.B.Bank.given c.put_rows-near.new.bank in
     let did = c.put_rows-near.ensures in
-    let tape0 = g.B.Bank.tape c.args.bank.now in
-    let tape1 = g.B.Bank.tape c.put_rows-near.new.bank in
-    let low = c.args.low.now in
-    let high = c.args.high.now in
-    let rows = c.args.rows.now in
-    let far_rows = c.args.far_rows.now in
     let p = c.put_rows-far.new.members in
     let did2 = c.put_rows-far.ensures in
-    let tape2 = g.B.Bank.tape c.put_rows-far.new.bank in
-    let two : IsMoved given n p = moved-from given given1 n n p did.given refl did2.moved in
     since-then m n p c.put_rows-near.result.spares c.put_rows-far.result.spares _ (g.B.Bank.faults_of c.args.bank.now) (g.B.Bank.faults_of c.put_rows-near.new.bank) (g.B.Bank.faults_of c.put_rows-far.new.bank)
     did.counts did2.counts did.failed did2.failed (in-either c.put_rows-near.result.spares c.put_rows-far.result.spares)
 
@@ -210,7 +166,6 @@ returns-clause-grows g c =
 
 pub returns-clause-low : goal.returns-clause-low
 returns-clause-low g c =
-    let m = c.args.members.now in
     let n = c.put_rows-near.new.members in
     let given = g.B.Bank.given c.args.bank.now in
     let given1 = g.B.Bank.given c.put_rows-near.new.bank in
@@ -235,7 +190,6 @@ returns-clause-low g c =
 
 pub returns-clause-rebuilt : goal.returns-clause-rebuilt
 returns-clause-rebuilt g c =
-    let m = c.args.members.now in
     let n = c.put_rows-near.new.members in
     let given = g.B.Bank.given c.args.bank.now in
     let given1 = g.B.Bank.given c.put_rows-near.new.bank in
@@ -260,21 +214,14 @@ returns-clause-rebuilt g c =
 
 pub returns-clause-high : goal.returns-clause-high
 returns-clause-high g c =
-    let m = c.args.members.now in
-    let n = c.put_rows-near.new.members in
     let given = g.B.Bank.given c.args.bank.now in
-    let given1 = g.B.Bank.given c.put_rows-near.new.bank in
     let did = c.put_rows-near.ensures in
-    let tape0 = g.B.Bank.tape c.args.bank.now in
     let tape1 = g.B.Bank.tape c.put_rows-near.new.bank in
-    let low = c.args.low.now in
     let high = c.args.high.now in
-    let rows = c.args.rows.now in
     let far_rows = c.args.far_rows.now in
     let p = c.put_rows-far.new.members in
     let did2 = c.put_rows-far.ensures in
     let tape2 = g.B.Bank.tape c.put_rows-far.new.bank in
-    let two : IsMoved given n p = moved-from given given1 n n p did.given refl did2.moved in
     λ none told.
     let far_done : AreRowsWritten high.shape c.args.first c.args.from.now far_rows 0 c.put_rows-far.result.next p (present given tape1) (present given tape2) c.args.far_buffer.now.items c.put_rows-far.new.buffer.items =
     subst (λ (b : Given). AreRowsWritten high.shape c.args.first c.args.from.now far_rows 0 c.put_rows-far.result.next p (present b tape1) (present b tape2) c.args.far_buffer.now.items c.put_rows-far.new.buffer.items) did.given (did2.written told) in
@@ -334,9 +281,7 @@ returns-clause-safe g c =
     let did = c.put_rows-near.ensures in
     let tape0 = g.B.Bank.tape c.args.bank.now in
     let tape1 = g.B.Bank.tape c.put_rows-near.new.bank in
-    let low = c.args.low.now in
     let high = c.args.high.now in
-    let rows = c.args.rows.now in
     let far_rows = c.args.far_rows.now in
     let p = c.put_rows-far.new.members in
     let did2 = c.put_rows-far.ensures in
@@ -351,4 +296,88 @@ returns-clause-safe g c =
 
 pub returns-clause-counts : goal.returns-clause-counts
 returns-clause-counts g c =
-    λ s. let one = c.put_rows-near.ensures.counts s in let two = c.put_rows-far.ensures.counts s in omega (arith, one, two)
+    λ s. le_trans (c.put_rows-near.ensures.counts s) (c.put_rows-far.ensures.counts s)
+
+pub put_rows-near-requires-clause-slots : goal.put_rows-near-requires-clause-slots
+put_rows-near-requires-clause-slots g c = c.requires.slots
+
+pub put_rows-near-requires-clause-placed : goal.put_rows-near-requires-clause-placed
+put_rows-near-requires-clause-placed g c = c.requires.placed
+
+pub put_rows-near-requires-clause-unlost : goal.put_rows-near-requires-clause-unlost
+put_rows-near-requires-clause-unlost g c = c.requires.unlost
+
+pub put_rows-near-requires-clause-free : goal.put_rows-near-requires-clause-free
+put_rows-near-requires-clause-free g c = c.requires.free
+
+pub put_rows-near-requires-clause-from : goal.put_rows-near-requires-clause-from
+put_rows-near-requires-clause-from g c = c.requires.from
+
+pub put_rows-near-requires-clause-short : goal.put_rows-near-requires-clause-short
+put_rows-near-requires-clause-short g c = c.requires.short
+
+pub put_rows-near-requires-clause-buffer : goal.put_rows-near-requires-clause-buffer
+put_rows-near-requires-clause-buffer g c = c.requires.buffer
+
+pub put_rows-near-requires-clause-shape : goal.put_rows-near-requires-clause-shape
+put_rows-near-requires-clause-shape g c = c.requires.low
+
+pub put_rows-near-requires-clause-standing : goal.put_rows-near-requires-clause-standing
+put_rows-near-requires-clause-standing g c = c.requires.low_standing
+
+pub is_some-requires : goal.is_some-requires
+is_some-requires g c κs a has = absurd (not-mem-nil has)
+
+pub returns-then-is_some-clause-moved : goal.returns-then-is_some-clause-moved
+returns-then-is_some-clause-moved g c = c.put_rows-near.ensures.moved
+
+pub returns-then-is_some-clause-failed : goal.returns-then-is_some-clause-failed
+returns-then-is_some-clause-failed g c = c.put_rows-near.ensures.failed
+
+pub returns-then-is_some-clause-grows : goal.returns-then-is_some-clause-grows
+returns-then-is_some-clause-grows g c = c.put_rows-near.ensures.grows
+
+pub returns-then-is_some-clause-unused : goal.returns-then-is_some-clause-unused
+returns-then-is_some-clause-unused g c = c.put_rows-near.ensures.unused
+
+pub returns-then-is_some-clause-clean : goal.returns-then-is_some-clause-clean
+returns-then-is_some-clause-clean g c = c.put_rows-near.ensures.clean
+
+pub returns-then-is_some-clause-rise : goal.returns-then-is_some-clause-rise
+returns-then-is_some-clause-rise g c = c.put_rows-near.ensures.rise
+
+pub returns-then-is_some-clause-given : goal.returns-then-is_some-clause-given
+returns-then-is_some-clause-given g c = c.put_rows-near.ensures.given
+
+pub returns-then-is_some-clause-counts : goal.returns-then-is_some-clause-counts
+returns-then-is_some-clause-counts g c = c.put_rows-near.ensures.counts
+
+pub returns-then-is_some-clause-buffer : goal.returns-then-is_some-clause-buffer
+returns-then-is_some-clause-buffer g c = c.put_rows-near.ensures.size
+
+pub put_rows-far-requires-clause-slots : goal.put_rows-far-requires-clause-slots
+put_rows-far-requires-clause-slots g c = subst (λ (b : Given). b.slots ≤ 32) (sym c.put_rows-near.ensures.given) c.requires.slots
+
+pub put_rows-far-requires-clause-placed : goal.put_rows-far-requires-clause-placed
+put_rows-far-requires-clause-placed g c = subst (λ (b : Given). IsPlaced b c.put_rows-near.new.members) (sym c.put_rows-near.ensures.given) c.put_rows-near.ensures.moved.placed
+
+pub put_rows-far-requires-clause-unlost : goal.put_rows-far-requires-clause-unlost
+put_rows-far-requires-clause-unlost g c = c.put_rows-near.ensures.moved.unlost
+
+pub put_rows-far-requires-clause-from : goal.put_rows-far-requires-clause-from
+put_rows-far-requires-clause-from g c = c.requires.from
+
+pub put_rows-far-requires-clause-short : goal.put_rows-far-requires-clause-short
+put_rows-far-requires-clause-short g c = c.requires.short
+
+pub put_rows-far-requires-clause-buffer : goal.put_rows-far-requires-clause-buffer
+put_rows-far-requires-clause-buffer g c = c.requires.far_buffer
+
+pub returns-clause-given : goal.returns-clause-given
+returns-clause-given g c = c.put_rows-far.ensures.given ∙ c.put_rows-near.ensures.given
+
+pub returns-clause-buffer : goal.returns-clause-buffer
+returns-clause-buffer g c = c.put_rows-near.ensures.size
+
+pub returns-clause-far_buffer : goal.returns-clause-far_buffer
+returns-clause-far_buffer g c = c.put_rows-far.ensures.size

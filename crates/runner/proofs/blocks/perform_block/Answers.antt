@@ -1,4 +1,4 @@
-use Rattle.std.proofs.Common.{◌≡◌, ◌≤◌, ◌-◌, true, ◌++◌, ◌∷◌, [], List, Some, length, take, drop, refl, sym, subst, arith, append-nil}
+use Rattle.std.proofs.Common.{ℕ, ◌≡◌, ◌<◌, ◌≤◌, ◌-◌, true, ◌++◌, ◌∷◌, [], List, Some, length, take, drop, refl, sym, subst, arith, append-nil}
 use Rattle.std.proofs.Math.ListN.{get_or}
 use Rattle.std.specs.List.{AllPass}
 use Rattle.script.specs.Script.{is_within_limits}
@@ -12,6 +12,9 @@ use Rattle.block_answers.proofs.BlockAnswers.{block-unanswered, block-still}
 use Rattle.runner.specs.declared.sessions.Session.{Session}
 use Rattle.runner.specs.declared.sessions.Stop.TheVariants.{NoMemory as WantsMemory}
 use Rattle.runner.specs.Sessions.{AreAllShown}
+use Rattle.block_answers.specs.run_laws_Ended.{IsRunKept}
+use Rattle.block_answers.specs.views_Moving.{Grows}
+use Rattle.runner.proofs.NothingDone.{grows-same}
 use Rattle.runner.proofs.BlockReplies.{past-end, block-some, parts-whole, parts-order, parts-all, parts-may, answers-named, answers-short}
 use Rattle.runner.proofs.Showing.{none-shown, same-all}
 use Rattle.runner.proofs.blocks.perform_block.Goals as goal
@@ -77,3 +80,29 @@ returns-clause-step g c =
       written = subst (λ (s : State g.row.B.Denot). g.B.Bank.tells → IsWritten (setting_of g.B.Bank.tells (g.B.Bank.given (bank_in old)) (g.B.Bank.tape (bank_in old)) (g.B.Bank.tape (bank_in s)) c.args.backup (g.B.Bank.faults_of (bank_in old)) (g.B.Bank.faults_of (bank_in s))) (histories_in old) (histories_in s) (λ slot. ⊥)) (sym c.show_answers.ensures.state) c.answer_block-state.ensures.written;
       shown = subst (λ (s : State g.row.B.Denot). AreAllShown g.K.Sink.tells g.B.Bank.tells (length (g.B.Bank.tape (bank_in s))) (histories_in s) c.args.session new lines whats (g.K.Sink.taken c.args.out.now) (g.K.Sink.taken c.show_answers.new.out)) (sym c.show_answers.ensures.state) all;
     }
+
+pub overflow_sub-last : goal.overflow_sub-last
+overflow_sub-last g c = block-some c.args.lines.now c.requires.block
+
+one-less : (n : ℕ) → 1 ≤ n → n - 1 < n
+one-less n some = omega arith
+
+pub bounds-lines-last : goal.bounds-lines-last
+bounds-lines-last g c = one-less (length c.args.lines.now) (block-some c.args.lines.now c.requires.block)
+
+pub returns-clause-grows : goal.returns-clause-grows
+returns-clause-grows g c =
+    subst (λ (s : State g.row.B.Denot). Grows g.B.Bank.tells (g.B.Bank.tape (bank_in c.args.session.state)) (g.B.Bank.tape (bank_in s))) (sym c.show_answers.ensures.state) c.answer_block-state.ensures.grows
+
+pub returns-clause-never_falls : goal.returns-clause-never_falls
+returns-clause-never_falls g c slot =
+    subst (λ (s : State g.row.B.Denot). g.B.Bank.faults_of (bank_in c.args.session.state) slot ≤ g.B.Bank.faults_of (bank_in s) slot) (sym c.show_answers.ensures.state)
+    (c.answer_block-state.ensures.never_falls slot)
+
+pub returns-clause-former : goal.returns-clause-former
+returns-clause-former g c =
+    subst (λ (s : State g.row.B.Denot). IsRunKept g.B.Bank.tells (g.B.Bank.given (bank_in c.args.session.state)) (g.B.Bank.tape (bank_in s)) c.args.backup s) (sym c.show_answers.ensures.state)
+    c.answer_block-state.ensures.former
+
+pub returns-then-is_err-clause-grows : goal.returns-then-is_err-clause-grows
+returns-then-is_err-clause-grows g c = grows-same refl

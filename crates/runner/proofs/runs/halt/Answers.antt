@@ -1,4 +1,4 @@
-use Rattle.std.proofs.Common.{rules, ◌≡◌, ◌-◌, [], ◌∷◌, ◌++◌, length, refl, sym, ap, subst, arith}
+use Rattle.std.proofs.Common.{◌≡◌, ℕ, ◌+◌, ◌-◌, ◌≤◌, [], ◌∷◌, ◌++◌, length, refl, sym, ap, ◌∙◌, subst, le_refl, arith}
 use Rattle.flat_history.specs.declared.events.Epoch.{Epoch}
 use Rattle.block_answers.specs.superblocks_Reading.{list_length}
 use Rattle.block_answers.specs.run_laws_Ended.{IsRunKept, AreFormer}
@@ -16,6 +16,9 @@ use Rattle.block_answers.specs.run_laws_Written.{IsWritten}
 use Rattle.block_answers.proofs.run_laws_Writing.{entered_end, written_idle, written_ended}
 use Rattle.runner.proofs.runs.halt.Goals as goal
 
+place : (n : ℕ) → 1 ≤ n → (n - 1) + 1 ≡ n
+place n some = omega arith
+
 pub returns-in-Idle-clause-ended : goal.returns-in-Idle-clause-ended
 returns-in-Idle-clause-ended g c =
     let bank = c.in-Idle.bank in
@@ -28,10 +31,9 @@ returns-in-Running-clause-ended g c =
     let epoch : Epoch = c.halt-bank.result.1 in
     let did = c.halt-bank.ensures in
     let own = subst (λ (s : State g.row.B.Denot). RunsOwn s) c.in-Running.is c.requires.own in
-    let room = own.room in
-    let items : c.push_reserved.new.self.items ≡ c.in-Running.epochs.items ++ epoch ∷ [] = search rules in
+    let items : c.push_reserved.new.self.items ≡ c.in-Running.epochs.items ++ epoch ∷ [] = c.push_reserved.ensures.items in
     let grew = halt_grew c.script_call-who.result did.entered in
-    let asked = asked_halt (list_length array.parts.members.newest) (length epoch.entries.items - 1) c.script_call-who.result c.script_call-who.ensures did.entered (omega (arith, grew)) in
+    let asked = asked_halt (list_length array.parts.members.newest) (length epoch.entries.items - 1) c.script_call-who.result c.script_call-who.ensures did.entered (place _ grew) in
     let bank = c.halt-bank.result.0 in
     let setting = setting_of g.B.Bank.tells (g.B.Bank.given array.parts.bank) (g.B.Bank.tape bank) (g.B.Bank.tape bank) c.args.backup (g.B.Bank.faults_of bank) (g.B.Bank.faults_of bank) in
     subst (λ (s : State g.row.B.Denot). IsEnded (setting_of g.B.Bank.tells (g.B.Bank.given (bank_in s)) (g.B.Bank.tape bank) (g.B.Bank.tape bank) c.args.backup (g.B.Bank.faults_of bank) (g.B.Bank.faults_of bank)) s bank c.push_reserved.new.self.items) (sym c.in-Running.is)
@@ -44,8 +46,7 @@ returns-in-Running-clause-former g c =
     let epoch : Epoch = c.halt-bank.result.1 in
     let did = c.halt-bank.ensures in
     let own = subst (λ (s : State g.row.B.Denot). RunsOwn s) c.in-Running.is c.requires.own in
-    let room = own.room in
-    let items : c.push_reserved.new.self.items ≡ c.in-Running.epochs.items ++ epoch ∷ [] = search rules in
+    let items : c.push_reserved.new.self.items ≡ c.in-Running.epochs.items ++ epoch ∷ [] = c.push_reserved.ensures.items in
     let former = subst (λ (s : State g.row.B.Denot). IsRunKept g.B.Bank.tells (g.B.Bank.given (bank_in s)) (g.B.Bank.tape (bank_in s)) c.args.backup s) c.in-Running.is c.requires.former in
     subst (λ (s : State g.row.B.Denot). g.B.Bank.tells → AreFormer (g.B.Bank.given (bank_in s)) (g.B.Bank.tape c.halt-bank.result.0) c.args.backup (length (g.B.Bank.tape c.halt-bank.result.0)) c.push_reserved.new.self.items) (sym c.in-Running.is)
     (former_halted g.B.Bank.tells (λ (b : g.row.B.Denot). g.B.Bank.given b) (λ (b : g.row.B.Denot). g.B.Bank.tape b) c.args.backup array.parts c.halt-bank.result.0 epoch c.in-Running.epochs.items c.push_reserved.new.self.items items did.bank did.uuid did.given did.first
@@ -55,7 +56,7 @@ pub returns-in-Idle-clause-written : goal.returns-in-Idle-clause-written
 returns-in-Idle-clause-written g c told =
     let bank = c.in-Idle.bank in
     subst (λ (s : State g.row.B.Denot). IsWritten (setting_of g.B.Bank.tells (g.B.Bank.given (bank_in s)) (g.B.Bank.tape bank) (g.B.Bank.tape bank) c.args.backup (g.B.Bank.faults_of bank) (g.B.Bank.faults_of bank)) (histories_in s) (histories_of c.in-Idle.epochs.items) (λ slot. ⊥)) (sym c.in-Idle.is)
-    (written_idle (setting_of g.B.Bank.tells (g.B.Bank.given bank) (g.B.Bank.tape bank) (g.B.Bank.tape bank) c.args.backup (g.B.Bank.faults_of bank) (g.B.Bank.faults_of bank)) c.in-Idle.epochs.items c.in-Idle.epochs.items (λ slot. ⊥) refl (omega arith))
+    (written_idle (setting_of g.B.Bank.tells (g.B.Bank.given bank) (g.B.Bank.tape bank) (g.B.Bank.tape bank) c.args.backup (g.B.Bank.faults_of bank) (g.B.Bank.faults_of bank)) c.in-Idle.epochs.items c.in-Idle.epochs.items (λ slot. ⊥) refl (le_refl _))
 
 pub returns-in-Running-clause-written : goal.returns-in-Running-clause-written
 returns-in-Running-clause-written g c told =
@@ -63,8 +64,7 @@ returns-in-Running-clause-written g c told =
     let epoch : Epoch = c.halt-bank.result.1 in
     let did = c.halt-bank.ensures in
     let own = subst (λ (s : State g.row.B.Denot). RunsOwn s) c.in-Running.is c.requires.own in
-    let room = own.room in
-    let items : c.push_reserved.new.self.items ≡ c.in-Running.epochs.items ++ epoch ∷ [] = search rules in
+    let items : c.push_reserved.new.self.items ≡ c.in-Running.epochs.items ++ epoch ∷ [] = c.push_reserved.ensures.items in
     let former = subst (λ (s : State g.row.B.Denot). IsRunKept g.B.Bank.tells (g.B.Bank.given (bank_in s)) (g.B.Bank.tape (bank_in s)) c.args.backup s) c.in-Running.is c.requires.former in
     let bank = c.halt-bank.result.0 in
     let setting = setting_of g.B.Bank.tells (g.B.Bank.given array.parts.bank) (g.B.Bank.tape bank) (g.B.Bank.tape bank) c.args.backup (g.B.Bank.faults_of bank) (g.B.Bank.faults_of bank) in
@@ -73,4 +73,4 @@ returns-in-Running-clause-written g c told =
     let was = former.ended told in
     let end = entered_end epoch.first c.script_call-who.result Halted did.entered told in
     subst (λ (s : State g.row.B.Denot). IsWritten (setting_of g.B.Bank.tells (g.B.Bank.given (bank_in s)) (g.B.Bank.tape bank) (g.B.Bank.tape bank) c.args.backup (g.B.Bank.faults_of bank) (g.B.Bank.faults_of bank)) (histories_in s) (histories_of c.push_reserved.new.self.items) (λ slot. ⊥)) (sym c.in-Running.is)
-    (written_ended setting array bank epoch c.in-Running.epochs c.push_reserved.new.self (λ slot. ⊥) items did.first (omega (arith, begun, same)) (omega arith) (omega (arith, was, same)) (omega (arith, end, same)))
+    (written_ended setting array bank epoch c.in-Running.epochs c.push_reserved.new.self (λ slot. ⊥) items did.first (subst (λ (n : ℕ). array.parts.first ≤ n) (sym same) begun) (le_refl _) (was ∙ sym same) (end ∙ sym same))

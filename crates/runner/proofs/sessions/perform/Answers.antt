@@ -17,6 +17,7 @@ use Rattle.block_answers.proofs.run_laws_Causes.{grows-none, grows-then}
 use Rattle.block_answers.proofs.run_laws_Legal.{former_none}
 use Rattle.runner.proofs.Showing.{none-stopped}
 use Rattle.runner.proofs.Steps.{performed_none, shown_none, turn_step, turn_count}
+use Rattle.runner.proofs.NothingDone.{none-former, grows-same}
 use Rattle.runner.proofs.sessions.perform.Goals as goal
 
 -- the lines from this one on
@@ -103,3 +104,10 @@ perform_turn-after-requires-clause-former g c κs lives =
 
 pub returns-then-is_some-clause-grows : goal.returns-then-is_some-clause-grows
 returns-then-is_some-clause-grows g c = grows-then c.loop-next.invariant.grows c.perform_turn-after.ensures.grows
+
+pub returns-in_default-clause-former : goal.returns-in_default-clause-former
+returns-in_default-clause-former g c told =
+    none-former (g.B.Bank.given c.args.bank) (g.B.Bank.tape c.args.bank) c.args.backup (length (g.B.Bank.tape c.args.bank)) c.new.result.items c.new.ensures.items
+
+pub returns-in_default-clause-grows : goal.returns-in_default-clause-grows
+returns-in_default-clause-grows g c = grows-same refl

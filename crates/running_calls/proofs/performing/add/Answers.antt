@@ -1,10 +1,13 @@
+use Rattle.std.proofs.Common.{◌≡◌}
 use Rattle.openings.specs.superblocks_Reading.{list_length}
 use Rattle.flat_history.specs.declared.events.Event.TheVariants.{Added}
 use Rattle.flat_history.specs.declared.events.Request.TheVariants.{Add as AsksAdd}
+use Rattle.openings.specs.array_kept_Calls.{IsEndOf}
 use Rattle.running_replies.proofs.Fitting.{fits-add}
 use Rattle.running_calls.proofs.Plain.{IsCallAnswered, answered-so, told-answer}
 use Rattle.running_calls.proofs.Told.{told-answered, add-told}
 use Rattle.running_calls.proofs.GoneOn.{plain-added, gone-added}
+use Rattle.running_calls.proofs.Arms.{ok-any, told-unchanged}
 use Rattle.running_calls.proofs.performing.add.Given.{Over}
 use Rattle.running_calls.proofs.performing.add.Goals as goal
 
@@ -29,3 +32,9 @@ returns-clause-went g c =
     (plain-added g.B.Bank.tells g.B.Bank.given g.B.Bank.tape g.B.Bank.faults_of old new did.called did.given did.active) did.called.spares did.caused
     (told-answered old.parts.backup (g.B.Bank.faults_of old.parts.bank) (g.B.Bank.faults_of new.parts.bank) size (AsksAdd c.args.slot) c.args.who old.parts.entries new.parts.entries (Added c.args.slot) c.add-answer.result
     (add-told old.parts.backup (g.B.Bank.faults_of old.parts.bank) (g.B.Bank.faults_of new.parts.bank) size c.args.slot bank old.parts.backup old.parts.members new.parts.members c.add-answer.result did.caused) (entered g c))
+
+pub returns-clause-unchanged : goal.returns-clause-unchanged
+returns-clause-unchanged g c = told-unchanged (c.add-answer.new.self ≡ c.args.array.now) (Added c.args.slot) c.add-answer.result c.told.result c.told.ensures c.add-answer.ensures.unchanged
+
+pub returns-clause-ended : goal.returns-clause-ended
+returns-clause-ended g c = ok-any c.told.result (IsEndOf g.B.Bank.tells c.add-answer.new.self.parts.first c.add-answer.new.self.parts.entries (g.B.Bank.tape c.add-answer.new.self.parts.bank)) c.add-answer.ensures.called.ended

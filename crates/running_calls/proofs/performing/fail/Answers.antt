@@ -1,10 +1,13 @@
+use Rattle.std.proofs.Common.{◌≡◌}
 use Rattle.openings.specs.superblocks_Reading.{list_length}
 use Rattle.flat_history.specs.declared.events.Event.TheVariants.{Failed}
 use Rattle.flat_history.specs.declared.events.Request.TheVariants.{Fail as AsksFail}
+use Rattle.openings.specs.array_kept_Calls.{IsEndOf}
 use Rattle.running_replies.proofs.Fitting.{fits-fail}
 use Rattle.running_calls.proofs.Plain.{IsCallAnswered, answered-so, told-answer}
 use Rattle.running_calls.proofs.Told.{told-answered, fail-told}
 use Rattle.running_calls.proofs.GoneOn.{plain-called, gone-answered}
+use Rattle.running_calls.proofs.Arms.{ok-any, told-unchanged}
 use Rattle.running_calls.proofs.performing.fail.Given.{Over}
 use Rattle.running_calls.proofs.performing.fail.Goals as goal
 
@@ -28,3 +31,9 @@ returns-clause-went g c =
     (plain-called g.B.Bank.tells g.B.Bank.given g.B.Bank.tape g.B.Bank.faults_of old new did.called did.given did.active) did.called.spares
     (told-answered old.parts.backup (g.B.Bank.faults_of old.parts.bank) (g.B.Bank.faults_of new.parts.bank) size (AsksFail c.args.role) c.args.who old.parts.entries new.parts.entries (Failed c.args.role) c.fail-answer.result
     (fail-told old.parts.backup (g.B.Bank.faults_of old.parts.bank) (g.B.Bank.faults_of new.parts.bank) size c.args.role (Failed c.args.role) c.fail-answer.result) (entered g c))
+
+pub returns-clause-unchanged : goal.returns-clause-unchanged
+returns-clause-unchanged g c = told-unchanged (c.fail-answer.new.self ≡ c.args.array.now) (Failed c.args.role) c.fail-answer.result c.told.result c.told.ensures c.fail-answer.ensures.unchanged
+
+pub returns-clause-ended : goal.returns-clause-ended
+returns-clause-ended g c = ok-any c.told.result (IsEndOf g.B.Bank.tells c.fail-answer.new.self.parts.first c.fail-answer.new.self.parts.entries (g.B.Bank.tape c.fail-answer.new.self.parts.bank)) c.fail-answer.ensures.called.ended

@@ -1,10 +1,13 @@
+use Rattle.std.proofs.Common.{◌≡◌}
 use Rattle.openings.specs.superblocks_Reading.{list_length}
 use Rattle.flat_history.specs.declared.events.Event.TheVariants.{Flushed}
 use Rattle.flat_history.specs.declared.events.Request.TheVariants.{Flush as AsksFlush}
+use Rattle.openings.specs.array_kept_Calls.{IsEndOf}
 use Rattle.running_replies.proofs.Fitting.{fits-flush}
 use Rattle.running_calls.proofs.Plain.{IsCallAnswered, answered-so, told-answer}
 use Rattle.running_calls.proofs.Told.{told-answered, flush-told}
 use Rattle.running_calls.proofs.GoneOn.{plain-called, gone-answered}
+use Rattle.running_calls.proofs.Arms.{ok-any, told-unchanged}
 use Rattle.running_calls.proofs.performing.flush.Given.{Over}
 use Rattle.running_calls.proofs.performing.flush.Goals as goal
 
@@ -27,3 +30,9 @@ returns-clause-went g c =
     (plain-called g.B.Bank.tells g.B.Bank.given g.B.Bank.tape g.B.Bank.faults_of old new did.called did.given did.active) did.called.spares
     (told-answered old.parts.backup (g.B.Bank.faults_of old.parts.bank) (g.B.Bank.faults_of new.parts.bank) size AsksFlush c.args.who old.parts.entries new.parts.entries Flushed c.flush-answer.result
     (flush-told old.parts.backup (g.B.Bank.faults_of old.parts.bank) (g.B.Bank.faults_of new.parts.bank) size Flushed c.flush-answer.result) (entered g c))
+
+pub returns-clause-unchanged : goal.returns-clause-unchanged
+returns-clause-unchanged g c = told-unchanged (c.flush-answer.new.self ≡ c.args.array.now) Flushed c.flush-answer.result c.told.result c.told.ensures c.flush-answer.ensures.unchanged
+
+pub returns-clause-ended : goal.returns-clause-ended
+returns-clause-ended g c = ok-any c.told.result (IsEndOf g.B.Bank.tells c.flush-answer.new.self.parts.first c.flush-answer.new.self.parts.entries (g.B.Bank.tape c.flush-answer.new.self.parts.bank)) c.flush-answer.ensures.called.ended

@@ -1,14 +1,15 @@
 use Rattle.std.proofs.Common.{◌≡◌, ◌*◌, ◌/◌, ℕ, List, length, drop, sym, ◌∙◌, ap, subst₂, arith}
 use Rattle.std.proofs.lemmas.List.{take_at}
-use Rattle.md_base.specs.Sectors.{Sector, sectors_of}
+use Rattle.md_base.specs.Sectors.{Sector, IsWhole, sectors_of}
 use Rattle.openings.specs.superblocks_Reading.{list_length}
 use Rattle.flat_history.specs.declared.events.Event.TheVariants.{Read}
 use Rattle.flat_history.specs.declared.events.Request.TheVariants.{Read as AsksRead}
-use Rattle.openings.specs.array_kept_Calls.{IsAnswered}
+use Rattle.openings.specs.array_kept_Calls.{IsAnswered, IsEndOf}
 use Rattle.running_replies.proofs.Fitting.{fits-read}
 use Rattle.running_calls.proofs.Plain.{IsCallAnswered, answered-so, told-answer}
 use Rattle.running_calls.proofs.Told.{told-answered, read-told}
 use Rattle.running_calls.proofs.GoneOn.{gone-none, plain-called, gone-answered}
+use Rattle.running_calls.proofs.Arms.{ok-any, told-unchanged}
 use Rattle.running_calls.proofs.performing.read.Given.{Over}
 use Rattle.running_calls.proofs.performing.read.Goals as goal
 
@@ -46,3 +47,19 @@ returns-clause-went g c =
 
 pub returns-in-Err-clause-went : goal.returns-in-Err-clause-went
 returns-in-Err-clause-went g c = gone-none g.B.Bank.tells g.B.Bank.given g.B.Bank.tape g.B.Bank.faults_of c.args.array.now
+
+pub returns-clause-unchanged : goal.returns-clause-unchanged
+returns-clause-unchanged g c = told-unchanged (c.read-answer.new.self ≡ c.args.array.now) (Read c.args.at c.from_bytes-body.result) c.read-answer.result c.told.result c.told.ensures c.read-answer.ensures.unchanged
+
+pub returns-clause-ended : goal.returns-clause-ended
+returns-clause-ended g c = ok-any c.told.result (IsEndOf g.B.Bank.tells c.read-answer.new.self.parts.first c.read-answer.new.self.parts.entries (g.B.Bank.tape c.read-answer.new.self.parts.bank)) c.read-answer.ensures.called.ended
+
+-- what was read is whole sectors
+whole-of : (n : ℕ) (bytes into : List ℕ) → bytes ≡ into → length into ≡ n * 512 → IsWhole bytes
+whole-of n bytes into same len = let long : length bytes ≡ n * 512 = ap (λ (l : List ℕ). length l) same ∙ len in omega (arith, long)
+
+pub from_bytes-body-requires : goal.from_bytes-body-requires
+from_bytes-body-requires g c =
+    whole-of c.args.count _ c.read-answer.new.into
+    (take_at c.read-answer.new.into (drop (length c.read-answer.new.into) c.in-Ok.into.items) c.in-Ok.into.len (c.read-answer.auto.into ∙ c.as_mut_slice.ensures.len))
+    (c.read-answer.auto.into ∙ c.as_mut_slice.ensures.len ∙ c.in-Ok.ensures.len)

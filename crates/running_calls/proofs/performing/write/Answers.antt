@@ -13,13 +13,14 @@ use Rattle.flat_history.specs.declared.events.Entry.{Entry}
 use Rattle.flat_history.specs.declared.events.Event.TheVariants.{Wrote}
 use Rattle.flat_history.specs.declared.events.Request.TheVariants.{Write as AsksWrite}
 use Rattle.flat_history.specs.Flat.{length_of, limit_of, visible_of}
-use Rattle.openings.specs.array_kept_Calls.{IsCausedBy}
+use Rattle.openings.specs.array_kept_Calls.{IsCausedBy, IsEndOf}
 use Rattle.openings.specs.running_words_Parts.{visible_in}
 use Rattle.openings.specs.running_Calls.{IsWriteLackedIn}
 use Rattle.openings.specs.moving_laws_Writing.{IsWriteReplied}
 use Rattle.running_calls.proofs.Plain.{IsCallAnswered, answered-written, told-answer}
 use Rattle.running_calls.proofs.Told.{told-answered, write-told, backup-failed}
 use Rattle.running_calls.proofs.GoneOn.{plain-called, gone-answered}
+use Rattle.running_calls.proofs.Arms.{ok-any, told-unchanged}
 use Rattle.running_calls.proofs.performing.write.Given.{Over}
 use Rattle.running_calls.proofs.performing.write.Goals as goal
 
@@ -74,3 +75,9 @@ returns-clause-went g c =
     (write-told old.parts.backup before now size c.args.at c.args.body c.write-answer.result
     (λ barred. backup-failed old.parts.backup (λ slot. IsFaulted slot before now) (did.backed (did.barred barred)) (did.backup barred)))
     (entered g c))
+
+pub returns-clause-unchanged : goal.returns-clause-unchanged
+returns-clause-unchanged g c = told-unchanged (c.write-answer.new.self ≡ c.args.array.now) (Wrote c.args.at c.args.body) c.write-answer.result c.told.result c.told.ensures c.write-answer.ensures.unchanged
+
+pub returns-clause-ended : goal.returns-clause-ended
+returns-clause-ended g c = ok-any c.told.result (IsEndOf g.B.Bank.tells c.write-answer.new.self.parts.first c.write-answer.new.self.parts.entries (g.B.Bank.tape c.write-answer.new.self.parts.bank)) c.write-answer.ensures.called.ended

@@ -1,16 +1,22 @@
-use Rattle.std.proofs.Common.{◌≡◌, ◌⊎◌, ℕ, min, inl, inr, [], refl, sym, ap, subst, arith, append-nil}
-use Rattle.std.proofs.lemmas.Bool.{cases_lt}
-use Rattle.std.specs.Prelude.{IfSome}
+use Rattle.std.proofs.Common.{◌≡◌, ◌≢◌, ◌⊎◌, ℕ, ◌+◌, ◌<◌, Bool, true, false, not, min, inl, inr, [], ◌++◌, refl, sym, ◌∙◌, ap, subst, arith, append-nil}
+use Rattle.std.proofs.lemmas.Bool.{cases_lt, true≢false}
+use Rattle.std.specs.Prelude.{if◌then◌else◌, IfSome, IsTrue}
 use Rattle.md_base.specs.declared.answers.Refusal.TheVariants.{Nothing}
 use Rattle.flat_history.specs.declared.events.Event.TheVariants.{Stepped, Refused}
-use Rattle.running.specs.superblocks_Reading.{list_length}
+use Rattle.flat_history.specs.Legal.{disturbs}
+use Rattle.running.specs.superblocks_Reading.{list_length, is_reshaping}
+use Rattle.running.specs.array_kept_Calls.{TellNoLoss}
+use Rattle.running.specs.running_words_Parts.{RunningParts, left_in, still_left}
+use Rattle.running.specs.running_replies_Going.{is_finish}
 use Rattle.running.specs.running_replies_Replies.{IsRefusalBy}
 use Rattle.running.proofs.running_replies_GoneOn.{gone-none}
 use Rattle.running.specs.Calls.{running_left}
+use Rattle.running_steps.specs.Steps.{has_finished}
 use Rattle.running_steps.proofs.Went.{epoch-of}
 use Rattle.running_steps.proofs.Plain.{open-begins}
 use Rattle.running_steps.proofs.Refusals.{steps-may}
 use Rattle.running_steps.proofs.Replies.{rest-answered, answered-nothing, answered-stepped, gone-room, gone-behind, gone-answered, way-behind, way-answered, may-answer}
+use Rattle.running_steps.proofs.StepsOf.{quiet-first}
 use Rattle.running_steps.proofs.Ways.{way-none}
 use Rattle.running_steps.proofs.batch.steps.Goals as goal
 
@@ -117,3 +123,41 @@ returns-clause-kept g c =
     let a = c.answer-2.ensures in
     way-behind g.B.Bank.tells g.B.Bank.given g.B.Bank.tape faults old begun new c.in-Some.room c.in-Ok.ensures.room
     (way-answered faults begun mid new s.went.more _ s.went.grown a.entered.is s.went.never_falls a.bank a.members a.called.same.ahead a.called.same.limit s.kept)
+
+-- ---- how many are left
+
+-- the reply leaves as many
+left-same : {B : Type 0} (mid new : RunningParts B) → new.parts.members ≡ mid.parts.members → new.parts.work ≡ mid.parts.work → new.course ≡ mid.course → new.ahead ≡ mid.ahead → running_left new ≡ running_left mid
+left-same mid new members work course ahead = λ i.
+    if is_reshaping (members i).newest then left_in (work i) (members i) (course i) (ahead i)
+    else still_left (work i) (members i) (ahead i)
+
+none-told : (b : Bool) → IsTrue (not b) → b ≡ false
+none-told true told = absurd (true≢false (sym told))
+none-told false told = refl
+
+some-left : (count most left start : ℕ) → count ≡ min most left → count ≢ 0 → left ≡ start → 0 < start
+some-left count most left start is some exact = omega (arith, is, some, exact)
+
+as-before : (mid new done begun start : ℕ) → new ≡ mid → mid + done ≡ begun → begun ≡ start → new + done ≡ start
+as-before mid new done begun start same were room = omega (arith, same, were, room)
+
+pub returns-clause-counted : goal.returns-clause-counted
+returns-clause-counted g c =
+    let s = c.take_steps-done.ensures in
+    let a = c.answer-2.ensures in
+    let old = c.args.array.now in
+    let begun = c.make_room.new.self in
+    let mid = c.take_steps-done.new.array in
+    let new = c.answer-2.new.self in
+    let room = c.in-Ok.ensures.room in
+    let early = s.entered.is ∙ ap (λ p. p.parts.entries ++ s.entered.inner) room in
+    let same = left-same mid new a.members a.called.work a.course a.called.same.ahead in (
+      c.left-left.ensures.exact ∙ sym same,
+      λ quiet none unrefused.
+          let no_loss = quiet-first disturbs old.parts.entries mid.parts.entries new.parts.entries s.entered.inner _ early a.entered.is quiet in
+          let no_end = none-told (has_finished old.parts.entries mid.parts.entries) (quiet-first is_finish old.parts.entries mid.parts.entries new.parts.entries s.entered.inner _ early a.entered.is (ap not none)) in
+          let were = s.left (subst (λ p. TellNoLoss p.parts.entries mid.parts.entries) (sym room) no_loss) (subst (λ p. has_finished p.parts.entries mid.parts.entries ≡ false) (sym room) no_end) unrefused in
+          as-before (running_left mid) (running_left new) c.take_steps-done.result.done (running_left begun) (running_left old) same were (ap (λ p. running_left p) room),
+      some-left c.min-count.result c.args.most c.left.result (running_left old) c.min-count.ensures c.if-count-eq0.false c.left.ensures.exact,
+    )

@@ -1,8 +1,10 @@
-use Rattle.std.proofs.Common.{◌≡◌, ◌⊎◌, inr, true, false, Option, Some, None, MatchOption, refl, sym, ◌∙◌, arith}
+use Rattle.std.proofs.Common.{◌≡◌, ◌≢◌, ◌⊎◌, inr, ℕ, ◌<◌, ◌≤◌, Option, Some, None, MatchOption, refl, sym, ◌∙◌, arith}
+use Rattle.std.proofs.lemmas.Bool.{true≢false}
 use Rattle.std.specs.Prelude.{⊤}
 use Rattle.md_base.specs.declared.answers.Refusal.{Refusal}
 use Rattle.flat_history.specs.Fits.{is_lost_event}
 use Rattle.flat_history.specs.Legal.{disturbs}
+use Rattle.running.specs.Calls.{running_left}
 use Rattle.running.proofs.running_replies_GoneOn.{gone-then, gone-none}
 use Rattle.running_steps.proofs.Plain.{going-of}
 use Rattle.running_steps.proofs.Replies.{cause-later, way-on}
@@ -10,6 +12,13 @@ use Rattle.running_steps.proofs.Ways.{way-none}
 use Rattle.running_steps.proofs.StepsOf.{steps-none, steps-more, steps-refused, quiet-first, quiet-second}
 use Rattle.running_steps.proofs.Behind.{over-behind}
 use Rattle.running_steps.proofs.batch.take_steps.Goals as goal
+
+-- some were left at first, so none can be left behind some steps alone
+none-first : (left now first : ℕ) → left ≡ 0 → left ≡ now → 0 < first → now ≢ first
+none-first left now first none exact some same = omega (arith, none, exact, some, same)
+
+none-done : (done count : ℕ) → count ≤ done → 0 < count → done ≢ 0
+none-done done count end some none = omega (arith, end, some, none)
 
 pub loop-done-init : goal.loop-done-init
 loop-done-init g c = record {
@@ -48,13 +57,13 @@ pub returns-in-Ok-true-clause-left : goal.returns-in-Ok-true-clause-left
 returns-in-Ok-true-clause-left g c =
     let o = over-behind g.B.Bank.tells g.B.Bank.given g.B.Bank.tape g.B.Bank.faults_of c.args.who c.args.array.now c.loop-done.array c.take_step.new.array c.loop-done.done c.loop-done.invariant.entered c.loop-done.invariant.went c.loop-done.invariant.kept
     (rw c.in-Ok-true.field-0-test at c.in-Ok-true.ensures.taken) c.go_on_behind.new.array c.go_on_behind.result.done c.go_on_behind.result.ended c.go_on_behind.ensures.gone in
-    λ quiet none unrefused. absurd (let both : true ≡ false = sym o.over ∙ none in cc)
+    λ quiet none unrefused. absurd (true≢false (sym o.over ∙ none))
 
 pub returns-in-Ok-true-clause-fewer : goal.returns-in-Ok-true-clause-fewer
 returns-in-Ok-true-clause-fewer g c =
     let o = over-behind g.B.Bank.tells g.B.Bank.given g.B.Bank.tape g.B.Bank.faults_of c.args.who c.args.array.now c.loop-done.array c.take_step.new.array c.loop-done.done c.loop-done.invariant.entered c.loop-done.invariant.went c.loop-done.invariant.kept
     (rw c.in-Ok-true.field-0-test at c.in-Ok-true.ensures.taken) c.go_on_behind.new.array c.go_on_behind.result.done c.go_on_behind.result.ended c.go_on_behind.ensures.gone in
-    λ quiet none unrefused. absurd (let both : true ≡ false = sym o.over ∙ none in cc)
+    λ quiet none unrefused. absurd (true≢false (sym o.over ∙ none))
 
 pub returns-in-Ok-true-clause-why : goal.returns-in-Ok-true-clause-why
 returns-in-Ok-true-clause-why g c =
@@ -150,3 +159,13 @@ loop-done-preserved g c =
       kept = way-on g.B.Bank.tells g.B.Bank.given g.B.Bank.tape g.B.Bank.faults_of old at next was.went s.went was.kept s.kept;
       ended = λ some. s.ended;
     }
+
+-- ---- no more
+
+pub returns-then-left-eq0-clause-closable : goal.returns-then-left-eq0-clause-closable
+returns-then-left-eq0-clause-closable g c =
+    let was = c.loop-done.invariant in
+    λ none still. was.closable (λ zero. none-first c.left.result (running_left c.loop-done.array) (running_left c.args.array.now) c.if-left-eq0.true c.left.ensures.exact c.requires.pending (was.begun zero)) still
+
+pub returns-clause-closable : goal.returns-clause-closable
+returns-clause-closable g c = λ none still. c.loop-done.invariant.closable (none-done c.loop-done.done c.args.count c.loop-done-test.false c.requires.some) still

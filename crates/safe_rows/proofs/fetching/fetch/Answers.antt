@@ -1,4 +1,4 @@
-use Rattle.std.proofs.Common.{◌≡◌, ◌+◌, ◌/◌, ◌^◌, ◌<◌, ◌≤◌, List, length, inl, inr, refl, sym, ◌∙◌, subst, arith}
+use Rattle.std.proofs.Common.{◌≡◌, ◌+◌, ◌/◌, ◌^◌, ◌<◌, ◌≤◌, List, length, inl, inr, refl, sym, ◌∙◌, subst, arith, ◌*◌, ap, le_trans}
 use Rattle.bank.specs.declared.bank.Operation.{Operation}
 use Rattle.bank.specs.Given.{Given}
 use Rattle.superblocks.specs.declared.members.Members.{Members}
@@ -10,7 +10,7 @@ use Rattle.layout.specs.Layout.{place}
 use Rattle.layout.proofs.Places.{place-row_below}
 use Rattle.list_io.specs.Buffers.{IsTouched}
 use Rattle.layout.proofs.Limits.{limited}
-use Rattle.md_base.specs.Shapes.{data_disks}
+use Rattle.md_base.specs.Shapes.{data_disks, is_multiple}
 use Rattle.std.proofs.lemmas.Nat.{mul-le}
 use Rattle.row_io.specs.Rows.{present}
 use Rattle.safe_updates.specs.shape_changes_Marking.{AreOthersPresent}
@@ -22,6 +22,9 @@ use Rattle.safe_updates.specs.flat_history_Sound.{OpensFit}
 use Rattle.safe_updates.specs.shape_changes_Steady.{IsUncleanTold}
 use Rattle.safe_updates.proofs.views_SafeStretch.{safe-then, safe-lost, over-at, keeps-from}
 use Rattle.safe_updates.proofs.shape_changes_Risen.{risen-then, risen-lost, room-then}
+use Rattle.safe_rows.proofs.CallLaws.{roles-left}
+use Rattle.superblocks.specs.Reading.{is_clean}
+use Rattle.std.specs.Prelude.{IsTrue}
 use Rattle.safe_rows.proofs.fetching.fetch.Goals as goal
 
 pub returns-then-is_err-clause-moved : goal.returns-then-is_err-clause-moved
@@ -224,3 +227,48 @@ returns-clause-others g c = λ told.
     let tape2 = g.B.Bank.tape c.name_missing-spares.new.bank in
     subst (λ (l : List Operation). AreOthersPresent (present given l) (present given tape2)) (c.read_parts-read.ensures.tape told)
     (subst (λ (b : Given). AreOthersPresent (present b tape1) (present b tape2)) c.read_parts-read.ensures.given (c.name_missing-spares.ensures.others told))
+
+pub unread-refusal-requires-clause-shape : goal.unread-refusal-requires-clause-shape
+unread-refusal-requires-clause-shape g c = force-valid c.args.members.now.newest c.requires.placed.fit c.args.shape.now c.requires.shape
+
+pub unread-refusal-requires-clause-multiple : goal.unread-refusal-requires-clause-multiple
+unread-refusal-requires-clause-multiple g c =
+    subst (λ (x : Members). IsTrue (is_multiple x.newest.size c.args.shape.now.chunk)) (sym c.read_parts-read.ensures.lost.members) (force-multiple c.args.members.now.newest c.requires.placed.fit c.args.shape.now c.requires.shape)
+
+pub unread-refusal-requires-clause-roles : goal.unread-refusal-requires-clause-roles
+unread-refusal-requires-clause-roles g c =
+    roles-left (g.B.Bank.given c.args.bank.now) c.args.members.now c.read_parts-read.new.members c.read_parts-read.result.lost c.read_parts-read.ensures.lost.members c.requires.placed c.args.shape.now c.requires.shape
+
+pub unread-refusal-requires-clause-within : goal.unread-refusal-requires-clause-within
+unread-refusal-requires-clause-within g c =
+    subst (λ (x : Members). c.args.first + length c.args.into.now / 512 ≤ data_disks c.args.shape.now * x.newest.size) (sym c.read_parts-read.ensures.lost.members) c.requires.within
+
+pub returns-then-is_err-clause-others : goal.returns-then-is_err-clause-others
+returns-then-is_err-clause-others g c told s k other = ap (λ (l : List Operation). present (g.B.Bank.given c.args.bank.now) l s k) (c.read_parts-read.ensures.tape told)
+
+pub returns-then-is_err-clause-clean : goal.returns-then-is_err-clause-clean
+returns-then-is_err-clause-clean g c = ap (λ (x : Members). is_clean x.newest) c.read_parts-read.ensures.lost.members
+
+pub returns-then-is_err-clause-tape : goal.returns-then-is_err-clause-tape
+returns-then-is_err-clause-tape g c whole = c.read_parts-read.ensures.tape
+
+pub returns-then-is_err-clause-given : goal.returns-then-is_err-clause-given
+returns-then-is_err-clause-given g c = c.read_parts-read.ensures.given
+
+pub returns-then-is_err-clause-counts : goal.returns-then-is_err-clause-counts
+returns-then-is_err-clause-counts g c = c.read_parts-read.ensures.lost.never_falls
+
+pub name_missing-spares-requires-clause-slots : goal.name_missing-spares-requires-clause-slots
+name_missing-spares-requires-clause-slots g c = subst (λ (b : Given). b.slots ≤ 32) (sym c.read_parts-read.ensures.given) c.requires.slots
+
+pub returns-clause-clean : goal.returns-clause-clean
+returns-clause-clean g c = c.name_missing-spares.ensures.clean ∙ ap (λ (x : Members). is_clean x.newest) c.read_parts-read.ensures.lost.members
+
+pub returns-clause-tape : goal.returns-clause-tape
+returns-clause-tape g c whole told = c.name_missing-spares.ensures.tape (c.name_missing-spares.ensures.moved.whole whole) told ∙ c.read_parts-read.ensures.tape told
+
+pub returns-clause-given : goal.returns-clause-given
+returns-clause-given g c = c.name_missing-spares.ensures.given ∙ c.read_parts-read.ensures.given
+
+pub returns-clause-counts : goal.returns-clause-counts
+returns-clause-counts g c k = le_trans (c.read_parts-read.ensures.lost.never_falls k) (c.name_missing-spares.ensures.counts k)

@@ -1,4 +1,4 @@
-use Rattle.std.proofs.Common.{◌≡◌, inl, inr, ℕ, ◌+◌, ◌-◌, ◌*◌, ◌/◌, ◌<◌, ◌++◌, false, length, sym, ◌∙◌, ap, subst, arith}
+use Rattle.std.proofs.Common.{◌≡◌, inl, inr, ℕ, ◌+◌, ◌-◌, ◌*◌, ◌/◌, ◌<◌, ◌++◌, false, length, sym, ◌∙◌, ap, subst, arith, le_trans}
 use Rattle.std.proofs.lemmas.Bool.{cases_lt}
 use Rattle.std.proofs.lemmas.Bool.Decides.{nat_tests}
 use Rattle.std.specs.Prelude.{OnOk, Result, Ok, Err}
@@ -11,9 +11,10 @@ use Rattle.list_io.proofs.LossLaws.{lost_then, rows_by}
 use Rattle.list_io.proofs.ListLaws.{asked_more, followed, present_same}
 use Rattle.safe_updates.specs.views_Lacking.{IsAskedBeyond}
 use Rattle.md_base.specs.Shapes.{data_disks}
-use Rattle.safe_updates.proofs.views_Fit.{has-rows, force-valid}
+use Rattle.safe_updates.proofs.views_Fit.{has-rows, force-valid, short}
 use Rattle.safe_updates.proofs.views_Stripes.{row-beyond}
 use Rattle.safe_rows.proofs.ReadParts.{sector-front, sector-back, listed-mended, listed-beyond}
+use Rattle.safe_rows.proofs.CallLaws.{no-ok, answered}
 use Rattle.safe_rows.proofs.fetching.read_parts.Goals as goal
 
 pub read_list-read-requires-clause-rows : goal.read_list-read-requires-clause-rows
@@ -86,3 +87,32 @@ returns-clause-sectors g c =
           (present_same one.given (one.tape told)) list (c.args.first + i) stands within (sector_of back (i - split))
           (subst (λ (k : ℕ). IsListed shape false (reading_of mid) (reading_of new) c1 k (sector_of back (i - split))) there (beyond told (i - split) (omega (arith, late, lt, cut.back_len))))
     ]) c.read_list-rest.ensures.answer c.read_list-rest.ensures.sectors
+
+pub list_length-requires-clause-shape : goal.list_length-requires-clause-shape
+list_length-requires-clause-shape g c = force-valid c.args.members.now.newest c.requires.placed.fit c.args.shape.now c.requires.shape
+
+pub list_length-requires-clause-size : goal.list_length-requires-clause-size
+list_length-requires-clause-size g c = le_trans c.requires.mended (short (g.B.Bank.given c.args.bank.now) c.args.members.now c.requires.placed)
+
+pub returns-then-is_err-clause-lost : goal.returns-then-is_err-clause-lost
+returns-then-is_err-clause-lost g c = c.read_list-read.ensures.lost
+
+pub returns-then-is_err-clause-tape : goal.returns-then-is_err-clause-tape
+returns-then-is_err-clause-tape g c = c.read_list-read.ensures.tape
+
+pub returns-then-is_err-clause-given : goal.returns-then-is_err-clause-given
+returns-then-is_err-clause-given g c = c.read_list-read.ensures.given
+
+pub returns-then-is_err-clause-answer : goal.returns-then-is_err-clause-answer
+returns-then-is_err-clause-answer g c =
+    answered c.args.shape.now (reading_of c.read_list-read.new.members) (IsAsked c.args.shape.now c.args.first (length c.split_at_mut-below.result.0.now / 512))
+    (IsAskedBeyond c.args.shape.now c.args.mended c.args.first (length c.args.into.now / 512)) c.read_list-read.result.answer (sym c.is_err.ensures.value ∙ c.if-is_err.true) c.read_list-read.ensures.answer
+
+pub returns-then-is_err-clause-sectors : goal.returns-then-is_err-clause-sectors
+returns-then-is_err-clause-sectors g c = no-ok _ c.read_list-read.result.answer (sym c.is_err.ensures.value ∙ c.if-is_err.true)
+
+pub returns-clause-tape : goal.returns-clause-tape
+returns-clause-tape g c told = c.read_list-rest.ensures.tape told ∙ c.read_list-read.ensures.tape told
+
+pub returns-clause-given : goal.returns-clause-given
+returns-clause-given g c = c.read_list-rest.ensures.given ∙ c.read_list-read.ensures.given

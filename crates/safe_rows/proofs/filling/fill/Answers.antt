@@ -1,4 +1,4 @@
-use Rattle.std.proofs.Common.{◌≡◌, inl, inr, ℕ, ◌+◌, ◌*◌, ◌/◌, ◌<◌, ◌≤◌, refl, sym, ◌∙◌, ap, subst, arith}
+use Rattle.std.proofs.Common.{◌≡◌, inl, inr, ℕ, ◌+◌, ◌*◌, ◌/◌, ◌<◌, ◌≤◌, refl, sym, ◌∙◌, ap, subst, arith, le_trans}
 use Rattle.md_base.specs.Shapes.{data_disks}
 use Rattle.md_base.specs.declared.places.Shape.{Shape}
 use Rattle.md_base.specs.declared.status.Role.TheVariants.{Recovering}
@@ -19,6 +19,8 @@ use Rattle.safe_updates.proofs.views_SafeStretch.{safe-none}
 use Rattle.safe_updates.proofs.views_MendedParts.{IsInParts, valid-in, part-within, part-touches, safe-part}
 use Rattle.safe_rows.proofs.FillingLaws.{filled-none, filled-then}
 use Rattle.safe_updates.proofs.views_FilledParts.{touched-in_parts, touched-late, parts-longer, parts-of_stripe, stripe-in_parts, found-in, none-found, recovered-alone, recovered-rows, filled-before, data-filled, row-filled, full-kept}
+use Rattle.safe_rows.proofs.CallLaws.{some-none}
+use Rattle.safe_updates.specs.views_Placed.{IsPlaced}
 use Rattle.safe_rows.proofs.filling.fill.Goals as goal
 
 pub target_of-target-requires-clause-few : goal.target_of-target-requires-clause-few
@@ -62,24 +64,14 @@ overflow_add-first g c =
 pub fill_part-part-requires-clause-free : goal.fill_part-part-requires-clause-free
 fill_part-part-requires-clause-free g c =
     let was = c.loop-done.invariant in
-    let m = c.args.members.now in
     let n = c.loop-done.members in
     let given = g.B.Bank.given c.args.bank.now in
-    let given1 = g.B.Bank.given c.loop-done.bank in
-    let role = c.args.role in
-    let slot = c.args.slot in
-    let t = c.target_of-target.result in
-    let same_role : t.role ≡ role = c.target_of-target.ensures.role in
-    let same_slot : t.slot ≡ slot = c.target_of-target.ensures.slot in
     subst (λ (b : Given). AreSparesFree b n) (sym was.given) (was.moved.free c.requires.free)
 
 pub fill_part-part-requires-clause-recovering : goal.fill_part-part-requires-clause-recovering
 fill_part-part-requires-clause-recovering g c =
     let was = c.loop-done.invariant in
-    let m = c.args.members.now in
     let n = c.loop-done.members in
-    let given = g.B.Bank.given c.args.bank.now in
-    let given1 = g.B.Bank.given c.loop-done.bank in
     let role = c.args.role in
     let slot = c.args.slot in
     let t = c.target_of-target.result in
@@ -92,28 +84,19 @@ fill_part-part-requires-clause-recovering g c =
 pub fill_part-part-requires-clause-offset : goal.fill_part-part-requires-clause-offset
 fill_part-part-requires-clause-offset g c =
     let was = c.loop-done.invariant in
-    let m = c.args.members.now in
     let n = c.loop-done.members in
-    let given = g.B.Bank.given c.args.bank.now in
-    let given1 = g.B.Bank.given c.loop-done.bank in
-    let role = c.args.role in
     let slot = c.args.slot in
     let t = c.target_of-target.result in
-    let same_role : t.role ≡ role = c.target_of-target.ensures.role in
     let same_slot : t.slot ≡ slot = c.target_of-target.ensures.slot in
     c.target_of-target.ensures.offset ∙ sym (was.moved.offsets slot) ∙ ap (data_offset_of (reading_of n)) (sym same_slot)
 
 pub fill_part-part-requires-clause-held : goal.fill_part-part-requires-clause-held
 fill_part-part-requires-clause-held g c =
     let was = c.loop-done.invariant in
-    let m = c.args.members.now in
     let n = c.loop-done.members in
-    let given = g.B.Bank.given c.args.bank.now in
-    let given1 = g.B.Bank.given c.loop-done.bank in
     let role = c.args.role in
     let slot = c.args.slot in
     let t = c.target_of-target.result in
-    let same_role : t.role ≡ role = c.target_of-target.ensures.role in
     let same_slot : t.slot ≡ slot = c.target_of-target.ensures.slot in
     let found = found-in c.recovering_slot.result _ (sym c.is_some.ensures ∙ c.if-is_some.true) c.recovering_slot.ensures.some in
     let recovers : role_state (reading_of n) role ≡ Recovering slot = subst (λ (s : ℕ). role_state (reading_of n) role ≡ Recovering s) (recovered-alone was.moved role slot found.0 c.requires.recovering found.1) found.1 in
@@ -139,11 +122,6 @@ returns-then-is_some-2-clause-moved g c =
     let n = c.loop-done.members in
     let given = g.B.Bank.given c.args.bank.now in
     let given1 = g.B.Bank.given c.loop-done.bank in
-    let role = c.args.role in
-    let slot = c.args.slot in
-    let t = c.target_of-target.result in
-    let same_role : t.role ≡ role = c.target_of-target.ensures.role in
-    let same_slot : t.slot ≡ slot = c.target_of-target.ensures.slot in
     let did = c.fill_part-part.ensures in
     let new = c.fill_part-part.new.members in
     let moved : IsMoved given n new = moved-from given given1 n n new was.given refl did.moved in
@@ -154,16 +132,8 @@ returns-then-is_some-2-clause-failed g c =
     let was = c.loop-done.invariant in
     let m = c.args.members.now in
     let n = c.loop-done.members in
-    let given = g.B.Bank.given c.args.bank.now in
-    let given1 = g.B.Bank.given c.loop-done.bank in
-    let role = c.args.role in
-    let slot = c.args.slot in
-    let t = c.target_of-target.result in
-    let same_role : t.role ≡ role = c.target_of-target.ensures.role in
-    let same_slot : t.slot ≡ slot = c.target_of-target.ensures.slot in
     let did = c.fill_part-part.ensures in
     let new = c.fill_part-part.new.members in
-    let moved : IsMoved given n new = moved-from given given1 n n new was.given refl did.moved in
     let f0 = g.B.Bank.faults_of c.args.bank.now in
     let f1 = g.B.Bank.faults_of c.loop-done.bank in
     let f2 = g.B.Bank.faults_of c.fill_part-part.new.bank in
@@ -221,11 +191,6 @@ returns-then-is_some-2-clause-safe g c =
     let n = c.loop-done.members in
     let given = g.B.Bank.given c.args.bank.now in
     let given1 = g.B.Bank.given c.loop-done.bank in
-    let role = c.args.role in
-    let slot = c.args.slot in
-    let t = c.target_of-target.result in
-    let same_role : t.role ≡ role = c.target_of-target.ensures.role in
-    let same_slot : t.slot ≡ slot = c.target_of-target.ensures.slot in
     let did = c.fill_part-part.ensures in
     let new = c.fill_part-part.new.members in
     let moved : IsMoved given n new = moved-from given given1 n n new was.given refl did.moved in
@@ -239,10 +204,7 @@ returns-then-is_some-2-clause-safe g c =
 
 pub returns-then-is_some-2-clause-counts : goal.returns-then-is_some-2-clause-counts
 returns-then-is_some-2-clause-counts g c =
-    λ s.
-    let one = c.loop-done.invariant.counts s in
-    let two = c.fill_part-part.ensures.counts s in
-    omega (arith, one, two)
+    λ s. le_trans (c.loop-done.invariant.counts s) (c.fill_part-part.ensures.counts s)
 
 pub loop-done-preserved : goal.loop-done-preserved
 loop-done-preserved g c =
@@ -315,8 +277,8 @@ loop-done-preserved g c =
           (λ first gone1. was.safe told world ledger first gone1 unclean safe)
           (λ then now. did.safe told world ledger then gone (λ dirty. unclean (sym was.clean ∙ dirty)) now);
       given = did.given ∙ was.given;
-      counts = λ s. let one = was.counts s in let two = did.counts s in omega (arith, one, two);
-      rows = let one = was.rows in let two = did.rows in omega (arith, one, two);
+      counts = λ s. le_trans (was.counts s) (did.counts s);
+      rows = le_trans was.rows did.rows;
       buffer = did.buffer ∙ was.buffer;
     }
 
@@ -350,3 +312,102 @@ returns-after-loop-done-clause-others g c =
     let stripe = IsOfStripe c.args.shape.now c.args.stripe in
     filled-then c.args.members.now c.args.role c.args.slot (IsInParts c.args.shape.now c.args.stripe c.loop-done.done) stripe stripe c0 c1 c1
     (λ row at. parts-of_stripe c.args.shape.now c.args.stripe c.loop-done.done row was.within at) (λ row at. at) (was.others told) (filled-none c.args.members.now c.args.role c.args.slot stripe c1)
+
+pub fill_part-part-requires-clause-slots : goal.fill_part-part-requires-clause-slots
+fill_part-part-requires-clause-slots g c = subst (λ (b : Given). b.slots ≤ 32) (sym c.loop-done.invariant.given) c.requires.slots
+
+pub fill_part-part-requires-clause-placed : goal.fill_part-part-requires-clause-placed
+fill_part-part-requires-clause-placed g c = subst (λ (b : Given). IsPlaced b c.loop-done.members) (sym c.loop-done.invariant.given) c.loop-done.invariant.moved.placed
+
+pub fill_part-part-requires-clause-unlost : goal.fill_part-part-requires-clause-unlost
+fill_part-part-requires-clause-unlost g c = c.loop-done.invariant.moved.unlost
+
+pub fill_part-part-requires-clause-shape : goal.fill_part-part-requires-clause-shape
+fill_part-part-requires-clause-shape g c = c.requires.shape ∙ sym c.loop-done.invariant.moved.shape
+
+pub fill_part-part-requires-clause-role : goal.fill_part-part-requires-clause-role
+fill_part-part-requires-clause-role g c = subst (λ (r : ℕ). r < c.args.shape.now.disks) (sym c.target_of-target.ensures.role) c.requires.role
+
+pub fill_part-part-requires-clause-rows : goal.fill_part-part-requires-clause-rows
+fill_part-part-requires-clause-rows g c = le_trans c.requires.rows c.loop-done.invariant.rows
+
+pub fill_part-part-requires-clause-buffer : goal.fill_part-part-requires-clause-buffer
+fill_part-part-requires-clause-buffer g c = subst (λ (n : ℕ). 1048576 ≤ n) (sym c.loop-done.invariant.buffer) c.requires.buffer
+
+pub returns-then-is_some-2-clause-refused : goal.returns-then-is_some-2-clause-refused
+returns-then-is_some-2-clause-refused g c = c.fill_part-part.ensures.refused
+
+pub returns-then-is_some-2-clause-clean : goal.returns-then-is_some-2-clause-clean
+returns-then-is_some-2-clause-clean g c = c.fill_part-part.ensures.clean ∙ c.loop-done.invariant.clean
+
+pub returns-then-is_some-2-clause-filled : goal.returns-then-is_some-2-clause-filled
+returns-then-is_some-2-clause-filled g c none recovers told = absurd (some-none c.fill_part-part.result.refusal (sym c.is_some-in-loop-done.ensures ∙ c.if-is_some-2.true) none)
+
+pub returns-then-is_some-2-clause-given : goal.returns-then-is_some-2-clause-given
+returns-then-is_some-2-clause-given g c = c.fill_part-part.ensures.given ∙ c.loop-done.invariant.given
+
+pub returns-then-is_some-2-clause-rows : goal.returns-then-is_some-2-clause-rows
+returns-then-is_some-2-clause-rows g c = le_trans c.loop-done.invariant.rows c.fill_part-part.ensures.rows
+
+pub returns-then-is_some-2-clause-buffer : goal.returns-then-is_some-2-clause-buffer
+returns-then-is_some-2-clause-buffer g c = c.fill_part-part.ensures.buffer ∙ c.loop-done.invariant.buffer
+
+pub returns-else-is_some-clause-moved : goal.returns-else-is_some-clause-moved
+returns-else-is_some-clause-moved g c = c.loop-done.invariant.moved
+
+pub returns-else-is_some-clause-failed : goal.returns-else-is_some-clause-failed
+returns-else-is_some-clause-failed g c = c.loop-done.invariant.failed
+
+pub returns-else-is_some-clause-grows : goal.returns-else-is_some-clause-grows
+returns-else-is_some-clause-grows g c = c.loop-done.invariant.grows
+
+pub returns-else-is_some-clause-clean : goal.returns-else-is_some-clause-clean
+returns-else-is_some-clause-clean g c = c.loop-done.invariant.clean
+
+pub returns-else-is_some-clause-rise : goal.returns-else-is_some-clause-rise
+returns-else-is_some-clause-rise g c = c.loop-done.invariant.rise
+
+pub returns-else-is_some-clause-safe : goal.returns-else-is_some-clause-safe
+returns-else-is_some-clause-safe g c = c.loop-done.invariant.safe
+
+pub returns-else-is_some-clause-given : goal.returns-else-is_some-clause-given
+returns-else-is_some-clause-given g c = c.loop-done.invariant.given
+
+pub returns-else-is_some-clause-counts : goal.returns-else-is_some-clause-counts
+returns-else-is_some-clause-counts g c = c.loop-done.invariant.counts
+
+pub returns-else-is_some-clause-rows : goal.returns-else-is_some-clause-rows
+returns-else-is_some-clause-rows g c = c.loop-done.invariant.rows
+
+pub returns-else-is_some-clause-buffer : goal.returns-else-is_some-clause-buffer
+returns-else-is_some-clause-buffer g c = c.loop-done.invariant.buffer
+
+pub returns-after-loop-done-clause-moved : goal.returns-after-loop-done-clause-moved
+returns-after-loop-done-clause-moved g c = c.loop-done.invariant.moved
+
+pub returns-after-loop-done-clause-failed : goal.returns-after-loop-done-clause-failed
+returns-after-loop-done-clause-failed g c = c.loop-done.invariant.failed
+
+pub returns-after-loop-done-clause-grows : goal.returns-after-loop-done-clause-grows
+returns-after-loop-done-clause-grows g c = c.loop-done.invariant.grows
+
+pub returns-after-loop-done-clause-clean : goal.returns-after-loop-done-clause-clean
+returns-after-loop-done-clause-clean g c = c.loop-done.invariant.clean
+
+pub returns-after-loop-done-clause-rise : goal.returns-after-loop-done-clause-rise
+returns-after-loop-done-clause-rise g c = c.loop-done.invariant.rise
+
+pub returns-after-loop-done-clause-safe : goal.returns-after-loop-done-clause-safe
+returns-after-loop-done-clause-safe g c = c.loop-done.invariant.safe
+
+pub returns-after-loop-done-clause-given : goal.returns-after-loop-done-clause-given
+returns-after-loop-done-clause-given g c = c.loop-done.invariant.given
+
+pub returns-after-loop-done-clause-counts : goal.returns-after-loop-done-clause-counts
+returns-after-loop-done-clause-counts g c = c.loop-done.invariant.counts
+
+pub returns-after-loop-done-clause-rows : goal.returns-after-loop-done-clause-rows
+returns-after-loop-done-clause-rows g c = c.loop-done.invariant.rows
+
+pub returns-after-loop-done-clause-buffer : goal.returns-after-loop-done-clause-buffer
+returns-after-loop-done-clause-buffer g c = c.loop-done.invariant.buffer

@@ -1,13 +1,13 @@
-use Rattle.std.proofs.Common.{◌≡◌, ℕ, ◌<◌, ◌≤◌, true, List, length, inl, inr, refl, sym, ◌∙◌, ap, subst, arith}
-use Rattle.std.specs.Prelude.{Option, Contains, is_some, slice_index}
+use Rattle.std.proofs.Common.{◌≡◌, ℕ, ◌<◌, ◌≤◌, true, List, length, inl, inr, refl, sym, ◌∙◌, ap, subst, arith, le_trans}
+use Rattle.std.specs.Prelude.{MatchOption, ⊤, Option, Contains, is_some, slice_index}
+use mathlib.Core.List.{not-mem-nil}
 use Rattle.md_base.specs.declared.answers.Refusal.{Refusal}
-use Rattle.md_base.specs.declared.status.Role.TheVariants.{Recovering}
 use Rattle.bank.specs.Given.{Given, NeverFalls}
 use Rattle.bank.specs.declared.bank.Operation.{Operation}
 use Rattle.superblocks.specs.declared.members.Members.{Members}
-use Rattle.superblocks.specs.Reading.{role_state, holder, is_clean}
+use Rattle.superblocks.specs.Reading.{holder, is_clean, shape_of}
 use Rattle.row_io.specs.Rows.{present, reading_of}
-use Rattle.list_io.specs.Buffers.{IsTouched}
+use Rattle.list_io.specs.Buffers.{AreDistinct, HasData, IsTouched}
 use Rattle.list_io.specs.Writing.{AreDataFrom, HasFull}
 use Rattle.list_io.proofs.BufferLaws.{data_read}
 use Rattle.safe_updates.specs.flat_history_Sound.{OpensFit}
@@ -15,16 +15,17 @@ use Rattle.safe_updates.specs.views_Placed.{AreLost, IsPlaced}
 use Rattle.safe_updates.specs.shape_changes_Marking.{AreOthersPresent}
 use Rattle.safe_updates.specs.views_Moving.{Grows, IsMoved}
 use Rattle.safe_updates.specs.shape_changes_Safety.{IsRisen}
-use Rattle.safe_updates.specs.views_Lacking.{HaveFailedSince}
+use Rattle.safe_updates.specs.views_Lacking.{HaveFailedSince, LacksTooMany, DoesWithout}
 use Rattle.safe_updates.specs.views_Rebuilding.{AreSparesFree, IsFilledAmong}
 use Rattle.safe_updates.specs.shape_changes_Steady.{KeepsSafe, AreGoneTold, IsUncleanTold}
 use Rattle.safe_updates.proofs.views_MovedLaws.{moved-lost, moved-then, moved-from, grows-none, grows-then}
 use Rattle.safe_updates.proofs.views_LackingLaws.{since-lost, since-then, in-second, in-either}
-use Rattle.safe_updates.proofs.views_LackingWrites.{lost-of, ok-of, recovering-before}
+use Rattle.safe_updates.proofs.views_LackingWrites.{lost-of, ok-of}
 use Rattle.safe_updates.proofs.shape_changes_Risen.{risen-lost, risen-then, room-first, room-then}
 use Rattle.safe_updates.proofs.views_SafeStretch.{safe-then, safe-lost, over-at, keeps-from, grows-longer, gone-before}
-use Rattle.safe_updates.proofs.views_Fit.{has-rows}
+use Rattle.safe_updates.proofs.views_Fit.{has-rows, force-valid, disks-within}
 use Rattle.safe_updates.proofs.views_LiveLeft.{holder-left}
+use Rattle.safe_rows.proofs.CallLaws.{some-none, told-only, too-many-synced, roles-left, rows-room, written-length}
 use Rattle.safe_rows.proofs.FillingLaws.{filled-none, filled-then, named-first, named-only, named-none}
 use Rattle.safe_updates.proofs.views_FilledParts.{recovered-alone, recovered-rows, filled-before, others-filled, at-touched}
 use Rattle.safe_rows.proofs.filling.fill_part.Goals as goal
@@ -34,7 +35,6 @@ returns-then-is_some-clause-moved g c =
     let m = c.args.members.now in
     let n = c.read_touched-read.new.members in
     let given = g.B.Bank.given c.args.bank.now in
-    let given1 = g.B.Bank.given c.read_touched-read.new.bank in
     let f0 = g.B.Bank.faults_of c.args.bank.now in
     let f1 = g.B.Bank.faults_of c.read_touched-read.new.bank in
     let r = c.read_touched-read.result.lost in
@@ -48,7 +48,6 @@ returns-then-is_some-clause-failed g c =
     let m = c.args.members.now in
     let n = c.read_touched-read.new.members in
     let given = g.B.Bank.given c.args.bank.now in
-    let given1 = g.B.Bank.given c.read_touched-read.new.bank in
     let f0 = g.B.Bank.faults_of c.args.bank.now in
     let f1 = g.B.Bank.faults_of c.read_touched-read.new.bank in
     let r = c.read_touched-read.result.lost in
@@ -62,7 +61,6 @@ returns-then-is_some-clause-rise g c =
     let m = c.args.members.now in
     let n = c.read_touched-read.new.members in
     let given = g.B.Bank.given c.args.bank.now in
-    let given1 = g.B.Bank.given c.read_touched-read.new.bank in
     let f0 = g.B.Bank.faults_of c.args.bank.now in
     let f1 = g.B.Bank.faults_of c.read_touched-read.new.bank in
     let r = c.read_touched-read.result.lost in
@@ -79,7 +77,6 @@ returns-then-is_some-clause-safe g c =
     let m = c.args.members.now in
     let n = c.read_touched-read.new.members in
     let given = g.B.Bank.given c.args.bank.now in
-    let given1 = g.B.Bank.given c.read_touched-read.new.bank in
     let f0 = g.B.Bank.faults_of c.args.bank.now in
     let f1 = g.B.Bank.faults_of c.read_touched-read.new.bank in
     let r = c.read_touched-read.result.lost in
@@ -100,14 +97,12 @@ name_missing-named-requires-clause-placed g c =
     let m = c.args.members.now in
     let n = c.read_touched-read.new.members in
     let given = g.B.Bank.given c.args.bank.now in
-    let given1 = g.B.Bank.given c.read_touched-read.new.bank in
     let f0 = g.B.Bank.faults_of c.args.bank.now in
     let f1 = g.B.Bank.faults_of c.read_touched-read.new.bank in
     let r = c.read_touched-read.result.lost in
     let shape = c.args.shape.now in
     let did = c.read_touched-read.ensures in
     let lost : AreLost given shape m n r f0 f1 = lost-of given shape m n r f0 f1 c.requires.placed did.lost in
-    let one : IsMoved given m n = moved-lost given shape m n r f0 f1 c.requires.placed lost c.requires.unlost in
     subst (λ (b : Given). IsPlaced b n) (sym did.given) lost.placed
 
 pub name_missing-named-requires-clause-unlost : goal.name_missing-named-requires-clause-unlost
@@ -115,7 +110,6 @@ name_missing-named-requires-clause-unlost g c =
     let m = c.args.members.now in
     let n = c.read_touched-read.new.members in
     let given = g.B.Bank.given c.args.bank.now in
-    let given1 = g.B.Bank.given c.read_touched-read.new.bank in
     let f0 = g.B.Bank.faults_of c.args.bank.now in
     let f1 = g.B.Bank.faults_of c.read_touched-read.new.bank in
     let r = c.read_touched-read.result.lost in
@@ -130,7 +124,6 @@ name_missing-named-requires-clause-free g c =
     let m = c.args.members.now in
     let n = c.read_touched-read.new.members in
     let given = g.B.Bank.given c.args.bank.now in
-    let given1 = g.B.Bank.given c.read_touched-read.new.bank in
     let f0 = g.B.Bank.faults_of c.args.bank.now in
     let f1 = g.B.Bank.faults_of c.read_touched-read.new.bank in
     let r = c.read_touched-read.result.lost in
@@ -154,15 +147,9 @@ returns-then-is_some-2-clause-moved g c =
     let lost : AreLost given shape m n r f0 f1 = lost-of given shape m n r f0 f1 c.requires.placed did.lost in
     let one : IsMoved given m n = moved-lost given shape m n r f0 f1 c.requires.placed lost c.requires.unlost in
     let p = c.name_missing-named.new.members in
-    let given2 = g.B.Bank.given c.name_missing-named.new.bank in
-    let f2 = g.B.Bank.faults_of c.name_missing-named.new.bank in
     let named = c.name_missing-named.ensures in
-    let same2 : given2 ≡ given = named.given ∙ did.given in
     let two : IsMoved given n p = moved-from given given1 n n p did.given refl named.moved in
     let both : IsMoved given m p = moved-then given m n p one two in
-    let s = c.name_missing-named.result in
-    let role = c.args.target.now.role in
-    let slot = c.args.target.now.slot in
     both
 
 pub returns-then-is_some-2-clause-failed : goal.returns-then-is_some-2-clause-failed
@@ -170,24 +157,16 @@ returns-then-is_some-2-clause-failed g c =
     let m = c.args.members.now in
     let n = c.read_touched-read.new.members in
     let given = g.B.Bank.given c.args.bank.now in
-    let given1 = g.B.Bank.given c.read_touched-read.new.bank in
     let f0 = g.B.Bank.faults_of c.args.bank.now in
     let f1 = g.B.Bank.faults_of c.read_touched-read.new.bank in
     let r = c.read_touched-read.result.lost in
     let shape = c.args.shape.now in
     let did = c.read_touched-read.ensures in
     let lost : AreLost given shape m n r f0 f1 = lost-of given shape m n r f0 f1 c.requires.placed did.lost in
-    let one : IsMoved given m n = moved-lost given shape m n r f0 f1 c.requires.placed lost c.requires.unlost in
     let p = c.name_missing-named.new.members in
-    let given2 = g.B.Bank.given c.name_missing-named.new.bank in
     let f2 = g.B.Bank.faults_of c.name_missing-named.new.bank in
     let named = c.name_missing-named.ensures in
-    let same2 : given2 ≡ given = named.given ∙ did.given in
-    let two : IsMoved given n p = moved-from given given1 n n p did.given refl named.moved in
-    let both : IsMoved given m p = moved-then given m n p one two in
     let s = c.name_missing-named.result in
-    let role = c.args.target.now.role in
-    let slot = c.args.target.now.slot in
     let failed2 : HaveFailedSince m p s f0 f2 = since-then m n p 0 s s f0 f1 f2 did.lost.never_falls named.counts (since-lost given shape m n r f0 f1 lost) named.failed (in-second s) in
     failed2
 
@@ -203,27 +182,10 @@ returns-then-is_some-2-clause-clean g c =
 pub returns-then-is_some-2-clause-named : goal.returns-then-is_some-2-clause-named
 returns-then-is_some-2-clause-named g c =
     λ still.
-    let m = c.args.members.now in
-    let n = c.read_touched-read.new.members in
     let given = g.B.Bank.given c.args.bank.now in
     let given1 = g.B.Bank.given c.read_touched-read.new.bank in
-    let f0 = g.B.Bank.faults_of c.args.bank.now in
-    let f1 = g.B.Bank.faults_of c.read_touched-read.new.bank in
-    let r = c.read_touched-read.result.lost in
-    let shape = c.args.shape.now in
     let did = c.read_touched-read.ensures in
-    let lost : AreLost given shape m n r f0 f1 = lost-of given shape m n r f0 f1 c.requires.placed did.lost in
-    let one : IsMoved given m n = moved-lost given shape m n r f0 f1 c.requires.placed lost c.requires.unlost in
-    let p = c.name_missing-named.new.members in
-    let given2 = g.B.Bank.given c.name_missing-named.new.bank in
-    let f2 = g.B.Bank.faults_of c.name_missing-named.new.bank in
     let named = c.name_missing-named.ensures in
-    let same2 : given2 ≡ given = named.given ∙ did.given in
-    let two : IsMoved given n p = moved-from given given1 n n p did.given refl named.moved in
-    let both : IsMoved given m p = moved-then given m n p one two in
-    let s = c.name_missing-named.result in
-    let role = c.args.target.now.role in
-    let slot = c.args.target.now.slot in
     let tape0 = g.B.Bank.tape c.args.bank.now in
     let tape1 = g.B.Bank.tape c.read_touched-read.new.bank in
     let tape2 = g.B.Bank.tape c.name_missing-named.new.bank in
@@ -233,24 +195,10 @@ pub returns-then-is_some-2-clause-others : goal.returns-then-is_some-2-clause-ot
 returns-then-is_some-2-clause-others g c =
     λ told.
     let m = c.args.members.now in
-    let n = c.read_touched-read.new.members in
     let given = g.B.Bank.given c.args.bank.now in
-    let given1 = g.B.Bank.given c.read_touched-read.new.bank in
-    let f0 = g.B.Bank.faults_of c.args.bank.now in
-    let f1 = g.B.Bank.faults_of c.read_touched-read.new.bank in
-    let r = c.read_touched-read.result.lost in
     let shape = c.args.shape.now in
     let did = c.read_touched-read.ensures in
-    let lost : AreLost given shape m n r f0 f1 = lost-of given shape m n r f0 f1 c.requires.placed did.lost in
-    let one : IsMoved given m n = moved-lost given shape m n r f0 f1 c.requires.placed lost c.requires.unlost in
-    let p = c.name_missing-named.new.members in
-    let given2 = g.B.Bank.given c.name_missing-named.new.bank in
-    let f2 = g.B.Bank.faults_of c.name_missing-named.new.bank in
     let named = c.name_missing-named.ensures in
-    let same2 : given2 ≡ given = named.given ∙ did.given in
-    let two : IsMoved given n p = moved-from given given1 n n p did.given refl named.moved in
-    let both : IsMoved given m p = moved-then given m n p one two in
-    let s = c.name_missing-named.result in
     let role = c.args.target.now.role in
     let slot = c.args.target.now.slot in
     let tape0 = g.B.Bank.tape c.args.bank.now in
@@ -266,24 +214,14 @@ returns-then-is_some-2-clause-rise g c =
     let m = c.args.members.now in
     let n = c.read_touched-read.new.members in
     let given = g.B.Bank.given c.args.bank.now in
-    let given1 = g.B.Bank.given c.read_touched-read.new.bank in
     let f0 = g.B.Bank.faults_of c.args.bank.now in
     let f1 = g.B.Bank.faults_of c.read_touched-read.new.bank in
     let r = c.read_touched-read.result.lost in
     let shape = c.args.shape.now in
     let did = c.read_touched-read.ensures in
     let lost : AreLost given shape m n r f0 f1 = lost-of given shape m n r f0 f1 c.requires.placed did.lost in
-    let one : IsMoved given m n = moved-lost given shape m n r f0 f1 c.requires.placed lost c.requires.unlost in
     let p = c.name_missing-named.new.members in
-    let given2 = g.B.Bank.given c.name_missing-named.new.bank in
-    let f2 = g.B.Bank.faults_of c.name_missing-named.new.bank in
     let named = c.name_missing-named.ensures in
-    let same2 : given2 ≡ given = named.given ∙ did.given in
-    let two : IsMoved given n p = moved-from given given1 n n p did.given refl named.moved in
-    let both : IsMoved given m p = moved-then given m n p one two in
-    let s = c.name_missing-named.result in
-    let role = c.args.target.now.role in
-    let slot = c.args.target.now.slot in
     let tape0 = g.B.Bank.tape c.args.bank.now in
     let tape1 = g.B.Bank.tape c.read_touched-read.new.bank in
     let tape2 = g.B.Bank.tape c.name_missing-named.new.bank in
@@ -304,22 +242,12 @@ returns-then-is_some-2-clause-safe g c =
     let shape = c.args.shape.now in
     let did = c.read_touched-read.ensures in
     let lost : AreLost given shape m n r f0 f1 = lost-of given shape m n r f0 f1 c.requires.placed did.lost in
-    let one : IsMoved given m n = moved-lost given shape m n r f0 f1 c.requires.placed lost c.requires.unlost in
     let p = c.name_missing-named.new.members in
-    let given2 = g.B.Bank.given c.name_missing-named.new.bank in
-    let f2 = g.B.Bank.faults_of c.name_missing-named.new.bank in
     let named = c.name_missing-named.ensures in
-    let same2 : given2 ≡ given = named.given ∙ did.given in
-    let two : IsMoved given n p = moved-from given given1 n n p did.given refl named.moved in
-    let both : IsMoved given m p = moved-then given m n p one two in
-    let s = c.name_missing-named.result in
-    let role = c.args.target.now.role in
-    let slot = c.args.target.now.slot in
     let tape0 = g.B.Bank.tape c.args.bank.now in
     let tape1 = g.B.Bank.tape c.read_touched-read.new.bank in
     let tape2 = g.B.Bank.tape c.name_missing-named.new.bank in
     let risen1 : IsRisen g.B.Bank.tells m n tape0 tape1 = risen-lost m n r tape0 tape1 did.lost.members (λ told. let same = ap (λ (l : List Operation). length l) (did.tape told) in omega (arith, same)) in
-    let risen2 : IsRisen g.B.Bank.tells m p tape0 tape2 = risen-then risen1 named.rise in
     let first : KeepsSafe world given ledger n tape0 tape1 = safe-lost (OpensFit world) world.scope given ledger m n r tape0 tape1 did.lost.members (did.tape told) safe in
     let unclean1 : IsUncleanTold ledger n = λ dirty. unclean (sym (ap (λ (x : Members). is_clean x.newest) did.lost.members) ∙ dirty) in
     let second : KeepsSafe world given ledger p tape1 tape2 = keeps-from world given given1 ledger p tape1 tape2 did.given
@@ -328,84 +256,39 @@ returns-then-is_some-2-clause-safe g c =
 
 pub returns-then-is_some-2-clause-counts : goal.returns-then-is_some-2-clause-counts
 returns-then-is_some-2-clause-counts g c =
-    λ k.
-    let low = c.read_touched-read.ensures.lost.never_falls k in
-    let high = c.name_missing-named.ensures.counts k in
-    omega (arith, low, high)
+    λ k. le_trans (c.read_touched-read.ensures.lost.never_falls k) (c.name_missing-named.ensures.counts k)
 
 pub fill_rows-lost-requires-clause-slots : goal.fill_rows-lost-requires-clause-slots
 fill_rows-lost-requires-clause-slots g c =
-    let m = c.args.members.now in
-    let n = c.read_touched-read.new.members in
     let given = g.B.Bank.given c.args.bank.now in
-    let given1 = g.B.Bank.given c.read_touched-read.new.bank in
-    let f0 = g.B.Bank.faults_of c.args.bank.now in
-    let f1 = g.B.Bank.faults_of c.read_touched-read.new.bank in
-    let r = c.read_touched-read.result.lost in
-    let shape = c.args.shape.now in
     let did = c.read_touched-read.ensures in
-    let lost : AreLost given shape m n r f0 f1 = lost-of given shape m n r f0 f1 c.requires.placed did.lost in
-    let one : IsMoved given m n = moved-lost given shape m n r f0 f1 c.requires.placed lost c.requires.unlost in
-    let p = c.name_missing-named.new.members in
     let given2 = g.B.Bank.given c.name_missing-named.new.bank in
-    let f2 = g.B.Bank.faults_of c.name_missing-named.new.bank in
     let named = c.name_missing-named.ensures in
     let same2 : given2 ≡ given = named.given ∙ did.given in
-    let two : IsMoved given n p = moved-from given given1 n n p did.given refl named.moved in
-    let both : IsMoved given m p = moved-then given m n p one two in
-    let s = c.name_missing-named.result in
-    let role = c.args.target.now.role in
-    let slot = c.args.target.now.slot in
     subst (λ (b : Given). b.slots ≤ 32) (sym same2) c.requires.slots
 
 pub fill_rows-lost-requires-clause-placed : goal.fill_rows-lost-requires-clause-placed
 fill_rows-lost-requires-clause-placed g c =
-    let m = c.args.members.now in
     let n = c.read_touched-read.new.members in
     let given = g.B.Bank.given c.args.bank.now in
     let given1 = g.B.Bank.given c.read_touched-read.new.bank in
-    let f0 = g.B.Bank.faults_of c.args.bank.now in
-    let f1 = g.B.Bank.faults_of c.read_touched-read.new.bank in
-    let r = c.read_touched-read.result.lost in
-    let shape = c.args.shape.now in
     let did = c.read_touched-read.ensures in
-    let lost : AreLost given shape m n r f0 f1 = lost-of given shape m n r f0 f1 c.requires.placed did.lost in
-    let one : IsMoved given m n = moved-lost given shape m n r f0 f1 c.requires.placed lost c.requires.unlost in
     let p = c.name_missing-named.new.members in
     let given2 = g.B.Bank.given c.name_missing-named.new.bank in
-    let f2 = g.B.Bank.faults_of c.name_missing-named.new.bank in
     let named = c.name_missing-named.ensures in
     let same2 : given2 ≡ given = named.given ∙ did.given in
     let two : IsMoved given n p = moved-from given given1 n n p did.given refl named.moved in
-    let both : IsMoved given m p = moved-then given m n p one two in
-    let s = c.name_missing-named.result in
-    let role = c.args.target.now.role in
-    let slot = c.args.target.now.slot in
     subst (λ (b : Given). IsPlaced b p) (sym same2) two.placed
 
 pub fill_rows-lost-requires-clause-unlost : goal.fill_rows-lost-requires-clause-unlost
 fill_rows-lost-requires-clause-unlost g c =
-    let m = c.args.members.now in
     let n = c.read_touched-read.new.members in
     let given = g.B.Bank.given c.args.bank.now in
     let given1 = g.B.Bank.given c.read_touched-read.new.bank in
-    let f0 = g.B.Bank.faults_of c.args.bank.now in
-    let f1 = g.B.Bank.faults_of c.read_touched-read.new.bank in
-    let r = c.read_touched-read.result.lost in
-    let shape = c.args.shape.now in
     let did = c.read_touched-read.ensures in
-    let lost : AreLost given shape m n r f0 f1 = lost-of given shape m n r f0 f1 c.requires.placed did.lost in
-    let one : IsMoved given m n = moved-lost given shape m n r f0 f1 c.requires.placed lost c.requires.unlost in
     let p = c.name_missing-named.new.members in
-    let given2 = g.B.Bank.given c.name_missing-named.new.bank in
-    let f2 = g.B.Bank.faults_of c.name_missing-named.new.bank in
     let named = c.name_missing-named.ensures in
-    let same2 : given2 ≡ given = named.given ∙ did.given in
     let two : IsMoved given n p = moved-from given given1 n n p did.given refl named.moved in
-    let both : IsMoved given m p = moved-then given m n p one two in
-    let s = c.name_missing-named.result in
-    let role = c.args.target.now.role in
-    let slot = c.args.target.now.slot in
     two.unlost
 
 pub fill_rows-lost-requires-clause-free : goal.fill_rows-lost-requires-clause-free
@@ -423,38 +306,22 @@ fill_rows-lost-requires-clause-free g c =
     let one : IsMoved given m n = moved-lost given shape m n r f0 f1 c.requires.placed lost c.requires.unlost in
     let p = c.name_missing-named.new.members in
     let given2 = g.B.Bank.given c.name_missing-named.new.bank in
-    let f2 = g.B.Bank.faults_of c.name_missing-named.new.bank in
     let named = c.name_missing-named.ensures in
     let same2 : given2 ≡ given = named.given ∙ did.given in
     let two : IsMoved given n p = moved-from given given1 n n p did.given refl named.moved in
     let both : IsMoved given m p = moved-then given m n p one two in
-    let s = c.name_missing-named.result in
-    let role = c.args.target.now.role in
-    let slot = c.args.target.now.slot in
     subst (λ (b : Given). AreSparesFree b p) (sym same2) (both.free c.requires.free)
 
 pub fill_rows-lost-requires-clause-named : goal.fill_rows-lost-requires-clause-named
 fill_rows-lost-requires-clause-named g c =
     λ recovers.
-    let m = c.args.members.now in
     let n = c.read_touched-read.new.members in
     let given = g.B.Bank.given c.args.bank.now in
     let given1 = g.B.Bank.given c.read_touched-read.new.bank in
-    let f0 = g.B.Bank.faults_of c.args.bank.now in
-    let f1 = g.B.Bank.faults_of c.read_touched-read.new.bank in
-    let r = c.read_touched-read.result.lost in
-    let shape = c.args.shape.now in
     let did = c.read_touched-read.ensures in
-    let lost : AreLost given shape m n r f0 f1 = lost-of given shape m n r f0 f1 c.requires.placed did.lost in
-    let one : IsMoved given m n = moved-lost given shape m n r f0 f1 c.requires.placed lost c.requires.unlost in
     let p = c.name_missing-named.new.members in
-    let given2 = g.B.Bank.given c.name_missing-named.new.bank in
-    let f2 = g.B.Bank.faults_of c.name_missing-named.new.bank in
     let named = c.name_missing-named.ensures in
-    let same2 : given2 ≡ given = named.given ∙ did.given in
     let two : IsMoved given n p = moved-from given given1 n n p did.given refl named.moved in
-    let both : IsMoved given m p = moved-then given m n p one two in
-    let s = c.name_missing-named.result in
     let role = c.args.target.now.role in
     let slot = c.args.target.now.slot in
     named.missing (holder-left given p role slot two.placed two.unlost (ap holder recovers))
@@ -473,15 +340,9 @@ fill_rows-lost-requires-clause-shape g c =
     let lost : AreLost given shape m n r f0 f1 = lost-of given shape m n r f0 f1 c.requires.placed did.lost in
     let one : IsMoved given m n = moved-lost given shape m n r f0 f1 c.requires.placed lost c.requires.unlost in
     let p = c.name_missing-named.new.members in
-    let given2 = g.B.Bank.given c.name_missing-named.new.bank in
-    let f2 = g.B.Bank.faults_of c.name_missing-named.new.bank in
     let named = c.name_missing-named.ensures in
-    let same2 : given2 ≡ given = named.given ∙ did.given in
     let two : IsMoved given n p = moved-from given given1 n n p did.given refl named.moved in
     let both : IsMoved given m p = moved-then given m n p one two in
-    let s = c.name_missing-named.result in
-    let role = c.args.target.now.role in
-    let slot = c.args.target.now.slot in
     c.requires.shape ∙ sym both.shape
 
 pub fill_rows-lost-requires-clause-recovering : goal.fill_rows-lost-requires-clause-recovering
@@ -498,13 +359,9 @@ fill_rows-lost-requires-clause-recovering g c =
     let lost : AreLost given shape m n r f0 f1 = lost-of given shape m n r f0 f1 c.requires.placed did.lost in
     let one : IsMoved given m n = moved-lost given shape m n r f0 f1 c.requires.placed lost c.requires.unlost in
     let p = c.name_missing-named.new.members in
-    let given2 = g.B.Bank.given c.name_missing-named.new.bank in
-    let f2 = g.B.Bank.faults_of c.name_missing-named.new.bank in
     let named = c.name_missing-named.ensures in
-    let same2 : given2 ≡ given = named.given ∙ did.given in
     let two : IsMoved given n p = moved-from given given1 n n p did.given refl named.moved in
     let both : IsMoved given m p = moved-then given m n p one two in
-    let s = c.name_missing-named.result in
     let role = c.args.target.now.role in
     let slot = c.args.target.now.slot in
     λ other recovers. recovered-alone both role slot other c.requires.recovering recovers
@@ -523,14 +380,9 @@ fill_rows-lost-requires-clause-offset g c =
     let lost : AreLost given shape m n r f0 f1 = lost-of given shape m n r f0 f1 c.requires.placed did.lost in
     let one : IsMoved given m n = moved-lost given shape m n r f0 f1 c.requires.placed lost c.requires.unlost in
     let p = c.name_missing-named.new.members in
-    let given2 = g.B.Bank.given c.name_missing-named.new.bank in
-    let f2 = g.B.Bank.faults_of c.name_missing-named.new.bank in
     let named = c.name_missing-named.ensures in
-    let same2 : given2 ≡ given = named.given ∙ did.given in
     let two : IsMoved given n p = moved-from given given1 n n p did.given refl named.moved in
     let both : IsMoved given m p = moved-then given m n p one two in
-    let s = c.name_missing-named.result in
-    let role = c.args.target.now.role in
     let slot = c.args.target.now.slot in
     c.requires.offset ∙ sym (both.offsets slot)
 
@@ -548,13 +400,9 @@ fill_rows-lost-requires-clause-held g c =
     let lost : AreLost given shape m n r f0 f1 = lost-of given shape m n r f0 f1 c.requires.placed did.lost in
     let one : IsMoved given m n = moved-lost given shape m n r f0 f1 c.requires.placed lost c.requires.unlost in
     let p = c.name_missing-named.new.members in
-    let given2 = g.B.Bank.given c.name_missing-named.new.bank in
-    let f2 = g.B.Bank.faults_of c.name_missing-named.new.bank in
     let named = c.name_missing-named.ensures in
-    let same2 : given2 ≡ given = named.given ∙ did.given in
     let two : IsMoved given n p = moved-from given given1 n n p did.given refl named.moved in
     let both : IsMoved given m p = moved-then given m n p one two in
-    let s = c.name_missing-named.result in
     let role = c.args.target.now.role in
     let slot = c.args.target.now.slot in
     λ recovers. c.requires.held ∙ sym (recovered-rows both role slot recovers)
@@ -574,15 +422,9 @@ fill_rows-lost-requires-clause-below g c =
     let lost : AreLost given shape m n r f0 f1 = lost-of given shape m n r f0 f1 c.requires.placed did.lost in
     let one : IsMoved given m n = moved-lost given shape m n r f0 f1 c.requires.placed lost c.requires.unlost in
     let p = c.name_missing-named.new.members in
-    let given2 = g.B.Bank.given c.name_missing-named.new.bank in
-    let f2 = g.B.Bank.faults_of c.name_missing-named.new.bank in
     let named = c.name_missing-named.ensures in
-    let same2 : given2 ≡ given = named.given ∙ did.given in
     let two : IsMoved given n p = moved-from given given1 n n p did.given refl named.moved in
     let both : IsMoved given m p = moved-then given m n p one two in
-    let s = c.name_missing-named.result in
-    let role = c.args.target.now.role in
-    let slot = c.args.target.now.slot in
     subst (λ (most : ℕ). row < most) (sym both.size) (did.below row (subst (λ (l : List ℕ). Contains l row) c.as_slice.ensures.value has))
 
 pub returns-clause-moved : goal.returns-clause-moved
@@ -600,17 +442,12 @@ returns-clause-moved g c =
     let one : IsMoved given m n = moved-lost given shape m n r f0 f1 c.requires.placed lost c.requires.unlost in
     let p = c.name_missing-named.new.members in
     let given2 = g.B.Bank.given c.name_missing-named.new.bank in
-    let f2 = g.B.Bank.faults_of c.name_missing-named.new.bank in
     let named = c.name_missing-named.ensures in
     let same2 : given2 ≡ given = named.given ∙ did.given in
     let two : IsMoved given n p = moved-from given given1 n n p did.given refl named.moved in
     let both : IsMoved given m p = moved-then given m n p one two in
-    let s = c.name_missing-named.result in
-    let role = c.args.target.now.role in
-    let slot = c.args.target.now.slot in
     let q = c.fill_rows-lost.new.members in
     let filled = c.fill_rows-lost.ensures in
-    let f3 = g.B.Bank.faults_of c.fill_rows-lost.new.bank in
     let three : IsMoved given p q = moved-from given given2 p p q same2 refl filled.moved in
     moved-then given m p q both three
 
@@ -619,28 +456,19 @@ returns-clause-failed g c =
     let m = c.args.members.now in
     let n = c.read_touched-read.new.members in
     let given = g.B.Bank.given c.args.bank.now in
-    let given1 = g.B.Bank.given c.read_touched-read.new.bank in
     let f0 = g.B.Bank.faults_of c.args.bank.now in
     let f1 = g.B.Bank.faults_of c.read_touched-read.new.bank in
     let r = c.read_touched-read.result.lost in
     let shape = c.args.shape.now in
     let did = c.read_touched-read.ensures in
     let lost : AreLost given shape m n r f0 f1 = lost-of given shape m n r f0 f1 c.requires.placed did.lost in
-    let one : IsMoved given m n = moved-lost given shape m n r f0 f1 c.requires.placed lost c.requires.unlost in
     let p = c.name_missing-named.new.members in
-    let given2 = g.B.Bank.given c.name_missing-named.new.bank in
     let f2 = g.B.Bank.faults_of c.name_missing-named.new.bank in
     let named = c.name_missing-named.ensures in
-    let same2 : given2 ≡ given = named.given ∙ did.given in
-    let two : IsMoved given n p = moved-from given given1 n n p did.given refl named.moved in
-    let both : IsMoved given m p = moved-then given m n p one two in
     let s = c.name_missing-named.result in
-    let role = c.args.target.now.role in
-    let slot = c.args.target.now.slot in
     let q = c.fill_rows-lost.new.members in
     let filled = c.fill_rows-lost.ensures in
     let f3 = g.B.Bank.faults_of c.fill_rows-lost.new.bank in
-    let three : IsMoved given p q = moved-from given given2 p p q same2 refl filled.moved in
     let failed2 : HaveFailedSince m p s f0 f2 = since-then m n p 0 s s f0 f1 f2 did.lost.never_falls named.counts (since-lost given shape m n r f0 f1 lost) named.failed (in-second s) in
     let counts2 : NeverFalls f0 f2 = (λ k. let low = did.lost.never_falls k in let high = named.counts k in omega (arith, low, high)) in
     since-then m p q s c.fill_rows-lost.result _ f0 f2 f3 counts2 filled.counts failed2 filled.failed (in-either s c.fill_rows-lost.result)
@@ -657,61 +485,20 @@ returns-clause-clean g c =
 pub returns-clause-missing : goal.returns-clause-missing
 returns-clause-missing g c =
     λ none live.
-    let m = c.args.members.now in
-    let n = c.read_touched-read.new.members in
-    let given = g.B.Bank.given c.args.bank.now in
-    let given1 = g.B.Bank.given c.read_touched-read.new.bank in
-    let f0 = g.B.Bank.faults_of c.args.bank.now in
-    let f1 = g.B.Bank.faults_of c.read_touched-read.new.bank in
-    let r = c.read_touched-read.result.lost in
-    let shape = c.args.shape.now in
-    let did = c.read_touched-read.ensures in
-    let lost : AreLost given shape m n r f0 f1 = lost-of given shape m n r f0 f1 c.requires.placed did.lost in
-    let one : IsMoved given m n = moved-lost given shape m n r f0 f1 c.requires.placed lost c.requires.unlost in
-    let p = c.name_missing-named.new.members in
-    let given2 = g.B.Bank.given c.name_missing-named.new.bank in
-    let f2 = g.B.Bank.faults_of c.name_missing-named.new.bank in
     let named = c.name_missing-named.ensures in
-    let same2 : given2 ≡ given = named.given ∙ did.given in
-    let two : IsMoved given n p = moved-from given given1 n n p did.given refl named.moved in
-    let both : IsMoved given m p = moved-then given m n p one two in
-    let s = c.name_missing-named.result in
-    let role = c.args.target.now.role in
-    let slot = c.args.target.now.slot in
-    let q = c.fill_rows-lost.new.members in
     let filled = c.fill_rows-lost.ensures in
-    let f3 = g.B.Bank.faults_of c.fill_rows-lost.new.bank in
-    let three : IsMoved given p q = moved-from given given2 p p q same2 refl filled.moved in
     filled.missing (named.missing (filled.rise.left live)) live
 
 pub returns-clause-named : goal.returns-clause-named
 returns-clause-named g c =
     λ still.
-    let m = c.args.members.now in
-    let n = c.read_touched-read.new.members in
     let given = g.B.Bank.given c.args.bank.now in
     let given1 = g.B.Bank.given c.read_touched-read.new.bank in
-    let f0 = g.B.Bank.faults_of c.args.bank.now in
-    let f1 = g.B.Bank.faults_of c.read_touched-read.new.bank in
-    let r = c.read_touched-read.result.lost in
-    let shape = c.args.shape.now in
     let did = c.read_touched-read.ensures in
-    let lost : AreLost given shape m n r f0 f1 = lost-of given shape m n r f0 f1 c.requires.placed did.lost in
-    let one : IsMoved given m n = moved-lost given shape m n r f0 f1 c.requires.placed lost c.requires.unlost in
-    let p = c.name_missing-named.new.members in
     let given2 = g.B.Bank.given c.name_missing-named.new.bank in
-    let f2 = g.B.Bank.faults_of c.name_missing-named.new.bank in
     let named = c.name_missing-named.ensures in
     let same2 : given2 ≡ given = named.given ∙ did.given in
-    let two : IsMoved given n p = moved-from given given1 n n p did.given refl named.moved in
-    let both : IsMoved given m p = moved-then given m n p one two in
-    let s = c.name_missing-named.result in
-    let role = c.args.target.now.role in
-    let slot = c.args.target.now.slot in
-    let q = c.fill_rows-lost.new.members in
     let filled = c.fill_rows-lost.ensures in
-    let f3 = g.B.Bank.faults_of c.fill_rows-lost.new.bank in
-    let three : IsMoved given p q = moved-from given given2 p p q same2 refl filled.moved in
     let tape0 = g.B.Bank.tape c.args.bank.now in
     let tape1 = g.B.Bank.tape c.read_touched-read.new.bank in
     let tape2 = g.B.Bank.tape c.name_missing-named.new.bank in
@@ -724,39 +511,22 @@ returns-clause-filled g c =
     let m = c.args.members.now in
     let n = c.read_touched-read.new.members in
     let given = g.B.Bank.given c.args.bank.now in
-    let given1 = g.B.Bank.given c.read_touched-read.new.bank in
-    let f0 = g.B.Bank.faults_of c.args.bank.now in
-    let f1 = g.B.Bank.faults_of c.read_touched-read.new.bank in
-    let r = c.read_touched-read.result.lost in
     let shape = c.args.shape.now in
     let did = c.read_touched-read.ensures in
-    let lost : AreLost given shape m n r f0 f1 = lost-of given shape m n r f0 f1 c.requires.placed did.lost in
-    let one : IsMoved given m n = moved-lost given shape m n r f0 f1 c.requires.placed lost c.requires.unlost in
-    let p = c.name_missing-named.new.members in
     let given2 = g.B.Bank.given c.name_missing-named.new.bank in
-    let f2 = g.B.Bank.faults_of c.name_missing-named.new.bank in
     let named = c.name_missing-named.ensures in
     let same2 : given2 ≡ given = named.given ∙ did.given in
-    let two : IsMoved given n p = moved-from given given1 n n p did.given refl named.moved in
-    let both : IsMoved given m p = moved-then given m n p one two in
-    let s = c.name_missing-named.result in
     let role = c.args.target.now.role in
     let slot = c.args.target.now.slot in
     let q = c.fill_rows-lost.new.members in
     let filled = c.fill_rows-lost.ensures in
-    let f3 = g.B.Bank.faults_of c.fill_rows-lost.new.bank in
-    let three : IsMoved given p q = moved-from given given2 p p q same2 refl filled.moved in
     let tape0 = g.B.Bank.tape c.args.bank.now in
-    let tape1 = g.B.Bank.tape c.read_touched-read.new.bank in
-    let tape2 = g.B.Bank.tape c.name_missing-named.new.bank in
     let tape3 = g.B.Bank.tape c.fill_rows-lost.new.bank in
     let rows = c.read_touched-read.new.rows.items in
     let buffer = c.read_touched-read.new.buffer.items in
     let c0 = present given tape0 in
     let c3 = present given tape3 in
     let read = ok-of shape n c.read_touched-read.result.answer (ap (λ (o : Option Refusal). is_some o) (sym c.refused_by-refusal.ensures) ∙ sym c.is_some.ensures ∙ c.if-is_some.false) did.read told in
-    let then : role_state (reading_of p) role ≡ Recovering slot = recovering-before three role slot recovers in
-    let early : role_state (reading_of n) role ≡ Recovering slot = recovering-before two role slot then in
     let own = data_read 0 shape true (reading_of m) (reading_of n) c0 list rows buffer read
     (λ row has. stands row (did.touched.only row has) (did.below row has))
     (λ synced row has. full row (did.touched.only row has) (did.below row has)) in
@@ -783,18 +553,13 @@ returns-clause-others g c =
     let one : IsMoved given m n = moved-lost given shape m n r f0 f1 c.requires.placed lost c.requires.unlost in
     let p = c.name_missing-named.new.members in
     let given2 = g.B.Bank.given c.name_missing-named.new.bank in
-    let f2 = g.B.Bank.faults_of c.name_missing-named.new.bank in
     let named = c.name_missing-named.ensures in
     let same2 : given2 ≡ given = named.given ∙ did.given in
     let two : IsMoved given n p = moved-from given given1 n n p did.given refl named.moved in
     let both : IsMoved given m p = moved-then given m n p one two in
-    let s = c.name_missing-named.result in
     let role = c.args.target.now.role in
     let slot = c.args.target.now.slot in
-    let q = c.fill_rows-lost.new.members in
     let filled = c.fill_rows-lost.ensures in
-    let f3 = g.B.Bank.faults_of c.fill_rows-lost.new.bank in
-    let three : IsMoved given p q = moved-from given given2 p p q same2 refl filled.moved in
     let tape0 = g.B.Bank.tape c.args.bank.now in
     let tape1 = g.B.Bank.tape c.read_touched-read.new.bank in
     let tape2 = g.B.Bank.tape c.name_missing-named.new.bank in
@@ -817,32 +582,18 @@ returns-clause-rise g c =
     let m = c.args.members.now in
     let n = c.read_touched-read.new.members in
     let given = g.B.Bank.given c.args.bank.now in
-    let given1 = g.B.Bank.given c.read_touched-read.new.bank in
     let f0 = g.B.Bank.faults_of c.args.bank.now in
     let f1 = g.B.Bank.faults_of c.read_touched-read.new.bank in
     let r = c.read_touched-read.result.lost in
     let shape = c.args.shape.now in
     let did = c.read_touched-read.ensures in
     let lost : AreLost given shape m n r f0 f1 = lost-of given shape m n r f0 f1 c.requires.placed did.lost in
-    let one : IsMoved given m n = moved-lost given shape m n r f0 f1 c.requires.placed lost c.requires.unlost in
     let p = c.name_missing-named.new.members in
-    let given2 = g.B.Bank.given c.name_missing-named.new.bank in
-    let f2 = g.B.Bank.faults_of c.name_missing-named.new.bank in
     let named = c.name_missing-named.ensures in
-    let same2 : given2 ≡ given = named.given ∙ did.given in
-    let two : IsMoved given n p = moved-from given given1 n n p did.given refl named.moved in
-    let both : IsMoved given m p = moved-then given m n p one two in
-    let s = c.name_missing-named.result in
-    let role = c.args.target.now.role in
-    let slot = c.args.target.now.slot in
-    let q = c.fill_rows-lost.new.members in
     let filled = c.fill_rows-lost.ensures in
-    let f3 = g.B.Bank.faults_of c.fill_rows-lost.new.bank in
-    let three : IsMoved given p q = moved-from given given2 p p q same2 refl filled.moved in
     let tape0 = g.B.Bank.tape c.args.bank.now in
     let tape1 = g.B.Bank.tape c.read_touched-read.new.bank in
     let tape2 = g.B.Bank.tape c.name_missing-named.new.bank in
-    let tape3 = g.B.Bank.tape c.fill_rows-lost.new.bank in
     let risen1 : IsRisen g.B.Bank.tells m n tape0 tape1 = risen-lost m n r tape0 tape1 did.lost.members (λ told. let same = ap (λ (l : List Operation). length l) (did.tape told) in omega (arith, same)) in
     let risen2 : IsRisen g.B.Bank.tells m p tape0 tape2 = risen-then risen1 named.rise in
     risen-then risen2 filled.rise
@@ -860,20 +611,13 @@ returns-clause-safe g c =
     let shape = c.args.shape.now in
     let did = c.read_touched-read.ensures in
     let lost : AreLost given shape m n r f0 f1 = lost-of given shape m n r f0 f1 c.requires.placed did.lost in
-    let one : IsMoved given m n = moved-lost given shape m n r f0 f1 c.requires.placed lost c.requires.unlost in
     let p = c.name_missing-named.new.members in
     let given2 = g.B.Bank.given c.name_missing-named.new.bank in
-    let f2 = g.B.Bank.faults_of c.name_missing-named.new.bank in
     let named = c.name_missing-named.ensures in
     let same2 : given2 ≡ given = named.given ∙ did.given in
     let two : IsMoved given n p = moved-from given given1 n n p did.given refl named.moved in
-    let both : IsMoved given m p = moved-then given m n p one two in
-    let s = c.name_missing-named.result in
-    let role = c.args.target.now.role in
-    let slot = c.args.target.now.slot in
     let q = c.fill_rows-lost.new.members in
     let filled = c.fill_rows-lost.ensures in
-    let f3 = g.B.Bank.faults_of c.fill_rows-lost.new.bank in
     let three : IsMoved given p q = moved-from given given2 p p q same2 refl filled.moved in
     let tape0 = g.B.Bank.tape c.args.bank.now in
     let tape1 = g.B.Bank.tape c.read_touched-read.new.bank in
@@ -894,14 +638,112 @@ returns-clause-safe g c =
 
 pub returns-clause-counts : goal.returns-clause-counts
 returns-clause-counts g c =
-    λ k.
-    let low = c.read_touched-read.ensures.lost.never_falls k in
-    let mid = c.name_missing-named.ensures.counts k in
-    let high = c.fill_rows-lost.ensures.counts k in
-    omega (arith, low, mid, high)
+    λ k. le_trans (c.read_touched-read.ensures.lost.never_falls k) (le_trans (c.name_missing-named.ensures.counts k) (c.fill_rows-lost.ensures.counts k))
 
 pub read_touched-read-requires-clause-rows : goal.read_touched-read-requires-clause-rows
 read_touched-read-requires-clause-rows g c = has-rows (g.B.Bank.given c.args.bank.now) c.args.members.now c.requires.placed c.args.shape.now (inl c.requires.shape)
 
 pub returns-then-is_some-clause-grows : goal.returns-then-is_some-clause-grows
 returns-then-is_some-clause-grows g c = grows-none c.read_touched-read.ensures.tape
+
+pub refused_by-refusal-requires-clause-shape : goal.refused_by-refusal-requires-clause-shape
+refused_by-refusal-requires-clause-shape g c = force-valid c.args.members.now.newest c.requires.placed.fit c.args.shape.now (inl c.requires.shape)
+
+pub refused_by-refusal-requires-clause-roles : goal.refused_by-refusal-requires-clause-roles
+refused_by-refusal-requires-clause-roles g c =
+    roles-left (g.B.Bank.given c.args.bank.now) c.args.members.now c.read_touched-read.new.members c.read_touched-read.result.lost c.read_touched-read.ensures.lost.members c.requires.placed
+    c.args.shape.now (inl c.requires.shape)
+
+pub is_some-requires : goal.is_some-requires
+is_some-requires g c κs a has = absurd (not-mem-nil has)
+
+pub returns-then-is_some-clause-refused : goal.returns-then-is_some-clause-refused
+returns-then-is_some-clause-refused g c =
+    subst (λ (o : Option Refusal). MatchOption o ⊤ (LacksTooMany c.args.shape.now c.read_touched-read.new.members)) (sym c.refused_by-refusal.ensures)
+    (too-many-synced c.read_touched-read.new.members c.args.shape.now (HasData c.args.shape.now) c.read_touched-read.result.answer c.read_touched-read.ensures.answer)
+
+pub returns-then-is_some-clause-clean : goal.returns-then-is_some-clause-clean
+returns-then-is_some-clause-clean g c = ap (λ (x : Members). is_clean x.newest) c.read_touched-read.ensures.lost.members
+
+pub returns-then-is_some-clause-missing : goal.returns-then-is_some-clause-missing
+returns-then-is_some-clause-missing g c none live role low vacant device small at = some-none c.refused_by-refusal.result (sym c.is_some.ensures ∙ c.if-is_some.true) none
+
+pub returns-then-is_some-clause-filled : goal.returns-then-is_some-clause-filled
+returns-then-is_some-clause-filled g c none still told list stands rows row touched held = absurd (some-none c.refused_by-refusal.result (sym c.is_some.ensures ∙ c.if-is_some.true) none)
+
+pub returns-then-is_some-clause-others : goal.returns-then-is_some-clause-others
+returns-then-is_some-clause-others g c told s k places =
+    inl (ap (λ (l : List Operation). present (g.B.Bank.given c.args.bank.now) l s k) (c.read_touched-read.ensures.tape told))
+
+pub name_missing-named-requires-clause-slots : goal.name_missing-named-requires-clause-slots
+name_missing-named-requires-clause-slots g c = subst (λ (b : Given). b.slots ≤ 32) (sym c.read_touched-read.ensures.given) c.requires.slots
+
+pub too_many_of-refusal-requires-clause-shape : goal.too_many_of-refusal-requires-clause-shape
+too_many_of-refusal-requires-clause-shape g c = force-valid c.args.members.now.newest c.requires.placed.fit c.args.shape.now (inl c.requires.shape)
+
+pub too_many_of-refusal-requires-clause-roles : goal.too_many_of-refusal-requires-clause-roles
+too_many_of-refusal-requires-clause-roles g c =
+    disks-within (g.B.Bank.given c.read_touched-read.new.bank) c.name_missing-named.new.members c.name_missing-named.ensures.moved.placed c.args.shape.now
+    (inl (c.requires.shape ∙ sym (c.name_missing-named.ensures.moved.shape ∙ ap (λ (x : Members). shape_of x.newest) c.read_touched-read.ensures.lost.members)))
+
+pub is_some-requires-2 : goal.is_some-requires-2
+is_some-requires-2 g c κs a has = absurd (not-mem-nil has)
+
+pub returns-then-is_some-2-clause-refused : goal.returns-then-is_some-2-clause-refused
+returns-then-is_some-2-clause-refused g c =
+    told-only (DoesWithout c.args.shape.now c.name_missing-named.new.members) (LacksTooMany c.args.shape.now c.name_missing-named.new.members) c.too_many_of-refusal.result c.too_many_of-refusal.ensures
+
+pub returns-then-is_some-2-clause-filled : goal.returns-then-is_some-2-clause-filled
+returns-then-is_some-2-clause-filled g c none still told list stands rows row touched held = absurd (some-none c.too_many_of-refusal.result (sym c.is_some-2.ensures ∙ c.if-is_some-2.true) none)
+
+pub returns-then-is_some-2-clause-given : goal.returns-then-is_some-2-clause-given
+returns-then-is_some-2-clause-given g c = c.name_missing-named.ensures.given ∙ c.read_touched-read.ensures.given
+
+pub as_mut_slice-bytes-requires : goal.as_mut_slice-bytes-requires
+as_mut_slice-bytes-requires g c κs = ((λ a has. absurd (not-mem-nil has)), (λ a has. absurd (not-mem-nil has)))
+
+pub as_slice-requires : goal.as_slice-requires
+as_slice-requires g c κs = ((λ a has. absurd (not-mem-nil has)), (λ a has. absurd (not-mem-nil has)))
+
+pub fill_rows-lost-requires-clause-once : goal.fill_rows-lost-requires-clause-once
+fill_rows-lost-requires-clause-once g c = subst (λ (l : List ℕ). AreDistinct l) (sym c.as_slice.ensures.value) c.read_touched-read.ensures.touched.once
+
+pub fill_rows-lost-requires-clause-buffer : goal.fill_rows-lost-requires-clause-buffer
+fill_rows-lost-requires-clause-buffer g c =
+    rows-room c.read_touched-read.new.rows.items c.as_slice.result.now c.args.count c.as_mut_slice-bytes.result.now c.read_touched-read.new.buffer.items c.args.buffer.now.items
+    c.as_slice.ensures.value c.read_touched-read.ensures.few c.requires.few c.as_mut_slice-bytes.ensures.value c.read_touched-read.ensures.size c.requires.buffer
+
+pub returns-clause-given : goal.returns-clause-given
+returns-clause-given g c = c.fill_rows-lost.ensures.given ∙ c.name_missing-named.ensures.given ∙ c.read_touched-read.ensures.given
+
+pub returns-clause-buffer : goal.returns-clause-buffer
+returns-clause-buffer g c =
+    written-length c.read_touched-read.new.buffer.len c.read_touched-read.new.buffer.items c.fill_rows-lost.new.buffer
+    (c.fill_rows-lost.ensures.size ∙ ap (λ (l : List ℕ). length l) c.as_mut_slice-bytes.ensures.value) c.read_touched-read.new.buffer.ok.0 ∙ c.read_touched-read.ensures.size
+
+pub returns-then-is_some-clause-rows : goal.returns-then-is_some-clause-rows
+returns-then-is_some-clause-rows g c = c.read_touched-read.ensures.capacity
+
+pub returns-then-is_some-2-clause-rows : goal.returns-then-is_some-2-clause-rows
+returns-then-is_some-2-clause-rows g c = c.read_touched-read.ensures.capacity
+
+pub returns-clause-rows : goal.returns-clause-rows
+returns-clause-rows g c = c.read_touched-read.ensures.capacity
+
+pub returns-then-is_some-clause-buffer : goal.returns-then-is_some-clause-buffer
+returns-then-is_some-clause-buffer g c = c.read_touched-read.ensures.size
+
+pub returns-then-is_some-2-clause-buffer : goal.returns-then-is_some-2-clause-buffer
+returns-then-is_some-2-clause-buffer g c = c.read_touched-read.ensures.size
+
+pub returns-then-is_some-clause-counts : goal.returns-then-is_some-clause-counts
+returns-then-is_some-clause-counts g c = c.read_touched-read.ensures.lost.never_falls
+
+pub returns-then-is_some-clause-given : goal.returns-then-is_some-clause-given
+returns-then-is_some-clause-given g c = c.read_touched-read.ensures.given
+
+pub returns-then-is_some-2-clause-missing : goal.returns-then-is_some-2-clause-missing
+returns-then-is_some-2-clause-missing g c none = c.name_missing-named.ensures.missing
+
+pub fill_rows-lost-requires-clause-role : goal.fill_rows-lost-requires-clause-role
+fill_rows-lost-requires-clause-role g c = c.requires.role

@@ -1,4 +1,4 @@
-use Rattle.std.proofs.Common.{◌≡◌, ℕ, ◌+◌, ◌∷◌, [], refl, sym, ◌∙◌, ap, subst, arith}
+use Rattle.std.proofs.Common.{◌≡◌, ℕ, ◌+◌, ◌∷◌, [], refl, sym, ◌∙◌, ap, subst, arith, inl, List, take}
 use Rattle.bank.specs.declared.bank.Operation.TheVariants.{Write}
 use Rattle.bank.specs.Tape.{Did, disk}
 use Rattle.bank.proofs.Marks.{each_mark-map}
@@ -6,7 +6,13 @@ use Rattle.parity.specs.Rows.{sector_of}
 use Rattle.row_io.proofs.Turns.{marks_last}
 use Rattle.superblocks.specs.Reading.{holder}
 use Rattle.safe_updates.specs.views_Rebuilding.{IsFilling}
-use Rattle.safe_rows.proofs.FillingLaws.{AreFilled, row_write, filled-present, filled-more, write-stands, marks-written}
+use Rattle.safe_rows.proofs.FillingLaws.{AreFilled, row_write, filled-present, filled-more, write-stands, marks-written, filled-none}
+use Rattle.row_io.specs.Rows.{present}
+use Rattle.safe_updates.proofs.views_LackingWrites.{marks-here}
+use Rattle.safe_updates.proofs.views_MovedLaws.{grows-none}
+use Rattle.std.specs.Prelude.{Result}
+use Rattle.bank.specs.declared.bank.Operation.{Operation}
+use Rattle.safe_updates.specs.views_Moving.{Grows}
 use Rattle.safe_rows.proofs.filling.fill_row.Goals as goal
 
 pub overflow_add-target : goal.overflow_add-target
@@ -71,3 +77,24 @@ returns-clause-others g c = λ told.
     filled-present m role slot (λ other. other ≡ row) given tape0 tape1
     (marks_last {P = AreFilled m role slot (λ other. other ≡ row) (disk given.start tape0)}
     (marks-written m role slot row bytes c.requires.below c.requires.recovering (let high = c.if-row-target.false in omega (arith, high, c.requires.held)) given.start tape0 tape1 did) told)
+
+pub returns-then-row-target-clause-each_mark : goal.returns-then-row-target-clause-each_mark
+returns-then-row-target-clause-each_mark g c =
+    marks-here {P = IsFilling c.args.members.now c.args.target.now.role c.args.target.now.slot (disk (g.B.Bank.given c.args.bank.now).start (g.B.Bank.tape c.args.bank.now))} g.B.Bank.tells (g.B.Bank.given c.args.bank.now).start (g.B.Bank.tape c.args.bank.now) (λ s k. inl refl)
+
+pub returns-then-row-target-clause-others : goal.returns-then-row-target-clause-others
+returns-then-row-target-clause-others g c told =
+    filled-none c.args.members.now c.args.target.now.role c.args.target.now.slot (λ other. other ≡ c.args.row) (present (g.B.Bank.given c.args.bank.now) (g.B.Bank.tape c.args.bank.now))
+
+pub returns-then-row-target-clause-grows : goal.returns-then-row-target-clause-grows
+returns-then-row-target-clause-grows g c = grows-none (λ told. refl)
+
+-- operations that were done are added to the tape
+grows-did : {T E tells : Type 0} {result : Result T E} {old new ops : List Operation} → Did tells result old new ops → Grows tells old new
+grows-did {ops = ops} did = record { more = λ told. let some = did.some told in (take some.0 ops, some.1) }
+
+pub returns-clause-grows : goal.returns-clause-grows
+returns-clause-grows g c = grows-did c.write_sector.ensures.did
+
+pub returns-clause-counts : goal.returns-clause-counts
+returns-clause-counts g c = c.write_sector.ensures.cause.never_falls

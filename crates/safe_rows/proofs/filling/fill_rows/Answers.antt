@@ -1,4 +1,4 @@
-use Rattle.std.proofs.Common.{◌≡◌, inr, ℕ, ◌<◌, ◌≤◌, true, false, not, eq-eqb, refl, sym, ◌∙◌, ap, subst, arith}
+use Rattle.std.proofs.Common.{◌≡◌, inr, ℕ, ◌<◌, ◌≤◌, true, not, eq-eqb, refl, sym, ◌∙◌, ap, subst, arith, inl, le_trans}
 use Rattle.std.specs.Prelude.{Contains}
 use Rattle.bank.specs.Given.{Given}
 use Rattle.bank.specs.Tape.{disk}
@@ -17,14 +17,15 @@ use Rattle.safe_updates.specs.views_Moving.{IsMoved}
 use Rattle.safe_updates.specs.shape_changes_Safety.{IsRisen}
 use Rattle.safe_updates.specs.views_Rebuilding.{AreSparesFree}
 use Rattle.safe_updates.specs.shape_changes_Steady.{KeepsSafe, IsUncleanTold}
-use Rattle.safe_updates.proofs.views_MovedLaws.{moved-lost, moved-then, moved-from, grows-then}
-use Rattle.safe_updates.proofs.views_LackingLaws.{since-lost, since-then, in-second}
+use Rattle.safe_updates.proofs.views_MovedLaws.{moved-lost, moved-then, moved-from, grows-then, moved-same, grows-none}
+use Rattle.safe_updates.proofs.views_LackingLaws.{since-lost, since-then, in-second, since-same}
 use Rattle.safe_updates.proofs.views_LackingWrites.{marks-here, lost-of, recovering-before}
-use Rattle.safe_updates.proofs.shape_changes_Risen.{risen-lost, risen-then, room-then}
+use Rattle.safe_updates.proofs.shape_changes_Risen.{risen-lost, risen-then, room-then, risen-none}
 use Rattle.safe_updates.proofs.views_SafeStretch.{safe-none, safe-then, safe-lost, over-at, keeps-from, grows-longer}
 use Rattle.safe_updates.proofs.views_Fit.{few}
-use Rattle.safe_updates.proofs.views_FilledParts.{found-in, safe-filled, others-filled}
+use Rattle.safe_updates.proofs.views_FilledParts.{found-in, safe-filled, others-filled, none-found}
 use Rattle.safe_rows.proofs.FillingLaws.{filling-kept}
+use Rattle.safe_rows.proofs.RefusedLaws.{true-false}
 use Rattle.safe_rows.proofs.filling.fill_rows.Goals as goal
 
 pub returns-then-is_none-clause-safe : goal.returns-then-is_none-clause-safe
@@ -155,12 +156,8 @@ returns-clause-failed g c =
     let recovers : role_state (reading_of m) role ≡ Recovering slot = subst (λ (s : ℕ). role_state (reading_of m) role ≡ Recovering s) (c.requires.recovering found.0 found.1) found.1 in
     let lost : AreLost given shape m n c.lose_slot.result f0 f1 = lost-of given shape m n c.lose_slot.result f0 f1 c.requires.placed
     (slot_lost shape m n c.lose_slot.result slot role f0 f1 c.lose_slot.ensures.members c.lose_slot.ensures.alone c.requires.role (ap holder recovers) (c.write_filled.ensures.failed c.if-write_filled.false) c.write_filled.ensures.counts) in
-    let one : IsMoved given m n = moved-lost given shape m n c.lose_slot.result f0 f1 c.requires.placed lost c.requires.unlost in
-    let given1 = g.B.Bank.given c.write_filled.new.bank in
-    let same : given1 ≡ given = c.write_filled.ensures.given in
     let q = c.name_missing.new.members in
     let named = c.name_missing.ensures in
-    let two : IsMoved given n q = moved-from given given1 n n q same refl named.moved in
     let f2 = g.B.Bank.faults_of c.name_missing.new.bank in
     let s = c.name_missing.result in
     since-then m n q 0 s s f0 f1 f2 c.write_filled.ensures.counts named.counts (since-lost given shape m n c.lose_slot.result f0 f1 lost) named.failed (in-second s)
@@ -188,7 +185,6 @@ returns-clause-kept g c =
     let recovers : role_state (reading_of m) role ≡ Recovering slot = subst (λ (s : ℕ). role_state (reading_of m) role ≡ Recovering s) (c.requires.recovering found.0 found.1) found.1 in
     let lost : AreLost given shape m n c.lose_slot.result f0 f1 = lost-of given shape m n c.lose_slot.result f0 f1 c.requires.placed
     (slot_lost shape m n c.lose_slot.result slot role f0 f1 c.lose_slot.ensures.members c.lose_slot.ensures.alone c.requires.role (ap holder recovers) (c.write_filled.ensures.failed c.if-write_filled.false) c.write_filled.ensures.counts) in
-    let one : IsMoved given m n = moved-lost given shape m n c.lose_slot.result f0 f1 c.requires.placed lost c.requires.unlost in
     let given1 = g.B.Bank.given c.write_filled.new.bank in
     let same : given1 ≡ given = c.write_filled.ensures.given in
     let q = c.name_missing.new.members in
@@ -196,7 +192,7 @@ returns-clause-kept g c =
     let two : IsMoved given n q = moved-from given given1 n n q same refl named.moved in
     let out = (recovering-after m c.lose_slot.result role slot (subst (λ (x : Members). role_state (reading_of x) role ≡ Recovering slot) c.lose_slot.ensures.members (recovering-before two role slot still))).1 in
     let gone : has_slot c.lose_slot.result slot ≡ true = c.lose_slot.ensures.alone slot ∙ eq-eqb slot slot refl in
-    absurd (let e : true ≡ false = sym gone ∙ out in cc)
+    true-false (sym gone ∙ out)
 
 pub returns-clause-written : goal.returns-clause-written
 returns-clause-written g c =
@@ -213,7 +209,6 @@ returns-clause-written g c =
     let recovers : role_state (reading_of m) role ≡ Recovering slot = subst (λ (s : ℕ). role_state (reading_of m) role ≡ Recovering s) (c.requires.recovering found.0 found.1) found.1 in
     let lost : AreLost given shape m n c.lose_slot.result f0 f1 = lost-of given shape m n c.lose_slot.result f0 f1 c.requires.placed
     (slot_lost shape m n c.lose_slot.result slot role f0 f1 c.lose_slot.ensures.members c.lose_slot.ensures.alone c.requires.role (ap holder recovers) (c.write_filled.ensures.failed c.if-write_filled.false) c.write_filled.ensures.counts) in
-    let one : IsMoved given m n = moved-lost given shape m n c.lose_slot.result f0 f1 c.requires.placed lost c.requires.unlost in
     let given1 = g.B.Bank.given c.write_filled.new.bank in
     let same : given1 ≡ given = c.write_filled.ensures.given in
     let q = c.name_missing.new.members in
@@ -221,7 +216,7 @@ returns-clause-written g c =
     let two : IsMoved given n q = moved-from given given1 n n q same refl named.moved in
     let out = (recovering-after m c.lose_slot.result role slot (subst (λ (x : Members). role_state (reading_of x) role ≡ Recovering slot) c.lose_slot.ensures.members (recovering-before two role slot still))).1 in
     let gone : has_slot c.lose_slot.result slot ≡ true = c.lose_slot.ensures.alone slot ∙ eq-eqb slot slot refl in
-    absurd (let e : true ≡ false = sym gone ∙ out in cc)
+    true-false (sym gone ∙ out)
 
 pub returns-clause-others : goal.returns-clause-others
 returns-clause-others g c =
@@ -238,12 +233,9 @@ returns-clause-others g c =
     let recovers : role_state (reading_of m) role ≡ Recovering slot = subst (λ (s : ℕ). role_state (reading_of m) role ≡ Recovering s) (c.requires.recovering found.0 found.1) found.1 in
     let lost : AreLost given shape m n c.lose_slot.result f0 f1 = lost-of given shape m n c.lose_slot.result f0 f1 c.requires.placed
     (slot_lost shape m n c.lose_slot.result slot role f0 f1 c.lose_slot.ensures.members c.lose_slot.ensures.alone c.requires.role (ap holder recovers) (c.write_filled.ensures.failed c.if-write_filled.false) c.write_filled.ensures.counts) in
-    let one : IsMoved given m n = moved-lost given shape m n c.lose_slot.result f0 f1 c.requires.placed lost c.requires.unlost in
     let given1 = g.B.Bank.given c.write_filled.new.bank in
     let same : given1 ≡ given = c.write_filled.ensures.given in
-    let q = c.name_missing.new.members in
     let named = c.name_missing.ensures in
-    let two : IsMoved given n q = moved-from given given1 n n q same refl named.moved in
     let tape0 = g.B.Bank.tape c.args.bank.now in
     let tape1 = g.B.Bank.tape c.write_filled.new.bank in
     let tape2 = g.B.Bank.tape c.name_missing.new.bank in
@@ -261,7 +253,6 @@ pub returns-clause-rise : goal.returns-clause-rise
 returns-clause-rise g c =
     let tape0 = g.B.Bank.tape c.args.bank.now in
     let tape1 = g.B.Bank.tape c.write_filled.new.bank in
-    let tape2 = g.B.Bank.tape c.name_missing.new.bank in
     let risen1 : IsRisen g.B.Bank.tells c.args.members.now c.lose_slot.new.members tape0 tape1 =
     risen-lost c.args.members.now c.lose_slot.new.members c.lose_slot.result tape0 tape1 c.lose_slot.ensures.members (grows-longer c.write_filled.ensures.grows) in
     risen-then risen1 c.name_missing.ensures.rise
@@ -281,12 +272,10 @@ returns-clause-safe g c =
     let recovers : role_state (reading_of m) role ≡ Recovering slot = subst (λ (s : ℕ). role_state (reading_of m) role ≡ Recovering s) (c.requires.recovering found.0 found.1) found.1 in
     let lost : AreLost given shape m n c.lose_slot.result f0 f1 = lost-of given shape m n c.lose_slot.result f0 f1 c.requires.placed
     (slot_lost shape m n c.lose_slot.result slot role f0 f1 c.lose_slot.ensures.members c.lose_slot.ensures.alone c.requires.role (ap holder recovers) (c.write_filled.ensures.failed c.if-write_filled.false) c.write_filled.ensures.counts) in
-    let one : IsMoved given m n = moved-lost given shape m n c.lose_slot.result f0 f1 c.requires.placed lost c.requires.unlost in
     let given1 = g.B.Bank.given c.write_filled.new.bank in
     let same : given1 ≡ given = c.write_filled.ensures.given in
     let q = c.name_missing.new.members in
     let named = c.name_missing.ensures in
-    let two : IsMoved given n q = moved-from given given1 n n q same refl named.moved in
     let tape0 = g.B.Bank.tape c.args.bank.now in
     let tape1 = g.B.Bank.tape c.write_filled.new.bank in
     let tape2 = g.B.Bank.tape c.name_missing.new.bank in
@@ -300,10 +289,88 @@ returns-clause-safe g c =
 
 pub returns-clause-counts : goal.returns-clause-counts
 returns-clause-counts g c =
-    λ slot.
-    let low = c.write_filled.ensures.counts slot in
-    let high = c.name_missing.ensures.counts slot in
-    omega (arith, low, high)
+    λ slot. le_trans (c.write_filled.ensures.counts slot) (c.name_missing.ensures.counts slot)
 
 pub lose_slot-requires-clause-few : goal.lose_slot-requires-clause-few
 lose_slot-requires-clause-few g c = let roles = few (g.B.Bank.given c.args.bank.now) c.args.members.now c.requires.placed in omega (arith, roles)
+
+pub write_filled-requires-clause-placed : goal.write_filled-requires-clause-placed
+write_filled-requires-clause-placed g c = c.requires.placed
+
+pub write_filled-requires-clause-shape : goal.write_filled-requires-clause-shape
+write_filled-requires-clause-shape g c = c.requires.shape
+
+pub write_filled-requires-clause-role : goal.write_filled-requires-clause-role
+write_filled-requires-clause-role g c = c.requires.role
+
+pub write_filled-requires-clause-offset : goal.write_filled-requires-clause-offset
+write_filled-requires-clause-offset g c = c.requires.offset
+
+pub write_filled-requires-clause-below : goal.write_filled-requires-clause-below
+write_filled-requires-clause-below g c = c.requires.below
+
+pub write_filled-requires-clause-once : goal.write_filled-requires-clause-once
+write_filled-requires-clause-once g c = c.requires.once
+
+pub write_filled-requires-clause-buffer : goal.write_filled-requires-clause-buffer
+write_filled-requires-clause-buffer g c = c.requires.buffer
+
+pub write_filled-requires-clause-recovering : goal.write_filled-requires-clause-recovering
+write_filled-requires-clause-recovering g c =
+    let found = found-in c.recovering_slot.result _ (c.is_none.ensures ∙ ap not c.if-is_none.false) c.recovering_slot.ensures.some in
+    subst (λ (s : ℕ). role_state (reading_of c.args.members.now) c.args.target.now.role ≡ Recovering s) (c.requires.recovering found.0 found.1) found.1
+
+pub write_filled-requires-clause-held : goal.write_filled-requires-clause-held
+write_filled-requires-clause-held g c =
+    let found = found-in c.recovering_slot.result _ (c.is_none.ensures ∙ ap not c.if-is_none.false) c.recovering_slot.ensures.some in
+    c.requires.held (subst (λ (s : ℕ). role_state (reading_of c.args.members.now) c.args.target.now.role ≡ Recovering s) (c.requires.recovering found.0 found.1) found.1)
+
+pub returns-then-is_none-clause-moved : goal.returns-then-is_none-clause-moved
+returns-then-is_none-clause-moved g c =
+    moved-same (g.B.Bank.given c.args.bank.now) (g.B.Bank.given c.args.bank.now) c.args.members.now c.args.members.now refl refl c.requires.placed c.requires.unlost
+
+pub returns-then-is_none-clause-failed : goal.returns-then-is_none-clause-failed
+returns-then-is_none-clause-failed g c = since-same c.args.members.now (g.B.Bank.faults_of c.args.bank.now) (g.B.Bank.faults_of c.args.bank.now)
+
+pub returns-then-is_none-clause-written : goal.returns-then-is_none-clause-written
+returns-then-is_none-clause-written g c recovers told list own i low held =
+    absurd (none-found c.recovering_slot.result _ (c.is_none.ensures ∙ ap not c.if-is_none.true) c.recovering_slot.ensures.none c.args.target.now.slot recovers)
+
+pub returns-then-is_none-clause-others : goal.returns-then-is_none-clause-others
+returns-then-is_none-clause-others g c told = inl refl
+
+pub returns-then-is_none-clause-grows : goal.returns-then-is_none-clause-grows
+returns-then-is_none-clause-grows g c = grows-none (λ told. refl)
+
+pub returns-then-write_filled-clause-moved : goal.returns-then-write_filled-clause-moved
+returns-then-write_filled-clause-moved g c =
+    moved-same (g.B.Bank.given c.args.bank.now) (g.B.Bank.given c.args.bank.now) c.args.members.now c.args.members.now refl refl c.requires.placed c.requires.unlost
+
+pub returns-then-write_filled-clause-failed : goal.returns-then-write_filled-clause-failed
+returns-then-write_filled-clause-failed g c = since-same c.args.members.now (g.B.Bank.faults_of c.args.bank.now) (g.B.Bank.faults_of c.write_filled.new.bank)
+
+pub returns-then-write_filled-clause-others : goal.returns-then-write_filled-clause-others
+returns-then-write_filled-clause-others g c told =
+    let found = found-in c.recovering_slot.result _ (c.is_none.ensures ∙ ap not c.if-is_none.false) c.recovering_slot.ensures.some in
+    inr (subst (λ (s : ℕ). role_state (reading_of c.args.members.now) c.args.target.now.role ≡ Recovering s) (c.requires.recovering found.0 found.1) found.1, c.write_filled.ensures.others told)
+
+pub returns-then-write_filled-clause-rise : goal.returns-then-write_filled-clause-rise
+returns-then-write_filled-clause-rise g c = risen-none c.args.members.now (g.B.Bank.tape c.args.bank.now) (g.B.Bank.tape c.write_filled.new.bank) (grows-longer c.write_filled.ensures.grows)
+
+pub returns-then-write_filled-clause-grows : goal.returns-then-write_filled-clause-grows
+returns-then-write_filled-clause-grows g c = c.write_filled.ensures.grows
+
+pub returns-then-write_filled-clause-given : goal.returns-then-write_filled-clause-given
+returns-then-write_filled-clause-given g c = c.write_filled.ensures.given
+
+pub returns-then-write_filled-clause-counts : goal.returns-then-write_filled-clause-counts
+returns-then-write_filled-clause-counts g c = c.write_filled.ensures.counts
+
+pub returns-then-write_filled-clause-size : goal.returns-then-write_filled-clause-size
+returns-then-write_filled-clause-size g c = c.write_filled.ensures.size
+
+pub returns-clause-given : goal.returns-clause-given
+returns-clause-given g c = c.name_missing.ensures.given ∙ c.write_filled.ensures.given
+
+pub returns-clause-size : goal.returns-clause-size
+returns-clause-size g c = c.write_filled.ensures.size

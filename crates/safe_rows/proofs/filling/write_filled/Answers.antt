@@ -1,4 +1,4 @@
-use Rattle.std.proofs.Common.{◌≡◌, ◌+◌, ◌-◌, ◌*◌, ◌≤◌, ℕ, length, take, drop, inl, inr, sym, ◌∙◌, subst, arith}
+use Rattle.std.proofs.Common.{◌≡◌, ◌+◌, ◌-◌, ◌*◌, ◌≤◌, ℕ, length, take, drop, inl, inr, sym, ◌∙◌, subst, arith, refl, le_trans, lt_of_lt_of_le, le_refl}
 use Rattle.std.specs.Prelude.{slice_index, Contains}
 use Rattle.bank.specs.Given.{Given}
 use Rattle.layout.proofs.Limits.{limited}
@@ -8,11 +8,15 @@ use Rattle.list_io.specs.Buffers.{buffered}
 use Rattle.list_io.specs.Writing.{HasFull}
 use Rattle.list_io.proofs.PartBytes.{sector-part_other}
 use Rattle.list_io.proofs.PutLaws.{data_same}
-use Rattle.safe_updates.specs.views_Rebuilding.{IsFilledAmong}
+use Rattle.safe_updates.specs.views_Rebuilding.{IsFilledAmong, IsFilling}
 use Rattle.safe_updates.proofs.views_Elements.{contains-at}
-use Rattle.safe_updates.proofs.views_MovedLaws.{grows-then}
+use Rattle.safe_updates.proofs.views_MovedLaws.{grows-then, grows-none}
 use Rattle.safe_updates.proofs.views_MendedParts.{valid-in}
-use Rattle.safe_rows.proofs.FillingLaws.{filled-then, marks-then, full-next, part-is}
+use Rattle.safe_rows.proofs.FillingLaws.{filled-then, marks-then, full-next, part-is, filled-none}
+use Rattle.bank.specs.Tape.{disk}
+use Rattle.bank.proofs.Causes.{faulted_longer}
+use Rattle.safe_updates.specs.views_Placed.{IsPlaced}
+use Rattle.safe_updates.proofs.views_LackingWrites.{marks-here}
 use Rattle.safe_rows.proofs.filling.write_filled.Goals as goal
 
 pub fill_row-requires-clause-below : goal.fill_row-requires-clause-below
@@ -62,5 +66,90 @@ loop-i-preserved g c =
           ∙ was.ahead j r (omega (arith, le)) lt is;
       grows = grows-then was.grows did.grows;
       given = did.given ∙ was.given;
-      never_falls = λ s. omega (arith, was.never_falls s, did.counts s);
+      never_falls = λ s. le_trans (was.never_falls s) (did.counts s);
     }
+
+pub loop-i-init : goal.loop-i-init
+loop-i-init g c =
+    let m = c.args.members.now in
+    let role = c.args.target.now.role in
+    let slot = c.args.target.now.slot in
+    let start = (g.B.Bank.given c.args.bank.now).start in
+    let tape0 = g.B.Bank.tape c.args.bank.now in
+    record {
+      marks = marks-here {P = IsFilling m role slot (disk start tape0)} g.B.Bank.tells start tape0 (λ s k. inl refl);
+      done = λ told list own j low. absurd (omega (arith, low));
+      others = λ told. filled-none m role slot (Contains c.args.rows.now) (present (g.B.Bank.given c.args.bank.now) tape0);
+      ahead = λ j role low lt is. refl;
+      grows = grows-none (λ told. refl);
+      given = refl;
+      never_falls = λ s. le_refl _;
+    }
+
+pub fill_row-requires-clause-placed : goal.fill_row-requires-clause-placed
+fill_row-requires-clause-placed g c = subst (λ (b : Given). IsPlaced b c.args.members.now) (sym c.loop-i.invariant.given) c.requires.placed
+
+pub fill_row-requires-clause-shape : goal.fill_row-requires-clause-shape
+fill_row-requires-clause-shape g c = c.requires.shape
+
+pub fill_row-requires-clause-role : goal.fill_row-requires-clause-role
+fill_row-requires-clause-role g c = c.requires.role
+
+pub fill_row-requires-clause-recovering : goal.fill_row-requires-clause-recovering
+fill_row-requires-clause-recovering g c = c.requires.recovering
+
+pub fill_row-requires-clause-offset : goal.fill_row-requires-clause-offset
+fill_row-requires-clause-offset g c = c.requires.offset
+
+pub fill_row-requires-clause-held : goal.fill_row-requires-clause-held
+fill_row-requires-clause-held g c = c.requires.held
+
+pub returns-then-not-fill_row-clause-others : goal.returns-then-not-fill_row-clause-others
+returns-then-not-fill_row-clause-others g c told =
+    let m = c.args.members.now in
+    let role = c.args.target.now.role in
+    let slot = c.args.target.now.slot in
+    let rows = c.args.rows.now in
+    let row = slice_index rows c.loop-i.i in
+    let given = g.B.Bank.given c.args.bank.now in
+    let tape1 = g.B.Bank.tape c.loop-i.bank in
+    let tape2 = g.B.Bank.tape c.fill_row.new.bank in
+    filled-then m role slot (Contains rows) (λ other. other ≡ row) (Contains rows) (present given (g.B.Bank.tape c.args.bank.now)) (present given tape1) (present given tape2) (λ other has. has)
+    (λ other same. subst (λ (r : ℕ). Contains rows r) (sym same) (contains-at rows c.loop-i.i c.loop-i-test.true)) (c.loop-i.invariant.others told)
+    (subst (λ (b : Given). IsFilledAmong m role slot (λ other. other ≡ row) (present b tape1) (present b tape2)) c.loop-i.invariant.given (c.fill_row.ensures.others told))
+
+pub returns-then-not-fill_row-clause-failed : goal.returns-then-not-fill_row-clause-failed
+returns-then-not-fill_row-clause-failed g c lost =
+    let slot = c.args.target.now.slot in
+    let f1 = g.B.Bank.faults_of c.loop-i.bank in
+    let f2 = g.B.Bank.faults_of c.fill_row.new.bank in
+    faulted_longer slot (g.B.Bank.faults_of c.args.bank.now) f1 f2 f2 (c.loop-i.invariant.never_falls slot) (le_refl _) (c.fill_row.ensures.counts slot) (c.fill_row.ensures.failed c.if-not-fill_row.true)
+
+pub returns-then-not-fill_row-clause-given : goal.returns-then-not-fill_row-clause-given
+returns-then-not-fill_row-clause-given g c = c.fill_row.ensures.given ∙ c.loop-i.invariant.given
+
+pub returns-then-not-fill_row-clause-counts : goal.returns-then-not-fill_row-clause-counts
+returns-then-not-fill_row-clause-counts g c s = le_trans (c.loop-i.invariant.never_falls s) (c.fill_row.ensures.counts s)
+
+pub returns-clause-each_mark : goal.returns-clause-each_mark
+returns-clause-each_mark g c = c.loop-i.invariant.marks
+
+pub returns-clause-written : goal.returns-clause-written
+returns-clause-written g c done told list own i low held = c.loop-i.invariant.done told list own i (lt_of_lt_of_le low c.loop-i-test.false) held
+
+pub returns-clause-others : goal.returns-clause-others
+returns-clause-others g c = c.loop-i.invariant.others
+
+pub returns-clause-grows : goal.returns-clause-grows
+returns-clause-grows g c = c.loop-i.invariant.grows
+
+pub returns-clause-given : goal.returns-clause-given
+returns-clause-given g c = c.loop-i.invariant.given
+
+pub returns-clause-counts : goal.returns-clause-counts
+returns-clause-counts g c = c.loop-i.invariant.never_falls
+
+pub slice_bounds-part-end : goal.slice_bounds-part-end
+slice_bounds-part-end g c =
+    let few = (limited c.args.shape.now (valid-in (g.B.Bank.given c.args.bank.now) c.args.members.now c.requires.placed c.args.shape.now (inl c.requires.shape))).most in
+    omega (arith, c.loop-i.auto.buffer, c.requires.buffer, few, c.loop-i-test.true)

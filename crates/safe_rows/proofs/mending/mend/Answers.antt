@@ -1,4 +1,4 @@
-use Rattle.std.proofs.Common.{inl, inr, ℕ, ◌+◌, ◌*◌, ◌≤◌, refl, sym, ◌∙◌, ap, subst, arith}
+use Rattle.std.proofs.Common.{inl, inr, ℕ, ◌+◌, ◌*◌, ◌≤◌, refl, sym, ◌∙◌, ap, subst, arith, le_trans}
 use Rattle.bank.specs.Given.{Given}
 use Rattle.bank.specs.Tape.{disk}
 use Rattle.row_io.specs.Rows.{reading_of, present}
@@ -14,7 +14,7 @@ use Rattle.safe_updates.proofs.views_LackingLaws.{since-same, since-then, in-eit
 use Rattle.safe_updates.proofs.views_LackingLists.{none-of}
 use Rattle.safe_updates.proofs.shape_changes_Risen.{risen-none, risen-then}
 use Rattle.safe_updates.proofs.views_SafeStretch.{safe-none, allowed-later, zeros-later, region-later}
-use Rattle.safe_updates.proofs.views_Fit.{alike-force}
+use Rattle.safe_updates.proofs.views_Fit.{alike-force, force-valid}
 use Rattle.safe_updates.proofs.views_PutLists.{touched-or-not}
 use Rattle.safe_updates.proofs.views_LackingWrites.{others-then}
 use Rattle.safe_updates.proofs.views_FilledParts.{touched-in_parts, parts-of_stripe}
@@ -22,6 +22,10 @@ use Rattle.safe_updates.specs.Unused.{IsUnusedKept}
 use Rattle.safe_updates.proofs.Unused.{unused-then}
 use Rattle.safe_rows.proofs.MendedStripes.{put-wider}
 use Rattle.safe_updates.proofs.views_MendedParts.{valid-in, stripe-within, part-within, part-touches, ArePut, put-none, put-then, put-untouched, nothing-written, no-bytes, not-begun, safe-part}
+use Rattle.safe_rows.proofs.CallLaws.{some-none}
+use Rattle.safe_rows.proofs.RefusedLaws.{false-true}
+use mathlib.Core.List.{not-mem-nil}
+use Rattle.safe_updates.specs.views_Placed.{IsPlaced}
 use Rattle.safe_rows.proofs.mending.mend.Goals as goal
 
 pub overflow_mul-first : goal.overflow_mul-first
@@ -182,7 +186,7 @@ returns-then-is_some-clause-safe g c = λ told world ledger room gone unclean li
     safe-part world given given1 ledger m n new tape0 tape1 tape2 told was.given was.moved.placed (moved-from given given1 n n new was.given refl did.moved) did.grows was.rise room gone
     (λ first gone1. was.safe told world ledger first gone1 unclean list stands region allowed zeros safe)
     (λ then now. did.safe told world ledger then gone unclean list list (nothing-written list _)
-    (subst (λ (b : Given). DataStandsAmong c.args.shape.now touched n (present b tape1) list) (sym was.given) (λ row at. (was.put told).stands list stands row (inside row at))) (λ is. absurd (cc))
+    (subst (λ (b : Given). DataStandsAmong c.args.shape.now touched n (present b tape1) list) (sym was.given) (λ row at. (was.put told).stands list stands row (inside row at))) false-true
     (region-later given m n c.args.shape.now touched was.moved (λ x lt at. region x lt (inside (place_by m.newest x).row at)))
     (λ begun. allowed-later given m n was.moved ledger.values list allowed) (λ fit. zeros-later given m n was.moved list (zeros fit)) now)
 
@@ -234,8 +238,8 @@ loop-done-preserved g c =
           (put-wider given c.args.shape.now touched stripe n new tape1 tape2 moved (touched-or-not c.args.shape.now first c.min-count.result) inside
           (subst (λ (b : Given). ArePut b c.args.shape.now touched touched n new tape1 tape2) was.given (record {
             stands = λ list stands. did.put none told list list (nothing-written list first) stands;
-            rows = λ list stands row has lt whole is. did.good none told list list (nothing-written list first) no-bytes stands (λ is. absurd (cc)) row has lt whole;
-            rebuilt = λ list stands role slot row below is has lt. did.rebuilt none told list list (nothing-written list first) stands (λ is. absurd (cc)) role slot row below is has lt;
+            rows = λ list stands row has lt whole is. did.good none told list list (nothing-written list first) no-bytes stands false-true row has lt whole;
+            rebuilt = λ list stands role slot row below is has lt. did.rebuilt none told list list (nothing-written list first) stands false-true role slot row below is has lt;
             others = did.others told;
           })));
       unused = λ told. unused-then given m n (disk given.start tape0) (disk given.start tape1) (disk given.start tape2) was.moved (was.unused told)
@@ -245,12 +249,12 @@ loop-done-preserved g c =
           safe-part world given given1 ledger m n new tape0 tape1 tape2 told was.given was.moved.placed moved did.grows was.rise room gone
           (λ first gone1. was.safe told world ledger first gone1 unclean list stands region allowed zeros safe)
           (λ then now. did.safe told world ledger then gone unclean list list (nothing-written list _)
-          (subst (λ (b : Given). DataStandsAmong c.args.shape.now touched n (present b tape1) list) (sym was.given) (λ row at. (was.put told).stands list stands row (inside row at))) (λ is. absurd (cc))
+          (subst (λ (b : Given). DataStandsAmong c.args.shape.now touched n (present b tape1) list) (sym was.given) (λ row at. (was.put told).stands list stands row (inside row at))) false-true
           (region-later given m n c.args.shape.now touched was.moved (λ x lt at. region x lt (inside (place_by m.newest x).row at)))
           (λ begun. allowed-later given m n was.moved ledger.values list allowed) (λ fit. zeros-later given m n was.moved list (zeros fit)) now);
       given = did.given ∙ was.given;
-      counts = λ s. let one = was.counts s in let two = did.counts s in omega (arith, one, two);
-      rows = let one = was.rows in let two = did.rows in omega (arith, one, two);
+      counts = λ s. le_trans (was.counts s) (did.counts s);
+      rows = le_trans was.rows did.rows;
       buffer = did.buffer ∙ was.buffer;
     }
 
@@ -281,3 +285,81 @@ returns-clause-rebuilt g c = λ does told list stands role slot row lt is of.
 
 pub returns-clause-others : goal.returns-clause-others
 returns-clause-others g c = λ told. (c.loop-done.invariant.put told).others
+
+pub put-part-requires-clause-slots : goal.put-part-requires-clause-slots
+put-part-requires-clause-slots g c = subst (λ (b : Given). b.slots ≤ 32) (sym c.loop-done.invariant.given) c.requires.slots
+
+pub put-part-requires-clause-placed : goal.put-part-requires-clause-placed
+put-part-requires-clause-placed g c = subst (λ (b : Given). IsPlaced b c.loop-done.members) (sym c.loop-done.invariant.given) c.loop-done.invariant.moved.placed
+
+pub put-part-requires-clause-unlost : goal.put-part-requires-clause-unlost
+put-part-requires-clause-unlost g c = c.loop-done.invariant.moved.unlost
+
+pub put-part-requires-clause-rows : goal.put-part-requires-clause-rows
+put-part-requires-clause-rows g c = le_trans c.requires.rows c.loop-done.invariant.rows
+
+pub put-part-requires-clause-buffer : goal.put-part-requires-clause-buffer
+put-part-requires-clause-buffer g c = subst (λ (n : ℕ). 1048576 ≤ n) (sym c.loop-done.invariant.buffer) c.requires.buffer
+
+pub is_some-requires : goal.is_some-requires
+is_some-requires g c κs a has = absurd (not-mem-nil has)
+
+pub returns-then-is_some-clause-refused : goal.returns-then-is_some-clause-refused
+returns-then-is_some-clause-refused g c = c.put-part.ensures.refused
+
+pub returns-then-is_some-clause-first : goal.returns-then-is_some-clause-first
+returns-then-is_some-clause-first g c = c.put-part.ensures.first
+
+pub returns-then-is_some-clause-dirty : goal.returns-then-is_some-clause-dirty
+returns-then-is_some-clause-dirty g c = c.put-part.ensures.stays c.loop-done.invariant.dirty
+
+pub returns-then-is_some-clause-mended : goal.returns-then-is_some-clause-mended
+returns-then-is_some-clause-mended g c none told = absurd (some-none c.put-part.result.refusal (sym c.is_some.ensures ∙ c.if-is_some.true) none)
+
+pub returns-then-is_some-clause-given : goal.returns-then-is_some-clause-given
+returns-then-is_some-clause-given g c = c.put-part.ensures.given ∙ c.loop-done.invariant.given
+
+pub returns-then-is_some-clause-counts : goal.returns-then-is_some-clause-counts
+returns-then-is_some-clause-counts g c s = le_trans (c.loop-done.invariant.counts s) (c.put-part.ensures.counts s)
+
+pub returns-then-is_some-clause-rows : goal.returns-then-is_some-clause-rows
+returns-then-is_some-clause-rows g c = le_trans c.loop-done.invariant.rows c.put-part.ensures.rows
+
+pub returns-then-is_some-clause-buffer : goal.returns-then-is_some-clause-buffer
+returns-then-is_some-clause-buffer g c = c.put-part.ensures.buffer ∙ c.loop-done.invariant.buffer
+
+pub returns-clause-moved : goal.returns-clause-moved
+returns-clause-moved g c = c.loop-done.invariant.moved
+
+pub returns-clause-failed : goal.returns-clause-failed
+returns-clause-failed g c = c.loop-done.invariant.failed
+
+pub returns-clause-grows : goal.returns-clause-grows
+returns-clause-grows g c = c.loop-done.invariant.grows
+
+pub returns-clause-dirty : goal.returns-clause-dirty
+returns-clause-dirty g c = c.loop-done.invariant.dirty
+
+pub returns-clause-unused : goal.returns-clause-unused
+returns-clause-unused g c = c.loop-done.invariant.unused
+
+pub returns-clause-rise : goal.returns-clause-rise
+returns-clause-rise g c = c.loop-done.invariant.rise
+
+pub returns-clause-safe : goal.returns-clause-safe
+returns-clause-safe g c = c.loop-done.invariant.safe
+
+pub returns-clause-given : goal.returns-clause-given
+returns-clause-given g c = c.loop-done.invariant.given
+
+pub returns-clause-counts : goal.returns-clause-counts
+returns-clause-counts g c = c.loop-done.invariant.counts
+
+pub returns-clause-rows : goal.returns-clause-rows
+returns-clause-rows g c = c.loop-done.invariant.rows
+
+pub returns-clause-buffer : goal.returns-clause-buffer
+returns-clause-buffer g c = c.loop-done.invariant.buffer
+
+pub list_length-requires-clause-shape : goal.list_length-requires-clause-shape
+list_length-requires-clause-shape g c = force-valid c.args.members.now.newest c.requires.placed.fit c.args.shape.now c.requires.shape

@@ -1,16 +1,16 @@
-use Rattle.std.proofs.Common.{◌<◌, ℕ, List, length, arith, refl, sym, ◌∙◌, ap, subst}
+use Rattle.std.proofs.Common.{◌<◌, ℕ, List, length, arith, refl, sym, ◌∙◌, ap, subst, ◌≤◌, le_trans}
 use Rattle.bank.specs.Given.{Given}
 use Rattle.bank.specs.declared.bank.Operation.{Operation}
 use Rattle.superblocks.specs.declared.members.Members.{Members}
 use Rattle.row_io.specs.Rows.{present, reading_of}
 use Rattle.list_io.specs.Buffers.{buffered}
 use Rattle.list_io.proofs.BufferLaws.{data_read}
-use Rattle.safe_updates.specs.views_Placed.{IsPlaced, AreLost}
+use Rattle.safe_updates.specs.views_Placed.{IsPlaced, AreLost, IsInForce}
 use Rattle.safe_updates.specs.shape_changes_Marking.{AreOthersPresent}
 use Rattle.safe_updates.specs.views_Moving.{Grows, IsMoved}
 use Rattle.safe_updates.specs.views_Rebuilding.{AreSparesFree}
 use Rattle.safe_updates.proofs.views_MovedLaws.{moved-lost, moved-then, moved-from, grows-none, grows-then}
-use Rattle.safe_updates.proofs.views_Fit.{has-rows, force-valid}
+use Rattle.safe_updates.proofs.views_Fit.{has-rows, force-valid, disks-within, alike-force}
 use Rattle.safe_updates.proofs.views_LackingLaws.{since-lost, since-then, in-second}
 use Rattle.safe_updates.proofs.views_LackingWrites.{lost-of, standing-later}
 use Rattle.safe_updates.proofs.RefusingLaws.{write-cause, write-told, told-first, told-why, many-told, not-err}
@@ -20,6 +20,10 @@ use Rattle.safe_updates.specs.shape_changes_Steady.{KeepsSafe}
 use Rattle.safe_updates.proofs.shape_changes_Risen.{risen-then, risen-lost, room-then}
 use Rattle.safe_updates.proofs.views_SafeStretch.{safe-then, safe-lost, over-at, keeps-from}
 use Rattle.safe_rows.proofs.UnusedReads.{read-unused, named-unused}
+use Rattle.safe_rows.proofs.CallLaws.{roles-left}
+use Rattle.safe_rows.proofs.RefusedLaws.{lacking-unwritten}
+use Rattle.superblocks.specs.Reading.{is_clean}
+use Rattle.safe_updates.specs.views_Lacking.{DoesWithout}
 use Rattle.safe_rows.proofs.putting.prepare.Goals as goal
 
 pub returns-then-is_err-clause-moved : goal.returns-then-is_err-clause-moved
@@ -220,7 +224,7 @@ returns-clause-others g c = λ told.
     (subst (λ (b : Given). AreOthersPresent (present b tape1) (present b tape2)) c.read_touched-read.ensures.given (c.raise-spares.ensures.others told))
 
 pub returns-clause-counts : goal.returns-clause-counts
-returns-clause-counts g c = λ s. let one = c.read_touched-read.ensures.lost.never_falls s in let two = c.raise-spares.ensures.counts s in omega (arith, one, two)
+returns-clause-counts g c = λ s. le_trans (c.read_touched-read.ensures.lost.never_falls s) (c.raise-spares.ensures.counts s)
 
 pub returns-then-is_err-clause-unused : goal.returns-then-is_err-clause-unused
 returns-then-is_err-clause-unused g c = λ told.
@@ -238,3 +242,83 @@ returns-clause-unused g c = λ told.
     let did = c.read_touched-read.ensures in
     named-unused given (g.B.Bank.given c.read_touched-read.new.bank) m n (g.B.Bank.tape c.args.bank.now) (g.B.Bank.tape c.read_touched-read.new.bank) (g.B.Bank.tape c.raise-spares.new.bank) (did.tape told) did.given
     (moved-lost given shape m n r f0 f1 c.requires.placed (lost-of given shape m n r f0 f1 c.requires.placed did.lost) c.requires.unlost) (c.raise-spares.ensures.rest told)
+
+pub read_touched-read-requires-clause-few : goal.read_touched-read-requires-clause-few
+read_touched-read-requires-clause-few g c = c.requires.few
+
+pub read_touched-read-requires-clause-within : goal.read_touched-read-requires-clause-within
+read_touched-read-requires-clause-within g c = c.requires.within
+
+pub read_touched-read-requires-clause-short : goal.read_touched-read-requires-clause-short
+read_touched-read-requires-clause-short g c = c.requires.short
+
+pub read_touched-read-requires-clause-buffer : goal.read_touched-read-requires-clause-buffer
+read_touched-read-requires-clause-buffer g c = c.requires.buffer
+
+pub read_touched-read-requires-clause-room : goal.read_touched-read-requires-clause-room
+read_touched-read-requires-clause-room g c = c.requires.rows
+
+pub unwritten-requires-clause-shape : goal.unwritten-requires-clause-shape
+unwritten-requires-clause-shape g c = force-valid c.args.members.now.newest c.requires.placed.fit c.args.shape.now c.requires.shape
+
+pub unwritten-requires-clause-roles : goal.unwritten-requires-clause-roles
+unwritten-requires-clause-roles g c =
+    roles-left (g.B.Bank.given c.args.bank.now) c.args.members.now c.read_touched-read.new.members c.read_touched-read.result.lost c.read_touched-read.ensures.lost.members c.requires.placed c.args.shape.now c.requires.shape
+
+pub returns-then-is_err-clause-others : goal.returns-then-is_err-clause-others
+returns-then-is_err-clause-others g c told s k other = ap (λ (l : List Operation). present (g.B.Bank.given c.args.bank.now) l s k) (c.read_touched-read.ensures.tape told)
+
+pub returns-then-is_err-clause-stays : goal.returns-then-is_err-clause-stays
+returns-then-is_err-clause-stays g c dirty = ap (λ (x : Members). is_clean x.newest) c.read_touched-read.ensures.lost.members ∙ dirty
+
+pub returns-then-is_err-clause-touched : goal.returns-then-is_err-clause-touched
+returns-then-is_err-clause-touched g c = c.read_touched-read.ensures.touched
+
+pub returns-then-is_err-clause-few : goal.returns-then-is_err-clause-few
+returns-then-is_err-clause-few g c = c.read_touched-read.ensures.few
+
+pub returns-then-is_err-clause-given : goal.returns-then-is_err-clause-given
+returns-then-is_err-clause-given g c = c.read_touched-read.ensures.given
+
+pub returns-then-is_err-clause-counts : goal.returns-then-is_err-clause-counts
+returns-then-is_err-clause-counts g c = c.read_touched-read.ensures.lost.never_falls
+
+pub returns-then-is_err-clause-rows : goal.returns-then-is_err-clause-rows
+returns-then-is_err-clause-rows g c = c.read_touched-read.ensures.capacity
+
+pub returns-then-is_err-clause-buffer : goal.returns-then-is_err-clause-buffer
+returns-then-is_err-clause-buffer g c = c.read_touched-read.ensures.size
+
+pub raise-spares-requires-clause-slots : goal.raise-spares-requires-clause-slots
+raise-spares-requires-clause-slots g c = subst (λ (b : Given). b.slots ≤ 32) (sym c.read_touched-read.ensures.given) c.requires.slots
+
+pub too_many_of-requires-clause-roles : goal.too_many_of-requires-clause-roles
+too_many_of-requires-clause-roles g c =
+    let did = c.raise-spares.ensures.moved in
+    disks-within (g.B.Bank.given c.read_touched-read.new.bank) c.raise-spares.new.members did.placed c.args.shape.now
+    (alike-force c.read_touched-read.new.members.newest c.raise-spares.new.members.newest did.reshape did.shape did.size c.args.shape.now (subst (λ (x : Members). IsInForce x.newest c.args.shape.now) (sym c.read_touched-read.ensures.lost.members) c.requires.shape))
+
+pub returns-clause-refused : goal.returns-clause-refused
+returns-clause-refused g c =
+    lacking-unwritten (DoesWithout c.args.shape.now c.raise-spares.new.members) c.args.shape.now c.args.synced c.raise-spares.new.members c.too_many_of.result c.too_many_of.ensures
+
+pub returns-clause-dirty : goal.returns-clause-dirty
+returns-clause-dirty g c none = c.raise-spares.ensures.dirty
+
+pub returns-clause-stays : goal.returns-clause-stays
+returns-clause-stays g c dirty = c.raise-spares.ensures.dirty
+
+pub returns-clause-touched : goal.returns-clause-touched
+returns-clause-touched g c = c.read_touched-read.ensures.touched
+
+pub returns-clause-few : goal.returns-clause-few
+returns-clause-few g c = c.read_touched-read.ensures.few
+
+pub returns-clause-given : goal.returns-clause-given
+returns-clause-given g c = c.raise-spares.ensures.given ∙ c.read_touched-read.ensures.given
+
+pub returns-clause-rows : goal.returns-clause-rows
+returns-clause-rows g c = c.read_touched-read.ensures.capacity
+
+pub returns-clause-buffer : goal.returns-clause-buffer
+returns-clause-buffer g c = c.read_touched-read.ensures.size

@@ -1,9 +1,9 @@
-use Rattle.std.proofs.Common.{◌≡◌, ◌-◌, ◌<◌, ℕ, List, length, inl, refl, sym, ◌∙◌, ap, subst, arith}
-use Rattle.std.specs.Prelude.{Contains, slice_index, None}
+use Rattle.std.proofs.Common.{◌≡◌, ◌-◌, ◌<◌, ℕ, List, length, inl, refl, sym, ◌∙◌, ap, subst, arith, ◌≤◌, le_trans}
+use Rattle.std.specs.Prelude.{Contains, slice_index, None, ⊤}
 use Rattle.bank.specs.Given.{Given}
 use Rattle.bank.specs.Tape.{disk}
 use Rattle.row_io.specs.Rows.{reading_of, present}
-use Rattle.list_io.specs.Buffers.{buffered, AreStanding, IsTouched}
+use Rattle.list_io.specs.Buffers.{buffered, AreStanding, IsTouched, AreDistinct}
 use Rattle.list_io.specs.Writing.{AreDataFrom}
 use Rattle.safe_updates.specs.shape_views_Regions.{place_by}
 use Rattle.safe_updates.specs.shape_views_Windows.{IsOfRegion}
@@ -21,6 +21,11 @@ use Rattle.safe_updates.proofs.views_SafeStretch.{gone-before, safe-then, allowe
 use Rattle.safe_updates.proofs.RefusingLaws.{many-told}
 use Rattle.safe_updates.specs.Unused.{IsUnusedKept}
 use Rattle.safe_updates.proofs.Unused.{unused-then}
+use Rattle.safe_rows.proofs.CallLaws.{some-none}
+use Rattle.safe_rows.proofs.RefusedLaws.{lacking-unwritten, false-true, true-false, low-enough}
+use mathlib.Core.List.{not-mem-nil}
+use Rattle.safe_updates.specs.views_Placed.{IsPlaced}
+use Rattle.safe_updates.proofs.views_Fit.{alike-force}
 use Rattle.safe_rows.proofs.putting.put.Goals as goal
 
 pub put_rows-done-requires-clause-below : goal.put_rows-done-requires-clause-below
@@ -223,7 +228,7 @@ pub returns-clause-dirty : goal.returns-clause-dirty
 returns-clause-dirty g c = λ ok. c.put_rows-done.ensures.clean ∙ c.prepare-begun.ensures.dirty (none-of c.prepare-begun.result.refusal (sym c.is_some.ensures ∙ c.if-is_some.false))
 
 pub returns-clause-counts : goal.returns-clause-counts
-returns-clause-counts g c = λ s. let one = c.prepare-begun.ensures.counts s in let two = c.put_rows-done.ensures.counts s in omega (arith, one, two)
+returns-clause-counts g c = λ s. le_trans (c.prepare-begun.ensures.counts s) (c.put_rows-done.ensures.counts s)
 
 pub returns-clause-unused : goal.returns-clause-unused
 returns-clause-unused g c = λ told.
@@ -234,3 +239,140 @@ returns-clause-unused g c = λ told.
     let did = c.prepare-begun.ensures in
     unused-then given c.args.members.now n (disk given.start (g.B.Bank.tape c.args.bank.now)) (disk given.start tape1) (disk given.start tape2) did.moved (did.unused told)
     (subst (λ (b : Given). IsUnusedKept n (disk b.start tape1) (disk b.start tape2)) did.given (c.put_rows-done.ensures.unused told))
+
+pub prepare-begun-requires-clause-slots : goal.prepare-begun-requires-clause-slots
+prepare-begun-requires-clause-slots g c = c.requires.slots
+
+pub prepare-begun-requires-clause-placed : goal.prepare-begun-requires-clause-placed
+prepare-begun-requires-clause-placed g c = c.requires.placed
+
+pub prepare-begun-requires-clause-unlost : goal.prepare-begun-requires-clause-unlost
+prepare-begun-requires-clause-unlost g c = c.requires.unlost
+
+pub prepare-begun-requires-clause-free : goal.prepare-begun-requires-clause-free
+prepare-begun-requires-clause-free g c = c.requires.free
+
+pub prepare-begun-requires-clause-shape : goal.prepare-begun-requires-clause-shape
+prepare-begun-requires-clause-shape g c = c.requires.shape
+
+pub prepare-begun-requires-clause-few : goal.prepare-begun-requires-clause-few
+prepare-begun-requires-clause-few g c = c.requires.few
+
+pub prepare-begun-requires-clause-within : goal.prepare-begun-requires-clause-within
+prepare-begun-requires-clause-within g c = c.requires.within
+
+pub prepare-begun-requires-clause-short : goal.prepare-begun-requires-clause-short
+prepare-begun-requires-clause-short g c = c.requires.short
+
+pub prepare-begun-requires-clause-rows : goal.prepare-begun-requires-clause-rows
+prepare-begun-requires-clause-rows g c = c.requires.rows
+
+pub prepare-begun-requires-clause-buffer : goal.prepare-begun-requires-clause-buffer
+prepare-begun-requires-clause-buffer g c = c.requires.buffer
+
+pub is_some-requires : goal.is_some-requires
+is_some-requires g c κs a has = absurd (not-mem-nil has)
+
+pub returns-then-is_some-clause-moved : goal.returns-then-is_some-clause-moved
+returns-then-is_some-clause-moved g c = c.prepare-begun.ensures.moved
+
+pub returns-then-is_some-clause-failed : goal.returns-then-is_some-clause-failed
+returns-then-is_some-clause-failed g c = c.prepare-begun.ensures.failed
+
+pub returns-then-is_some-clause-refused : goal.returns-then-is_some-clause-refused
+returns-then-is_some-clause-refused g c = c.prepare-begun.ensures.refused
+
+pub returns-then-is_some-clause-first : goal.returns-then-is_some-clause-first
+returns-then-is_some-clause-first g c = c.prepare-begun.ensures.first
+
+pub returns-then-is_some-clause-grows : goal.returns-then-is_some-clause-grows
+returns-then-is_some-clause-grows g c = c.prepare-begun.ensures.grows
+
+pub returns-then-is_some-clause-stays : goal.returns-then-is_some-clause-stays
+returns-then-is_some-clause-stays g c = c.prepare-begun.ensures.stays
+
+pub returns-then-is_some-clause-unused : goal.returns-then-is_some-clause-unused
+returns-then-is_some-clause-unused g c = c.prepare-begun.ensures.unused
+
+pub returns-then-is_some-clause-rise : goal.returns-then-is_some-clause-rise
+returns-then-is_some-clause-rise g c = c.prepare-begun.ensures.rise
+
+pub returns-then-is_some-clause-given : goal.returns-then-is_some-clause-given
+returns-then-is_some-clause-given g c = c.prepare-begun.ensures.given
+
+pub returns-then-is_some-clause-counts : goal.returns-then-is_some-clause-counts
+returns-then-is_some-clause-counts g c = c.prepare-begun.ensures.counts
+
+pub returns-then-is_some-clause-rows : goal.returns-then-is_some-clause-rows
+returns-then-is_some-clause-rows g c = c.prepare-begun.ensures.rows
+
+pub returns-then-is_some-clause-buffer : goal.returns-then-is_some-clause-buffer
+returns-then-is_some-clause-buffer g c = c.prepare-begun.ensures.buffer
+
+pub returns-then-is_some-clause-dirty : goal.returns-then-is_some-clause-dirty
+returns-then-is_some-clause-dirty g c = c.prepare-begun.ensures.dirty
+
+pub returns-then-is_some-clause-torn : goal.returns-then-is_some-clause-torn
+returns-then-is_some-clause-torn g c begun = false-true begun
+
+pub returns-then-is_some-clause-put : goal.returns-then-is_some-clause-put
+returns-then-is_some-clause-put g c none told list list' w stands = absurd (some-none c.prepare-begun.result.refusal (sym c.is_some.ensures ∙ c.if-is_some.true) none)
+
+pub returns-then-is_some-clause-good : goal.returns-then-is_some-clause-good
+returns-then-is_some-clause-good g c none told = absurd (some-none c.prepare-begun.result.refusal (sym c.is_some.ensures ∙ c.if-is_some.true) none)
+
+pub returns-then-is_some-clause-rebuilt : goal.returns-then-is_some-clause-rebuilt
+returns-then-is_some-clause-rebuilt g c none told = absurd (some-none c.prepare-begun.result.refusal (sym c.is_some.ensures ∙ c.if-is_some.true) none)
+
+pub returns-then-is_some-clause-untouched : goal.returns-then-is_some-clause-untouched
+returns-then-is_some-clause-untouched g c begun = c.prepare-begun.ensures.others
+
+pub put_rows-done-requires-clause-slots : goal.put_rows-done-requires-clause-slots
+put_rows-done-requires-clause-slots g c = subst (λ (b : Given). b.slots ≤ 32) (sym c.prepare-begun.ensures.given) c.requires.slots
+
+pub put_rows-done-requires-clause-placed : goal.put_rows-done-requires-clause-placed
+put_rows-done-requires-clause-placed g c = subst (λ (b : Given). IsPlaced b c.prepare-begun.new.members) (sym c.prepare-begun.ensures.given) c.prepare-begun.ensures.moved.placed
+
+pub put_rows-done-requires-clause-unlost : goal.put_rows-done-requires-clause-unlost
+put_rows-done-requires-clause-unlost g c = c.prepare-begun.ensures.moved.unlost
+
+pub put_rows-done-requires-clause-shape : goal.put_rows-done-requires-clause-shape
+put_rows-done-requires-clause-shape g c =
+    let did = c.prepare-begun.ensures.moved in
+    alike-force c.args.members.now.newest c.prepare-begun.new.members.newest did.reshape did.shape did.size c.args.shape.now c.requires.shape
+
+pub put_rows-done-requires-clause-from : goal.put_rows-done-requires-clause-from
+put_rows-done-requires-clause-from g c = c.requires.from
+
+pub put_rows-done-requires-clause-short : goal.put_rows-done-requires-clause-short
+put_rows-done-requires-clause-short g c = low-enough c.args.first c.args.count _ c.requires.short c.requires.from_few
+
+pub put_rows-done-requires-clause-once : goal.put_rows-done-requires-clause-once
+put_rows-done-requires-clause-once g c = subst (λ (l : List ℕ). AreDistinct l) (sym c.as_slice.ensures.value) c.prepare-begun.ensures.touched.once
+
+pub put_rows-done-requires-clause-few : goal.put_rows-done-requires-clause-few
+put_rows-done-requires-clause-few g c = le_trans (subst (λ (l : List ℕ). length l ≤ c.args.count) (sym c.as_slice.ensures.value) c.prepare-begun.ensures.few) c.requires.few
+
+pub put_rows-done-requires-clause-buffer : goal.put_rows-done-requires-clause-buffer
+put_rows-done-requires-clause-buffer g c = subst (λ (n : ℕ). 1048576 ≤ n) (sym c.prepare-begun.ensures.buffer) c.requires.buffer
+
+pub returns-clause-refused : goal.returns-clause-refused
+returns-clause-refused g c = lacking-unwritten ⊤ c.args.shape.now c.args.synced c.put_rows-done.new.members c.put_rows-done.result.refusal c.put_rows-done.ensures.refused
+
+pub returns-clause-torn : goal.returns-clause-torn
+returns-clause-torn g c begun = c.put_rows-done.ensures.refused
+
+pub returns-clause-stays : goal.returns-clause-stays
+returns-clause-stays g c dirty = c.put_rows-done.ensures.clean ∙ c.prepare-begun.ensures.stays dirty
+
+pub returns-clause-untouched : goal.returns-clause-untouched
+returns-clause-untouched g c begun = true-false begun
+
+pub returns-clause-given : goal.returns-clause-given
+returns-clause-given g c = c.put_rows-done.ensures.given ∙ c.prepare-begun.ensures.given
+
+pub returns-clause-rows : goal.returns-clause-rows
+returns-clause-rows g c = c.prepare-begun.ensures.rows
+
+pub returns-clause-buffer : goal.returns-clause-buffer
+returns-clause-buffer g c = c.put_rows-done.ensures.size ∙ c.prepare-begun.ensures.buffer

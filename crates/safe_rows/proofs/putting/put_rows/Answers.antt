@@ -1,14 +1,18 @@
-use Rattle.std.proofs.Common.{◌<◌, ℕ, refl, sym, ◌∙◌, subst, arith}
+use Rattle.std.proofs.Common.{◌-◌, ◌<◌, ◌≤◌, ℕ, refl, sym, ◌∙◌, subst, arith, le_trans, le_antisymm}
+use mathlib.Core.List.{not-mem-nil}
 use Rattle.bank.specs.Given.{Given}
 use Rattle.bank.specs.Tape.{disk}
-use Rattle.row_io.specs.Rows.{present}
+use Rattle.row_io.specs.Rows.{present, reading_of}
+use Rattle.list_io.specs.Buffers.{buffered, AreStanding}
+use Rattle.safe_updates.specs.views_Placed.{IsPlaced}
 use Rattle.safe_updates.specs.views_Moving.{IsMoved}
 use Rattle.safe_updates.specs.views_Rebuilding.{AreSparesFree}
 use Rattle.safe_updates.specs.views_Lacking.{AreRowsWritten}
 use Rattle.safe_updates.proofs.views_MovedLaws.{moved-then, moved-same, grows-none, grows-then, moved-from}
 use Rattle.safe_updates.proofs.views_LackingLaws.{since-same, since-then, in-either}
 use Rattle.safe_updates.proofs.views_LackingWrites.{written-then}
-use Rattle.std.specs.Prelude.{Contains}
+use Rattle.std.specs.Prelude.{Contains, slice_index}
+use Rattle.safe_updates.proofs.views_LackingLists.{none-of}
 use Rattle.safe_updates.proofs.views_Fit.{force-valid, alike-force}
 use Rattle.safe_updates.specs.flat_history_Sound.{OpensFit}
 use Rattle.safe_updates.proofs.views_LackingWrites.{data-later}
@@ -16,6 +20,7 @@ use Rattle.safe_updates.proofs.shape_changes_Risen.{risen-none, risen-then, room
 use Rattle.safe_updates.proofs.views_SafeStretch.{gone-before, safe-none, safe-then, allowed-later, zeros-later, region-later, grows-longer, over-at, keeps-from}
 use Rattle.safe_updates.specs.Unused.{IsUnusedKept}
 use Rattle.safe_updates.proofs.Unused.{unused-then}
+use Rattle.safe_rows.proofs.CallLaws.{some-none}
 use Rattle.safe_rows.proofs.putting.put_rows.Goals as goal
 
 pub loop-next-init : goal.loop-next-init
@@ -168,3 +173,103 @@ returns-then-is_some-clause-unused g c = λ told.
     let tape2 = g.B.Bank.tape c.put_stretch-one.new.bank in
     unused-then given c.args.members.now n (disk given.start (g.B.Bank.tape c.args.bank.now)) (disk given.start tape1) (disk given.start tape2) was.moved (was.unused told)
     (subst (λ (b : Given). IsUnusedKept n (disk b.start tape1) (disk b.start tape2)) was.given (c.put_stretch-one.ensures.unused told))
+
+-- ---- what the searches would find too, for longer
+
+-- a row further on is nearer to the end
+nearer : (n i j : ℕ) → i < n → i < j → n - j < n - i
+nearer n i j low further = omega arith
+
+pub put_stretch-one-requires-clause-slots : goal.put_stretch-one-requires-clause-slots
+put_stretch-one-requires-clause-slots g c = subst (λ (b : Given). b.slots ≤ 32) (sym c.loop-next.invariant.given) c.requires.slots
+
+pub put_stretch-one-requires-clause-placed : goal.put_stretch-one-requires-clause-placed
+put_stretch-one-requires-clause-placed g c = subst (λ (b : Given). IsPlaced b c.loop-next.members) (sym c.loop-next.invariant.given) c.loop-next.invariant.moved.placed
+
+pub put_stretch-one-requires-clause-unlost : goal.put_stretch-one-requires-clause-unlost
+put_stretch-one-requires-clause-unlost g c = c.loop-next.invariant.moved.unlost
+
+pub put_stretch-one-requires-clause-buffer : goal.put_stretch-one-requires-clause-buffer
+put_stretch-one-requires-clause-buffer g c = subst (λ (n : ℕ). 1048576 ≤ n) (sym c.loop-next.invariant.size) c.requires.buffer
+
+pub put_stretch-one-requires-clause-standing : goal.put_stretch-one-requires-clause-standing
+put_stretch-one-requires-clause-standing g c told i low lt =
+    subst (λ (b : Given). AreStanding (reading_of c.loop-next.members) (present b (g.B.Bank.tape c.loop-next.bank)) c.args.shape.now (slice_index c.args.rows.now i) (buffered c.loop-next.buffer.items i))
+    (sym c.loop-next.invariant.given) ((c.loop-next.invariant.written told).standing i low lt)
+
+pub is_some-requires : goal.is_some-requires
+is_some-requires g c κs a has = absurd (not-mem-nil has)
+
+pub returns-then-is_some-clause-grows : goal.returns-then-is_some-clause-grows
+returns-then-is_some-clause-grows g c = grows-then c.loop-next.invariant.grows c.put_stretch-one.ensures.grows
+
+pub returns-then-is_some-clause-done : goal.returns-then-is_some-clause-done
+returns-then-is_some-clause-done g c none = some-none c.put_stretch-one.result.refusal (sym c.is_some.ensures ∙ c.if-is_some.true) none
+
+pub returns-then-is_some-clause-clean : goal.returns-then-is_some-clause-clean
+returns-then-is_some-clause-clean g c = c.put_stretch-one.ensures.clean ∙ c.loop-next.invariant.clean
+
+pub returns-then-is_some-clause-kept : goal.returns-then-is_some-clause-kept
+returns-then-is_some-clause-kept g c whole = c.put_stretch-one.ensures.kept whole ∙ c.loop-next.invariant.kept (c.put_stretch-one.ensures.moved.whole whole)
+
+pub returns-then-is_some-clause-given : goal.returns-then-is_some-clause-given
+returns-then-is_some-clause-given g c = c.put_stretch-one.ensures.given ∙ c.loop-next.invariant.given
+
+pub returns-then-is_some-clause-counts : goal.returns-then-is_some-clause-counts
+returns-then-is_some-clause-counts g c s = le_trans (c.loop-next.invariant.counts s) (c.put_stretch-one.ensures.counts s)
+
+pub returns-then-is_some-clause-size : goal.returns-then-is_some-clause-size
+returns-then-is_some-clause-size g c = c.put_stretch-one.ensures.size ∙ c.loop-next.invariant.size
+
+pub loop-next-smaller : goal.loop-next-smaller
+loop-next-smaller g c =
+    nearer _ c.loop-next.next c.put_stretch-one.result.next c.loop-next-test.true
+    (c.put_stretch-one.ensures.further (none-of c.put_stretch-one.result.refusal (sym c.is_some.ensures ∙ c.if-is_some.false)) c.loop-next-test.true)
+
+pub returns-clause-done : goal.returns-clause-done
+returns-clause-done g c none = le_antisymm c.loop-next.invariant.within c.loop-next-test.false
+
+pub put_stretch-one-requires-clause-once : goal.put_stretch-one-requires-clause-once
+put_stretch-one-requires-clause-once g c = c.requires.once
+
+pub put_stretch-one-requires-clause-from : goal.put_stretch-one-requires-clause-from
+put_stretch-one-requires-clause-from g c = c.requires.from
+
+pub put_stretch-one-requires-clause-few : goal.put_stretch-one-requires-clause-few
+put_stretch-one-requires-clause-few g c = c.requires.few
+
+pub put_stretch-one-requires-clause-short : goal.put_stretch-one-requires-clause-short
+put_stretch-one-requires-clause-short g c = c.requires.short
+
+pub returns-then-is_some-clause-refused : goal.returns-then-is_some-clause-refused
+returns-then-is_some-clause-refused g c = c.put_stretch-one.ensures.refused
+
+pub returns-then-is_some-clause-within : goal.returns-then-is_some-clause-within
+returns-then-is_some-clause-within g c = c.put_stretch-one.ensures.within
+
+pub returns-clause-moved : goal.returns-clause-moved
+returns-clause-moved g c = c.loop-next.invariant.moved
+
+pub returns-clause-failed : goal.returns-clause-failed
+returns-clause-failed g c = c.loop-next.invariant.failed
+
+pub returns-clause-written : goal.returns-clause-written
+returns-clause-written g c = c.loop-next.invariant.written
+
+pub returns-clause-clean : goal.returns-clause-clean
+returns-clause-clean g c = c.loop-next.invariant.clean
+
+pub returns-clause-kept : goal.returns-clause-kept
+returns-clause-kept g c = c.loop-next.invariant.kept
+
+pub returns-clause-unused : goal.returns-clause-unused
+returns-clause-unused g c = c.loop-next.invariant.unused
+
+pub returns-clause-safe : goal.returns-clause-safe
+returns-clause-safe g c = c.loop-next.invariant.safe
+
+pub returns-clause-counts : goal.returns-clause-counts
+returns-clause-counts g c = c.loop-next.invariant.counts
+
+pub returns-clause-size : goal.returns-clause-size
+returns-clause-size g c = c.loop-next.invariant.size

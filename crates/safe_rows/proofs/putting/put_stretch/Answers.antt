@@ -1,4 +1,4 @@
-use Rattle.std.proofs.Common.{refl, sym, ◌∙◌, subst, arith}
+use Rattle.std.proofs.Common.{refl, sym, ◌∙◌, subst, ◌≤◌, le_trans}
 use Rattle.bank.specs.Given.{Given}
 use Rattle.bank.specs.Tape.{disk}
 use Rattle.row_io.specs.Rows.{present}
@@ -12,6 +12,9 @@ use Rattle.safe_updates.specs.flat_history_Sound.{OpensFit}
 use Rattle.safe_updates.proofs.shape_changes_Risen.{risen-then, room-then}
 use Rattle.safe_updates.proofs.views_SafeStretch.{safe-then, over-at, keeps-from}
 use Rattle.safe_updates.proofs.Unused.{rest-unused, unused-then}
+use mathlib.Core.List.{not-mem-nil}
+use Rattle.safe_updates.specs.views_Placed.{IsPlaced}
+use Rattle.safe_updates.proofs.views_LackingLists.{none-of}
 use Rattle.safe_rows.proofs.putting.put_stretch.Goals as goal
 
 pub name_missing-spares-requires-clause-free : goal.name_missing-spares-requires-clause-free
@@ -78,7 +81,7 @@ returns-clause-kept g c = λ whole.
     c.name_missing-spares.ensures.kept mid ∙ c.write_stretch-next.ensures.kept mid
 
 pub returns-clause-counts : goal.returns-clause-counts
-returns-clause-counts g c = λ s. let one = c.write_stretch-next.ensures.counts s in let two = c.name_missing-spares.ensures.counts s in omega (arith, one, two)
+returns-clause-counts g c = λ s. le_trans (c.write_stretch-next.ensures.counts s) (c.name_missing-spares.ensures.counts s)
 
 pub returns-clause-unused : goal.returns-clause-unused
 returns-clause-unused g c = λ told.
@@ -91,3 +94,90 @@ returns-clause-unused g c = λ told.
     subst (λ (b : Given). IsRestKept n (disk b.start tape1) (disk b.start tape2)) did.given (c.name_missing-spares.ensures.rest told) in
     unused-then given c.args.members.now n (disk given.start (g.B.Bank.tape c.args.bank.now)) (disk given.start tape1) (disk given.start tape2) did.moved (did.unused told)
     (rest-unused n (disk given.start tape1) (disk given.start tape2) named)
+
+pub write_stretch-next-requires-clause-below : goal.write_stretch-next-requires-clause-below
+write_stretch-next-requires-clause-below g c = c.requires.below
+
+pub write_stretch-next-requires-clause-once : goal.write_stretch-next-requires-clause-once
+write_stretch-next-requires-clause-once g c = c.requires.once
+
+pub write_stretch-next-requires-clause-from : goal.write_stretch-next-requires-clause-from
+write_stretch-next-requires-clause-from g c = c.requires.from
+
+pub write_stretch-next-requires-clause-standing : goal.write_stretch-next-requires-clause-standing
+write_stretch-next-requires-clause-standing g c = c.requires.standing
+
+pub is_some-requires : goal.is_some-requires
+is_some-requires g c κs a has = absurd (not-mem-nil has)
+
+pub returns-then-is_some-clause-moved : goal.returns-then-is_some-clause-moved
+returns-then-is_some-clause-moved g c = c.write_stretch-next.ensures.moved
+
+pub returns-then-is_some-clause-failed : goal.returns-then-is_some-clause-failed
+returns-then-is_some-clause-failed g c = c.write_stretch-next.ensures.failed
+
+pub returns-then-is_some-clause-refused : goal.returns-then-is_some-clause-refused
+returns-then-is_some-clause-refused g c = c.write_stretch-next.ensures.refused
+
+pub returns-then-is_some-clause-grows : goal.returns-then-is_some-clause-grows
+returns-then-is_some-clause-grows g c = c.write_stretch-next.ensures.grows
+
+pub returns-then-is_some-clause-written : goal.returns-then-is_some-clause-written
+returns-then-is_some-clause-written g c = c.write_stretch-next.ensures.written
+
+pub returns-then-is_some-clause-reached : goal.returns-then-is_some-clause-reached
+returns-then-is_some-clause-reached g c = c.write_stretch-next.ensures.reached
+
+pub returns-then-is_some-clause-within : goal.returns-then-is_some-clause-within
+returns-then-is_some-clause-within g c = c.write_stretch-next.ensures.within
+
+pub returns-then-is_some-clause-further : goal.returns-then-is_some-clause-further
+returns-then-is_some-clause-further g c = c.write_stretch-next.ensures.further
+
+pub returns-then-is_some-clause-clean : goal.returns-then-is_some-clause-clean
+returns-then-is_some-clause-clean g c = c.write_stretch-next.ensures.clean
+
+pub returns-then-is_some-clause-kept : goal.returns-then-is_some-clause-kept
+returns-then-is_some-clause-kept g c = c.write_stretch-next.ensures.kept
+
+pub returns-then-is_some-clause-unused : goal.returns-then-is_some-clause-unused
+returns-then-is_some-clause-unused g c = c.write_stretch-next.ensures.unused
+
+pub returns-then-is_some-clause-rise : goal.returns-then-is_some-clause-rise
+returns-then-is_some-clause-rise g c = c.write_stretch-next.ensures.rise
+
+pub returns-then-is_some-clause-given : goal.returns-then-is_some-clause-given
+returns-then-is_some-clause-given g c = c.write_stretch-next.ensures.given
+
+pub returns-then-is_some-clause-counts : goal.returns-then-is_some-clause-counts
+returns-then-is_some-clause-counts g c = c.write_stretch-next.ensures.counts
+
+pub returns-then-is_some-clause-size : goal.returns-then-is_some-clause-size
+returns-then-is_some-clause-size g c = c.write_stretch-next.ensures.size
+
+pub name_missing-spares-requires-clause-slots : goal.name_missing-spares-requires-clause-slots
+name_missing-spares-requires-clause-slots g c = subst (λ (b : Given). b.slots ≤ 32) (sym c.write_stretch-next.ensures.given) c.requires.slots
+
+pub name_missing-spares-requires-clause-placed : goal.name_missing-spares-requires-clause-placed
+name_missing-spares-requires-clause-placed g c = subst (λ (b : Given). IsPlaced b c.write_stretch-next.new.members) (sym c.write_stretch-next.ensures.given) c.write_stretch-next.ensures.moved.placed
+
+pub name_missing-spares-requires-clause-unlost : goal.name_missing-spares-requires-clause-unlost
+name_missing-spares-requires-clause-unlost g c = c.write_stretch-next.ensures.moved.unlost
+
+pub returns-clause-reached : goal.returns-clause-reached
+returns-clause-reached g c = c.write_stretch-next.ensures.reached
+
+pub returns-clause-within : goal.returns-clause-within
+returns-clause-within g c = c.write_stretch-next.ensures.within
+
+pub returns-clause-size : goal.returns-clause-size
+returns-clause-size g c = c.write_stretch-next.ensures.size
+
+pub returns-clause-further : goal.returns-clause-further
+returns-clause-further g c none low = c.write_stretch-next.ensures.further (none-of c.write_stretch-next.result.refusal (sym c.is_some.ensures ∙ c.if-is_some.false)) low
+
+pub returns-clause-clean : goal.returns-clause-clean
+returns-clause-clean g c = c.name_missing-spares.ensures.clean ∙ c.write_stretch-next.ensures.clean
+
+pub returns-clause-given : goal.returns-clause-given
+returns-clause-given g c = c.name_missing-spares.ensures.given ∙ c.write_stretch-next.ensures.given

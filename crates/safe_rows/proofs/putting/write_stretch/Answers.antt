@@ -1,6 +1,6 @@
 use Rattle.std.specs.Prelude.{MatchOption, ⊤, Option}
 use Rattle.md_base.specs.declared.answers.Refusal.{Refusal}
-use Rattle.std.proofs.Common.{inl, inr, List, sym, subst}
+use Rattle.std.proofs.Common.{inl, inr, List, sym, subst, ap}
 use Rattle.bank.specs.Given.{Given}
 use Rattle.bank.specs.Tape.{IsIn}
 use Rattle.md_base.specs.Sectors.{Sector}
@@ -12,12 +12,15 @@ use Rattle.safe_updates.proofs.views_MemberLaws.{are_lost}
 use Rattle.safe_updates.proofs.views_MovedLaws.{moved-lost, lost-none}
 use Rattle.safe_updates.proofs.views_MarkedLaws.{grows-marks}
 use Rattle.safe_updates.proofs.views_LackingLaws.{since-lost, too-many-answer}
-use Rattle.safe_updates.proofs.views_Fit.{has-rows}
+use Rattle.safe_updates.proofs.views_Fit.{has-rows, force-valid}
 use Rattle.safe_updates.proofs.views_LackingWrites.{list-in, list-in-is, list-with, list-with-is}
 use Rattle.safe_updates.specs.flat_history_Sound.{OpensFit}
 use Rattle.safe_updates.proofs.shape_changes_Risen.{risen-lost}
 use Rattle.safe_updates.proofs.views_SafeStretch.{safe-put}
 use Rattle.safe_updates.proofs.Unused.{unused-role}
+use Rattle.safe_rows.proofs.CallLaws.{roles-left}
+use Rattle.superblocks.specs.declared.members.Members.{Members}
+use Rattle.superblocks.specs.Reading.{is_clean}
 use Rattle.safe_rows.proofs.putting.write_stretch.Goals as goal
 
 pub write_touched-written-requires-clause-rows : goal.write_touched-written-requires-clause-rows
@@ -120,3 +123,46 @@ returns-clause-unused g c = λ told s k v unused may.
       | inl same ↦ subst (λ (l : List Sector). IsIn l v) same may
       | inr at ↦ absurd (unused-role (g.B.Bank.given c.args.bank.now) c.args.members.now c.requires.placed s unused at.role at.held)
     ]
+
+pub refused_by-refusal-requires-clause-shape : goal.refused_by-refusal-requires-clause-shape
+refused_by-refusal-requires-clause-shape g c = force-valid c.args.members.now.newest c.requires.placed.fit c.args.shape.now c.requires.shape
+
+pub refused_by-refusal-requires-clause-roles : goal.refused_by-refusal-requires-clause-roles
+refused_by-refusal-requires-clause-roles g c =
+    roles-left (g.B.Bank.given c.args.bank.now) c.args.members.now c.write_touched-written.new.members c.write_touched-written.result.lost c.write_touched-written.ensures.lost.members c.requires.placed c.args.shape.now c.requires.shape
+
+pub write_touched-written-requires-clause-below : goal.write_touched-written-requires-clause-below
+write_touched-written-requires-clause-below g c = c.requires.below
+
+pub write_touched-written-requires-clause-once : goal.write_touched-written-requires-clause-once
+write_touched-written-requires-clause-once g c = c.requires.once
+
+pub write_touched-written-requires-clause-from : goal.write_touched-written-requires-clause-from
+write_touched-written-requires-clause-from g c = c.requires.from
+
+pub write_touched-written-requires-clause-standing : goal.write_touched-written-requires-clause-standing
+write_touched-written-requires-clause-standing g c = c.requires.standing
+
+pub write_touched-written-requires-clause-behind : goal.write_touched-written-requires-clause-behind
+write_touched-written-requires-clause-behind g c = c.requires.placed.behind
+
+pub write_touched-written-requires-clause-apart : goal.write_touched-written-requires-clause-apart
+write_touched-written-requires-clause-apart g c = c.requires.placed.apart
+
+pub returns-clause-reached : goal.returns-clause-reached
+returns-clause-reached g c = c.write_touched-written.ensures.reached
+
+pub returns-clause-within : goal.returns-clause-within
+returns-clause-within g c = c.write_touched-written.ensures.within
+
+pub returns-clause-given : goal.returns-clause-given
+returns-clause-given g c = c.write_touched-written.ensures.given
+
+pub returns-clause-size : goal.returns-clause-size
+returns-clause-size g c = c.write_touched-written.ensures.size
+
+pub returns-clause-counts : goal.returns-clause-counts
+returns-clause-counts g c = c.write_touched-written.ensures.lost.never_falls
+
+pub returns-clause-clean : goal.returns-clause-clean
+returns-clause-clean g c = ap (λ (x : Members). is_clean x.newest) c.write_touched-written.ensures.lost.members

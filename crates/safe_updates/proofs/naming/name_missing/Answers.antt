@@ -14,6 +14,8 @@ use Rattle.safe_updates.proofs.RolesNamed.{unnamed-named}
 use Rattle.views.proofs.MarkedSafe.{same-markable}
 use Rattle.views.proofs.SafeStretch.{safe-none}
 use Rattle.views.proofs.LackingWrites.{marks-here}
+use Rattle.views.proofs.MovedLaws.{moved-same, grows-none}
+use Rattle.views.proofs.LackingLaws.{since-same}
 use Rattle.safe_updates.proofs.naming.name_missing.Goals as goal
 
 pub returns-then-not-has_unnamed-clause-safe : goal.returns-then-not-has_unnamed-clause-safe
@@ -60,3 +62,67 @@ returns-clause-tape g c = λ whole tell. none-vacant c.args.members.now whole (c
 
 pub returns-then-not-has_unnamed-clause-rest : goal.returns-then-not-has_unnamed-clause-rest
 returns-then-not-has_unnamed-clause-rest g c = λ tell s k v why may. may
+
+pub mark_members-requires-clause-slots : goal.mark_members-requires-clause-slots
+mark_members-requires-clause-slots g c = c.requires.slots
+
+pub mark_members-requires-clause-placed : goal.mark_members-requires-clause-placed
+mark_members-requires-clause-placed g c = c.requires.placed
+
+pub mark_members-requires-clause-unlost : goal.mark_members-requires-clause-unlost
+mark_members-requires-clause-unlost g c = c.requires.unlost
+
+pub mark_members-requires-clause-free : goal.mark_members-requires-clause-free
+mark_members-requires-clause-free g c = c.requires.free
+
+pub returns-then-not-has_unnamed-clause-moved : goal.returns-then-not-has_unnamed-clause-moved
+returns-then-not-has_unnamed-clause-moved g c =
+    moved-same (g.B.Bank.given c.args.bank.now) (g.B.Bank.given c.args.bank.now) c.args.members.now c.args.members.now refl refl c.requires.placed c.requires.unlost
+
+pub returns-then-not-has_unnamed-clause-failed : goal.returns-then-not-has_unnamed-clause-failed
+returns-then-not-has_unnamed-clause-failed g c = since-same c.args.members.now (g.B.Bank.faults_of c.args.bank.now) (g.B.Bank.faults_of c.args.bank.now)
+
+pub returns-then-not-has_unnamed-clause-grows : goal.returns-then-not-has_unnamed-clause-grows
+returns-then-not-has_unnamed-clause-grows g c = grows-none (λ told. refl)
+
+pub returns-then-not-has_unnamed-clause-others : goal.returns-then-not-has_unnamed-clause-others
+returns-then-not-has_unnamed-clause-others g c told s k other = refl
+
+pub returns-then-not-has_unnamed-clause-flushed : goal.returns-then-not-has_unnamed-clause-flushed
+returns-then-not-has_unnamed-clause-flushed g c told flushed = flushed
+
+pub returns-clause-moved : goal.returns-clause-moved
+returns-clause-moved g c = c.mark_members.ensures.moved
+
+pub returns-clause-failed : goal.returns-clause-failed
+returns-clause-failed g c = c.mark_members.ensures.failed
+
+pub returns-clause-grows : goal.returns-clause-grows
+returns-clause-grows g c = c.mark_members.ensures.grows
+
+pub returns-clause-others : goal.returns-clause-others
+returns-clause-others g c = c.mark_members.ensures.others
+
+pub returns-clause-flushed : goal.returns-clause-flushed
+returns-clause-flushed g c = c.mark_members.ensures.flushed
+
+pub returns-clause-missing : goal.returns-clause-missing
+returns-clause-missing g c = c.mark_members.ensures.missing
+
+pub returns-clause-rest : goal.returns-clause-rest
+returns-clause-rest g c = c.mark_members.ensures.rest
+
+pub returns-clause-data : goal.returns-clause-data
+returns-clause-data g c = c.mark_members.ensures.data
+
+pub returns-clause-rise : goal.returns-clause-rise
+returns-clause-rise g c = c.mark_members.ensures.rise
+
+pub returns-clause-given : goal.returns-clause-given
+returns-clause-given g c = c.mark_members.ensures.given
+
+pub returns-clause-counts : goal.returns-clause-counts
+returns-clause-counts g c = c.mark_members.ensures.counts
+
+pub returns-clause-clean : goal.returns-clause-clean
+returns-clause-clean g c = c.mark_members.ensures.clean ∙ c.is_clean-clean.ensures

@@ -1,4 +1,4 @@
-use Rattle.std.proofs.Common.{refl, sym, ◌∙◌, ap, subst, arith, inl, inr, ⊎_elim}
+use Rattle.std.proofs.Common.{refl, sym, ◌∙◌, ap, subst, arith, inl, inr, ⊎_elim, ◌≤◌, le_trans}
 use Rattle.bank.specs.Given.{Given}
 use Rattle.bank.specs.Tape.{Contents, disk}
 use Rattle.superblocks.specs.Reading.{is_clean}
@@ -198,3 +198,21 @@ returns-clause-rest g c = λ tell s k v why may.
     subst (λ (b : Given). IsRestKept c.lose_slots.new.members (disk b.start tape1) (disk b.start tape2)) did1.given (c.name_missing.ensures.rest tell) in
     flushed-fewer given.start tape0 tape1 (did1.tape tell) s k v (rest s k v (⊎_elim (λ other. inl other) (λ idle. inr (
     subst (λ (n : Members). IsIdle n s) (sym c.lose_slots.ensures) (idle-without m c.flush_members-failed.result s idle))) why) may)
+
+pub flush_members-failed-requires-clause-slots : goal.flush_members-failed-requires-clause-slots
+flush_members-failed-requires-clause-slots g c = c.requires.slots
+
+pub flush_members-failed-requires-clause-placed : goal.flush_members-failed-requires-clause-placed
+flush_members-failed-requires-clause-placed g c = c.requires.placed
+
+pub name_missing-requires-clause-slots : goal.name_missing-requires-clause-slots
+name_missing-requires-clause-slots g c = subst (λ (b : Given). b.slots ≤ 32) (sym c.flush_members-failed.ensures.given) c.requires.slots
+
+pub returns-clause-missing : goal.returns-clause-missing
+returns-clause-missing g c = c.name_missing.ensures.missing
+
+pub returns-clause-given : goal.returns-clause-given
+returns-clause-given g c = c.name_missing.ensures.given ∙ c.flush_members-failed.ensures.given
+
+pub returns-clause-counts : goal.returns-clause-counts
+returns-clause-counts g c s = le_trans (c.flush_members-failed.ensures.counts.never_falls s) (c.name_missing.ensures.counts s)

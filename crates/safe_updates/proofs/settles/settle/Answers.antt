@@ -1,5 +1,5 @@
-use Rattle.std.proofs.Common.{◌≡◌, inl, ◌||◌, Bool, true, false, refl, sym, ◌∙◌, ap, subst}
-use Rattle.std.specs.Prelude.{Option, Some, None, MatchOption, is_some}
+use Rattle.std.proofs.Common.{◌≡◌, inl, ◌||◌, Bool, true, false, refl, sym, ◌∙◌, ap, subst, ◌≤◌, le_trans}
+use Rattle.std.specs.Prelude.{Option, Some, None, MatchOption, is_some, ⊤}
 use Rattle.md_base.specs.declared.answers.Refusal.{Refusal}
 use Rattle.bank.specs.Given.{Given}
 use Rattle.bank.specs.Tape.{disk}
@@ -21,8 +21,10 @@ use Rattle.views.proofs.SafeStretch.{gone-before, safe-then, allowed-later, grow
 use Rattle.safe_updates.proofs.SettledSafe.{settled-safe, clean-settled}
 use Rattle.superblocks.specs.declared.members.Members.{Members}
 use Rattle.row_io.specs.Rows.{reading_of, present}
-use Rattle.views.proofs.MovedLaws.{moved-then, moved-from}
+use Rattle.views.proofs.MovedLaws.{moved-then, moved-from, grows-then}
 use Rattle.views.proofs.LackingLaws.{since-then, in-either, holders-fewer, holders-at}
+use Rattle.views.specs.Placed.{IsPlaced}
+use Rattle.views.specs.shape_changes_Marking.{AreOthersPresent}
 use Rattle.safe_updates.proofs.settles.settle.Goals as goal
 
 pub mark_members-marked-requires-clause-free : goal.mark_members-marked-requires-clause-free
@@ -79,6 +81,31 @@ returns-clause-unused g c = λ told.
 without-none : (m : Members) (refusal : Option Refusal) → MatchOption refusal (DoWithout m) (AreTooMany m) → refusal ≡ None → DoWithout m
 without-none m refusal is none = subst (λ (o : Option Refusal). MatchOption o (DoWithout m) (AreTooMany m)) none is
 
+-- of three tests one of which holds the second does, where the others fail
+still : (a b c : Bool) → ((a || b) || c) ≡ true → a ≡ false → c ≡ false → b ≡ true
+still true b c e f h = absurd (cc)
+still false true c e f h = refl
+still false false true e f h = absurd (cc)
+still false false false e f h = absurd (cc)
+
+synced : (b : Bool) → (b ≡ true → false ≡ true) → b ≡ false
+synced true e = absurd (let no = e refl in cc)
+synced false e = refl
+
+-- none is refused, where the tests fail
+none-there : (o : Option Refusal) (a b d : Bool) → a ≡ is_some o → ((a || b) || d) ≡ false → o ≡ None
+none-there o true b d is e = absurd (cc)
+none-there None false b d is e = refl
+none-there (Some refusal) false b d is e = absurd (cc)
+
+-- what is said of a refusal is said where nothing is said of none
+told-only : (P : Type 0) (Q : Refusal → Type 0) (o : Option Refusal) → MatchOption o P Q → MatchOption o ⊤ Q
+told-only P Q None is = tt
+told-only P Q (Some refusal) is = is
+
+true-false : {X : Type 0} → true ≡ false → X
+true-false is = absurd (cc)
+
 -- of three tests that fail the second does
 second : (a b c : Bool) → ((a || b) || c) ≡ false → b ≡ false
 second true b c e = absurd (cc)
@@ -105,16 +132,6 @@ returns-then-is_some-unsynced-clause-settled g c = λ none tell world told room 
     (λ clean does_without premise. rows-under-moved world.scope given m m1 (present given tape0) (present given tape1) (disk given.start tape0) (disk given.start tape1) list did1.moved c.requires.placed (did1.others tell) (did1.rest tell)
     (rows (synced c.args.unsynced (λ is. sym (did1.clean ∙ dirty does is) ∙ clean)) does premise))
     (did1.named tell world told room gone unclean now (without-left given m1 did1.moved.placed did1.moved.unlost does1))
-  where
-    still : (a b c : Bool) → ((a || b) || c) ≡ true → a ≡ false → c ≡ false → b ≡ true
-    still true b c e f h = absurd (cc)
-    still false true c e f h = refl
-    still false false true e f h = absurd (cc)
-    still false false false e f h = absurd (cc)
-
-    synced : (b : Bool) → (b ≡ true → false ≡ true) → b ≡ false
-    synced true e = absurd (let no = e refl in cc)
-    synced false e = refl
 
 pub unmarked-requires-clause-small : goal.unmarked-requires-clause-small
 unmarked-requires-clause-small g c role slot held = (c.mark_members-marked.ensures.moved.placed.holders role slot held).small
@@ -179,8 +196,73 @@ returns-clause-settled g c = λ none tell world told room gone unclean dirty lis
     (did2.named tell world alone (room-then tape2 tell room did1.rise)
     (subst (λ (b : Given). IsMarkable (OpensFit world) world.scope true alone m1 m2 (disk b.start tape1)) (sym did1.given) markable)
     (over-at world given given1 alone m1 tape1 did1.given safe1) (holder-left given m2 held.0 held.1 moved2.placed moved2.unlost held.2)))
-  where
-    none-there : (o : Option Refusal) (a b d : Bool) → a ≡ is_some o → ((a || b) || d) ≡ false → o ≡ None
-    none-there o true b d is e = absurd (cc)
-    none-there None false b d is e = refl
-    none-there (Some refusal) false b d is e = absurd (cc)
+
+pub flush_naming-named-requires-clause-slots : goal.flush_naming-named-requires-clause-slots
+flush_naming-named-requires-clause-slots g c = c.requires.slots
+
+pub flush_naming-named-requires-clause-placed : goal.flush_naming-named-requires-clause-placed
+flush_naming-named-requires-clause-placed g c = c.requires.placed
+
+pub flush_naming-named-requires-clause-unlost : goal.flush_naming-named-requires-clause-unlost
+flush_naming-named-requires-clause-unlost g c = c.requires.unlost
+
+pub flush_naming-named-requires-clause-free : goal.flush_naming-named-requires-clause-free
+flush_naming-named-requires-clause-free g c = c.requires.free
+
+pub returns-then-is_some-unsynced-clause-moved : goal.returns-then-is_some-unsynced-clause-moved
+returns-then-is_some-unsynced-clause-moved g c = c.flush_naming-named.ensures.moved
+
+pub returns-then-is_some-unsynced-clause-failed : goal.returns-then-is_some-unsynced-clause-failed
+returns-then-is_some-unsynced-clause-failed g c = c.flush_naming-named.ensures.failed
+
+pub returns-then-is_some-unsynced-clause-grows : goal.returns-then-is_some-unsynced-clause-grows
+returns-then-is_some-unsynced-clause-grows g c = c.flush_naming-named.ensures.grows
+
+pub returns-then-is_some-unsynced-clause-others : goal.returns-then-is_some-unsynced-clause-others
+returns-then-is_some-unsynced-clause-others g c = c.flush_naming-named.ensures.others
+
+pub returns-then-is_some-unsynced-clause-flushed : goal.returns-then-is_some-unsynced-clause-flushed
+returns-then-is_some-unsynced-clause-flushed g c = c.flush_naming-named.ensures.flushed
+
+pub returns-then-is_some-unsynced-clause-rise : goal.returns-then-is_some-unsynced-clause-rise
+returns-then-is_some-unsynced-clause-rise g c = c.flush_naming-named.ensures.rise
+
+pub returns-then-is_some-unsynced-clause-given : goal.returns-then-is_some-unsynced-clause-given
+returns-then-is_some-unsynced-clause-given g c = c.flush_naming-named.ensures.given
+
+pub returns-then-is_some-unsynced-clause-counts : goal.returns-then-is_some-unsynced-clause-counts
+returns-then-is_some-unsynced-clause-counts g c = c.flush_naming-named.ensures.counts
+
+pub returns-then-is_some-unsynced-clause-stays : goal.returns-then-is_some-unsynced-clause-stays
+returns-then-is_some-unsynced-clause-stays g c unsynced = c.flush_naming-named.ensures.clean
+
+pub mark_members-marked-requires-clause-slots : goal.mark_members-marked-requires-clause-slots
+mark_members-marked-requires-clause-slots g c = subst (λ (b : Given). b.slots ≤ 32) (sym c.flush_naming-named.ensures.given) c.requires.slots
+
+pub mark_members-marked-requires-clause-placed : goal.mark_members-marked-requires-clause-placed
+mark_members-marked-requires-clause-placed g c = subst (λ (b : Given). IsPlaced b c.flush_naming-named.new.members) (sym c.flush_naming-named.ensures.given) c.flush_naming-named.ensures.moved.placed
+
+pub mark_members-marked-requires-clause-unlost : goal.mark_members-marked-requires-clause-unlost
+mark_members-marked-requires-clause-unlost g c = c.flush_naming-named.ensures.moved.unlost
+
+pub returns-clause-grows : goal.returns-clause-grows
+returns-clause-grows g c = grows-then c.flush_naming-named.ensures.grows c.mark_members-marked.ensures.grows
+
+pub returns-clause-given : goal.returns-clause-given
+returns-clause-given g c = c.mark_members-marked.ensures.given ∙ c.flush_naming-named.ensures.given
+
+pub returns-clause-counts : goal.returns-clause-counts
+returns-clause-counts g c s = le_trans (c.flush_naming-named.ensures.counts s) (c.mark_members-marked.ensures.counts s)
+
+pub returns-then-is_some-unsynced-clause-refused : goal.returns-then-is_some-unsynced-clause-refused
+returns-then-is_some-unsynced-clause-refused g c =
+    told-only (DoWithout c.flush_naming-named.new.members) (AreTooMany c.flush_naming-named.new.members) c.too_many-refusal.result c.too_many-refusal.ensures
+
+pub returns-clause-stays : goal.returns-clause-stays
+returns-clause-stays g c unsynced = true-false (sym unsynced ∙ second c.is_some.result c.args.unsynced c.is_clean.result c.if-is_some-unsynced.false)
+
+pub returns-clause-others : goal.returns-clause-others
+returns-clause-others g c told s k other =
+    let tape1 = g.B.Bank.tape c.flush_naming-named.new.bank in
+    let tape2 = g.B.Bank.tape c.mark_members-marked.new.bank in
+    subst (λ (b : Given). AreOthersPresent (present b tape1) (present b tape2)) c.flush_naming-named.ensures.given (c.mark_members-marked.ensures.others told) s k other ∙ c.flush_naming-named.ensures.others told s k other

@@ -1,4 +1,4 @@
-use Rattle.std.proofs.Common.{◌≡◌, inl, inr, ℕ, ◌<◌, ◌||◌, Bool, true, false, not, Some, None, Option, is_some, refl, sym, ◌∙◌, ap, subst, arith, ⊎_elim}
+use Rattle.std.proofs.Common.{◌≡◌, inl, inr, ℕ, ◌<◌, ◌||◌, Bool, true, false, not, Some, None, Option, is_some, refl, sym, ◌∙◌, ap, subst, arith, ⊎_elim, ◌≤◌}
 use Rattle.bank.specs.Given.{Given}
 use Rattle.md_base.specs.declared.answers.Refusal.{Refusal}
 use Rattle.md_base.specs.declared.places.Shape.{Shape}
@@ -16,6 +16,7 @@ use Rattle.views.proofs.LackingLaws.{since-then, in-either}
 use Rattle.views.proofs.MovedLaws.{grows-then, moved-then, moved-from}
 use Rattle.views.proofs.SafeStretch.{gone-before, safe-then, grows-longer, over-at, keeps-from}
 use Rattle.still_laws.proofs.still_kept_Stood.{within-count}
+use Rattle.std.proofs.Math.Nat.{le_trans}
 use Rattle.still.proofs.naming.fill_and_name.Goals as goal
 
 -- of two tests that fail the second fails
@@ -36,6 +37,11 @@ none-of (Some refusal) e = absurd (cc)
 vacant-not : (m : Members) (role slot : ℕ) → is_vacant (reading_of m) role ≡ true → role_state (reading_of m) role ≡ Recovering slot → ⊥
 vacant-not m role slot vacant recovers = (let clash : true ≡ false = sym vacant ∙ ap (λ (s : Role). not (is_some (holder s))) recovers in cc)
 
+neither : (a b : Bool) → (a || not b) ≡ true → a ≡ false → b ≡ true → ⊥
+neither true b e is has = cc
+neither false true e is has = cc
+neither false false e is has = cc
+
 pub is_vacant-requires : goal.is_vacant-requires
 is_vacant-requires g c =
     let did = c.fill-filled.ensures in
@@ -50,11 +56,9 @@ is_vacant-requires g c =
 pub returns-then-is_some-is_vacant-clause-missing : goal.returns-then-is_some-is_vacant-clause-missing
 returns-then-is_some-is_vacant-clause-missing g c = λ none vacant live.
     absurd (neither c.is_some.result c.is_vacant.result c.if-is_some-is_vacant.true (c.is_some.ensures ∙ ap (λ (o : Option Refusal). is_some o) none) (c.is_vacant.ensures ∙ vacant))
-  where
-    neither : (a b : Bool) → (a || not b) ≡ true → a ≡ false → b ≡ true → ⊥
-    neither true b e is has = cc
-    neither false true e is has = cc
-    neither false false e is has = cc
+
+pub returns-then-is_some-is_vacant-clause-counts : goal.returns-then-is_some-is_vacant-clause-counts
+returns-then-is_some-is_vacant-clause-counts g c = c.fill-filled.ensures.counts
 
 -- ---- it is lost
 
@@ -123,3 +127,15 @@ returns-clause-safe g c = λ tell world told room gone unclean now.
     safe-then (OpensFit world) world.scope given told m1 m2 tape0 tape1 tape2 kept
     (keeps-from world given given1 told m2 tape1 tape2 did.given
     (next.safe tell world told (room-then tape2 tell room did.rise) gone (λ dirty. unclean (sym did.clean ∙ dirty)) (over-at world given given1 told m1 tape1 did.given kept.next)))
+
+pub name_missing-others-requires-clause-slots : goal.name_missing-others-requires-clause-slots
+name_missing-others-requires-clause-slots g c = subst (λ (b : Given). b.slots ≤ 32) (sym c.fill-filled.ensures.given) c.requires.slots
+
+pub returns-clause-missing : goal.returns-clause-missing
+returns-clause-missing g c = λ none vacant. c.name_missing-others.ensures.missing
+
+pub returns-clause-counts : goal.returns-clause-counts
+returns-clause-counts g c = λ slot. le_trans (c.fill-filled.ensures.counts slot) (c.name_missing-others.ensures.counts slot)
+
+pub returns-clause-buffer : goal.returns-clause-buffer
+returns-clause-buffer g c = c.fill-filled.ensures.buffer

@@ -1,4 +1,4 @@
-use Rattle.std.proofs.Common.{Some, refl, sym, ◌∙◌, subst}
+use Rattle.std.proofs.Common.{Some, refl, sym, ◌∙◌, subst, ◌≤◌}
 use Rattle.bank.specs.Given.{Given}
 use Rattle.flat_history.specs.Sound.{OpensFit}
 use Rattle.row_io.specs.Rows.{present}
@@ -10,6 +10,7 @@ use Rattle.views.proofs.LackingLaws.{since-then, in-either}
 use Rattle.views.proofs.MovedLaws.{grows-then, moved-then, moved-from}
 use Rattle.views.proofs.SafeStretch.{gone-before, safe-then, grows-longer, over-at, keeps-from}
 use Rattle.still_laws.proofs.calls_kept_RebuildGiven.{receiver-spare, free-then}
+use Rattle.std.proofs.Math.Nat.{le_trans}
 use Rattle.still.proofs.naming.give_and_name.Goals as goal
 
 pub name_missing-others-requires-clause-placed : goal.name_missing-others-requires-clause-placed
@@ -73,3 +74,12 @@ returns-clause-safe g c = λ tell world told room gone here unclean now.
     safe-then (OpensFit world) world.scope given told m1 m2 tape0 tape1 tape2 kept
     (keeps-from world given given1 told m2 tape1 tape2 did.given
     (next.safe tell world told (room-then tape2 tell room did.rise) gone (λ dirty. unclean (sym did.clean ∙ dirty)) (over-at world given given1 told m1 tape1 did.given kept.next)))
+
+pub name_missing-others-requires-clause-slots : goal.name_missing-others-requires-clause-slots
+name_missing-others-requires-clause-slots g c = subst (λ (b : Given). b.slots ≤ 32) (sym c.give_role-spares.ensures.given) c.requires.slots
+
+pub returns-clause-missing : goal.returns-clause-missing
+returns-clause-missing g c = c.name_missing-others.ensures.missing
+
+pub returns-clause-counts : goal.returns-clause-counts
+returns-clause-counts g c = λ slot. le_trans (c.give_role-spares.ensures.counts slot) (c.name_missing-others.ensures.counts slot)

@@ -1,4 +1,4 @@
-use Rattle.std.proofs.Common.{None, ◌≡◌, ℕ, ◌==◌, ◌&&◌, Bool, true, false, not, refl, sym, ◌∙◌, ap, subst, arith}
+use Rattle.std.proofs.Common.{None, ◌≡◌, ℕ, ◌==◌, ◌&&◌, Bool, true, false, not, refl, sym, ◌∙◌, ap, subst, arith, ◌≤◌}
 use Rattle.std.proofs.lemmas.Bool.Decides.{nat_tests}
 use Rattle.md_base.specs.declared.status.Role.{Role}
 use Rattle.md_base.specs.declared.status.Role.TheVariants.{Whole}
@@ -22,6 +22,7 @@ use Rattle.views.proofs.SafeStretch.{gone-before, safe-then, grows-longer, over-
 use Rattle.still_laws.proofs.calls_kept_RebuildGiven.{receiver-recovering, free-then}
 use Rattle.still.proofs.naming.record_and_name.Given.{Over}
 use Rattle.still.proofs.naming.record_and_name.Goals.{After-name_missing-others}
+use Rattle.std.proofs.Math.Nat.{le_trans}
 use Rattle.still.proofs.naming.record_and_name.Goals as goal
 
 pub name_missing-others-requires-clause-placed : goal.name_missing-others-requires-clause-placed
@@ -104,6 +105,21 @@ returns-clause-safe g c = λ tell world told room gone here unclean premise does
     let kept = c.flush_and_record-spares.ensures.safe tell world told (room-before g c tell world told room gone) (gone-mid g c tell world told room gone) here unclean premise does list stands allowed full now in
     safe-then (OpensFit world) world.scope given told c.flush_and_record-spares.new.members c.name_missing-others.new.members tape0 tape1 tape2 kept (named-then g c tell world told room gone unclean kept.next)
 
+but : (a b : Bool) → a ≡ true → b ≡ false → (a && not b) ≡ true
+but true false is apart = refl
+but true true is apart = absurd (cc)
+but false b is apart = absurd (cc)
+
+ne : (a b : ℕ) → (a ≡ b → ⊥) → (a == b) ≡ false
+ne a b apart = grind (arith, nat_tests, apart)
+
+-- a role that is missing isn't this one, which is whole
+other : (m : Members) (r role : ℕ) {slot : ℕ} → is_missing (reading_of m) r ≡ true → role_state (reading_of m) role ≡ Whole slot → (r == role) ≡ false
+other m r role miss whole = ne r role (λ same. (
+    let clash : true ≡ false = sym miss ∙ ap (is_missing (reading_of m)) same ∙ ap (λ (s : Role). not (is_whole s)) whole in
+    cc
+    ))
+
 -- where the role is whole still, no ledger need tell it gone
 pub returns-clause-given_back : goal.returns-clause-given_back
 returns-clause-given_back g c = λ whole tell world told room gone here unclean premise does list stands allowed full now.
@@ -113,18 +129,12 @@ returns-clause-given_back g c = λ whole tell world told room gone here unclean 
     let back = c.flush_and_record-spares.ensures.given_back was tell world told (room-before g c tell world told room gone) (gone-mid g c tell world told room gone) here unclean premise does list stands allowed full now in
     let told_back : AreGoneTold (given_back role told) m2 = (λ r lt miss. but (told.gone r) (r == role) (gone r lt miss) (other m2 r role miss whole)) in
     (named-then g c tell world (given_back role told) room told_back unclean back).next
-  where
-    but : (a b : Bool) → a ≡ true → b ≡ false → (a && not b) ≡ true
-    but true false is apart = refl
-    but true true is apart = absurd (cc)
-    but false b is apart = absurd (cc)
 
-    ne : (a b : ℕ) → (a ≡ b → ⊥) → (a == b) ≡ false
-    ne a b apart = grind (arith, nat_tests, apart)
+pub name_missing-others-requires-clause-slots : goal.name_missing-others-requires-clause-slots
+name_missing-others-requires-clause-slots g c = subst (λ (b : Given). b.slots ≤ 32) (sym c.flush_and_record-spares.ensures.given) c.requires.slots
 
-    -- a role that is missing isn't this one, which is whole
-    other : (m : Members) (r role : ℕ) {slot : ℕ} → is_missing (reading_of m) r ≡ true → role_state (reading_of m) role ≡ Whole slot → (r == role) ≡ false
-    other m r role miss whole = ne r role (λ same. (
-        let clash : true ≡ false = sym miss ∙ ap (is_missing (reading_of m)) same ∙ ap (λ (s : Role). not (is_whole s)) whole in
-        cc
-        ))
+pub returns-clause-missing : goal.returns-clause-missing
+returns-clause-missing g c = c.name_missing-others.ensures.missing
+
+pub returns-clause-counts : goal.returns-clause-counts
+returns-clause-counts g c = λ slot. le_trans (c.flush_and_record-spares.ensures.counts slot) (c.name_missing-others.ensures.counts slot)

@@ -1,4 +1,4 @@
-use Rattle.std.proofs.Common.{◌≡◌, inl, inr, ℕ, Option, Some, None, sym, ◌∙◌, ap, subst₂, arith}
+use Rattle.std.proofs.Common.{◌≡◌, inl, inr, ℕ, Option, Some, None, sym, ◌∙◌, ap, subst₂}
 use Rattle.superblocks.specs.declared.members.Members.{Members}
 use Rattle.std.specs.Prelude.{unwrap_or}
 use Rattle.still.specs.flat_history_the_StepKind_TheVariants.{RebuildTaken, RebuildStripe, RebuildEnded}
@@ -6,6 +6,7 @@ use Rattle.still.specs.running_words_Parts.{still_left}
 use Rattle.still.specs.array_kept_Calls.{IsHeldOrGiven}
 use Rattle.still.specs.views_Rebuilding.{Held}
 use Rattle.still_steps.specs.Rebuilding.{first_recovering, first_vacant, first_spare, IsRebuildNext, IsHeldOrNext, rebuild_kind}
+use Rattle.still_steps.proofs.RebuildParts.{disks-as, roles-as, role-below, less-as, most-as, stripe-no-end, stripe-not-taken, end-not-taken, taken-no-end, work-as, work-same, whole-at}
 use Rattle.still_steps.proofs.RebuildLaws.{not-taking, given-to, found-below, found-recovered, role-recovered, kind-filled, kind-ended, kind-taken, IsTaking, takes-next, entered-as, kept-stepped, not-end, at-end}
 use Rattle.still_steps.proofs.NextLaws.{stepped-wider}
 use Rattle.still_steps.proofs.rebuilding.rebuild_step.Goals as goal
@@ -15,29 +16,27 @@ found : {a b : Members} {role : ℕ} {o : Option ℕ} → o ≡ first_recovering
 found is same some = ap first_recovering (sym same) ∙ sym is ∙ some
 
 pub rebuilt-requires : goal.rebuilt-requires
-rebuilt-requires g c =
-    let below = found-below c.args.still.now.parts.members c.in-Some.role (found c.first_recovering.ensures c.members.ensures c.in-Some.is) in
-    omega (arith, below, c.disks-disks.ensures.disks, c.disks-disks.ensures.few)
+rebuilt-requires g c = role-below c.in-Some.role c.disks-disks.result _ (found-below c.args.still.now.parts.members c.in-Some.role (found c.first_recovering.ensures c.members.ensures c.in-Some.is)) c.disks-disks.ensures.disks c.disks-disks.ensures.few
 
 pub fill_stripe-requires-clause-pending : goal.fill_stripe-requires-clause-pending
 fill_stripe-requires-clause-pending g c =
-    (found-recovered c.args.still.now.parts.members c.in-Some.role (found c.first_recovering.ensures c.members.ensures c.in-Some.is), omega (arith, c.if-rebuilt-stripes.true, c.rebuilt.ensures, c.stripes.ensures))
+    (found-recovered c.args.still.now.parts.members c.in-Some.role (found c.first_recovering.ensures c.members.ensures c.in-Some.is), less-as c.if-rebuilt-stripes.true c.rebuilt.ensures c.stripes.ensures)
 
 pub end_rebuild-requires-clause-open : goal.end_rebuild-requires-clause-open
 end_rebuild-requires-clause-open g c =
     c.requires.unbroken (kind-ended c.args.still.now.parts.work c.args.still.now.parts.members c.in-Some.role (found c.first_recovering.ensures c.members.ensures c.in-Some.is)
-    (omega (arith, c.if-rebuilt-stripes.false, c.rebuilt.ensures, c.stripes.ensures)))
+    (most-as c.if-rebuilt-stripes.false c.rebuilt.ensures c.stripes.ensures))
 
 pub end_rebuild-requires-clause-pending : goal.end_rebuild-requires-clause-pending
 end_rebuild-requires-clause-pending g c =
-    (found-recovered c.args.still.now.parts.members c.in-Some.role (found c.first_recovering.ensures c.members.ensures c.in-Some.is), omega (arith, c.if-rebuilt-stripes.false, c.rebuilt.ensures, c.stripes.ensures))
+    (found-recovered c.args.still.now.parts.members c.in-Some.role (found c.first_recovering.ensures c.members.ensures c.in-Some.is), most-as c.if-rebuilt-stripes.false c.rebuilt.ensures c.stripes.ensures)
 
 pub returns-then-rebuilt-stripes-clause-entered : goal.returns-then-rebuilt-stripes-clause-entered
 returns-then-rebuilt-stripes-clause-entered g c =
     let s = c.fill_stripe in
     let lowest = found c.first_recovering.ensures c.members.ensures c.in-Some.is in
     entered-as c.args.who c.args.still.now.parts.entries s.new.self.parts.entries c.args.still.now.parts.members s.new.self.parts.members c.args.still.now.parts.work RebuildStripe c.in-Some.role (still_left s.new.self.parts.work s.new.self.parts.members s.new.self.ahead) s.result
-    (kind-filled c.args.still.now.parts.work c.args.still.now.parts.members c.in-Some.role lowest (omega (arith, c.if-rebuilt-stripes.true, c.rebuilt.ensures, c.stripes.ensures)))
+    (kind-filled c.args.still.now.parts.work c.args.still.now.parts.members c.in-Some.role lowest (less-as c.if-rebuilt-stripes.true c.rebuilt.ensures c.stripes.ensures))
     (role-recovered c.args.still.now.parts.work c.args.still.now.parts.members c.in-Some.role lowest) s.ensures.entered
 
 pub returns-then-rebuilt-stripes-clause-list : goal.returns-then-rebuilt-stripes-clause-list
@@ -48,14 +47,14 @@ returns-then-rebuilt-stripes-clause-list g c =
 pub returns-then-rebuilt-stripes-clause-good : goal.returns-then-rebuilt-stripes-clause-good
 returns-then-rebuilt-stripes-clause-good g c =
     not-end _ c.fill_stripe.result
-    (kind-filled c.args.still.now.parts.work c.args.still.now.parts.members c.in-Some.role (found c.first_recovering.ensures c.members.ensures c.in-Some.is) (omega (arith, c.if-rebuilt-stripes.true, c.rebuilt.ensures, c.stripes.ensures))) (λ e. absurd (cc))
+    (kind-filled c.args.still.now.parts.work c.args.still.now.parts.members c.in-Some.role (found c.first_recovering.ensures c.members.ensures c.in-Some.is) (less-as c.if-rebuilt-stripes.true c.rebuilt.ensures c.stripes.ensures)) stripe-no-end
 
 pub returns-in-Some-clause-entered : goal.returns-in-Some-clause-entered
 returns-in-Some-clause-entered g c =
     let s = c.end_rebuild in
     let lowest = found c.first_recovering.ensures c.members.ensures c.in-Some.is in
     entered-as c.args.who c.args.still.now.parts.entries s.new.self.parts.entries c.args.still.now.parts.members s.new.self.parts.members c.args.still.now.parts.work RebuildEnded c.in-Some.role (still_left s.new.self.parts.work s.new.self.parts.members s.new.self.ahead) s.result
-    (kind-ended c.args.still.now.parts.work c.args.still.now.parts.members c.in-Some.role lowest (omega (arith, c.if-rebuilt-stripes.false, c.rebuilt.ensures, c.stripes.ensures)))
+    (kind-ended c.args.still.now.parts.work c.args.still.now.parts.members c.in-Some.role lowest (most-as c.if-rebuilt-stripes.false c.rebuilt.ensures c.stripes.ensures))
     (role-recovered c.args.still.now.parts.work c.args.still.now.parts.members c.in-Some.role lowest) s.ensures.entered
 
 pub returns-in-Some-clause-list : goal.returns-in-Some-clause-list
@@ -138,12 +137,12 @@ returns-clause-stepped g c =
 pub returns-then-rebuilt-stripes-clause-taken : goal.returns-then-rebuilt-stripes-clause-taken
 returns-then-rebuilt-stripes-clause-taken g c =
     not-taking _ c.fill_stripe.result
-    (kind-filled c.args.still.now.parts.work c.args.still.now.parts.members c.in-Some.role (found c.first_recovering.ensures c.members.ensures c.in-Some.is) (omega (arith, c.if-rebuilt-stripes.true, c.rebuilt.ensures, c.stripes.ensures))) (λ e. absurd (cc))
+    (kind-filled c.args.still.now.parts.work c.args.still.now.parts.members c.in-Some.role (found c.first_recovering.ensures c.members.ensures c.in-Some.is) (less-as c.if-rebuilt-stripes.true c.rebuilt.ensures c.stripes.ensures)) stripe-not-taken
 
 pub returns-in-Some-clause-taken : goal.returns-in-Some-clause-taken
 returns-in-Some-clause-taken g c =
     not-taking _ c.end_rebuild.result
-    (kind-ended c.args.still.now.parts.work c.args.still.now.parts.members c.in-Some.role (found c.first_recovering.ensures c.members.ensures c.in-Some.is) (omega (arith, c.if-rebuilt-stripes.false, c.rebuilt.ensures, c.stripes.ensures))) (λ e. absurd (cc))
+    (kind-ended c.args.still.now.parts.work c.args.still.now.parts.members c.in-Some.role (found c.first_recovering.ensures c.members.ensures c.in-Some.is) (most-as c.if-rebuilt-stripes.false c.rebuilt.ensures c.stripes.ensures)) end-not-taken
 
 pub returns-clause-taken : goal.returns-clause-taken
 returns-clause-taken g c =
@@ -151,3 +150,60 @@ returns-clause-taken g c =
     let next = taken c.first_recovering.ensures c.members.ensures c.in_default.is c.requires.pending (c.first_vacant.ensures ∙ ap first_vacant c.members-2.ensures) c.unwrap_or-role.ensures
     (c.first_spare.ensures ∙ ap first_spare c.members-3.ensures) c.unwrap_or-slot.ensures in
     given-to c.args.still.now.parts.members s.new.self.parts.members (rebuild_kind c.args.still.now.parts.work c.args.still.now.parts.members) c.unwrap_or-role.result c.unwrap_or-slot.result s.result next s.ensures.taken
+
+-- ---- what is asked
+
+pub first_recovering-requires-clause-disks : goal.first_recovering-requires-clause-disks
+first_recovering-requires-clause-disks g c = disks-as _ c.args.still.now.parts.members c.disks-disks.result c.members.ensures c.disks-disks.ensures.disks
+
+pub first_recovering-requires-clause-roles : goal.first_recovering-requires-clause-roles
+first_recovering-requires-clause-roles g c = roles-as _ c.args.still.now.parts.members c.disks-disks.result c.members.ensures c.disks-disks.ensures.roles
+
+pub first_vacant-requires-clause-disks : goal.first_vacant-requires-clause-disks
+first_vacant-requires-clause-disks g c = disks-as _ c.args.still.now.parts.members c.disks-disks.result c.members-2.ensures c.disks-disks.ensures.disks
+
+pub first_vacant-requires-clause-roles : goal.first_vacant-requires-clause-roles
+first_vacant-requires-clause-roles g c = roles-as _ c.args.still.now.parts.members c.disks-disks.result c.members-2.ensures c.disks-disks.ensures.roles
+
+-- ---- what is under way, and who is whole
+
+pub returns-then-rebuilt-stripes-clause-work : goal.returns-then-rebuilt-stripes-clause-work
+returns-then-rebuilt-stripes-clause-work g c =
+    work-as c.args.still.now.parts.work c.fill_stripe.new.self.parts.work c.args.still.now.parts.members RebuildStripe c.in-Some.role c.fill_stripe.result
+    (kind-filled c.args.still.now.parts.work c.args.still.now.parts.members c.in-Some.role (found c.first_recovering.ensures c.members.ensures c.in-Some.is) (less-as c.if-rebuilt-stripes.true c.rebuilt.ensures c.stripes.ensures))
+    (role-recovered c.args.still.now.parts.work c.args.still.now.parts.members c.in-Some.role (found c.first_recovering.ensures c.members.ensures c.in-Some.is)) c.fill_stripe.ensures.work
+
+pub returns-then-rebuilt-stripes-clause-whole : goal.returns-then-rebuilt-stripes-clause-whole
+returns-then-rebuilt-stripes-clause-whole g c =
+    not-end _ c.fill_stripe.result
+    (kind-filled c.args.still.now.parts.work c.args.still.now.parts.members c.in-Some.role (found c.first_recovering.ensures c.members.ensures c.in-Some.is) (less-as c.if-rebuilt-stripes.true c.rebuilt.ensures c.stripes.ensures)) stripe-no-end
+
+pub returns-in-Some-clause-work : goal.returns-in-Some-clause-work
+returns-in-Some-clause-work g c =
+    work-as c.args.still.now.parts.work c.end_rebuild.new.self.parts.work c.args.still.now.parts.members RebuildEnded c.in-Some.role c.end_rebuild.result
+    (kind-ended c.args.still.now.parts.work c.args.still.now.parts.members c.in-Some.role (found c.first_recovering.ensures c.members.ensures c.in-Some.is) (most-as c.if-rebuilt-stripes.false c.rebuilt.ensures c.stripes.ensures))
+    (role-recovered c.args.still.now.parts.work c.args.still.now.parts.members c.in-Some.role (found c.first_recovering.ensures c.members.ensures c.in-Some.is)) (work-same c.args.still.now.parts.work c.end_rebuild.new.self.parts.work c.end_rebuild.result c.end_rebuild.ensures.work)
+
+pub returns-in-Some-clause-whole : goal.returns-in-Some-clause-whole
+returns-in-Some-clause-whole g c =
+    whole-at c.args.still.now.parts.members c.end_rebuild.new.self.parts.members (rebuild_kind c.args.still.now.parts.work c.args.still.now.parts.members) c.in-Some.role c.end_rebuild.result (role-recovered c.args.still.now.parts.work c.args.still.now.parts.members c.in-Some.role (found c.first_recovering.ensures c.members.ensures c.in-Some.is)) c.end_rebuild.ensures.whole
+
+pub returns-in-Some-clause-held : goal.returns-in-Some-clause-held
+returns-in-Some-clause-held g c = record { roles = λ role slot held. inl (c.end_rebuild.ensures.held role slot held); spares = c.end_rebuild.ensures.spares }
+
+pub returns-clause-work : goal.returns-clause-work
+returns-clause-work g c =
+    work-as c.args.still.now.parts.work c.take_role.new.self.parts.work c.args.still.now.parts.members RebuildTaken c.unwrap_or-role.result c.take_role.result
+    (kind-taken c.args.still.now.parts.work c.args.still.now.parts.members (ap first_recovering (sym c.members.ensures) ∙ sym c.first_recovering.ensures ∙ c.in_default.is))
+    (taken c.first_recovering.ensures c.members.ensures c.in_default.is c.requires.pending (c.first_vacant.ensures ∙ ap first_vacant c.members-2.ensures) c.unwrap_or-role.ensures
+    (c.first_spare.ensures ∙ ap first_spare c.members-3.ensures) c.unwrap_or-slot.ensures).role_is c.take_role.ensures.work
+
+pub returns-clause-whole : goal.returns-clause-whole
+returns-clause-whole g c =
+    not-end _ c.take_role.result
+    (kind-taken c.args.still.now.parts.work c.args.still.now.parts.members (ap first_recovering (sym c.members.ensures) ∙ sym c.first_recovering.ensures ∙ c.in_default.is)) taken-no-end
+
+pub returns-clause-good : goal.returns-clause-good
+returns-clause-good g c =
+    not-end _ c.take_role.result
+    (kind-taken c.args.still.now.parts.work c.args.still.now.parts.members (ap first_recovering (sym c.members.ensures) ∙ sym c.first_recovering.ensures ∙ c.in_default.is)) taken-no-end

@@ -3,6 +3,7 @@ use Rattle.std.specs.Prelude.{IfSome}
 use Rattle.layout.proofs.Limits.{limited}
 use Rattle.grow_plan.specs.Plans.{AreSound}
 use Rattle.superblocks.specs.Reading.{shape_of}
+use Rattle.superblocks.proofs.ValidFields.{few-roles}
 use Rattle.flat_history.specs.declared.events.Entry.{Entry}
 use Rattle.flat_history.specs.declared.events.Event.TheVariants.{Step}
 use Rattle.flat_history.specs.declared.events.StepKind.TheVariants.{TakenOver}
@@ -26,6 +27,7 @@ use Rattle.still_steps.specs.still_laws_Ready.{IsReady}
 use Rattle.still_steps.proofs.still_laws_Closing.{LeadTo}
 use Rattle.takeover.specs.TakenOver.{IsTakeoverNext, work_then}
 use Rattle.takeover.proofs.Chosen.{sound-next, can-take, told-ahead}
+use Rattle.takeover.proofs.Parted.{untaken-as, untouched-as, both-given, taken-as, room-for}
 use Rattle.takeover.proofs.TakenReady.{IsUpdated, synced-then, taken-ready, taken-longer, taken-fewer, taken-losses, taken-told}
 use Rattle.takeover.proofs.taking.take_over.Goals as goal
 
@@ -42,7 +44,7 @@ pub give_back-requires-clause-why : goal.give_back-requires-clause-why
 give_back-requires-clause-why g c = (c.args.to, c.in-Err.ensures.refused)
 
 pub returns-in-Err-clause-caused : goal.returns-in-Err-clause-caused
-returns-in-Err-clause-caused g c = rw (c.take_apart-pieces.ensures.same) c.in-Err.ensures.refused
+returns-in-Err-clause-caused g c = untaken-as c.args.to c.in-Err.refusal c.args.still _ c.take_apart-pieces.ensures.same c.in-Err.ensures.refused
 
 -- ---- what is asked of the update
 
@@ -177,7 +179,7 @@ returns-clause-taken g c =
     let spares_is : c.told_of-told.result.spares ≡ spares = c.told_of-told.ensures.spares in
     let entered = c.enter_taken.ensures.items ∙ (λ i. p.epoch.entries.items ++ entries_of who end (Step TakenOver (c.told_of-told.ensures.left i) ∷ losses_of roles (spares_is i))) in
     let items = c.enter_taken.ensures.items ∙ (λ i. p.epoch.entries.items ++ entries_of who end (Step TakenOver (left_is i) ∷ losses_of roles (spares_is i))) in
-    rw (c.of_pieces.ensures.same) (rw (c.take_apart-pieces.ensures.same) (record {
+    taken-as g.B.Bank.given g.B.Bank.tape g.B.Bank.faults_of who to behind c.args.still c.of_pieces.result _ _ same c.of_pieces.ensures.same (record {
       whole = c.in-Ok.ensures.whole;
       slot = c.in-Ok.slot;
       chosen = c.in-Ok.ensures.chosen;
@@ -212,4 +214,57 @@ returns-clause-taken g c =
       steps = omega (arith, some);
       work = c.mark_unbuilt.ensures.work;
       same = record { uuid = c.enter_taken.ensures.uuid; given = c.enter_taken.ensures.given; first = c.enter_taken.ensures.first; backup = refl; limit = refl };
-    }))
+    })
+
+-- ---- what the calls ask for
+
+pub taken_slot-requires-clause-roles : goal.taken_slot-requires-clause-roles
+taken_slot-requires-clause-roles g c = c.take_apart-pieces.ensures.ready.kept.members_are.placed.roles
+
+pub taken_slot-requires-clause-few : goal.taken_slot-requires-clause-few
+taken_slot-requires-clause-few g c = subst (λ (n : ℕ). n ≤ 16) (sym c.take_apart-pieces.ensures.ready.kept.members_are.placed.roles) (few-roles c.take_apart-pieces.result.members.newest c.take_apart-pieces.ensures.ready.kept.members_are.placed.fit.valid)
+
+pub give_back-requires-clause-open : goal.give_back-requires-clause-open
+give_back-requires-clause-open g c = subst (λ s. IsCallGoing s.parts.entries c.args.who) c.take_apart-pieces.ensures.same c.requires.open
+
+pub give_back-requires-clause-room : goal.give_back-requires-clause-room
+give_back-requires-clause-room g c = subst (λ s. 1 ≤ s.parts.steps) c.take_apart-pieces.ensures.same c.requires.room
+
+pub overflow_sub-pieces : goal.overflow_sub-pieces
+overflow_sub-pieces g c = subst (λ s. 1 ≤ s.parts.steps) c.take_apart-pieces.ensures.same c.requires.room
+
+pub check_going-requires : goal.check_going-requires
+check_going-requires g c = subst (λ s. IsCallGoing s.parts.entries c.args.who) c.take_apart-pieces.ensures.same c.requires.open
+
+pub take_over-spares-requires-clause-slots : goal.take_over-spares-requires-clause-slots
+take_over-spares-requires-clause-slots g c = c.take_apart-pieces.ensures.ready.kept.slots
+
+pub take_over-spares-requires-clause-placed : goal.take_over-spares-requires-clause-placed
+take_over-spares-requires-clause-placed g c = c.take_apart-pieces.ensures.ready.kept.members_are.placed
+
+pub take_over-spares-requires-clause-unlost : goal.take_over-spares-requires-clause-unlost
+take_over-spares-requires-clause-unlost g c = c.take_apart-pieces.ensures.ready.kept.members_are.unlost
+
+pub take_over-spares-requires-clause-free : goal.take_over-spares-requires-clause-free
+take_over-spares-requires-clause-free g c = c.take_apart-pieces.ensures.ready.kept.members_are.free
+
+pub take_over-spares-requires-clause-still : goal.take_over-spares-requires-clause-still
+take_over-spares-requires-clause-still g c = c.take_apart-pieces.ensures.ready.kept.members_are.still
+
+pub told_of-told-requires-clause-fit : goal.told_of-told-requires-clause-fit
+told_of-told-requires-clause-fit g c = c.take_over-spares.ensures.moved.placed.fit
+
+pub enter_taken-requires-clause-room : goal.enter_taken-requires-clause-room
+enter_taken-requires-clause-room g c =
+    room-for 49 c.take_apart-pieces.result.steps c.take_apart-pieces.result.epoch.entries.room c.take_apart-pieces.ensures.ready.room_left (subst (λ s. 1 ≤ s.parts.steps) c.take_apart-pieces.ensures.same c.requires.room) (omega arith)
+
+-- ---- what is as it was
+
+pub returns-in-Err-clause-refused : goal.returns-in-Err-clause-refused
+returns-in-Err-clause-refused g c = untouched-as g.B.Bank.tape c.args.who c.in-Err.refusal c.args.still c.give_back.result _ c.take_apart-pieces.ensures.same c.give_back.ensures.back
+
+pub returns-clause-given : goal.returns-clause-given
+returns-clause-given g c = both-given g.B.Bank.given c.args.still c.of_pieces.result _ _ c.take_apart-pieces.ensures.same c.of_pieces.ensures.same c.take_over-spares.ensures.given
+
+pub told_of-told-requires-clause-shape : goal.told_of-told-requires-clause-shape
+told_of-told-requires-clause-shape g c = c.take_over-spares.ensures.newest.shape

@@ -28,6 +28,7 @@ use Rattle.moving_steps.proofs.array_kept_LossLaws.{ended-behind}
 use Rattle.moving_steps.proofs.array_kept_ReadyLaws.{scope-same}
 use Rattle.grow_asked.specs.declared.window.Window.TheVariants.{Closed}
 use Rattle.grow_asked.specs.Left.{phases_of, grow_left}
+use Rattle.moving_steps.specs.kept_history_Recorded.{IsCallGoing}
 use Rattle.moving_steps.specs.course_kept_Laws.{closed}
 use Rattle.moving_steps.specs.running_words_Parts.{left_in}
 use Rattle.moving_steps.proofs.running_words_Lengths.{alone-keeps}
@@ -39,6 +40,7 @@ use Rattle.turning.specs.Begun.{begun_length, HasKeptLength, IsBackupAt}
 use Rattle.turning.proofs.Begun.{none-pending, plus-none, others-of, since-told, IsUpdated, next-sound, backup-here, begun-under, begun-left, begun-start, begun-losses, begun-ready}
 use Rattle.turning.proofs.GivenBack.{ahead-told, fault-stands}
 use Rattle.turning.proofs.Told.{grows-as, falls-as, unbegun-as, both-fall-as, back-as, refused-as, begun-as}
+use Rattle.turning.proofs.Parted.{given-back, still-given, both-given, both-grow, none-fall, slot-below, room-for, has-one, unbegun-plain}
 use Rattle.turning.proofs.Planned.{none-recovering, begin-live, lost-since}
 use Rattle.turning.proofs.beginning.begin_reshape.Goals as goal
 
@@ -296,3 +298,131 @@ returns-clause-begun g c =
       steps = omega (arith, some);
       same = record { uuid = c.enter_begun.ensures.uuid; given = c.enter_begun.ensures.given; first = c.enter_begun.ensures.first; backup = refl; work = refl; limit = refl };
     })
+
+-- ---- what the calls ask for
+
+pub unbegun-requires-clause-shape : goal.unbegun-requires-clause-shape
+unbegun-requires-clause-shape g c = c.take_apart-pieces.ensures.ready.kept.members_are.placed.fit.valid.old
+
+pub unbegun-requires-clause-roles : goal.unbegun-requires-clause-roles
+unbegun-requires-clause-roles g c = c.take_apart-pieces.ensures.ready.kept.members_are.placed.roles
+
+pub give_back-requires-clause-open : goal.give_back-requires-clause-open
+give_back-requires-clause-open g c = subst (λ s. IsCallGoing s.parts.entries c.args.who) c.take_apart-pieces.ensures.same c.requires.open.goes
+
+pub give_back-requires-clause-room : goal.give_back-requires-clause-room
+give_back-requires-clause-room g c = subst (λ s. 1 ≤ s.parts.steps) c.take_apart-pieces.ensures.same c.requires.room
+
+pub give_back-requires-clause-why : goal.give_back-requires-clause-why
+give_back-requires-clause-why g c = unbegun-plain c.take_apart-pieces.result.members c.args.to c.in-Some.refusal c.in-Some.ensures
+
+pub unreachable-requires : goal.unreachable-requires
+unreachable-requires g c =
+    let backed = subst (λ s. (slot : ℕ) × (s.parts.backup ≡ Some slot) × IsBackupAt (g.B.Bank.given s.parts.bank) s.parts.members c.args.to slot) c.take_apart-pieces.ensures.same c.requires.backed in
+    c.in_default-backup.not-Some backed.0 backed.1
+
+pub contains-requires : goal.contains-requires
+contains-requires g c =
+    let p = c.take_apart-pieces.result in
+    let backed = subst (λ s. (slot : ℕ) × (s.parts.backup ≡ Some slot) × IsBackupAt (g.B.Bank.given s.parts.bank) s.parts.members c.args.to slot) c.take_apart-pieces.ensures.same c.requires.backed in
+    slot-below c.in-Some-backup.backup (g.B.Bank.given p.bank).slots (backup-here (g.B.Bank.given p.bank) p.members c.args.to p.backup c.in-Some-backup.backup backed c.in-Some-backup.is).known c.take_apart-pieces.ensures.ready.kept.slots
+
+pub fail_backup-still-requires-clause-open : goal.fail_backup-still-requires-clause-open
+fail_backup-still-requires-clause-open g c = subst (λ s. IsCallGoing s.parts.entries c.args.who) c.take_apart-pieces.ensures.same c.requires.open.goes
+
+pub fail_backup-still-requires-clause-room : goal.fail_backup-still-requires-clause-room
+fail_backup-still-requires-clause-room g c = subst (λ s. 1 ≤ s.parts.steps) c.take_apart-pieces.ensures.same c.requires.room
+
+pub fail_backup-still-requires-clause-slot : goal.fail_backup-still-requires-clause-slot
+fail_backup-still-requires-clause-slot g c =
+    let p = c.take_apart-pieces.result in
+    let backed = subst (λ s. (slot : ℕ) × (s.parts.backup ≡ Some slot) × IsBackupAt (g.B.Bank.given s.parts.bank) s.parts.members c.args.to slot) c.take_apart-pieces.ensures.same c.requires.backed in
+    (backup-here (g.B.Bank.given p.bank) p.members c.args.to p.backup c.in-Some-backup.backup backed c.in-Some-backup.is).known
+
+pub fail_backup-still-requires-clause-failing : goal.fail_backup-still-requires-clause-failing
+fail_backup-still-requires-clause-failing g c = sym c.contains.ensures ∙ c.if-not-contains.true
+
+pub overflow_sub-pieces : goal.overflow_sub-pieces
+overflow_sub-pieces g c = subst (λ s. 1 ≤ s.parts.steps) c.take_apart-pieces.ensures.same c.requires.room
+
+pub check_going-requires : goal.check_going-requires
+check_going-requires g c = subst (λ s. IsCallGoing s.parts.entries c.args.who) c.take_apart-pieces.ensures.same c.requires.open.goes
+
+pub begin-begun-requires-clause-placed : goal.begin-begun-requires-clause-placed
+begin-begun-requires-clause-placed g c = c.take_apart-pieces.ensures.ready.kept.members_are.placed
+
+pub begin-begun-requires-clause-unlost : goal.begin-begun-requires-clause-unlost
+begin-begun-requires-clause-unlost g c = c.take_apart-pieces.ensures.ready.kept.members_are.unlost
+
+pub begin-begun-requires-clause-free : goal.begin-begun-requires-clause-free
+begin-begun-requires-clause-free g c = c.take_apart-pieces.ensures.ready.kept.members_are.free
+
+pub begin-begun-requires-clause-still : goal.begin-begun-requires-clause-still
+begin-begun-requires-clause-still g c = c.take_apart-pieces.ensures.ready.kept.members_are.still
+
+pub begin-begun-requires-clause-in_force : goal.begin-begun-requires-clause-in_force
+begin-begun-requires-clause-in_force g c =
+    let p = c.take_apart-pieces.result in
+    let next = subst (λ s. phases_of s.ahead ≡ Reshape c.args.to ∷ phases_of c.args.behind) c.take_apart-pieces.ensures.same c.requires.next in
+    (next-sound (shape_of p.members.newest) p.members.newest.size (phases_of p.ahead) (phases_of c.args.behind) c.args.to c.take_apart-pieces.ensures.ready.planned next).0
+
+pub begin-begun-requires-clause-level : goal.begin-begun-requires-clause-level
+begin-begun-requires-clause-level g c =
+    let p = c.take_apart-pieces.result in
+    let next = subst (λ s. phases_of s.ahead ≡ Reshape c.args.to ∷ phases_of c.args.behind) c.take_apart-pieces.ensures.same c.requires.next in
+    (next-sound (shape_of p.members.newest) p.members.newest.size (phases_of p.ahead) (phases_of c.args.behind) c.args.to c.take_apart-pieces.ensures.ready.planned next).1
+
+pub begin-begun-requires-clause-spares : goal.begin-begun-requires-clause-spares
+begin-begun-requires-clause-spares g c = c.in_default.ensures.1
+
+pub begin-begun-requires-clause-slot : goal.begin-begun-requires-clause-slot
+begin-begun-requires-clause-slot g c =
+    let p = c.take_apart-pieces.result in
+    let backed = subst (λ s. (slot : ℕ) × (s.parts.backup ≡ Some slot) × IsBackupAt (g.B.Bank.given s.parts.bank) s.parts.members c.args.to slot) c.take_apart-pieces.ensures.same c.requires.backed in
+    (backup-here (g.B.Bank.given p.bank) p.members c.args.to p.backup c.in-Some-backup.backup backed c.in-Some-backup.is).known
+
+pub begin-begun-requires-clause-within : goal.begin-begun-requires-clause-within
+begin-begun-requires-clause-within g c =
+    let p = c.take_apart-pieces.result in
+    let backed = subst (λ s. (slot : ℕ) × (s.parts.backup ≡ Some slot) × IsBackupAt (g.B.Bank.given s.parts.bank) s.parts.members c.args.to slot) c.take_apart-pieces.ensures.same c.requires.backed in
+    has-one (phase_window (shape_of p.members.newest) p.members.newest.size (Reshape c.args.to)) ((g.B.Bank.given p.bank).sectors c.in-Some-backup.backup)
+    (backup-here (g.B.Bank.given p.bank) p.members c.args.to p.backup c.in-Some-backup.backup backed c.in-Some-backup.is).room
+
+pub enter-requires-clause-room : goal.enter-requires-clause-room
+enter-requires-clause-room g c =
+    room-for 1 c.take_apart-pieces.result.steps c.take_apart-pieces.result.epoch.entries.room c.take_apart-pieces.ensures.ready.room_left (subst (λ s. 1 ≤ s.parts.steps) c.take_apart-pieces.ensures.same c.requires.room) (omega arith)
+
+pub enter_begun-requires-clause-room : goal.enter_begun-requires-clause-room
+enter_begun-requires-clause-room g c =
+    room-for 50 c.take_apart-pieces.result.steps c.take_apart-pieces.result.epoch.entries.room c.take_apart-pieces.ensures.ready.room_left (subst (λ s. 1 ≤ s.parts.steps) c.take_apart-pieces.ensures.same c.requires.room) (omega arith)
+
+-- ---- what is as it was
+
+pub returns-in-Some-clause-refused : goal.returns-in-Some-clause-refused
+returns-in-Some-clause-refused g c =
+    given-back g.B.Bank.given g.B.Bank.tape (g.B.Bank.tape c.give_back.result.parts.bank) (g.B.Bank.tape c.take_apart-pieces.result.bank) c.args.who c.in-Some.refusal c.args.still c.give_back.result _ c.take_apart-pieces.ensures.same
+    (ap g.B.Bank.tape c.give_back.ensures.bank) c.give_back.ensures.back
+
+pub returns-in-Some-clause-never_falls : goal.returns-in-Some-clause-never_falls
+returns-in-Some-clause-never_falls g c = falls-as g.B.Bank.faults_of c.args.still _ (g.B.Bank.faults_of c.give_back.result.parts.bank) c.take_apart-pieces.ensures.same
+    (none-fall g.B.Bank.faults_of c.take_apart-pieces.result.bank c.give_back.result.parts.bank c.give_back.ensures.bank)
+
+pub returns-in-Some-clause-left_given : goal.returns-in-Some-clause-left_given
+returns-in-Some-clause-left_given g c = still-given g.B.Bank.given c.args.still _ (g.B.Bank.given c.give_back.result.parts.bank) c.take_apart-pieces.ensures.same (ap g.B.Bank.given c.give_back.ensures.bank)
+
+pub returns-then-not-contains-clause-refused : goal.returns-then-not-contains-clause-refused
+returns-then-not-contains-clause-refused g c =
+    given-back g.B.Bank.given g.B.Bank.tape (g.B.Bank.tape c.fail_backup-still.result.parts.bank) (g.B.Bank.tape c.fail_backup-still.result.parts.bank) c.args.who BackupFault c.args.still c.fail_backup-still.result _ c.take_apart-pieces.ensures.same
+    refl c.fail_backup-still.ensures.back
+
+pub returns-then-not-contains-clause-left_given : goal.returns-then-not-contains-clause-left_given
+returns-then-not-contains-clause-left_given g c = still-given g.B.Bank.given c.args.still _ (g.B.Bank.given c.fail_backup-still.result.parts.bank) c.take_apart-pieces.ensures.same c.fail_backup-still.ensures.given
+
+pub returns-in-Some-refusal-clause-grows : goal.returns-in-Some-refusal-clause-grows
+returns-in-Some-refusal-clause-grows g c = both-grow g.B.Bank.tape c.args.still c.of_pieces.result _ _ c.take_apart-pieces.ensures.same c.of_pieces.ensures.same c.begin-begun.ensures.grows
+
+pub returns-in-Some-refusal-clause-left_given : goal.returns-in-Some-refusal-clause-left_given
+returns-in-Some-refusal-clause-left_given g c = both-given g.B.Bank.given c.args.still c.of_pieces.result _ _ c.take_apart-pieces.ensures.same c.of_pieces.ensures.same c.begin-begun.ensures.given
+
+pub returns-clause-given : goal.returns-clause-given
+returns-clause-given g c = both-given g.B.Bank.given c.args.still c.of_pieces-2.result _ _ c.take_apart-pieces.ensures.same c.of_pieces-2.ensures.same c.begin-begun.ensures.given

@@ -4,7 +4,8 @@ use Rattle.std.proofs.lemmas.Bool.{and_parts}
 use Rattle.md_base.specs.Shapes.{has_slot, data_disks}
 use Rattle.md_base.specs.declared.answers.Refusal.{Refusal}
 use Rattle.md_base.specs.declared.places.Shape.{Shape}
-use Rattle.superblocks.specs.Reading.{list_length, holder}
+use Rattle.grow_plan.specs.Plans.{AreSound}
+use Rattle.superblocks.specs.Reading.{shape_of, list_length, holder}
 use Rattle.superblocks.proofs.ValidFields.{few-roles}
 use Rattle.row_io.specs.Rows.{reading_of}
 use Rattle.flat_history.specs.declared.events.Event.{Event}
@@ -29,6 +30,7 @@ use Rattle.moving_steps.specs.kept_history_Safe.{world_in}
 use Rattle.moving_steps.proofs.moving_kept_Refusals.{quiet-refusal, refused-right}
 use Rattle.moving_steps.proofs.moving_kept_Resting.{resting-moves}
 use Rattle.moving_steps.proofs.moving_kept_Steps.{missing-since}
+use Rattle.grow_asked.specs.Left.{phases_of}
 use Rattle.moving_ends.proofs.Ending.{ending-last}
 use Rattle.moving_steps.specs.moving_state_Due.{due_of}
 use Rattle.moving_steps.specs.moving_state_the_Due_TheVariants.{Finish}
@@ -42,6 +44,7 @@ use Rattle.turning.specs.Ended.{ended_length}
 use Rattle.turning.proofs.Ended.{kept-or-failed, late-held, length-same, ended-ready, ended-losses}
 use Rattle.turning.proofs.EndedStill.{IsFinished, ended-long}
 use Rattle.turning.proofs.Finishing.{end-due, flush-failed, refused-behind, final-few, dropped-or-failed, spare-or-dropped, spares-kept, spares-told, dropped-told, none-lost, roles-told, finish-stepped, finish-left}
+use Rattle.turning.proofs.Parted.{both-given, both-course, both-steps, room-for-two}
 use Rattle.turning.proofs.Told.{many-as, behind-as, called-as, ended-as}
 use Rattle.turning.proofs.ending.finish_reshape.Goals as goal
 
@@ -338,3 +341,91 @@ returns-clause-ended g c =
       steps = omega (arith, some);
       same = record { uuid = c.enter_ended.ensures.uuid; given = c.enter_ended.ensures.given; first = c.enter_ended.ensures.first; backup = refl; work = refl; limit = refl };
     })
+
+-- ---- what the calls ask for
+
+pub overflow_sub-pieces : goal.overflow_sub-pieces
+overflow_sub-pieces g c = subst (λ s. 2 ≤ s.parts.steps) c.take_apart-pieces.ensures.same c.requires.room
+
+pub check_going-requires : goal.check_going-requires
+check_going-requires g c = subst (λ s. IsCallGoing s.parts.entries c.args.who) c.take_apart-pieces.ensures.same c.requires.open
+
+pub too_many-requires-clause-shapes : goal.too_many-requires-clause-shapes
+too_many-requires-clause-shapes g c = c.take_apart-pieces.ensures.ready.kept.members_are.placed.fit.valid
+
+pub too_many-requires-clause-roles : goal.too_many-requires-clause-roles
+too_many-requires-clause-roles g c = c.take_apart-pieces.ensures.ready.kept.members_are.placed.roles
+
+pub enter-requires-clause-room : goal.enter-requires-clause-room
+enter-requires-clause-room g c = room-for-two 1 c.take_apart-pieces.result.0.steps c.take_apart-pieces.result.0.epoch.entries.room c.take_apart-pieces.ensures.ready.room_left (subst (λ s. 2 ≤ s.parts.steps) c.take_apart-pieces.ensures.same c.requires.room) (omega arith)
+
+pub before_end-was-requires-clause-fit : goal.before_end-was-requires-clause-fit
+before_end-was-requires-clause-fit g c = c.take_apart-pieces.ensures.ready.kept.members_are.placed.fit
+
+pub before_end-was-requires-clause-roles : goal.before_end-was-requires-clause-roles
+before_end-was-requires-clause-roles g c = c.take_apart-pieces.ensures.ready.kept.members_are.placed.roles
+
+pub finish-done-requires-clause-slots : goal.finish-done-requires-clause-slots
+finish-done-requires-clause-slots g c = c.take_apart-pieces.ensures.ready.kept.slots
+
+pub finish-done-requires-clause-placed : goal.finish-done-requires-clause-placed
+finish-done-requires-clause-placed g c = c.take_apart-pieces.ensures.ready.kept.members_are.placed
+
+pub finish-done-requires-clause-unlost : goal.finish-done-requires-clause-unlost
+finish-done-requires-clause-unlost g c = c.take_apart-pieces.ensures.ready.kept.members_are.unlost
+
+pub finish-done-requires-clause-free : goal.finish-done-requires-clause-free
+finish-done-requires-clause-free g c = c.take_apart-pieces.ensures.ready.kept.members_are.free
+
+pub finish-done-requires-clause-active : goal.finish-done-requires-clause-active
+finish-done-requires-clause-active g c = c.take_apart-pieces.ensures.ready.kept.members_are.active
+
+pub finish-done-requires-clause-whole : goal.finish-done-requires-clause-whole
+finish-done-requires-clause-whole g c = c.take_apart-pieces.ensures.ready.kept.members_are.whole
+
+pub enter_behind-requires-clause-room : goal.enter_behind-requires-clause-room
+enter_behind-requires-clause-room g c = room-for-two 49 c.take_apart-pieces.result.0.steps c.take_apart-pieces.result.0.epoch.entries.room c.take_apart-pieces.ensures.ready.room_left (subst (λ s. 2 ≤ s.parts.steps) c.take_apart-pieces.ensures.same c.requires.room) (omega arith)
+
+pub enter_ended-requires-clause-room : goal.enter_ended-requires-clause-room
+enter_ended-requires-clause-room g c = room-for-two 98 c.take_apart-pieces.result.0.steps c.take_apart-pieces.result.0.epoch.entries.room c.take_apart-pieces.ensures.ready.room_left (subst (λ s. 2 ≤ s.parts.steps) c.take_apart-pieces.ensures.same c.requires.room) (omega arith)
+
+pub ended_left-left-requires-clause-shape : goal.ended_left-left-requires-clause-shape
+ended_left-left-requires-clause-shape g c = c.finish-done.ensures.placed.fit.valid.old
+
+pub told_of-told-requires-clause-shape : goal.told_of-told-requires-clause-shape
+told_of-told-requires-clause-shape g c = c.finish-done.ensures.placed.fit.valid.old
+
+-- ---- what is as it was
+
+pub returns-in-Some-too_many-clause-course : goal.returns-in-Some-too_many-clause-course
+returns-in-Some-too_many-clause-course g c = both-course c.args.moving c.of_pieces.result _ _ c.take_apart-pieces.ensures.same c.of_pieces.ensures.same refl
+
+pub returns-in-Some-too_many-clause-steps : goal.returns-in-Some-too_many-clause-steps
+returns-in-Some-too_many-clause-steps g c = both-steps 2 c.args.moving c.of_pieces.result _ _ c.take_apart-pieces.ensures.same c.of_pieces.ensures.same refl (subst (λ s. 2 ≤ s.parts.steps) c.take_apart-pieces.ensures.same c.requires.room)
+
+pub returns-in-Some-too_many-clause-left_given : goal.returns-in-Some-too_many-clause-left_given
+returns-in-Some-too_many-clause-left_given g c = both-given g.B.Bank.given c.args.moving c.of_pieces.result _ _ c.take_apart-pieces.ensures.same c.of_pieces.ensures.same refl
+
+pub returns-in-Some-refusal-clause-course : goal.returns-in-Some-refusal-clause-course
+returns-in-Some-refusal-clause-course g c = both-course c.args.moving c.of_pieces-in-Some-refusal.result _ _ c.take_apart-pieces.ensures.same c.of_pieces-in-Some-refusal.ensures.same refl
+
+pub returns-in-Some-refusal-clause-steps : goal.returns-in-Some-refusal-clause-steps
+returns-in-Some-refusal-clause-steps g c = both-steps 2 c.args.moving c.of_pieces-in-Some-refusal.result _ _ c.take_apart-pieces.ensures.same c.of_pieces-in-Some-refusal.ensures.same refl (subst (λ s. 2 ≤ s.parts.steps) c.take_apart-pieces.ensures.same c.requires.room)
+
+pub returns-in-Some-refusal-clause-left_given : goal.returns-in-Some-refusal-clause-left_given
+returns-in-Some-refusal-clause-left_given g c = both-given g.B.Bank.given c.args.moving c.of_pieces-in-Some-refusal.result _ _ c.take_apart-pieces.ensures.same c.of_pieces-in-Some-refusal.ensures.same c.finish-done.ensures.given
+
+pub returns-in-Some-refusal-clause-refused : goal.returns-in-Some-refusal-clause-refused
+returns-in-Some-refusal-clause-refused g c =
+    behind-as c.args.who (Refused c.in-Some-refusal.refusal) c.args.moving c.of_pieces-in-Some-refusal.result _ _ c.take_apart-pieces.ensures.same c.of_pieces-in-Some-refusal.ensures.same
+    (record { roles = c.newly_vacant-roles.result; spares = c.finish-done.result.spares; end = c.ops-end-2.result; is = c.enter_behind.ensures.items })
+
+pub returns-clause-given : goal.returns-clause-given
+returns-clause-given g c = both-given g.B.Bank.given c.args.moving c.of_pieces-2.result _ _ c.take_apart-pieces.ensures.same c.of_pieces-2.ensures.same c.finish-done.ensures.given
+
+pub ended_left-left-requires-clause-sound : goal.ended_left-left-requires-clause-sound
+ended_left-left-requires-clause-sound g c =
+    let p = c.take_apart-pieces.result.0 in
+    let m = c.finish-done.new.members in
+    let over = subst (λ (o : Option Refusal). MatchOption o (IsOver p.members.newest m.newest) (AreTooMany m)) c.in_default-refusal.is c.finish-done.ensures.answer in
+    subst (λ (n : ℕ). AreSound (shape_of m.newest) n (phases_of p.ahead)) (sym over.size) (subst (λ (s : Shape). AreSound s p.members.newest.size (phases_of p.ahead)) (sym over.shape) c.take_apart-pieces.ensures.ready.planned)

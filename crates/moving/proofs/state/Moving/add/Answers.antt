@@ -1,4 +1,4 @@
-use Rattle.std.proofs.Common.{◌≡◌, ℕ, List, [], ◌∷◌, ◌++◌, Option, Some, Err, refl, sym, ◌∙◌, ap, subst, arith}
+use Rattle.std.proofs.Common.{◌≡◌, ℕ, List, [], ◌∷◌, ◌++◌, Option, Some, Err, refl, sym, ◌∙◌, ap, subst, arith, inl}
 use denote.Builtin.{unit}
 use Rattle.md_base.specs.declared.answers.Refusal.{Refusal}
 use Rattle.md_base.specs.declared.answers.Refusal.TheVariants.{SlotFault}
@@ -24,6 +24,8 @@ use Rattle.moving_laws.specs.Ready.{bytes_in}
 use Rattle.moving_laws.proofs.AddLaws.{with-room, still-called, none-added}
 use Rattle.moving_laws.proofs.running_words_Called.{not_254, called, alone-lossless}
 use Rattle.moving_laws.proofs.Kept.{ready, shapes-same, alone-keeps}
+use Rattle.row_io.specs.Rows.{present}
+use Rattle.views.specs.Lacking.{HaveRolesFailed}
 use Rattle.moving.proofs.state.Moving.add.Goals as goal
 
 -- a refusal before the slot is touched
@@ -101,3 +103,37 @@ returns-clause-called g c =
     (λ slot. omega arith)
     (record { uuid = c.enter.ensures.uuid; given = c.enter.ensures.given; first = c.enter.ensures.first; backup = refl; work = refl; ahead = refl; limit = refl })
     (λ t. (was.kept.recorded t).begun)))
+
+-- ---- by what stands above
+
+pub returns-clause-failed : goal.returns-clause-failed
+returns-clause-failed g c = subst (λ p. HaveRolesFailed p.parts.members c.self.inside.members (g.B.Bank.faults_of p.parts.bank) (g.B.Bank.faults_of c.self.inside.bank)) c.self.view_is (λ role slot held. inl held)
+
+pub returns-in-Err-clause-failed : goal.returns-in-Err-clause-failed
+returns-in-Err-clause-failed g c = subst (λ p. HaveRolesFailed p.parts.members c.self.inside.members (g.B.Bank.faults_of p.parts.bank) (g.B.Bank.faults_of c.self.inside.bank)) c.self.view_is (λ role slot held. inl held)
+
+pub returns-in-Err-clause-unchanged : goal.returns-in-Err-clause-unchanged
+returns-in-Err-clause-unchanged g c =
+    let a = c.self.inside in
+    (λ i. record {
+      parts = record { bank = a.bank; uuid = a.epoch.uuid; given = a.epoch.given; first = a.epoch.first; last = a.epoch.last; entries = c.make_room.ensures.items i; backup = Some a.backup; members = a.members; work = a.work; steps = a.steps };
+      course = a.course;
+      ahead = a.ahead;
+      limit = a.limit;
+    }) ∙ c.self.view_is
+
+pub returns-in-Err-clause-caused : goal.returns-in-Err-clause-caused
+returns-in-Err-clause-caused g c = ap (λ p. p.parts.members) c.self.view_is
+
+pub returns-in-Err-clause-answered : goal.returns-in-Err-clause-answered
+returns-in-Err-clause-answered g c = c.make_room.ensures.items ∙ ap (λ p. p.parts.entries) c.self.view_is
+
+pub check_number-requires : goal.check_number-requires
+check_number-requires g c =
+    c.requires.next ∙ ap (λ p. next_number c.args.who.caller p.parts.entries) (sym c.self.view_is) ∙ ap (λ (l : List Entry). next_number c.args.who.caller l) (sym c.make_room.ensures.items)
+
+pub returns-clause-course : goal.returns-clause-course
+returns-clause-course g c = ap (λ p. p.course) c.self.view_is
+
+pub returns-clause-others : goal.returns-clause-others
+returns-clause-others g c = λ t s k ne. ap (λ p. present (g.B.Bank.given c.args.self.now.parts.bank) (g.B.Bank.tape p.parts.bank) s k) c.self.view_is

@@ -1,4 +1,4 @@
-use Rattle.std.proofs.Common.{◌≡◌, ◌+◌, ◌/◌, List, [], length, refl, sym, ◌∙◌, ap, subst, arith, append-nil}
+use Rattle.std.proofs.Common.{◌≡◌, ◌+◌, ◌/◌, List, [], length, refl, sym, ◌∙◌, ap, subst, arith, append-nil, inl, Some}
 use Rattle.std.proofs.lemmas.List.Elements.{All-nil}
 use Rattle.md_base.specs.Sectors.{sectors_of}
 use Rattle.md_base.proofs.SectorLaws.{length-sectors_of}
@@ -12,12 +12,14 @@ use Rattle.moving_laws.specs.array_kept_Calls.{IsLossBy}
 use Rattle.moving_laws.specs.region_mends_Mends.{relied_sector}
 use Rattle.moving_laws.specs.running_words_Parts.{left_in}
 use Rattle.moving_laws.proofs.running_words_Called.{called}
-use Rattle.moving_laws.specs.Writing.{IsRefusedAlone}
+use Rattle.moving_laws.specs.Writing.{IsRefusedAlone, TouchesUnsure}
 use Rattle.moving_laws.proofs.Kept.{roomier}
-use Rattle.moving_laws.proofs.WriteLaws.{called-roomed}
+use Rattle.moving_laws.proofs.WriteLaws.{called-roomed, roomed}
 use Rattle.moving_laws.proofs.BarredLaws.{barred-entered, barred-replied}
 use Rattle.md_base.specs.declared.answers.Fault.TheVariants.{NoMemory}
 use Rattle.moving_laws.proofs.FirstLaws.{first-short}
+use Rattle.views.specs.Lacking.{HaveRolesFailed}
+use Rattle.moving.proofs.Calls.{two-of-101}
 use Rattle.moving.proofs.state.Moving.bar_write.Goals as goal
 
 -- ---- memory is short
@@ -73,3 +75,36 @@ returns-in-Err-clause-first g c = first-short _ _ NoMemory refl
 
 pub returns-clause-first : goal.returns-clause-first
 returns-clause-first g c = rw (← c.self.view_is) c.refuse_write.ensures.first
+
+-- ---- by what stands above
+
+pub invariant_of-self-2 : goal.invariant_of-self-2
+invariant_of-self-2 g c = roomed c.make_room.ensures.items (two-of-101 c.in-Ok.ensures.ok) c.self.invariant
+
+pub returns-clause-backup : goal.returns-clause-backup
+returns-clause-backup g c = rw (← c.self.view_is) c.refuse_write.ensures.backup
+
+pub refuse_write-requires-clause-touches : goal.refuse_write-requires-clause-touches
+refuse_write-requires-clause-touches g c = subst (λ p. TouchesUnsure p.course.window c.args.at (c.args.at + length c.args.from.now / 512)) (sym c.self.view_is) c.requires.touches
+
+pub returns-in-Err-clause-unchanged : goal.returns-in-Err-clause-unchanged
+returns-in-Err-clause-unchanged g c =
+    let a = c.self.inside in
+    (λ i. record {
+      parts = record { bank = a.bank; uuid = a.epoch.uuid; given = a.epoch.given; first = a.epoch.first; last = a.epoch.last; entries = c.make_room.ensures.items i; backup = Some a.backup; members = a.members; work = a.work; steps = a.steps };
+      course = a.course;
+      ahead = a.ahead;
+      limit = a.limit;
+    }) ∙ c.self.view_is
+
+pub returns-in-Err-clause-caused : goal.returns-in-Err-clause-caused
+returns-in-Err-clause-caused g c = ap (λ p. p.parts.members) c.self.view_is
+
+pub returns-in-Err-clause-replied : goal.returns-in-Err-clause-replied
+returns-in-Err-clause-replied g c = c.make_room.ensures.items ∙ ap (λ p. p.parts.entries) c.self.view_is
+
+pub returns-in-Err-clause-entered : goal.returns-in-Err-clause-entered
+returns-in-Err-clause-entered g c = c.make_room.ensures.items ∙ ap (λ p. p.parts.entries) c.self.view_is
+
+pub returns-in-Err-clause-failed : goal.returns-in-Err-clause-failed
+returns-in-Err-clause-failed g c = subst (λ p. HaveRolesFailed p.parts.members c.self.inside.members (g.B.Bank.faults_of p.parts.bank) (g.B.Bank.faults_of c.self.inside.bank)) c.self.view_is (λ role slot held. inl held)

@@ -25,6 +25,7 @@ use Rattle.moving_laws.proofs.Kept.{ready, shapes-same, alone-keeps}
 use Rattle.moving_laws.proofs.Examined.{moving-still}
 use Rattle.moving_laws.proofs.EnterLaws.{HasBackup, backup-for}
 use Rattle.moving_laws.proofs.BarredLaws.{never-done}
+use Rattle.moving.proofs.Calls.{one-less}
 use Rattle.moving.proofs.state.Moving.clear.Goals as goal
 
 -- ---- the window, and its backup
@@ -88,3 +89,20 @@ returns-clause-called g c =
     c.clear_window.ensures.cause.never_falls
     (record { uuid = c.enter.ensures.uuid; given = c.enter.ensures.given; first = c.enter.ensures.first; backup = refl; work = refl; ahead = refl; limit = refl })
     (λ t. (was.kept.recorded t).begun))
+
+-- ---- by what stands above
+
+pub check_going-requires : goal.check_going-requires
+check_going-requires g c = subst (λ p. IsCallGoing p.parts.entries c.args.who) (sym c.self.view_is) c.requires.open
+
+pub overflow_sub-self : goal.overflow_sub-self
+overflow_sub-self g c = subst (λ p. 1 ≤ p.parts.steps) (sym c.self.view_is) c.requires.room
+
+pub returns-clause-room : goal.returns-clause-room
+returns-clause-room g c = one-less c.self.inside.steps (subst (λ p. 1 ≤ p.parts.steps) (sym c.self.view_is) c.requires.room) ∙ ap (λ p. p.parts.steps) c.self.view_is
+
+pub returns-clause-members : goal.returns-clause-members
+returns-clause-members g c = ap (λ p. p.parts.members) c.self.view_is
+
+pub returns-clause-alone : goal.returns-clause-alone
+returns-clause-alone g c = rw (← c.self.view_is) (c.ops-end.result, c.enter.ensures.items)

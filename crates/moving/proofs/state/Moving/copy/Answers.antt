@@ -1,9 +1,9 @@
-use Rattle.std.proofs.Common.{◌≤◌, ℕ, ◌-◌, ◌*◌, List, [], ◌∷◌, ◌++◌, take, Some, refl, sym, ◌∙◌, ap, subst, arith}
+use Rattle.std.proofs.Common.{◌+◌, ◌≤◌, ℕ, ◌-◌, ◌*◌, List, [], ◌∷◌, ◌++◌, take, Some, refl, sym, ◌∙◌, ap, subst, arith}
 use Rattle.std.specs.Vec.{with_items}
 use Rattle.md_base.specs.Shapes.{stripe_sectors}
 use Rattle.geometry.proofs.ClosedForms.{ceiling_below}
 use Rattle.geometry.proofs.Valid.{bounded}
-use Rattle.superblocks.specs.Reading.{final_shape, list_length}
+use Rattle.superblocks.specs.Reading.{final_shape, list_length, is_clean}
 use Rattle.moving_laws.proofs.shape_views_Stands.{window-inside}
 use Rattle.views.specs.Lacking.{AreTooMany}
 use Rattle.moving_laws.proofs.array_kept_ReplyLaws.{too-many-of, refused-for}
@@ -22,7 +22,7 @@ use Rattle.moving_laws.specs.kept_history_Recorded.{IsCallGoing}
 use Rattle.moving_laws.specs.kept_history_Safe.{world_in}
 use Rattle.moving_laws.specs.course_kept_the_Course.{Course}
 use Rattle.moving_laws.specs.course_kept_Course.{IsWindowOf}
-use Rattle.moving_laws.proofs.moving_state_ReshapeLaws.{window-reach, list-short}
+use Rattle.moving_laws.proofs.moving_state_ReshapeLaws.{window-reach, list-short, under-way-of}
 use Rattle.moving_laws.proofs.moving_kept_Refusals.{quiet-refusal, refused-right}
 use Rattle.moving_laws.proofs.moving_kept_Resting.{resting-moves}
 use Rattle.moving_laws.proofs.moving_kept_Steps.{missing-since}
@@ -33,6 +33,9 @@ use Rattle.moving_laws.proofs.running_words_Called.{not_254, called, alone-lossl
 use Rattle.moving_laws.proofs.Copied.{due-is, left-falls, IsStripeTried, copied-more, copied-kept, uncopied-kept}
 use Rattle.moving_laws.proofs.Kept.{ready, ready-moved, shapes-same, shapes-moved, alone-keeps, behind-keeps, behind-whole, with-buffer, live-of}
 use Rattle.moving_laws.proofs.Settled.{risen-told, many-of}
+use Rattle.grow_asked.specs.Left.{phases_of}
+use Rattle.moving_laws.specs.array_kept_Calls.{IsRefusedFor}
+use Rattle.moving.proofs.Calls.{room-49, one-less, many-refused, sound-same, zeroed-moved, entered-sure, never-falls, room-after-1, room-after-49, scratch-of, step-entered, called-over, zero-le}
 use Rattle.moving.proofs.state.Moving.copy.Goals as goal
 
 -- ---- the members lack too many
@@ -52,8 +55,8 @@ invariant_of-self g c =
     c.args.who end (Refused refusal) was.kept goes (not_254 c.args.who.caller c.requires.caller) c.ops-end.ensures.count (quiet-refusal refusal) (λ told is. is)
     (λ t right. refused-right (world_in given tape scope a.epoch.first) a.epoch.entries.items given a.members was.kept.members_are.placed (was.kept.gone t right) (was.kept.levelled t right) refusal c.in-Some.ensures) in
     ready (entries_of c.args.who end (Refused refusal ∷ [])) was (grows-none (λ t. refl)) (shapes-same a.members.newest) kept
-    refl (λ slot. omega arith) (alone-keeps c.args.who end (Refused refusal) (λ n. refl) (λ limit. refl)) (λ none whole. whole) refl (scope-same given (Some a.backup) refl c.enter.ensures.uuid c.enter.ensures.given) c.enter.ensures.first refl c.enter.ensures.items
-    (let had = was.room_left in let room = c.enter.ensures.room in omega (arith, room, had, steps))
+    refl (never-falls _) (alone-keeps c.args.who end (Refused refusal) (λ n. refl) (λ limit. refl)) (λ none whole. whole) refl (scope-same given (Some a.backup) refl c.enter.ensures.uuid c.enter.ensures.given) c.enter.ensures.first refl c.enter.ensures.items
+    (room-after-1 a.steps a.epoch.entries.room c.enter.new.epoch.entries.room was.room_left c.enter.ensures.room steps)
 
 pub returns-in-Some-clause-called : goal.returns-in-Some-clause-called
 returns-in-Some-clause-called g c =
@@ -63,10 +66,10 @@ returns-in-Some-clause-called g c =
     let faults = g.B.Bank.faults_of a.bank in
     let end = c.ops-end.result in
     let refusal = c.in-Some.refusal in
-    rw (← c.self.view_is) (called (grows-none (λ t. refl)) (moved-same given given a.members a.members refl refl was.kept.members_are.placed was.kept.members_are.unlost)
+    called-over g.B.Bank.given g.B.Bank.tape g.B.Bank.faults_of c.self.view_is (called (grows-none (λ t. refl)) (moved-same given given a.members a.members refl refl was.kept.members_are.placed was.kept.members_are.unlost)
     (ended-behind (g.B.Bank.tape a.bank) c.enter.new.epoch.first a.epoch.entries.items c.args.who end [] (Refused refusal) c.enter.ensures.items c.ops-end.ensures.count)
     (alone-lossless a.members faults faults a.epoch.entries.items a.epoch.entries.items c.enter.new.epoch.entries.items c.args.who end (Refused refusal) tt refl c.enter.ensures.items)
-    (λ slot. omega arith)
+    (never-falls _)
     (record { uuid = c.enter.ensures.uuid; given = c.enter.ensures.given; first = c.enter.ensures.first; backup = refl; work = refl; ahead = refl; limit = refl })
     (λ t. (was.kept.recorded t).begun))
 
@@ -109,7 +112,7 @@ invariant_of-self-in-Some-refusal g c =
     with-buffer (let len = (with_items a.buffer c.copy_next-moved.new.scratch).ok.0 in let ok = a.buffer.ok.0 in omega (arith, len, ok, was.buffer_fits))
     (ready (entries_of c.args.who end (losses_of roles spares ++ Refused refusal ∷ [])) was did.grows (shapes-moved given a.members m did.moved) kept
     refl did.counts (behind-keeps c.args.who end roles spares (Refused refusal) (λ n. refl) (λ limit. refl)) (behind-whole tape' (scope_in given a.epoch.uuid a.epoch.given (Some a.backup)) a.epoch.first a.epoch.entries.items c.args.who end roles spares (Refused refusal) did.moved (missing-since roles did.moved did.since.vacant)) did.given (scope-same given (Some a.backup) did.given c.enter_behind.ensures.uuid c.enter_behind.ensures.given) c.enter_behind.ensures.first refl c.enter_behind.ensures.items
-    (let had = was.room_left in let room = c.enter_behind.ensures.room in omega (arith, room, had, steps)))
+    (room-after-49 a.steps a.epoch.entries.room c.enter_behind.new.epoch.entries.room was.room_left c.enter_behind.ensures.room steps))
 
 pub returns-in-Some-refusal-clause-called : goal.returns-in-Some-refusal-clause-called
 returns-in-Some-refusal-clause-called g c =
@@ -123,7 +126,7 @@ returns-in-Some-refusal-clause-called g c =
     let spares = c.copy_next-moved.result.spares in
     let end = c.ops-end-2.result in
     let event = Refused c.in-Some-refusal.refusal in
-    rw (← c.self.view_is) (called did.grows did.moved
+    called-over g.B.Bank.given g.B.Bank.tape g.B.Bank.faults_of c.self.view_is (called did.grows did.moved
     (ended-behind (g.B.Bank.tape c.copy_next-moved.new.bank) c.enter_behind.new.epoch.first a.epoch.entries.items c.args.who end (losses_of roles spares) event c.enter_behind.ensures.items c.ops-end-2.ensures.count)
     (losses-behind a.members m before after a.epoch.entries.items a.epoch.entries.items c.enter_behind.new.epoch.entries.items c.args.who end roles spares event did.since tt refl c.enter_behind.ensures.items)
     did.counts
@@ -164,9 +167,9 @@ invariant_of-self-2 g c =
     c.in-Entered.span c.in-Entered.copied c.in-Entered.sectioned c.args.who end roles spares was.kept due.0 (live-of was.kept c.in_default.ensures) due.1 goes (not_254 c.args.who.caller c.requires.caller) c.ops-end-2.ensures.count did.grows tried
     left c.steps_left-left.ensures (λ t list copied. did.stands c.in_default-refusal.is t list (subst (λ (l : List ℕ). IsCopied span (take (512 * (span.hi - span.lo)) l) (tail_of a.members.newest) list) (sym c.as_slice.ensures.value) copied)) in
     with-buffer (let len = (with_items a.buffer c.copy_next-moved.new.scratch).ok.0 in let ok = a.buffer.ok.0 in omega (arith, len, ok, was.buffer_fits))
-    (ready-moved (entries_of c.args.who end (losses_of roles spares ++ Step CopiesStripe left ∷ [])) was did.grows (shapes-moved given a.members m did.moved) kept (λ span is. absurd (cc))
+    (ready-moved (entries_of c.args.who end (losses_of roles spares ++ Step CopiesStripe left ∷ [])) was did.grows (shapes-moved given a.members m did.moved) kept (λ next is. entered-sure c.in-Entered.span next (c.in-Entered.copied + 1) c.in-Entered.sectioned is)
     refl did.counts (behind-keeps c.args.who end roles spares (Step CopiesStripe left) (λ n. refl) (λ limit. refl)) (behind-whole tape' (scope_in given a.epoch.uuid a.epoch.given (Some a.backup)) a.epoch.first a.epoch.entries.items c.args.who end roles spares (Step CopiesStripe left) did.moved (missing-since roles did.moved did.since.vacant)) did.given (scope-same given (Some a.backup) did.given c.enter_behind-2.ensures.uuid c.enter_behind-2.ensures.given) c.enter_behind-2.ensures.first refl c.enter_behind-2.ensures.items
-    (let had = was.room_left in let room = c.enter_behind-2.ensures.room in omega (arith, room, had, steps)))
+    (room-after-49 a.steps a.epoch.entries.room c.enter_behind-2.new.epoch.entries.room was.room_left c.enter_behind-2.ensures.room steps))
 
 pub returns-clause-called : goal.returns-clause-called
 returns-clause-called g c =
@@ -180,7 +183,7 @@ returns-clause-called g c =
     let spares = c.copy_next-moved.result.spares in
     let end = c.ops-end-2.result in
     let event = Step CopiesStripe c.steps_left-left.result in
-    rw (← c.self.view_is) (called did.grows did.moved
+    called-over g.B.Bank.given g.B.Bank.tape g.B.Bank.faults_of c.self.view_is (called did.grows did.moved
     (ended-behind (g.B.Bank.tape c.copy_next-moved.new.bank) c.enter_behind-2.new.epoch.first a.epoch.entries.items c.args.who end (losses_of roles spares) event c.enter_behind-2.ensures.items c.ops-end-2.ensures.count)
     (losses-behind a.members m before after a.epoch.entries.items a.epoch.entries.items c.enter_behind-2.new.epoch.entries.items c.args.who end roles spares event did.since tt refl c.enter_behind-2.ensures.items)
     did.counts
@@ -192,7 +195,7 @@ returns-clause-copied g c = λ s n b is.
     copied-more c.self.inside.course c.in-Entered.span s c.in-Entered.copied n c.in-Entered.sectioned b c.in-Entered.is (ap (λ p. p.course) c.self.view_is ∙ is)
 
 pub returns-clause-caused : goal.returns-clause-caused
-returns-clause-caused g c = rw (← c.self.view_is) (omega arith, λ refusal many. never-both c.self.inside.members refusal c.in_default.ensures many)
+returns-clause-caused g c = rw (← c.self.view_is) (zero-le _, λ refusal many. never-both c.self.inside.members refusal c.in_default.ensures many)
 
 pub returns-in-Some-refusal-clause-caused : goal.returns-in-Some-refusal-clause-caused
 returns-in-Some-refusal-clause-caused g c =
@@ -200,7 +203,7 @@ returns-in-Some-refusal-clause-caused g c =
     let m = c.copy_next-moved.new.members in
     let refusal = c.in-Some-refusal.refusal in
     let many = many-of m c.copy_next-moved.result.refusal refusal c.in-Some-refusal.is c.copy_next-moved.ensures.refused in
-    rw (← c.self.view_is) (refused-for (list_length a.members.newest) 0 AreTooMany a.members m refusal (too-many-of m refusal many) (omega arith) many)
+    rw (← c.self.view_is) (refused-for (list_length a.members.newest) 0 AreTooMany a.members m refusal (too-many-of m refusal many) (zero-le _) many)
 
 -- ---- the window
 
@@ -231,5 +234,110 @@ pub returns-clause-left : goal.returns-clause-left
 returns-clause-left g c =
     let a = c.self.inside in
     let due = due-is _ c.in-Entered.span c.in-Entered.copied c.in-Entered.sectioned (subst (λ p. IsCopyDue p) (sym c.self.view_is) c.requires.due) c.in-Entered.is in
-    rw (← c.self.view_is) (left-falls (g.B.Bank.given a.bank) a.members c.copy_next-moved.new.members a.work.resync a.course a.ahead c.in-Entered.span c.in-Entered.copied c.in-Entered.sectioned
-    c.self.invariant.kept.members_are.active due.0 due.1 c.copy_next-moved.ensures.moved)
+    left-falls (g.B.Bank.given a.bank) a.members c.copy_next-moved.new.members a.work.resync a.course a.ahead c.in-Entered.span c.in-Entered.copied c.in-Entered.sectioned
+    c.self.invariant.kept.members_are.active due.0 due.1 c.copy_next-moved.ensures.moved ∙ ap (λ p. left_in p.parts.work p.parts.members p.course p.ahead) c.self.view_is
+
+-- ---- by what stands above
+
+pub check_going-requires : goal.check_going-requires
+check_going-requires g c = subst (λ p. IsCallGoing p.parts.entries c.args.who) (sym c.self.view_is) c.requires.open
+
+pub returns-in-Some-clause-caused : goal.returns-in-Some-clause-caused
+returns-in-Some-clause-caused g c =
+    let a = c.self.inside in
+    subst (λ p. IsRefusedFor (list_length p.parts.members.newest) 0 AreTooMany p.parts.members a.members c.in-Some.refusal) c.self.view_is (many-refused a.members c.in-Some.refusal c.in-Some.ensures)
+
+pub returns-in-Some-clause-room : goal.returns-in-Some-clause-room
+returns-in-Some-clause-room g c = one-less c.self.inside.steps (subst (λ p. 1 ≤ p.parts.steps) (sym c.self.view_is) c.requires.room) ∙ ap (λ p. p.parts.steps) c.self.view_is
+
+pub returns-in-Some-refusal-clause-room : goal.returns-in-Some-refusal-clause-room
+returns-in-Some-refusal-clause-room g c = one-less c.self.inside.steps (subst (λ p. 1 ≤ p.parts.steps) (sym c.self.view_is) c.requires.room) ∙ ap (λ p. p.parts.steps) c.self.view_is
+
+pub returns-clause-room : goal.returns-clause-room
+returns-clause-room g c = one-less c.self.inside.steps (subst (λ p. 1 ≤ p.parts.steps) (sym c.self.view_is) c.requires.room) ∙ ap (λ p. p.parts.steps) c.self.view_is
+
+pub enter_behind-requires-clause-room : goal.enter_behind-requires-clause-room
+enter_behind-requires-clause-room g c = room-49 c.self.inside.steps c.self.inside.epoch.entries.room (subst (λ p. 1 ≤ p.parts.steps) (sym c.self.view_is) c.requires.room) c.self.invariant.room_left
+
+pub enter_behind-requires-2-clause-room : goal.enter_behind-requires-2-clause-room
+enter_behind-requires-2-clause-room g c = room-49 c.self.inside.steps c.self.inside.epoch.entries.room (subst (λ p. 1 ≤ p.parts.steps) (sym c.self.view_is) c.requires.room) c.self.invariant.room_left
+
+pub enter_behind-requires-clause-number : goal.enter_behind-requires-clause-number
+enter_behind-requires-clause-number g c = c.check_going.ensures
+
+pub enter_behind-requires-2-clause-number : goal.enter_behind-requires-2-clause-number
+enter_behind-requires-2-clause-number g c = c.check_going.ensures
+
+pub enter-requires-clause-number : goal.enter-requires-clause-number
+enter-requires-clause-number g c = c.check_going.ensures
+
+pub returns-in-Some-refusal-clause-entered : goal.returns-in-Some-refusal-clause-entered
+returns-in-Some-refusal-clause-entered g c = rw (← c.self.view_is) (record { roles = c.copy_next-moved.result.roles; spares = c.copy_next-moved.result.spares; end = c.ops-end-2.result; is = c.enter_behind.ensures.items })
+
+pub returns-clause-entered : goal.returns-clause-entered
+returns-clause-entered g c = step-entered c.copy_next-moved.result.roles c.copy_next-moved.result.spares c.ops-end-2.result c.enter_behind-2.ensures.items c.steps_left-left.ensures (ap (λ p. p.parts.entries) c.self.view_is)
+
+pub copy_next-moved-requires-clause-placed : goal.copy_next-moved-requires-clause-placed
+copy_next-moved-requires-clause-placed g c = c.self.invariant.kept.members_are.placed
+
+pub copy_next-moved-requires-clause-unlost : goal.copy_next-moved-requires-clause-unlost
+copy_next-moved-requires-clause-unlost g c = c.self.invariant.kept.members_are.unlost
+
+pub copy_next-moved-requires-clause-free : goal.copy_next-moved-requires-clause-free
+copy_next-moved-requires-clause-free g c = c.self.invariant.kept.members_are.free
+
+pub copy_next-moved-requires-clause-slots : goal.copy_next-moved-requires-clause-slots
+copy_next-moved-requires-clause-slots g c = c.self.invariant.kept.slots
+
+pub returns-in-Some-refusal-clause-given : goal.returns-in-Some-refusal-clause-given
+returns-in-Some-refusal-clause-given g c = c.copy_next-moved.ensures.given ∙ ap (λ p. g.B.Bank.given p.parts.bank) c.self.view_is
+
+pub returns-clause-given : goal.returns-clause-given
+returns-clause-given g c = c.copy_next-moved.ensures.given ∙ ap (λ p. g.B.Bank.given p.parts.bank) c.self.view_is
+
+pub returns-in-Some-clause-given : goal.returns-in-Some-clause-given
+returns-in-Some-clause-given g c = ap (λ p. g.B.Bank.given p.parts.bank) c.self.view_is
+
+pub returns-in-Some-clause-course : goal.returns-in-Some-clause-course
+returns-in-Some-clause-course g c = ap (λ p. p.course) c.self.view_is
+
+pub returns-in-Some-refusal-clause-course : goal.returns-in-Some-refusal-clause-course
+returns-in-Some-refusal-clause-course g c = ap (λ p. p.course) c.self.view_is
+
+pub returns-in-Some-clause-clean : goal.returns-in-Some-clause-clean
+returns-in-Some-clause-clean g c = ap (λ p. is_clean p.parts.members.newest) c.self.view_is
+
+pub returns-in-Some-refusal-clause-clean : goal.returns-in-Some-refusal-clause-clean
+returns-in-Some-refusal-clause-clean g c = c.copy_next-moved.ensures.clean ∙ ap (λ p. is_clean p.parts.members.newest) c.self.view_is
+
+pub returns-clause-clean : goal.returns-clause-clean
+returns-clause-clean g c = c.copy_next-moved.ensures.clean ∙ ap (λ p. is_clean p.parts.members.newest) c.self.view_is
+
+pub steps_left-left-requires-clause-reshape : goal.steps_left-left-requires-clause-reshape
+steps_left-left-requires-clause-reshape g c =
+    let moved = c.copy_next-moved.ensures.moved in
+    under-way-of c.copy_next-moved.new.members.newest moved.placed.fit (moved.reshape.reshaping ∙ c.self.invariant.kept.members_are.active)
+
+pub steps_left-left-requires-clause-fit : goal.steps_left-left-requires-clause-fit
+steps_left-left-requires-clause-fit g c =
+    let moved = c.copy_next-moved.ensures.moved in
+    moved.placed.fit
+
+pub steps_left-left-requires-clause-sound : goal.steps_left-left-requires-clause-sound
+steps_left-left-requires-clause-sound g c = sound-same (phases_of c.self.inside.ahead) (shapes-moved (g.B.Bank.given c.self.inside.bank) c.self.inside.members c.copy_next-moved.new.members c.copy_next-moved.ensures.moved) c.self.invariant.planned
+
+pub steps_left-left-requires-clause-zeroed : goal.steps_left-left-requires-clause-zeroed
+steps_left-left-requires-clause-zeroed g c =
+    let moved = c.copy_next-moved.ensures.moved in
+    zeroed-moved _ moved c.self.invariant.kept.course_is.few
+
+pub copy_next-moved-requires-clause-more : goal.copy_next-moved-requires-clause-more
+copy_next-moved-requires-clause-more g c =
+    let due = due-is _ c.in-Entered.span c.in-Entered.copied c.in-Entered.sectioned (subst (λ p. IsCopyDue p) (sym c.self.view_is) c.requires.due) c.in-Entered.is in
+    due.1
+
+pub overflow_sub-self : goal.overflow_sub-self
+overflow_sub-self g c = subst (λ p. 1 ≤ p.parts.steps) (sym c.self.view_is) c.requires.room
+
+pub copy_next-moved-requires-clause-scratch : goal.copy_next-moved-requires-clause-scratch
+copy_next-moved-requires-clause-scratch g c = scratch-of _ _ c.as_mut_slice.ensures.value c.self.invariant.buffer_fits

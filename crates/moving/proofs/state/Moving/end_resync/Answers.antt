@@ -1,10 +1,10 @@
-use Rattle.std.proofs.Common.{◌≤◌, [], ◌∷◌, ◌++◌, false, Some, refl, sym, ◌∙◌, subst, arith}
+use Rattle.std.proofs.Common.{◌≤◌, [], ◌∷◌, ◌++◌, false, Some, refl, sym, ◌∙◌, subst, arith, ap, None}
 use Rattle.superblocks.specs.Reading.{list_length}
 use Rattle.superblocks.proofs.ValidFields.{few-roles}
 use Rattle.flat_history.specs.declared.events.Event.TheVariants.{Refused, Step}
 use Rattle.flat_history.specs.declared.events.StepKind.TheVariants.{ResyncEnded as EndsResync}
 use Rattle.flat_history.specs.Plain.{entries_of}
-use Rattle.views.specs.Lacking.{AreTooMany}
+use Rattle.views.specs.Lacking.{AreTooMany, AreHoldersFlushed}
 use Rattle.views.specs.Numbers.{is_carried}
 use Rattle.views.proofs.LackingLaws.{lost-since, never-both}
 use Rattle.views.proofs.MovedLaws.{grows-none, moved-same}
@@ -25,6 +25,11 @@ use Rattle.moving_laws.specs.Mending.{IsResyncEndDue}
 use Rattle.moving_laws.specs.Ready.{bytes_in}
 use Rattle.moving_laws.proofs.Kept.{ready, ready-with, shapes-same, shapes-moved, alone-keeps, behind-keeps, behind-whole}
 use Rattle.moving_laws.proofs.MendLaws.{aside-right, end-refused, end-done, end-left, rows-good}
+use Rattle.grow_asked.specs.Left.{phases_of}
+use Rattle.moving_laws.specs.array_kept_Calls.{IsRefusedFor}
+use Rattle.moving_laws.proofs.moving_state_ReshapeLaws.{under-way-of}
+use Rattle.moving.proofs.Calls.{room-49, one-less, many-refused, sound-same, zeroed-moved, known-moved, never-falls, room-after-1, room-after-49, step-entered, zero-le}
+use Rattle.row_io.specs.Rows.{reading_of}
 use Rattle.moving.proofs.state.Moving.end_resync.Goals as goal
 
 -- ---- refused before anything is done
@@ -44,8 +49,8 @@ invariant_of-self g c =
     c.args.who end (Refused refusal) was.kept goes (not_254 c.args.who.caller c.requires.caller) c.ops-end.ensures.count (quiet-refusal refusal) (λ told is. is)
     (λ t right. refused-right (world_in given tape scope a.epoch.first) a.epoch.entries.items given a.members was.kept.members_are.placed (was.kept.gone t right) (was.kept.levelled t right) refusal c.in-Some.ensures) in
     ready (entries_of c.args.who end (Refused refusal ∷ [])) was (grows-none (λ t. refl)) (shapes-same a.members.newest) kept
-    refl (λ slot. omega arith) (alone-keeps c.args.who end (Refused refusal) (λ n. refl) (λ limit. refl)) (λ none whole. whole) refl (scope-same given (Some a.backup) refl c.enter.ensures.uuid c.enter.ensures.given) c.enter.ensures.first refl c.enter.ensures.items
-    (omega (arith, c.enter.ensures.room, was.room_left, some))
+    refl (never-falls _) (alone-keeps c.args.who end (Refused refusal) (λ n. refl) (λ limit. refl)) (λ none whole. whole) refl (scope-same given (Some a.backup) refl c.enter.ensures.uuid c.enter.ensures.given) c.enter.ensures.first refl c.enter.ensures.items
+    (room-after-1 a.steps a.epoch.entries.room c.enter.new.epoch.entries.room was.room_left c.enter.ensures.room some)
 
 pub returns-in-Some-clause-entered : goal.returns-in-Some-clause-entered
 returns-in-Some-clause-entered g c =
@@ -62,7 +67,7 @@ returns-in-Some-clause-called g c =
     rw (← c.self.view_is) (called (grows-none (λ t. refl)) (moved-same given given a.members a.members refl refl was.kept.members_are.placed was.kept.members_are.unlost)
     (ended-behind (g.B.Bank.tape a.bank) c.enter.new.epoch.first a.epoch.entries.items c.args.who end [] (Refused refusal) c.enter.ensures.items c.ops-end.ensures.count)
     (alone-lossless a.members faults faults a.epoch.entries.items a.epoch.entries.items c.enter.new.epoch.entries.items c.args.who end (Refused refusal) tt refl c.enter.ensures.items)
-    (λ slot. omega arith)
+    (never-falls _)
     (record { uuid = c.enter.ensures.uuid; given = c.enter.ensures.given; first = c.enter.ensures.first; backup = refl; work = refl; ahead = refl; limit = refl })
     (λ t. (was.kept.recorded t).begun))
 
@@ -129,7 +134,7 @@ invariant_of-self-in-Some-refusal g c =
     (many-of m c.settle-settled.result.refusal refusal c.in-Some-refusal.is did.refused) in
     ready (entries_of c.args.who end (losses_of roles spares ++ Refused refusal ∷ [])) was did.grows (shapes-moved given a.members m did.moved) kept
     refl did.counts (behind-keeps c.args.who end roles spares (Refused refusal) (λ n. refl) (λ limit. refl)) (behind-whole tape' (scope_in given a.epoch.uuid a.epoch.given (Some a.backup)) a.epoch.first a.epoch.entries.items c.args.who end roles spares (Refused refusal) did.moved (missing-since roles did.moved since.vacant)) did.given (scope-same given (Some a.backup) did.given c.enter_behind.ensures.uuid c.enter_behind.ensures.given) c.enter_behind.ensures.first refl c.enter_behind.ensures.items
-    (omega (arith, c.enter_behind.ensures.room, was.room_left, some))
+    (room-after-49 a.steps a.epoch.entries.room c.enter_behind.new.epoch.entries.room was.room_left c.enter_behind.ensures.room some)
 
 pub returns-in-Some-refusal-clause-called : goal.returns-in-Some-refusal-clause-called
 returns-in-Some-refusal-clause-called g c =
@@ -160,7 +165,7 @@ returns-in-Some-refusal-clause-caused g c =
     let m = c.settle-settled.new.members in
     let refusal = c.in-Some-refusal.refusal in
     let many = many-of m c.settle-settled.result.refusal refusal c.in-Some-refusal.is c.settle-settled.ensures.refused in
-    rw (← c.self.view_is) (refused-for (list_length a.members.newest) 0 AreTooMany a.members m refusal (too-many-of m refusal many) (omega arith) many)
+    rw (← c.self.view_is) (refused-for (list_length a.members.newest) 0 AreTooMany a.members m refusal (too-many-of m refusal many) (zero-le _) many)
 
 -- ---- it is done
 
@@ -205,7 +210,7 @@ invariant_of-self-2 g c =
     let kept = end-done a.work a.course a.ahead c.args.who end roles spares due.is due.aside was.kept c.in_default.ensures goes c.requires.caller c.ops-end-2.ensures.count did.grows flushed left c.steps_left-left.ensures done in
     ready-with (entries_of c.args.who end (losses_of roles spares ++ Step EndsResync left ∷ [])) was did.grows (shapes-moved given a.members m did.moved) kept
     refl did.counts (behind-keeps c.args.who end roles spares (Step EndsResync left) (λ n. refl) (λ limit. refl)) (behind-whole tape' (scope_in given a.epoch.uuid a.epoch.given (Some a.backup)) a.epoch.first a.epoch.entries.items c.args.who end roles spares (Step EndsResync left) did.moved (missing-since roles did.moved since.vacant)) did.given (scope-same given (Some a.backup) did.given c.enter_behind-2.ensures.uuid c.enter_behind-2.ensures.given) c.enter_behind-2.ensures.first refl c.enter_behind-2.ensures.items
-    (omega (arith, c.enter_behind-2.ensures.room, was.room_left, some))
+    (room-after-49 a.steps a.epoch.entries.room c.enter_behind-2.new.epoch.entries.room was.room_left c.enter_behind-2.ensures.room some)
 
 pub returns-clause-called : goal.returns-clause-called
 returns-clause-called g c =
@@ -235,10 +240,10 @@ returns-clause-left g c =
     let was = c.self.invariant in
     let a = c.self.inside in
     let due = subst (λ p. IsResyncEndDue p) (sym c.self.view_is) c.requires.due in
-    rw (← c.self.view_is) (end-left (g.B.Bank.given a.bank) a.members c.settle-settled.new.members a.work a.course a.ahead was.kept.members_are.placed.fit was.kept.members_are.active due.is c.settle-settled.ensures.moved due.aside)
+    end-left (g.B.Bank.given a.bank) a.members c.settle-settled.new.members a.work a.course a.ahead was.kept.members_are.placed.fit was.kept.members_are.active due.is c.settle-settled.ensures.moved due.aside ∙ ap (λ p. left_in p.parts.work p.parts.members p.course p.ahead) c.self.view_is
 
 pub returns-clause-caused : goal.returns-clause-caused
-returns-clause-caused g c = rw (← c.self.view_is) (omega arith, λ refusal many. never-both c.self.inside.members refusal c.in_default.ensures many)
+returns-clause-caused g c = rw (← c.self.view_is) (zero-le _, λ refusal many. never-both c.self.inside.members refusal c.in_default.ensures many)
 
 pub returns-clause-clean : goal.returns-clause-clean
 returns-clause-clean g c = c.settle-settled.ensures.clean c.in_default-refusal.is refl
@@ -249,4 +254,107 @@ returns-clause-good g c =
     λ t fit. rows-good c.self.inside.course due.aside (invariant_of-self-2 g c).kept t fit
 
 pub returns-clause-flushed : goal.returns-clause-flushed
-returns-clause-flushed g c = rw (← c.self.view_is) c.settle-settled.ensures.flushed
+returns-clause-flushed g c = subst (λ p. g.B.Bank.tells → AreHoldersFlushed (reading_of c.settle-settled.new.members) (g.B.Bank.given p.parts.bank) (g.B.Bank.tape c.settle-settled.new.bank)) c.self.view_is c.settle-settled.ensures.flushed
+
+-- ---- by what stands above
+
+pub check_going-requires : goal.check_going-requires
+check_going-requires g c = subst (λ p. IsCallGoing p.parts.entries c.args.who) (sym c.self.view_is) c.requires.open
+
+pub returns-in-Some-clause-caused : goal.returns-in-Some-clause-caused
+returns-in-Some-clause-caused g c =
+    let a = c.self.inside in
+    subst (λ p. IsRefusedFor (list_length p.parts.members.newest) 0 AreTooMany p.parts.members a.members c.in-Some.refusal) c.self.view_is (many-refused a.members c.in-Some.refusal c.in-Some.ensures)
+
+pub returns-in-Some-clause-room : goal.returns-in-Some-clause-room
+returns-in-Some-clause-room g c = one-less c.self.inside.steps (subst (λ p. 1 ≤ p.parts.steps) (sym c.self.view_is) c.requires.room) ∙ ap (λ p. p.parts.steps) c.self.view_is
+
+pub returns-in-Some-refusal-clause-room : goal.returns-in-Some-refusal-clause-room
+returns-in-Some-refusal-clause-room g c = one-less c.self.inside.steps (subst (λ p. 1 ≤ p.parts.steps) (sym c.self.view_is) c.requires.room) ∙ ap (λ p. p.parts.steps) c.self.view_is
+
+pub returns-clause-room : goal.returns-clause-room
+returns-clause-room g c = one-less c.self.inside.steps (subst (λ p. 1 ≤ p.parts.steps) (sym c.self.view_is) c.requires.room) ∙ ap (λ p. p.parts.steps) c.self.view_is
+
+pub enter_behind-requires-clause-room : goal.enter_behind-requires-clause-room
+enter_behind-requires-clause-room g c = room-49 c.self.inside.steps c.self.inside.epoch.entries.room (subst (λ p. 1 ≤ p.parts.steps) (sym c.self.view_is) c.requires.room) c.self.invariant.room_left
+
+pub enter_behind-requires-2-clause-room : goal.enter_behind-requires-2-clause-room
+enter_behind-requires-2-clause-room g c = room-49 c.self.inside.steps c.self.inside.epoch.entries.room (subst (λ p. 1 ≤ p.parts.steps) (sym c.self.view_is) c.requires.room) c.self.invariant.room_left
+
+pub enter_behind-requires-clause-number : goal.enter_behind-requires-clause-number
+enter_behind-requires-clause-number g c = c.check_going.ensures
+
+pub enter_behind-requires-2-clause-number : goal.enter_behind-requires-2-clause-number
+enter_behind-requires-2-clause-number g c = c.check_going.ensures
+
+pub enter-requires-clause-number : goal.enter-requires-clause-number
+enter-requires-clause-number g c = c.check_going.ensures
+
+pub returns-in-Some-refusal-clause-entered : goal.returns-in-Some-refusal-clause-entered
+returns-in-Some-refusal-clause-entered g c = rw (← c.self.view_is) (record { roles = c.newly_vacant-lost.result; spares = c.settle-settled.result.spares; end = c.ops-end-2.result; is = c.enter_behind.ensures.items })
+
+pub returns-clause-entered : goal.returns-clause-entered
+returns-clause-entered g c = step-entered c.newly_vacant-lost.result c.settle-settled.result.spares c.ops-end-2.result c.enter_behind-2.ensures.items c.steps_left-left.ensures (ap (λ p. p.parts.entries) c.self.view_is)
+
+pub settle-settled-requires-clause-placed : goal.settle-settled-requires-clause-placed
+settle-settled-requires-clause-placed g c = c.self.invariant.kept.members_are.placed
+
+pub settle-settled-requires-clause-unlost : goal.settle-settled-requires-clause-unlost
+settle-settled-requires-clause-unlost g c = c.self.invariant.kept.members_are.unlost
+
+pub settle-settled-requires-clause-free : goal.settle-settled-requires-clause-free
+settle-settled-requires-clause-free g c = c.self.invariant.kept.members_are.free
+
+pub settle-settled-requires-clause-slots : goal.settle-settled-requires-clause-slots
+settle-settled-requires-clause-slots g c = c.self.invariant.kept.slots
+
+pub returns-in-Some-refusal-clause-given : goal.returns-in-Some-refusal-clause-given
+returns-in-Some-refusal-clause-given g c = c.settle-settled.ensures.given ∙ ap (λ p. g.B.Bank.given p.parts.bank) c.self.view_is
+
+pub returns-clause-given : goal.returns-clause-given
+returns-clause-given g c = c.settle-settled.ensures.given ∙ ap (λ p. g.B.Bank.given p.parts.bank) c.self.view_is
+
+pub returns-in-Some-clause-given : goal.returns-in-Some-clause-given
+returns-in-Some-clause-given g c = ap (λ p. g.B.Bank.given p.parts.bank) c.self.view_is
+
+pub returns-in-Some-clause-course : goal.returns-in-Some-clause-course
+returns-in-Some-clause-course g c = ap (λ p. p.course) c.self.view_is
+
+pub returns-in-Some-refusal-clause-course : goal.returns-in-Some-refusal-clause-course
+returns-in-Some-refusal-clause-course g c = ap (λ p. p.course) c.self.view_is
+
+pub steps_left-left-requires-clause-reshape : goal.steps_left-left-requires-clause-reshape
+steps_left-left-requires-clause-reshape g c =
+    let moved = c.settle-settled.ensures.moved in
+    under-way-of c.settle-settled.new.members.newest moved.placed.fit (moved.reshape.reshaping ∙ c.self.invariant.kept.members_are.active)
+
+pub steps_left-left-requires-clause-fit : goal.steps_left-left-requires-clause-fit
+steps_left-left-requires-clause-fit g c =
+    let moved = c.settle-settled.ensures.moved in
+    moved.placed.fit
+
+pub steps_left-left-requires-clause-sound : goal.steps_left-left-requires-clause-sound
+steps_left-left-requires-clause-sound g c = sound-same (phases_of c.self.inside.ahead) (shapes-moved (g.B.Bank.given c.self.inside.bank) c.self.inside.members c.settle-settled.new.members c.settle-settled.ensures.moved) c.self.invariant.planned
+
+pub steps_left-left-requires-clause-zeroed : goal.steps_left-left-requires-clause-zeroed
+steps_left-left-requires-clause-zeroed g c =
+    let moved = c.settle-settled.ensures.moved in
+    zeroed-moved _ moved c.self.invariant.kept.course_is.few
+
+pub newly_vacant-lost-requires-clause-known : goal.newly_vacant-lost-requires-clause-known
+newly_vacant-lost-requires-clause-known g c = known-moved c.len-count.result c.settle-settled.ensures.moved c.len-count.ensures c.self.invariant.kept.members_are.placed.roles
+
+pub returns-in-Some-clause-work : goal.returns-in-Some-clause-work
+returns-in-Some-clause-work g c = ap (λ p. p.parts.work) c.self.view_is
+
+pub returns-in-Some-refusal-clause-work : goal.returns-in-Some-refusal-clause-work
+returns-in-Some-refusal-clause-work g c = ap (λ p. p.parts.work) c.self.view_is
+
+pub returns-clause-course : goal.returns-clause-course
+returns-clause-course g c = ap (λ p. p.course) c.self.view_is
+
+pub returns-clause-work : goal.returns-clause-work
+returns-clause-work g c = ap (λ p. record p.parts.work { resync = None }) c.self.view_is
+
+pub overflow_sub-self : goal.overflow_sub-self
+overflow_sub-self g c = subst (λ p. 1 ≤ p.parts.steps) (sym c.self.view_is) c.requires.room

@@ -1,10 +1,10 @@
-use Rattle.std.proofs.Common.{None, ◌≡◌, ◌≤◌, inl, inr, ℕ, ◌-◌, ◌*◌, List, [], ◌∷◌, ◌++◌, length, take, Option, Some, refl, sym, ◌∙◌, ap, subst, arith}
+use Rattle.std.proofs.Common.{None, ◌≡◌, ◌≤◌, inl, inr, ℕ, ◌-◌, ◌*◌, List, [], ◌∷◌, ◌++◌, length, take, Some, refl, sym, ◌∙◌, ap, subst, arith, le_of_eq}
 use Rattle.std.specs.Vec.{with_items}
 use Rattle.bank.specs.Tape.{disk}
 use Rattle.md_base.specs.declared.answers.Refusal.{Refusal}
 use Rattle.md_base.specs.declared.places.Span.{Span}
 use Rattle.geometry.specs.Geometry.{is_critical}
-use Rattle.superblocks.specs.Reading.{is_backward, shape_of, final_shape, next_window}
+use Rattle.superblocks.specs.Reading.{is_backward, shape_of, final_shape, next_window, is_clean}
 use Rattle.flat_history.specs.declared.events.Event.TheVariants.{Refused, Step}
 use Rattle.flat_history.specs.declared.events.StepKind.TheVariants.{Entered as EntersWindow}
 use Rattle.flat_history.specs.Plain.{entries_of}
@@ -35,6 +35,9 @@ use Rattle.moving_laws.proofs.Kept.{ready, ready-moved, shapes-same, shapes-move
 use Rattle.moving_laws.proofs.EnterLaws.{backup-for}
 use Rattle.moving_laws.proofs.BarredLaws.{closed-of}
 use Rattle.moving_laws.proofs.Entered.{course_in, IsNextTried, when-some, when-none, enter-refused, enter-left, enter-done}
+use Rattle.flat_history.specs.Stands.{reach_of}
+use Rattle.grow_asked.specs.Left.{phases_of}
+use Rattle.moving.proofs.StepLaws.{one-fewer, same-some, room-behind, wide-for, scratch-for, never-some, taken-behind, under-way-moved, zeroed-moved, sound-moved, entered-right}
 use Rattle.moving.proofs.state.Moving.enter_sure.Goals as goal
 
 -- ---- the members lack too many
@@ -285,8 +288,130 @@ returns-clause-opened g c =
     let due = subst (λ p. IsEnterDue p) (sym c.self.view_is) c.requires.due in
     let shut = closed-of a.course due.span a.members due.is (subst (λ p. (s : Span) → p.course.window ≡ Unsure s → (refusal : Refusal) × AreTooMany p.parts.members refusal) (sym c.self.view_is) c.requires.sure) c.in_default.ensures in
     rw (← c.self.view_is) (λ other next.
-    let same : span ≡ other = (let both : ◌≡◌ {A = Option Span} (Some span) (Some other) = c.in-Some-next_window_of.ensures.value ∙ next in cc) in
+    let same : span ≡ other = same-some span other (c.in-Some-next_window_of.ensures.value ∙ next) in
     ap (λ (k : Course). record k { window = tried.window }) shut
     ∙ ap course_in (when-none _ _ tried.refusal c.in_default-refusal.is c.enter_next-tried.ensures.window)
     ∙ ap (entered span 0) c.is_window_critical-sectioned.ensures
     ∙ ap (λ (s : Span). entered s 0 (is_critical (shape_of n) (final_shape n) n.size (is_backward n) s)) same)
+
+-- ---- what the searches would find too, for longer
+
+pub check_going-requires : goal.check_going-requires
+check_going-requires g c = subst (λ p. IsCallGoing p.parts.entries c.args.who) (sym c.self.view_is) c.requires.open
+
+pub enter-requires-clause-number : goal.enter-requires-clause-number
+enter-requires-clause-number g c = c.check_going.ensures
+
+pub returns-in-Some-clause-clean : goal.returns-in-Some-clause-clean
+returns-in-Some-clause-clean g c = ap (λ p. is_clean p.parts.members.newest) c.self.view_is
+
+pub returns-in-Some-clause-caused : goal.returns-in-Some-clause-caused
+returns-in-Some-clause-caused g c = inl c.in-Some.ensures
+
+pub returns-in-Some-clause-course : goal.returns-in-Some-clause-course
+returns-in-Some-clause-course g c = inl (ap (λ p. p.course) c.self.view_is)
+
+pub returns-in-Some-clause-room : goal.returns-in-Some-clause-room
+returns-in-Some-clause-room g c = one-fewer c.self.inside.steps c.args.self.now.parts.steps (ap (λ p. p.parts.steps) c.self.view_is) c.requires.room
+
+pub returns-in-Some-clause-given : goal.returns-in-Some-clause-given
+returns-in-Some-clause-given g c = ap (λ p. g.B.Bank.given p.parts.bank) c.self.view_is
+
+pub unreachable-requires : goal.unreachable-requires
+unreachable-requires g c =
+    let due = subst (λ p. IsEnterDue p) (sym c.self.view_is) c.requires.due in
+    never-some due.span (next_window c.self.inside.members.newest) (sym c.next_window_of.ensures.value ∙ c.in_default-next_window_of.is) due.next
+
+pub is_window_critical-sectioned-requires-clause-next : goal.is_window_critical-sectioned-requires-clause-next
+is_window_critical-sectioned-requires-clause-next g c = sym c.in-Some-next_window_of.ensures.value
+
+pub enter_next-tried-requires-clause-slots : goal.enter_next-tried-requires-clause-slots
+enter_next-tried-requires-clause-slots g c = c.self.invariant.kept.slots
+
+pub enter_next-tried-requires-clause-placed : goal.enter_next-tried-requires-clause-placed
+enter_next-tried-requires-clause-placed g c = c.self.invariant.kept.members_are.placed
+
+pub enter_next-tried-requires-clause-unlost : goal.enter_next-tried-requires-clause-unlost
+enter_next-tried-requires-clause-unlost g c = c.self.invariant.kept.members_are.unlost
+
+pub enter_next-tried-requires-clause-free : goal.enter_next-tried-requires-clause-free
+enter_next-tried-requires-clause-free g c = c.self.invariant.kept.members_are.free
+
+pub enter_next-tried-requires-clause-next : goal.enter_next-tried-requires-clause-next
+enter_next-tried-requires-clause-next g c = sym c.in-Some-next_window_of.ensures.value
+
+pub enter_next-tried-requires-clause-aside : goal.enter_next-tried-requires-clause-aside
+enter_next-tried-requires-clause-aside g c = c.self.invariant.kept.members_are.aside
+
+pub enter_next-tried-requires-clause-wide : goal.enter_next-tried-requires-clause-wide
+enter_next-tried-requires-clause-wide g c =
+    wide-for (c.in-Some-next_window_of.span.hi - c.in-Some-next_window_of.span.lo) (reach_of c.self.inside.members.newest) (length c.self.inside.window.items) (length c.as_mut_slice.result.now)
+    (ap (λ (l : List ℕ). length l) c.as_mut_slice.ensures.value) c.in-Some-next_window_of.ensures.reach c.self.invariant.wide
+
+pub enter_next-tried-requires-clause-scratch : goal.enter_next-tried-requires-clause-scratch
+enter_next-tried-requires-clause-scratch g c =
+    scratch-for (length c.self.inside.buffer.items) (length c.as_mut_slice-2.result.now) (ap (λ (l : List ℕ). length l) c.as_mut_slice-2.ensures.value) c.self.invariant.buffer_fits
+
+pub enter_next-tried-requires-clause-relied : goal.enter_next-tried-requires-clause-relied
+enter_next-tried-requires-clause-relied g c = le_of_eq (sym c.list_sectors-relied.ensures.length)
+
+pub enter_behind-requires-clause-room : goal.enter_behind-requires-clause-room
+enter_behind-requires-clause-room g c = room-behind c.self.inside.steps c.args.self.now.parts.steps c.self.inside.epoch.entries.room (ap (λ p. p.parts.steps) c.self.view_is) c.requires.room c.self.invariant.room_left
+
+pub enter_behind-requires-clause-number : goal.enter_behind-requires-clause-number
+enter_behind-requires-clause-number g c = c.check_going.ensures
+
+pub returns-in-Some-refusal-clause-entered : goal.returns-in-Some-refusal-clause-entered
+returns-in-Some-refusal-clause-entered g c =
+    let tried = c.enter_next-tried.result in
+    rw (← c.self.view_is) (record { roles = tried.roles; spares = tried.spares; end = c.ops-end-2.result; is = c.enter_behind.ensures.items })
+
+pub returns-in-Some-refusal-clause-clean : goal.returns-in-Some-refusal-clause-clean
+returns-in-Some-refusal-clause-clean g c = c.enter_next-tried.ensures.clean ∙ ap (λ p. is_clean p.parts.members.newest) c.self.view_is
+
+pub returns-in-Some-refusal-clause-room : goal.returns-in-Some-refusal-clause-room
+returns-in-Some-refusal-clause-room g c = one-fewer c.self.inside.steps c.args.self.now.parts.steps (ap (λ p. p.parts.steps) c.self.view_is) c.requires.room
+
+pub returns-in-Some-refusal-clause-given : goal.returns-in-Some-refusal-clause-given
+returns-in-Some-refusal-clause-given g c = c.enter_next-tried.ensures.given ∙ ap (λ p. g.B.Bank.given p.parts.bank) c.self.view_is
+
+pub steps_left-left-requires-clause-fit : goal.steps_left-left-requires-clause-fit
+steps_left-left-requires-clause-fit g c = c.enter_next-tried.ensures.moved.placed.fit
+
+pub steps_left-left-requires-clause-reshape : goal.steps_left-left-requires-clause-reshape
+steps_left-left-requires-clause-reshape g c =
+    under-way-moved (g.B.Bank.given c.self.inside.bank) c.self.inside.members c.enter_next-tried.new.members c.enter_next-tried.ensures.moved c.self.invariant.kept.members_are.active
+
+pub steps_left-left-requires-clause-open : goal.steps_left-left-requires-clause-open
+steps_left-left-requires-clause-open g c =
+    let tried = c.enter_next-tried.result in
+    entered-right (g.B.Bank.given c.self.inside.bank) c.self.inside.members c.enter_next-tried.new.members c.enter_next-tried.ensures.moved tried.window c.in-Some-next_window_of.span c.is_window_critical-sectioned.result
+    (when-none _ _ tried.refusal c.in_default-refusal.is c.enter_next-tried.ensures.window) (sym c.in-Some-next_window_of.ensures.value)
+
+pub steps_left-left-requires-clause-zeroed : goal.steps_left-left-requires-clause-zeroed
+steps_left-left-requires-clause-zeroed g c =
+    zeroed-moved (g.B.Bank.given c.self.inside.bank) c.self.inside.members c.enter_next-tried.new.members c.enter_next-tried.ensures.moved c.self.inside.course.zeroed c.self.invariant.kept.course_is.few
+
+pub steps_left-left-requires-clause-sound : goal.steps_left-left-requires-clause-sound
+steps_left-left-requires-clause-sound g c =
+    sound-moved (g.B.Bank.given c.self.inside.bank) c.self.inside.members c.enter_next-tried.new.members c.enter_next-tried.ensures.moved (phases_of c.self.inside.ahead) c.self.invariant.planned
+
+pub enter_behind-requires-2-clause-room : goal.enter_behind-requires-2-clause-room
+enter_behind-requires-2-clause-room g c = room-behind c.self.inside.steps c.args.self.now.parts.steps c.self.inside.epoch.entries.room (ap (λ p. p.parts.steps) c.self.view_is) c.requires.room c.self.invariant.room_left
+
+pub enter_behind-requires-2-clause-number : goal.enter_behind-requires-2-clause-number
+enter_behind-requires-2-clause-number g c = c.check_going.ensures
+
+pub returns-clause-entered : goal.returns-clause-entered
+returns-clause-entered g c =
+    let tried = c.enter_next-tried.result in
+    rw (← c.self.view_is) (taken-behind c.args.who c.ops-end-2.result tried.roles tried.spares EntersWindow c.steps_left-left.result _ c.steps_left-left.ensures c.enter_behind-2.ensures.items)
+
+pub returns-clause-clean : goal.returns-clause-clean
+returns-clause-clean g c = c.enter_next-tried.ensures.clean ∙ ap (λ p. is_clean p.parts.members.newest) c.self.view_is
+
+pub returns-clause-room : goal.returns-clause-room
+returns-clause-room g c = one-fewer c.self.inside.steps c.args.self.now.parts.steps (ap (λ p. p.parts.steps) c.self.view_is) c.requires.room
+
+pub returns-clause-given : goal.returns-clause-given
+returns-clause-given g c = c.enter_next-tried.ensures.given ∙ ap (λ p. g.B.Bank.given p.parts.bank) c.self.view_is

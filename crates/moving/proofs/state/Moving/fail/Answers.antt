@@ -1,7 +1,7 @@
-use Rattle.std.proofs.Common.{◌≡◌, ℕ, ◌++◌, ◌∷◌, [], List, Some, refl, sym, ◌∙◌, ap, subst, arith, append_assoc}
+use Rattle.std.proofs.Common.{◌≡◌, ℕ, ◌++◌, ◌∷◌, [], List, Some, refl, sym, ◌∙◌, ap, subst, arith, append_assoc, append-nil}
 use Rattle.md_base.specs.declared.answers.Who.{Who}
 use Rattle.md_base.specs.declared.answers.Refusal.TheVariants.{NoSuchRole}
-use Rattle.superblocks.specs.Reading.{list_length}
+use Rattle.superblocks.specs.Reading.{list_length, is_clean}
 use Rattle.superblocks.proofs.ValidFields.{few-roles}
 use Rattle.flat_history.specs.declared.events.Entry.{Entry}
 use Rattle.flat_history.specs.declared.events.Event.{Event}
@@ -31,6 +31,14 @@ use Rattle.moving_laws.specs.Ready.{bytes_in}
 use Rattle.moving_laws.proofs.running_words_Called.{not_254, called, alone-lossless}
 use Rattle.moving_laws.proofs.Kept.{ready, shapes-same, shapes-moved, left-moved, alone-keeps, behind-keeps, takes-lost, lost-here}
 use Rattle.moving_laws.proofs.TakenOut.{moved-all, since-out, taken-out}
+use Rattle.std.proofs.lemmas.List.Elements.{All-nil}
+use Rattle.row_io.specs.Rows.{present}
+use Rattle.flat_history.specs.Transfers.{last_end_from}
+use Rattle.views.specs.Rebuilding.{Held}
+use Rattle.moving_laws.specs.array_kept_Calls.{IsLossBy}
+use Rattle.moving_laws.proofs.WriteLaws.{roomed}
+use Rattle.moving.proofs.Calls.{one-of-51, known-moved, fits-longer, never-falls, called-over}
+use Rattle.moving_laws.specs.shape_changes_Marking.{AreOthersPresent}
 use Rattle.moving.proofs.state.Moving.fail.Goals as goal
 
 -- an event, and others of its call behind it
@@ -115,7 +123,7 @@ invariant_of-self-in_default g c =
     (resting-moves g.B.Bank.tells given tape (scope_in given a.epoch.uuid a.epoch.given (Some a.backup)) a.epoch.first a.epoch.entries.items a.members (is_carried a.work) a.work.resync a.course
     (bytes_in a.course.window a.window.items) (left_in a.work a.members a.course a.ahead) c.args.who c.ops-end.result (Refused (NoSuchRole c.args.role))
     was.kept (begins-going a.epoch.entries.items c.args.who number) (not_254 c.args.who.caller c.requires.caller) c.ops-end.ensures.count (quiet-refusal (NoSuchRole c.args.role)) (λ told is. is) (λ t fills. tt))
-    refl (λ slot. omega arith) (alone-keeps c.args.who c.ops-end.result (Refused (NoSuchRole c.args.role)) (λ n. refl) (λ limit. refl)) (λ none whole. whole) refl (scope-same given (Some a.backup) refl c.enter.ensures.uuid c.enter.ensures.given) c.enter.ensures.first c.make_room.ensures.items c.enter.ensures.items
+    refl (never-falls _) (alone-keeps c.args.who c.ops-end.result (Refused (NoSuchRole c.args.role)) (λ n. refl) (λ limit. refl)) (λ none whole. whole) refl (scope-same given (Some a.backup) refl c.enter.ensures.uuid c.enter.ensures.given) c.enter.ensures.first c.make_room.ensures.items c.enter.ensures.items
     (omega (arith, c.enter.ensures.room, c.in-Ok.ensures.ok))
 
 pub returns-in_default-clause-answered : goal.returns-in_default-clause-answered
@@ -131,10 +139,10 @@ returns-in_default-clause-called g c =
     let given = g.B.Bank.given a.bank in
     let faults = g.B.Bank.faults_of a.bank in
     let end = c.ops-end.result in
-    rw (← c.self.view_is) (called (grows-none (λ t. refl)) (moved-same given given a.members a.members refl refl was.kept.members_are.placed was.kept.members_are.unlost)
+    called-over g.B.Bank.given g.B.Bank.tape g.B.Bank.faults_of c.self.view_is (called (grows-none (λ t. refl)) (moved-same given given a.members a.members refl refl was.kept.members_are.placed was.kept.members_are.unlost)
     (ended-behind (g.B.Bank.tape a.bank) c.enter.new.epoch.first c.make_room.new.self.items c.args.who end [] (Refused (NoSuchRole c.args.role)) c.enter.ensures.items c.ops-end.ensures.count)
     (alone-lossless a.members faults faults a.epoch.entries.items c.make_room.new.self.items c.enter.new.epoch.entries.items c.args.who end (Refused (NoSuchRole c.args.role)) tt c.make_room.ensures.items c.enter.ensures.items)
-    (λ slot. omega arith)
+    (never-falls _)
     (record { uuid = c.enter.ensures.uuid; given = c.enter.ensures.given; first = c.enter.ensures.first; backup = refl; work = refl; ahead = refl; limit = refl })
     (λ t. (was.kept.recorded t).begun))
 
@@ -204,7 +212,7 @@ returns-clause-called g c =
     c.len-count.result c.vacant_roles-before.result roles spares before after did.failed (c.len-count.ensures ∙ here.placed.roles) c.vacant_roles-before.ensures c.newly_vacant-roles.ensures in
     let first = moved-out given a.members mid c.lose_slot.result c.in-Some.slot role here.placed here.unlost c.lose_slot.ensures.members c.lose_slot.ensures.alone c.in-Some.ensures.held in
     let items = behind-loss c.make_room.new.self.items c.enter-2.new.epoch.entries.items c.enter_behind.new.epoch.entries.items c.args.who end (Lost role Command) (losses_of roles spares ++ Failed role ∷ []) c.enter-2.ensures.items c.enter_behind.ensures.items in
-    rw (← c.self.view_is) (called did.grows moved
+    called-over g.B.Bank.given g.B.Bank.tape g.B.Bank.faults_of c.self.view_is (called did.grows moved
     (ended-behind (g.B.Bank.tape c.name_missing-spares.new.bank) c.enter_behind.new.epoch.first c.make_room.new.self.items c.args.who end (Lost role Command ∷ losses_of roles spares) (Failed role) items c.ops-end-2.ensures.count)
     (losses-failed a.members mid m before after a.epoch.entries.items c.make_room.new.self.items c.enter_behind.new.epoch.entries.items c.args.who end role c.in-Some.slot roles spares first.held since c.in-Some.ensures.held c.make_room.ensures.items items)
     did.counts
@@ -212,7 +220,7 @@ returns-clause-called g c =
     (λ t. (was.kept.recorded t).begun))
 
 pub returns-clause-others : goal.returns-clause-others
-returns-clause-others g c = rw (← c.self.view_is) c.name_missing-spares.ensures.others
+returns-clause-others g c = subst (λ p. g.B.Bank.tells → AreOthersPresent (present (g.B.Bank.given p.parts.bank) (g.B.Bank.tape p.parts.bank)) (present (g.B.Bank.given p.parts.bank) (g.B.Bank.tape c.name_missing-spares.new.bank))) c.self.view_is c.name_missing-spares.ensures.others
 
 pub returns-clause-caused : goal.returns-clause-caused
 returns-clause-caused g c =
@@ -220,3 +228,87 @@ returns-clause-caused g c =
     let a = c.self.inside in
     let gone = out-vacant (g.B.Bank.given a.bank) a.members c.lose_slot.new.members c.lose_slot.result c.in-Some.slot c.args.role here.placed here.unlost c.lose_slot.ensures.members c.lose_slot.ensures.alone c.in-Some.ensures.held in
     rw (← c.self.view_is) (c.in-Some.ensures.some, vacant-moved c.name_missing-spares.ensures.moved c.args.role gone)
+
+-- ---- by what stands above
+
+pub invariant_of-self : goal.invariant_of-self
+invariant_of-self g c = roomed c.make_room.ensures.items (let had = c.self.invariant.room_left in let keeps = c.make_room.ensures.keeps in omega (arith, had, keeps)) c.self.invariant
+
+pub enter_behind-requires-clause-number : goal.enter_behind-requires-clause-number
+enter_behind-requires-clause-number g c = fits-longer c.make_room.new.self.items c.enter-2.new.epoch.entries.items (entries_of c.args.who c.ops-end-2.result (Lost c.args.role Command ∷ [])) c.check_number.ensures c.enter-2.ensures.items
+
+pub vacant_roles-before-requires-clause-known : goal.vacant_roles-before-requires-clause-known
+vacant_roles-before-requires-clause-known g c =
+    let was = c.self.invariant.kept.members_are in
+    known-moved c.len-count.result (moved-out (g.B.Bank.given c.self.inside.bank) c.self.inside.members c.lose_slot.new.members c.lose_slot.result c.in-Some.slot c.args.role was.placed was.unlost c.lose_slot.ensures.members c.lose_slot.ensures.alone c.in-Some.ensures.held) c.len-count.ensures was.placed.roles
+
+pub newly_vacant-roles-requires-clause-known : goal.newly_vacant-roles-requires-clause-known
+newly_vacant-roles-requires-clause-known g c =
+    let was = c.self.invariant.kept.members_are in
+    known-moved c.len-count.result (moved-all (g.B.Bank.given c.self.inside.bank) c.self.inside.members c.lose_slot.new.members c.name_missing-spares.new.members c.lose_slot.result c.in-Some.slot c.args.role was.placed was.unlost c.lose_slot.ensures.members c.lose_slot.ensures.alone c.in-Some.ensures.held c.name_missing-spares.ensures.moved) c.len-count.ensures was.placed.roles
+
+pub returns-in_default-clause-caused : goal.returns-in_default-clause-caused
+returns-in_default-clause-caused g c = rw (← c.self.view_is) (refl, refl, c.in_default.ensures.none)
+
+pub returns-in-Err-clause-called : goal.returns-in-Err-clause-called
+returns-in-Err-clause-called g c =
+    let was = c.self.invariant in
+    let a = c.self.inside in
+    let given = g.B.Bank.given a.bank in
+    let faults = g.B.Bank.faults_of a.bank in
+    called-over g.B.Bank.given g.B.Bank.tape g.B.Bank.faults_of c.self.view_is (called (grows-none (λ t. refl)) (moved-same given given a.members a.members refl refl was.kept.members_are.placed was.kept.members_are.unlost)
+    (λ t. ap (λ (l : List Entry). last_end_from a.epoch.first l) c.make_room.ensures.items ∙ (was.kept.recorded t).ended)
+    (record { more = []; grown = c.make_room.ensures.items ∙ sym (append-nil a.epoch.entries.items); failed = All-nil (λ e. IsLossBy (Held a.members) faults faults e.event) })
+    (never-falls _)
+    (record { uuid = refl; given = refl; first = refl; backup = refl; work = refl; ahead = refl; limit = refl })
+    (λ t. (was.kept.recorded t).begun))
+
+pub returns-in-Err-clause-unchanged : goal.returns-in-Err-clause-unchanged
+returns-in-Err-clause-unchanged g c =
+    let a = c.self.inside in
+    (λ i. record {
+      parts = record { bank = a.bank; uuid = a.epoch.uuid; given = a.epoch.given; first = a.epoch.first; last = a.epoch.last; entries = c.make_room.ensures.items i; backup = Some a.backup; members = a.members; work = a.work; steps = a.steps };
+      course = a.course;
+      ahead = a.ahead;
+      limit = a.limit;
+    }) ∙ c.self.view_is
+
+pub returns-in-Err-clause-answered : goal.returns-in-Err-clause-answered
+returns-in-Err-clause-answered g c = c.make_room.ensures.items ∙ ap (λ p. p.parts.entries) c.self.view_is
+
+pub returns-in-Err-clause-caused : goal.returns-in-Err-clause-caused
+returns-in-Err-clause-caused g c = ap (λ p. p.parts.members) c.self.view_is
+
+pub returns-clause-course : goal.returns-clause-course
+returns-clause-course g c = ap (λ p. p.course) c.self.view_is
+
+pub returns-clause-given : goal.returns-clause-given
+returns-clause-given g c = c.name_missing-spares.ensures.given ∙ ap (λ p. g.B.Bank.given p.parts.bank) c.self.view_is
+
+pub enter-requires-2-clause-number : goal.enter-requires-2-clause-number
+enter-requires-2-clause-number g c = c.check_number.ensures
+
+pub enter-requires-clause-number : goal.enter-requires-clause-number
+enter-requires-clause-number g c = c.check_number.ensures
+
+pub enter-requires-2-clause-room : goal.enter-requires-2-clause-room
+enter-requires-2-clause-room g c = one-of-51 c.in-Ok.ensures.ok
+
+pub enter-requires-clause-room : goal.enter-requires-clause-room
+enter-requires-clause-room g c = one-of-51 c.in-Ok.ensures.ok
+
+pub returns-in_default-clause-course : goal.returns-in_default-clause-course
+returns-in_default-clause-course g c = ap (λ p. p.course) c.self.view_is
+
+pub returns-in_default-clause-clean : goal.returns-in_default-clause-clean
+returns-in_default-clause-clean g c = ap (λ p. is_clean p.parts.members.newest) c.self.view_is
+
+pub returns-in_default-clause-given : goal.returns-in_default-clause-given
+returns-in_default-clause-given g c = ap (λ p. g.B.Bank.given p.parts.bank) c.self.view_is
+
+pub check_number-requires : goal.check_number-requires
+check_number-requires g c =
+    c.requires.next ∙ ap (λ p. next_number c.args.who.caller p.parts.entries) (sym c.self.view_is) ∙ ap (λ (l : List Entry). next_number c.args.who.caller l) (sym c.make_room.ensures.items)
+
+pub returns-in_default-clause-others : goal.returns-in_default-clause-others
+returns-in_default-clause-others g c = λ t s k ne. ap (λ p. present (g.B.Bank.given c.args.self.now.parts.bank) (g.B.Bank.tape p.parts.bank) s k) c.self.view_is

@@ -1,4 +1,4 @@
-use Rattle.std.proofs.Common.{inl, ◌≤◌, ◌+◌, ℕ, Option, [], ◌∷◌, Some, refl, sym, subst, arith}
+use Rattle.std.proofs.Common.{inl, ◌≤◌, ◌+◌, ℕ, Option, [], ◌∷◌, Some, refl, sym, subst, arith, ◌∙◌, ap}
 use Rattle.md_base.specs.declared.answers.Refusal.{Refusal}
 use Rattle.md_base.specs.declared.places.Span.{Span}
 use Rattle.superblocks.specs.Reading.{list_length}
@@ -22,6 +22,7 @@ use Rattle.moving_laws.proofs.running_words_Called.{not_254, called, alone-lossl
 use Rattle.moving_laws.proofs.Kept.{ready, shapes-same, alone-keeps}
 use Rattle.moving_laws.proofs.WriteLaws.{first-right, wider-refused, finish-caused}
 use Rattle.moving_laws.proofs.FirstLaws.{first-told, first-none}
+use Rattle.moving.proofs.Calls.{one-less}
 use Rattle.moving.proofs.state.Moving.finish_for.Goals as goal
 
 -- ---- refused before the window is finished
@@ -97,3 +98,17 @@ returns-in-Some-clause-first g c = rw (← c.self.view_is) (first-told _ _ c.in-
 
 pub returns-clause-first : goal.returns-clause-first
 returns-clause-first g c = rw (← c.self.view_is) (first-none _ c.finish_window.result c.in_default.ensures.first)
+
+-- ---- by what stands above
+
+pub check_going-requires : goal.check_going-requires
+check_going-requires g c = subst (λ p. IsCallGoing p.parts.entries c.args.who) (sym c.self.view_is) c.requires.open
+
+pub overflow_sub-self : goal.overflow_sub-self
+overflow_sub-self g c = subst (λ p. 1 ≤ p.parts.steps) (sym c.self.view_is) c.requires.room
+
+pub returns-in-Some-clause-room : goal.returns-in-Some-clause-room
+returns-in-Some-clause-room g c = one-less c.self.inside.steps (subst (λ p. 1 ≤ p.parts.steps) (sym c.self.view_is) c.requires.room) ∙ ap (λ p. p.parts.steps) c.self.view_is
+
+pub enter-requires-clause-number : goal.enter-requires-clause-number
+enter-requires-clause-number g c = c.check_going.ensures

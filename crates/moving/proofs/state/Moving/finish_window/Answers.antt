@@ -1,12 +1,12 @@
-use Rattle.std.proofs.Common.{◌⊎◌, inl, ◌≤◌, ℕ, ◌-◌, ◌*◌, List, [], ◌∷◌, ◌++◌, take, Some, refl, sym, subst, arith}
+use Rattle.std.proofs.Common.{◌⊎◌, inl, ◌≤◌, ℕ, ◌-◌, ◌*◌, List, [], ◌∷◌, ◌++◌, take, Some, refl, sym, subst, arith, ◌∙◌, ap}
 use Rattle.std.specs.Vec.{with_items}
-use Rattle.superblocks.specs.Reading.{final_shape, list_length}
+use Rattle.superblocks.specs.Reading.{final_shape, list_length, is_clean}
 use Rattle.row_io.specs.Rows.{present}
 use Rattle.flat_history.specs.declared.events.Event.TheVariants.{Refused, Step}
 use Rattle.flat_history.specs.declared.events.StepKind.TheVariants.{WindowFinished as FinishesWindow}
 use Rattle.flat_history.specs.Plain.{entries_of}
 use Rattle.moving_laws.specs.shape_views_Windows.{moved_past}
-use Rattle.views.specs.Lacking.{AreTooMany}
+use Rattle.views.specs.Lacking.{AreTooMany, HaveRolesFailed}
 use Rattle.views.specs.Numbers.{is_carried}
 use Rattle.views.proofs.LackingLaws.{never-both}
 use Rattle.views.proofs.MovedLaws.{grows-none, moved-same}
@@ -21,7 +21,7 @@ use Rattle.moving_laws.specs.course_kept_the_Course.{Course}
 use Rattle.grow_asked.specs.declared.window.Window.{Window}
 use Rattle.moving_laws.specs.course_kept_Course.{IsWindowOf}
 use Rattle.moving_laws.specs.course_mends_Mended.{IsAside, IsUnmended}
-use Rattle.moving_laws.proofs.moving_state_ReshapeLaws.{window-reach}
+use Rattle.moving_laws.proofs.moving_state_ReshapeLaws.{window-reach, under-way-of}
 use Rattle.moving_laws.proofs.moving_kept_FinishedCall.{IsFinishedBy}
 use Rattle.moving_laws.proofs.moving_kept_Going.{going-on}
 use Rattle.moving_laws.proofs.moving_kept_Refusals.{quiet-refusal, refused-right}
@@ -37,6 +37,10 @@ use Rattle.moving_laws.proofs.Kept.{ready, ready-moved, shapes-same, shapes-move
 use Rattle.moving_laws.proofs.RecordLaws.{moved-if, moved-none, shapes-past}
 use Rattle.moving_laws.proofs.Settled.{many-of}
 use Rattle.moving_laws.proofs.WriteLaws.{finish-relied, finished-missing, open-is, finish-left, finish-done, finish-stands, finish-refused, recorded-as}
+use Rattle.grow_asked.specs.Left.{phases_of}
+use Rattle.moving_laws.specs.array_kept_Calls.{IsRefusedFor}
+use Rattle.moving.proofs.Calls.{room-49, one-less, many-refused, sound-same, closed-sure, never-falls, room-after-1, room-after-49, scratch-of, step-entered, called-over, zero-le}
+use Rattle.moving_laws.specs.region_mends_Mends.{relied_sector}
 use Rattle.moving.proofs.state.Moving.finish_window.Goals as goal
 
 -- ---- the members lack too many
@@ -56,8 +60,8 @@ invariant_of-self g c =
     c.args.who end (Refused refusal) was.kept goes (not_254 c.args.who.caller c.requires.caller) c.ops-end.ensures.count (quiet-refusal refusal) (λ told is. is)
     (λ t right. refused-right (world_in given tape scope a.epoch.first) a.epoch.entries.items given a.members was.kept.members_are.placed (was.kept.gone t right) (was.kept.levelled t right) refusal c.in-Some.ensures) in
     ready (entries_of c.args.who end (Refused refusal ∷ [])) was (grows-none (λ t. refl)) (shapes-same a.members.newest) kept
-    refl (λ slot. omega arith) (alone-keeps c.args.who end (Refused refusal) (λ n. refl) (λ limit. refl)) (λ none whole. whole) refl (scope-same given (Some a.backup) refl c.enter.ensures.uuid c.enter.ensures.given) c.enter.ensures.first refl c.enter.ensures.items
-    (let had = was.room_left in let room = c.enter.ensures.room in omega (arith, room, had, steps))
+    refl (never-falls _) (alone-keeps c.args.who end (Refused refusal) (λ n. refl) (λ limit. refl)) (λ none whole. whole) refl (scope-same given (Some a.backup) refl c.enter.ensures.uuid c.enter.ensures.given) c.enter.ensures.first refl c.enter.ensures.items
+    (room-after-1 a.steps a.epoch.entries.room c.enter.new.epoch.entries.room was.room_left c.enter.ensures.room steps)
 
 pub returns-in-Some-clause-called : goal.returns-in-Some-clause-called
 returns-in-Some-clause-called g c =
@@ -67,10 +71,10 @@ returns-in-Some-clause-called g c =
     let faults = g.B.Bank.faults_of a.bank in
     let end = c.ops-end.result in
     let refusal = c.in-Some.refusal in
-    rw (← c.self.view_is) (called (grows-none (λ t. refl)) (moved-same given given a.members a.members refl refl was.kept.members_are.placed was.kept.members_are.unlost)
+    called-over g.B.Bank.given g.B.Bank.tape g.B.Bank.faults_of c.self.view_is (called (grows-none (λ t. refl)) (moved-same given given a.members a.members refl refl was.kept.members_are.placed was.kept.members_are.unlost)
     (ended-behind (g.B.Bank.tape a.bank) c.enter.new.epoch.first a.epoch.entries.items c.args.who end [] (Refused refusal) c.enter.ensures.items c.ops-end.ensures.count)
     (alone-lossless a.members faults faults a.epoch.entries.items a.epoch.entries.items c.enter.new.epoch.entries.items c.args.who end (Refused refusal) tt refl c.enter.ensures.items)
-    (λ slot. omega arith)
+    (never-falls _)
     (record { uuid = c.enter.ensures.uuid; given = c.enter.ensures.given; first = c.enter.ensures.first; backup = refl; work = refl; ahead = refl; limit = refl })
     (λ t. (was.kept.recorded t).begun))
 
@@ -146,7 +150,7 @@ invariant_of-self-in-Some-refusal g c =
     (ready (entries_of c.args.who end (losses_of roles spares ++ Refused refusal ∷ [])) was did.grows (shapes-moved given a.members m moved) kept
     refl did.counts (behind-keeps c.args.who end roles spares (Refused refusal) (λ n. refl) (λ limit. refl))
     (behind-whole tape' scope a.epoch.first a.epoch.entries.items c.args.who end roles spares (Refused refusal) moved (missing-since roles moved did.since.vacant)) did.given (scope-same given (Some a.backup) did.given c.enter_behind.ensures.uuid c.enter_behind.ensures.given) c.enter_behind.ensures.first refl c.enter_behind.ensures.items
-    (let had = was.room_left in let room = c.enter_behind.ensures.room in omega (arith, room, had, steps)))
+    (room-after-49 a.steps a.epoch.entries.room c.enter_behind.new.epoch.entries.room was.room_left c.enter_behind.ensures.room steps))
 
 pub returns-in-Some-refusal-clause-called : goal.returns-in-Some-refusal-clause-called
 returns-in-Some-refusal-clause-called g c =
@@ -161,7 +165,7 @@ returns-in-Some-refusal-clause-called g c =
     let spares = c.finish_rest-rest.result.spares in
     let end = c.ops-end-2.result in
     let event = Refused c.in-Some-refusal.refusal in
-    rw (← c.self.view_is) (called did.grows (moved-if given c.in-Entered.span a.members m c.finish_rest-rest.result.refusal c.in-Some-refusal.refusal c.in-Some-refusal.is did.moved)
+    called-over g.B.Bank.given g.B.Bank.tape g.B.Bank.faults_of c.self.view_is (called did.grows (moved-if given c.in-Entered.span a.members m c.finish_rest-rest.result.refusal c.in-Some-refusal.refusal c.in-Some-refusal.is did.moved)
     (ended-behind (g.B.Bank.tape c.finish_rest-rest.new.bank) c.enter_behind.new.epoch.first a.epoch.entries.items c.args.who end (losses_of roles spares) event c.enter_behind.ensures.items c.ops-end-2.ensures.count)
     (losses-behind a.members m before after a.epoch.entries.items a.epoch.entries.items c.enter_behind.new.epoch.entries.items c.args.who end roles spares event did.since tt refl c.enter_behind.ensures.items)
     did.counts
@@ -174,7 +178,7 @@ returns-in-Some-refusal-clause-caused g c =
     let m = c.finish_rest-rest.new.members in
     let refusal = c.in-Some-refusal.refusal in
     let many = many-of m c.finish_rest-rest.result.refusal refusal c.in-Some-refusal.is c.finish_rest-rest.ensures.refused in
-    rw (← c.self.view_is) (refused-for (list_length a.members.newest) 0 AreTooMany a.members m refusal (too-many-of m refusal many) (omega arith) many)
+    rw (← c.self.view_is) (refused-for (list_length a.members.newest) 0 AreTooMany a.members m refusal (too-many-of m refusal many) (zero-le _) many)
 
 -- ---- it is finished
 
@@ -218,10 +222,10 @@ invariant_of-self-2 g c =
     left none c.steps_left-left.ensures in
     let moved = moved-none given span a.members m c.finish_rest-rest.result.refusal none did.moved in
     with-buffer (let len = (with_items a.buffer c.finish_rest-rest.new.scratch).ok.0 in let ok = a.buffer.ok.0 in omega (arith, len, ok, was.buffer_fits))
-    (ready-moved (entries_of c.args.who end (losses_of roles spares ++ Step FinishesWindow left ∷ [])) was did.grows (shapes-past given a.members m span moved) kept (λ span is. absurd (cc))
+    (ready-moved (entries_of c.args.who end (losses_of roles spares ++ Step FinishesWindow left ∷ [])) was did.grows (shapes-past given a.members m span moved) kept (λ next is. closed-sure next is)
     refl did.counts (behind-keeps c.args.who end roles spares (Step FinishesWindow left) (λ n. refl) (λ limit. refl))
     (behind-whole {old = moved_past span a.members} tape' scope a.epoch.first a.epoch.entries.items c.args.who end roles spares (Step FinishesWindow left) moved (missing-since {old = moved_past span a.members} roles moved did.since.vacant)) did.given (scope-same given (Some a.backup) did.given c.enter_behind-2.ensures.uuid c.enter_behind-2.ensures.given) c.enter_behind-2.ensures.first refl c.enter_behind-2.ensures.items
-    (let had = was.room_left in let room = c.enter_behind-2.ensures.room in omega (arith, room, had, steps)))
+    (room-after-49 a.steps a.epoch.entries.room c.enter_behind-2.new.epoch.entries.room was.room_left c.enter_behind-2.ensures.room steps))
 
 pub returns-clause-stood : goal.returns-clause-stood
 returns-clause-stood g c =
@@ -290,7 +294,7 @@ returns-clause-called g c =
     let end = c.ops-end-2.result in
     let event = Step FinishesWindow c.steps_left-left.result in
     let moved = moved-none given c.in-Entered.span a.members m c.finish_rest-rest.result.refusal c.in_default-refusal.is did.moved in
-    rw (← c.self.view_is) (record {
+    called-over g.B.Bank.given g.B.Bank.tape g.B.Bank.faults_of c.self.view_is (record {
       grows = did.grows;
       ended = ended-behind (g.B.Bank.tape c.finish_rest-rest.new.bank) c.enter_behind-2.new.epoch.first a.epoch.entries.items c.args.who end (losses_of roles spares) event c.enter_behind-2.ensures.items c.ops-end-2.ensures.count;
       held = moved.held;
@@ -317,7 +321,7 @@ returns-clause-called g c =
     })
 
 pub returns-clause-caused : goal.returns-clause-caused
-returns-clause-caused g c = rw (← c.self.view_is) (omega arith, λ refusal many. never-both c.self.inside.members refusal c.in_default.ensures many)
+returns-clause-caused g c = rw (← c.self.view_is) (zero-le _, λ refusal many. never-both c.self.inside.members refusal c.in_default.ensures many)
 
 -- ---- what failed, and what is left
 
@@ -325,10 +329,10 @@ pub returns-in-Some-clause-failed : goal.returns-in-Some-clause-failed
 returns-in-Some-clause-failed g c = rw (← c.self.view_is) (λ role slot held. inl held)
 
 pub returns-in-Some-refusal-clause-failed : goal.returns-in-Some-refusal-clause-failed
-returns-in-Some-refusal-clause-failed g c = rw (← c.self.view_is) c.finish_rest-rest.ensures.failed.roles
+returns-in-Some-refusal-clause-failed g c = subst (λ p. HaveRolesFailed p.parts.members c.finish_rest-rest.new.members (g.B.Bank.faults_of p.parts.bank) (g.B.Bank.faults_of c.finish_rest-rest.new.bank)) c.self.view_is c.finish_rest-rest.ensures.failed.roles
 
 pub returns-clause-failed : goal.returns-clause-failed
-returns-clause-failed g c = rw (← c.self.view_is) c.finish_rest-rest.ensures.failed.roles
+returns-clause-failed g c = subst (λ p. HaveRolesFailed p.parts.members c.finish_rest-rest.new.members (g.B.Bank.faults_of p.parts.bank) (g.B.Bank.faults_of c.finish_rest-rest.new.bank)) c.self.view_is c.finish_rest-rest.ensures.failed.roles
 
 pub returns-clause-left : goal.returns-clause-left
 returns-clause-left g c =
@@ -346,5 +350,100 @@ returns-clause-relied g c =
     let span = c.in-Entered.span in
     let given = g.B.Bank.given a.bank in
     let kept = c.self.invariant.kept in
-    rw (← c.self.view_is) (finish-relied given a.members m a.work.resync span kept.members_are.placed (moved-none given span a.members m c.finish_rest-rest.result.refusal c.in_default-refusal.is c.finish_rest-rest.ensures.moved)
-    (subst (λ (w : Window). IsAside w ⊎ IsUnmended a.work.resync) c.in-Entered.is kept.beside))
+    finish-relied given a.members m a.work.resync span kept.members_are.placed (moved-none given span a.members m c.finish_rest-rest.result.refusal c.in_default-refusal.is c.finish_rest-rest.ensures.moved)
+    (subst (λ (w : Window). IsAside w ⊎ IsUnmended a.work.resync) c.in-Entered.is kept.beside) ∙ ap (λ p. relied_sector p.parts.members.newest p.parts.work.resync) c.self.view_is
+
+-- ---- by what stands above
+
+pub check_going-requires : goal.check_going-requires
+check_going-requires g c = subst (λ p. IsCallGoing p.parts.entries c.args.who) (sym c.self.view_is) c.requires.open
+
+pub returns-in-Some-clause-caused : goal.returns-in-Some-clause-caused
+returns-in-Some-clause-caused g c =
+    let a = c.self.inside in
+    subst (λ p. IsRefusedFor (list_length p.parts.members.newest) 0 AreTooMany p.parts.members a.members c.in-Some.refusal) c.self.view_is (many-refused a.members c.in-Some.refusal c.in-Some.ensures)
+
+pub returns-in-Some-clause-room : goal.returns-in-Some-clause-room
+returns-in-Some-clause-room g c = one-less c.self.inside.steps (subst (λ p. 1 ≤ p.parts.steps) (sym c.self.view_is) c.requires.room) ∙ ap (λ p. p.parts.steps) c.self.view_is
+
+pub returns-in-Some-refusal-clause-room : goal.returns-in-Some-refusal-clause-room
+returns-in-Some-refusal-clause-room g c = one-less c.self.inside.steps (subst (λ p. 1 ≤ p.parts.steps) (sym c.self.view_is) c.requires.room) ∙ ap (λ p. p.parts.steps) c.self.view_is
+
+pub returns-clause-room : goal.returns-clause-room
+returns-clause-room g c = one-less c.self.inside.steps (subst (λ p. 1 ≤ p.parts.steps) (sym c.self.view_is) c.requires.room) ∙ ap (λ p. p.parts.steps) c.self.view_is
+
+pub enter_behind-requires-clause-room : goal.enter_behind-requires-clause-room
+enter_behind-requires-clause-room g c = room-49 c.self.inside.steps c.self.inside.epoch.entries.room (subst (λ p. 1 ≤ p.parts.steps) (sym c.self.view_is) c.requires.room) c.self.invariant.room_left
+
+pub enter_behind-requires-2-clause-room : goal.enter_behind-requires-2-clause-room
+enter_behind-requires-2-clause-room g c = room-49 c.self.inside.steps c.self.inside.epoch.entries.room (subst (λ p. 1 ≤ p.parts.steps) (sym c.self.view_is) c.requires.room) c.self.invariant.room_left
+
+pub enter_behind-requires-clause-number : goal.enter_behind-requires-clause-number
+enter_behind-requires-clause-number g c = c.check_going.ensures
+
+pub enter_behind-requires-2-clause-number : goal.enter_behind-requires-2-clause-number
+enter_behind-requires-2-clause-number g c = c.check_going.ensures
+
+pub enter-requires-clause-number : goal.enter-requires-clause-number
+enter-requires-clause-number g c = c.check_going.ensures
+
+pub returns-in-Some-refusal-clause-entered : goal.returns-in-Some-refusal-clause-entered
+returns-in-Some-refusal-clause-entered g c = rw (← c.self.view_is) (record { roles = c.finish_rest-rest.result.roles; spares = c.finish_rest-rest.result.spares; end = c.ops-end-2.result; is = c.enter_behind.ensures.items })
+
+pub returns-clause-entered : goal.returns-clause-entered
+returns-clause-entered g c = step-entered c.finish_rest-rest.result.roles c.finish_rest-rest.result.spares c.ops-end-2.result c.enter_behind-2.ensures.items c.steps_left-left.ensures (ap (λ p. p.parts.entries) c.self.view_is)
+
+pub finish_rest-rest-requires-clause-placed : goal.finish_rest-rest-requires-clause-placed
+finish_rest-rest-requires-clause-placed g c = c.self.invariant.kept.members_are.placed
+
+pub finish_rest-rest-requires-clause-unlost : goal.finish_rest-rest-requires-clause-unlost
+finish_rest-rest-requires-clause-unlost g c = c.self.invariant.kept.members_are.unlost
+
+pub finish_rest-rest-requires-clause-free : goal.finish_rest-rest-requires-clause-free
+finish_rest-rest-requires-clause-free g c = c.self.invariant.kept.members_are.free
+
+pub finish_rest-rest-requires-clause-slots : goal.finish_rest-rest-requires-clause-slots
+finish_rest-rest-requires-clause-slots g c = c.self.invariant.kept.slots
+
+pub returns-in-Some-refusal-clause-given : goal.returns-in-Some-refusal-clause-given
+returns-in-Some-refusal-clause-given g c = c.finish_rest-rest.ensures.given ∙ ap (λ p. g.B.Bank.given p.parts.bank) c.self.view_is
+
+pub returns-clause-given : goal.returns-clause-given
+returns-clause-given g c = c.finish_rest-rest.ensures.given ∙ ap (λ p. g.B.Bank.given p.parts.bank) c.self.view_is
+
+pub returns-in-Some-clause-given : goal.returns-in-Some-clause-given
+returns-in-Some-clause-given g c = ap (λ p. g.B.Bank.given p.parts.bank) c.self.view_is
+
+pub returns-in-Some-clause-course : goal.returns-in-Some-clause-course
+returns-in-Some-clause-course g c = ap (λ p. p.course) c.self.view_is
+
+pub returns-in-Some-refusal-clause-course : goal.returns-in-Some-refusal-clause-course
+returns-in-Some-refusal-clause-course g c = ap (λ p. p.course) c.self.view_is
+
+pub returns-in-Some-clause-clean : goal.returns-in-Some-clause-clean
+returns-in-Some-clause-clean g c = ap (λ p. is_clean p.parts.members.newest) c.self.view_is
+
+pub returns-in-Some-refusal-clause-clean : goal.returns-in-Some-refusal-clause-clean
+returns-in-Some-refusal-clause-clean g c = c.finish_rest-rest.ensures.clean ∙ ap (λ p. is_clean p.parts.members.newest) c.self.view_is
+
+pub returns-clause-clean : goal.returns-clause-clean
+returns-clause-clean g c = c.finish_rest-rest.ensures.clean ∙ ap (λ p. is_clean p.parts.members.newest) c.self.view_is
+
+pub steps_left-left-requires-clause-reshape : goal.steps_left-left-requires-clause-reshape
+steps_left-left-requires-clause-reshape g c =
+    let moved = moved-none (g.B.Bank.given c.self.inside.bank) c.in-Entered.span c.self.inside.members c.finish_rest-rest.new.members c.finish_rest-rest.result.refusal c.in_default-refusal.is c.finish_rest-rest.ensures.moved in
+    under-way-of c.finish_rest-rest.new.members.newest moved.placed.fit (moved.reshape.reshaping ∙ c.self.invariant.kept.members_are.active)
+
+pub steps_left-left-requires-clause-fit : goal.steps_left-left-requires-clause-fit
+steps_left-left-requires-clause-fit g c =
+    let moved = moved-none (g.B.Bank.given c.self.inside.bank) c.in-Entered.span c.self.inside.members c.finish_rest-rest.new.members c.finish_rest-rest.result.refusal c.in_default-refusal.is c.finish_rest-rest.ensures.moved in
+    moved.placed.fit
+
+pub steps_left-left-requires-clause-sound : goal.steps_left-left-requires-clause-sound
+steps_left-left-requires-clause-sound g c = sound-same (phases_of c.self.inside.ahead) (shapes-past (g.B.Bank.given c.self.inside.bank) c.self.inside.members c.finish_rest-rest.new.members c.in-Entered.span (moved-none (g.B.Bank.given c.self.inside.bank) c.in-Entered.span c.self.inside.members c.finish_rest-rest.new.members c.finish_rest-rest.result.refusal c.in_default-refusal.is c.finish_rest-rest.ensures.moved)) c.self.invariant.planned
+
+pub overflow_sub-self : goal.overflow_sub-self
+overflow_sub-self g c = subst (λ p. 1 ≤ p.parts.steps) (sym c.self.view_is) c.requires.room
+
+pub finish_rest-rest-requires-clause-scratch : goal.finish_rest-rest-requires-clause-scratch
+finish_rest-rest-requires-clause-scratch g c = scratch-of _ _ c.as_mut_slice.ensures.value c.self.invariant.buffer_fits

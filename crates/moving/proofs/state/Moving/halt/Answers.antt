@@ -1,4 +1,4 @@
-use Rattle.std.proofs.Common.{◌≡◌, ℕ, Some, List, [], ◌∷◌, ◌++◌, refl, sym, ◌∙◌, ap, subst}
+use Rattle.std.proofs.Common.{◌≡◌, ℕ, Some, List, [], ◌∷◌, ◌++◌, refl, sym, ◌∙◌, ap, subst, length}
 use Rattle.superblocks.specs.Reading.{Scope}
 use Rattle.flat_history.specs.declared.events.Entry.{Entry}
 use Rattle.flat_history.specs.declared.events.Event.TheVariants.{Halted}
@@ -11,6 +11,7 @@ use Rattle.moving_laws.specs.moving_kept_Moving.{IsMoving}
 use Rattle.moving_laws.specs.running_words_Parts.{left_in}
 use Rattle.moving_laws.specs.Ready.{bytes_in}
 use Rattle.moving_laws.proofs.Asking.{halted-moves, epoch-kept}
+use Rattle.moving_laws.proofs.running_words_Called.{alone-lossless}
 use Rattle.moving.proofs.state.Moving.halt.Goals as goal
 
 pub returns-clause-entered : goal.returns-clause-entered
@@ -32,3 +33,26 @@ returns-clause-right g c =
     (subst (λ (s : Scope). IsMoving g.B.Bank.tells given tape s a.epoch.first (a.epoch.entries.items ++ entries_of c.args.who c.ops-end.result (Halted ∷ [])) a.members (is_carried a.work) a.work.resync a.course buffer left)
     (sym (scope-same given (Some a.backup) refl c.enter.ensures.uuid c.enter.ensures.given)) kept)) in
     rw (← c.self.view_is) (λ t right. epoch-kept given tape (Some a.backup) epoch same t (c.enter.ensures.last ∙ c.ops-end.ensures.count t) right)
+
+-- ---- by what stands above
+
+pub returns-clause-last : goal.returns-clause-last
+returns-clause-last g c = λ t. c.enter.ensures.last ∙ c.ops-end.ensures.count t ∙ ap (λ p. length (g.B.Bank.tape p.parts.bank)) c.self.view_is
+
+pub returns-clause-losses : goal.returns-clause-losses
+returns-clause-losses g c =
+    let a = c.self.inside in
+    let faults = g.B.Bank.faults_of a.bank in
+    rw (← c.self.view_is) (alone-lossless a.members faults faults a.epoch.entries.items a.epoch.entries.items c.enter.new.epoch.entries.items c.args.who c.ops-end.result Halted tt refl c.enter.ensures.items)
+
+pub returns-clause-bank : goal.returns-clause-bank
+returns-clause-bank g c = ap (λ p. p.parts.bank) c.self.view_is
+
+pub returns-clause-given : goal.returns-clause-given
+returns-clause-given g c = c.enter.ensures.given ∙ ap (λ p. p.parts.given) c.self.view_is
+
+pub returns-clause-first : goal.returns-clause-first
+returns-clause-first g c = c.enter.ensures.first ∙ ap (λ p. p.parts.first) c.self.view_is
+
+pub check_number-requires : goal.check_number-requires
+check_number-requires g c = c.requires.next ∙ ap (λ p. next_number c.args.who.caller p.parts.entries) (sym c.self.view_is)

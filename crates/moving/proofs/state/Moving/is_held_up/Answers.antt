@@ -1,4 +1,4 @@
-use Rattle.std.proofs.Common.{arith}
+use Rattle.std.proofs.Common.{◌<◌, sym, subst, arith}
 use Rattle.superblocks.proofs.ValidFields.{few-roles}
 use Rattle.moving.proofs.state.Moving.is_held_up.Goals as goal
 
@@ -11,3 +11,6 @@ has_unnamed-requires-clause-few g c =
 
 pub returns-then-faults-eq0 : goal.returns-then-faults-eq0
 returns-then-faults-eq0 g c = rw (← c.self.view_is) (record { fresh = λ no lost zero. c.has_unnamed.ensures.none no })
+
+pub faults-requires : goal.faults-requires
+faults-requires g c = subst (λ p. c.args.slot < (g.B.Bank.given p.parts.bank).slots) (sym c.self.view_is) c.requires.slot

@@ -1,10 +1,10 @@
-use Rattle.std.proofs.Common.{◌≡◌, inr, ◌+◌, ◌≤◌, ℕ, true, List, [], ◌∷◌, ◌++◌, Some, refl, sym, ◌∙◌, ap, subst, arith}
+use Rattle.std.proofs.Common.{◌≡◌, inr, ◌+◌, ◌≤◌, ℕ, true, List, [], ◌∷◌, ◌++◌, Some, refl, sym, ◌∙◌, ap, subst, arith, inl, le_of_eq}
 use Rattle.md_base.specs.Shapes.{has_slot}
 use Rattle.md_base.specs.declared.answers.Refusal.{Refusal}
 use Rattle.md_base.specs.declared.answers.Refusal.TheVariants.{SlotFault}
 use Rattle.bank.specs.Given.{Given}
 use Rattle.bank.specs.Tape.{disk}
-use Rattle.superblocks.specs.Reading.{list_length}
+use Rattle.superblocks.specs.Reading.{list_length, is_clean}
 use Rattle.superblocks.proofs.ValidFields.{few-roles}
 use Rattle.flat_history.specs.declared.events.Entry.{Entry}
 use Rattle.flat_history.specs.declared.events.Event.TheVariants.{Refused, Added}
@@ -33,7 +33,8 @@ use Rattle.moving_laws.specs.running_words_Parts.{left_in}
 use Rattle.moving_laws.specs.Ready.{bytes_in}
 use Rattle.moving_laws.proofs.AddLaws.{apart-from, looked-grows, spare-made, still-called, none-added, add-called}
 use Rattle.moving_laws.proofs.running_words_Called.{not_254, called, alone-lossless}
-use Rattle.moving_laws.proofs.Kept.{ready, ready-with, shapes-same, shapes-moved, left-moved, alone-keeps, behind-keeps, behind-whole, live-of}
+use Rattle.moving_laws.proofs.Kept.{ready, ready-with, shapes-same, shapes-moved, left-moved, alone-keeps, behind-keeps, behind-whole, live-of, roomier}
+use Rattle.moving.proofs.StepLaws.{room-made, unchanged-roomed, roles-moved}
 use Rattle.moving.proofs.state.Moving.make_spare.Goals as goal
 
 pub look_at-requires-clause-slot : goal.look_at-requires-clause-slot
@@ -453,3 +454,69 @@ returns-clause-failed g c =
     let did = add-done look.given was.kept.slots here.placed here.unlost here.free there (λ role may. slot-free given (Some a.backup) slot a.members here.placed addable (inr (role, may))) look.counts
     c.spare_for-sb.ensures.made e.own e.moved e.failed e.lost e.grows e.others e.clean e.rise e.counts in
     rw (← c.self.view_is) did.failed.roles
+
+-- ---- what the searches would find too, for longer
+
+pub invariant_of-self : goal.invariant_of-self
+invariant_of-self g c = roomier c.self.invariant c.make_room.ensures.items c.make_room.ensures.keeps
+
+pub returns-in-Err-clause-answered : goal.returns-in-Err-clause-answered
+returns-in-Err-clause-answered g c = c.make_room.ensures.items ∙ ap (λ p. p.parts.entries) c.self.view_is
+
+pub returns-in-Err-clause-unchanged : goal.returns-in-Err-clause-unchanged
+returns-in-Err-clause-unchanged g c = unchanged-roomed _ _ c.make_room.new.self.items c.make_room.ensures.items c.self.view_is
+
+pub returns-in-Err-clause-caused : goal.returns-in-Err-clause-caused
+returns-in-Err-clause-caused g c = ap (λ p. p.parts.members) c.self.view_is
+
+pub returns-in-Err-clause-failed : goal.returns-in-Err-clause-failed
+returns-in-Err-clause-failed g c = rw (← c.self.view_is) (λ role slot held. inl held)
+
+pub returns-in_default-clause-failed : goal.returns-in_default-clause-failed
+returns-in_default-clause-failed g c = rw (← c.self.view_is) (λ role slot held. inl held)
+
+pub returns-in_default-clause-course : goal.returns-in_default-clause-course
+returns-in_default-clause-course g c = ap (λ p. p.course) c.self.view_is
+
+pub vacant_roles-before-requires-clause-known : goal.vacant_roles-before-requires-clause-known
+vacant_roles-before-requires-clause-known g c = le_of_eq c.len-count.ensures
+
+pub add_member-lost-requires-clause-slots : goal.add_member-lost-requires-clause-slots
+add_member-lost-requires-clause-slots g c = subst (λ (b : Given). b.slots ≤ 32) (sym c.look_at.ensures.given) c.self.invariant.kept.slots
+
+pub add_member-lost-requires-clause-unlost : goal.add_member-lost-requires-clause-unlost
+add_member-lost-requires-clause-unlost g c = c.self.invariant.kept.members_are.unlost
+
+pub newly_vacant-roles-requires-clause-known : goal.newly_vacant-roles-requires-clause-known
+newly_vacant-roles-requires-clause-known g c =
+    roles-moved (g.B.Bank.given c.look_at.new.bank) (with_spare c.args.slot c.spare_for-sb.result c.self.inside.members) c.add_member-lost.new.members c.add_member-lost.ensures.moved c.len-count.result c.len-count.ensures c.self.invariant.kept.members_are.placed.roles
+
+pub enter_behind-requires-clause-room : goal.enter_behind-requires-clause-room
+enter_behind-requires-clause-room g c = room-made _ c.in-Ok.ensures.ok
+
+pub enter_behind-requires-clause-number : goal.enter_behind-requires-clause-number
+enter_behind-requires-clause-number g c = c.check_number.ensures
+
+pub returns-then-contains-clause-clean : goal.returns-then-contains-clause-clean
+returns-then-contains-clause-clean g c = c.add_member-lost.ensures.clean ∙ ap (λ p. is_clean p.parts.members.newest) c.self.view_is
+
+pub returns-then-contains-clause-course : goal.returns-then-contains-clause-course
+returns-then-contains-clause-course g c = ap (λ p. p.course) c.self.view_is
+
+pub returns-then-contains-clause-given : goal.returns-then-contains-clause-given
+returns-then-contains-clause-given g c = c.add_member-lost.ensures.given ∙ c.look_at.ensures.given ∙ ap (λ p. g.B.Bank.given p.parts.bank) c.self.view_is
+
+pub enter_behind-requires-2-clause-room : goal.enter_behind-requires-2-clause-room
+enter_behind-requires-2-clause-room g c = room-made _ c.in-Ok.ensures.ok
+
+pub enter_behind-requires-2-clause-number : goal.enter_behind-requires-2-clause-number
+enter_behind-requires-2-clause-number g c = c.check_number.ensures
+
+pub returns-clause-clean : goal.returns-clause-clean
+returns-clause-clean g c = c.add_member-lost.ensures.clean ∙ ap (λ p. is_clean p.parts.members.newest) c.self.view_is
+
+pub returns-clause-course : goal.returns-clause-course
+returns-clause-course g c = ap (λ p. p.course) c.self.view_is
+
+pub returns-clause-given : goal.returns-clause-given
+returns-clause-given g c = c.add_member-lost.ensures.given ∙ c.look_at.ensures.given ∙ ap (λ p. g.B.Bank.given p.parts.bank) c.self.view_is

@@ -1,4 +1,4 @@
-use Rattle.std.proofs.Common.{◌≡◌, ◌≤◌, [], ◌∷◌, ◌++◌, None, Some, refl, sym, ◌∙◌, subst, arith}
+use Rattle.std.proofs.Common.{◌≡◌, ◌≤◌, [], ◌∷◌, ◌++◌, None, Some, refl, sym, ◌∙◌, subst, arith, ap}
 use Rattle.std.specs.Prelude.{⊤}
 use Rattle.superblocks.proofs.ValidFields.{few-roles}
 use Rattle.flat_history.specs.declared.events.Event.TheVariants.{Refused, Step}
@@ -22,6 +22,9 @@ use Rattle.moving_laws.specs.Ready.{bytes_in}
 use Rattle.moving_laws.proofs.running_words_Called.{not_254, called, alone-lossless}
 use Rattle.moving_laws.proofs.Kept.{ready, ready-with, shapes-same, shapes-moved, alone-keeps, behind-keeps, behind-whole}
 use Rattle.moving_laws.proofs.MendLaws.{next-of, aside-right, with-buffers, mends-short, not-mended-for, mendable-for, first-for, one-more, refused-why, done-why, mend-step, mend-refused, mend-done, mend-left, was-dirty}
+use Rattle.superblocks.specs.Reading.{is_clean}
+use Rattle.grow_asked.specs.Left.{phases_of}
+use Rattle.moving.proofs.StepLaws.{one-fewer, room-behind, taken-behind, under-way-moved, zeroed-moved, sound-moved, roles-moved}
 use Rattle.moving.proofs.state.Moving.mend_stripe.Goals as goal
 
 -- ---- the stripe
@@ -299,3 +302,92 @@ returns-clause-clean g c =
     let a = c.self.inside in
     let next = next-of _ c.unwrap_or-stripes.result (subst (λ p. IsMendDue p) (sym c.self.view_is) c.requires.due) c.unwrap_or-stripes.ensures in
     rw (← c.self.view_is) (c.mend_list-mended.ensures.dirty ∙ sym (was-dirty c.unwrap_or-stripes.result c.self.invariant.kept next.0 c.in_default.ensures.why))
+
+-- ---- what the searches would find too, for longer
+
+pub check_going-requires : goal.check_going-requires
+check_going-requires g c = subst (λ p. IsCallGoing p.parts.entries c.args.who) (sym c.self.view_is) c.requires.open
+
+pub enter-requires-clause-number : goal.enter-requires-clause-number
+enter-requires-clause-number g c = c.check_going.ensures
+
+pub returns-in-Some-clause-clean : goal.returns-in-Some-clause-clean
+returns-in-Some-clause-clean g c = ap (λ p. is_clean p.parts.members.newest) c.self.view_is
+
+pub returns-in-Some-clause-course : goal.returns-in-Some-clause-course
+returns-in-Some-clause-course g c = ap (λ p. p.course) c.self.view_is
+
+pub returns-in-Some-clause-room : goal.returns-in-Some-clause-room
+returns-in-Some-clause-room g c = one-fewer c.self.inside.steps c.args.self.now.parts.steps (ap (λ p. p.parts.steps) c.self.view_is) c.requires.room
+
+pub returns-in-Some-clause-given : goal.returns-in-Some-clause-given
+returns-in-Some-clause-given g c = ap (λ p. g.B.Bank.given p.parts.bank) c.self.view_is
+
+pub mend_list-mended-requires-clause-slots : goal.mend_list-mended-requires-clause-slots
+mend_list-mended-requires-clause-slots g c = c.self.invariant.kept.slots
+
+pub mend_list-mended-requires-clause-placed : goal.mend_list-mended-requires-clause-placed
+mend_list-mended-requires-clause-placed g c = c.self.invariant.kept.members_are.placed
+
+pub mend_list-mended-requires-clause-unlost : goal.mend_list-mended-requires-clause-unlost
+mend_list-mended-requires-clause-unlost g c = c.self.invariant.kept.members_are.unlost
+
+pub mend_list-mended-requires-clause-free : goal.mend_list-mended-requires-clause-free
+mend_list-mended-requires-clause-free g c = c.self.invariant.kept.members_are.free
+
+pub newly_vacant-roles-requires-clause-known : goal.newly_vacant-roles-requires-clause-known
+newly_vacant-roles-requires-clause-known g c =
+    roles-moved (g.B.Bank.given c.self.inside.bank) c.self.inside.members c.mend_list-mended.new.members c.mend_list-mended.ensures.moved c.len-count.result c.len-count.ensures c.self.invariant.kept.members_are.placed.roles
+
+pub enter_behind-requires-clause-room : goal.enter_behind-requires-clause-room
+enter_behind-requires-clause-room g c = room-behind c.self.inside.steps c.args.self.now.parts.steps c.self.inside.epoch.entries.room (ap (λ p. p.parts.steps) c.self.view_is) c.requires.room c.self.invariant.room_left
+
+pub enter_behind-requires-clause-number : goal.enter_behind-requires-clause-number
+enter_behind-requires-clause-number g c = c.check_going.ensures
+
+pub returns-in-Some-refusal-clause-entered : goal.returns-in-Some-refusal-clause-entered
+returns-in-Some-refusal-clause-entered g c =
+    rw (← c.self.view_is) (record { roles = c.newly_vacant-roles.result; spares = c.mend_list-mended.result.spares; end = c.ops-end-2.result; is = c.enter_behind.ensures.items })
+
+pub returns-in-Some-refusal-clause-course : goal.returns-in-Some-refusal-clause-course
+returns-in-Some-refusal-clause-course g c = ap (λ p. p.course) c.self.view_is
+
+pub returns-in-Some-refusal-clause-room : goal.returns-in-Some-refusal-clause-room
+returns-in-Some-refusal-clause-room g c = one-fewer c.self.inside.steps c.args.self.now.parts.steps (ap (λ p. p.parts.steps) c.self.view_is) c.requires.room
+
+pub returns-in-Some-refusal-clause-given : goal.returns-in-Some-refusal-clause-given
+returns-in-Some-refusal-clause-given g c = c.mend_list-mended.ensures.given ∙ ap (λ p. g.B.Bank.given p.parts.bank) c.self.view_is
+
+pub steps_left-left-requires-clause-fit : goal.steps_left-left-requires-clause-fit
+steps_left-left-requires-clause-fit g c = c.mend_list-mended.ensures.moved.placed.fit
+
+pub steps_left-left-requires-clause-reshape : goal.steps_left-left-requires-clause-reshape
+steps_left-left-requires-clause-reshape g c =
+    under-way-moved (g.B.Bank.given c.self.inside.bank) c.self.inside.members c.mend_list-mended.new.members c.mend_list-mended.ensures.moved c.self.invariant.kept.members_are.active
+
+pub steps_left-left-requires-clause-zeroed : goal.steps_left-left-requires-clause-zeroed
+steps_left-left-requires-clause-zeroed g c =
+    zeroed-moved (g.B.Bank.given c.self.inside.bank) c.self.inside.members c.mend_list-mended.new.members c.mend_list-mended.ensures.moved c.self.inside.course.zeroed c.self.invariant.kept.course_is.few
+
+pub steps_left-left-requires-clause-sound : goal.steps_left-left-requires-clause-sound
+steps_left-left-requires-clause-sound g c =
+    sound-moved (g.B.Bank.given c.self.inside.bank) c.self.inside.members c.mend_list-mended.new.members c.mend_list-mended.ensures.moved (phases_of c.self.inside.ahead) c.self.invariant.planned
+
+pub enter_behind-requires-2-clause-room : goal.enter_behind-requires-2-clause-room
+enter_behind-requires-2-clause-room g c = room-behind c.self.inside.steps c.args.self.now.parts.steps c.self.inside.epoch.entries.room (ap (λ p. p.parts.steps) c.self.view_is) c.requires.room c.self.invariant.room_left
+
+pub enter_behind-requires-2-clause-number : goal.enter_behind-requires-2-clause-number
+enter_behind-requires-2-clause-number g c = c.check_going.ensures
+
+pub returns-clause-entered : goal.returns-clause-entered
+returns-clause-entered g c =
+    rw (← c.self.view_is) (taken-behind c.args.who c.ops-end-2.result c.newly_vacant-roles.result c.mend_list-mended.result.spares MendsStripe c.steps_left-left.result _ c.steps_left-left.ensures c.enter_behind-2.ensures.items)
+
+pub returns-clause-course : goal.returns-clause-course
+returns-clause-course g c = ap (λ p. p.course) c.self.view_is
+
+pub returns-clause-room : goal.returns-clause-room
+returns-clause-room g c = one-fewer c.self.inside.steps c.args.self.now.parts.steps (ap (λ p. p.parts.steps) c.self.view_is) c.requires.room
+
+pub returns-clause-given : goal.returns-clause-given
+returns-clause-given g c = c.mend_list-mended.ensures.given ∙ ap (λ p. g.B.Bank.given p.parts.bank) c.self.view_is

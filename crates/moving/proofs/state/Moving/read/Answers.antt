@@ -1,4 +1,4 @@
-use Rattle.std.proofs.Common.{◌≡◌, ◌+◌, ◌/◌, ◌≤◌, ◌++◌, ◌∷◌, [], ℕ, Option, Some, Result, Ok, Err, List, length, refl, sym, ◌∙◌, ap, subst, arith, append-nil}
+use Rattle.std.proofs.Common.{inl, ◌≡◌, ◌+◌, ◌/◌, ◌≤◌, ◌++◌, ◌∷◌, [], ℕ, Option, Some, Result, Ok, Err, List, length, refl, sym, ◌∙◌, ap, subst, arith, append-nil}
 use Rattle.std.specs.Prelude.{OnOk}
 use Rattle.std.proofs.lemmas.List.Elements.{All-nil}
 use Rattle.md_base.specs.declared.places.Span.{Span}
@@ -41,6 +41,11 @@ use Rattle.bank.specs.Tape.{AreSectors}
 use Rattle.moving_laws.specs.array_kept_Calls.{IsAnswered, OnNoMemory}
 use Rattle.moving_laws.proofs.WriteLaws.{roomed, called-roomed}
 use Rattle.moving_laws.proofs.FirstLaws.{first-short, first-told, first-none, first-seen}
+use Rattle.moving.proofs.Calls.{still-called, one-of-51, whole-as, some-of, called-over, never-falls}
+use Rattle.row_io.specs.Rows.{present}
+use Rattle.superblocks.specs.Reading.{is_clean}
+use Rattle.views.specs.Lacking.{HaveRolesFailed}
+use Rattle.moving_laws.specs.running_words_Calls.{IsCalled}
 use Rattle.moving.proofs.state.Moving.read.Goals as goal
 
 -- what follows where memory is short, where it never is
@@ -70,7 +75,7 @@ invariant_of-self-in-Some g c =
     c.args.who end (Refused refusal) was.kept (begins-going a.epoch.entries.items c.args.who number) (not_254 c.args.who.caller c.requires.caller) c.ops-end.ensures.count (quiet-refusal refusal) (λ told is. is)
     (first-right was.kept was.limited hidden relied c.args.at (c.args.at + count) refusal c.relied_sector-relied.ensures.value why) in
     ready (entries_of c.args.who end (Refused refusal ∷ [])) was (grows-none (λ t. refl)) (shapes-same a.members.newest) kept
-    refl (λ slot. omega arith) (alone-keeps c.args.who end (Refused refusal) (λ n. refl) (λ limit. refl)) (λ none whole. whole) refl (scope-same given (Some a.backup) refl c.enter.ensures.uuid c.enter.ensures.given) c.enter.ensures.first c.make_room.ensures.items c.enter.ensures.items
+    refl (never-falls _) (alone-keeps c.args.who end (Refused refusal) (λ n. refl) (λ limit. refl)) (λ none whole. whole) refl (scope-same given (Some a.backup) refl c.enter.ensures.uuid c.enter.ensures.given) c.enter.ensures.first c.make_room.ensures.items c.enter.ensures.items
     (omega (arith, c.enter.ensures.room, c.in-Ok-make_room.ensures.ok))
 
 pub returns-in-Some-clause-answered : goal.returns-in-Some-clause-answered
@@ -95,13 +100,13 @@ returns-in-Some-clause-called g c =
     let scope = scope_in given a.epoch.uuid a.epoch.given (Some a.backup) in
     let end = c.ops-end.result in
     let refusal = c.in-Some.refusal in
-    rw (← c.self.view_is) (record {
+    called-over g.B.Bank.given g.B.Bank.tape g.B.Bank.faults_of c.self.view_is (record {
       grows = grows-none (λ t. refl);
       ended = ended-behind (g.B.Bank.tape a.bank) c.enter.new.epoch.first c.make_room.new.self.items c.args.who end [] (Refused refusal) c.enter.ensures.items c.ops-end.ensures.count;
       held = λ role slot held. held;
       spares = λ slot spare. spare;
       losses = alone-lossless a.members (g.B.Bank.faults_of a.bank) (g.B.Bank.faults_of a.bank) a.epoch.entries.items c.make_room.new.self.items c.enter.new.epoch.entries.items c.args.who end (Refused refusal) tt c.make_room.ensures.items c.enter.ensures.items;
-      never_falls = λ slot. omega arith;
+      never_falls = never-falls _;
       work = refl;
       same = record {
         array = record {
@@ -150,7 +155,7 @@ invariant_of-self-then-asked-eq0 g c =
     c.args.who end (Read c.args.at body) was.kept (begins-going a.epoch.entries.items c.args.who number) (not_254 c.args.who.caller c.requires.caller) c.ops-end-then-asked-eq0.ensures.count (read-quiet c.args.at body) (λ told is. is)
     (none-read was.kept was.limited c.args.at body none within) in
     ready (entries_of c.args.who end (Read c.args.at body ∷ [])) was (grows-none (λ t. refl)) (shapes-same a.members.newest) kept
-    refl (λ slot. omega arith) (alone-keeps c.args.who end (Read c.args.at body) (λ n. refl) (λ limit. refl)) (λ none whole. whole) refl (scope-same given (Some a.backup) refl c.enter-then-asked-eq0.ensures.uuid c.enter-then-asked-eq0.ensures.given)
+    refl (never-falls _) (alone-keeps c.args.who end (Read c.args.at body) (λ n. refl) (λ limit. refl)) (λ none whole. whole) refl (scope-same given (Some a.backup) refl c.enter-then-asked-eq0.ensures.uuid c.enter-then-asked-eq0.ensures.given)
     c.enter-then-asked-eq0.ensures.first c.make_room.ensures.items c.enter-then-asked-eq0.ensures.items
     (omega (arith, c.enter-then-asked-eq0.ensures.room, c.in-Ok-make_room.ensures.ok))
 
@@ -177,14 +182,14 @@ returns-then-asked-eq0-clause-called g c =
     let scope = scope_in given a.epoch.uuid a.epoch.given (Some a.backup) in
     let end = c.ops-end-then-asked-eq0.result in
     let event = Read c.args.at c.from_bytes-body.result in
-    rw (← c.self.view_is) (record {
+    called-over g.B.Bank.given g.B.Bank.tape g.B.Bank.faults_of c.self.view_is (record {
       grows = grows-none (λ t. refl);
       ended = ended-behind (g.B.Bank.tape a.bank) c.enter-then-asked-eq0.new.epoch.first c.make_room.new.self.items c.args.who end [] event c.enter-then-asked-eq0.ensures.items c.ops-end-then-asked-eq0.ensures.count;
       held = λ role slot held. held;
       spares = λ slot spare. spare;
       losses = alone-lossless a.members (g.B.Bank.faults_of a.bank) (g.B.Bank.faults_of a.bank) a.epoch.entries.items c.make_room.new.self.items c.enter-then-asked-eq0.new.epoch.entries.items c.args.who end event tt
           c.make_room.ensures.items c.enter-then-asked-eq0.ensures.items;
-      never_falls = λ slot. omega arith;
+      never_falls = never-falls _;
       work = refl;
       same = record {
         array = record {
@@ -224,10 +229,10 @@ returns-in-Err-make_room-clause-called g c =
     let a = c.self.inside in
     let given = g.B.Bank.given a.bank in
     let faults = g.B.Bank.faults_of a.bank in
-    rw (← c.self.view_is) (called (grows-none (λ t. refl)) (moved-same given given a.members a.members refl refl was.kept.members_are.placed was.kept.members_are.unlost)
+    called-over g.B.Bank.given g.B.Bank.tape g.B.Bank.faults_of c.self.view_is (called (grows-none (λ t. refl)) (moved-same given given a.members a.members refl refl was.kept.members_are.placed was.kept.members_are.unlost)
     (λ t. ap (λ (l : List Entry). last_end_from a.epoch.first l) c.make_room.ensures.items ∙ (was.kept.recorded t).ended)
     (record { more = []; grown = c.make_room.ensures.items ∙ sym (append-nil a.epoch.entries.items); failed = All-nil (λ e. IsLossBy (Held a.members) faults faults e.event) })
-    (λ slot. omega arith)
+    (never-falls _)
     (record { uuid = refl; given = refl; first = refl; backup = refl; work = refl; ahead = refl; limit = refl })
     (λ t. (was.kept.recorded t).begun))
 
@@ -271,7 +276,7 @@ pub returns-clause-unchanged : goal.returns-clause-unchanged
 returns-clause-unchanged g c = never-short c.read_some.result (c.read_some.new.self ≡ c.args.self.now) c.read_some.ensures.memory
 
 pub returns-clause-called : goal.returns-clause-called
-returns-clause-called g c = rw (← c.self.view_is) (called-roomed _ c.read_some.new.self _ 1 c.make_room.ensures.items c.read_some.ensures.called)
+returns-clause-called g c = called-over g.B.Bank.given g.B.Bank.tape g.B.Bank.faults_of c.self.view_is (called-roomed _ c.read_some.new.self _ 1 c.make_room.ensures.items c.read_some.ensures.called)
 
 pub returns-clause-others : goal.returns-clause-others
 returns-clause-others g c = rw (← c.self.view_is) c.read_some.ensures.others
@@ -307,3 +312,117 @@ returns-then-asked-eq0-clause-first g c = rw (← c.self.view_is) (first-none _ 
 
 pub returns-clause-first : goal.returns-clause-first
 returns-clause-first g c = rw (← c.self.view_is) (first-none _ c.read_some.result (first-seen _ _ _ c.visible-sectors.ensures.value c.in_default.ensures.first))
+
+-- ---- by what stands above
+
+pub invariant_of-self : goal.invariant_of-self
+invariant_of-self g c = roomed c.make_room.ensures.items (let had = c.self.invariant.room_left in let keeps = c.make_room.ensures.keeps in omega (arith, had, keeps)) c.self.invariant
+
+pub returns-in-Err-clause-called : goal.returns-in-Err-clause-called
+returns-in-Err-clause-called g c =
+    let kept = c.self.invariant.kept in
+    subst (λ p. IsCalled g.B.Bank.tells (g.B.Bank.given p.parts.bank) (g.B.Bank.tape p.parts.bank) (g.B.Bank.tape p.parts.bank) (g.B.Bank.faults_of p.parts.bank) (g.B.Bank.faults_of p.parts.bank) p p) c.self.view_is
+    (still-called _ kept.members_are.placed kept.members_are.unlost (λ t. (kept.recorded t).ended) (λ t. (kept.recorded t).begun))
+
+pub returns-in-Err-make_room-clause-answered : goal.returns-in-Err-make_room-clause-answered
+returns-in-Err-make_room-clause-answered g c = c.make_room.ensures.items ∙ ap (λ p. p.parts.entries) c.self.view_is
+
+pub returns-in-Err-make_room-clause-failed : goal.returns-in-Err-make_room-clause-failed
+returns-in-Err-make_room-clause-failed g c = subst (λ p. HaveRolesFailed p.parts.members c.self.inside.members (g.B.Bank.faults_of p.parts.bank) (g.B.Bank.faults_of c.self.inside.bank)) c.self.view_is (λ role slot held. inl held)
+
+pub returns-in-Some-clause-failed : goal.returns-in-Some-clause-failed
+returns-in-Some-clause-failed g c = subst (λ p. HaveRolesFailed p.parts.members c.self.inside.members (g.B.Bank.faults_of p.parts.bank) (g.B.Bank.faults_of c.self.inside.bank)) c.self.view_is (λ role slot held. inl held)
+
+pub returns-in-Some-clause-course : goal.returns-in-Some-clause-course
+returns-in-Some-clause-course g c = ap (λ p. p.course) c.self.view_is
+
+pub returns-in-Some-clause-clean : goal.returns-in-Some-clause-clean
+returns-in-Some-clause-clean g c = ap (λ p. is_clean p.parts.members.newest) c.self.view_is
+
+pub returns-in-Some-clause-given : goal.returns-in-Some-clause-given
+returns-in-Some-clause-given g c = ap (λ p. g.B.Bank.given p.parts.bank) c.self.view_is
+
+pub returns-in-Some-clause-others : goal.returns-in-Some-clause-others
+returns-in-Some-clause-others g c = λ t s k ne. ap (λ p. present (g.B.Bank.given c.args.self.now.parts.bank) (g.B.Bank.tape p.parts.bank) s k) c.self.view_is
+
+pub returns-then-asked-eq0-clause-failed : goal.returns-then-asked-eq0-clause-failed
+returns-then-asked-eq0-clause-failed g c = subst (λ p. HaveRolesFailed p.parts.members c.self.inside.members (g.B.Bank.faults_of p.parts.bank) (g.B.Bank.faults_of c.self.inside.bank)) c.self.view_is (λ role slot held. inl held)
+
+pub returns-then-asked-eq0-clause-course : goal.returns-then-asked-eq0-clause-course
+returns-then-asked-eq0-clause-course g c = ap (λ p. p.course) c.self.view_is
+
+pub returns-then-asked-eq0-clause-clean : goal.returns-then-asked-eq0-clause-clean
+returns-then-asked-eq0-clause-clean g c = ap (λ p. is_clean p.parts.members.newest) c.self.view_is
+
+pub returns-then-asked-eq0-clause-given : goal.returns-then-asked-eq0-clause-given
+returns-then-asked-eq0-clause-given g c = ap (λ p. g.B.Bank.given p.parts.bank) c.self.view_is
+
+pub returns-then-asked-eq0-clause-others : goal.returns-then-asked-eq0-clause-others
+returns-then-asked-eq0-clause-others g c = λ t s k ne. ap (λ p. present (g.B.Bank.given c.args.self.now.parts.bank) (g.B.Bank.tape p.parts.bank) s k) c.self.view_is
+
+pub returns-in-Err-make_room-clause-unchanged : goal.returns-in-Err-make_room-clause-unchanged
+returns-in-Err-make_room-clause-unchanged g c =
+    let a = c.self.inside in
+    (λ i. record {
+      parts = record { bank = a.bank; uuid = a.epoch.uuid; given = a.epoch.given; first = a.epoch.first; last = a.epoch.last; entries = c.make_room.ensures.items i; backup = Some a.backup; members = a.members; work = a.work; steps = a.steps };
+      course = a.course;
+      ahead = a.ahead;
+      limit = a.limit;
+    }) ∙ c.self.view_is
+
+pub returns-in-Err-make_room-clause-caused : goal.returns-in-Err-make_room-clause-caused
+returns-in-Err-make_room-clause-caused g c = ap (λ p. p.parts.members) c.self.view_is
+
+pub unread_from-requires-clause-roles : goal.unread_from-requires-clause-roles
+unread_from-requires-clause-roles g c = c.self.invariant.kept.members_are.placed.roles
+
+pub unread_from-requires-clause-visible : goal.unread_from-requires-clause-visible
+unread_from-requires-clause-visible g c = c.visible-sectors.ensures.within
+
+pub read_some-requires-clause-same : goal.read_some-requires-clause-same
+read_some-requires-clause-same g c = c.in-Ok.ensures.len
+
+pub read_some-requires-clause-whole : goal.read_some-requires-clause-whole
+read_some-requires-clause-whole g c = c.requires.whole
+
+pub enter-requires-clause-number : goal.enter-requires-clause-number
+enter-requires-clause-number g c = c.check_number.ensures
+
+pub enter-requires-then-asked-eq0-clause-number : goal.enter-requires-then-asked-eq0-clause-number
+enter-requires-then-asked-eq0-clause-number g c = c.check_number.ensures
+
+pub enter-requires-clause-room : goal.enter-requires-clause-room
+enter-requires-clause-room g c = one-of-51 c.in-Ok-make_room.ensures.ok
+
+pub enter-requires-then-asked-eq0-clause-room : goal.enter-requires-then-asked-eq0-clause-room
+enter-requires-then-asked-eq0-clause-room g c = one-of-51 c.in-Ok-make_room.ensures.ok
+
+pub check_number-requires : goal.check_number-requires
+check_number-requires g c =
+    c.requires.next ∙ ap (λ p. next_number c.args.who.caller p.parts.entries) (sym c.self.view_is) ∙ ap (λ (l : List Entry). next_number c.args.who.caller l) (sym c.make_room.ensures.items)
+
+pub from_bytes-body-requires : goal.from_bytes-body-requires
+from_bytes-body-requires g c = whole-as c.in-Ok.bytes.items c.args.into.now c.in-Ok.ensures.len c.requires.whole
+
+pub returns-then-asked-eq0-clause-holds : goal.returns-then-asked-eq0-clause-holds
+returns-then-asked-eq0-clause-holds g c = λ t right i few.
+    let zero = c.if-asked-eq0.true in
+    absurd (omega (arith, few, zero))
+
+pub read_some-requires-clause-some : goal.read_some-requires-clause-some
+read_some-requires-clause-some g c = some-of _ c.if-asked-eq0.false
+
+pub unread_from-requires-clause-fit : goal.unread_from-requires-clause-fit
+unread_from-requires-clause-fit g c = c.self.invariant.kept.members_are.placed.fit
+
+pub relied_sector-relied-requires-clause-fit : goal.relied_sector-relied-requires-clause-fit
+relied_sector-relied-requires-clause-fit g c = c.self.invariant.kept.members_are.placed.fit
+
+pub relied_sector-relied-requires-clause-progress : goal.relied_sector-relied-requires-clause-progress
+relied_sector-relied-requires-clause-progress g c = c.self.invariant.kept.progress
+
+pub returns-in-Err-clause-failed : goal.returns-in-Err-clause-failed
+returns-in-Err-clause-failed g c = λ role slot held. inl held
+
+pub read_some-requires-clause-caller : goal.read_some-requires-clause-caller
+read_some-requires-clause-caller g c = c.requires.caller

@@ -4,7 +4,7 @@ use Rattle.std.specs.Vec.{with_items}
 use Rattle.md_base.specs.declared.places.Span.{Span}
 use Rattle.md_base.specs.Sectors.{Sector, IsWhole, sectors_of}
 use Rattle.md_base.proofs.SectorLaws.{length-sectors_of}
-use Rattle.superblocks.specs.Reading.{list_length}
+use Rattle.superblocks.specs.Reading.{list_length, is_clean}
 use Rattle.superblocks.proofs.ValidFields.{few-roles}
 use Rattle.row_io.specs.Rows.{present}
 use Rattle.flat_history.specs.declared.events.Entry.{Entry}
@@ -15,7 +15,7 @@ use Rattle.flat_history.specs.Flat.{next_number, now}
 use Rattle.flat_history.specs.Plain.{entries_of}
 use Rattle.flat_history.specs.Stands.{shape_for}
 use Rattle.views.specs.Numbers.{is_carried}
-use Rattle.views.specs.Lacking.{AreLostSince, DoesWithout}
+use Rattle.views.specs.Lacking.{AreLostSince, DoesWithout, HaveRolesFailed}
 use Rattle.views.proofs.LackingLaws.{lost-since}
 use Rattle.views.proofs.LackingLists.{row-sector}
 use Rattle.call_entries.specs.Losing.{losses_of}
@@ -44,6 +44,9 @@ use Rattle.moving_laws.proofs.Kept.{ready, with-buffer, shapes-moved, left-moved
 use Rattle.moving_laws.proofs.running_words_Called.{not_254, called}
 use Rattle.moving_laws.proofs.Settled.{risen-told}
 use Rattle.moving_laws.proofs.Reading.{IsFetched, read-live, read-some, room-taken, unread-moves, read-moves, holds-read, beside-unread, unread-missing, read-does, asked-is, hidden-fits, holds-sliced}
+use Rattle.moving.proofs.Calls.{room-49, known-moved, le-same, room-after-49, scratch-of, whole-as, within-same, called-over}
+use Rattle.std.proofs.lemmas.List.{length-take-le}
+use Rattle.moving_laws.specs.shape_changes_Marking.{AreOthersPresent}
 use Rattle.moving.proofs.state.Moving.read_some.Goals as goal
 
 pub overflow_cast-count : goal.overflow_cast-count
@@ -138,7 +141,7 @@ invariant_of-self g c =
     refl did.counts (behind-keeps c.args.who end roles spares (Refused refusal) (λ n. refl) (λ limit. refl))
     (behind-whole tape' scope a.epoch.first a.epoch.entries.items c.args.who end roles spares (Refused refusal) did.moved (missing-since roles did.moved since.vacant)) did.given (scope-same given (Some a.backup) did.given c.enter_behind.ensures.uuid c.enter_behind.ensures.given) c.enter_behind.ensures.first refl
     c.enter_behind.ensures.items
-    (let had = was.room_left in let room = c.enter_behind.ensures.room in omega (arith, room, had, steps)))
+    (room-after-49 a.steps a.epoch.entries.room c.enter_behind.new.epoch.entries.room was.room_left c.enter_behind.ensures.room steps))
 
 pub returns-in-Some-clause-answered : goal.returns-in-Some-clause-answered
 returns-in-Some-clause-answered g c =
@@ -239,22 +242,22 @@ returns-in-Some-clause-called g c =
     let asked = length c.as_mut_slice.result.now / 512 in
     let since : AreLostSince a.members m roles spares before after = lost-since given a.members m c.len-count.result c.vacant_roles-before.result roles spares before after was.kept.members_are.placed did.moved did.failed
     (c.len-count.ensures ∙ was.kept.members_are.backed.roles) c.vacant_roles-before.ensures c.newly_vacant-roles.ensures in
-    rw (← c.self.view_is) (called did.grows did.moved
+    called-over g.B.Bank.given g.B.Bank.tape g.B.Bank.faults_of c.self.view_is (called did.grows did.moved
     (ended-behind tape' c.enter_behind.new.epoch.first a.epoch.entries.items c.args.who end (losses_of roles spares) (Refused c.in-Some.refusal) c.enter_behind.ensures.items c.ops-end.ensures.count)
     (losses-behind a.members m before after a.epoch.entries.items a.epoch.entries.items c.enter_behind.new.epoch.entries.items c.args.who end roles spares (Refused c.in-Some.refusal) since tt refl c.enter_behind.ensures.items)
     did.counts (record { uuid = c.enter_behind.ensures.uuid; given = c.enter_behind.ensures.given; first = c.enter_behind.ensures.first; backup = refl; work = refl; ahead = refl; limit = refl }) (λ t. (was.kept.recorded t).begun))
 
 pub returns-in-Some-clause-others : goal.returns-in-Some-clause-others
-returns-in-Some-clause-others g c = rw (← c.self.view_is) c.fetch_beside-fetched.ensures.others
+returns-in-Some-clause-others g c = subst (λ p. g.B.Bank.tells → AreOthersPresent (present (g.B.Bank.given p.parts.bank) (g.B.Bank.tape p.parts.bank)) (present (g.B.Bank.given p.parts.bank) (g.B.Bank.tape c.fetch_beside-fetched.new.bank))) c.self.view_is c.fetch_beside-fetched.ensures.others
 
 pub returns-clause-others : goal.returns-clause-others
-returns-clause-others g c = rw (← c.self.view_is) c.fetch_beside-fetched.ensures.others
+returns-clause-others g c = subst (λ p. g.B.Bank.tells → AreOthersPresent (present (g.B.Bank.given p.parts.bank) (g.B.Bank.tape p.parts.bank)) (present (g.B.Bank.given p.parts.bank) (g.B.Bank.tape c.fetch_beside-fetched.new.bank))) c.self.view_is c.fetch_beside-fetched.ensures.others
 
 pub returns-in-Some-clause-failed : goal.returns-in-Some-clause-failed
-returns-in-Some-clause-failed g c = rw (← c.self.view_is) c.fetch_beside-fetched.ensures.failed.roles
+returns-in-Some-clause-failed g c = subst (λ p. HaveRolesFailed p.parts.members c.fetch_beside-fetched.new.members (g.B.Bank.faults_of p.parts.bank) (g.B.Bank.faults_of c.fetch_beside-fetched.new.bank)) c.self.view_is c.fetch_beside-fetched.ensures.failed.roles
 
 pub returns-clause-failed : goal.returns-clause-failed
-returns-clause-failed g c = rw (← c.self.view_is) c.fetch_beside-fetched.ensures.failed.roles
+returns-clause-failed g c = subst (λ p. HaveRolesFailed p.parts.members c.fetch_beside-fetched.new.members (g.B.Bank.faults_of p.parts.bank) (g.B.Bank.faults_of c.fetch_beside-fetched.new.bank)) c.self.view_is c.fetch_beside-fetched.ensures.failed.roles
 
 pub invariant_of-self-2 : goal.invariant_of-self-2
 invariant_of-self-2 g c =
@@ -310,7 +313,7 @@ invariant_of-self-2 g c =
     refl did.counts (behind-keeps c.args.who end roles spares (Read c.args.at (sectors_of bytes)) (λ n. refl) (λ limit. refl))
     (behind-whole tape' scope a.epoch.first a.epoch.entries.items c.args.who end roles spares (Read c.args.at (sectors_of bytes)) did.moved (missing-since roles did.moved since.vacant)) did.given (scope-same given (Some a.backup) did.given c.enter_behind-2.ensures.uuid c.enter_behind-2.ensures.given) c.enter_behind-2.ensures.first refl
     (c.enter_behind-2.ensures.items ∙ ap (λ (b : List Sector). a.epoch.entries.items ++ entries_of c.args.who end (losses_of roles spares ++ Read c.args.at b ∷ [])) (c.from_bytes-body.ensures ∙ ap sectors_of whole))
-    (let had = was.room_left in let room = c.enter_behind-2.ensures.room in omega (arith, room, had, steps)))
+    (room-after-49 a.steps a.epoch.entries.room c.enter_behind-2.new.epoch.entries.room was.room_left c.enter_behind-2.ensures.room steps))
 
 pub returns-clause-answered : goal.returns-clause-answered
 returns-clause-answered g c =
@@ -424,7 +427,7 @@ returns-clause-called g c =
     let asked = length c.as_mut_slice.result.now / 512 in
     let since : AreLostSince a.members m roles spares before after = lost-since given a.members m c.len-count.result c.vacant_roles-before.result roles spares before after was.kept.members_are.placed did.moved did.failed
     (c.len-count.ensures ∙ was.kept.members_are.backed.roles) c.vacant_roles-before.ensures c.newly_vacant-roles.ensures in
-    rw (← c.self.view_is) (called did.grows did.moved
+    called-over g.B.Bank.given g.B.Bank.tape g.B.Bank.faults_of c.self.view_is (called did.grows did.moved
     (ended-behind tape' c.enter_behind-2.new.epoch.first a.epoch.entries.items c.args.who end (losses_of roles spares) (Read c.args.at c.from_bytes-body.result) c.enter_behind-2.ensures.items c.ops-end.ensures.count)
     (losses-behind a.members m before after a.epoch.entries.items a.epoch.entries.items c.enter_behind-2.new.epoch.entries.items c.args.who end roles spares (Read c.args.at c.from_bytes-body.result) since tt refl c.enter_behind-2.ensures.items)
     did.counts (record { uuid = c.enter_behind-2.ensures.uuid; given = c.enter_behind-2.ensures.given; first = c.enter_behind-2.ensures.first; backup = refl; work = refl; ahead = refl; limit = refl }) (λ t. (was.kept.recorded t).begun))
@@ -439,3 +442,73 @@ fetch_beside-fetched-requires-clause-within g c =
 
 pub fetch_beside-fetched-requires-clause-into : goal.fetch_beside-fetched-requires-clause-into
 fetch_beside-fetched-requires-clause-into g c = subst (λ (l : List ℕ). IsWhole l) (sym c.as_mut_slice.ensures.value) (let whole = c.requires.whole in let same = c.requires.same in omega (arith, whole, same))
+
+-- ---- by what stands above
+
+pub fetch_beside-fetched-requires-clause-placed : goal.fetch_beside-fetched-requires-clause-placed
+fetch_beside-fetched-requires-clause-placed g c = c.self.invariant.kept.members_are.placed
+
+pub fetch_beside-fetched-requires-clause-unlost : goal.fetch_beside-fetched-requires-clause-unlost
+fetch_beside-fetched-requires-clause-unlost g c = c.self.invariant.kept.members_are.unlost
+
+pub fetch_beside-fetched-requires-clause-free : goal.fetch_beside-fetched-requires-clause-free
+fetch_beside-fetched-requires-clause-free g c = c.self.invariant.kept.members_are.free
+
+pub fetch_beside-fetched-requires-clause-slots : goal.fetch_beside-fetched-requires-clause-slots
+fetch_beside-fetched-requires-clause-slots g c = c.self.invariant.kept.slots
+
+pub enter_behind-requires-clause-room : goal.enter_behind-requires-clause-room
+enter_behind-requires-clause-room g c = room-49 c.self.inside.steps c.self.inside.epoch.entries.room (subst (λ p. 1 ≤ p.parts.steps) (sym c.self.view_is) c.requires.room) c.self.invariant.room_left
+
+pub enter_behind-requires-2-clause-room : goal.enter_behind-requires-2-clause-room
+enter_behind-requires-2-clause-room g c = room-49 c.self.inside.steps c.self.inside.epoch.entries.room (subst (λ p. 1 ≤ p.parts.steps) (sym c.self.view_is) c.requires.room) c.self.invariant.room_left
+
+pub newly_vacant-roles-requires-clause-known : goal.newly_vacant-roles-requires-clause-known
+newly_vacant-roles-requires-clause-known g c = known-moved c.len-count.result c.fetch_beside-fetched.ensures.moved c.len-count.ensures c.self.invariant.kept.members_are.placed.roles
+
+pub vacant_roles-before-requires-clause-known : goal.vacant_roles-before-requires-clause-known
+vacant_roles-before-requires-clause-known g c = le-same _ _ c.len-count.ensures
+
+pub returns-in-Some-clause-course : goal.returns-in-Some-clause-course
+returns-in-Some-clause-course g c = ap (λ p. p.course) c.self.view_is
+
+pub returns-clause-course : goal.returns-clause-course
+returns-clause-course g c = ap (λ p. p.course) c.self.view_is
+
+pub returns-in-Some-clause-clean : goal.returns-in-Some-clause-clean
+returns-in-Some-clause-clean g c = c.fetch_beside-fetched.ensures.clean ∙ ap (λ p. is_clean p.parts.members.newest) c.self.view_is
+
+pub returns-in-Some-clause-given : goal.returns-in-Some-clause-given
+returns-in-Some-clause-given g c = c.fetch_beside-fetched.ensures.given ∙ ap (λ p. g.B.Bank.given p.parts.bank) c.self.view_is
+
+pub returns-clause-clean : goal.returns-clause-clean
+returns-clause-clean g c = c.fetch_beside-fetched.ensures.clean ∙ ap (λ p. is_clean p.parts.members.newest) c.self.view_is
+
+pub returns-clause-given : goal.returns-clause-given
+returns-clause-given g c = c.fetch_beside-fetched.ensures.given ∙ ap (λ p. g.B.Bank.given p.parts.bank) c.self.view_is
+
+pub enter_behind-requires-clause-number : goal.enter_behind-requires-clause-number
+enter_behind-requires-clause-number g c = c.check_number.ensures
+
+pub enter_behind-requires-2-clause-number : goal.enter_behind-requires-2-clause-number
+enter_behind-requires-2-clause-number g c = c.check_number.ensures
+
+pub fetch_beside-fetched-requires-clause-scratch : goal.fetch_beside-fetched-requires-clause-scratch
+fetch_beside-fetched-requires-clause-scratch g c = scratch-of _ _ c.as_mut_slice-2.ensures.value c.self.invariant.buffer_fits
+
+pub slice_bounds-fetch_beside-end : goal.slice_bounds-fetch_beside-end
+slice_bounds-fetch_beside-end g c = sym (length-take-le c.bytes_of-wide.result c.as_slice.result.now (within-same _ _ _ _ c.bytes_of-wide.ensures.within (c.len.ensures ∙ c.self.inside.window.ok.0) c.as_slice.ensures.value))
+
+pub from_bytes-body-requires : goal.from_bytes-body-requires
+from_bytes-body-requires g c =
+    let bytes = c.fetch_beside-fetched.new.into in
+    let filled : length bytes ≡ length c.as_mut_slice.result.now = c.fetch_beside-fetched.auto.into in
+    let whole = written-whole c.args.bytes.len c.args.bytes.items bytes (filled ∙ ap (λ (l : List ℕ). length l) c.as_mut_slice.ensures.value) c.args.bytes.ok.0 in
+    whole-as _ c.args.into.now (ap (λ (l : List ℕ). length l) whole ∙ filled ∙ ap (λ (l : List ℕ). length l) c.as_mut_slice.ensures.value ∙ c.requires.same) c.requires.whole
+
+pub copy_from_slice-requires : goal.copy_from_slice-requires
+copy_from_slice-requires g c =
+    let bytes = c.fetch_beside-fetched.new.into in
+    let filled : length bytes ≡ length c.as_mut_slice.result.now = c.fetch_beside-fetched.auto.into in
+    let whole = written-whole c.args.bytes.len c.args.bytes.items bytes (filled ∙ ap (λ (l : List ℕ). length l) c.as_mut_slice.ensures.value) c.args.bytes.ok.0 in
+    sym (ap (λ (l : List ℕ). length l) (c.as_slice-2.ensures.value ∙ whole) ∙ filled ∙ ap (λ (l : List ℕ). length l) c.as_mut_slice.ensures.value ∙ c.requires.same)

@@ -1,5 +1,5 @@
-use Rattle.std.proofs.Common.{◌≡◌, ◌≤◌, [], ◌∷◌, ◌++◌, Some, refl, sym, ◌∙◌, ap, subst, arith}
-use Rattle.superblocks.specs.Reading.{list_length, next_window}
+use Rattle.std.proofs.Common.{◌≡◌, ◌≤◌, [], ◌∷◌, ◌++◌, Some, refl, sym, ◌∙◌, ap, subst, arith, zero-le}
+use Rattle.superblocks.specs.Reading.{list_length, next_window, is_clean}
 use Rattle.superblocks.proofs.ValidFields.{few-roles}
 use Rattle.flat_history.specs.declared.events.Event.TheVariants.{Refused, Step}
 use Rattle.flat_history.specs.declared.events.StepKind.TheVariants.{Checkpointed as RecordsWindow}
@@ -28,6 +28,8 @@ use Rattle.moving_laws.proofs.running_words_Called.{not_254, called, alone-lossl
 use Rattle.moving_laws.proofs.Kept.{ready, ready-moved, shapes-same, shapes-moved, alone-keeps, behind-keeps, behind-whole, live-of}
 use Rattle.moving_laws.proofs.Settled.{many-of}
 use Rattle.moving_laws.proofs.RecordLaws.{window-next, same-span, all_copied, record-left, moved-if, moved-none, safe-none-of, shapes-past, since-past, record-refused, record-done}
+use Rattle.grow_asked.specs.Left.{phases_of}
+use Rattle.moving.proofs.StepLaws.{one-fewer, closed-unsure, room-behind, taken-behind, under-way-moved, sound-moved, roles-past}
 use Rattle.moving.proofs.state.Moving.record.Goals as goal
 
 -- ---- refused before anything is done
@@ -186,7 +188,7 @@ invariant_of-self-2 g c =
     (c.len-count.ensures ∙ here.backed.roles) c.vacant_roles-before.ensures c.newly_vacant-roles.ensures in
     let kept = record-done a.course a.ahead c.in-Entered.span c.args.who end roles spares was.kept (live-of was.kept c.in_default.ensures) goes c.requires.caller c.ops-end-2.ensures.count did.grows since did.clean did.rise did.others
     due.sectioned left is c.steps_left-left.ensures moved c.in_default.ensures (λ t. did.plain none t (scope_in given a.epoch.uuid a.epoch.given (Some a.backup))) (safe-none-of c.record-done.result.refusal none did.safe) in
-    ready-moved (entries_of c.args.who end (losses_of roles spares ++ Step RecordsWindow left ∷ [])) was did.grows (shapes-past given a.members m c.in-Entered.span moved) kept (λ span is. absurd (cc))
+    ready-moved (entries_of c.args.who end (losses_of roles spares ++ Step RecordsWindow left ∷ [])) was did.grows (shapes-past given a.members m c.in-Entered.span moved) kept (λ span is. closed-unsure span is)
     refl did.counts (behind-keeps c.args.who end roles spares (Step RecordsWindow left) (λ n. refl) (λ limit. refl)) (behind-whole {old = moved_past c.in-Entered.span a.members} tape' (scope_in given a.epoch.uuid a.epoch.given (Some a.backup)) a.epoch.first a.epoch.entries.items c.args.who end roles spares (Step RecordsWindow left) moved (missing-since {old = moved_past c.in-Entered.span a.members} roles moved since.vacant)) did.given (scope-same given (Some a.backup) did.given c.enter_behind-2.ensures.uuid c.enter_behind-2.ensures.given) c.enter_behind-2.ensures.first refl c.enter_behind-2.ensures.items
     (omega (arith, c.enter_behind-2.ensures.room, was.room_left, some))
 
@@ -251,3 +253,104 @@ returns-clause-left g c =
     let moved = moved-none given c.in-Entered.span a.members m c.record-done.result.refusal c.in_default-refusal.is c.record-done.ensures.moved in
     rw (← c.self.view_is) (record-left given a.members m a.work.resync c.in-Entered.span due.sectioned a.ahead moved c.self.invariant.kept.members_are.active
     ∙ sym (ap (λ (k : Course). left_in a.work a.members k a.ahead) is))
+
+-- ---- what the searches would find too, for longer
+
+pub check_going-requires : goal.check_going-requires
+check_going-requires g c = subst (λ p. IsCallGoing p.parts.entries c.args.who) (sym c.self.view_is) c.requires.open
+
+pub enter-requires-clause-number : goal.enter-requires-clause-number
+enter-requires-clause-number g c = c.check_going.ensures
+
+pub returns-in-Some-clause-clean : goal.returns-in-Some-clause-clean
+returns-in-Some-clause-clean g c = ap (λ p. is_clean p.parts.members.newest) c.self.view_is
+
+pub returns-in-Some-clause-caused : goal.returns-in-Some-clause-caused
+returns-in-Some-clause-caused g c =
+    let a = c.self.inside in
+    let refusal = c.in-Some.refusal in
+    rw (← c.self.view_is) (refused-for (list_length a.members.newest) 0 AreTooMany a.members a.members refusal (too-many-of a.members refusal c.in-Some.ensures) zero-le c.in-Some.ensures)
+
+pub returns-in-Some-clause-course : goal.returns-in-Some-clause-course
+returns-in-Some-clause-course g c = ap (λ p. p.course) c.self.view_is
+
+pub returns-in-Some-clause-room : goal.returns-in-Some-clause-room
+returns-in-Some-clause-room g c = one-fewer c.self.inside.steps c.args.self.now.parts.steps (ap (λ p. p.parts.steps) c.self.view_is) c.requires.room
+
+pub returns-in-Some-clause-given : goal.returns-in-Some-clause-given
+returns-in-Some-clause-given g c = ap (λ p. g.B.Bank.given p.parts.bank) c.self.view_is
+
+pub record-done-requires-clause-slots : goal.record-done-requires-clause-slots
+record-done-requires-clause-slots g c = c.self.invariant.kept.slots
+
+pub record-done-requires-clause-placed : goal.record-done-requires-clause-placed
+record-done-requires-clause-placed g c = c.self.invariant.kept.members_are.placed
+
+pub record-done-requires-clause-unlost : goal.record-done-requires-clause-unlost
+record-done-requires-clause-unlost g c = c.self.invariant.kept.members_are.unlost
+
+pub record-done-requires-clause-free : goal.record-done-requires-clause-free
+record-done-requires-clause-free g c = c.self.invariant.kept.members_are.free
+
+pub record-done-requires-clause-next : goal.record-done-requires-clause-next
+record-done-requires-clause-next g c =
+    let due = subst (λ p. IsRecordDue p) (sym c.self.view_is) c.requires.due in
+    let same : c.in-Entered.span ≡ due.span = same-span c.in-Entered.span due.span c.in-Entered.copied _ c.in-Entered.sectioned due.sectioned (sym c.in-Entered.is ∙ ap (λ (k : Course). k.window) due.is) in
+    let next = subst (λ (s : Span). next_window c.self.inside.members.newest ≡ Some s) (sym same) (window-next c.self.inside.course due.span _ due.sectioned due.is c.self.invariant.kept.course_is) in
+    next
+
+pub newly_vacant-roles-requires-clause-known : goal.newly_vacant-roles-requires-clause-known
+newly_vacant-roles-requires-clause-known g c =
+    roles-past (g.B.Bank.given c.self.inside.bank) c.self.inside.members c.record-done.new.members c.in-Entered.span c.record-done.result.refusal c.record-done.ensures.moved c.len-count.result c.len-count.ensures c.self.invariant.kept.members_are.placed.roles
+
+pub enter_behind-requires-clause-room : goal.enter_behind-requires-clause-room
+enter_behind-requires-clause-room g c = room-behind c.self.inside.steps c.args.self.now.parts.steps c.self.inside.epoch.entries.room (ap (λ p. p.parts.steps) c.self.view_is) c.requires.room c.self.invariant.room_left
+
+pub enter_behind-requires-clause-number : goal.enter_behind-requires-clause-number
+enter_behind-requires-clause-number g c = c.check_going.ensures
+
+pub returns-in-Some-refusal-clause-entered : goal.returns-in-Some-refusal-clause-entered
+returns-in-Some-refusal-clause-entered g c =
+    rw (← c.self.view_is) (record { roles = c.newly_vacant-roles.result; spares = c.record-done.result.spares; end = c.ops-end-2.result; is = c.enter_behind.ensures.items })
+
+pub returns-in-Some-refusal-clause-clean : goal.returns-in-Some-refusal-clause-clean
+returns-in-Some-refusal-clause-clean g c = c.record-done.ensures.clean ∙ ap (λ p. is_clean p.parts.members.newest) c.self.view_is
+
+pub returns-in-Some-refusal-clause-course : goal.returns-in-Some-refusal-clause-course
+returns-in-Some-refusal-clause-course g c = ap (λ p. p.course) c.self.view_is
+
+pub returns-in-Some-refusal-clause-room : goal.returns-in-Some-refusal-clause-room
+returns-in-Some-refusal-clause-room g c = one-fewer c.self.inside.steps c.args.self.now.parts.steps (ap (λ p. p.parts.steps) c.self.view_is) c.requires.room
+
+pub returns-in-Some-refusal-clause-given : goal.returns-in-Some-refusal-clause-given
+returns-in-Some-refusal-clause-given g c = c.record-done.ensures.given ∙ ap (λ p. g.B.Bank.given p.parts.bank) c.self.view_is
+
+pub steps_left-left-requires-clause-fit : goal.steps_left-left-requires-clause-fit
+steps_left-left-requires-clause-fit g c = (moved-none (g.B.Bank.given c.self.inside.bank) c.in-Entered.span c.self.inside.members c.record-done.new.members c.record-done.result.refusal c.in_default-refusal.is c.record-done.ensures.moved).placed.fit
+
+pub steps_left-left-requires-clause-reshape : goal.steps_left-left-requires-clause-reshape
+steps_left-left-requires-clause-reshape g c =
+    under-way-moved (g.B.Bank.given c.self.inside.bank) (moved_past c.in-Entered.span c.self.inside.members) c.record-done.new.members (moved-none (g.B.Bank.given c.self.inside.bank) c.in-Entered.span c.self.inside.members c.record-done.new.members c.record-done.result.refusal c.in_default-refusal.is c.record-done.ensures.moved) c.self.invariant.kept.members_are.active
+
+pub steps_left-left-requires-clause-sound : goal.steps_left-left-requires-clause-sound
+steps_left-left-requires-clause-sound g c =
+    sound-moved (g.B.Bank.given c.self.inside.bank) (moved_past c.in-Entered.span c.self.inside.members) c.record-done.new.members (moved-none (g.B.Bank.given c.self.inside.bank) c.in-Entered.span c.self.inside.members c.record-done.new.members c.record-done.result.refusal c.in_default-refusal.is c.record-done.ensures.moved) (phases_of c.self.inside.ahead) c.self.invariant.planned
+
+pub enter_behind-requires-2-clause-room : goal.enter_behind-requires-2-clause-room
+enter_behind-requires-2-clause-room g c = room-behind c.self.inside.steps c.args.self.now.parts.steps c.self.inside.epoch.entries.room (ap (λ p. p.parts.steps) c.self.view_is) c.requires.room c.self.invariant.room_left
+
+pub enter_behind-requires-2-clause-number : goal.enter_behind-requires-2-clause-number
+enter_behind-requires-2-clause-number g c = c.check_going.ensures
+
+pub returns-clause-entered : goal.returns-clause-entered
+returns-clause-entered g c =
+    rw (← c.self.view_is) (taken-behind c.args.who c.ops-end-2.result c.newly_vacant-roles.result c.record-done.result.spares RecordsWindow c.steps_left-left.result _ c.steps_left-left.ensures c.enter_behind-2.ensures.items)
+
+pub returns-clause-clean : goal.returns-clause-clean
+returns-clause-clean g c = c.record-done.ensures.clean ∙ ap (λ p. is_clean p.parts.members.newest) c.self.view_is
+
+pub returns-clause-room : goal.returns-clause-room
+returns-clause-room g c = one-fewer c.self.inside.steps c.args.self.now.parts.steps (ap (λ p. p.parts.steps) c.self.view_is) c.requires.room
+
+pub returns-clause-given : goal.returns-clause-given
+returns-clause-given g c = c.record-done.ensures.given ∙ ap (λ p. g.B.Bank.given p.parts.bank) c.self.view_is

@@ -1,4 +1,4 @@
-use Rattle.std.proofs.Common.{inr, ◌≡◌, ◌≤◌, ◌+◌, ℕ, Option, [], ◌∷◌, Some, refl, sym, subst, arith}
+use Rattle.std.proofs.Common.{inr, ◌≡◌, ◌≤◌, ◌+◌, ℕ, Option, [], ◌∷◌, Some, refl, sym, subst, arith, ap}
 use Rattle.std.specs.Prelude.{Result, Err}
 use Rattle.md_base.specs.declared.answers.Fault.{Fault as AnyFault}
 use Rattle.md_base.specs.declared.answers.Fault.TheVariants.{Refused as IsRefusedWith}
@@ -29,6 +29,7 @@ use Rattle.moving_laws.proofs.Kept.{ready, shapes-same, alone-keeps}
 use Rattle.moving_laws.proofs.WriteLaws.{first-right, torn-missing}
 use Rattle.moving_laws.proofs.BarredLaws.{unwritten-barred}
 use Rattle.moving_laws.proofs.FirstLaws.{first-told, first-none}
+use Rattle.moving.proofs.Calls.{refused-same}
 use Rattle.moving.proofs.state.Moving.refuse_write.Goals as goal
 
 -- ---- refused before the backup is asked
@@ -94,7 +95,7 @@ returns-in-Some-clause-caused g c =
 
 pub returns-in-Some-clause-backup : goal.returns-in-Some-clause-backup
 returns-in-Some-clause-backup g c = λ is.
-    unwritten-never c.open_span-window.result (visible_size c.self.inside.members c.self.inside.limit) c.relied_sector-relied.result c.args.at (c.args.at + c.args.count) c.self.inside.members c.in-Some.refusal c.in-Some.ensures.why (let same = is in cc)
+    unwritten-never c.open_span-window.result (visible_size c.self.inside.members c.self.inside.limit) c.relied_sector-relied.result c.args.at (c.args.at + c.args.count) c.self.inside.members c.in-Some.refusal c.in-Some.ensures.why (refused-same c.in-Some.refusal BackupFault is)
 
 -- ---- the backup fails
 
@@ -116,3 +117,23 @@ returns-in-Some-clause-first g c = rw (← c.self.view_is) (first-told _ _ c.in-
 
 pub returns-clause-first : goal.returns-clause-first
 returns-clause-first g c = rw (← c.self.view_is) (first-none _ c.clear.result c.in_default.ensures.first)
+
+-- ---- by what stands above
+
+pub returns-in-Some-clause-members : goal.returns-in-Some-clause-members
+returns-in-Some-clause-members g c = ap (λ p. p.parts.members) c.self.view_is
+
+pub check_going-requires : goal.check_going-requires
+check_going-requires g c = subst (λ p. IsCallGoing p.parts.entries c.args.who) (sym c.self.view_is) c.requires.open
+
+pub overflow_sub-self : goal.overflow_sub-self
+overflow_sub-self g c = subst (λ p. 1 ≤ p.parts.steps) (sym c.self.view_is) c.requires.room
+
+pub returns-in-Some-clause-alone : goal.returns-in-Some-clause-alone
+returns-in-Some-clause-alone g c = rw (← c.self.view_is) (c.ops-end.result, c.enter.ensures.items)
+
+pub enter-requires-clause-number : goal.enter-requires-clause-number
+enter-requires-clause-number g c = c.check_going.ensures
+
+pub returns-in-Some-clause-course : goal.returns-in-Some-clause-course
+returns-in-Some-clause-course g c = ap (λ p. p.course) c.self.view_is

@@ -1,10 +1,10 @@
-use Rattle.std.proofs.Common.{◌≡◌, ℕ, [], ◌∷◌, ◌++◌, Option, Some, None, is_some, refl, sym, ◌∙◌, ap, subst, arith}
+use Rattle.std.proofs.Common.{◌≡◌, ℕ, [], ◌∷◌, ◌++◌, Option, Some, None, is_some, refl, sym, ◌∙◌, ap, subst, arith, inl, List, append-nil, zero-le}
 use Rattle.superblocks.proofs.ValidFields.{few-roles}
 use Rattle.flat_history.specs.declared.events.Event.TheVariants.{Refused}
 use Rattle.flat_history.specs.Flat.{next_number}
 use Rattle.flat_history.specs.Plain.{entries_of}
-use Rattle.views.proofs.LackingLaws.{lost-since}
-use Rattle.views.proofs.MovedLaws.{grows-none}
+use Rattle.views.proofs.LackingLaws.{lost-since, never-both}
+use Rattle.views.proofs.MovedLaws.{grows-none, moved-same}
 use Rattle.call_entries.specs.Losing.{losses_of}
 use Rattle.moving_laws.specs.array_kept_Kept.{scope_in}
 use Rattle.moving_laws.proofs.array_kept_LossLaws.{losses-behind, ended-behind, behind-alone, settling-no-loss}
@@ -19,9 +19,18 @@ use Rattle.moving_laws.proofs.moving_kept_Resting.{resting-moves}
 use Rattle.moving_laws.proofs.moving_kept_Steps.{missing-since}
 use Rattle.moving_laws.specs.running_words_Parts.{left_in}
 use Rattle.moving_laws.specs.Ready.{bytes_in}
-use Rattle.moving_laws.proofs.Kept.{ready, shapes-same, shapes-moved, left-moved, alone-keeps, behind-keeps, behind-whole, live-of}
-use Rattle.moving_laws.proofs.running_words_Called.{not_254, alone-lossless}
+use Rattle.moving_laws.proofs.Kept.{ready, shapes-same, shapes-moved, left-moved, alone-keeps, behind-keeps, behind-whole, live-of, roomier}
+use Rattle.moving_laws.proofs.running_words_Called.{not_254, alone-lossless, called}
 use Rattle.moving_laws.proofs.Settled.{settling-long, settling-free, settles-so, risen-told, many-of}
+use Rattle.std.proofs.lemmas.List.Elements.{All-nil}
+use Rattle.superblocks.specs.Reading.{list_length}
+use Rattle.flat_history.specs.declared.events.Entry.{Entry}
+use Rattle.flat_history.specs.Transfers.{last_end_from}
+use Rattle.views.specs.Lacking.{AreTooMany}
+use Rattle.views.specs.Rebuilding.{Held}
+use Rattle.moving_laws.specs.array_kept_Calls.{IsLossBy}
+use Rattle.moving_laws.proofs.array_kept_ReplyLaws.{refused-for, too-many-of}
+use Rattle.moving.proofs.StepLaws.{room-made, behind-roomed, unchanged-roomed, roles-moved}
 use Rattle.moving.proofs.state.Moving.settle_entering.Goals as goal
 
 pub overflow_cast-count : goal.overflow_cast-count
@@ -278,3 +287,119 @@ pub returns-clause-clean : goal.returns-clause-clean
 returns-clause-clean g c = λ none.
     let synced : c.self.inside.work.resync ≡ None = ap (λ p. p.parts.work.resync) c.self.view_is ∙ none in
     c.settle-settled.ensures.clean c.in_default-refusal.is (c.is_some.ensures ∙ ap (λ (o : Option ℕ). is_some o) synced)
+
+-- ---- what the searches would find too, for longer
+
+pub invariant_of-self : goal.invariant_of-self
+invariant_of-self g c = roomier c.self.invariant c.make_room.ensures.items c.make_room.ensures.keeps
+
+pub returns-in-Err-clause-answered : goal.returns-in-Err-clause-answered
+returns-in-Err-clause-answered g c = c.make_room.ensures.items ∙ ap (λ p. p.parts.entries) c.self.view_is
+
+pub returns-in-Err-clause-unchanged : goal.returns-in-Err-clause-unchanged
+returns-in-Err-clause-unchanged g c = unchanged-roomed _ _ c.make_room.new.self.items c.make_room.ensures.items c.self.view_is
+
+pub returns-in-Err-clause-called : goal.returns-in-Err-clause-called
+returns-in-Err-clause-called g c =
+    let was = c.self.invariant in
+    let a = c.self.inside in
+    let given = g.B.Bank.given a.bank in
+    let faults = g.B.Bank.faults_of a.bank in
+    rw (← c.self.view_is) (called (grows-none (λ t. refl)) (moved-same given given a.members a.members refl refl was.kept.members_are.placed was.kept.members_are.unlost)
+    (λ t. ap (λ (l : List Entry). last_end_from a.epoch.first l) c.make_room.ensures.items ∙ (was.kept.recorded t).ended)
+    (record { more = []; grown = c.make_room.ensures.items ∙ sym (append-nil a.epoch.entries.items); failed = All-nil (λ e. IsLossBy (Held a.members) faults faults e.event) })
+    (λ slot. omega arith)
+    (record { uuid = refl; given = refl; first = refl; backup = refl; work = refl; ahead = refl; limit = refl })
+    (λ t. (was.kept.recorded t).begun))
+
+pub returns-in-Err-clause-caused : goal.returns-in-Err-clause-caused
+returns-in-Err-clause-caused g c = ap (λ p. p.parts.members) c.self.view_is
+
+pub returns-in-Err-clause-failed : goal.returns-in-Err-clause-failed
+returns-in-Err-clause-failed g c = rw (← c.self.view_is) (λ role slot held. inl held)
+
+pub returns-in-Err-clause-course : goal.returns-in-Err-clause-course
+returns-in-Err-clause-course g c = ap (λ p. p.course) c.self.view_is
+
+pub returns-in-Err-clause-given : goal.returns-in-Err-clause-given
+returns-in-Err-clause-given g c = ap (λ p. g.B.Bank.given p.parts.bank) c.self.view_is
+
+pub enter-requires-clause-number : goal.enter-requires-clause-number
+enter-requires-clause-number g c = c.check_number.ensures
+
+pub returns-in-Some-clause-caused : goal.returns-in-Some-clause-caused
+returns-in-Some-clause-caused g c =
+    let a = c.self.inside in
+    let refusal = c.in-Some.refusal in
+    rw (← c.self.view_is) (refused-for (list_length a.members.newest) 0 AreTooMany a.members a.members refusal (too-many-of a.members refusal c.in-Some.ensures) zero-le c.in-Some.ensures)
+
+pub returns-in-Some-clause-failed : goal.returns-in-Some-clause-failed
+returns-in-Some-clause-failed g c = rw (← c.self.view_is) (λ role slot held. inl held)
+
+pub returns-in-Some-clause-course : goal.returns-in-Some-clause-course
+returns-in-Some-clause-course g c = ap (λ p. p.course) c.self.view_is
+
+pub returns-in-Some-clause-given : goal.returns-in-Some-clause-given
+returns-in-Some-clause-given g c = ap (λ p. g.B.Bank.given p.parts.bank) c.self.view_is
+
+pub settle-settled-requires-clause-slots : goal.settle-settled-requires-clause-slots
+settle-settled-requires-clause-slots g c = c.self.invariant.kept.slots
+
+pub settle-settled-requires-clause-placed : goal.settle-settled-requires-clause-placed
+settle-settled-requires-clause-placed g c = c.self.invariant.kept.members_are.placed
+
+pub settle-settled-requires-clause-unlost : goal.settle-settled-requires-clause-unlost
+settle-settled-requires-clause-unlost g c = c.self.invariant.kept.members_are.unlost
+
+pub settle-settled-requires-clause-free : goal.settle-settled-requires-clause-free
+settle-settled-requires-clause-free g c = c.self.invariant.kept.members_are.free
+
+pub newly_vacant-roles-requires-clause-known : goal.newly_vacant-roles-requires-clause-known
+newly_vacant-roles-requires-clause-known g c =
+    roles-moved (g.B.Bank.given c.self.inside.bank) c.self.inside.members c.settle-settled.new.members c.settle-settled.ensures.moved c.len-count.result c.len-count.ensures c.self.invariant.kept.members_are.placed.roles
+
+pub enter_behind-requires-clause-room : goal.enter_behind-requires-clause-room
+enter_behind-requires-clause-room g c = room-made _ c.in-Ok.ensures.ok
+
+pub enter_behind-requires-clause-number : goal.enter_behind-requires-clause-number
+enter_behind-requires-clause-number g c = c.check_number.ensures
+
+pub returns-in-Some-refusal-clause-answered : goal.returns-in-Some-refusal-clause-answered
+returns-in-Some-refusal-clause-answered g c =
+    rw (← c.self.view_is) (behind-roomed c.args.who c.ops-end-2.result c.newly_vacant-roles.result c.settle-settled.result.spares (Refused c.in-Some-refusal.refusal) c.make_room.ensures.items c.enter_behind.ensures.items)
+
+pub returns-in-Some-refusal-clause-caused : goal.returns-in-Some-refusal-clause-caused
+returns-in-Some-refusal-clause-caused g c =
+    let a = c.self.inside in
+    let m = c.settle-settled.new.members in
+    let refusal = c.in-Some-refusal.refusal in
+    let many = many-of m c.settle-settled.result.refusal refusal c.in-Some-refusal.is c.settle-settled.ensures.refused in
+    rw (← c.self.view_is) (refused-for (list_length a.members.newest) 0 AreTooMany a.members m refusal (too-many-of m refusal many) zero-le many)
+
+pub returns-in-Some-refusal-clause-course : goal.returns-in-Some-refusal-clause-course
+returns-in-Some-refusal-clause-course g c = ap (λ p. p.course) c.self.view_is
+
+pub returns-in-Some-refusal-clause-given : goal.returns-in-Some-refusal-clause-given
+returns-in-Some-refusal-clause-given g c = c.settle-settled.ensures.given ∙ ap (λ p. g.B.Bank.given p.parts.bank) c.self.view_is
+
+pub enter_behind-requires-2-clause-room : goal.enter_behind-requires-2-clause-room
+enter_behind-requires-2-clause-room g c = room-made _ c.in-Ok.ensures.ok
+
+pub enter_behind-requires-2-clause-number : goal.enter_behind-requires-2-clause-number
+enter_behind-requires-2-clause-number g c = c.check_number.ensures
+
+pub returns-clause-answered : goal.returns-clause-answered
+returns-clause-answered g c =
+    rw (← c.self.view_is) (behind-roomed c.args.who c.ops-end-2.result c.newly_vacant-roles.result c.settle-settled.result.spares c.args.event c.make_room.ensures.items c.enter_behind-2.ensures.items)
+
+pub returns-clause-caused : goal.returns-clause-caused
+returns-clause-caused g c = rw (← c.self.view_is) (zero-le, λ refusal many. never-both c.self.inside.members refusal c.in_default.ensures many)
+
+pub returns-clause-last : goal.returns-clause-last
+returns-clause-last g c = λ t. c.enter_behind-2.ensures.last ∙ c.ops-end-2.ensures.count t
+
+pub returns-clause-course : goal.returns-clause-course
+returns-clause-course g c = ap (λ p. p.course) c.self.view_is
+
+pub returns-clause-given : goal.returns-clause-given
+returns-clause-given g c = c.settle-settled.ensures.given ∙ ap (λ p. g.B.Bank.given p.parts.bank) c.self.view_is

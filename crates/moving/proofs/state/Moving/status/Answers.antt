@@ -1,4 +1,4 @@
-use Rattle.std.proofs.Common.{◌≡◌, ◌∷◌, ◌++◌, [], Some, List, length, refl, sym, ◌∙◌, ap, ap₂, arith}
+use Rattle.std.proofs.Common.{◌≡◌, ◌∷◌, ◌++◌, [], Some, List, length, refl, sym, ◌∙◌, ap, ap₂, arith, subst}
 use Rattle.md_base.specs.declared.status.Status.{Status}
 use Rattle.superblocks.proofs.ValidFields.{few-roles}
 use Rattle.flat_history.specs.Flat.{next_number}
@@ -7,10 +7,14 @@ use Rattle.flat_history.specs.declared.events.Entry.{Entry}
 use Rattle.flat_history.specs.declared.events.Event.TheVariants.{Shown}
 use Rattle.views.proofs.MovedLaws.{grows-none}
 use Rattle.moving_laws.proofs.array_kept_LossLaws.{ended-behind}
-use Rattle.moving_laws.proofs.array_kept_ReadyLaws.{scope-same}
+use Rattle.moving_laws.proofs.array_kept_ReadyLaws.{scope-same, list-same}
 use Rattle.moving_laws.specs.running_words_Parts.{left_in}
 use Rattle.moving_laws.proofs.Kept.{ready, roomier, shapes-same, alone-keeps}
 use Rattle.moving_laws.proofs.Asking.{status-same, shown-moves}
+use Rattle.flat_history.specs.Transfers.{last_end_from}
+use Rattle.moving_laws.specs.array_kept_Kept.{scope_in}
+use Rattle.moving_laws.specs.array_kept_Calls.{IsEndOf}
+use Rattle.moving.proofs.Calls.{one-of-2}
 use Rattle.moving.proofs.state.Moving.status.Goals as goal
 
 pub invariant_of-self : goal.invariant_of-self
@@ -51,3 +55,88 @@ returns-clause-few g c =
       omega (arith, ap length roles, are.placed.roles, most),
       omega (arith, ap length spares, are.spares),
     )
+
+-- ---- by what stands above
+
+pub returns-clause-members : goal.returns-clause-members
+returns-clause-members g c = ap (λ p. p.parts.members) c.self.view_is
+
+pub returns-clause-bank : goal.returns-clause-bank
+returns-clause-bank g c = ap (λ p. p.parts.bank) c.self.view_is
+
+pub returns-clause-work : goal.returns-clause-work
+returns-clause-work g c = ap (λ p. p.parts.work) c.self.view_is
+
+pub returns-clause-course : goal.returns-clause-course
+returns-clause-course g c = ap (λ p. p.course) c.self.view_is
+
+pub returns-in-Err-make_room-clause-members : goal.returns-in-Err-make_room-clause-members
+returns-in-Err-make_room-clause-members g c = ap (λ p. p.parts.members) c.self.view_is
+
+pub returns-in-Err-make_room-clause-bank : goal.returns-in-Err-make_room-clause-bank
+returns-in-Err-make_room-clause-bank g c = ap (λ p. p.parts.bank) c.self.view_is
+
+pub returns-in-Err-make_room-clause-work : goal.returns-in-Err-make_room-clause-work
+returns-in-Err-make_room-clause-work g c = ap (λ p. p.parts.work) c.self.view_is
+
+pub returns-in-Err-make_room-clause-course : goal.returns-in-Err-make_room-clause-course
+returns-in-Err-make_room-clause-course g c = ap (λ p. p.course) c.self.view_is
+
+pub returns-in-Err-make_room-clause-unchanged : goal.returns-in-Err-make_room-clause-unchanged
+returns-in-Err-make_room-clause-unchanged g c =
+    let a = c.self.inside in
+    (λ i. record {
+      parts = record { bank = a.bank; uuid = a.epoch.uuid; given = a.epoch.given; first = a.epoch.first; last = a.epoch.last; entries = c.make_room.ensures.items i; backup = Some a.backup; members = a.members; work = a.work; steps = a.steps };
+      course = a.course;
+      ahead = a.ahead;
+      limit = a.limit;
+    }) ∙ c.self.view_is
+
+pub returns-in-Err-make_room-clause-ended : goal.returns-in-Err-make_room-clause-ended
+returns-in-Err-make_room-clause-ended g c = λ t. ap (λ (l : List Entry). last_end_from c.self.inside.epoch.first l) c.make_room.ensures.items ∙ (c.self.invariant.kept.recorded t).ended
+
+pub check_number-requires : goal.check_number-requires
+check_number-requires g c =
+    c.requires.next ∙ ap (λ p. next_number c.args.who.caller p.parts.entries) (sym c.self.view_is) ∙ ap (λ (l : List Entry). next_number c.args.who.caller l) (sym c.make_room.ensures.items)
+
+pub enter-requires-clause-number : goal.enter-requires-clause-number
+enter-requires-clause-number g c = c.check_number.ensures
+
+pub enter-requires-clause-room : goal.enter-requires-clause-room
+enter-requires-clause-room g c = one-of-2 c.in-Ok-make_room.ensures.ok
+
+pub returns-in-Err-told-clause-ended : goal.returns-in-Err-told-clause-ended
+returns-in-Err-told-clause-ended g c = subst (λ p. IsEndOf g.B.Bank.tells p.parts.first p.parts.entries (g.B.Bank.tape p.parts.bank)) c.self.view_is (λ t. (c.self.invariant.kept.recorded t).ended)
+
+pub returns-in-Err-clause-ended : goal.returns-in-Err-clause-ended
+returns-in-Err-clause-ended g c = subst (λ p. IsEndOf g.B.Bank.tells p.parts.first p.parts.entries (g.B.Bank.tape p.parts.bank)) c.self.view_is (λ t. (c.self.invariant.kept.recorded t).ended)
+
+pub returns-in-Err-make_room-clause-same : goal.returns-in-Err-make_room-clause-same
+returns-in-Err-make_room-clause-same g c = rw (← c.self.view_is) (record {
+  array = record { uuid = refl; given = refl; first = refl; backup = refl; shape = refl; size = refl; list = λ t. refl };
+  final = refl;
+  backward = refl;
+  ahead = refl;
+  limit = refl;
+})
+
+pub returns-clause-same : goal.returns-clause-same
+returns-clause-same g c =
+    let a = c.self.inside in
+    let given = g.B.Bank.given a.bank in
+    let scope = scope_in given a.epoch.uuid a.epoch.given (Some a.backup) in
+    rw (← c.self.view_is) (record {
+      array = record {
+        uuid = c.enter.ensures.uuid;
+        given = c.enter.ensures.given;
+        first = c.enter.ensures.first;
+        backup = refl;
+        shape = refl;
+        size = refl;
+        list = list-same given scope a.epoch.first refl (scope-same given (Some a.backup) refl c.enter.ensures.uuid c.enter.ensures.given) c.enter.ensures.first (grows-none (λ t. refl)) (λ t. (c.self.invariant.kept.recorded t).begun);
+      };
+      final = refl;
+      backward = refl;
+      ahead = refl;
+      limit = refl;
+    })

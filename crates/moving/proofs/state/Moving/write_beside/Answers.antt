@@ -8,7 +8,7 @@ use Rattle.flat_history.specs.declared.events.Event.{Event}
 use Rattle.flat_history.specs.declared.events.Event.TheVariants.{Refused, Wrote}
 use Rattle.flat_history.specs.Plain.{entries_of}
 use Rattle.flat_history.specs.Stands.{covers}
-use Rattle.views.specs.Lacking.{AreLostSince, AreOtherRowsKept}
+use Rattle.views.specs.Lacking.{HaveRolesFailed, AreLostSince, AreOtherRowsKept}
 use Rattle.views.specs.Numbers.{is_carried}
 use Rattle.views.proofs.LackingLaws.{lost-since}
 use Rattle.views.proofs.MovedLaws.{grows-none, moved-same}
@@ -38,6 +38,7 @@ use Rattle.moving_laws.proofs.Kept.{ready, shapes-same, shapes-moved, alone-keep
 use Rattle.moving_laws.proofs.Settled.{risen-told}
 use Rattle.moving_laws.proofs.WriteLaws.{first-right, wrote-kept, unwritten-kept, with-rooms, failure-keeps, failure-whole, torn-missing}
 use Rattle.moving_laws.proofs.FirstLaws.{first-told, first-none}
+use Rattle.moving.proofs.Calls.{room-49, room-50, known-moved, le-same, never-falls, room-after-1, room-after-49, room-after-50, called-over}
 use Rattle.moving.proofs.state.Moving.write_beside.Goals as goal
 
 -- ---- refused before any row is read
@@ -58,8 +59,8 @@ invariant_of-self g c =
     c.args.who end (Refused refusal) was.kept goes (not_254 c.args.who.caller c.requires.caller) c.ops-end.ensures.count (quiet-refusal refusal) (λ told is. is)
     (λ t right. first-right was.kept was.limited c.args.past c.relied_sector-relied.result c.args.at to refusal c.relied_sector-relied.ensures.value c.in-Some.ensures.why t right) in
     ready (entries_of c.args.who end (Refused refusal ∷ [])) was (grows-none (λ t. refl)) (shapes-same a.members.newest) kept
-    refl (λ slot. omega arith) (alone-keeps c.args.who end (Refused refusal) (λ n. refl) (λ limit. refl)) (λ none whole. whole) refl (scope-same given (Some a.backup) refl c.enter.ensures.uuid c.enter.ensures.given) c.enter.ensures.first refl c.enter.ensures.items
-    (let had = was.room_left in let room = c.enter.ensures.room in omega (arith, room, had, steps))
+    refl (never-falls _) (alone-keeps c.args.who end (Refused refusal) (λ n. refl) (λ limit. refl)) (λ none whole. whole) refl (scope-same given (Some a.backup) refl c.enter.ensures.uuid c.enter.ensures.given) c.enter.ensures.first refl c.enter.ensures.items
+    (room-after-1 a.steps a.epoch.entries.room c.enter.new.epoch.entries.room was.room_left c.enter.ensures.room steps)
 
 pub returns-in-Some-clause-entered : goal.returns-in-Some-clause-entered
 returns-in-Some-clause-entered g c =
@@ -75,10 +76,10 @@ returns-in-Some-clause-called g c =
     let faults = g.B.Bank.faults_of a.bank in
     let end = c.ops-end.result in
     let refusal = c.in-Some.refusal in
-    rw (← c.self.view_is) (called (grows-none (λ t. refl)) (moved-same given given a.members a.members refl refl was.kept.members_are.placed was.kept.members_are.unlost)
+    called-over g.B.Bank.given g.B.Bank.tape g.B.Bank.faults_of c.self.view_is (called (grows-none (λ t. refl)) (moved-same given given a.members a.members refl refl was.kept.members_are.placed was.kept.members_are.unlost)
     (ended-behind (g.B.Bank.tape a.bank) c.enter.new.epoch.first a.epoch.entries.items c.args.who end [] (Refused refusal) c.enter.ensures.items c.ops-end.ensures.count)
     (alone-lossless a.members faults faults a.epoch.entries.items a.epoch.entries.items c.enter.new.epoch.entries.items c.args.who end (Refused refusal) tt refl c.enter.ensures.items)
-    (λ slot. omega arith)
+    (never-falls _)
     (record { uuid = c.enter.ensures.uuid; given = c.enter.ensures.given; first = c.enter.ensures.first; backup = refl; work = refl; ahead = refl; limit = refl })
     (λ t. (was.kept.recorded t).begun))
 
@@ -176,7 +177,7 @@ invariant_of-self-in-Some-refusal g c =
     refl did.counts (failure-keeps c.args.who end roles spares begun at (sectors_of from) refusal)
     (failure-whole tape' scope a.epoch.first a.epoch.entries.items c.args.who end roles spares begun at (sectors_of from) refusal did.moved (missing-since roles did.moved since.vacant)) did.given (scope-same given (Some a.backup) did.given c.enter_failure.ensures.uuid c.enter_failure.ensures.given) c.enter_failure.ensures.first refl
     (c.enter_failure.ensures.items ∙ ap (λ (b : List Sector). a.epoch.entries.items ++ entries_of c.args.who end (failure_events roles spares begun at b refusal)) c.requires.body)
-    (let had = was.room_left in let room = c.enter_failure.ensures.room in omega (arith, room, had, steps)))
+    (room-after-50 a.steps a.epoch.entries.room c.enter_failure.new.epoch.entries.room was.room_left c.enter_failure.ensures.room steps))
 
 pub returns-in-Some-refusal-clause-entered : goal.returns-in-Some-refusal-clause-entered
 returns-in-Some-refusal-clause-entered g c =
@@ -210,7 +211,7 @@ returns-in-Some-refusal-clause-called g c =
     let refusal = c.in-Some-refusal.refusal in
     let since : AreLostSince a.members m roles spares before after = lost-since given a.members m c.len-count.result c.vacant_roles-before.result roles spares before after here.placed did.moved did.failed
     (c.len-count.ensures ∙ here.backed.roles) c.vacant_roles-before.ensures c.newly_vacant-roles.ensures in
-    rw (← c.self.view_is) (called did.grows did.moved
+    called-over g.B.Bank.given g.B.Bank.tape g.B.Bank.faults_of c.self.view_is (called did.grows did.moved
     (ended-failure (g.B.Bank.tape c.put_list-done.new.bank) c.enter_failure.new.epoch.first a.epoch.entries.items c.args.who end roles spares begun c.args.at c.args.body refusal c.enter_failure.ensures.items c.ops-end-2.ensures.count)
     (losses-failure a.members m before after a.epoch.entries.items a.epoch.entries.items c.enter_failure.new.epoch.entries.items c.args.who end roles spares begun c.args.at c.args.body refusal since refl c.enter_failure.ensures.items)
     did.counts
@@ -232,7 +233,7 @@ returns-in-Some-refusal-clause-caused g c =
 pub returns-in-Some-refusal-clause-left : goal.returns-in-Some-refusal-clause-left
 returns-in-Some-refusal-clause-left g c =
     let a = c.self.inside in
-    rw (← c.self.view_is) (left-moved (g.B.Bank.given a.bank) a.members c.put_list-done.new.members a.work.resync a.course a.ahead c.put_list-done.ensures.moved)
+    left-moved (g.B.Bank.given a.bank) a.members c.put_list-done.new.members a.work.resync a.course a.ahead c.put_list-done.ensures.moved ∙ ap (λ p. left_in p.parts.work p.parts.members p.course p.ahead) c.self.view_is
 
 -- ---- it is done
 
@@ -285,7 +286,7 @@ invariant_of-self-2 g c =
     refl did.counts (behind-keeps c.args.who end roles spares (Wrote at (sectors_of from)) (λ n. refl) (λ limit. refl))
     (behind-whole tape' scope a.epoch.first a.epoch.entries.items c.args.who end roles spares (Wrote at (sectors_of from)) did.moved (missing-since roles did.moved since.vacant)) did.given (scope-same given (Some a.backup) did.given c.enter_behind.ensures.uuid c.enter_behind.ensures.given) c.enter_behind.ensures.first refl
     (c.enter_behind.ensures.items ∙ ap (λ (b : List Sector). a.epoch.entries.items ++ entries_of c.args.who end (losses_of roles spares ++ Wrote at b ∷ [])) c.requires.body)
-    (let had = was.room_left in let room = c.enter_behind.ensures.room in omega (arith, room, had, steps)))
+    (room-after-49 a.steps a.epoch.entries.room c.enter_behind.new.epoch.entries.room was.room_left c.enter_behind.ensures.room steps))
 
 pub returns-clause-entered : goal.returns-clause-entered
 returns-clause-entered g c =
@@ -316,7 +317,7 @@ returns-clause-called g c =
     let event = Wrote c.args.at c.args.body in
     let since : AreLostSince a.members m roles spares before after = lost-since given a.members m c.len-count.result c.vacant_roles-before.result roles spares before after here.placed did.moved did.failed
     (c.len-count.ensures ∙ here.backed.roles) c.vacant_roles-before.ensures c.newly_vacant-roles.ensures in
-    rw (← c.self.view_is) (called did.grows did.moved
+    called-over g.B.Bank.given g.B.Bank.tape g.B.Bank.faults_of c.self.view_is (called did.grows did.moved
     (ended-behind (g.B.Bank.tape c.put_list-done.new.bank) c.enter_behind.new.epoch.first a.epoch.entries.items c.args.who end (losses_of roles spares) event c.enter_behind.ensures.items c.ops-end-2.ensures.count)
     (losses-behind a.members m before after a.epoch.entries.items a.epoch.entries.items c.enter_behind.new.epoch.entries.items c.args.who end roles spares event since tt refl c.enter_behind.ensures.items)
     did.counts
@@ -338,7 +339,7 @@ returns-clause-dirty g c = c.put_list-done.ensures.dirty c.in_default-refusal.is
 pub returns-clause-left : goal.returns-clause-left
 returns-clause-left g c =
     let a = c.self.inside in
-    rw (← c.self.view_is) (left-moved (g.B.Bank.given a.bank) a.members c.put_list-done.new.members a.work.resync a.course a.ahead c.put_list-done.ensures.moved)
+    left-moved (g.B.Bank.given a.bank) a.members c.put_list-done.new.members a.work.resync a.course a.ahead c.put_list-done.ensures.moved ∙ ap (λ p. left_in p.parts.work p.parts.members p.course p.ahead) c.self.view_is
 
 -- ---- what failed
 
@@ -346,10 +347,10 @@ pub returns-in-Some-clause-failed : goal.returns-in-Some-clause-failed
 returns-in-Some-clause-failed g c = rw (← c.self.view_is) (λ role slot held. inl held)
 
 pub returns-in-Some-refusal-clause-failed : goal.returns-in-Some-refusal-clause-failed
-returns-in-Some-refusal-clause-failed g c = rw (← c.self.view_is) c.put_list-done.ensures.failed.roles
+returns-in-Some-refusal-clause-failed g c = subst (λ p. HaveRolesFailed p.parts.members c.put_list-done.new.members (g.B.Bank.faults_of p.parts.bank) (g.B.Bank.faults_of c.put_list-done.new.bank)) c.self.view_is c.put_list-done.ensures.failed.roles
 
 pub returns-clause-failed : goal.returns-clause-failed
-returns-clause-failed g c = rw (← c.self.view_is) c.put_list-done.ensures.failed.roles
+returns-clause-failed g c = subst (λ p. HaveRolesFailed p.parts.members c.put_list-done.new.members (g.B.Bank.faults_of p.parts.bank) (g.B.Bank.faults_of c.put_list-done.new.bank)) c.self.view_is c.put_list-done.ensures.failed.roles
 
 -- ---- which refusal is the first
 
@@ -361,3 +362,86 @@ returns-in-Some-refusal-clause-first g c = rw (← c.self.view_is) (first-none _
 
 pub returns-clause-first : goal.returns-clause-first
 returns-clause-first g c = rw (← c.self.view_is) (first-none _ _ c.in_default.ensures.first)
+
+-- ---- by what stands above
+
+pub put_list-done-requires-clause-placed : goal.put_list-done-requires-clause-placed
+put_list-done-requires-clause-placed g c = c.self.invariant.kept.members_are.placed
+
+pub put_list-done-requires-clause-unlost : goal.put_list-done-requires-clause-unlost
+put_list-done-requires-clause-unlost g c = c.self.invariant.kept.members_are.unlost
+
+pub put_list-done-requires-clause-free : goal.put_list-done-requires-clause-free
+put_list-done-requires-clause-free g c = c.self.invariant.kept.members_are.free
+
+pub put_list-done-requires-clause-slots : goal.put_list-done-requires-clause-slots
+put_list-done-requires-clause-slots g c = c.self.invariant.kept.slots
+
+pub put_list-done-requires-clause-rows : goal.put_list-done-requires-clause-rows
+put_list-done-requires-clause-rows g c = c.self.invariant.rows_fit
+
+pub put_list-done-requires-clause-far_rows : goal.put_list-done-requires-clause-far_rows
+put_list-done-requires-clause-far_rows g c = c.self.invariant.far_rows_fit
+
+pub put_list-done-requires-clause-buffer : goal.put_list-done-requires-clause-buffer
+put_list-done-requires-clause-buffer g c = c.self.invariant.buffer_fits
+
+pub put_list-done-requires-clause-far_buffer : goal.put_list-done-requires-clause-far_buffer
+put_list-done-requires-clause-far_buffer g c = c.self.invariant.far_buffer_fits
+
+pub put_list-done-requires-clause-from : goal.put_list-done-requires-clause-from
+put_list-done-requires-clause-from g c = c.requires.whole
+
+pub put_list-done-requires-clause-some : goal.put_list-done-requires-clause-some
+put_list-done-requires-clause-some g c = c.requires.some
+
+pub put_list-done-requires-clause-few : goal.put_list-done-requires-clause-few
+put_list-done-requires-clause-few g c = c.requires.few
+
+pub enter_behind-requires-clause-room : goal.enter_behind-requires-clause-room
+enter_behind-requires-clause-room g c = room-49 c.self.inside.steps c.self.inside.epoch.entries.room (subst (λ p. 1 ≤ p.parts.steps) (sym c.self.view_is) c.requires.room) c.self.invariant.room_left
+
+pub enter_failure-requires-clause-room : goal.enter_failure-requires-clause-room
+enter_failure-requires-clause-room g c = room-50 c.self.inside.steps c.self.inside.epoch.entries.room (subst (λ p. 1 ≤ p.parts.steps) (sym c.self.view_is) c.requires.room) c.self.invariant.room_left
+
+pub newly_vacant-roles-requires-clause-known : goal.newly_vacant-roles-requires-clause-known
+newly_vacant-roles-requires-clause-known g c = known-moved c.len-count.result c.put_list-done.ensures.moved c.len-count.ensures c.self.invariant.kept.members_are.placed.roles
+
+pub vacant_roles-before-requires-clause-known : goal.vacant_roles-before-requires-clause-known
+vacant_roles-before-requires-clause-known g c = le-same _ _ c.len-count.ensures
+
+pub returns-in-Some-clause-left : goal.returns-in-Some-clause-left
+returns-in-Some-clause-left g c = ap (λ p. left_in p.parts.work p.parts.members p.course p.ahead) c.self.view_is
+
+pub returns-in-Some-clause-course : goal.returns-in-Some-clause-course
+returns-in-Some-clause-course g c = ap (λ p. p.course) c.self.view_is
+
+pub returns-in-Some-clause-given : goal.returns-in-Some-clause-given
+returns-in-Some-clause-given g c = ap (λ p. g.B.Bank.given p.parts.bank) c.self.view_is
+
+pub returns-in-Some-refusal-clause-course : goal.returns-in-Some-refusal-clause-course
+returns-in-Some-refusal-clause-course g c = ap (λ p. p.course) c.self.view_is
+
+pub returns-clause-course : goal.returns-clause-course
+returns-clause-course g c = ap (λ p. p.course) c.self.view_is
+
+pub returns-in-Some-refusal-clause-given : goal.returns-in-Some-refusal-clause-given
+returns-in-Some-refusal-clause-given g c = c.put_list-done.ensures.given ∙ ap (λ p. g.B.Bank.given p.parts.bank) c.self.view_is
+
+pub returns-clause-given : goal.returns-clause-given
+returns-clause-given g c = c.put_list-done.ensures.given ∙ ap (λ p. g.B.Bank.given p.parts.bank) c.self.view_is
+
+pub check_going-requires : goal.check_going-requires
+check_going-requires g c = subst (λ p. IsCallGoing p.parts.entries c.args.who) (sym c.self.view_is) c.requires.open
+
+pub enter-requires-clause-number : goal.enter-requires-clause-number
+enter-requires-clause-number g c = c.check_going.ensures
+
+pub enter_behind-requires-clause-number : goal.enter_behind-requires-clause-number
+enter_behind-requires-clause-number g c = c.check_going.ensures
+
+pub enter_failure-requires-clause-number : goal.enter_failure-requires-clause-number
+enter_failure-requires-clause-number g c = c.check_going.ensures
+
+pub unwritten_here-requires-clause-roles : goal.unwritten_here-requires-clause-roles
+unwritten_here-requires-clause-roles g c = c.self.invariant.kept.members_are.placed.roles

@@ -1,6 +1,6 @@
-use Rattle.std.proofs.Common.{inl, ◌≡◌, ◌≤◌, ◌<◌, ◌+◌, ◌/◌, ℕ, Bool, true, false, Option, Err, List, [], length, refl, sym, ◌∙◌, ap, ap₂, subst, arith, append-nil}
+use Rattle.std.proofs.Common.{inl, ◌≡◌, ◌≤◌, ◌<◌, ◌+◌, ◌/◌, ℕ, Bool, true, false, Option, Err, List, [], length, refl, sym, ◌∙◌, ap, ap₂, subst, arith, append-nil, Result, Ok}
 use Rattle.std.proofs.lemmas.List.Elements.{All-nil}
-use Rattle.md_base.specs.Sectors.{sectors_of}
+use Rattle.md_base.specs.Sectors.{sectors_of, Sector}
 use Rattle.md_base.proofs.SectorLaws.{length-sectors_of}
 use Rattle.md_base.specs.declared.places.Span.{Span}
 use Rattle.superblocks.specs.Reading.{list_length}
@@ -13,22 +13,27 @@ use Rattle.flat_history.specs.Stands.{covers}
 use Rattle.flat_history.specs.Transfers.{last_end_from}
 use Rattle.views.specs.Rebuilding.{Held}
 use Rattle.views.proofs.MovedLaws.{grows-none, moved-same}
-use Rattle.moving_laws.specs.array_kept_Calls.{IsLossBy, IsBehind, IsCausedBy}
+use Rattle.moving_laws.specs.array_kept_Calls.{IsLossBy, IsBehind, IsCausedBy, OnNoMemory}
 use Rattle.moving_laws.specs.region_writes_Runs.{IsListUnwritten}
 use Rattle.moving_laws.specs.course_kept_Laws.{closed}
 use Rattle.moving_laws.specs.moving_kept_Moving.{IsWindowStanding}
 use Rattle.moving_laws.specs.moving_state_Due.{open_in, unsure_in}
 use Rattle.moving_laws.specs.region_mends_Mends.{relied_sector}
-use Rattle.moving_laws.specs.running_words_Calls.{moving_world}
+use Rattle.moving_laws.specs.running_words_Calls.{moving_world, IsStepTaken}
 use Rattle.moving_laws.specs.running_words_Parts.{visible_size, visible_in, left_in}
 use Rattle.moving_laws.specs.moving_state_Left.{visible_by}
-use Rattle.moving_laws.specs.Writing.{TouchesWindow, IsWriteLacked, IsWriteEntered}
+use Rattle.moving_laws.specs.Writing.{TouchesWindow, IsWriteLacked, IsWriteEntered, IsPutEntered}
 use Rattle.moving_laws.proofs.running_words_Called.{called}
 use Rattle.moving_laws.proofs.Kept.{roomier, long-same}
 use Rattle.moving_laws.proofs.WriteLaws.{failed-then, beside-of, touched-open, roomed, called-then, called-roomed, alone-caused, refused-caused, behind-caused, alone-entered, refused-entered, behind-entered, untouched, never-ok}
 use Rattle.moving_laws.proofs.WriteReplies.{write-answered}
-use Rattle.md_base.specs.declared.answers.Fault.TheVariants.{NoMemory}
+use Rattle.md_base.specs.declared.answers.Fault.TheVariants.{NoMemory, Refused as IsRefusedWith}
 use Rattle.moving_laws.proofs.FirstLaws.{first-short, first-done}
+use Rattle.std.specs.Prelude.{OnOk}
+use Rattle.md_base.specs.declared.answers.Fault.{Fault}
+use Rattle.md_base.specs.declared.answers.Who.{Who}
+use Rattle.flat_history.specs.declared.events.StepKind.{StepKind}
+use Rattle.moving.proofs.StepLaws.{unchanged-roomed}
 use Rattle.moving.proofs.state.Moving.write_sure.Goals as goal
 
 -- ---- memory is short
@@ -235,3 +240,78 @@ returns-in-Err-finish_for-clause-first g c = rw (← c.self.view_is) c.in-Err-fi
 
 pub returns-clause-first : goal.returns-clause-first
 returns-clause-first g c = rw (← c.self.view_is) (first-done _ _ c.write_beside-2.result c.in-Ok-finish_for.ensures.first)
+
+-- ---- what the searches would find too, for longer
+
+-- a put takes no memory, nor does a step
+put-long : {T : Type 0} (result : Result T Fault) (P : Type 0) (who : Who) (old new : List Entry) (at : ℕ) (body : List Sector) → IsPutEntered who old new at body result → OnNoMemory result P
+put-long (Ok x) P who old new at body entered = tt
+put-long (Err (IsRefusedWith refusal)) P who old new at body entered = tt
+put-long (Err NoMemory) P who old new at body entered = absurd entered
+
+step-long : (fault : Fault) (P : Type 0) (who : Who) (old new : List Entry) (kind : StepKind) (left : ℕ) → IsStepTaken {T = ℕ} who old new kind left (Err fault) → OnNoMemory {T = ℕ} (Err fault) P
+step-long (IsRefusedWith refusal) P who old new kind left entered = tt
+step-long NoMemory P who old new kind left entered = absurd entered
+
+-- what holds anyway
+done-so : {T : Type 0} (result : Result T Fault) (P : Type 0) → P → OnOk result P
+done-so (Ok x) P is = is
+done-so (Err fault) P is = tt
+
+pub returns-in-Err-clause-called : goal.returns-in-Err-clause-called
+returns-in-Err-clause-called g c =
+    let was = c.self.invariant in
+    let a = c.self.inside in
+    let given = g.B.Bank.given a.bank in
+    let faults = g.B.Bank.faults_of a.bank in
+    rw (← c.self.view_is) (called (grows-none (λ t. refl)) (moved-same given given a.members a.members refl refl was.kept.members_are.placed was.kept.members_are.unlost)
+    (λ t. (was.kept.recorded t).ended)
+    (record { more = []; grown = sym (append-nil a.epoch.entries.items); failed = All-nil (λ e. IsLossBy (Held a.members) faults faults e.event) })
+    (λ slot. omega arith)
+    (record { uuid = refl; given = refl; first = refl; backup = refl; work = refl; ahead = refl; limit = refl })
+    (λ t. (was.kept.recorded t).begun))
+
+pub returns-in-Err-make_room-clause-answered : goal.returns-in-Err-make_room-clause-answered
+returns-in-Err-make_room-clause-answered g c = c.make_room.ensures.items ∙ ap (λ p. p.parts.entries) c.self.view_is
+
+pub returns-in-Err-make_room-clause-entered : goal.returns-in-Err-make_room-clause-entered
+returns-in-Err-make_room-clause-entered g c = c.make_room.ensures.items ∙ ap (λ p. p.parts.entries) c.self.view_is
+
+pub returns-in-Err-make_room-clause-unchanged : goal.returns-in-Err-make_room-clause-unchanged
+returns-in-Err-make_room-clause-unchanged g c = unchanged-roomed _ _ c.make_room.new.self.items c.make_room.ensures.items c.self.view_is
+
+pub returns-in-Err-make_room-clause-caused : goal.returns-in-Err-make_room-clause-caused
+returns-in-Err-make_room-clause-caused g c = ap (λ p. p.parts.members) c.self.view_is
+
+pub returns-then-not-meets-clause-unchanged : goal.returns-then-not-meets-clause-unchanged
+returns-then-not-meets-clause-unchanged g c =
+    let new = c.write_beside.new.self in
+    put-long c.write_beside.result (new ≡ c.args.self.now) c.args.who c.make_room.new.self.items new.parts.entries c.args.at (sectors_of c.args.from.now) c.write_beside.ensures.entered
+
+pub returns-in-Err-finish_for-clause-unchanged : goal.returns-in-Err-finish_for-clause-unchanged
+returns-in-Err-finish_for-clause-unchanged g c =
+    let new = c.finish_for.new.self in
+    step-long c.in-Err-finish_for.fault (new ≡ c.args.self.now) c.args.who c.make_room.new.self.items new.parts.entries FinishesWindow (left_in new.parts.work new.parts.members new.course new.ahead) c.in-Err-finish_for.ensures.entered
+
+pub returns-in-Err-finish_for-clause-course : goal.returns-in-Err-finish_for-clause-course
+returns-in-Err-finish_for-clause-course g c =
+    let met = c.meets.ensures.yes c.if-not-meets.false in
+    rw (← c.self.view_is) (λ never. absurd (never (met.0, met.1, met.2, subst (λ (s : Option Span). covers s met.0 ≡ true) c.open_span-window.ensures met.3)))
+
+pub returns-clause-unchanged : goal.returns-clause-unchanged
+returns-clause-unchanged g c =
+    let new = c.write_beside-2.new.self in
+    put-long c.write_beside-2.result (new ≡ c.args.self.now) c.args.who c.finish_for.new.self.parts.entries new.parts.entries c.args.at (sectors_of c.args.from.now) c.write_beside-2.ensures.entered
+
+pub returns-clause-course : goal.returns-clause-course
+returns-clause-course g c =
+    let met = c.meets.ensures.yes c.if-not-meets.false in
+    rw (← c.self.view_is) (λ never. absurd (never (met.0, met.1, met.2, subst (λ (s : Option Span). covers s met.0 ≡ true) c.open_span-window.ensures met.3)))
+
+pub returns-clause-closed : goal.returns-clause-closed
+returns-clause-closed g c =
+    done-so c.write_beside-2.result (TouchesWindow c.args.self.now.course.window c.args.at (c.args.at + length c.args.from.now / 512) → c.write_beside-2.new.self.course ≡ closed 0)
+    (λ touches. c.write_beside-2.ensures.course ∙ c.in-Ok-finish_for.ensures.closed)
+
+pub returns-clause-given : goal.returns-clause-given
+returns-clause-given g c = c.write_beside-2.ensures.given ∙ c.in-Ok-finish_for.ensures.given ∙ ap (λ p. g.B.Bank.given p.parts.bank) c.self.view_is

@@ -1,21 +1,22 @@
-use Rattle.std.proofs.Common.{None, ◌≡◌, ◌≤◌, ◌<◌, [], ◌∷◌, ◌++◌, Some, refl, sym, ◌∙◌, ap, subst, arith}
+use Rattle.std.proofs.Common.{None, ◌≡◌, ◌+◌, ◌≤◌, ◌<◌, List, [], ◌∷◌, ◌++◌, Some, refl, sym, ◌∙◌, ap, subst, arith, ℕ, length, zero-le}
 use Rattle.std.specs.Vec.{with_items}
 use Rattle.std.proofs.Math.Nat.{div-le_self}
-use Rattle.superblocks.specs.Reading.{final_shape, list_length}
+use Rattle.md_base.specs.declared.places.Shape.{Shape}
+use Rattle.superblocks.specs.Reading.{final_shape, list_length, is_clean}
 use Rattle.superblocks.proofs.ValidFields.{few-roles}
 use Rattle.flat_history.specs.declared.events.Event.TheVariants.{Refused, Step}
 use Rattle.flat_history.specs.declared.events.StepKind.TheVariants.{Zeroed as ZeroesStripe}
 use Rattle.flat_history.specs.Plain.{entries_of}
 use Rattle.views.specs.Lacking.{AreTooMany}
 use Rattle.views.proofs.Fit.{fit-short}
-use Rattle.views.proofs.LackingLaws.{lost-since}
+use Rattle.views.proofs.LackingLaws.{lost-since, never-both}
 use Rattle.views.proofs.MovedLaws.{grows-none, moved-same}
 use Rattle.call_entries.specs.Losing.{losses_of}
 use Rattle.moving_laws.specs.array_kept_Kept.{scope_in}
 use Rattle.moving_laws.proofs.array_kept_LossLaws.{losses-behind, ended-behind, behind-alone}
 use Rattle.moving_laws.proofs.array_kept_ReadyLaws.{scope-same}
 use Rattle.moving_laws.proofs.array_kept_ReplyLaws.{refused-for, too-many-of}
-use Rattle.grow_asked.specs.Left.{zeroed_by}
+use Rattle.grow_asked.specs.Left.{zeroed_by, phases_of, IsWindowRight}
 use Rattle.moving_laws.specs.course_kept_the_Course.{Course}
 use Rattle.moving_laws.specs.kept_history_Recorded.{IsCallGoing}
 use Rattle.moving_laws.specs.kept_history_Safe.{world_in}
@@ -30,7 +31,9 @@ use Rattle.moving_laws.specs.Ready.{bytes_in}
 use Rattle.moving_laws.proofs.running_words_Called.{not_254, called, alone-lossless}
 use Rattle.moving_laws.proofs.Kept.{ready, shapes-same, shapes-moved, alone-keeps, behind-keeps, behind-whole, with-buffer, live-of}
 use Rattle.moving_laws.proofs.Settled.{many-of}
-use Rattle.moving_laws.proofs.ZeroLaws.{closed-at, zero-step, rows-zeroed, zero-refused, zero-done}
+use Rattle.moving_laws.proofs.ZeroLaws.{closed-at, zero-step, rows-zeroed, zero-refused, zero-done, zero-left}
+use Rattle.moving_laws.specs.window_rows_Copies.{IsPastStripe}
+use Rattle.moving.proofs.StepLaws.{one-fewer, room-behind, next-within, scratch-for, taken-behind, under-way-moved, zeroed-moved, sound-moved, roles-moved}
 use Rattle.moving.proofs.state.Moving.zero.Goals as goal
 
 -- ---- refused before anything is done
@@ -239,3 +242,141 @@ returns-clause-called g c =
     did.counts
     (record { uuid = c.enter_behind-2.ensures.uuid; given = c.enter_behind-2.ensures.given; first = c.enter_behind-2.ensures.first; backup = refl; work = refl; ahead = refl; limit = refl })
     (λ t. (was.kept.recorded t).begun))
+
+-- ---- what the searches would find too, for longer
+
+pub check_going-requires : goal.check_going-requires
+check_going-requires g c = subst (λ p. IsCallGoing p.parts.entries c.args.who) (sym c.self.view_is) c.requires.open
+
+pub enter-requires-clause-number : goal.enter-requires-clause-number
+enter-requires-clause-number g c = c.check_going.ensures
+
+pub returns-in-Some-clause-clean : goal.returns-in-Some-clause-clean
+returns-in-Some-clause-clean g c = ap (λ p. is_clean p.parts.members.newest) c.self.view_is
+
+pub returns-in-Some-clause-caused : goal.returns-in-Some-clause-caused
+returns-in-Some-clause-caused g c =
+    let a = c.self.inside in
+    let refusal = c.in-Some.refusal in
+    rw (← c.self.view_is) (refused-for (list_length a.members.newest) 0 AreTooMany a.members a.members refusal (too-many-of a.members refusal c.in-Some.ensures) zero-le c.in-Some.ensures)
+
+pub returns-in-Some-clause-course : goal.returns-in-Some-clause-course
+returns-in-Some-clause-course g c = ap (λ p. p.course) c.self.view_is
+
+pub returns-in-Some-clause-room : goal.returns-in-Some-clause-room
+returns-in-Some-clause-room g c = one-fewer c.self.inside.steps c.args.self.now.parts.steps (ap (λ p. p.parts.steps) c.self.view_is) c.requires.room
+
+pub returns-in-Some-clause-given : goal.returns-in-Some-clause-given
+returns-in-Some-clause-given g c = ap (λ p. g.B.Bank.given p.parts.bank) c.self.view_is
+
+pub stripe_to_zero-stripe-requires-clause-zeroed : goal.stripe_to_zero-stripe-requires-clause-zeroed
+stripe_to_zero-stripe-requires-clause-zeroed g c =
+    let due = subst (λ p. IsZeroDue p) (sym c.self.view_is) c.requires.due in
+    subst (λ (k : Course). k.zeroed < zeroed_by c.self.inside.members.newest) (sym due.is) due.more
+
+pub zero-done-requires-clause-slots : goal.zero-done-requires-clause-slots
+zero-done-requires-clause-slots g c = c.self.invariant.kept.slots
+
+pub zero-done-requires-clause-placed : goal.zero-done-requires-clause-placed
+zero-done-requires-clause-placed g c = c.self.invariant.kept.members_are.placed
+
+pub zero-done-requires-clause-unlost : goal.zero-done-requires-clause-unlost
+zero-done-requires-clause-unlost g c = c.self.invariant.kept.members_are.unlost
+
+pub zero-done-requires-clause-free : goal.zero-done-requires-clause-free
+zero-done-requires-clause-free g c = c.self.invariant.kept.members_are.free
+
+pub zero-done-requires-clause-shape : goal.zero-done-requires-clause-shape
+zero-done-requires-clause-shape g c = c.final_in-shape.ensures
+
+pub zero-done-requires-clause-scratch : goal.zero-done-requires-clause-scratch
+zero-done-requires-clause-scratch g c =
+    scratch-for (length c.self.inside.buffer.items) (length c.as_mut_slice.result.now) (ap (λ (l : List ℕ). length l) c.as_mut_slice.ensures.value) c.self.invariant.buffer_fits
+
+pub newly_vacant-roles-requires-clause-known : goal.newly_vacant-roles-requires-clause-known
+newly_vacant-roles-requires-clause-known g c =
+    roles-moved (g.B.Bank.given c.self.inside.bank) c.self.inside.members c.zero-done.new.members c.zero-done.ensures.moved c.len-count.result c.len-count.ensures c.self.invariant.kept.members_are.placed.roles
+
+pub enter_behind-requires-clause-room : goal.enter_behind-requires-clause-room
+enter_behind-requires-clause-room g c = room-behind c.self.inside.steps c.args.self.now.parts.steps c.self.inside.epoch.entries.room (ap (λ p. p.parts.steps) c.self.view_is) c.requires.room c.self.invariant.room_left
+
+pub enter_behind-requires-clause-number : goal.enter_behind-requires-clause-number
+enter_behind-requires-clause-number g c = c.check_going.ensures
+
+pub returns-in-Some-refusal-clause-entered : goal.returns-in-Some-refusal-clause-entered
+returns-in-Some-refusal-clause-entered g c =
+    rw (← c.self.view_is) (record { roles = c.newly_vacant-roles.result; spares = c.zero-done.result.spares; end = c.ops-end-2.result; is = c.enter_behind.ensures.items })
+
+pub returns-in-Some-refusal-clause-clean : goal.returns-in-Some-refusal-clause-clean
+returns-in-Some-refusal-clause-clean g c = c.zero-done.ensures.clean ∙ ap (λ p. is_clean p.parts.members.newest) c.self.view_is
+
+pub returns-in-Some-refusal-clause-course : goal.returns-in-Some-refusal-clause-course
+returns-in-Some-refusal-clause-course g c = ap (λ p. p.course) c.self.view_is
+
+pub returns-in-Some-refusal-clause-room : goal.returns-in-Some-refusal-clause-room
+returns-in-Some-refusal-clause-room g c = one-fewer c.self.inside.steps c.args.self.now.parts.steps (ap (λ p. p.parts.steps) c.self.view_is) c.requires.room
+
+pub returns-in-Some-refusal-clause-given : goal.returns-in-Some-refusal-clause-given
+returns-in-Some-refusal-clause-given g c = c.zero-done.ensures.given ∙ ap (λ p. g.B.Bank.given p.parts.bank) c.self.view_is
+
+pub steps_left-left-requires-clause-fit : goal.steps_left-left-requires-clause-fit
+steps_left-left-requires-clause-fit g c = c.zero-done.ensures.moved.placed.fit
+
+pub steps_left-left-requires-clause-reshape : goal.steps_left-left-requires-clause-reshape
+steps_left-left-requires-clause-reshape g c =
+    under-way-moved (g.B.Bank.given c.self.inside.bank) c.self.inside.members c.zero-done.new.members c.zero-done.ensures.moved c.self.invariant.kept.members_are.active
+
+pub steps_left-left-requires-clause-open : goal.steps_left-left-requires-clause-open
+steps_left-left-requires-clause-open g c =
+    let due = subst (λ p. IsZeroDue p) (sym c.self.view_is) c.requires.due in
+    subst (λ (k : Course). IsWindowRight c.zero-done.new.members.newest k.window) (sym due.is) tt
+
+pub steps_left-left-requires-clause-zeroed : goal.steps_left-left-requires-clause-zeroed
+steps_left-left-requires-clause-zeroed g c =
+    let due = subst (λ p. IsZeroDue p) (sym c.self.view_is) c.requires.due in
+    zeroed-moved (g.B.Bank.given c.self.inside.bank) c.self.inside.members c.zero-done.new.members c.zero-done.ensures.moved (c.self.inside.course.zeroed + 1)
+    (next-within c.self.inside.course.zeroed _ (subst (λ (k : Course). k.zeroed < zeroed_by c.self.inside.members.newest) (sym due.is) due.more))
+
+pub steps_left-left-requires-clause-sound : goal.steps_left-left-requires-clause-sound
+steps_left-left-requires-clause-sound g c =
+    sound-moved (g.B.Bank.given c.self.inside.bank) c.self.inside.members c.zero-done.new.members c.zero-done.ensures.moved (phases_of c.self.inside.ahead) c.self.invariant.planned
+
+pub enter_behind-requires-2-clause-room : goal.enter_behind-requires-2-clause-room
+enter_behind-requires-2-clause-room g c = room-behind c.self.inside.steps c.args.self.now.parts.steps c.self.inside.epoch.entries.room (ap (λ p. p.parts.steps) c.self.view_is) c.requires.room c.self.invariant.room_left
+
+pub enter_behind-requires-2-clause-number : goal.enter_behind-requires-2-clause-number
+enter_behind-requires-2-clause-number g c = c.check_going.ensures
+
+pub returns-clause-entered : goal.returns-clause-entered
+returns-clause-entered g c =
+    rw (← c.self.view_is) (taken-behind c.args.who c.ops-end-2.result c.newly_vacant-roles.result c.zero-done.result.spares ZeroesStripe c.steps_left-left.result _ c.steps_left-left.ensures c.enter_behind-2.ensures.items)
+
+pub returns-clause-clean : goal.returns-clause-clean
+returns-clause-clean g c = c.zero-done.ensures.clean ∙ ap (λ p. is_clean p.parts.members.newest) c.self.view_is
+
+pub returns-clause-caused : goal.returns-clause-caused
+returns-clause-caused g c = rw (← c.self.view_is) (zero-le, λ refusal many. never-both c.self.inside.members refusal c.in_default.ensures many)
+
+pub returns-clause-left : goal.returns-clause-left
+returns-clause-left g c =
+    let a = c.self.inside in
+    let due = subst (λ p. IsZeroDue p) (sym c.self.view_is) c.requires.due in
+    rw (← c.self.view_is) (zero-left (g.B.Bank.given c.self.inside.bank) a.members c.zero-done.new.members a.work.resync a.course a.ahead c.zero-done.ensures.moved c.self.invariant.kept.members_are.active (closed-at a.course due.zeroed due.is)
+    (subst (λ (k : Course). k.zeroed < zeroed_by c.self.inside.members.newest) (sym due.is) due.more))
+
+pub returns-clause-zeroed : goal.returns-clause-zeroed
+returns-clause-zeroed g c =
+    let a = c.self.inside in
+    let due = subst (λ p. IsZeroDue p) (sym c.self.view_is) c.requires.due in
+    rw (← c.self.view_is) (ap (λ (k : Course). record k { zeroed = a.course.zeroed + 1 }) (closed-at a.course due.zeroed due.is))
+
+pub returns-clause-room : goal.returns-clause-room
+returns-clause-room g c = one-fewer c.self.inside.steps c.args.self.now.parts.steps (ap (λ p. p.parts.steps) c.self.view_is) c.requires.room
+
+pub returns-clause-given : goal.returns-clause-given
+returns-clause-given g c = c.zero-done.ensures.given ∙ ap (λ p. g.B.Bank.given p.parts.bank) c.self.view_is
+
+pub zero-done-requires-clause-stripe : goal.zero-done-requires-clause-stripe
+zero-done-requires-clause-stripe g c =
+    let n = c.self.inside.members.newest in
+    subst (λ (s : Shape). IsPastStripe s n.size (list_length n) c.stripe_to_zero-stripe.result) (sym c.final_in-shape.ensures) c.stripe_to_zero-stripe.ensures.stripe

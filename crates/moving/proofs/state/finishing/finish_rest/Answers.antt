@@ -8,6 +8,7 @@ use Rattle.moving_laws.proofs.shape_views_Stands.{span-order}
 use Rattle.views.specs.Lacking.{AreOtherRowsKept}
 use Rattle.moving_laws.specs.window_calls_Finishing.{IsOfRest, AreStripesCopied}
 use Rattle.moving_laws.proofs.WriteLaws.{finished-since}
+use Rattle.moving.proofs.Calls.{known-finished}
 use Rattle.moving.proofs.state.finishing.finish_rest.Goals as goal
 
 pub overflow_cast-count : goal.overflow_cast-count
@@ -66,3 +67,11 @@ returns-clause-others g c = λ t.
     let before = present given (g.B.Bank.tape c.args.bank.now) in
     let after = present given (g.B.Bank.tape c.finish_window-done.new.bank) in
     subst (λ (s : Shape). AreOtherRowsKept (IsOfRest s c.args.span.now c.args.from) (reading_of new) before after) {y = final_shape c.args.members.now.newest} c.final_in-shape.ensures (c.finish_window-done.ensures.others t)
+
+-- ---- by what stands above
+
+pub newly_vacant-requires-clause-known : goal.newly_vacant-requires-clause-known
+newly_vacant-requires-clause-known g c = known-finished _ c.args.span.now _ _ c.len-count.result c.finish_window-done.result.refusal c.finish_window-done.ensures.moved c.len-count.ensures c.requires.placed.roles
+
+pub returns-clause-counts : goal.returns-clause-counts
+returns-clause-counts g c = c.finish_window-done.ensures.counts

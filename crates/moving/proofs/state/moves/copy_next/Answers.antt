@@ -8,6 +8,7 @@ use Rattle.moving_laws.proofs.shape_views_Stands.{span-order}
 use Rattle.views.specs.Lacking.{AreOtherRowsKept, IsOfStripe}
 use Rattle.views.proofs.LackingLaws.{lost-since}
 use Rattle.moving_laws.specs.course_kept_Laws.{next_stripe}
+use Rattle.moving.proofs.Calls.{known-moved}
 use Rattle.moving.proofs.state.moves.copy_next.Goals as goal
 
 pub overflow_cast-count : goal.overflow_cast-count
@@ -60,3 +61,11 @@ returns-clause-others g c = λ t.
     let after = present given (g.B.Bank.tape c.copy-done.new.bank) in
     subst (λ (n : ℕ). AreOtherRowsKept (IsOfStripe (final_shape m.newest) n) (reading_of new) before after) {y = next_stripe c.args.members.now c.args.span.now c.args.copied} c.stripe_to_copy-stripe.ensures.value
     (subst (λ (s : Shape). AreOtherRowsKept (IsOfStripe s c.stripe_to_copy-stripe.result) (reading_of new) before after) {y = final_shape c.args.members.now.newest} c.final_in-shape.ensures (c.copy-done.ensures.others t))
+
+-- ---- by what stands above
+
+pub newly_vacant-requires-clause-known : goal.newly_vacant-requires-clause-known
+newly_vacant-requires-clause-known g c = known-moved c.len-count.result c.copy-done.ensures.moved c.len-count.ensures c.requires.placed.roles
+
+pub returns-clause-counts : goal.returns-clause-counts
+returns-clause-counts g c = c.copy-done.ensures.counts

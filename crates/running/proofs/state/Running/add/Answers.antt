@@ -1,9 +1,11 @@
-use Rattle.std.proofs.Common.{length, refl, sym, ◌∙◌}
+use Rattle.std.proofs.Common.{◌≡◌, length, refl, sym, ◌∙◌, ap, subst}
 use Rattle.superblocks.specs.Reading.{list_length}
 use Rattle.flat_history.specs.declared.events.Event.TheVariants.{Added}
 use Rattle.flat_history.specs.declared.events.Request.TheVariants.{Add as AsksAdd}
+use Rattle.flat_history.specs.Flat.{next_number}
 use Rattle.growing.proofs.still_laws_PlansKept.{add-answered}
 use Rattle.growing.specs.running_words_Adding.{IsAddCalled}
+use Rattle.running.specs.State.{parts_in}
 use Rattle.running.proofs.Kept.{rest-added, reshape-added}
 use Rattle.running.proofs.state.Running.add.Goals as goal
 use Rattle.running.proofs.state.Running.add.Goals.{in-Still, in-Moving}
@@ -61,4 +63,66 @@ invariant_of-self g c = elim c.match-self.branch [
       let did = w.add-done-in-Moving.ensures in
       let added = add-answered c.args.who (list_length old.parts.members.newest) (AsksAdd c.args.slot) (Added c.args.slot) w.add-done-in-Moving.result did.answered refl in
       rw (w.self-inside-is, w.check_moving.ensures.same) (reshape-added g.B.Bank.given g.B.Bank.tape (length c.self.inside.window.items) old new did.given added did.called w.check_moving.ensures.active w.check_moving.ensures.within was)
+]
+
+pub add-done-requires-clause-next : goal.add-done-requires-clause-next
+add-done-requires-clause-next g c = subst (λ p. c.args.who.number ≡ next_number c.args.who.caller p.parts.entries) (sym c.self.view_is ∙ ap (λ s. parts_in s) c.in-Still.is) c.requires.next
+
+pub add-done-requires-in-Moving-clause-next : goal.add-done-requires-in-Moving-clause-next
+add-done-requires-in-Moving-clause-next g c = subst (λ p. c.args.who.number ≡ next_number c.args.who.caller p.parts.entries) (sym c.self.view_is ∙ ap (λ s. parts_in s) c.in-Moving.is) c.requires.next
+
+pub returns-clause-answered : goal.returns-clause-answered
+returns-clause-answered g c = elim c.match-self.branch [
+  | in-Still w ↦ rw (← c.self.view_is, w.in-Still.is, w.self-inside-is, w.check_still.ensures.same, w.result-is) w.add-done.ensures.answered
+  | in-Moving w ↦ rw (← c.self.view_is, w.in-Moving.is, w.self-inside-is, w.check_moving.ensures.same, w.result-is) w.add-done-in-Moving.ensures.answered
+]
+
+pub returns-clause-unchanged : goal.returns-clause-unchanged
+returns-clause-unchanged g c = elim c.match-self.branch [
+  | in-Still w ↦ rw (← c.self.view_is, w.in-Still.is, w.self-inside-is, w.check_still.ensures.same, w.result-is) w.add-done.ensures.unchanged
+  | in-Moving w ↦ rw (← c.self.view_is, w.in-Moving.is, w.self-inside-is, w.check_moving.ensures.same, w.result-is) w.add-done-in-Moving.ensures.unchanged
+]
+
+pub returns-clause-caused : goal.returns-clause-caused
+returns-clause-caused g c = elim c.match-self.branch [
+  | in-Still w ↦ rw (← c.self.view_is, w.in-Still.is, w.self-inside-is, w.check_still.ensures.same, w.result-is) w.add-done.ensures.caused
+  | in-Moving w ↦ rw (← c.self.view_is, w.in-Moving.is, w.self-inside-is, w.check_moving.ensures.same, w.result-is) w.add-done-in-Moving.ensures.caused
+]
+
+pub returns-clause-stored : goal.returns-clause-stored
+returns-clause-stored g c = elim c.match-self.branch [
+  | in-Still w ↦ rw (← c.self.view_is, w.in-Still.is, w.self-inside-is, w.check_still.ensures.same, w.result-is) w.add-done.ensures.stored
+  | in-Moving w ↦ rw (← c.self.view_is, w.in-Moving.is, w.self-inside-is, w.check_moving.ensures.same, w.result-is) w.add-done-in-Moving.ensures.stored
+]
+
+pub returns-clause-others : goal.returns-clause-others
+returns-clause-others g c = elim c.match-self.branch [
+  | in-Still w ↦ rw (← c.self.view_is, w.in-Still.is, w.self-inside-is, w.check_still.ensures.same) w.add-done.ensures.others
+  | in-Moving w ↦ rw (← c.self.view_is, w.in-Moving.is, w.self-inside-is, w.check_moving.ensures.same) w.add-done-in-Moving.ensures.others
+]
+
+pub returns-clause-clean : goal.returns-clause-clean
+returns-clause-clean g c = elim c.match-self.branch [
+  | in-Still w ↦ rw (← c.self.view_is, w.in-Still.is, w.self-inside-is, w.check_still.ensures.same) w.add-done.ensures.clean
+  | in-Moving w ↦ rw (← c.self.view_is, w.in-Moving.is, w.self-inside-is, w.check_moving.ensures.same) w.add-done-in-Moving.ensures.clean
+]
+
+pub returns-clause-failed : goal.returns-clause-failed
+returns-clause-failed g c = elim c.match-self.branch [
+  | in-Still w ↦ rw (← c.self.view_is, w.in-Still.is, w.self-inside-is, w.check_still.ensures.same) w.add-done.ensures.stepped.failed
+  | in-Moving w ↦ rw (← c.self.view_is, w.in-Moving.is, w.self-inside-is, w.check_moving.ensures.same) w.add-done-in-Moving.ensures.failed
+]
+
+pub returns-clause-course : goal.returns-clause-course
+returns-clause-course g c = elim c.match-self.branch [
+  | in-Still w ↦
+      let was = rw w.in-Still.is at c.self.invariant in
+      rw (← c.self.view_is, w.in-Still.is, w.self-inside-is, w.check_still.ensures.same) (w.check_still.ensures.rest.course ∙ sym was.now.course)
+  | in-Moving w ↦ rw (← c.self.view_is, w.in-Moving.is, w.self-inside-is, w.check_moving.ensures.same) w.add-done-in-Moving.ensures.course
+]
+
+pub returns-clause-given : goal.returns-clause-given
+returns-clause-given g c = elim c.match-self.branch [
+  | in-Still w ↦ rw (← c.self.view_is, w.in-Still.is, w.self-inside-is, w.check_still.ensures.same) w.add-done.ensures.given
+  | in-Moving w ↦ rw (← c.self.view_is, w.in-Moving.is, w.self-inside-is, w.check_moving.ensures.same) w.add-done-in-Moving.ensures.given
 ]

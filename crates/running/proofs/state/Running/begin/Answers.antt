@@ -1,8 +1,10 @@
-use Rattle.std.proofs.Common.{◌≡◌, ◌∷◌, List, length, refl, sym, ◌∙◌, ap, subst}
+use Rattle.std.proofs.Common.{◌≡◌, ◌≤◌, ◌∷◌, List, length, refl, sym, ◌∙◌, ap, subst}
 use Rattle.std.specs.Prelude.{IsSome}
 use Rattle.md_base.specs.declared.wishes.Phase.{Phase}
 use Rattle.md_base.specs.declared.wishes.Phase.TheVariants.{Reshape}
 use Rattle.grow_asked.specs.Left.{phases_of}
+use Rattle.growing.specs.turning_Begun.{HasKeptLength}
+use Rattle.growing.specs.views_Status.{left_of}
 use Rattle.running.specs.State.{parts_in}
 use Rattle.running.proofs.Ended.{begin-refused}
 use Rattle.running.proofs.Kept.{first-same, backup-serves, reshape-begun, rest-back}
@@ -90,3 +92,12 @@ returns-in-Err-clause-never_falls g c = rw (← c.self.view_is, c.in-Still.is, c
 
 pub returns-in-Err-clause-left_given : goal.returns-in-Err-clause-left_given
 returns-in-Err-clause-left_given g c = rw (← c.self.view_is, c.in-Still.is, c.check_still.ensures.same) (rw c.phases_behind-still.ensures.same at c.in-Err.ensures.left_given)
+
+pub begin_reshape-requires-clause-open : goal.begin_reshape-requires-clause-open
+begin_reshape-requires-clause-open g c = rw c.phases_behind-still.ensures.same (subst (λ p. HasKeptLength p.parts.entries c.args.who) (sym c.self.view_is ∙ ap (λ s. parts_in s) c.in-Still.is) c.requires.open)
+
+pub begin_reshape-requires-clause-done : goal.begin_reshape-requires-clause-done
+begin_reshape-requires-clause-done g c = rw c.phases_behind-still.ensures.same (subst (λ p. left_of p.parts.work p.parts.members ≡ 0) (sym c.self.view_is ∙ ap (λ s. parts_in s) c.in-Still.is) c.requires.done)
+
+pub begin_reshape-requires-clause-room : goal.begin_reshape-requires-clause-room
+begin_reshape-requires-clause-room g c = rw c.phases_behind-still.ensures.same (subst (λ p. 1 ≤ p.parts.steps) (sym c.self.view_is ∙ ap (λ s. parts_in s) c.in-Still.is) c.requires.room)

@@ -22,3 +22,21 @@ invariant_of-self g c = elim c.match-self.branch [
       rw (w.self-inside-is, w.check_moving.ensures.same)
       (reshape-looked g.B.Bank.given g.B.Bank.tape (length c.self.inside.window.items) w.in-Moving.moving w.examine-found-in-Moving.new.self did.given did.tape did.else_same w.check_moving.ensures.active w.check_moving.ensures.within was)
 ]
+
+pub returns-clause-cause : goal.returns-clause-cause
+returns-clause-cause g c = elim c.match-self.branch [
+  | in-Still w ↦ rw (← c.self.view_is, w.in-Still.is, w.self-inside-is, w.check_still.ensures.same, w.result-is) w.examine-found.ensures.cause
+  | in-Moving w ↦ rw (← c.self.view_is, w.in-Moving.is, w.self-inside-is, w.check_moving.ensures.same, w.result-is) w.examine-found-in-Moving.ensures.cause
+]
+
+pub returns-clause-tape : goal.returns-clause-tape
+returns-clause-tape g c = elim c.match-self.branch [
+  | in-Still w ↦ rw (← c.self.view_is, w.in-Still.is, w.self-inside-is, w.check_still.ensures.same) w.examine-found.ensures.tape
+  | in-Moving w ↦ rw (← c.self.view_is, w.in-Moving.is, w.self-inside-is, w.check_moving.ensures.same) w.examine-found-in-Moving.ensures.tape
+]
+
+pub returns-clause-else_same : goal.returns-clause-else_same
+returns-clause-else_same g c = elim c.match-self.branch [
+  | in-Still w ↦ rw (← c.self.view_is, w.in-Still.is, w.self-inside-is, w.check_still.ensures.same) w.examine-found.ensures.else_same
+  | in-Moving w ↦ rw (← c.self.view_is, w.in-Moving.is, w.self-inside-is, w.check_moving.ensures.same) w.examine-found-in-Moving.ensures.else_same
+]

@@ -1,8 +1,10 @@
-use Rattle.std.proofs.Common.{length, refl, sym, ◌∙◌}
+use Rattle.std.proofs.Common.{◌≡◌, length, refl, sym, ◌∙◌, ap, subst}
 use Rattle.superblocks.specs.Reading.{list_length}
 use Rattle.flat_history.specs.declared.events.Event.TheVariants.{Failed}
 use Rattle.flat_history.specs.declared.events.Request.TheVariants.{Fail as AsksFail}
 use Rattle.growing.proofs.still_laws_PlansKept.{add-answered}
+use Rattle.flat_history.specs.Flat.{next_number}
+use Rattle.running.specs.State.{parts_in}
 use Rattle.running.proofs.Closed.{failed-whole}
 use Rattle.running.proofs.Kept.{rest-called, reshape-called}
 use Rattle.running.proofs.state.Running.fail.Goals as goal
@@ -40,4 +42,34 @@ invariant_of-self g c = elim c.match-self.branch [
       let did = w.fail-done-in-Moving.ensures in
       let added = add-answered c.args.who (list_length old.parts.members.newest) (AsksFail c.args.role) (Failed c.args.role) w.fail-done-in-Moving.result did.answered refl in
       rw (w.self-inside-is, w.check_moving.ensures.same) (reshape-called g.B.Bank.given g.B.Bank.tape (length c.self.inside.window.items) old new did.given added did.called w.check_moving.ensures.active w.check_moving.ensures.within was)
+]
+
+pub fail-done-requires-clause-next : goal.fail-done-requires-clause-next
+fail-done-requires-clause-next g c = subst (λ p. c.args.who.number ≡ next_number c.args.who.caller p.parts.entries) (sym c.self.view_is ∙ ap (λ s. parts_in s) c.in-Still.is) c.requires.next
+
+pub fail-done-requires-in-Moving-clause-next : goal.fail-done-requires-in-Moving-clause-next
+fail-done-requires-in-Moving-clause-next g c = subst (λ p. c.args.who.number ≡ next_number c.args.who.caller p.parts.entries) (sym c.self.view_is ∙ ap (λ s. parts_in s) c.in-Moving.is) c.requires.next
+
+pub returns-clause-answered : goal.returns-clause-answered
+returns-clause-answered g c = elim c.match-self.branch [
+  | in-Still w ↦ rw (← c.self.view_is, w.in-Still.is, w.self-inside-is, w.check_still.ensures.same, w.result-is) w.fail-done.ensures.answered
+  | in-Moving w ↦ rw (← c.self.view_is, w.in-Moving.is, w.self-inside-is, w.check_moving.ensures.same, w.result-is) w.fail-done-in-Moving.ensures.answered
+]
+
+pub returns-clause-unchanged : goal.returns-clause-unchanged
+returns-clause-unchanged g c = elim c.match-self.branch [
+  | in-Still w ↦ rw (← c.self.view_is, w.in-Still.is, w.self-inside-is, w.check_still.ensures.same, w.result-is) w.fail-done.ensures.unchanged
+  | in-Moving w ↦ rw (← c.self.view_is, w.in-Moving.is, w.self-inside-is, w.check_moving.ensures.same, w.result-is) w.fail-done-in-Moving.ensures.unchanged
+]
+
+pub returns-clause-others : goal.returns-clause-others
+returns-clause-others g c = elim c.match-self.branch [
+  | in-Still w ↦ rw (← c.self.view_is, w.in-Still.is, w.self-inside-is, w.check_still.ensures.same) w.fail-done.ensures.others
+  | in-Moving w ↦ rw (← c.self.view_is, w.in-Moving.is, w.self-inside-is, w.check_moving.ensures.same) w.fail-done-in-Moving.ensures.others
+]
+
+pub returns-clause-caused : goal.returns-clause-caused
+returns-clause-caused g c = elim c.match-self.branch [
+  | in-Still w ↦ rw (← c.self.view_is, w.in-Still.is, w.self-inside-is, w.check_still.ensures.same, w.result-is) w.fail-done.ensures.caused
+  | in-Moving w ↦ rw (← c.self.view_is, w.in-Moving.is, w.self-inside-is, w.check_moving.ensures.same, w.result-is) w.fail-done-in-Moving.ensures.caused
 ]

@@ -1,6 +1,8 @@
-use Rattle.std.proofs.Common.{inl, length, refl}
+use Rattle.std.proofs.Common.{◌≤◌, length, refl, sym, ◌∙◌, ap, subst, inl}
 use Rattle.flat_history.specs.declared.events.Event.TheVariants.{Refused}
 use Rattle.growing.proofs.still_laws_PlansKept.{add-behind}
+use Rattle.growing.specs.kept_history_Recorded.{IsCallGoing}
+use Rattle.running.specs.State.{parts_in}
 use Rattle.running.proofs.Ended.{ends-moving, closable-ended}
 use Rattle.running.proofs.Kept.{rest-ended, reshape-called}
 use Rattle.running.proofs.state.Running.finish.Goals as goal
@@ -32,3 +34,33 @@ returns-in-Ok-clause-closable g c = rw c.check_still.ensures.same (closable-ende
 
 pub returns-in-Err-clause-ends : goal.returns-in-Err-clause-ends
 returns-in-Err-clause-ends g c = rw c.check_moving-in-Err.ensures.same (ends-moving c.in-Err.moving c.in-Err.refusal c.check_moving-in-Err.ensures.active (inl c.in-Err.ensures.caused))
+
+pub finish_reshape-requires-clause-open : goal.finish_reshape-requires-clause-open
+finish_reshape-requires-clause-open g c = rw c.check_moving.ensures.same (subst (λ p. IsCallGoing p.parts.entries c.args.who) (sym c.self.view_is ∙ ap (λ s. parts_in s) c.in-Moving.is) c.requires.open)
+
+pub finish_reshape-requires-clause-room : goal.finish_reshape-requires-clause-room
+finish_reshape-requires-clause-room g c = rw c.check_moving.ensures.same (subst (λ p. 2 ≤ p.parts.steps) (sym c.self.view_is ∙ ap (λ s. parts_in s) c.in-Moving.is) c.requires.room)
+
+pub returns-in-Ok-clause-ended : goal.returns-in-Ok-clause-ended
+returns-in-Ok-clause-ended g c = rw (← c.self.view_is, c.in-Moving.is, c.check_still.ensures.same) (rw c.check_moving.ensures.same at c.in-Ok.ensures.ended)
+
+pub returns-in-Ok-clause-given : goal.returns-in-Ok-clause-given
+returns-in-Ok-clause-given g c = rw (← c.self.view_is, c.in-Moving.is, c.check_still.ensures.same) (rw c.check_moving.ensures.same at c.in-Ok.ensures.given)
+
+pub returns-in-Err-clause-caused : goal.returns-in-Err-clause-caused
+returns-in-Err-clause-caused g c = rw c.check_moving-in-Err.ensures.same c.in-Err.ensures.caused
+
+pub returns-in-Err-clause-refused : goal.returns-in-Err-clause-refused
+returns-in-Err-clause-refused g c = rw (← c.self.view_is, c.in-Moving.is, c.check_moving-in-Err.ensures.same) (rw c.check_moving.ensures.same at c.in-Err.ensures.refused)
+
+pub returns-in-Err-clause-called : goal.returns-in-Err-clause-called
+returns-in-Err-clause-called g c = rw (← c.self.view_is, c.in-Moving.is, c.check_moving-in-Err.ensures.same) (rw c.check_moving.ensures.same at c.in-Err.ensures.called)
+
+pub returns-in-Err-clause-course : goal.returns-in-Err-clause-course
+returns-in-Err-clause-course g c = rw (← c.self.view_is, c.in-Moving.is, c.check_moving-in-Err.ensures.same) (rw c.check_moving.ensures.same at c.in-Err.ensures.course)
+
+pub returns-in-Err-clause-steps : goal.returns-in-Err-clause-steps
+returns-in-Err-clause-steps g c = rw (← c.self.view_is, c.in-Moving.is, c.check_moving-in-Err.ensures.same) (rw c.check_moving.ensures.same at c.in-Err.ensures.steps)
+
+pub returns-in-Err-clause-left_given : goal.returns-in-Err-clause-left_given
+returns-in-Err-clause-left_given g c = rw (← c.self.view_is, c.in-Moving.is, c.check_moving-in-Err.ensures.same) (rw c.check_moving.ensures.same at c.in-Err.ensures.left_given)

@@ -1,4 +1,5 @@
-use Rattle.std.proofs.Common.{[], ◌∷◌, ap, refl}
+use Rattle.std.proofs.Common.{[], ◌∷◌, refl, sym, ◌∙◌, ap}
+use Rattle.std.proofs.lemmas.Bool.{true≢false}
 use Rattle.flat_history.specs.declared.events.Event.TheVariants.{Halted}
 use Rattle.growing.proofs.views_MovedLaws.{grows-none}
 use Rattle.growing.proofs.still_laws_PlansKept.{add-entered}
@@ -38,4 +39,4 @@ pub returns-clause-plainly : goal.returns-clause-plainly
 returns-clause-plainly g c =
     let was = rw c.in-Moving.is at c.self.invariant in
     let active = was.active in
-    rw (← c.self.view_is, c.in-Moving.is) (λ still. absurd (cc (active, still)))
+    rw (← c.self.view_is, c.in-Moving.is) (λ still. absurd (true≢false (sym active ∙ still)))

@@ -1,9 +1,10 @@
-use Rattle.std.proofs.Common.{◌≡◌, ◌<◌, length, ap, sym, ◌∙◌, subst}
+use Rattle.std.proofs.Common.{◌≡◌, ◌<◌, ◌≤◌, length, sym, ◌∙◌, ap, subst}
 use Rattle.flat_history.specs.declared.events.StepKind.TheVariants.{RebuildEnded as EndsRebuild}
 use Rattle.growing.specs.views_Status.{left_of}
 use Rattle.growing.specs.running_words_Calls.{moving_world}
 use Rattle.growing.specs.still_laws_Steps.{IsCallUnbroken}
 use Rattle.growing.specs.still_steps_Stepping.{next_kind}
+use Rattle.growing.specs.kept_history_Recorded.{IsCallGoing}
 use Rattle.running.specs.State.{parts_in}
 use Rattle.running.proofs.Closed.{closed-stepped}
 use Rattle.running.proofs.Entered.{add-stepped}
@@ -47,3 +48,56 @@ returns-clause-ends g c =
     let did = c.still_step-done.ensures in
     rw (c.check_still.ensures.same)
     (own-refused c.in-Still.still c.still_step-done.new.still c.still_step-done.result c.check_still.ensures.rest.still did.memory did.work did.caused)
+
+pub still_step-done-requires-clause-open : goal.still_step-done-requires-clause-open
+still_step-done-requires-clause-open g c = subst (λ p. IsCallGoing p.parts.entries c.args.who) (sym c.self.view_is ∙ ap (λ s. parts_in s) c.in-Still.is) c.requires.open
+
+pub still_step-done-requires-clause-pending : goal.still_step-done-requires-clause-pending
+still_step-done-requires-clause-pending g c = subst (λ p. 0 < left_of p.parts.work p.parts.members) (sym c.self.view_is ∙ ap (λ s. parts_in s) c.in-Still.is) c.requires.pending
+
+pub still_step-done-requires-clause-room : goal.still_step-done-requires-clause-room
+still_step-done-requires-clause-room g c = subst (λ p. 1 ≤ p.parts.steps) (sym c.self.view_is ∙ ap (λ s. parts_in s) c.in-Still.is) c.requires.room
+
+pub returns-clause-entered : goal.returns-clause-entered
+returns-clause-entered g c = rw (← c.self.view_is, c.in-Still.is, c.check_still.ensures.same) c.still_step-done.ensures.entered
+
+pub returns-clause-memory : goal.returns-clause-memory
+returns-clause-memory g c = c.still_step-done.ensures.memory
+
+pub returns-clause-open : goal.returns-clause-open
+returns-clause-open g c = rw c.check_still.ensures.same c.still_step-done.ensures.open
+
+pub returns-clause-room : goal.returns-clause-room
+returns-clause-room g c = rw (← c.self.view_is, c.in-Still.is, c.check_still.ensures.same) c.still_step-done.ensures.room
+
+pub returns-clause-left : goal.returns-clause-left
+returns-clause-left g c = rw (← c.self.view_is, c.in-Still.is, c.check_still.ensures.same) c.still_step-done.ensures.left
+
+pub returns-clause-stays : goal.returns-clause-stays
+returns-clause-stays g c = rw (← c.self.view_is, c.in-Still.is, c.check_still.ensures.same) c.still_step-done.ensures.stays
+
+pub returns-clause-list : goal.returns-clause-list
+returns-clause-list g c = rw (← c.self.view_is, c.in-Still.is, c.check_still.ensures.same) c.still_step-done.ensures.list
+
+pub returns-clause-caused : goal.returns-clause-caused
+returns-clause-caused g c = rw (← c.self.view_is, c.in-Still.is, c.check_still.ensures.same) c.still_step-done.ensures.caused
+
+pub returns-clause-clean : goal.returns-clause-clean
+returns-clause-clean g c = rw (← c.self.view_is, c.in-Still.is, c.check_still.ensures.same) c.still_step-done.ensures.clean
+
+pub returns-clause-taken : goal.returns-clause-taken
+returns-clause-taken g c = rw (← c.self.view_is, c.in-Still.is, c.check_still.ensures.same) c.still_step-done.ensures.taken
+
+pub returns-clause-stepped : goal.returns-clause-stepped
+returns-clause-stepped g c = rw (← c.self.view_is, c.in-Still.is, c.check_still.ensures.same) c.still_step-done.ensures.stepped
+
+pub returns-clause-held : goal.returns-clause-held
+returns-clause-held g c = rw (← c.self.view_is, c.in-Still.is, c.check_still.ensures.same) c.still_step-done.ensures.held
+
+pub returns-clause-course : goal.returns-clause-course
+returns-clause-course g c =
+    let was = rw c.in-Still.is at c.self.invariant in
+    rw (← c.self.view_is, c.in-Still.is, c.check_still.ensures.same) (c.check_still.ensures.rest.course ∙ sym was.now.course)
+
+pub returns-clause-given : goal.returns-clause-given
+returns-clause-given g c = rw (← c.self.view_is, c.in-Still.is, c.check_still.ensures.same) c.still_step-done.ensures.given

@@ -1,4 +1,6 @@
-use Rattle.std.proofs.Common.{length}
+use Rattle.std.proofs.Common.{◌≤◌, length, sym, ◌∙◌, ap, subst}
+use Rattle.growing.specs.kept_history_Recorded.{IsCallGoing}
+use Rattle.running.specs.State.{parts_in}
 use Rattle.running.proofs.Ended.{moved-refused}
 use Rattle.growing.proofs.still_laws_PlansKept.{add-step}
 use Rattle.growing.specs.moving_state_Due.{due_of}
@@ -20,3 +22,33 @@ returns-clause-ends g c =
     let did = c.step-done.ensures in
     rw (c.check_moving.ensures.same)
     (moved-refused _ _ _ c.in-Moving.moving c.step-done.new.self c.args.who _ c.step-done.result c.check_moving.ensures.active did.called.same.array.shape did.called.same.final did.work did.entered did.caused)
+
+pub step-done-requires-clause-open : goal.step-done-requires-clause-open
+step-done-requires-clause-open g c = subst (λ p. IsCallGoing p.parts.entries c.args.who) (sym c.self.view_is ∙ ap (λ s. parts_in s) c.in-Moving.is) c.requires.open
+
+pub step-done-requires-clause-room : goal.step-done-requires-clause-room
+step-done-requires-clause-room g c = subst (λ p. 1 ≤ p.parts.steps) (sym c.self.view_is ∙ ap (λ s. parts_in s) c.in-Moving.is) c.requires.room
+
+pub returns-clause-entered : goal.returns-clause-entered
+returns-clause-entered g c = rw (← c.self.view_is, c.in-Moving.is, c.check_moving.ensures.same) c.step-done.ensures.entered
+
+pub returns-clause-called : goal.returns-clause-called
+returns-clause-called g c = rw (← c.self.view_is, c.in-Moving.is, c.check_moving.ensures.same) c.step-done.ensures.called
+
+pub returns-clause-clean : goal.returns-clause-clean
+returns-clause-clean g c = rw (← c.self.view_is, c.in-Moving.is, c.check_moving.ensures.same) c.step-done.ensures.clean
+
+pub returns-clause-caused : goal.returns-clause-caused
+returns-clause-caused g c = rw (← c.self.view_is, c.in-Moving.is, c.check_moving.ensures.same) c.step-done.ensures.caused
+
+pub returns-clause-left : goal.returns-clause-left
+returns-clause-left g c = rw (← c.self.view_is, c.in-Moving.is, c.check_moving.ensures.same) c.step-done.ensures.left
+
+pub returns-clause-course : goal.returns-clause-course
+returns-clause-course g c = rw (← c.self.view_is, c.in-Moving.is, c.check_moving.ensures.same) c.step-done.ensures.course
+
+pub returns-clause-room : goal.returns-clause-room
+returns-clause-room g c = rw (← c.self.view_is, c.in-Moving.is, c.check_moving.ensures.same) c.step-done.ensures.room
+
+pub returns-clause-given : goal.returns-clause-given
+returns-clause-given g c = rw (← c.self.view_is, c.in-Moving.is, c.check_moving.ensures.same) c.step-done.ensures.given

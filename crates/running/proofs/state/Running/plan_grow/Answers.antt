@@ -1,4 +1,4 @@
-use Rattle.std.proofs.Common.{◌≡◌, ℕ, Err, length, sym, ◌∙◌, ap, subst}
+use Rattle.std.proofs.Common.{◌≡◌, ℕ, length, sym, ◌∙◌, ap, subst, Err}
 use Rattle.std.specs.Prelude.{⊤}
 use Rattle.md_base.specs.declared.answers.Refusal.TheVariants.{Busy}
 use Rattle.md_base.specs.declared.answers.BusyKind.TheVariants.{Reshape}
@@ -98,3 +98,30 @@ returns-in-Err-made-clause-went g c =
     let number = subst (λ p. c.args.who.number ≡ next_number c.args.who.caller p.parts.entries) (sym c.self.view_is ∙ ap (λ s. parts_in s) c.in-Moving.is) c.requires.next in
     rw (← c.self.view_is, c.in-Moving.is, c.check_moving.ensures.same) (went-refused ⊤ g.B.Bank.tells g.B.Bank.given g.B.Bank.tape g.B.Bank.faults_of c.in-Moving.moving c.replace_with-made-in-Moving.new.dest c.args.wish c.args.who number did.1.0
     ⊤ (Refused (Busy Reshape)) 0 c.in-Err-made.fault did.0 did.1.1.1.0 did.1.1.1.1.1.0 did.1.1.1.1.1.1.1.1)
+
+pub returns-in-Ok-clause-as_before : goal.returns-in-Ok-clause-as_before
+returns-in-Ok-clause-as_before g c = let did = c.in-Ok.ensures in rw (← c.self.view_is, c.in-Still.is, c.check_still.ensures.same) did.1.1.1.1.0
+
+pub returns-in-Ok-clause-ended : goal.returns-in-Ok-clause-ended
+returns-in-Ok-clause-ended g c = let did = c.in-Ok.ensures in rw c.check_still.ensures.same did.1.1.1.1.1.1.0
+
+pub returns-in-Ok-clause-planned : goal.returns-in-Ok-clause-planned
+returns-in-Ok-clause-planned g c = let did = c.in-Ok.ensures in rw c.check_still.ensures.same did.1.1.1.1.1.1.1.1.0
+
+pub returns-in-Err-clause-as_before : goal.returns-in-Err-clause-as_before
+returns-in-Err-clause-as_before g c = let did = c.in-Err.ensures in rw (← c.self.view_is, c.in-Still.is, c.check_still.ensures.same) did.1.1.1.1.0
+
+pub returns-in-Err-clause-ended : goal.returns-in-Err-clause-ended
+returns-in-Err-clause-ended g c = let did = c.in-Err.ensures in rw c.check_still.ensures.same did.1.1.1.1.1.1.0
+
+pub returns-in-Err-made-clause-as_before : goal.returns-in-Err-made-clause-as_before
+returns-in-Err-made-clause-as_before g c = let did = c.in-Err-made.ensures in rw (← c.self.view_is, c.in-Moving.is, c.check_moving.ensures.same) did.1.1.1.1.1.0
+
+pub returns-in-Err-made-clause-judged : goal.returns-in-Err-made-clause-judged
+returns-in-Err-made-clause-judged g c =
+    let did = c.in-Err-made.ensures in
+    let here = sym c.self.view_is ∙ ap (λ s. parts_in s) c.in-Moving.is in
+    subst (λ p. IsGrowJudged {T = ℕ} (asked_in (g.B.Bank.given p.parts.bank) p) c.args.wish (Err c.in-Err-made.fault)) (sym here) did.1.1.1.0
+
+pub returns-in-Err-made-clause-ended : goal.returns-in-Err-made-clause-ended
+returns-in-Err-made-clause-ended g c = let did = c.in-Err-made.ensures in rw c.check_moving.ensures.same did.1.1.1.1.1.1.1.0

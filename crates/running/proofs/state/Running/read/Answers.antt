@@ -1,9 +1,12 @@
-use Rattle.std.proofs.Common.{◌/◌, length, refl, sym, ◌∙◌}
+use Rattle.std.proofs.Common.{◌≡◌, ◌/◌, length, refl, sym, ◌∙◌, ap, subst}
 use Rattle.md_base.specs.Sectors.{sectors_of}
 use Rattle.superblocks.specs.Reading.{list_length}
 use Rattle.flat_history.specs.declared.events.Event.TheVariants.{Read}
 use Rattle.flat_history.specs.declared.events.Request.TheVariants.{Read as AsksRead}
 use Rattle.growing.proofs.still_laws_PlansKept.{add-answered}
+use Rattle.flat_history.specs.Flat.{next_number}
+use Rattle.std.proofs.lemmas.Bool.{true≢false}
+use Rattle.running.specs.State.{parts_in}
 use Rattle.running.proofs.Kept.{rest-called, reshape-called}
 use Rattle.running.proofs.Chosen.{read-still, read-moving}
 use Rattle.running.proofs.state.Running.read.Goals as goal
@@ -61,4 +64,56 @@ invariant_of-self g c = elim c.match-self.branch [
       let did = w.read-done-in-Moving.ensures in
       let added = add-answered c.args.who (list_length old.parts.members.newest) (AsksRead c.args.at (length c.args.into.now / 512)) (Read c.args.at (sectors_of w.read-done-in-Moving.new.into)) w.read-done-in-Moving.result did.answered refl in
       rw (w.self-inside-is, w.check_moving.ensures.same) (reshape-called g.B.Bank.given g.B.Bank.tape (length c.self.inside.window.items) old new did.given added did.called w.check_moving.ensures.active w.check_moving.ensures.within was)
+]
+
+pub read-done-requires-clause-next : goal.read-done-requires-clause-next
+read-done-requires-clause-next g c = subst (λ p. c.args.who.number ≡ next_number c.args.who.caller p.parts.entries) (sym c.self.view_is ∙ ap (λ s. parts_in s) c.in-Still.is) c.requires.next
+
+pub read-done-requires-in-Moving-clause-next : goal.read-done-requires-in-Moving-clause-next
+read-done-requires-in-Moving-clause-next g c = subst (λ p. c.args.who.number ≡ next_number c.args.who.caller p.parts.entries) (sym c.self.view_is ∙ ap (λ s. parts_in s) c.in-Moving.is) c.requires.next
+
+pub returns-clause-answered : goal.returns-clause-answered
+returns-clause-answered g c = elim c.match-self.branch [
+  | in-Still w ↦ rw (← c.self.view_is, w.in-Still.is, w.self-inside-is, w.check_still.ensures.same, w.result-is, w.into-is) w.read-done.ensures.answered
+  | in-Moving w ↦ rw (← c.self.view_is, w.in-Moving.is, w.self-inside-is, w.check_moving.ensures.same, w.result-is, w.into-is) w.read-done-in-Moving.ensures.answered
+]
+
+pub returns-clause-unread : goal.returns-clause-unread
+returns-clause-unread g c = elim c.match-self.branch [
+  | in-Still w ↦ rw (w.result-is, w.into-is) w.read-done.ensures.unread
+  | in-Moving w ↦ rw (w.result-is, w.into-is) w.read-done-in-Moving.ensures.unread
+]
+
+pub returns-clause-unchanged : goal.returns-clause-unchanged
+returns-clause-unchanged g c = elim c.match-self.branch [
+  | in-Still w ↦ rw (← c.self.view_is, w.in-Still.is, w.self-inside-is, w.check_still.ensures.same, w.result-is) w.read-done.ensures.unchanged
+  | in-Moving w ↦ rw (← c.self.view_is, w.in-Moving.is, w.self-inside-is, w.check_moving.ensures.same, w.result-is) w.read-done-in-Moving.ensures.unchanged
+]
+
+pub returns-clause-tape : goal.returns-clause-tape
+returns-clause-tape g c = elim c.match-self.branch [
+  | in-Still w ↦ rw (← c.self.view_is, w.in-Still.is, w.self-inside-is, w.check_still.ensures.same) (λ still. w.read-done.ensures.tape)
+  | in-Moving w ↦
+      let was = rw w.in-Moving.is at c.self.invariant in
+      rw (← c.self.view_is, w.in-Moving.is, w.self-inside-is, w.check_moving.ensures.same) (λ still. absurd (true≢false (sym was.active ∙ still)))
+]
+
+pub returns-clause-others : goal.returns-clause-others
+returns-clause-others g c = elim c.match-self.branch [
+  | in-Still w ↦ rw (← c.self.view_is, w.in-Still.is, w.self-inside-is, w.check_still.ensures.same) w.read-done.ensures.others
+  | in-Moving w ↦ rw (← c.self.view_is, w.in-Moving.is, w.self-inside-is, w.check_moving.ensures.same) w.read-done-in-Moving.ensures.others
+]
+
+pub returns-clause-failed : goal.returns-clause-failed
+returns-clause-failed g c = elim c.match-self.branch [
+  | in-Still w ↦ rw (← c.self.view_is, w.in-Still.is, w.self-inside-is, w.check_still.ensures.same) w.read-done.ensures.failed
+  | in-Moving w ↦ rw (← c.self.view_is, w.in-Moving.is, w.self-inside-is, w.check_moving.ensures.same) w.read-done-in-Moving.ensures.failed
+]
+
+pub returns-clause-course : goal.returns-clause-course
+returns-clause-course g c = elim c.match-self.branch [
+  | in-Still w ↦
+      let was = rw w.in-Still.is at c.self.invariant in
+      rw (← c.self.view_is, w.in-Still.is, w.self-inside-is, w.check_still.ensures.same) (w.check_still.ensures.rest.course ∙ sym was.now.course)
+  | in-Moving w ↦ rw (← c.self.view_is, w.in-Moving.is, w.self-inside-is, w.check_moving.ensures.same) w.read-done-in-Moving.ensures.course
 ]

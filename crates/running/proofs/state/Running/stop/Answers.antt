@@ -1,4 +1,5 @@
 use Rattle.std.proofs.Common.{length, refl, sym, ◌∙◌}
+use Rattle.std.proofs.lemmas.Bool.{true≢false}
 use Rattle.superblocks.specs.Reading.{list_length}
 use Rattle.flat_history.specs.declared.events.Event.TheVariants.{Stopped}
 use Rattle.growing.proofs.still_laws_PlansKept.{add-behind}
@@ -40,7 +41,7 @@ pub returns-in-Ok-stop-clause-plainly : goal.returns-in-Ok-stop-clause-plainly
 returns-in-Ok-stop-clause-plainly g c =
     let was = rw c.in-Moving.is at c.self.invariant in
     let active = was.active in
-    rw (← c.self.view_is, c.in-Moving.is) (λ still. absurd (cc (active, still)))
+    rw (← c.self.view_is, c.in-Moving.is) (λ still. absurd (true≢false (sym active ∙ still)))
 
 pub returns-in-Err-clause-left_active : goal.returns-in-Err-clause-left_active
 returns-in-Err-clause-left_active g c =
@@ -70,3 +71,45 @@ invariant_of-running-in-Err-stop g c =
     let did = c.in-Err-stop.ensures in
     rw c.check_moving.ensures.same
     (reshape-called g.B.Bank.given g.B.Bank.tape (length c.self.inside.window.items) old new did.left_given (add-unsettled c.args.who c.in-Err-stop.fault did.refused) did.called c.check_moving.ensures.active c.check_moving.ensures.within was)
+
+pub returns-in-Ok-clause-stopped : goal.returns-in-Ok-clause-stopped
+returns-in-Ok-clause-stopped g c = rw (← c.self.view_is, c.in-Still.is) c.in-Ok.ensures.stopped
+
+pub returns-in-Ok-stop-clause-stopped : goal.returns-in-Ok-stop-clause-stopped
+returns-in-Ok-stop-clause-stopped g c = rw (← c.self.view_is, c.in-Moving.is) c.in-Ok-stop.ensures.stopped
+
+pub returns-in-Ok-clause-grows : goal.returns-in-Ok-clause-grows
+returns-in-Ok-clause-grows g c = rw (← c.self.view_is, c.in-Still.is) c.in-Ok.ensures.grows
+
+pub returns-in-Ok-stop-clause-grows : goal.returns-in-Ok-stop-clause-grows
+returns-in-Ok-stop-clause-grows g c = rw (← c.self.view_is, c.in-Moving.is) c.in-Ok-stop.ensures.grows
+
+pub returns-in-Ok-clause-losses : goal.returns-in-Ok-clause-losses
+returns-in-Ok-clause-losses g c = rw (← c.self.view_is, c.in-Still.is) c.in-Ok.ensures.losses
+
+pub returns-in-Ok-stop-clause-losses : goal.returns-in-Ok-stop-clause-losses
+returns-in-Ok-stop-clause-losses g c = rw (← c.self.view_is, c.in-Moving.is) c.in-Ok-stop.ensures.losses
+
+pub returns-in-Ok-clause-never_falls : goal.returns-in-Ok-clause-never_falls
+returns-in-Ok-clause-never_falls g c = rw (← c.self.view_is, c.in-Still.is) c.in-Ok.ensures.never_falls
+
+pub returns-in-Ok-stop-clause-never_falls : goal.returns-in-Ok-stop-clause-never_falls
+returns-in-Ok-stop-clause-never_falls g c = rw (← c.self.view_is, c.in-Moving.is) c.in-Ok-stop.ensures.never_falls
+
+pub returns-in-Err-clause-refused : goal.returns-in-Err-clause-refused
+returns-in-Err-clause-refused g c = rw (← c.self.view_is, c.in-Still.is, c.check_still.ensures.same) c.in-Err.ensures.refused
+
+pub returns-in-Err-stop-clause-refused : goal.returns-in-Err-stop-clause-refused
+returns-in-Err-stop-clause-refused g c = rw (← c.self.view_is, c.in-Moving.is, c.check_moving.ensures.same) c.in-Err-stop.ensures.refused
+
+pub returns-in-Err-clause-caused : goal.returns-in-Err-clause-caused
+returns-in-Err-clause-caused g c = rw (← c.self.view_is, c.in-Still.is, c.check_still.ensures.same) c.in-Err.ensures.caused
+
+pub returns-in-Err-stop-clause-caused : goal.returns-in-Err-stop-clause-caused
+returns-in-Err-stop-clause-caused g c = rw (← c.self.view_is, c.in-Moving.is, c.check_moving.ensures.same) c.in-Err-stop.ensures.caused
+
+pub returns-in-Err-clause-called : goal.returns-in-Err-clause-called
+returns-in-Err-clause-called g c = rw (← c.self.view_is, c.in-Still.is, c.check_still.ensures.same) c.in-Err.ensures.called
+
+pub returns-in-Err-stop-clause-called : goal.returns-in-Err-stop-clause-called
+returns-in-Err-stop-clause-called g c = rw (← c.self.view_is, c.in-Moving.is, c.check_moving.ensures.same) c.in-Err-stop.ensures.called

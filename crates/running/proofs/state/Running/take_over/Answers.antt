@@ -1,7 +1,9 @@
-use Rattle.std.proofs.Common.{List, length, sym, ◌∙◌, ap, subst}
+use Rattle.std.proofs.Common.{◌≡◌, ◌≤◌, List, length, sym, ◌∙◌, ap, subst}
 use Rattle.md_base.specs.declared.wishes.Phase.{Phase}
 use Rattle.grow_asked.specs.Left.{phases_of}
 use Rattle.takeover.specs.TakenOver.{IsTakeoverNext}
+use Rattle.growing.specs.kept_history_Recorded.{IsCallGoing}
+use Rattle.growing.specs.views_Status.{left_of}
 use Rattle.running.specs.State.{parts_in}
 use Rattle.running.proofs.Ended.{take-refused, closable-taken}
 use Rattle.running.proofs.Kept.{first-taken, first-of, rest-taken, rest-untaken}
@@ -62,3 +64,12 @@ returns-in-Err-clause-ends g c =
     let caused = rw c.phases_behind-still.ensures.same at c.in-Err.ensures.caused in
     let next = subst (λ p. (behind : List Phase) × IsTakeoverNext (phases_of p.ahead) c.args.to behind) (sym c.self.view_is ∙ ap (λ s. parts_in s) c.in-Still.is) c.requires.next in
     rw c.check_still-in-Err.ensures.same (take-refused c.args.to next.0 c.in-Still.still c.in-Err.still c.in-Err.refusal c.check_still-in-Err.ensures.rest.still back.ahead next.1 caused)
+
+pub take_over-requires-clause-open : goal.take_over-requires-clause-open
+take_over-requires-clause-open g c = rw c.phases_behind-still.ensures.same (subst (λ p. IsCallGoing p.parts.entries c.args.who) (sym c.self.view_is ∙ ap (λ s. parts_in s) c.in-Still.is) c.requires.open)
+
+pub take_over-requires-clause-done : goal.take_over-requires-clause-done
+take_over-requires-clause-done g c = rw c.phases_behind-still.ensures.same (subst (λ p. left_of p.parts.work p.parts.members ≡ 0) (sym c.self.view_is ∙ ap (λ s. parts_in s) c.in-Still.is) c.requires.done)
+
+pub take_over-requires-clause-room : goal.take_over-requires-clause-room
+take_over-requires-clause-room g c = rw c.phases_behind-still.ensures.same (subst (λ p. 1 ≤ p.parts.steps) (sym c.self.view_is ∙ ap (λ s. parts_in s) c.in-Still.is) c.requires.room)

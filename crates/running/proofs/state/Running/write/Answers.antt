@@ -1,8 +1,11 @@
-use Rattle.std.proofs.Common.{ℕ, ◌/◌, Option, length, refl, subst, sym, ◌∙◌}
+use Rattle.std.proofs.Common.{◌≡◌, ℕ, ◌/◌, Option, length, refl, sym, ◌∙◌, ap, subst}
 use Rattle.std.specs.Prelude.{IsSome}
 use Rattle.flat_history.specs.declared.events.Event.TheVariants.{Wrote}
 use Rattle.flat_history.specs.declared.events.Request.TheVariants.{Write as AsksWrite}
 use Rattle.growing.proofs.still_laws_PlansKept.{add-answered}
+use Rattle.flat_history.specs.Flat.{next_number}
+use Rattle.std.proofs.lemmas.Bool.{true≢false}
+use Rattle.running.specs.State.{parts_in}
 use Rattle.running.proofs.Entered.{add-written}
 use Rattle.running.proofs.Kept.{rest-called, reshape-called}
 use Rattle.md_base.specs.Sectors.{sectors_of}
@@ -23,7 +26,7 @@ pub returns-clause-entered : goal.returns-clause-entered
 returns-clause-entered g c = elim c.match-self.branch [
   | in-Still w ↦
       let rest = rw w.in-Still.is at c.self.invariant in
-      rw (← c.self.view_is, w.in-Still.is) (λ active. absurd (cc (active, rest.now.still)))
+      rw (← c.self.view_is, w.in-Still.is) (λ active. absurd (true≢false (sym active ∙ rest.now.still)))
   | in-Moving w ↦ rw (← c.self.view_is, w.in-Moving.is, w.self-inside-is, w.check_moving.ensures.same, w.result-is) (λ active. w.write-done-in-Moving.ensures.entered)
 ]
 
@@ -47,7 +50,7 @@ pub returns-clause-backed : goal.returns-clause-backed
 returns-clause-backed g c = elim c.match-self.branch [
   | in-Still w ↦
       let rest = rw w.in-Still.is at c.self.invariant in
-      rw (← c.self.view_is, w.in-Still.is) (λ active. absurd (cc (active, rest.now.still)))
+      rw (← c.self.view_is, w.in-Still.is) (λ active. absurd (true≢false (sym active ∙ rest.now.still)))
   | in-Moving w ↦ rw (← c.self.view_is, w.in-Moving.is) (λ active. subst (λ (o : Option ℕ). IsSome o) w.write-done-in-Moving.ensures.called.same.array.backup w.check_moving.ensures.backed)
 ]
 
@@ -82,7 +85,7 @@ returns-clause-untouched g c = elim c.match-self.branch [
   | in-Moving w ↦
       let active = rw w.in-Moving.is at c.self.invariant in
       let moving = active.active in
-      rw (← c.self.view_is, w.in-Moving.is, w.result-is) (on-err w.write-done-in-Moving.result (λ still. absurd (cc (moving, still))))
+      rw (← c.self.view_is, w.in-Moving.is, w.result-is) (on-err w.write-done-in-Moving.result (λ still. absurd (true≢false (sym moving ∙ still))))
 ]
 
 pub returns-clause-active : goal.returns-clause-active
@@ -111,4 +114,58 @@ invariant_of-self g c = elim c.match-self.branch [
       let did = w.write-done-in-Moving.ensures in
       let added = add-written c.args.who (list_length old.parts.members.newest) c.args.at (sectors_of c.args.from.now) w.write-done-in-Moving.result did.answered in
       rw (w.self-inside-is, w.check_moving.ensures.same) (reshape-called g.B.Bank.given g.B.Bank.tape (length c.self.inside.window.items) old new did.given added did.called w.check_moving.ensures.active w.check_moving.ensures.within was)
+]
+
+pub write-done-requires-clause-next : goal.write-done-requires-clause-next
+write-done-requires-clause-next g c = subst (λ p. c.args.who.number ≡ next_number c.args.who.caller p.parts.entries) (sym c.self.view_is ∙ ap (λ s. parts_in s) c.in-Still.is) c.requires.next
+
+pub write-done-requires-in-Moving-clause-next : goal.write-done-requires-in-Moving-clause-next
+write-done-requires-in-Moving-clause-next g c = subst (λ p. c.args.who.number ≡ next_number c.args.who.caller p.parts.entries) (sym c.self.view_is ∙ ap (λ s. parts_in s) c.in-Moving.is) c.requires.next
+
+pub returns-clause-unchanged : goal.returns-clause-unchanged
+returns-clause-unchanged g c = elim c.match-self.branch [
+  | in-Still w ↦ rw (← c.self.view_is, w.in-Still.is, w.self-inside-is, w.check_still.ensures.same, w.result-is) w.write-done.ensures.unchanged
+  | in-Moving w ↦ rw (← c.self.view_is, w.in-Moving.is, w.self-inside-is, w.check_moving.ensures.same, w.result-is) w.write-done-in-Moving.ensures.unchanged
+]
+
+pub returns-clause-dirty : goal.returns-clause-dirty
+returns-clause-dirty g c = elim c.match-self.branch [
+  | in-Still w ↦ rw (w.self-inside-is, w.check_still.ensures.same, w.result-is) w.write-done.ensures.dirty
+  | in-Moving w ↦ rw (w.self-inside-is, w.check_moving.ensures.same, w.result-is) w.write-done-in-Moving.ensures.dirty
+]
+
+pub returns-clause-first : goal.returns-clause-first
+returns-clause-first g c = elim c.match-self.branch [
+  | in-Still w ↦ rw (← c.self.view_is, w.in-Still.is, w.self-inside-is, w.check_still.ensures.same, w.result-is) (λ still. w.write-done.ensures.first)
+  | in-Moving w ↦
+      let was = rw w.in-Moving.is at c.self.invariant in
+      rw (← c.self.view_is, w.in-Moving.is, w.self-inside-is, w.check_moving.ensures.same, w.result-is) (λ still. absurd (true≢false (sym was.active ∙ still)))
+]
+
+pub returns-clause-failed : goal.returns-clause-failed
+returns-clause-failed g c = elim c.match-self.branch [
+  | in-Still w ↦ rw (← c.self.view_is, w.in-Still.is, w.self-inside-is, w.check_still.ensures.same) w.write-done.ensures.failed
+  | in-Moving w ↦ rw (← c.self.view_is, w.in-Moving.is, w.self-inside-is, w.check_moving.ensures.same) w.write-done-in-Moving.ensures.failed
+]
+
+pub returns-clause-course : goal.returns-clause-course
+returns-clause-course g c = elim c.match-self.branch [
+  | in-Still w ↦
+      let was = rw w.in-Still.is at c.self.invariant in
+      rw (← c.self.view_is, w.in-Still.is, w.self-inside-is, w.check_still.ensures.same) (λ apart. w.check_still.ensures.rest.course ∙ sym was.now.course)
+  | in-Moving w ↦ rw (← c.self.view_is, w.in-Moving.is, w.self-inside-is, w.check_moving.ensures.same) w.write-done-in-Moving.ensures.course
+]
+
+pub returns-clause-given : goal.returns-clause-given
+returns-clause-given g c = elim c.match-self.branch [
+  | in-Still w ↦ rw (← c.self.view_is, w.in-Still.is, w.self-inside-is, w.check_still.ensures.same) w.write-done.ensures.given
+  | in-Moving w ↦ rw (← c.self.view_is, w.in-Moving.is, w.self-inside-is, w.check_moving.ensures.same) w.write-done-in-Moving.ensures.given
+]
+
+pub returns-clause-answered_still : goal.returns-clause-answered_still
+returns-clause-answered_still g c = elim c.match-self.branch [
+  | in-Still w ↦ rw (← c.self.view_is, w.in-Still.is, w.self-inside-is, w.check_still.ensures.same, w.result-is) (λ still. w.write-done.ensures.answered)
+  | in-Moving w ↦
+      let was = rw w.in-Moving.is at c.self.invariant in
+      rw (← c.self.view_is, w.in-Moving.is, w.self-inside-is, w.check_moving.ensures.same, w.result-is) (λ still. absurd (true≢false (sym was.active ∙ still)))
 ]

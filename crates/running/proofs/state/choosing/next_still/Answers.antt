@@ -1,6 +1,7 @@
 use Rattle.std.proofs.Common.{◌≡◌, ◌<◌, [], ◌∷◌, sym, subst, arith}
 use Rattle.growing.specs.views_Status.{left_of}
 use Rattle.grow_asked.specs.Left.{phases_of}
+use Rattle.growing.proofs.views_Fit.{short}
 use Rattle.running.proofs.Answered.{next-own, next-none, next-begin, next-up, next-down, some-own, some-ahead}
 use Rattle.running.proofs.state.choosing.next_still.Goals as goal
 use Rattle.running.proofs.state.choosing.next_still.Goals.{then-steps_left-gt0, else-steps_left-gt0+in-None, else-steps_left-gt0+in-Some-Reshape-default, else-steps_left-gt0+in-Some-UpTo6-default, else-steps_left-gt0+in-Some-DownTo5-default}
@@ -62,3 +63,6 @@ returns-clause-some g c =
           let s = w.in-Some-DownTo5-default in
           λ not. some-ahead c.args.still still s.field-0-0 (phases_of s.field-0-1) (subst (λ x. phases_of x.ahead ≡ s.field-0-0 ∷ phases_of s.field-0-1) (sym same) s.ensures.some)
     ]
+
+pub steps_left-requires-clause-size : goal.steps_left-requires-clause-size
+steps_left-requires-clause-size g c = let p = c.take_apart-pieces.result in short (g.B.Bank.given p.bank) p.members c.take_apart-pieces.ensures.ready.kept.members_are.placed

@@ -1,27 +1,30 @@
-use Rattle.std.proofs.Common.{◌≡◌, ℕ, List, [], ◌∷◌, ◌++◌, Option, Err, inl, refl, sym, ◌∙◌, ap, subst, arith}
+use Rattle.std.proofs.Common.{◌≡◌, ℕ, List, [], ◌∷◌, ◌++◌, Option, Err, inl, refl, sym, ◌∙◌, ap, subst, arith, ◌⊎◌, true}
 use denote.Builtin.{unit}
 use Rattle.md_base.specs.declared.answers.Refusal.{Refusal}
 use Rattle.md_base.specs.declared.answers.Refusal.TheVariants.{SlotFault}
 use Rattle.md_base.specs.declared.answers.Fault.TheVariants.{Refused as IsRefusedWith}
 use Rattle.bank.specs.Given.{Given}
 use Rattle.superblocks.specs.declared.members.Members.{Members}
-use Rattle.superblocks.specs.Reading.{list_length}
+use Rattle.superblocks.specs.Reading.{list_length, is_clean}
 use Rattle.flat_history.specs.declared.events.Entry.{Entry}
 use Rattle.flat_history.specs.declared.events.Event.TheVariants.{Refused}
 use Rattle.flat_history.specs.Flat.{next_number}
 use Rattle.flat_history.specs.Plain.{entries_of}
 use Rattle.views.proofs.MovedLaws.{grows-none}
-use Rattle.still_laws.specs.array_kept_Calls.{IsUnaddable, IsAddedFor}
+use Rattle.still_laws.specs.array_kept_Calls.{IsUnaddable, IsAddedFor, IsWorkAdded}
 use Rattle.still_laws.proofs.array_kept_LossLaws.{ended-behind}
 use Rattle.still_laws.proofs.array_kept_ReadyLaws.{scope-same}
 use Rattle.still_laws.proofs.calls_kept_AddLaws.{slot-there, unadded_reply}
 use Rattle.still_laws.proofs.kept_history_Records.{begins-going}
 use Rattle.still_laws.proofs.running_words_Called.{alone-lossless}
 use Rattle.still_laws.proofs.running_words_Lengths.{alone-keeps}
-use Rattle.still_laws.proofs.Kept.{ready, rows-same}
+use Rattle.still_laws.proofs.Kept.{ready, rows-same, roomier}
 use Rattle.still_laws.proofs.StepLaws.{shapes-same, stepped, refused-going}
 use Rattle.still_laws.proofs.AddLaws.{unaddable-refused}
 use Rattle.still_laws.proofs.PlainAdds.{unaddable-plain}
+use Rattle.superblocks.specs.Reads.{has_spare}
+use Rattle.views.specs.Placed.{AreWhole, AreStillHeld}
+use Rattle.still.proofs.Asked.{entries-alike, work-kept, undone-stepped}
 use Rattle.still.proofs.state.Still.add.Goals as goal
 
 -- a refusal before the slot is touched
@@ -81,3 +84,83 @@ pub returns-clause-caused : goal.returns-clause-caused
 returns-clause-caused g c =
     unadded-for unit.Denot (g.B.Bank.given c.args.self.now.parts.bank) c.args.self.now.parts.backup c.args.slot c.args.self.now.parts.members c.self.inside.members (g.B.Bank.faults_of c.args.self.now.parts.bank) (g.B.Bank.faults_of c.self.inside.bank)
     c.in-Some.refusal (subst (λ v. IsUnaddable (g.B.Bank.given v.parts.bank) v.parts.backup c.args.slot v.parts.members c.in-Some.refusal) c.self.view_is c.in-Some.ensures) (ap (λ p. p.parts.members) c.self.view_is)
+
+-- ---- what else the calls ask
+
+pub check_number-requires : goal.check_number-requires
+check_number-requires g c = c.requires.next ∙ ap (λ p. next_number c.args.who.caller p.parts.entries) (sym c.self.view_is) ∙ ap (λ (l : List Entry). next_number c.args.who.caller l) (sym c.make_room.ensures.items)
+
+-- ---- no number is left, or the slot is held up
+
+pub returns-in_default-free_number-clause-stepped : goal.returns-in_default-free_number-clause-stepped
+returns-in_default-free_number-clause-stepped g c =
+    let kept = c.self.invariant.kept in
+    rw (← c.self.view_is) (undone-stepped (λ t. (kept.recorded t).ended) (λ t. (kept.recorded t).begun) refl)
+
+pub returns-in_default-free_number-clause-work : goal.returns-in_default-free_number-clause-work
+returns-in_default-free_number-clause-work g c = work-kept c.args.self.now.parts.members.newest c.args.self.now.parts.work
+
+pub returns-in_default-free_number-clause-spares : goal.returns-in_default-free_number-clause-spares
+returns-in_default-free_number-clause-spares g c = λ s is. inl is
+
+pub returns-then-is_held_up-clause-stepped : goal.returns-then-is_held_up-clause-stepped
+returns-then-is_held_up-clause-stepped g c =
+    let kept = c.self.invariant.kept in
+    rw (← c.self.view_is) (undone-stepped (λ t. (kept.recorded t).ended) (λ t. (kept.recorded t).begun) refl)
+
+pub returns-then-is_held_up-clause-work : goal.returns-then-is_held_up-clause-work
+returns-then-is_held_up-clause-work g c = work-kept c.args.self.now.parts.members.newest c.args.self.now.parts.work
+
+pub returns-then-is_held_up-clause-spares : goal.returns-then-is_held_up-clause-spares
+returns-then-is_held_up-clause-spares g c = λ s is. inl is
+
+-- ---- memory was short
+
+pub invariant_of-self : goal.invariant_of-self
+invariant_of-self g c = roomier c.self.invariant c.make_room.ensures.items c.make_room.ensures.keeps
+
+pub returns-in-Err-clause-answered : goal.returns-in-Err-clause-answered
+returns-in-Err-clause-answered g c = c.make_room.ensures.items ∙ ap (λ p. p.parts.entries) c.self.view_is
+
+pub returns-in-Err-clause-unchanged : goal.returns-in-Err-clause-unchanged
+returns-in-Err-clause-unchanged g c = entries-alike c.make_room.new.self.items c.self.view_is c.make_room.ensures.items
+
+pub returns-in-Err-clause-stepped : goal.returns-in-Err-clause-stepped
+returns-in-Err-clause-stepped g c =
+    let kept = c.self.invariant.kept in
+    rw (← c.self.view_is) (undone-stepped (λ t. (kept.recorded t).ended) (λ t. (kept.recorded t).begun) (entries-alike c.make_room.new.self.items refl c.make_room.ensures.items))
+
+pub returns-in-Err-clause-caused : goal.returns-in-Err-clause-caused
+returns-in-Err-clause-caused g c = ap (λ p. p.parts.members) c.self.view_is
+
+pub returns-in-Err-clause-whole : goal.returns-in-Err-clause-whole
+returns-in-Err-clause-whole g c = subst (λ p. AreWhole c.self.inside.members → AreWhole p.parts.members) c.self.view_is (λ whole. whole)
+
+pub returns-in-Err-clause-work : goal.returns-in-Err-clause-work
+returns-in-Err-clause-work g c = subst (λ p. IsWorkAdded p.parts.members.newest p.parts.work c.self.inside.work) c.self.view_is (work-kept c.self.inside.members.newest c.self.inside.work)
+
+pub returns-in-Err-clause-spares : goal.returns-in-Err-clause-spares
+returns-in-Err-clause-spares g c = subst (λ p. (s : ℕ) → has_spare c.self.inside.members.spares s ≡ true → (has_spare p.parts.members.spares s ≡ true) ⊎ (s ≡ c.args.slot)) c.self.view_is (λ s is. inl is)
+
+pub returns-in-Err-clause-held : goal.returns-in-Err-clause-held
+returns-in-Err-clause-held g c = subst (λ p. AreStillHeld p.parts.members c.self.inside.members) c.self.view_is (λ role slot held. held)
+
+-- ---- what is as it was
+
+pub returns-clause-whole : goal.returns-clause-whole
+returns-clause-whole g c = subst (λ p. AreWhole c.self.inside.members → AreWhole p.parts.members) c.self.view_is (λ whole. whole)
+
+pub returns-clause-work : goal.returns-clause-work
+returns-clause-work g c = subst (λ p. IsWorkAdded p.parts.members.newest p.parts.work c.self.inside.work) c.self.view_is (work-kept c.self.inside.members.newest c.self.inside.work)
+
+pub returns-clause-spares : goal.returns-clause-spares
+returns-clause-spares g c = subst (λ p. (s : ℕ) → has_spare c.self.inside.members.spares s ≡ true → (has_spare p.parts.members.spares s ≡ true) ⊎ (s ≡ c.args.slot)) c.self.view_is (λ s is. inl is)
+
+pub returns-clause-held : goal.returns-clause-held
+returns-clause-held g c = subst (λ p. AreStillHeld p.parts.members c.self.inside.members) c.self.view_is (λ role slot held. held)
+
+pub returns-clause-clean : goal.returns-clause-clean
+returns-clause-clean g c = ap (λ p. is_clean p.parts.members.newest) c.self.view_is
+
+pub returns-clause-given : goal.returns-clause-given
+returns-clause-given g c = ap (λ p. g.B.Bank.given p.parts.bank) c.self.view_is

@@ -1,7 +1,7 @@
-use Rattle.std.proofs.Common.{◌≡◌, ◌∙◌, ◌++◌, ℕ, ◌<◌, false, List, refl, sym, ap, subst, arith}
+use Rattle.std.proofs.Common.{◌≡◌, ◌∙◌, ◌++◌, ℕ, ◌<◌, false, List, refl, sym, ap, subst, arith, ◌≤◌}
 use Rattle.md_base.specs.declared.places.Shape.{Shape}
 use Rattle.md_base.specs.Shapes.{has_slot}
-use Rattle.superblocks.specs.Reading.{Scope}
+use Rattle.superblocks.specs.Reading.{Scope, shape_of}
 use Rattle.row_io.specs.Rows.{reading_of}
 use Rattle.flat_history.specs.declared.events.Entry.{Entry}
 use Rattle.flat_history.specs.Plain.{entries_of}
@@ -12,6 +12,8 @@ use Rattle.still_laws.proofs.calls_kept_AdoptingLaws.{ready_adopted}
 use Rattle.views.proofs.Fit.{valid, roles-still}
 use Rattle.still_laws.proofs.Adopting.{begins-ready, found-plainly}
 use Rattle.still_laws.specs.Plain.{AreToldPlainly}
+use Rattle.layout.proofs.Limits.{limited}
+use Rattle.still.proofs.Asked.{known-at}
 use Rattle.still.proofs.state.Still.adopt.Goals as goal
 
 pub invariant_of-result : goal.invariant_of-result
@@ -39,3 +41,13 @@ found_work-work-requires-clause-shape g c = valid (g.B.Bank.given c.args.bank) c
 
 pub found_work-work-requires-clause-roles : goal.found_work-work-requires-clause-roles
 found_work-work-requires-clause-roles g c = roles-still (g.B.Bank.given c.args.bank) c.args.opened.members c.requires.adoptable.placed c.requires.adoptable.still
+
+-- ---- the roles
+
+pub enter_all_absent-requires-clause-disks : goal.enter_all_absent-requires-clause-disks
+enter_all_absent-requires-clause-disks g c =
+    let m = c.args.opened.members in
+    subst (λ (s : Shape). s.disks ≤ 16) (sym c.shape_in-disks.ensures) (limited (shape_of m.newest) (valid (g.B.Bank.given c.args.bank) m c.requires.adoptable.placed)).most
+
+pub enter_all_absent-requires-clause-roles : goal.enter_all_absent-requires-clause-roles
+enter_all_absent-requires-clause-roles g c = known-at c.requires.adoptable.placed c.shape_in-disks.ensures

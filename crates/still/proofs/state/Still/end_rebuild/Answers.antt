@@ -1,9 +1,9 @@
-use Rattle.std.proofs.Common.{◌≡◌, ℕ, ◌≤◌, ◌<◌, [], ◌∷◌, ◌++◌, List, None, length, inl, inr, refl, sym, ◌∙◌, ap, subst, arith}
+use Rattle.std.proofs.Common.{◌≡◌, ℕ, ◌≤◌, ◌<◌, [], ◌∷◌, ◌++◌, List, None, length, inl, inr, refl, sym, ◌∙◌, ap, subst, arith, Option}
 use Rattle.std.proofs.lemmas.List.Elements.{All-nil, All-cons}
 use Rattle.md_base.specs.declared.places.Shape.{Shape}
 use Rattle.md_base.specs.declared.status.Role.TheVariants.{Whole, Recovering}
 use Rattle.layout.proofs.Limits.{limited}
-use Rattle.superblocks.specs.Reading.{shape_of, list_length, role_state}
+use Rattle.superblocks.specs.Reading.{shape_of, list_length, role_state, is_clean}
 use Rattle.row_io.specs.Rows.{reading_of}
 use Rattle.flat_history.specs.declared.events.Entry.{Entry}
 use Rattle.flat_history.specs.declared.events.Event.TheVariants.{Lost, Step, Rebuilt}
@@ -13,8 +13,8 @@ use Rattle.flat_history.specs.Plain.{entries_of}
 use Rattle.flat_history.specs.Transfers.{last_end_from}
 use Rattle.views.specs.Lacking.{AreLostSince, AreTooMany, mended_rows}
 use Rattle.views.specs.Rebuilding.{Held, with_whole}
-use Rattle.views.specs.Status.{left_of}
-use Rattle.views.proofs.Fit.{valid}
+use Rattle.views.specs.Status.{left_of, stripes_of}
+use Rattle.views.proofs.Fit.{valid, short}
 use Rattle.views.proofs.GivenMembers.{placed-given, spare-before}
 use Rattle.views.proofs.LackingLaws.{lost-since, never-both}
 use Rattle.views.proofs.Still.{count-still}
@@ -42,6 +42,9 @@ use Rattle.still_laws.proofs.Going.{still-going}
 use Rattle.still_laws.proofs.StepLaws.{shapes-moved, planned-same, stepped, fewer-more, losses-keep}
 use Rattle.still_laws.proofs.RebuildLaws.{alone, both, among-vacant, whole-held, whole-less, whole-done, end-lost}
 use Rattle.still_laws.proofs.PlainSteps.{gone-plain, whole-plain}
+use Rattle.std.specs.Prelude.{IfSome}
+use Rattle.std.proofs.Math.Nat.{le_trans}
+use Rattle.still.proofs.Asked.{known-at, known-behind, role-at, role-of-shape, sound-behind, step-taken, room-for-step, room-for-losses, done-at-all, refused-at-all, number-behind, room-behind-step, room-after-losses}
 use Rattle.still.proofs.state.Still.end_rebuild.Goals as goal
 
 -- ---- refused before anything is done
@@ -137,7 +140,7 @@ invariant_of-self g c =
     (gone-plain was c.args.who end c.in_default.ensures unbroken.goes c.requires.caller c.ops-end.ensures.count pending.1 synced leaves vacant)
     did.counts (losses-keep c.args.who end roles spares)
     did.given (scope-same given a.backup did.given c.enter_lost.ensures.uuid c.enter_lost.ensures.given) c.enter_lost.ensures.first refl c.enter_lost.ensures.items
-    (omega (arith, c.enter_lost.ensures.room, was.room_left, some))
+    (room-after-losses was.room_left some c.enter_lost.ensures.room)
 
 pub returns-then-is_vacant-clause-entered : goal.returns-then-is_vacant-clause-entered
 returns-then-is_vacant-clause-entered g c =
@@ -531,3 +534,120 @@ returns-then-is_vacant-clause-closable g c = λ none. inr (inl c.record_and_name
 
 pub returns-clause-closable : goal.returns-clause-closable
 returns-clause-closable g c = λ none. inr (inl c.record_and_name-spares.ensures.missing)
+
+-- ---- what the calls ask
+
+pub vacant_roles-before-requires-clause-known : goal.vacant_roles-before-requires-clause-known
+vacant_roles-before-requires-clause-known g c = known-at c.self.invariant.kept.members_are.placed c.shape_in-disks.ensures
+
+pub recovering_slot-requires : goal.recovering_slot-requires
+recovering_slot-requires g c =
+    let pending : AreStripesRebuilt c.self.inside.work c.self.inside.members c.args.role = subst (λ p. AreStripesRebuilt p.parts.work p.parts.members c.args.role) (sym c.self.view_is) c.requires.pending in
+    role-at c.self.invariant.kept.members_are.placed pending.0.0
+
+pub unreachable-requires : goal.unreachable-requires
+unreachable-requires g c =
+    let pending : AreStripesRebuilt c.self.inside.work c.self.inside.members c.args.role = subst (λ p. AreStripesRebuilt p.parts.work p.parts.members c.args.role) (sym c.self.view_is) c.requires.pending in
+    c.in_default-recovering_slot.ensures.none pending.0.1 pending.0.2
+
+pub record_and_name-spares-requires-clause-placed : goal.record_and_name-spares-requires-clause-placed
+record_and_name-spares-requires-clause-placed g c = c.self.invariant.kept.members_are.placed
+
+pub record_and_name-spares-requires-clause-unlost : goal.record_and_name-spares-requires-clause-unlost
+record_and_name-spares-requires-clause-unlost g c = c.self.invariant.kept.members_are.unlost
+
+pub record_and_name-spares-requires-clause-free : goal.record_and_name-spares-requires-clause-free
+record_and_name-spares-requires-clause-free g c = c.self.invariant.kept.members_are.free
+
+pub record_and_name-spares-requires-clause-few : goal.record_and_name-spares-requires-clause-few
+record_and_name-spares-requires-clause-few g c = c.self.invariant.kept.members_are.spares
+
+pub record_and_name-spares-requires-clause-still : goal.record_and_name-spares-requires-clause-still
+record_and_name-spares-requires-clause-still g c = c.self.invariant.kept.members_are.still
+
+pub record_and_name-spares-requires-clause-role : goal.record_and_name-spares-requires-clause-role
+record_and_name-spares-requires-clause-role g c =
+    let pending : AreStripesRebuilt c.self.inside.work c.self.inside.members c.args.role = subst (λ p. AreStripesRebuilt p.parts.work p.parts.members c.args.role) (sym c.self.view_is) c.requires.pending in
+    role-of-shape c.self.invariant.kept.members_are refl pending.0.0
+
+pub record_and_name-spares-requires-clause-recovering : goal.record_and_name-spares-requires-clause-recovering
+record_and_name-spares-requires-clause-recovering g c = c.in-Some-recovering_slot.ensures.some
+
+pub newly_vacant-roles-requires-clause-known : goal.newly_vacant-roles-requires-clause-known
+newly_vacant-roles-requires-clause-known g c = known-behind c.record_and_name-spares.ensures.moved c.shape_in-disks.ensures
+
+pub is_vacant-requires : goal.is_vacant-requires
+is_vacant-requires g c =
+    let pending : AreStripesRebuilt c.self.inside.work c.self.inside.members c.args.role = subst (λ p. AreStripesRebuilt p.parts.work p.parts.members c.args.role) (sym c.self.view_is) c.requires.pending in
+    le_trans (role-of-shape c.self.invariant.kept.members_are refl pending.0.0) (known-behind c.record_and_name-spares.ensures.moved refl)
+
+pub all_left-left-requires-clause-shape : goal.all_left-left-requires-clause-shape
+all_left-left-requires-clause-shape g c = c.record_and_name-spares.ensures.moved.placed.fit.valid.old
+
+pub all_left-left-requires-clause-size : goal.all_left-left-requires-clause-size
+all_left-left-requires-clause-size g c = short (g.B.Bank.given c.self.inside.bank) c.record_and_name-spares.new.members c.record_and_name-spares.ensures.moved.placed
+
+pub all_left-left-requires-clause-roles : goal.all_left-left-requires-clause-roles
+all_left-left-requires-clause-roles g c = known-at c.record_and_name-spares.ensures.moved.placed refl
+
+pub all_left-left-requires-clause-progress : goal.all_left-left-requires-clause-progress
+all_left-left-requires-clause-progress g c = subst (λ (o : Option ℕ). IfSome o (λ mended. mended ≤ stripes_of c.record_and_name-spares.new.members)) (sym (ap (λ p. p.parts.work.resync) c.self.view_is ∙ c.requires.synced)) tt
+
+pub all_left-left-requires-clause-sound : goal.all_left-left-requires-clause-sound
+all_left-left-requires-clause-sound g c = sound-behind c.self.inside.ahead c.record_and_name-spares.ensures.moved c.self.invariant.planned
+
+pub enter_lost-requires-clause-room : goal.enter_lost-requires-clause-room
+enter_lost-requires-clause-room g c = room-for-losses (ap (λ p. p.parts.steps) c.self.view_is) c.self.invariant.room_left c.requires.room
+
+pub enter_lost-requires-clause-number : goal.enter_lost-requires-clause-number
+enter_lost-requires-clause-number g c = c.check_going.ensures
+
+pub enter_behind-requires-clause-room : goal.enter_behind-requires-clause-room
+enter_behind-requires-clause-room g c = room-for-step (ap (λ p. p.parts.steps) c.self.view_is) c.self.invariant.room_left c.requires.room
+
+pub enter_behind-requires-clause-number : goal.enter_behind-requires-clause-number
+enter_behind-requires-clause-number g c = c.check_going.ensures
+
+pub enter-requires-clause-room : goal.enter-requires-clause-room
+enter-requires-clause-room g c = room-behind-step (ap (λ p. p.parts.steps) c.self.view_is) c.self.invariant.room_left c.requires.room c.enter_behind.ensures.room
+
+pub enter-requires-clause-number : goal.enter-requires-clause-number
+enter-requires-clause-number g c = number-behind _ _ c.enter_behind.ensures.items c.check_going.ensures
+
+-- ---- what it leaves as it was
+
+pub returns-in-Some-clause-stays : goal.returns-in-Some-clause-stays
+returns-in-Some-clause-stays g c = c.refuse_step.ensures.stays
+
+pub returns-in-Some-clause-memory : goal.returns-in-Some-clause-memory
+returns-in-Some-clause-memory g c = refused-at-all c.in-Some.refusal
+
+pub returns-then-is_vacant-clause-memory : goal.returns-then-is_vacant-clause-memory
+returns-then-is_vacant-clause-memory g c = done-at-all tt
+
+pub returns-then-is_vacant-clause-work : goal.returns-then-is_vacant-clause-work
+returns-then-is_vacant-clause-work g c = ap (λ p. p.parts.work) c.self.view_is
+
+pub returns-then-is_vacant-clause-clean : goal.returns-then-is_vacant-clause-clean
+returns-then-is_vacant-clause-clean g c = c.record_and_name-spares.ensures.clean ∙ ap (λ p. is_clean p.parts.members.newest) c.self.view_is
+
+pub returns-then-is_vacant-clause-room : goal.returns-then-is_vacant-clause-room
+returns-then-is_vacant-clause-room g c = step-taken (ap (λ p. p.parts.steps) c.self.view_is) c.requires.room
+
+pub returns-then-is_vacant-clause-given : goal.returns-then-is_vacant-clause-given
+returns-then-is_vacant-clause-given g c = c.record_and_name-spares.ensures.given ∙ ap (λ p. g.B.Bank.given p.parts.bank) c.self.view_is
+
+pub returns-clause-memory : goal.returns-clause-memory
+returns-clause-memory g c = done-at-all tt
+
+pub returns-clause-work : goal.returns-clause-work
+returns-clause-work g c = ap (λ p. p.parts.work) c.self.view_is
+
+pub returns-clause-clean : goal.returns-clause-clean
+returns-clause-clean g c = c.record_and_name-spares.ensures.clean ∙ ap (λ p. is_clean p.parts.members.newest) c.self.view_is
+
+pub returns-clause-room : goal.returns-clause-room
+returns-clause-room g c = step-taken (ap (λ p. p.parts.steps) c.self.view_is) c.requires.room
+
+pub returns-clause-given : goal.returns-clause-given
+returns-clause-given g c = c.record_and_name-spares.ensures.given ∙ ap (λ p. g.B.Bank.given p.parts.bank) c.self.view_is

@@ -4,12 +4,12 @@ use Rattle.superblocks.specs.Reading.{list_length}
 use Rattle.flat_history.specs.declared.events.Event.TheVariants.{Refused, Step}
 use Rattle.flat_history.specs.declared.events.StepKind.TheVariants.{ResyncEnded}
 use Rattle.flat_history.specs.Plain.{entries_of}
-use Rattle.views.specs.Lacking.{AreLostSince, AreTooMany}
+use Rattle.views.specs.Lacking.{AreLostSince, AreTooMany, AreHoldersFlushed}
 use Rattle.views.specs.Status.{left_of}
 use Rattle.views.proofs.LackingLaws.{lost-since, never-both}
 use Rattle.views.proofs.Still.{count-still}
 use Rattle.call_entries.specs.Losing.{losses_of}
-use Rattle.still_laws.specs.array_kept_Calls.{IsAllMended}
+use Rattle.still_laws.specs.array_kept_Calls.{IsAllMended, AreSparesFewer}
 use Rattle.still_laws.proofs.array_kept_LossLaws.{losses-behind, ended-behind}
 use Rattle.still_laws.proofs.array_kept_ReadyLaws.{scope-same}
 use Rattle.still_laws.proofs.array_kept_ReplyLaws.{too-many-of, refused-for}
@@ -28,6 +28,11 @@ use Rattle.still_laws.proofs.MendLaws.{resync-done, resync-refused}
 use Rattle.still_laws.proofs.array_kept_DegradedLaws.{too-many-here}
 use Rattle.still_laws.proofs.PlainBehind.{plain-refused}
 use Rattle.still_laws.proofs.PlainSteps.{resynced-plain}
+use Rattle.views.specs.declared.work.Work.{Work}
+use Rattle.views.proofs.Fit.{short}
+use Rattle.still.proofs.Asked.{known-at, few-at, known-behind, sound-behind, step-taken, room-for-step, one-entered, step-behind, room-after}
+use Rattle.views.specs.Placed.{AreStillHeld}
+use Rattle.row_io.specs.Rows.{reading_of}
 use Rattle.still.proofs.state.Still.end_resync.Goals as goal
 
 -- ---- refused before anything is done
@@ -82,7 +87,7 @@ invariant_of-self g c =
     (too-many-here (visible_size a.members a.limit) a.work.resync m refusal (refused-of (AreTooMany m) c.settle-settled.result.refusal refusal c.in-Some-refusal.is did.refused)))
     did.counts (behind-keeps c.args.who end roles spares (Refused refusal ∷ []) (alone-keeps c.args.who end (Refused refusal) (λ n. refl) (λ limit. refl)))
     did.given (scope-same given a.backup did.given c.enter_behind.ensures.uuid c.enter_behind.ensures.given) c.enter_behind.ensures.first refl c.enter_behind.ensures.items
-    (omega (arith, c.enter_behind.ensures.room, was.room_left, some))
+    (room-after was.room_left some c.enter_behind.ensures.room)
 
 pub returns-in-Some-refusal-clause-stepped : goal.returns-in-Some-refusal-clause-stepped
 returns-in-Some-refusal-clause-stepped g c =
@@ -133,10 +138,10 @@ returns-in-Some-refusal-clause-caused g c =
     rw (← c.self.view_is) (refused-for (list_length a.members.newest) 0 AreTooMany a.members m refusal (too-many-of m refusal many) (omega arith) many)
 
 pub returns-in-Some-refusal-clause-held : goal.returns-in-Some-refusal-clause-held
-returns-in-Some-refusal-clause-held g c = rw (← c.self.view_is) c.settle-settled.ensures.moved.held
+returns-in-Some-refusal-clause-held g c = subst (λ p. AreStillHeld p.parts.members c.settle-settled.new.members) c.self.view_is c.settle-settled.ensures.moved.held
 
 pub returns-in-Some-refusal-clause-spares : goal.returns-in-Some-refusal-clause-spares
-returns-in-Some-refusal-clause-spares g c = rw (← c.self.view_is) c.settle-settled.ensures.moved.fewer
+returns-in-Some-refusal-clause-spares g c = subst (λ p. AreSparesFewer p.parts.members c.settle-settled.new.members) c.self.view_is c.settle-settled.ensures.moved.fewer
 
 -- ---- ended
 
@@ -178,7 +183,7 @@ invariant_of-self-2 g c =
     (resynced-plain was c.args.who end goes c.requires.caller c.ops-end.ensures.count did.grows did.moved since left all c.all_left-left.ensures)
     did.counts (behind-keeps c.args.who end roles spares (Step ResyncEnded left ∷ []) (alone-keeps c.args.who end (Step ResyncEnded left) (λ n. refl) (λ limit. refl)))
     did.given (scope-same given a.backup did.given c.enter_behind-2.ensures.uuid c.enter_behind-2.ensures.given) c.enter_behind-2.ensures.first refl c.enter_behind-2.ensures.items
-    (omega (arith, c.enter_behind-2.ensures.room, was.room_left, some))
+    (room-after was.room_left some c.enter_behind-2.ensures.room)
 
 pub returns-clause-stepped : goal.returns-clause-stepped
 returns-clause-stepped g c =
@@ -229,13 +234,13 @@ pub returns-clause-good : goal.returns-clause-good
 returns-clause-good g c = λ t does fit row low. ((invariant_of-self-2 g c).kept.listed t does (inr fit)).rows fit row low low
 
 pub returns-clause-flushed : goal.returns-clause-flushed
-returns-clause-flushed g c = rw (← c.self.view_is) c.settle-settled.ensures.flushed
+returns-clause-flushed g c = subst (λ p. g.B.Bank.tells → AreHoldersFlushed (reading_of c.settle-settled.new.members) (g.B.Bank.given p.parts.bank) (g.B.Bank.tape c.settle-settled.new.bank)) c.self.view_is c.settle-settled.ensures.flushed
 
 pub returns-clause-held : goal.returns-clause-held
-returns-clause-held g c = rw (← c.self.view_is) c.settle-settled.ensures.moved.held
+returns-clause-held g c = subst (λ p. AreStillHeld p.parts.members c.settle-settled.new.members) c.self.view_is c.settle-settled.ensures.moved.held
 
 pub returns-clause-spares : goal.returns-clause-spares
-returns-clause-spares g c = rw (← c.self.view_is) c.settle-settled.ensures.moved.fewer
+returns-clause-spares g c = subst (λ p. AreSparesFewer p.parts.members c.settle-settled.new.members) c.self.view_is c.settle-settled.ensures.moved.fewer
 
 -- ---- the call goes on
 
@@ -244,3 +249,79 @@ returns-in-Some-refusal-clause-open g c = step-going c.args.who c.ops-end.result
 
 pub returns-clause-open : goal.returns-clause-open
 returns-clause-open g c = step-going c.args.who c.ops-end.result c.newly_vacant-roles.result c.settle-settled.result.spares (Step ResyncEnded c.all_left-left.result) c.requires.open tt (ap (λ p. p.parts.entries) c.self.view_is) c.enter_behind-2.ensures.items
+
+-- ---- what the calls ask
+
+pub check_going-requires : goal.check_going-requires
+check_going-requires g c = subst (λ p. IsCallGoing p.parts.entries c.args.who) (sym c.self.view_is) c.requires.open
+
+pub vacant_roles-before-requires-clause-known : goal.vacant_roles-before-requires-clause-known
+vacant_roles-before-requires-clause-known g c = known-at c.self.invariant.kept.members_are.placed c.shape_in-disks.ensures
+
+pub vacant_roles-before-requires-clause-few : goal.vacant_roles-before-requires-clause-few
+vacant_roles-before-requires-clause-few g c = few-at c.self.invariant.kept.members_are.placed c.shape_in-disks.ensures
+
+pub newly_vacant-roles-requires-clause-known : goal.newly_vacant-roles-requires-clause-known
+newly_vacant-roles-requires-clause-known g c = known-behind c.settle-settled.ensures.moved c.shape_in-disks.ensures
+
+pub newly_vacant-roles-requires-clause-few : goal.newly_vacant-roles-requires-clause-few
+newly_vacant-roles-requires-clause-few g c = few-at c.self.invariant.kept.members_are.placed c.shape_in-disks.ensures
+
+pub all_left-left-requires-clause-shape : goal.all_left-left-requires-clause-shape
+all_left-left-requires-clause-shape g c = c.settle-settled.ensures.moved.placed.fit.valid.old
+
+pub all_left-left-requires-clause-size : goal.all_left-left-requires-clause-size
+all_left-left-requires-clause-size g c = short (g.B.Bank.given c.self.inside.bank) c.settle-settled.new.members c.settle-settled.ensures.moved.placed
+
+pub all_left-left-requires-clause-roles : goal.all_left-left-requires-clause-roles
+all_left-left-requires-clause-roles g c = known-at c.settle-settled.ensures.moved.placed refl
+
+pub all_left-left-requires-clause-sound : goal.all_left-left-requires-clause-sound
+all_left-left-requires-clause-sound g c = sound-behind c.self.inside.ahead c.settle-settled.ensures.moved c.self.invariant.planned
+
+pub enter_behind-requires-clause-room : goal.enter_behind-requires-clause-room
+enter_behind-requires-clause-room g c = room-for-step (ap (λ p. p.parts.steps) c.self.view_is) c.self.invariant.room_left c.requires.room
+
+pub enter_behind-requires-clause-number : goal.enter_behind-requires-clause-number
+enter_behind-requires-clause-number g c = c.check_going.ensures
+
+pub enter_behind-requires-2-clause-room : goal.enter_behind-requires-2-clause-room
+enter_behind-requires-2-clause-room g c = room-for-step (ap (λ p. p.parts.steps) c.self.view_is) c.self.invariant.room_left c.requires.room
+
+pub enter_behind-requires-2-clause-number : goal.enter_behind-requires-2-clause-number
+enter_behind-requires-2-clause-number g c = c.check_going.ensures
+
+-- ---- what it enters, and what it leaves as it was
+
+pub returns-in-Some-clause-stays : goal.returns-in-Some-clause-stays
+returns-in-Some-clause-stays g c = c.refuse_step.ensures.stays
+
+pub returns-in-Some-refusal-clause-entered : goal.returns-in-Some-refusal-clause-entered
+returns-in-Some-refusal-clause-entered g c = one-entered c.args.who c.ops-end.result c.newly_vacant-roles.result c.settle-settled.result.spares (Refused c.in-Some-refusal.refusal) (ap (λ p. p.parts.entries) c.self.view_is) c.enter_behind.ensures.items
+
+pub returns-in-Some-refusal-clause-work : goal.returns-in-Some-refusal-clause-work
+returns-in-Some-refusal-clause-work g c = ap (λ p. p.parts.work) c.self.view_is
+
+pub returns-in-Some-refusal-clause-room : goal.returns-in-Some-refusal-clause-room
+returns-in-Some-refusal-clause-room g c = step-taken (ap (λ p. p.parts.steps) c.self.view_is) c.requires.room
+
+pub returns-in-Some-refusal-clause-given : goal.returns-in-Some-refusal-clause-given
+returns-in-Some-refusal-clause-given g c = c.settle-settled.ensures.given ∙ ap (λ p. g.B.Bank.given p.parts.bank) c.self.view_is
+
+pub returns-clause-entered : goal.returns-clause-entered
+returns-clause-entered g c = step-behind c.args.who c.ops-end.result c.newly_vacant-roles.result c.settle-settled.result.spares ResyncEnded (ap (λ p. p.parts.entries) c.self.view_is) c.all_left-left.ensures c.enter_behind-2.ensures.items
+
+pub returns-clause-work : goal.returns-clause-work
+returns-clause-work g c = ap (λ (w : Work). record w { resync = None }) (ap (λ p. p.parts.work) c.self.view_is)
+
+pub returns-clause-closable : goal.returns-clause-closable
+returns-clause-closable g c = λ none. inr (inr (c.settle-settled.ensures.clean c.in_default-refusal.is refl))
+
+pub returns-clause-clean : goal.returns-clause-clean
+returns-clause-clean g c = c.settle-settled.ensures.clean c.in_default-refusal.is refl
+
+pub returns-clause-room : goal.returns-clause-room
+returns-clause-room g c = step-taken (ap (λ p. p.parts.steps) c.self.view_is) c.requires.room
+
+pub returns-clause-given : goal.returns-clause-given
+returns-clause-given g c = c.settle-settled.ensures.given ∙ ap (λ p. g.B.Bank.given p.parts.bank) c.self.view_is

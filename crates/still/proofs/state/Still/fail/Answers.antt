@@ -1,13 +1,13 @@
-use Rattle.std.proofs.Common.{◌≡◌, ◌++◌, ◌∷◌, [], List, refl, sym, ◌∙◌, ap, arith}
+use Rattle.std.proofs.Common.{◌≡◌, ◌++◌, ◌∷◌, [], List, refl, sym, ◌∙◌, ap, subst, arith}
 use Rattle.md_base.specs.declared.answers.Refusal.TheVariants.{NoSuchRole}
-use Rattle.superblocks.specs.Reading.{list_length}
+use Rattle.superblocks.specs.Reading.{list_length, is_clean, role_count}
 use Rattle.superblocks.proofs.ValidFields.{few-roles}
 use Rattle.flat_history.specs.declared.events.Entry.{Entry}
 use Rattle.flat_history.specs.declared.events.Event.TheVariants.{Refused, Lost, Failed}
 use Rattle.flat_history.specs.declared.events.LostCause.TheVariants.{Command}
 use Rattle.flat_history.specs.Flat.{next_number}
 use Rattle.flat_history.specs.Plain.{entries_of}
-use Rattle.views.proofs.Fit.{roles-still}
+use Rattle.views.proofs.Fit.{roles-still, count-alike}
 use Rattle.views.proofs.HeldRows.{vacant-moved}
 use Rattle.views.proofs.LiveLeft.{holder-left}
 use Rattle.views.proofs.MovedLaws.{grows-none, moved-same}
@@ -24,9 +24,12 @@ use Rattle.still_laws.proofs.running_words_Called.{not_254, called, alone-lossle
 use Rattle.still_laws.proofs.running_words_Lengths.{alone-keeps, behind-keeps}
 use Rattle.still_laws.proofs.running_words_TakenOut.{behind-loss, moved-all, since-out, missing-out}
 use Rattle.still_laws.proofs.Asking.{refused-alone}
-use Rattle.still_laws.proofs.Kept.{ready, rows-same, rows-moved}
+use Rattle.still_laws.proofs.Kept.{ready, rows-same, rows-moved, roomier}
 use Rattle.still_laws.proofs.PlainBehind.{here-plain}
 use Rattle.still_laws.proofs.PlainAdds.{failed-plain}
+use Rattle.superblocks.specs.declared.members.Members.{Members}
+use Rattle.still_laws.specs.array_kept_Calls.{HasRole}
+use Rattle.still.proofs.Asked.{number-behind, same-known, entries-alike, undone-called}
 use Rattle.still.proofs.state.Still.fail.Goals as goal
 
 -- ---- what it asks of the functions that it calls
@@ -221,3 +224,53 @@ returns-clause-caused g c =
     let a = c.self.inside in
     let gone = out-vacant (g.B.Bank.given a.bank) a.members c.lose_slot.new.members c.lose_slot.result c.in-Some.slot c.args.role here.placed here.unlost c.lose_slot.ensures.members c.lose_slot.ensures.alone c.in-Some.ensures.held in
     rw (← c.self.view_is) (c.in-Some.ensures.some, vacant-moved c.name_missing-spares.ensures.moved c.args.role gone)
+
+-- ---- what else the calls ask
+
+pub check_number-requires : goal.check_number-requires
+check_number-requires g c = c.requires.next ∙ ap (λ p. next_number c.args.who.caller p.parts.entries) (sym c.self.view_is) ∙ ap (λ (l : List Entry). next_number c.args.who.caller l) (sym c.make_room.ensures.items)
+
+pub vacant_roles-before-requires-clause-known : goal.vacant_roles-before-requires-clause-known
+vacant_roles-before-requires-clause-known g c =
+    let here = c.self.invariant.kept.members_are in
+    let out = placed-out (g.B.Bank.given c.self.inside.bank) c.self.inside.members c.lose_slot.new.members c.lose_slot.result c.in-Some.slot c.args.role here.placed here.unlost c.lose_slot.ensures.members c.lose_slot.ensures.alone c.in-Some.ensures.held in
+    same-known c.len-count.ensures here.placed.roles (out.roles ∙ ap (λ (m : Members). role_count m.newest) c.lose_slot.ensures.members)
+
+pub newly_vacant-roles-requires-clause-known : goal.newly_vacant-roles-requires-clause-known
+newly_vacant-roles-requires-clause-known g c =
+    let here = c.self.invariant.kept.members_are in
+    let moved = moved-all (g.B.Bank.given c.self.inside.bank) c.self.inside.members c.lose_slot.new.members c.name_missing-spares.new.members c.lose_slot.result c.in-Some.slot c.args.role here.placed here.unlost c.lose_slot.ensures.members c.lose_slot.ensures.alone c.in-Some.ensures.held c.name_missing-spares.ensures.moved in
+    same-known c.len-count.ensures here.placed.roles (moved.placed.roles ∙ count-alike c.self.inside.members.newest c.name_missing-spares.new.members.newest moved.reshape moved.shape moved.size)
+
+pub enter_behind-requires-clause-number : goal.enter_behind-requires-clause-number
+enter_behind-requires-clause-number g c = number-behind _ _ c.enter-2.ensures.items c.check_number.ensures
+
+-- ---- memory was short
+
+pub invariant_of-self : goal.invariant_of-self
+invariant_of-self g c = roomier c.self.invariant c.make_room.ensures.items c.make_room.ensures.keeps
+
+pub returns-in-Err-clause-answered : goal.returns-in-Err-clause-answered
+returns-in-Err-clause-answered g c = c.make_room.ensures.items ∙ ap (λ p. p.parts.entries) c.self.view_is
+
+pub returns-in-Err-clause-unchanged : goal.returns-in-Err-clause-unchanged
+returns-in-Err-clause-unchanged g c = entries-alike c.make_room.new.self.items c.self.view_is c.make_room.ensures.items
+
+pub returns-in-Err-clause-called : goal.returns-in-Err-clause-called
+returns-in-Err-clause-called g c =
+    let kept = c.self.invariant.kept in
+    rw (← c.self.view_is) (undone-called kept.members_are.placed kept.members_are.unlost (λ t. (kept.recorded t).ended) (λ t. (kept.recorded t).begun) (entries-alike c.make_room.new.self.items refl c.make_room.ensures.items))
+
+pub returns-in-Err-clause-caused : goal.returns-in-Err-clause-caused
+returns-in-Err-clause-caused g c = ap (λ p. p.parts.members) c.self.view_is
+
+-- ---- what is as it was
+
+pub returns-in_default-clause-caused : goal.returns-in_default-clause-caused
+returns-in_default-clause-caused g c = (refl, ap (λ p. p.parts.members) c.self.view_is, subst (λ p. HasRole p.parts.members c.args.role → ⊥) c.self.view_is c.in_default.ensures.none)
+
+pub returns-clause-clean : goal.returns-clause-clean
+returns-clause-clean g c = c.name_missing-spares.ensures.clean ∙ clean-out c.self.inside.members c.lose_slot.new.members c.lose_slot.result c.lose_slot.ensures.members ∙ ap (λ p. is_clean p.parts.members.newest) c.self.view_is
+
+pub returns-clause-given : goal.returns-clause-given
+returns-clause-given g c = c.name_missing-spares.ensures.given ∙ ap (λ p. g.B.Bank.given p.parts.bank) c.self.view_is

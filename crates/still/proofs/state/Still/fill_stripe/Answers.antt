@@ -1,8 +1,9 @@
-use Rattle.std.proofs.Common.{◌≡◌, ℕ, ◌≤◌, ◌<◌, ◌+◌, [], ◌∷◌, ◌++◌, List, None, length, inl, inr, refl, sym, ◌∙◌, ap, subst, arith}
+use Rattle.std.proofs.Common.{◌≡◌, ℕ, ◌≤◌, ◌<◌, ◌+◌, [], ◌∷◌, ◌++◌, List, Option, None, length, inl, inr, refl, sym, ◌∙◌, ap, subst, arith}
+use Rattle.std.specs.Prelude.{IfSome}
 use Rattle.std.proofs.lemmas.List.Elements.{All-nil}
 use Rattle.md_base.specs.declared.places.Shape.{Shape}
 use Rattle.layout.proofs.Limits.{limited}
-use Rattle.superblocks.specs.Reading.{shape_of, list_length}
+use Rattle.superblocks.specs.Reading.{shape_of, is_clean, list_length}
 use Rattle.flat_history.specs.declared.events.Entry.{Entry}
 use Rattle.flat_history.specs.declared.events.Event.TheVariants.{Lost, Refused, Step}
 use Rattle.flat_history.specs.declared.events.LostCause.TheVariants.{Fault}
@@ -12,14 +13,14 @@ use Rattle.flat_history.specs.Transfers.{last_end_from}
 use Rattle.views.specs.declared.work.Work.{Work}
 use Rattle.views.specs.Lacking.{AreLostSince, AreTooMany, LacksTooMany}
 use Rattle.views.specs.Rebuilding.{Held}
-use Rattle.views.specs.Status.{rebuilt_of, left_of}
-use Rattle.views.proofs.Fit.{valid}
+use Rattle.views.specs.Status.{rebuilt_of, left_of, stripes_of}
+use Rattle.views.proofs.Fit.{valid, short}
 use Rattle.views.proofs.LackingLaws.{lost-since, never-both}
 use Rattle.views.proofs.Still.{count-still}
 use Rattle.call_entries.specs.Losing.{losses_of}
 use Rattle.call_entries.proofs.CallLaws.{losses-are}
 use Rattle.still_laws.specs.array_kept_Kept.{scope_in}
-use Rattle.still_laws.specs.array_kept_Calls.{IsLossBy, HasStripeUnbuilt, AreStepsFewer, with_rebuilt}
+use Rattle.still_laws.specs.array_kept_Calls.{IsLossBy, HasStripeUnbuilt, AreStepsFewer, with_rebuilt, AreSparesFewer, AreStepsKept}
 use Rattle.still_laws.proofs.array_kept_LossLaws.{losses-tail, losses-behind, ended-behind}
 use Rattle.still_laws.proofs.array_kept_ReadyLaws.{scope-same}
 use Rattle.still_laws.proofs.array_kept_ReplyLaws.{too-many-of, refused-for}
@@ -37,6 +38,9 @@ use Rattle.still_laws.proofs.StepLaws.{refused-of, shapes-moved, planned-same, s
 use Rattle.still_laws.proofs.RebuildLaws.{alone, held-some, recovering-held, among-vacant, fill-done, fill-gone, fill-refused}
 use Rattle.still_laws.proofs.PlainBehind.{lacks-here, plain-lost, plain-refused}
 use Rattle.still_laws.proofs.PlainSteps.{filled-plain}
+use Rattle.still.proofs.Asked.{known-at, known-behind, role-at, role-of-shape, role-behind, sound-behind, next-stripe, step-taken, room-for-step, room-for-losses, done-at-all, refused-at-all, step-entered, one-entered, room-after, room-after-losses}
+use Rattle.views.specs.Placed.{AreStillHeld}
+use Rattle.std.proofs.Math.Nat.{le_trans}
 use Rattle.still.proofs.state.Still.fill_stripe.Goals as goal
 
 -- ---- refused before anything is done
@@ -124,7 +128,7 @@ invariant_of-self g c =
       safe = did.safe;
     } in
     let refusal = c.in-Some-refusal.refusal in
-    with-buffers (omega (arith, was.rows_fit, did.rows)) (rw did.buffer was.buffer_fits) (ready (entries_of c.args.who end (losses_of roles spares ++ Refused refusal ∷ [])) was (rows-moved given a.members m did.moved)
+    with-buffers (le_trans was.rows_fit did.rows) (subst (λ (n : ℕ). 1048576 ≤ n) (sym did.buffer) was.buffer_fits) (ready (entries_of c.args.who end (losses_of roles spares ++ Refused refusal ∷ [])) was (rows-moved given a.members m did.moved)
     (fill-refused a.ahead c.args.who end role slot roles spares c.shape_in-shape.result was.kept c.in_default.ensures goes c.requires.caller c.ops-end.ensures.count c.shape_in-shape.ensures below leaves refusal
     (refused-of (LacksTooMany c.shape_in-shape.result m) c.fill_and_name-filled.result.refusal refusal c.in-Some-refusal.is did.refused))
     (plain-refused was c.args.who end goes c.requires.caller c.ops-end.ensures.count did.grows did.moved since refusal
@@ -132,7 +136,7 @@ invariant_of-self g c =
     (refused-of (LacksTooMany c.shape_in-shape.result m) c.fill_and_name-filled.result.refusal refusal c.in-Some-refusal.is did.refused)))
     did.counts (behind-keeps c.args.who end roles spares (Refused refusal ∷ []) (alone-keeps c.args.who end (Refused refusal) (λ n. refl) (λ limit. refl)))
     did.given (scope-same given a.backup did.given c.enter_behind.ensures.uuid c.enter_behind.ensures.given) c.enter_behind.ensures.first refl c.enter_behind.ensures.items
-    (omega (arith, c.enter_behind.ensures.room, was.room_left, some)))
+    (room-after was.room_left some c.enter_behind.ensures.room))
 
 pub returns-in-Some-refusal-clause-stepped : goal.returns-in-Some-refusal-clause-stepped
 returns-in-Some-refusal-clause-stepped g c =
@@ -173,7 +177,8 @@ returns-in-Some-refusal-clause-stays g c =
     let end = c.ops-end.result in
     let since : AreLostSince a.members m roles spares before after = lost-since given a.members m c.shape_in-shape.result.disks c.vacant_roles-before.result roles spares before after here.placed did.moved did.failed
     (ap (λ (s : Shape). s.disks) c.shape_in-shape.ensures ∙ sym (count-still a.members.newest here.still)) c.vacant_roles-before.ensures c.newly_vacant-roles.ensures in
-    rw (← c.self.view_is) (kept-more (planned-same a.ahead (shapes-moved did.moved)) (steps-kept a.work c.args.who end (Refused c.in-Some-refusal.refusal ∷ []) did.moved since c.enter_behind.ensures.items))
+    subst (λ p. AreStepsKept p.parts.entries c.enter_behind.new.epoch.entries.items (still_left p.parts.work p.parts.members p.ahead) (still_left a.work m a.ahead)) c.self.view_is
+    (kept-more (planned-same a.ahead (shapes-moved did.moved)) (steps-kept a.work c.args.who end (Refused c.in-Some-refusal.refusal ∷ []) did.moved since c.enter_behind.ensures.items))
 
 pub returns-in-Some-refusal-clause-caused : goal.returns-in-Some-refusal-clause-caused
 returns-in-Some-refusal-clause-caused g c =
@@ -185,10 +190,10 @@ returns-in-Some-refusal-clause-caused g c =
     rw (← c.self.view_is) (refused-for (list_length a.members.newest) 0 AreTooMany a.members m refusal (too-many-of m refusal many) (omega arith) many)
 
 pub returns-in-Some-refusal-clause-held : goal.returns-in-Some-refusal-clause-held
-returns-in-Some-refusal-clause-held g c = rw (← c.self.view_is) c.fill_and_name-filled.ensures.moved.held
+returns-in-Some-refusal-clause-held g c = subst (λ p. AreStillHeld p.parts.members c.fill_and_name-filled.new.members) c.self.view_is c.fill_and_name-filled.ensures.moved.held
 
 pub returns-in-Some-refusal-clause-spares : goal.returns-in-Some-refusal-clause-spares
-returns-in-Some-refusal-clause-spares g c = rw (← c.self.view_is) c.fill_and_name-filled.ensures.moved.fewer
+returns-in-Some-refusal-clause-spares g c = subst (λ p. AreSparesFewer p.parts.members c.fill_and_name-filled.new.members) c.self.view_is c.fill_and_name-filled.ensures.moved.fewer
 
 -- ---- the slot is lost
 
@@ -230,11 +235,11 @@ invariant_of-self-then-is_vacant g c =
     let kept = subst (λ (w : Work). IsStill g.B.Bank.tells given tape' (scope_in given a.epoch.uuid a.epoch.given a.backup) a.epoch.first (a.epoch.entries.items ++ entries_of c.args.who end (losses_of roles spares)) m w (still_left w m a.ahead)) (sym next)
     (fill-gone a.ahead c.args.who end role slot roles spares c.shape_in-shape.result was.kept c.in_default.ensures goes c.requires.caller c.ops-end.ensures.count c.shape_in-shape.ensures below leaves
     synced c.set_rebuilt.ensures.known (sym c.is_vacant.ensures ∙ c.if-is_vacant.true)) in
-    with-buffers (omega (arith, was.rows_fit, did.rows)) (rw did.buffer was.buffer_fits) (ready (entries_of c.args.who end (losses_of roles spares)) was (rows-moved given a.members m did.moved)
+    with-buffers (le_trans was.rows_fit did.rows) (subst (λ (n : ℕ). 1048576 ≤ n) (sym did.buffer) was.buffer_fits) (ready (entries_of c.args.who end (losses_of roles spares)) was (rows-moved given a.members m did.moved)
     kept (plain-lost was c.args.who end goes c.requires.caller c.ops-end.ensures.count did.grows did.moved since)
     did.counts (losses-keep c.args.who end roles spares)
     did.given (scope-same given a.backup did.given c.enter_lost.ensures.uuid c.enter_lost.ensures.given) c.enter_lost.ensures.first refl c.enter_lost.ensures.items
-    (omega (arith, c.enter_lost.ensures.room, was.room_left, some)))
+    (room-after-losses was.room_left some c.enter_lost.ensures.room))
 
 pub returns-then-is_vacant-clause-entered : goal.returns-then-is_vacant-clause-entered
 returns-then-is_vacant-clause-entered g c =
@@ -317,23 +322,24 @@ returns-then-is_vacant-clause-left g c =
     let below : role < (shape_of a.members.newest).disks = subst (λ (n : ℕ). role < n) (count-still a.members.newest here.still) pending.0.0 in
     let since : AreLostSince a.members m roles spares before after = lost-since given a.members m c.shape_in-shape.result.disks c.vacant_roles-before.result roles spares before after here.placed did.moved did.failed
     (ap (λ (s : Shape). s.disks) c.shape_in-shape.ensures ∙ sym (count-still a.members.newest here.still)) c.vacant_roles-before.ensures c.newly_vacant-roles.ensures in
-    rw (← c.self.view_is) (subst (λ (w : Work). AreStepsFewer a.epoch.entries.items c.enter_lost.new.epoch.entries.items (still_left a.work a.members a.ahead) (still_left w m a.ahead)) (sym c.set_rebuilt.ensures.work)
+    subst (λ p. AreStepsFewer p.parts.entries c.enter_lost.new.epoch.entries.items (still_left p.parts.work p.parts.members p.ahead) (still_left c.set_rebuilt.new.work m a.ahead)) c.self.view_is
+    (subst (λ (w : Work). AreStepsFewer a.epoch.entries.items c.enter_lost.new.epoch.entries.items (still_left a.work a.members a.ahead) (still_left w m a.ahead)) (sym c.set_rebuilt.ensures.work)
     (fewer-more (planned-same a.ahead (shapes-moved did.moved))
     (steps-fewer (with_rebuilt role (rebuilt_of a.work role + 1) a.work) (left_of a.work a.members) c.args.who end [] did.moved since
     (left-filled a.work a.members role slot below c.set_rebuilt.ensures.known c.in-Some-recovering_slot.ensures.some pending.1)
     (alone a.epoch.entries.items c.enter_lost.new.epoch.entries.items c.args.who end (losses_of roles spares) c.enter_lost.ensures.items))))
 
 pub returns-then-is_vacant-clause-work : goal.returns-then-is_vacant-clause-work
-returns-then-is_vacant-clause-work g c = rw (← c.self.view_is) c.set_rebuilt.ensures.work
+returns-then-is_vacant-clause-work g c = c.set_rebuilt.ensures.work ∙ ap (λ p. with_rebuilt c.args.role (rebuilt_of p.parts.work c.args.role + 1) p.parts.work) c.self.view_is
 
 pub returns-then-is_vacant-clause-caused : goal.returns-then-is_vacant-clause-caused
 returns-then-is_vacant-clause-caused g c = rw (← c.self.view_is) (omega arith, λ refusal many. never-both c.self.inside.members refusal c.in_default.ensures many)
 
 pub returns-then-is_vacant-clause-held : goal.returns-then-is_vacant-clause-held
-returns-then-is_vacant-clause-held g c = rw (← c.self.view_is) c.fill_and_name-filled.ensures.moved.held
+returns-then-is_vacant-clause-held g c = subst (λ p. AreStillHeld p.parts.members c.fill_and_name-filled.new.members) c.self.view_is c.fill_and_name-filled.ensures.moved.held
 
 pub returns-then-is_vacant-clause-spares : goal.returns-then-is_vacant-clause-spares
-returns-then-is_vacant-clause-spares g c = rw (← c.self.view_is) c.fill_and_name-filled.ensures.moved.fewer
+returns-then-is_vacant-clause-spares g c = subst (λ p. AreSparesFewer p.parts.members c.fill_and_name-filled.new.members) c.self.view_is c.fill_and_name-filled.ensures.moved.fewer
 
 -- ---- it is rebuilt
 
@@ -377,11 +383,11 @@ invariant_of-self-2 g c =
     let kept = subst (λ (w : Work). IsStill g.B.Bank.tells given tape' (scope_in given a.epoch.uuid a.epoch.given a.backup) a.epoch.first (a.epoch.entries.items ++ entries_of c.args.who end (losses_of roles spares ++ Step RebuildStripe left ∷ [])) m w (still_left w m a.ahead)) (sym next)
     (fill-done a.ahead c.args.who end role slot roles spares c.shape_in-shape.result was.kept c.in_default.ensures goes c.requires.caller c.ops-end.ensures.count c.shape_in-shape.ensures below leaves
     left synced c.set_rebuilt.ensures.known pending.1 (sym c.is_vacant.ensures ∙ c.if-is_vacant.false) told (did.filled c.in_default-refusal.is)) in
-    with-buffers (omega (arith, was.rows_fit, did.rows)) (rw did.buffer was.buffer_fits) (ready (entries_of c.args.who end (losses_of roles spares ++ Step RebuildStripe left ∷ [])) was (rows-moved given a.members m did.moved)
+    with-buffers (le_trans was.rows_fit did.rows) (subst (λ (n : ℕ). 1048576 ≤ n) (sym did.buffer) was.buffer_fits) (ready (entries_of c.args.who end (losses_of roles spares ++ Step RebuildStripe left ∷ [])) was (rows-moved given a.members m did.moved)
     kept (filled-plain was c.args.who end goes c.requires.caller c.ops-end.ensures.count did.grows did.moved since left role slot below c.set_rebuilt.ensures.known c.in-Some-recovering_slot.ensures.some pending.1 told)
     did.counts (behind-keeps c.args.who end roles spares (Step RebuildStripe left ∷ []) (alone-keeps c.args.who end (Step RebuildStripe left) (λ n. refl) (λ limit. refl)))
     did.given (scope-same given a.backup did.given c.enter_behind-2.ensures.uuid c.enter_behind-2.ensures.given) c.enter_behind-2.ensures.first refl c.enter_behind-2.ensures.items
-    (omega (arith, c.enter_behind-2.ensures.room, was.room_left, some)))
+    (room-after was.room_left some c.enter_behind-2.ensures.room))
 
 pub returns-clause-stepped : goal.returns-clause-stepped
 returns-clause-stepped g c =
@@ -426,22 +432,23 @@ returns-clause-left g c =
     let below : role < (shape_of a.members.newest).disks = subst (λ (n : ℕ). role < n) (count-still a.members.newest here.still) pending.0.0 in
     let since : AreLostSince a.members m roles spares before after = lost-since given a.members m c.shape_in-shape.result.disks c.vacant_roles-before.result roles spares before after here.placed did.moved did.failed
     (ap (λ (s : Shape). s.disks) c.shape_in-shape.ensures ∙ sym (count-still a.members.newest here.still)) c.vacant_roles-before.ensures c.newly_vacant-roles.ensures in
-    rw (← c.self.view_is) (subst (λ (w : Work). AreStepsFewer a.epoch.entries.items c.enter_behind-2.new.epoch.entries.items (still_left a.work a.members a.ahead) (still_left w m a.ahead)) (sym c.set_rebuilt.ensures.work)
+    subst (λ p. AreStepsFewer p.parts.entries c.enter_behind-2.new.epoch.entries.items (still_left p.parts.work p.parts.members p.ahead) (still_left c.set_rebuilt.new.work m a.ahead)) c.self.view_is
+    (subst (λ (w : Work). AreStepsFewer a.epoch.entries.items c.enter_behind-2.new.epoch.entries.items (still_left a.work a.members a.ahead) (still_left w m a.ahead)) (sym c.set_rebuilt.ensures.work)
     (fewer-more (planned-same a.ahead (shapes-moved did.moved))
     (steps-fewer (with_rebuilt role (rebuilt_of a.work role + 1) a.work) (left_of a.work a.members) c.args.who end (Step RebuildStripe c.all_left-left.result ∷ []) did.moved since
     (left-filled a.work a.members role slot below c.set_rebuilt.ensures.known c.in-Some-recovering_slot.ensures.some pending.1) c.enter_behind-2.ensures.items)))
 
 pub returns-clause-work : goal.returns-clause-work
-returns-clause-work g c = rw (← c.self.view_is) c.set_rebuilt.ensures.work
+returns-clause-work g c = c.set_rebuilt.ensures.work ∙ ap (λ p. with_rebuilt c.args.role (rebuilt_of p.parts.work c.args.role + 1) p.parts.work) c.self.view_is
 
 pub returns-clause-caused : goal.returns-clause-caused
 returns-clause-caused g c = rw (← c.self.view_is) (omega arith, λ refusal many. never-both c.self.inside.members refusal c.in_default.ensures many)
 
 pub returns-clause-held : goal.returns-clause-held
-returns-clause-held g c = rw (← c.self.view_is) c.fill_and_name-filled.ensures.moved.held
+returns-clause-held g c = subst (λ p. AreStillHeld p.parts.members c.fill_and_name-filled.new.members) c.self.view_is c.fill_and_name-filled.ensures.moved.held
 
 pub returns-clause-spares : goal.returns-clause-spares
-returns-clause-spares g c = rw (← c.self.view_is) c.fill_and_name-filled.ensures.moved.fewer
+returns-clause-spares g c = subst (λ p. AreSparesFewer p.parts.members c.fill_and_name-filled.new.members) c.self.view_is c.fill_and_name-filled.ensures.moved.fewer
 
 -- ---- the call goes on
 
@@ -468,3 +475,158 @@ returns-clause-closable g c =
     let below = subst (λ (n : ℕ). c.args.role < n) (count-still a.members.newest here.still) pending.0.0 in
     λ none. absurd (held-some c.fill_and_name-filled.ensures.moved c.set_rebuilt.new.work a.ahead c.args.role c.in-Some-recovering_slot.slot below c.in-Some-recovering_slot.ensures.some
     (sym c.is_vacant.ensures ∙ c.if-is_vacant.false) none)
+
+-- ---- what the calls ask
+
+pub check_going-requires : goal.check_going-requires
+check_going-requires g c = subst (λ p. IsCallGoing p.parts.entries c.args.who) (sym c.self.view_is) c.requires.open
+
+pub vacant_roles-before-requires-clause-known : goal.vacant_roles-before-requires-clause-known
+vacant_roles-before-requires-clause-known g c = known-at c.self.invariant.kept.members_are.placed c.shape_in-shape.ensures
+
+pub recovering_slot-requires : goal.recovering_slot-requires
+recovering_slot-requires g c =
+    let pending : HasStripeUnbuilt c.self.inside.work c.self.inside.members c.args.role = subst (λ p. HasStripeUnbuilt p.parts.work p.parts.members c.args.role) (sym c.self.view_is) c.requires.pending in
+    role-at c.self.invariant.kept.members_are.placed pending.0.0
+
+pub unreachable-requires : goal.unreachable-requires
+unreachable-requires g c =
+    let pending : HasStripeUnbuilt c.self.inside.work c.self.inside.members c.args.role = subst (λ p. HasStripeUnbuilt p.parts.work p.parts.members c.args.role) (sym c.self.view_is) c.requires.pending in
+    c.in_default-recovering_slot.ensures.none pending.0.1 pending.0.2
+
+pub fill_and_name-filled-requires-clause-slots : goal.fill_and_name-filled-requires-clause-slots
+fill_and_name-filled-requires-clause-slots g c = c.self.invariant.kept.slots
+
+pub fill_and_name-filled-requires-clause-placed : goal.fill_and_name-filled-requires-clause-placed
+fill_and_name-filled-requires-clause-placed g c = c.self.invariant.kept.members_are.placed
+
+pub fill_and_name-filled-requires-clause-unlost : goal.fill_and_name-filled-requires-clause-unlost
+fill_and_name-filled-requires-clause-unlost g c = c.self.invariant.kept.members_are.unlost
+
+pub fill_and_name-filled-requires-clause-free : goal.fill_and_name-filled-requires-clause-free
+fill_and_name-filled-requires-clause-free g c = c.self.invariant.kept.members_are.free
+
+pub fill_and_name-filled-requires-clause-still : goal.fill_and_name-filled-requires-clause-still
+fill_and_name-filled-requires-clause-still g c = c.self.invariant.kept.members_are.still
+
+pub fill_and_name-filled-requires-clause-shape : goal.fill_and_name-filled-requires-clause-shape
+fill_and_name-filled-requires-clause-shape g c = c.shape_in-shape.ensures
+
+pub fill_and_name-filled-requires-clause-role : goal.fill_and_name-filled-requires-clause-role
+fill_and_name-filled-requires-clause-role g c =
+    let pending : HasStripeUnbuilt c.self.inside.work c.self.inside.members c.args.role = subst (λ p. HasStripeUnbuilt p.parts.work p.parts.members c.args.role) (sym c.self.view_is) c.requires.pending in
+    role-of-shape c.self.invariant.kept.members_are c.shape_in-shape.ensures pending.0.0
+
+pub fill_and_name-filled-requires-clause-recovering : goal.fill_and_name-filled-requires-clause-recovering
+fill_and_name-filled-requires-clause-recovering g c = c.in-Some-recovering_slot.ensures.some
+
+pub fill_and_name-filled-requires-clause-stripe : goal.fill_and_name-filled-requires-clause-stripe
+fill_and_name-filled-requires-clause-stripe g c =
+    let pending : HasStripeUnbuilt c.self.inside.work c.self.inside.members c.args.role = subst (λ p. HasStripeUnbuilt p.parts.work p.parts.members c.args.role) (sym c.self.view_is) c.requires.pending in
+    pending.1
+
+pub fill_and_name-filled-requires-clause-rows : goal.fill_and_name-filled-requires-clause-rows
+fill_and_name-filled-requires-clause-rows g c = c.self.invariant.rows_fit
+
+pub fill_and_name-filled-requires-clause-buffer : goal.fill_and_name-filled-requires-clause-buffer
+fill_and_name-filled-requires-clause-buffer g c = c.self.invariant.buffer_fits
+
+pub newly_vacant-roles-requires-clause-known : goal.newly_vacant-roles-requires-clause-known
+newly_vacant-roles-requires-clause-known g c = known-behind c.fill_and_name-filled.ensures.moved c.shape_in-shape.ensures
+
+pub overflow_add-stripe : goal.overflow_add-stripe
+overflow_add-stripe g c =
+    let pending : HasStripeUnbuilt c.self.inside.work c.self.inside.members c.args.role = subst (λ p. HasStripeUnbuilt p.parts.work p.parts.members c.args.role) (sym c.self.view_is) c.requires.pending in
+    next-stripe c.self.invariant.kept.members_are.placed pending.1
+
+pub is_vacant-requires : goal.is_vacant-requires
+is_vacant-requires g c =
+    let pending : HasStripeUnbuilt c.self.inside.work c.self.inside.members c.args.role = subst (λ p. HasStripeUnbuilt p.parts.work p.parts.members c.args.role) (sym c.self.view_is) c.requires.pending in
+    role-behind c.self.invariant.kept.members_are c.fill_and_name-filled.ensures.moved pending.0.0
+
+pub all_left-left-requires-clause-shape : goal.all_left-left-requires-clause-shape
+all_left-left-requires-clause-shape g c = c.fill_and_name-filled.ensures.moved.placed.fit.valid.old
+
+pub all_left-left-requires-clause-size : goal.all_left-left-requires-clause-size
+all_left-left-requires-clause-size g c = short (g.B.Bank.given c.self.inside.bank) c.fill_and_name-filled.new.members c.fill_and_name-filled.ensures.moved.placed
+
+pub all_left-left-requires-clause-roles : goal.all_left-left-requires-clause-roles
+all_left-left-requires-clause-roles g c = known-at c.fill_and_name-filled.ensures.moved.placed refl
+
+pub all_left-left-requires-clause-progress : goal.all_left-left-requires-clause-progress
+all_left-left-requires-clause-progress g c =
+    subst (λ (o : Option ℕ). IfSome o (λ mended. mended ≤ stripes_of c.fill_and_name-filled.new.members)) (sym (ap (λ (w : Work). w.resync) c.set_rebuilt.ensures.work ∙ ap (λ p. p.parts.work.resync) c.self.view_is ∙ c.requires.synced)) tt
+
+pub all_left-left-requires-clause-sound : goal.all_left-left-requires-clause-sound
+all_left-left-requires-clause-sound g c = sound-behind c.self.inside.ahead c.fill_and_name-filled.ensures.moved c.self.invariant.planned
+
+pub enter_behind-requires-clause-room : goal.enter_behind-requires-clause-room
+enter_behind-requires-clause-room g c = room-for-step (ap (λ p. p.parts.steps) c.self.view_is) c.self.invariant.room_left c.requires.room
+
+pub enter_behind-requires-clause-number : goal.enter_behind-requires-clause-number
+enter_behind-requires-clause-number g c = c.check_going.ensures
+
+pub enter_lost-requires-clause-room : goal.enter_lost-requires-clause-room
+enter_lost-requires-clause-room g c = room-for-losses (ap (λ p. p.parts.steps) c.self.view_is) c.self.invariant.room_left c.requires.room
+
+pub enter_lost-requires-clause-number : goal.enter_lost-requires-clause-number
+enter_lost-requires-clause-number g c = c.check_going.ensures
+
+pub enter_behind-requires-2-clause-room : goal.enter_behind-requires-2-clause-room
+enter_behind-requires-2-clause-room g c = room-for-step (ap (λ p. p.parts.steps) c.self.view_is) c.self.invariant.room_left c.requires.room
+
+pub enter_behind-requires-2-clause-number : goal.enter_behind-requires-2-clause-number
+enter_behind-requires-2-clause-number g c = c.check_going.ensures
+
+-- ---- what it leaves as it was
+
+pub returns-in-Some-clause-stays : goal.returns-in-Some-clause-stays
+returns-in-Some-clause-stays g c = c.refuse_step.ensures.stays
+
+pub returns-in-Some-clause-memory : goal.returns-in-Some-clause-memory
+returns-in-Some-clause-memory g c = refused-at-all c.in-Some.refusal
+
+pub returns-in-Some-refusal-clause-entered : goal.returns-in-Some-refusal-clause-entered
+returns-in-Some-refusal-clause-entered g c = one-entered c.args.who c.ops-end.result c.newly_vacant-roles.result c.fill_and_name-filled.result.spares (Refused c.in-Some-refusal.refusal) (ap (λ p. p.parts.entries) c.self.view_is) c.enter_behind.ensures.items
+
+pub returns-in-Some-refusal-clause-memory : goal.returns-in-Some-refusal-clause-memory
+returns-in-Some-refusal-clause-memory g c = refused-at-all c.in-Some-refusal.refusal
+
+pub returns-in-Some-refusal-clause-work : goal.returns-in-Some-refusal-clause-work
+returns-in-Some-refusal-clause-work g c = ap (λ p. p.parts.work) c.self.view_is
+
+pub returns-in-Some-refusal-clause-clean : goal.returns-in-Some-refusal-clause-clean
+returns-in-Some-refusal-clause-clean g c = c.fill_and_name-filled.ensures.clean ∙ ap (λ p. is_clean p.parts.members.newest) c.self.view_is
+
+pub returns-in-Some-refusal-clause-room : goal.returns-in-Some-refusal-clause-room
+returns-in-Some-refusal-clause-room g c = step-taken (ap (λ p. p.parts.steps) c.self.view_is) c.requires.room
+
+pub returns-in-Some-refusal-clause-given : goal.returns-in-Some-refusal-clause-given
+returns-in-Some-refusal-clause-given g c = c.fill_and_name-filled.ensures.given ∙ ap (λ p. g.B.Bank.given p.parts.bank) c.self.view_is
+
+pub returns-then-is_vacant-clause-memory : goal.returns-then-is_vacant-clause-memory
+returns-then-is_vacant-clause-memory g c = done-at-all tt
+
+pub returns-then-is_vacant-clause-clean : goal.returns-then-is_vacant-clause-clean
+returns-then-is_vacant-clause-clean g c = c.fill_and_name-filled.ensures.clean ∙ ap (λ p. is_clean p.parts.members.newest) c.self.view_is
+
+pub returns-then-is_vacant-clause-room : goal.returns-then-is_vacant-clause-room
+returns-then-is_vacant-clause-room g c = step-taken (ap (λ p. p.parts.steps) c.self.view_is) c.requires.room
+
+pub returns-then-is_vacant-clause-given : goal.returns-then-is_vacant-clause-given
+returns-then-is_vacant-clause-given g c = c.fill_and_name-filled.ensures.given ∙ ap (λ p. g.B.Bank.given p.parts.bank) c.self.view_is
+
+pub returns-clause-entered : goal.returns-clause-entered
+returns-clause-entered g c = inl (step-entered c.args.who c.ops-end.result c.newly_vacant-roles.result c.fill_and_name-filled.result.spares RebuildStripe (ap (λ p. p.parts.entries) c.self.view_is) c.all_left-left.ensures c.enter_behind-2.ensures.items)
+
+pub returns-clause-memory : goal.returns-clause-memory
+returns-clause-memory g c = done-at-all tt
+
+pub returns-clause-clean : goal.returns-clause-clean
+returns-clause-clean g c = c.fill_and_name-filled.ensures.clean ∙ ap (λ p. is_clean p.parts.members.newest) c.self.view_is
+
+pub returns-clause-room : goal.returns-clause-room
+returns-clause-room g c = step-taken (ap (λ p. p.parts.steps) c.self.view_is) c.requires.room
+
+pub returns-clause-given : goal.returns-clause-given
+returns-clause-given g c = c.fill_and_name-filled.ensures.given ∙ ap (λ p. g.B.Bank.given p.parts.bank) c.self.view_is

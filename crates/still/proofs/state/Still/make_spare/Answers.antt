@@ -1,17 +1,17 @@
-use Rattle.std.proofs.Common.{◌≡◌, inl, inr, ◌+◌, ◌≤◌, ℕ, true, List, [], ◌∷◌, ◌++◌, Some, refl, sym, ◌∙◌, ap, subst, arith}
+use Rattle.std.proofs.Common.{◌≡◌, inl, inr, ◌+◌, ◌≤◌, ℕ, true, List, [], ◌∷◌, ◌++◌, Some, refl, sym, ◌∙◌, ap, subst, arith, ◌⊎◌}
 use Rattle.md_base.specs.declared.answers.Refusal.{Refusal}
 use Rattle.md_base.specs.declared.answers.Refusal.TheVariants.{SlotFault}
 use Rattle.md_base.specs.declared.places.Shape.{Shape}
 use Rattle.md_base.specs.Shapes.{has_slot}
 use Rattle.bank.specs.Given.{Given}
-use Rattle.superblocks.specs.Reading.{list_length}
+use Rattle.superblocks.specs.Reading.{list_length, is_clean}
 use Rattle.flat_history.specs.declared.events.Entry.{Entry}
 use Rattle.flat_history.specs.declared.events.Event.TheVariants.{Refused, Added}
 use Rattle.flat_history.specs.Flat.{next_number}
 use Rattle.flat_history.specs.Plain.{entries_of}
 use Rattle.views.specs.Lacking.{AreUnnamed}
 use Rattle.views.specs.Numbers.{is_carried, free_number}
-use Rattle.views.specs.Placed.{IsPlaced}
+use Rattle.views.specs.Placed.{IsPlaced, AreStillHeld, AreWhole}
 use Rattle.views.specs.Rebuilding.{AreSparesFree, with_spare}
 use Rattle.views.proofs.Flushed.{contents-added}
 use Rattle.views.proofs.LiveLeft.{without-left}
@@ -20,7 +20,7 @@ use Rattle.views.proofs.Still.{count-still}
 use Rattle.call_entries.specs.Losing.{losses_of}
 use Rattle.call_entries.proofs.CallLaws.{losses-are}
 use Rattle.still_laws.specs.array_kept_Kept.{scope_in}
-use Rattle.still_laws.specs.array_kept_Calls.{IsFirstOffset, IsUnaddable}
+use Rattle.still_laws.specs.array_kept_Calls.{IsFirstOffset, IsUnaddable, IsWorkAdded}
 use Rattle.still_laws.proofs.array_kept_LossLaws.{losses-behind, ended-behind}
 use Rattle.still_laws.proofs.array_kept_ReadyLaws.{scope-same}
 use Rattle.still_laws.proofs.calls_kept_AddLaws.{slot-there, slot-free, slot-does, slot-unspare, slot-fits, slot-room, slot-of-scope, is-free, second-half, stored-as, added_reply, faulted_reply}
@@ -30,13 +30,18 @@ use Rattle.still_laws.specs.still_kept_Still.{IsStill}
 use Rattle.still_laws.specs.running_words_Parts.{still_left}
 use Rattle.still_laws.proofs.running_words_Called.{alone-lossless}
 use Rattle.still_laws.proofs.running_words_Lengths.{alone-keeps, behind-keeps}
-use Rattle.still_laws.proofs.Kept.{ready, rows-same, rows-moved}
+use Rattle.still_laws.proofs.Kept.{ready, rows-same, rows-moved, roomier}
 use Rattle.still_laws.proofs.StepLaws.{shapes-same, shapes-moved, stepped}
 use Rattle.still_laws.proofs.AddLaws.{looked-refused}
 use Rattle.still_laws.proofs.AddLaws as law
 use Rattle.still_laws.proofs.kept_history_Records.{begins-going}
 use Rattle.still_laws.proofs.PlainBehind.{refused-plain}
 use Rattle.still_laws.proofs.PlainAdds.{added-plain, unadded-plain}
+use Rattle.superblocks.specs.Reads.{has_spare}
+use Rattle.views.proofs.Fit.{valid}
+use Rattle.still.proofs.Rested.{entries-same, idle-stepped, room-1, room-49, shape-few, shape-known}
+use Rattle.still_laws.specs.shape_changes_Marking.{AreOthersPresent}
+use Rattle.row_io.specs.Rows.{present}
 use Rattle.still.proofs.state.Still.make_spare.Goals as goal
 
 pub look_at-requires-clause-slot : goal.look_at-requires-clause-slot
@@ -78,11 +83,6 @@ pub returns-in_default-clause-caused : goal.returns-in_default-clause-caused
 returns-in_default-clause-caused g c =
     let addable = subst (λ v. (refusal : Refusal) → IsUnaddable (g.B.Bank.given v.parts.bank) v.parts.backup c.args.slot v.parts.members refusal → ⊥) (sym c.self.view_is) c.requires.addable in
     rw (← c.self.view_is) (refl, addable, c.in_default.ensures.failed, slot-unspare (g.B.Bank.given c.self.inside.bank) c.self.inside.backup c.args.slot c.self.inside.members c.self.invariant.kept.members_are.placed addable)
-
-pub returns-in_default-clause-others : goal.returns-in_default-clause-others
-returns-in_default-clause-others g c =
-    let a = c.self.inside in
-    rw (← c.self.view_is) (λ t s k apart. (λ i. contents-added (g.B.Bank.given a.bank).start (g.B.Bank.tape a.bank) (g.B.Bank.tape c.look_at.new.bank) (c.look_at.ensures.tape t) i s k))
 
 pub returns-in_default-clause-stepped : goal.returns-in_default-clause-stepped
 returns-in_default-clause-stepped g c =
@@ -271,37 +271,6 @@ returns-then-contains-clause-stepped g c =
     (record { uuid = c.enter_behind.ensures.uuid; given = c.enter_behind.ensures.given; first = c.enter_behind.ensures.first; backup = refl; ahead = refl; limit = refl })
     (λ t. (was.kept.recorded t).begun))
 
-pub returns-then-contains-clause-others : goal.returns-then-contains-clause-others
-returns-then-contains-clause-others g c =
-    let addable = subst (λ v. (refusal : Refusal) → IsUnaddable (g.B.Bank.given v.parts.bank) v.parts.backup c.args.slot v.parts.members refusal → ⊥) (sym c.self.view_is) c.requires.addable in
-    let was = c.self.invariant in
-    let here = was.kept.members_are in
-    let a = c.self.inside in
-    let given = g.B.Bank.given a.bank in
-    let e = c.add_member-lost.ensures in
-    let look = c.look_at.ensures in
-    let did = add-done look.given was.kept.slots here.placed here.unlost here.free (slot-there given a.backup c.args.slot a.members here.placed addable)
-    (λ role may. slot-free given a.backup c.args.slot a.members here.placed addable (inr (role, may))) look.counts c.spare_for-sb.ensures.made e.own e.moved e.failed e.lost e.grows e.others e.clean e.rise e.counts in
-    rw (← c.self.view_is) (λ t s k apart. did.others t s k apart ∙ (λ i. contents-added given.start (g.B.Bank.tape a.bank) (g.B.Bank.tape c.look_at.new.bank) (look.tape t) i s k))
-
-pub returns-then-contains-clause-held : goal.returns-then-contains-clause-held
-returns-then-contains-clause-held g c = rw (← c.self.view_is) c.add_member-lost.ensures.moved.held
-
-pub returns-then-contains-clause-whole : goal.returns-then-contains-clause-whole
-returns-then-contains-clause-whole g c = rw (← c.self.view_is) c.add_member-lost.ensures.moved.whole
-
-pub returns-then-contains-clause-work : goal.returns-then-contains-clause-work
-returns-then-contains-clause-work g c =
-    let a = c.self.inside in
-    let known : free_number a.members.newest a.work ≡ Some c.args.number = subst (λ v. free_number v.parts.members.newest v.parts.work ≡ Some c.args.number) (sym c.self.view_is) c.requires.number in
-    let free = is-free a.members.newest a.work c.args.number known in
-    rw (← c.self.view_is) (record {
-      resync = refl;
-      rebuilt = refl;
-      carried = carries-number c.args.number a.work;
-      one = carries-only a.members.newest c.args.number a.work known;
-    })
-
 -- ---- where it wasn't
 
 pub invariant_of-self-2 : goal.invariant_of-self-2
@@ -398,33 +367,180 @@ returns-clause-stepped g c =
     (record { uuid = c.enter_behind-2.ensures.uuid; given = c.enter_behind-2.ensures.given; first = c.enter_behind-2.ensures.first; backup = refl; ahead = refl; limit = refl })
     (λ t. (was.kept.recorded t).begun))
 
-pub returns-clause-others : goal.returns-clause-others
-returns-clause-others g c =
-    let addable = subst (λ v. (refusal : Refusal) → IsUnaddable (g.B.Bank.given v.parts.bank) v.parts.backup c.args.slot v.parts.members refusal → ⊥) (sym c.self.view_is) c.requires.addable in
-    let was = c.self.invariant in
-    let here = was.kept.members_are in
-    let a = c.self.inside in
-    let given = g.B.Bank.given a.bank in
-    let e = c.add_member-lost.ensures in
-    let look = c.look_at.ensures in
-    let did = add-done look.given was.kept.slots here.placed here.unlost here.free (slot-there given a.backup c.args.slot a.members here.placed addable)
-    (λ role may. slot-free given a.backup c.args.slot a.members here.placed addable (inr (role, may))) look.counts c.spare_for-sb.ensures.made e.own e.moved e.failed e.lost e.grows e.others e.clean e.rise e.counts in
-    rw (← c.self.view_is) (λ t s k apart. did.others t s k apart ∙ (λ i. contents-added given.start (g.B.Bank.tape a.bank) (g.B.Bank.tape c.look_at.new.bank) (look.tape t) i s k))
+-- ---- what is handed down, and what is left of it
+
+pub invariant_of-self : goal.invariant_of-self
+invariant_of-self g c = roomier c.self.invariant c.make_room.ensures.items c.make_room.ensures.keeps
+
+pub returns-in-Err-clause-answered : goal.returns-in-Err-clause-answered
+returns-in-Err-clause-answered g c = c.make_room.ensures.items ∙ ap (λ p. p.parts.entries) c.self.view_is
+
+pub returns-in-Err-clause-unchanged : goal.returns-in-Err-clause-unchanged
+returns-in-Err-clause-unchanged g c = entries-same c.make_room.new.self.items c.self.view_is c.make_room.ensures.items
+
+pub returns-in-Err-clause-caused : goal.returns-in-Err-clause-caused
+returns-in-Err-clause-caused g c = ap (λ p. p.parts.members) c.self.view_is
+
+pub returns-in-Err-clause-spares : goal.returns-in-Err-clause-spares
+returns-in-Err-clause-spares g c =
+    subst (λ p. (s : ℕ) → has_spare c.self.inside.members.spares s ≡ true → (has_spare p.parts.members.spares s ≡ true) ⊎ (s ≡ c.args.slot)) c.self.view_is (λ s is. inl is)
+
+pub returns-in-Err-clause-stepped : goal.returns-in-Err-clause-stepped
+returns-in-Err-clause-stepped g c =
+    let kept = c.self.invariant.kept in
+    rw (← c.self.view_is) (idle-stepped (λ t. (kept.recorded t).ended) (λ t. (kept.recorded t).begun) (entries-same c.make_room.new.self.items refl c.make_room.ensures.items))
+
+pub returns-in-Err-clause-whole : goal.returns-in-Err-clause-whole
+returns-in-Err-clause-whole g c = subst (λ p. AreWhole c.self.inside.members → AreWhole p.parts.members) c.self.view_is (λ whole. whole)
+
+pub returns-in-Err-clause-work : goal.returns-in-Err-clause-work
+returns-in-Err-clause-work g c =
+    subst (λ p. IsWorkAdded p.parts.members.newest p.parts.work c.self.inside.work) c.self.view_is
+    (record { resync = refl; rebuilt = refl; carried = λ number is. is; one = λ number is. inl is })
+
+pub check_number-requires : goal.check_number-requires
+check_number-requires g c =
+    c.requires.next ∙ ap (λ p. next_number c.args.who.caller p.parts.entries) (sym c.self.view_is) ∙ ap (λ (l : List Entry). next_number c.args.who.caller l) (sym c.make_room.ensures.items)
+
+pub enter-requires-clause-room : goal.enter-requires-clause-room
+enter-requires-clause-room g c = room-1 c.make_room.new.self.room c.in-Ok.ensures.ok
+
+pub enter-requires-clause-number : goal.enter-requires-clause-number
+enter-requires-clause-number g c = c.check_number.ensures
+
+pub returns-in_default-clause-spares : goal.returns-in_default-clause-spares
+returns-in_default-clause-spares g c =
+    subst (λ p. (s : ℕ) → has_spare c.self.inside.members.spares s ≡ true → (has_spare p.parts.members.spares s ≡ true) ⊎ (s ≡ c.args.slot)) c.self.view_is (λ s is. inl is)
+
+pub returns-in_default-clause-clean : goal.returns-in_default-clause-clean
+returns-in_default-clause-clean g c = ap (λ p. is_clean p.parts.members.newest) c.self.view_is
+
+pub returns-in_default-clause-held : goal.returns-in_default-clause-held
+returns-in_default-clause-held g c = subst (λ p. AreStillHeld p.parts.members c.self.inside.members) c.self.view_is (λ role slot held. held)
+
+pub returns-in_default-clause-whole : goal.returns-in_default-clause-whole
+returns-in_default-clause-whole g c = subst (λ p. AreWhole c.self.inside.members → AreWhole p.parts.members) c.self.view_is (λ whole. whole)
+
+pub returns-in_default-clause-work : goal.returns-in_default-clause-work
+returns-in_default-clause-work g c =
+    subst (λ p. IsWorkAdded p.parts.members.newest p.parts.work c.self.inside.work) c.self.view_is
+    (record { resync = refl; rebuilt = refl; carried = λ number is. is; one = λ number is. inl is })
+
+pub returns-in_default-clause-given : goal.returns-in_default-clause-given
+returns-in_default-clause-given g c = c.look_at.ensures.given ∙ ap (λ p. g.B.Bank.given p.parts.bank) c.self.view_is
+
+pub shape_in-disks-requires : goal.shape_in-disks-requires
+shape_in-disks-requires g c = valid (g.B.Bank.given c.self.inside.bank) c.self.inside.members c.self.invariant.kept.members_are.placed
+
+pub vacant_roles-before-requires-clause-known : goal.vacant_roles-before-requires-clause-known
+vacant_roles-before-requires-clause-known g c = shape-known (g.B.Bank.given c.self.inside.bank) c.self.inside.members c.self.invariant.kept.members_are.placed c.shape_in-disks.result c.shape_in-disks.ensures
+
+pub vacant_roles-before-requires-clause-few : goal.vacant_roles-before-requires-clause-few
+vacant_roles-before-requires-clause-few g c = shape-few (g.B.Bank.given c.self.inside.bank) c.self.inside.members c.self.invariant.kept.members_are.placed c.shape_in-disks.result c.shape_in-disks.ensures
+
+pub add_member-lost-requires-clause-slots : goal.add_member-lost-requires-clause-slots
+add_member-lost-requires-clause-slots g c = subst (λ (b : Given). b.slots ≤ 32) (sym c.look_at.ensures.given) c.self.invariant.kept.slots
+
+pub add_member-lost-requires-clause-placed : goal.add_member-lost-requires-clause-placed
+add_member-lost-requires-clause-placed g c = subst (λ (b : Given). IsPlaced b c.self.inside.members) (sym c.look_at.ensures.given) c.self.invariant.kept.members_are.placed
+
+pub add_member-lost-requires-clause-unlost : goal.add_member-lost-requires-clause-unlost
+add_member-lost-requires-clause-unlost g c = c.self.invariant.kept.members_are.unlost
+
+pub add_member-lost-requires-clause-made : goal.add_member-lost-requires-clause-made
+add_member-lost-requires-clause-made g c = c.spare_for-sb.ensures.made
+
+pub newly_vacant-roles-requires-clause-known : goal.newly_vacant-roles-requires-clause-known
+newly_vacant-roles-requires-clause-known g c =
+    let moved = c.add_member-lost.ensures.moved in
+    shape-known (g.B.Bank.given c.look_at.new.bank) c.add_member-lost.new.members moved.placed c.shape_in-disks.result (c.shape_in-disks.ensures ∙ sym moved.shape)
+
+pub newly_vacant-roles-requires-clause-few : goal.newly_vacant-roles-requires-clause-few
+newly_vacant-roles-requires-clause-few g c = shape-few (g.B.Bank.given c.self.inside.bank) c.self.inside.members c.self.invariant.kept.members_are.placed c.shape_in-disks.result c.shape_in-disks.ensures
+
+pub enter_behind-requires-clause-room : goal.enter_behind-requires-clause-room
+enter_behind-requires-clause-room g c = room-49 c.make_room.new.self.room c.in-Ok.ensures.ok
+
+pub enter_behind-requires-clause-number : goal.enter_behind-requires-clause-number
+enter_behind-requires-clause-number g c = c.check_number.ensures
+
+pub returns-then-contains-clause-clean : goal.returns-then-contains-clause-clean
+returns-then-contains-clause-clean g c = c.add_member-lost.ensures.clean ∙ ap (λ p. is_clean p.parts.members.newest) c.self.view_is
+
+pub returns-then-contains-clause-given : goal.returns-then-contains-clause-given
+returns-then-contains-clause-given g c = c.add_member-lost.ensures.given ∙ c.look_at.ensures.given ∙ ap (λ p. g.B.Bank.given p.parts.bank) c.self.view_is
+
+pub enter_behind-requires-2-clause-room : goal.enter_behind-requires-2-clause-room
+enter_behind-requires-2-clause-room g c = room-49 c.make_room.new.self.room c.in-Ok.ensures.ok
+
+pub enter_behind-requires-2-clause-number : goal.enter_behind-requires-2-clause-number
+enter_behind-requires-2-clause-number g c = c.check_number.ensures
+
+pub returns-clause-caused : goal.returns-clause-caused
+returns-clause-caused g c = (c.requires.addable, c.add_member-lost.ensures.spare (sym c.contains.ensures ∙ c.if-contains.false))
+
+pub returns-clause-clean : goal.returns-clause-clean
+returns-clause-clean g c = c.add_member-lost.ensures.clean ∙ ap (λ p. is_clean p.parts.members.newest) c.self.view_is
+
+pub returns-clause-given : goal.returns-clause-given
+returns-clause-given g c = c.add_member-lost.ensures.given ∙ c.look_at.ensures.given ∙ ap (λ p. g.B.Bank.given p.parts.bank) c.self.view_is
+
+-- ---- what it leaves of the members
+
+pub returns-then-contains-clause-held : goal.returns-then-contains-clause-held
+returns-then-contains-clause-held g c = subst (λ p. AreStillHeld p.parts.members c.add_member-lost.new.members) c.self.view_is c.add_member-lost.ensures.moved.held
+
+pub returns-then-contains-clause-whole : goal.returns-then-contains-clause-whole
+returns-then-contains-clause-whole g c = subst (λ p. AreWhole c.add_member-lost.new.members → AreWhole p.parts.members) c.self.view_is c.add_member-lost.ensures.moved.whole
 
 pub returns-clause-held : goal.returns-clause-held
-returns-clause-held g c = rw (← c.self.view_is) c.add_member-lost.ensures.moved.held
+returns-clause-held g c = subst (λ p. AreStillHeld p.parts.members c.add_member-lost.new.members) c.self.view_is c.add_member-lost.ensures.moved.held
 
 pub returns-clause-whole : goal.returns-clause-whole
-returns-clause-whole g c = rw (← c.self.view_is) c.add_member-lost.ensures.moved.whole
+returns-clause-whole g c = subst (λ p. AreWhole c.add_member-lost.new.members → AreWhole p.parts.members) c.self.view_is c.add_member-lost.ensures.moved.whole
+
+pub returns-then-contains-clause-work : goal.returns-then-contains-clause-work
+returns-then-contains-clause-work g c =
+    let known = c.requires.number in
+    let was = c.args.self.now.parts in
+    subst (λ w. IsWorkAdded was.members.newest was.work (with_carried c.args.number w)) (sym (ap (λ p. p.parts.work) c.self.view_is)) (record {
+      resync = refl;
+      rebuilt = refl;
+      carried = carries-number c.args.number was.work;
+      one = carries-only was.members.newest c.args.number was.work known;
+    })
 
 pub returns-clause-work : goal.returns-clause-work
 returns-clause-work g c =
-    let a = c.self.inside in
-    let known : free_number a.members.newest a.work ≡ Some c.args.number = subst (λ v. free_number v.parts.members.newest v.parts.work ≡ Some c.args.number) (sym c.self.view_is) c.requires.number in
-    let free = is-free a.members.newest a.work c.args.number known in
-    rw (← c.self.view_is) (record {
+    let known = c.requires.number in
+    let was = c.args.self.now.parts in
+    subst (λ w. IsWorkAdded was.members.newest was.work (with_carried c.args.number w)) (sym (ap (λ p. p.parts.work) c.self.view_is)) (record {
       resync = refl;
       rebuilt = refl;
-      carried = carries-number c.args.number a.work;
-      one = carries-only a.members.newest c.args.number a.work known;
+      carried = carries-number c.args.number was.work;
+      one = carries-only was.members.newest c.args.number was.work known;
     })
+
+pub returns-in_default-clause-others : goal.returns-in_default-clause-others
+returns-in_default-clause-others g c =
+    let a = c.self.inside in
+    subst (λ p. g.B.Bank.tells → AreOthersPresent (present (g.B.Bank.given p.parts.bank) (g.B.Bank.tape p.parts.bank)) (present (g.B.Bank.given p.parts.bank) (g.B.Bank.tape c.look_at.new.bank))) c.self.view_is
+    (λ t s k apart. (λ i. contents-added (g.B.Bank.given a.bank).start (g.B.Bank.tape a.bank) (g.B.Bank.tape c.look_at.new.bank) (c.look_at.ensures.tape t) i s k))
+
+pub returns-then-contains-clause-others : goal.returns-then-contains-clause-others
+returns-then-contains-clause-others g c =
+    let a = c.self.inside in
+    let tape = g.B.Bank.tape c.look_at.new.bank in
+    let tape' = g.B.Bank.tape c.add_member-lost.new.bank in
+    subst (λ p. g.B.Bank.tells → AreOthersPresent (present (g.B.Bank.given p.parts.bank) (g.B.Bank.tape p.parts.bank)) (present (g.B.Bank.given p.parts.bank) tape')) c.self.view_is
+    (λ t s k apart. subst (λ (b : Given). AreOthersPresent (present b tape) (present b tape')) c.look_at.ensures.given (c.add_member-lost.ensures.others t) s k apart
+    ∙ (λ i. contents-added (g.B.Bank.given a.bank).start (g.B.Bank.tape a.bank) tape (c.look_at.ensures.tape t) i s k))
+
+pub returns-clause-others : goal.returns-clause-others
+returns-clause-others g c =
+    let a = c.self.inside in
+    let tape = g.B.Bank.tape c.look_at.new.bank in
+    let tape' = g.B.Bank.tape c.add_member-lost.new.bank in
+    subst (λ p. g.B.Bank.tells → AreOthersPresent (present (g.B.Bank.given p.parts.bank) (g.B.Bank.tape p.parts.bank)) (present (g.B.Bank.given p.parts.bank) tape')) c.self.view_is
+    (λ t s k apart. subst (λ (b : Given). AreOthersPresent (present b tape) (present b tape')) c.look_at.ensures.given (c.add_member-lost.ensures.others t) s k apart
+    ∙ (λ i. contents-added (g.B.Bank.given a.bank).start (g.B.Bank.tape a.bank) tape (c.look_at.ensures.tape t) i s k))

@@ -1,6 +1,6 @@
-use Rattle.std.proofs.Common.{◌≡◌, ◌≤◌, ◌<◌, ◌/◌, ◌+◌, [], ◌∷◌, ◌++◌, false, Some, inl, refl, sym, ◌∙◌, ap, subst, arith}
+use Rattle.std.proofs.Common.{◌≡◌, ◌≤◌, ◌<◌, ◌/◌, ◌+◌, [], ◌∷◌, ◌++◌, false, Some, inl, refl, sym, ◌∙◌, ap, subst, arith, Option, ℕ}
 use Rattle.md_base.specs.declared.places.Shape.{Shape}
-use Rattle.superblocks.specs.Reading.{list_length}
+use Rattle.superblocks.specs.Reading.{list_length, shape_of}
 use Rattle.flat_history.specs.declared.events.Event.TheVariants.{Refused, Step}
 use Rattle.flat_history.specs.declared.events.StepKind.TheVariants.{ResyncStripe}
 use Rattle.flat_history.specs.Plain.{entries_of}
@@ -10,7 +10,7 @@ use Rattle.views.proofs.LackingLaws.{lost-since, does-without}
 use Rattle.views.proofs.Still.{count-still}
 use Rattle.call_entries.specs.Losing.{losses_of}
 use Rattle.still_laws.specs.safe_updates_First.{write_refusal}
-use Rattle.still_laws.specs.array_kept_Calls.{HasStripeLeft, IsUnmendable}
+use Rattle.still_laws.specs.array_kept_Calls.{HasStripeLeft, IsUnmendable, one_more, AreSparesFewer}
 use Rattle.still_laws.proofs.array_kept_LossLaws.{losses-behind, ended-behind}
 use Rattle.still_laws.proofs.array_kept_ReadyLaws.{scope-same}
 use Rattle.still_laws.proofs.array_kept_ReplyLaws.{unwritten-of, refused-for}
@@ -28,6 +28,9 @@ use Rattle.still_laws.proofs.StepLaws.{refused-of, shapes-moved, planned-same, s
 use Rattle.still_laws.proofs.MendLaws.{mend-done, mend-refused}
 use Rattle.still_laws.proofs.PlainBehind.{unmended-plain, plain-refused}
 use Rattle.still_laws.proofs.PlainSteps.{mended-plain}
+use Rattle.views.specs.Placed.{AreStillHeld}
+use Rattle.views.proofs.Fit.{valid, short}
+use Rattle.still.proofs.Rested.{one-less, pending-left, room-of-step, shape-few, shape-known, sound-moved, stripe-fits, stripe-more}
 use Rattle.still.proofs.state.Still.mend_stripe.Goals as goal
 
 -- ---- refused before anything is done
@@ -170,12 +173,6 @@ returns-in-Some-refusal-clause-first g c =
     rw (← c.self.view_is) (subst (λ (s : Shape). write_refusal s false m ≡ Some refusal) c.shape_in-shape.ensures
     (refused-of (λ r. write_refusal c.shape_in-shape.result false m ≡ Some r) c.mend-mended.result.refusal refusal c.in-Some-refusal.is c.mend-mended.ensures.first))
 
-pub returns-in-Some-refusal-clause-held : goal.returns-in-Some-refusal-clause-held
-returns-in-Some-refusal-clause-held g c = rw (← c.self.view_is) c.mend-mended.ensures.moved.held
-
-pub returns-in-Some-refusal-clause-spares : goal.returns-in-Some-refusal-clause-spares
-returns-in-Some-refusal-clause-spares g c = rw (← c.self.view_is) c.mend-mended.ensures.moved.fewer
-
 -- ---- it is mended
 
 pub invariant_of-self-2 : goal.invariant_of-self-2
@@ -271,12 +268,6 @@ returns-clause-caused g c = rw (← c.self.view_is) (omega arith, c.in_default.e
 pub returns-clause-first : goal.returns-clause-first
 returns-clause-first g c = rw (← c.self.view_is) (sym c.in_default.ensures.first)
 
-pub returns-clause-held : goal.returns-clause-held
-returns-clause-held g c = rw (← c.self.view_is) c.mend-mended.ensures.moved.held
-
-pub returns-clause-spares : goal.returns-clause-spares
-returns-clause-spares g c = rw (← c.self.view_is) c.mend-mended.ensures.moved.fewer
-
 -- ---- the call goes on
 
 pub returns-in-Some-refusal-clause-open : goal.returns-in-Some-refusal-clause-open
@@ -284,3 +275,142 @@ returns-in-Some-refusal-clause-open g c = step-going c.args.who c.ops-end.result
 
 pub returns-clause-open : goal.returns-clause-open
 returns-clause-open g c = step-going c.args.who c.ops-end.result c.newly_vacant-roles.result c.mend-mended.result.spares (Step ResyncStripe c.all_left-left.result) c.requires.open tt (ap (λ p. p.parts.entries) c.self.view_is) c.enter_behind-2.ensures.items
+
+-- ---- what is handed down, and what is left of it
+
+pub check_going-requires : goal.check_going-requires
+check_going-requires g c = subst (λ p. IsCallGoing p.parts.entries c.args.who) (sym c.self.view_is) c.requires.open
+
+pub returns-in-Some-clause-stays : goal.returns-in-Some-clause-stays
+returns-in-Some-clause-stays g c = c.refuse_step.ensures.stays
+
+pub shape_in-shape-requires : goal.shape_in-shape-requires
+shape_in-shape-requires g c = valid (g.B.Bank.given c.self.inside.bank) c.self.inside.members c.self.invariant.kept.members_are.placed
+
+pub vacant_roles-before-requires-clause-known : goal.vacant_roles-before-requires-clause-known
+vacant_roles-before-requires-clause-known g c = shape-known (g.B.Bank.given c.self.inside.bank) c.self.inside.members c.self.invariant.kept.members_are.placed c.shape_in-shape.result c.shape_in-shape.ensures
+
+pub vacant_roles-before-requires-clause-few : goal.vacant_roles-before-requires-clause-few
+vacant_roles-before-requires-clause-few g c = shape-few (g.B.Bank.given c.self.inside.bank) c.self.inside.members c.self.invariant.kept.members_are.placed c.shape_in-shape.result c.shape_in-shape.ensures
+
+pub mend-mended-requires-clause-slots : goal.mend-mended-requires-clause-slots
+mend-mended-requires-clause-slots g c = c.self.invariant.kept.slots
+
+pub mend-mended-requires-clause-rows : goal.mend-mended-requires-clause-rows
+mend-mended-requires-clause-rows g c = c.self.invariant.rows_fit
+
+pub mend-mended-requires-clause-buffer : goal.mend-mended-requires-clause-buffer
+mend-mended-requires-clause-buffer g c = c.self.invariant.buffer_fits
+
+pub newly_vacant-roles-requires-clause-known : goal.newly_vacant-roles-requires-clause-known
+newly_vacant-roles-requires-clause-known g c =
+    let moved = c.mend-mended.ensures.moved in
+    shape-known (g.B.Bank.given c.self.inside.bank) c.mend-mended.new.members moved.placed c.shape_in-shape.result (c.shape_in-shape.ensures ∙ sym moved.shape)
+
+pub newly_vacant-roles-requires-clause-few : goal.newly_vacant-roles-requires-clause-few
+newly_vacant-roles-requires-clause-few g c = shape-few (g.B.Bank.given c.self.inside.bank) c.self.inside.members c.self.invariant.kept.members_are.placed c.shape_in-shape.result c.shape_in-shape.ensures
+
+pub enter_behind-requires-clause-room : goal.enter_behind-requires-clause-room
+enter_behind-requires-clause-room g c = room-of-step c.self.inside.steps c.self.inside.epoch.entries.room c.self.invariant.room_left (subst (λ p. 1 ≤ p.parts.steps) (sym c.self.view_is) c.requires.room)
+
+pub enter_behind-requires-clause-number : goal.enter_behind-requires-clause-number
+enter_behind-requires-clause-number g c = c.check_going.ensures
+
+pub returns-in-Some-refusal-clause-entered : goal.returns-in-Some-refusal-clause-entered
+returns-in-Some-refusal-clause-entered g c =
+    let end = c.ops-end.result in
+    let roles = c.newly_vacant-roles.result in
+    let spares = c.mend-mended.result.spares in
+    let refusal = c.in-Some-refusal.refusal in
+    record { roles = roles; spares = spares; end = end; is = c.enter_behind.ensures.items ∙ ap (λ p. p.parts.entries ++ entries_of c.args.who end (losses_of roles spares ++ Refused refusal ∷ [])) c.self.view_is }
+
+pub returns-in-Some-refusal-clause-work : goal.returns-in-Some-refusal-clause-work
+returns-in-Some-refusal-clause-work g c = ap (λ p. p.parts.work) c.self.view_is
+
+pub returns-in-Some-refusal-clause-room : goal.returns-in-Some-refusal-clause-room
+returns-in-Some-refusal-clause-room g c = one-less c.self.inside.steps c.args.self.now.parts.steps (ap (λ p. p.parts.steps) c.self.view_is) c.requires.room
+
+pub returns-in-Some-refusal-clause-given : goal.returns-in-Some-refusal-clause-given
+returns-in-Some-refusal-clause-given g c = c.mend-mended.ensures.given ∙ ap (λ p. g.B.Bank.given p.parts.bank) c.self.view_is
+
+pub overflow_add-self : goal.overflow_add-self
+overflow_add-self g c =
+    let a = c.self.inside in
+    let left : HasStripeLeft a.work.resync a.members = subst (λ p. HasStripeLeft p.parts.work.resync p.parts.members) (sym c.self.view_is) c.requires.pending in
+    stripe-fits (g.B.Bank.given a.bank) a.members c.self.invariant.kept.members_are.placed c.unwrap_or-stripe.result (next-stripe a.work.resync a.members c.unwrap_or-stripe.result left c.unwrap_or-stripe.ensures).1
+
+pub all_left-left-requires-clause-shape : goal.all_left-left-requires-clause-shape
+all_left-left-requires-clause-shape g c = valid (g.B.Bank.given c.self.inside.bank) c.mend-mended.new.members c.mend-mended.ensures.moved.placed
+
+pub all_left-left-requires-clause-size : goal.all_left-left-requires-clause-size
+all_left-left-requires-clause-size g c = short (g.B.Bank.given c.self.inside.bank) c.mend-mended.new.members c.mend-mended.ensures.moved.placed
+
+pub all_left-left-requires-clause-roles : goal.all_left-left-requires-clause-roles
+all_left-left-requires-clause-roles g c =
+    let m = c.mend-mended.new.members in
+    shape-known (g.B.Bank.given c.self.inside.bank) m c.mend-mended.ensures.moved.placed (shape_of m.newest) refl
+
+pub all_left-left-requires-clause-progress : goal.all_left-left-requires-clause-progress
+all_left-left-requires-clause-progress g c =
+    let a = c.self.inside in
+    let left : HasStripeLeft a.work.resync a.members = subst (λ p. HasStripeLeft p.parts.work.resync p.parts.members) (sym c.self.view_is) c.requires.pending in
+    stripe-more c.unwrap_or-stripe.result c.mend-mended.ensures.moved (next-stripe a.work.resync a.members c.unwrap_or-stripe.result left c.unwrap_or-stripe.ensures).1
+
+pub all_left-left-requires-clause-sound : goal.all_left-left-requires-clause-sound
+all_left-left-requires-clause-sound g c = sound-moved c.self.inside.ahead c.mend-mended.ensures.moved c.self.invariant.planned
+
+pub enter_behind-requires-2-clause-room : goal.enter_behind-requires-2-clause-room
+enter_behind-requires-2-clause-room g c = room-of-step c.self.inside.steps c.self.inside.epoch.entries.room c.self.invariant.room_left (subst (λ p. 1 ≤ p.parts.steps) (sym c.self.view_is) c.requires.room)
+
+pub enter_behind-requires-2-clause-number : goal.enter_behind-requires-2-clause-number
+enter_behind-requires-2-clause-number g c = c.check_going.ensures
+
+pub returns-clause-entered : goal.returns-clause-entered
+returns-clause-entered g c =
+    let who = c.args.who in
+    let end = c.ops-end.result in
+    let roles = c.newly_vacant-roles.result in
+    let spares = c.mend-mended.result.spares in
+    record {
+      roles = roles;
+      spares = spares;
+      end = end;
+      is = c.enter_behind-2.ensures.items ∙ ap (λ p. p.parts.entries ++ entries_of who end (losses_of roles spares ++ Step ResyncStripe c.all_left-left.result ∷ [])) c.self.view_is
+          ∙ ap (λ (n : ℕ). c.args.self.now.parts.entries ++ entries_of who end (losses_of roles spares ++ Step ResyncStripe n ∷ [])) c.all_left-left.ensures;
+    }
+
+pub returns-clause-work : goal.returns-clause-work
+returns-clause-work g c =
+    let a = c.self.inside in
+    let stripe = c.unwrap_or-stripe.result in
+    let left : HasStripeLeft a.work.resync a.members = subst (λ p. HasStripeLeft p.parts.work.resync p.parts.members) (sym c.self.view_is) c.requires.pending in
+    let next = next-stripe a.work.resync a.members stripe left c.unwrap_or-stripe.ensures in
+    ap (λ (o : Option ℕ). record a.work { resync = one_more o }) (sym next.0) ∙ ap (λ p. record p.parts.work { resync = one_more p.parts.work.resync }) c.self.view_is
+
+pub returns-clause-closable : goal.returns-clause-closable
+returns-clause-closable g c = λ none.
+    let stripe = c.unwrap_or-stripe.result in
+    absurd (pending-left (record c.self.inside.work { resync = Some (stripe + 1) }) c.mend-mended.new.members c.self.inside.ahead (stripe + 1) refl none)
+
+pub returns-clause-dirty : goal.returns-clause-dirty
+returns-clause-dirty g c = c.mend-mended.ensures.dirty
+
+pub returns-clause-room : goal.returns-clause-room
+returns-clause-room g c = one-less c.self.inside.steps c.args.self.now.parts.steps (ap (λ p. p.parts.steps) c.self.view_is) c.requires.room
+
+pub returns-clause-given : goal.returns-clause-given
+returns-clause-given g c = c.mend-mended.ensures.given ∙ ap (λ p. g.B.Bank.given p.parts.bank) c.self.view_is
+
+-- ---- what it leaves of the members
+
+pub returns-in-Some-refusal-clause-held : goal.returns-in-Some-refusal-clause-held
+returns-in-Some-refusal-clause-held g c = subst (λ p. AreStillHeld p.parts.members c.mend-mended.new.members) c.self.view_is c.mend-mended.ensures.moved.held
+
+pub returns-in-Some-refusal-clause-spares : goal.returns-in-Some-refusal-clause-spares
+returns-in-Some-refusal-clause-spares g c = subst (λ p. AreSparesFewer p.parts.members c.mend-mended.new.members) c.self.view_is c.mend-mended.ensures.moved.fewer
+
+pub returns-clause-held : goal.returns-clause-held
+returns-clause-held g c = subst (λ p. AreStillHeld p.parts.members c.mend-mended.new.members) c.self.view_is c.mend-mended.ensures.moved.held
+
+pub returns-clause-spares : goal.returns-clause-spares
+returns-clause-spares g c = subst (λ p. AreSparesFewer p.parts.members c.mend-mended.new.members) c.self.view_is c.mend-mended.ensures.moved.fewer

@@ -3,12 +3,12 @@ use Rattle.std.specs.Prelude.{IsTrue}
 use Rattle.std.proofs.Math.Nat.{le_trans}
 use Rattle.std.proofs.lemmas.List.{take-append-le}
 use Rattle.std.specs.Vec.{with_items}
-use Rattle.md_base.specs.Sectors.{Sector, sectors_of}
+use Rattle.md_base.specs.Sectors.{Sector, sectors_of, IsWhole}
 use Rattle.md_base.specs.Shapes.{data_disks, is_multiple}
 use Rattle.md_base.proofs.SectorLaws.{length-sectors_of}
 use Rattle.md_base.specs.declared.places.Shape.{Shape}
 use Rattle.layout.proofs.Limits.{limited}
-use Rattle.superblocks.specs.Reading.{shape_of, list_length}
+use Rattle.superblocks.specs.Reading.{shape_of, list_length, is_clean}
 use Rattle.flat_history.specs.declared.events.Entry.{Entry}
 use Rattle.flat_history.specs.declared.events.Event.TheVariants.{Read, Refused}
 use Rattle.flat_history.specs.declared.events.Request.TheVariants.{Read as AsksRead}
@@ -16,11 +16,11 @@ use Rattle.flat_history.specs.World.{opening_list}
 use Rattle.flat_history.specs.Flat.{next_number, now}
 use Rattle.flat_history.specs.Plain.{entries_of}
 use Rattle.still_laws.proofs.shape_views_Stands.{list-still}
-use Rattle.views.specs.Lacking.{IsUnread, mended_rows}
-use Rattle.views.specs.Placed.{places_of}
+use Rattle.views.specs.Lacking.{IsUnread, mended_rows, HaveRolesFailed}
+use Rattle.views.specs.Placed.{places_of, AreWhole}
 use Rattle.views.specs.Rows.{row_sector}
 use Rattle.views.specs.Whole.{list_size}
-use Rattle.views.proofs.Fit.{valid}
+use Rattle.views.proofs.Fit.{valid, short, multiple}
 use Rattle.views.proofs.LackingLaws.{lost-since, shape-without}
 use Rattle.views.proofs.LackingLists.{row-sector}
 use Rattle.views.proofs.MemberLaws.{list-few}
@@ -49,10 +49,13 @@ use Rattle.still_laws.proofs.running_words_Lengths.{alone-keeps, behind-keeps}
 use Rattle.still_laws.proofs.running_words_Replies.{refused_reply, lost_reply, read_kind}
 use Rattle.still_laws.proofs.running_words_VisibleLaws.{visible-within}
 use Rattle.still_laws.proofs.Asking.{refused-alone}
-use Rattle.still_laws.proofs.Kept.{ready, rows-same, rows-moved, with-buffers}
+use Rattle.still_laws.proofs.Kept.{ready, rows-same, rows-moved, with-buffers, roomier}
 use Rattle.still_laws.proofs.PlainBehind.{unread-plain, plain-refused, plain-read, first-plain}
 use Rattle.still_laws.proofs.Left.{left-alike}
 use Rattle.still_laws.proofs.Reading.{seen, unread-still, refused-first, fetched-holds, read-holds}
+use Rattle.still.proofs.Asked.{known-at, known-behind, room-49, room-1, whole-alike, scratch-fits, entries-alike, undone-called}
+use Rattle.row_io.specs.Rows.{present}
+use Rattle.still_laws.specs.shape_changes_Marking.{AreOthersPresent}
 use Rattle.still.proofs.state.Still.read.Goals as goal
 
 -- bytes that were written whole
@@ -277,16 +280,16 @@ returns-in-Some-refusal-clause-first g c =
     (subst (λ (n : ℕ). read_refusal c.shape_in-shape.result n c.args.at count m ≡ Some refusal) c.mended_rows-mended.ensures.rows (subst (λ (n : ℕ). read_refusal c.shape_in-shape.result c.mended_rows-mended.result c.args.at n m ≡ Some refusal) same why)))
 
 pub returns-in-Some-refusal-clause-tape : goal.returns-in-Some-refusal-clause-tape
-returns-in-Some-refusal-clause-tape g c = rw (← c.self.view_is) c.fetch-fetched.ensures.tape
+returns-in-Some-refusal-clause-tape g c = λ whole t. c.fetch-fetched.ensures.tape whole t ∙ ap (λ p. g.B.Bank.tape p.parts.bank) c.self.view_is
 
 pub returns-in-Some-refusal-clause-others : goal.returns-in-Some-refusal-clause-others
-returns-in-Some-refusal-clause-others g c = rw (← c.self.view_is) c.fetch-fetched.ensures.others
+returns-in-Some-refusal-clause-others g c = subst (λ p. g.B.Bank.tells → AreOthersPresent (present (g.B.Bank.given p.parts.bank) (g.B.Bank.tape p.parts.bank)) (present (g.B.Bank.given p.parts.bank) (g.B.Bank.tape c.fetch-fetched.new.bank))) c.self.view_is c.fetch-fetched.ensures.others
 
 pub returns-in-Some-refusal-clause-failed : goal.returns-in-Some-refusal-clause-failed
-returns-in-Some-refusal-clause-failed g c = rw (← c.self.view_is) c.fetch-fetched.ensures.failed.roles
+returns-in-Some-refusal-clause-failed g c = subst (λ p. HaveRolesFailed p.parts.members c.fetch-fetched.new.members (g.B.Bank.faults_of p.parts.bank) (g.B.Bank.faults_of c.fetch-fetched.new.bank)) c.self.view_is c.fetch-fetched.ensures.failed.roles
 
 pub returns-in-Some-refusal-clause-whole : goal.returns-in-Some-refusal-clause-whole
-returns-in-Some-refusal-clause-whole g c = rw (← c.self.view_is) c.fetch-fetched.ensures.moved.whole
+returns-in-Some-refusal-clause-whole g c = subst (λ p. AreWhole c.fetch-fetched.new.members → AreWhole p.parts.members) c.self.view_is c.fetch-fetched.ensures.moved.whole
 
 -- ---- done
 
@@ -402,19 +405,167 @@ returns-clause-called g c =
     (λ t. (was.kept.recorded t).begun))
 
 pub returns-clause-tape : goal.returns-clause-tape
-returns-clause-tape g c = rw (← c.self.view_is) c.fetch-fetched.ensures.tape
+returns-clause-tape g c = λ whole t. c.fetch-fetched.ensures.tape whole t ∙ ap (λ p. g.B.Bank.tape p.parts.bank) c.self.view_is
 
 pub returns-clause-others : goal.returns-clause-others
-returns-clause-others g c = rw (← c.self.view_is) c.fetch-fetched.ensures.others
+returns-clause-others g c = subst (λ p. g.B.Bank.tells → AreOthersPresent (present (g.B.Bank.given p.parts.bank) (g.B.Bank.tape p.parts.bank)) (present (g.B.Bank.given p.parts.bank) (g.B.Bank.tape c.fetch-fetched.new.bank))) c.self.view_is c.fetch-fetched.ensures.others
 
 pub returns-clause-caused : goal.returns-clause-caused
 returns-clause-caused g c = rw (← c.self.view_is) c.in_default.ensures.why
 
 pub returns-clause-failed : goal.returns-clause-failed
-returns-clause-failed g c = rw (← c.self.view_is) c.fetch-fetched.ensures.failed.roles
+returns-clause-failed g c = subst (λ p. HaveRolesFailed p.parts.members c.fetch-fetched.new.members (g.B.Bank.faults_of p.parts.bank) (g.B.Bank.faults_of c.fetch-fetched.new.bank)) c.self.view_is c.fetch-fetched.ensures.failed.roles
 
 pub returns-clause-whole : goal.returns-clause-whole
-returns-clause-whole g c = rw (← c.self.view_is) c.fetch-fetched.ensures.moved.whole
+returns-clause-whole g c = subst (λ p. AreWhole c.fetch-fetched.new.members → AreWhole p.parts.members) c.self.view_is c.fetch-fetched.ensures.moved.whole
 
 pub returns-clause-first : goal.returns-clause-first
 returns-clause-first g c = rw (← c.self.view_is) (sym c.in_default.ensures.first)
+
+-- ---- what the calls ask
+
+pub check_number-requires : goal.check_number-requires
+check_number-requires g c = c.requires.next ∙ ap (λ p. next_number c.args.who.caller p.parts.entries) (sym c.self.view_is) ∙ ap (λ (l : List Entry). next_number c.args.who.caller l) (sym c.make_room.ensures.items)
+
+pub unread_here-requires-clause-shape : goal.unread_here-requires-clause-shape
+unread_here-requires-clause-shape g c = c.self.invariant.kept.members_are.placed.fit.valid.old
+
+pub unread_here-requires-clause-multiple : goal.unread_here-requires-clause-multiple
+unread_here-requires-clause-multiple g c = multiple (g.B.Bank.given c.self.inside.bank) c.self.inside.members c.self.invariant.kept.members_are.placed
+
+pub unread_here-requires-clause-size : goal.unread_here-requires-clause-size
+unread_here-requires-clause-size g c = short (g.B.Bank.given c.self.inside.bank) c.self.inside.members c.self.invariant.kept.members_are.placed
+
+pub unread_here-requires-clause-progress : goal.unread_here-requires-clause-progress
+unread_here-requires-clause-progress g c = c.self.invariant.kept.progress
+
+pub enter-requires-clause-room : goal.enter-requires-clause-room
+enter-requires-clause-room g c = room-1 c.in-Ok-make_room.ensures.ok
+
+pub enter-requires-clause-number : goal.enter-requires-clause-number
+enter-requires-clause-number g c = c.check_number.ensures
+
+pub shape_in-shape-requires : goal.shape_in-shape-requires
+shape_in-shape-requires g c = c.self.invariant.kept.members_are.placed.fit.valid.old
+
+pub vacant_roles-before-requires-clause-known : goal.vacant_roles-before-requires-clause-known
+vacant_roles-before-requires-clause-known g c = known-at c.self.invariant.kept.members_are.placed c.shape_in-shape.ensures
+
+pub mended_rows-mended-requires-clause-shape : goal.mended_rows-mended-requires-clause-shape
+mended_rows-mended-requires-clause-shape g c = c.self.invariant.kept.members_are.placed.fit.valid.old
+
+pub mended_rows-mended-requires-clause-multiple : goal.mended_rows-mended-requires-clause-multiple
+mended_rows-mended-requires-clause-multiple g c = multiple (g.B.Bank.given c.self.inside.bank) c.self.inside.members c.self.invariant.kept.members_are.placed
+
+pub mended_rows-mended-requires-clause-progress : goal.mended_rows-mended-requires-clause-progress
+mended_rows-mended-requires-clause-progress g c = c.self.invariant.kept.progress
+
+pub fetch-fetched-requires-clause-slots : goal.fetch-fetched-requires-clause-slots
+fetch-fetched-requires-clause-slots g c = c.self.invariant.kept.slots
+
+pub fetch-fetched-requires-clause-placed : goal.fetch-fetched-requires-clause-placed
+fetch-fetched-requires-clause-placed g c = c.self.invariant.kept.members_are.placed
+
+pub fetch-fetched-requires-clause-unlost : goal.fetch-fetched-requires-clause-unlost
+fetch-fetched-requires-clause-unlost g c = c.self.invariant.kept.members_are.unlost
+
+pub fetch-fetched-requires-clause-free : goal.fetch-fetched-requires-clause-free
+fetch-fetched-requires-clause-free g c = c.self.invariant.kept.members_are.free
+
+pub fetch-fetched-requires-clause-into : goal.fetch-fetched-requires-clause-into
+fetch-fetched-requires-clause-into g c = whole-alike _ _ (ap (λ (l : List ℕ). length l) c.as_mut_slice.ensures.value ∙ c.in-Ok.ensures.len) c.requires.whole
+
+pub fetch-fetched-requires-clause-scratch : goal.fetch-fetched-requires-clause-scratch
+fetch-fetched-requires-clause-scratch g c = scratch-fits c.as_mut_slice-2.ensures.value c.self.invariant.buffer_fits
+
+pub fetch-fetched-requires-clause-mended : goal.fetch-fetched-requires-clause-mended
+fetch-fetched-requires-clause-mended g c = c.mended_rows-mended.ensures.within
+
+pub newly_vacant-roles-requires-clause-known : goal.newly_vacant-roles-requires-clause-known
+newly_vacant-roles-requires-clause-known g c = known-behind c.fetch-fetched.ensures.moved c.shape_in-shape.ensures
+
+pub copy_from_slice-requires : goal.copy_from_slice-requires
+copy_from_slice-requires g c =
+    let len : length c.fetch-fetched.new.into ≡ length c.args.into.now = c.fetch-fetched.auto.into ∙ ap (λ (l : List ℕ). length l) c.as_mut_slice.ensures.value ∙ c.in-Ok.ensures.len in
+    let whole = written-whole c.in-Ok.bytes.len c.in-Ok.bytes.items c.fetch-fetched.new.into (c.fetch-fetched.auto.into ∙ ap (λ (l : List ℕ). length l) c.as_mut_slice.ensures.value) c.in-Ok.bytes.ok.0 in
+    sym (ap (λ (l : List ℕ). length l) (c.as_slice.ensures.value ∙ whole) ∙ len)
+
+pub from_bytes-body-requires : goal.from_bytes-body-requires
+from_bytes-body-requires g c =
+    let len : length c.fetch-fetched.new.into ≡ length c.args.into.now = c.fetch-fetched.auto.into ∙ ap (λ (l : List ℕ). length l) c.as_mut_slice.ensures.value ∙ c.in-Ok.ensures.len in
+    let whole = written-whole c.in-Ok.bytes.len c.in-Ok.bytes.items c.fetch-fetched.new.into (c.fetch-fetched.auto.into ∙ ap (λ (l : List ℕ). length l) c.as_mut_slice.ensures.value) c.in-Ok.bytes.ok.0 in
+    subst (λ (l : List ℕ). IsWhole l) (sym whole) (whole-alike _ _ len c.requires.whole)
+
+pub enter_behind-requires-clause-room : goal.enter_behind-requires-clause-room
+enter_behind-requires-clause-room g c = room-49 c.in-Ok-make_room.ensures.ok
+
+pub enter_behind-requires-clause-number : goal.enter_behind-requires-clause-number
+enter_behind-requires-clause-number g c = c.check_number.ensures
+
+pub enter_behind-requires-2-clause-room : goal.enter_behind-requires-2-clause-room
+enter_behind-requires-2-clause-room g c = room-49 c.in-Ok-make_room.ensures.ok
+
+pub enter_behind-requires-2-clause-number : goal.enter_behind-requires-2-clause-number
+enter_behind-requires-2-clause-number g c = c.check_number.ensures
+
+-- ---- memory was short
+
+pub returns-in-Err-clause-called : goal.returns-in-Err-clause-called
+returns-in-Err-clause-called g c =
+    let kept = c.self.invariant.kept in
+    rw (← c.self.view_is) (undone-called kept.members_are.placed kept.members_are.unlost (λ t. (kept.recorded t).ended) (λ t. (kept.recorded t).begun) refl)
+
+pub returns-in-Err-clause-failed : goal.returns-in-Err-clause-failed
+returns-in-Err-clause-failed g c = λ role slot held. inl held
+
+pub invariant_of-self : goal.invariant_of-self
+invariant_of-self g c = roomier c.self.invariant c.make_room.ensures.items c.make_room.ensures.keeps
+
+pub returns-in-Err-make_room-clause-answered : goal.returns-in-Err-make_room-clause-answered
+returns-in-Err-make_room-clause-answered g c = c.make_room.ensures.items ∙ ap (λ p. p.parts.entries) c.self.view_is
+
+pub returns-in-Err-make_room-clause-unchanged : goal.returns-in-Err-make_room-clause-unchanged
+returns-in-Err-make_room-clause-unchanged g c = entries-alike c.make_room.new.self.items c.self.view_is c.make_room.ensures.items
+
+pub returns-in-Err-make_room-clause-called : goal.returns-in-Err-make_room-clause-called
+returns-in-Err-make_room-clause-called g c =
+    let kept = c.self.invariant.kept in
+    rw (← c.self.view_is) (undone-called kept.members_are.placed kept.members_are.unlost (λ t. (kept.recorded t).ended) (λ t. (kept.recorded t).begun) (entries-alike c.make_room.new.self.items refl c.make_room.ensures.items))
+
+pub returns-in-Err-make_room-clause-whole : goal.returns-in-Err-make_room-clause-whole
+returns-in-Err-make_room-clause-whole g c = subst (λ p. AreWhole c.self.inside.members → AreWhole p.parts.members) c.self.view_is (λ whole. whole)
+
+pub returns-in-Err-make_room-clause-caused : goal.returns-in-Err-make_room-clause-caused
+returns-in-Err-make_room-clause-caused g c = ap (λ p. p.parts.members) c.self.view_is
+
+pub returns-in-Err-make_room-clause-failed : goal.returns-in-Err-make_room-clause-failed
+returns-in-Err-make_room-clause-failed g c = subst (λ p. HaveRolesFailed p.parts.members c.self.inside.members (g.B.Bank.faults_of p.parts.bank) (g.B.Bank.faults_of c.self.inside.bank)) c.self.view_is (λ role slot held. inl held)
+
+-- ---- what is as it was
+
+pub returns-in-Some-clause-whole : goal.returns-in-Some-clause-whole
+returns-in-Some-clause-whole g c = subst (λ p. AreWhole c.self.inside.members → AreWhole p.parts.members) c.self.view_is (λ whole. whole)
+
+pub returns-in-Some-clause-failed : goal.returns-in-Some-clause-failed
+returns-in-Some-clause-failed g c = subst (λ p. HaveRolesFailed p.parts.members c.self.inside.members (g.B.Bank.faults_of p.parts.bank) (g.B.Bank.faults_of c.self.inside.bank)) c.self.view_is (λ role slot held. inl held)
+
+pub returns-in-Some-clause-tape : goal.returns-in-Some-clause-tape
+returns-in-Some-clause-tape g c = λ whole t. ap (λ p. g.B.Bank.tape p.parts.bank) c.self.view_is
+
+pub returns-in-Some-clause-clean : goal.returns-in-Some-clause-clean
+returns-in-Some-clause-clean g c = ap (λ p. is_clean p.parts.members.newest) c.self.view_is
+
+pub returns-in-Some-clause-given : goal.returns-in-Some-clause-given
+returns-in-Some-clause-given g c = ap (λ p. g.B.Bank.given p.parts.bank) c.self.view_is
+
+pub returns-in-Some-refusal-clause-clean : goal.returns-in-Some-refusal-clause-clean
+returns-in-Some-refusal-clause-clean g c = c.fetch-fetched.ensures.clean ∙ ap (λ p. is_clean p.parts.members.newest) c.self.view_is
+
+pub returns-in-Some-refusal-clause-given : goal.returns-in-Some-refusal-clause-given
+returns-in-Some-refusal-clause-given g c = c.fetch-fetched.ensures.given ∙ ap (λ p. g.B.Bank.given p.parts.bank) c.self.view_is
+
+pub returns-clause-clean : goal.returns-clause-clean
+returns-clause-clean g c = c.fetch-fetched.ensures.clean ∙ ap (λ p. is_clean p.parts.members.newest) c.self.view_is
+
+pub returns-clause-given : goal.returns-clause-given
+returns-clause-given g c = c.fetch-fetched.ensures.given ∙ ap (λ p. g.B.Bank.given p.parts.bank) c.self.view_is

@@ -13,8 +13,10 @@ use Rattle.still_laws.specs.moving_state_Left.{visible_by}
 use Rattle.still_laws.specs.running_words_Parts.{visible_size}
 use Rattle.still_laws.specs.running_words_Visible.{visible_refusal}
 use Rattle.still_laws.proofs.running_words_Lengths.{alone-keeps}
-use Rattle.still_laws.proofs.Kept.{ready, rows-same}
+use Rattle.still_laws.proofs.Kept.{ready, rows-same, roomier}
 use Rattle.still_laws.proofs.Limiting.{unlimited-fits, unlimited-stands, unlimited-plain, visible-fits, visible-ready}
+use Rattle.flat_history.specs.Transfers.{last_end_from}
+use Rattle.still.proofs.Rested.{entries-same}
 use Rattle.still.proofs.state.Still.set_visible.Goals as goal
 
 -- ---- refused
@@ -134,3 +136,21 @@ returns-clause-limited g c = rw (← c.self.view_is) (record {
 pub returns-clause-ended : goal.returns-clause-ended
 returns-clause-ended g c =
     ended-behind (g.B.Bank.tape c.self.inside.bank) c.enter-2.new.epoch.first c.make_room.new.self.items c.args.who c.ops-end.result [] (Visible c.args.limit c.visible_of-count.result) c.enter-2.ensures.items c.ops-end.ensures.count
+
+-- ---- nothing was done
+
+pub invariant_of-self : goal.invariant_of-self
+invariant_of-self g c = roomier c.self.invariant c.make_room.ensures.items c.make_room.ensures.keeps
+
+pub returns-in-Err-clause-unchanged : goal.returns-in-Err-clause-unchanged
+returns-in-Err-clause-unchanged g c = entries-same c.make_room.new.self.items c.self.view_is c.make_room.ensures.items
+
+pub returns-in-Err-clause-answered : goal.returns-in-Err-clause-answered
+returns-in-Err-clause-answered g c = c.make_room.ensures.items ∙ ap (λ p. p.parts.entries) c.self.view_is
+
+pub returns-in-Err-clause-ended : goal.returns-in-Err-clause-ended
+returns-in-Err-clause-ended g c = λ t. ap (λ (l : List Entry). last_end_from c.self.inside.epoch.first l) c.make_room.ensures.items ∙ (c.self.invariant.kept.recorded t).ended
+
+pub check_number-requires : goal.check_number-requires
+check_number-requires g c =
+    c.requires.next ∙ ap (λ p. next_number c.args.who.caller p.parts.entries) (sym c.self.view_is) ∙ ap (λ (l : List Entry). next_number c.args.who.caller l) (sym c.make_room.ensures.items)

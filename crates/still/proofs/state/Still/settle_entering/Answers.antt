@@ -1,4 +1,4 @@
-use Rattle.std.proofs.Common.{◌≡◌, [], ◌∷◌, ◌++◌, refl, sym, ◌∙◌, ap, arith}
+use Rattle.std.proofs.Common.{◌≡◌, [], ◌∷◌, ◌++◌, refl, sym, ◌∙◌, ap, arith, inl, List, subst}
 use Rattle.superblocks.proofs.ValidFields.{few-roles}
 use Rattle.flat_history.specs.declared.events.Event.TheVariants.{Refused}
 use Rattle.flat_history.specs.Flat.{next_number}
@@ -16,11 +16,21 @@ use Rattle.still_laws.specs.running_words_Parts.{visible_size, still_left}
 use Rattle.still_laws.proofs.running_words_Called.{not_254, called, alone-lossless, risen-told, many-of}
 use Rattle.still_laws.proofs.running_words_Lengths.{alone-keeps, behind-keeps}
 use Rattle.still_laws.proofs.Asking.{many-alone}
-use Rattle.still_laws.proofs.Kept.{ready, rows-same, rows-moved}
+use Rattle.still_laws.proofs.Kept.{ready, rows-same, rows-moved, roomier}
 use Rattle.still_laws.proofs.Left.{left-alike}
 use Rattle.still_laws.proofs.Settled.{settled-stands, left-settled, settling-keeps}
 use Rattle.still_laws.proofs.array_kept_DegradedLaws.{too-many-here}
 use Rattle.still_laws.proofs.PlainBehind.{plain-refused, plain-settled, here-plain}
+use Rattle.std.specs.Prelude.{is_some}
+use Rattle.superblocks.specs.Reading.{list_length}
+use Rattle.row_io.specs.Rows.{reading_of, present}
+use Rattle.flat_history.specs.declared.events.Entry.{Entry}
+use Rattle.views.specs.Lacking.{AreHoldersFlushed, AreTooMany, HaveRolesFailed}
+use Rattle.views.specs.Placed.{AreWhole}
+use Rattle.still_laws.specs.shape_changes_Marking.{AreOthersPresent}
+use Rattle.still_laws.specs.array_kept_Calls.{IsRefusedFor}
+use Rattle.still_laws.proofs.array_kept_ReplyLaws.{refused-for, too-many-of}
+use Rattle.still.proofs.Rested.{count-moved, entries-same, from-0, idle-called, le-of, room-1, room-49}
 use Rattle.still.proofs.state.Still.settle_entering.Goals as goal
 
 pub overflow_cast-count : goal.overflow_cast-count
@@ -144,15 +154,6 @@ returns-in-Some-refusal-clause-called g c =
     (record { uuid = c.enter_behind.ensures.uuid; given = c.enter_behind.ensures.given; first = c.enter_behind.ensures.first; backup = refl; work = refl; ahead = refl; limit = refl })
     (λ t. (was.kept.recorded t).begun))
 
-pub returns-in-Some-refusal-clause-others : goal.returns-in-Some-refusal-clause-others
-returns-in-Some-refusal-clause-others g c = rw (← c.self.view_is) c.settle-settled.ensures.others
-
-pub returns-in-Some-refusal-clause-failed : goal.returns-in-Some-refusal-clause-failed
-returns-in-Some-refusal-clause-failed g c = rw (← c.self.view_is) c.settle-settled.ensures.failed.roles
-
-pub returns-in-Some-refusal-clause-whole : goal.returns-in-Some-refusal-clause-whole
-returns-in-Some-refusal-clause-whole g c = rw (← c.self.view_is) c.settle-settled.ensures.moved.whole
-
 -- ---- it is done
 
 pub invariant_of-self-2 : goal.invariant_of-self-2
@@ -227,14 +228,160 @@ returns-clause-left g c =
 pub returns-clause-caused : goal.returns-clause-caused
 returns-clause-caused g c = rw (← c.self.view_is) (omega arith, λ refusal many. never-both c.self.inside.members refusal c.in_default.ensures many)
 
+-- ---- what is handed down, and what is left of it
+
+pub invariant_of-self : goal.invariant_of-self
+invariant_of-self g c = roomier c.self.invariant c.make_room.ensures.items c.make_room.ensures.keeps
+
+pub returns-in-Err-clause-answered : goal.returns-in-Err-clause-answered
+returns-in-Err-clause-answered g c = c.make_room.ensures.items ∙ ap (λ p. p.parts.entries) c.self.view_is
+
+pub returns-in-Err-clause-unchanged : goal.returns-in-Err-clause-unchanged
+returns-in-Err-clause-unchanged g c = entries-same c.make_room.new.self.items c.self.view_is c.make_room.ensures.items
+
+pub returns-in-Err-clause-called : goal.returns-in-Err-clause-called
+returns-in-Err-clause-called g c =
+    let kept = c.self.invariant.kept in
+    rw (← c.self.view_is) (idle-called kept.members_are.placed kept.members_are.unlost (λ t. (kept.recorded t).ended) (λ t. (kept.recorded t).begun) (entries-same c.make_room.new.self.items refl c.make_room.ensures.items))
+
+pub returns-in-Err-clause-whole : goal.returns-in-Err-clause-whole
+returns-in-Err-clause-whole g c = subst (λ p. AreWhole c.self.inside.members → AreWhole p.parts.members) c.self.view_is (λ whole. whole)
+
+pub returns-in-Err-clause-caused : goal.returns-in-Err-clause-caused
+returns-in-Err-clause-caused g c = ap (λ p. p.parts.members) c.self.view_is
+
+pub returns-in-Err-clause-failed : goal.returns-in-Err-clause-failed
+returns-in-Err-clause-failed g c =
+    let a = c.self.inside in
+    subst (λ p. HaveRolesFailed p.parts.members a.members (g.B.Bank.faults_of p.parts.bank) (g.B.Bank.faults_of a.bank)) c.self.view_is (λ role slot held. inl held)
+
+pub returns-in-Err-clause-given : goal.returns-in-Err-clause-given
+returns-in-Err-clause-given g c = ap (λ p. g.B.Bank.given p.parts.bank) c.self.view_is
+
+pub check_number-requires : goal.check_number-requires
+check_number-requires g c =
+    c.requires.next ∙ ap (λ p. next_number c.args.who.caller p.parts.entries) (sym c.self.view_is) ∙ ap (λ (l : List Entry). next_number c.args.who.caller l) (sym c.make_room.ensures.items)
+
+pub enter-requires-clause-room : goal.enter-requires-clause-room
+enter-requires-clause-room g c = room-1 c.make_room.new.self.room c.in-Ok.ensures.ok
+
+pub enter-requires-clause-number : goal.enter-requires-clause-number
+enter-requires-clause-number g c = c.check_number.ensures
+
+pub returns-in-Some-clause-whole : goal.returns-in-Some-clause-whole
+returns-in-Some-clause-whole g c = subst (λ p. AreWhole c.self.inside.members → AreWhole p.parts.members) c.self.view_is (λ whole. whole)
+
+pub returns-in-Some-clause-others : goal.returns-in-Some-clause-others
+returns-in-Some-clause-others g c =
+    let a = c.self.inside in
+    subst (λ p. g.B.Bank.tells → AreOthersPresent (present (g.B.Bank.given p.parts.bank) (g.B.Bank.tape p.parts.bank)) (present (g.B.Bank.given p.parts.bank) (g.B.Bank.tape a.bank))) c.self.view_is (λ t s k apart. refl)
+
+pub returns-in-Some-clause-caused : goal.returns-in-Some-clause-caused
+returns-in-Some-clause-caused g c =
+    let m = c.self.inside.members in
+    let refusal = c.in-Some.refusal in
+    subst (λ p. IsRefusedFor (list_length p.parts.members.newest) 0 AreTooMany p.parts.members m refusal) c.self.view_is
+    (refused-for (list_length m.newest) 0 AreTooMany m m refusal (too-many-of m refusal c.in-Some.ensures) (from-0 (list_length m.newest)) c.in-Some.ensures)
+
+pub returns-in-Some-clause-failed : goal.returns-in-Some-clause-failed
+returns-in-Some-clause-failed g c =
+    let a = c.self.inside in
+    subst (λ p. HaveRolesFailed p.parts.members a.members (g.B.Bank.faults_of p.parts.bank) (g.B.Bank.faults_of a.bank)) c.self.view_is (λ role slot held. inl held)
+
+pub returns-in-Some-clause-given : goal.returns-in-Some-clause-given
+returns-in-Some-clause-given g c = ap (λ p. g.B.Bank.given p.parts.bank) c.self.view_is
+
+pub vacant_roles-before-requires-clause-known : goal.vacant_roles-before-requires-clause-known
+vacant_roles-before-requires-clause-known g c = le-of c.len-count.ensures
+
+pub settle-settled-requires-clause-slots : goal.settle-settled-requires-clause-slots
+settle-settled-requires-clause-slots g c = c.self.invariant.kept.slots
+
+pub newly_vacant-roles-requires-clause-known : goal.newly_vacant-roles-requires-clause-known
+newly_vacant-roles-requires-clause-known g c = count-moved c.len-count.result c.self.invariant.kept.members_are.placed c.settle-settled.ensures.moved c.len-count.ensures
+
+pub enter_behind-requires-clause-room : goal.enter_behind-requires-clause-room
+enter_behind-requires-clause-room g c = room-49 c.make_room.new.self.room c.in-Ok.ensures.ok
+
+pub enter_behind-requires-clause-number : goal.enter_behind-requires-clause-number
+enter_behind-requires-clause-number g c = c.check_number.ensures
+
+pub returns-in-Some-refusal-clause-answered : goal.returns-in-Some-refusal-clause-answered
+returns-in-Some-refusal-clause-answered g c =
+    let end = c.ops-end-2.result in
+    let roles = c.newly_vacant-roles.result in
+    let spares = c.settle-settled.result.spares in
+    let refusal = c.in-Some-refusal.refusal in
+    record {
+      roles = roles;
+      spares = spares;
+      end = end;
+      is = c.enter_behind.ensures.items ∙ ap (λ (l : List Entry). l ++ entries_of c.args.who end (losses_of roles spares ++ Refused refusal ∷ [])) (c.make_room.ensures.items ∙ ap (λ p. p.parts.entries) c.self.view_is);
+    }
+
+pub returns-in-Some-refusal-clause-caused : goal.returns-in-Some-refusal-clause-caused
+returns-in-Some-refusal-clause-caused g c =
+    let a = c.self.inside in
+    let m = c.settle-settled.new.members in
+    let refusal = c.in-Some-refusal.refusal in
+    let many = many-of m c.settle-settled.result.refusal refusal c.in-Some-refusal.is c.settle-settled.ensures.refused in
+    subst (λ p. IsRefusedFor (list_length p.parts.members.newest) 0 AreTooMany p.parts.members m refusal) c.self.view_is
+    (refused-for (list_length a.members.newest) 0 AreTooMany a.members m refusal (too-many-of m refusal many) (from-0 (list_length a.members.newest)) many)
+
+pub returns-in-Some-refusal-clause-given : goal.returns-in-Some-refusal-clause-given
+returns-in-Some-refusal-clause-given g c = c.settle-settled.ensures.given ∙ ap (λ p. g.B.Bank.given p.parts.bank) c.self.view_is
+
+pub enter_behind-requires-2-clause-room : goal.enter_behind-requires-2-clause-room
+enter_behind-requires-2-clause-room g c = room-49 c.make_room.new.self.room c.in-Ok.ensures.ok
+
+pub enter_behind-requires-2-clause-number : goal.enter_behind-requires-2-clause-number
+enter_behind-requires-2-clause-number g c = c.check_number.ensures
+
+pub returns-clause-answered : goal.returns-clause-answered
+returns-clause-answered g c =
+    let end = c.ops-end-2.result in
+    let roles = c.newly_vacant-roles.result in
+    let spares = c.settle-settled.result.spares in
+    record {
+      roles = roles;
+      spares = spares;
+      end = end;
+      is = c.enter_behind-2.ensures.items ∙ ap (λ (l : List Entry). l ++ entries_of c.args.who end (losses_of roles spares ++ c.args.event ∷ [])) (c.make_room.ensures.items ∙ ap (λ p. p.parts.entries) c.self.view_is);
+    }
+
+pub returns-clause-clean : goal.returns-clause-clean
+returns-clause-clean g c = λ none. c.settle-settled.ensures.clean c.in_default-refusal.is (c.is_some.ensures ∙ ap (λ p. is_some p.parts.work.resync) c.self.view_is ∙ ap is_some none)
+
+pub returns-clause-last : goal.returns-clause-last
+returns-clause-last g c = λ t. c.enter_behind-2.ensures.last ∙ c.ops-end-2.ensures.count t
+
+pub returns-clause-given : goal.returns-clause-given
+returns-clause-given g c = c.settle-settled.ensures.given ∙ ap (λ p. g.B.Bank.given p.parts.bank) c.self.view_is
+
+-- ---- what it leaves of the members
+
+pub returns-in-Some-refusal-clause-others : goal.returns-in-Some-refusal-clause-others
+returns-in-Some-refusal-clause-others g c =
+    subst (λ p. g.B.Bank.tells → AreOthersPresent (present (g.B.Bank.given p.parts.bank) (g.B.Bank.tape p.parts.bank)) (present (g.B.Bank.given p.parts.bank) (g.B.Bank.tape c.settle-settled.new.bank))) c.self.view_is c.settle-settled.ensures.others
+
+pub returns-in-Some-refusal-clause-failed : goal.returns-in-Some-refusal-clause-failed
+returns-in-Some-refusal-clause-failed g c =
+    subst (λ p. HaveRolesFailed p.parts.members c.settle-settled.new.members (g.B.Bank.faults_of p.parts.bank) (g.B.Bank.faults_of c.settle-settled.new.bank)) c.self.view_is c.settle-settled.ensures.failed.roles
+
+pub returns-in-Some-refusal-clause-whole : goal.returns-in-Some-refusal-clause-whole
+returns-in-Some-refusal-clause-whole g c = subst (λ p. AreWhole c.settle-settled.new.members → AreWhole p.parts.members) c.self.view_is c.settle-settled.ensures.moved.whole
+
 pub returns-clause-others : goal.returns-clause-others
-returns-clause-others g c = rw (← c.self.view_is) c.settle-settled.ensures.others
+returns-clause-others g c =
+    subst (λ p. g.B.Bank.tells → AreOthersPresent (present (g.B.Bank.given p.parts.bank) (g.B.Bank.tape p.parts.bank)) (present (g.B.Bank.given p.parts.bank) (g.B.Bank.tape c.settle-settled.new.bank))) c.self.view_is c.settle-settled.ensures.others
 
 pub returns-clause-failed : goal.returns-clause-failed
-returns-clause-failed g c = rw (← c.self.view_is) c.settle-settled.ensures.failed.roles
+returns-clause-failed g c =
+    subst (λ p. HaveRolesFailed p.parts.members c.settle-settled.new.members (g.B.Bank.faults_of p.parts.bank) (g.B.Bank.faults_of c.settle-settled.new.bank)) c.self.view_is c.settle-settled.ensures.failed.roles
 
 pub returns-clause-whole : goal.returns-clause-whole
-returns-clause-whole g c = rw (← c.self.view_is) c.settle-settled.ensures.moved.whole
+returns-clause-whole g c = subst (λ p. AreWhole c.settle-settled.new.members → AreWhole p.parts.members) c.self.view_is c.settle-settled.ensures.moved.whole
 
 pub returns-clause-flushed : goal.returns-clause-flushed
-returns-clause-flushed g c = rw (← c.self.view_is) c.settle-settled.ensures.flushed
+returns-clause-flushed g c =
+    subst (λ p. g.B.Bank.tells → AreHoldersFlushed (reading_of c.settle-settled.new.members) (g.B.Bank.given p.parts.bank) (g.B.Bank.tape c.settle-settled.new.bank)) c.self.view_is c.settle-settled.ensures.flushed

@@ -1,4 +1,4 @@
-use Rattle.std.proofs.Common.{◌≡◌, ◌∷◌, ◌++◌, [], List, length, refl, sym, ◌∙◌, ap, ap₂, arith}
+use Rattle.std.proofs.Common.{◌≡◌, ◌∷◌, ◌++◌, [], List, length, refl, sym, ◌∙◌, ap, ap₂, subst, arith, ◌≤◌, ℕ, ◌<◌}
 use Rattle.md_base.specs.declared.status.Status.{Status}
 use Rattle.superblocks.proofs.ValidFields.{few-roles}
 use Rattle.flat_history.specs.Flat.{next_number}
@@ -6,14 +6,24 @@ use Rattle.flat_history.specs.Plain.{entries_of}
 use Rattle.flat_history.specs.declared.events.Entry.{Entry}
 use Rattle.flat_history.specs.declared.events.Event.TheVariants.{Shown}
 use Rattle.still_laws.proofs.array_kept_LossLaws.{ended-behind}
-use Rattle.still_laws.proofs.array_kept_ReadyLaws.{scope-same}
-use Rattle.still_laws.specs.running_words_Parts.{still_left}
+use Rattle.still_laws.proofs.array_kept_ReadyLaws.{scope-same, list-same}
+use Rattle.still_laws.specs.running_words_Parts.{still_left, RunningParts}
 use Rattle.still_laws.proofs.running_words_Lengths.{alone-keeps}
 use Rattle.still_laws.proofs.Kept.{ready, rows-same, roomier}
 use Rattle.still_laws.proofs.Asking.{status-same, shown-stands}
 use Rattle.views.proofs.MovedLaws.{grows-none}
 use Rattle.still_laws.proofs.kept_history_Records.{begins-going}
 use Rattle.still_laws.proofs.PlainBehind.{shown-plain}
+use Rattle.flat_history.specs.Transfers.{last_end_from}
+use Rattle.bank.specs.Given.{Given}
+use Rattle.bank.specs.declared.bank.Operation.{Operation}
+use Rattle.still_laws.specs.array_kept_Calls.{IsEndOf}
+use Rattle.still_laws.specs.array_kept_Kept.{scope_in}
+use Rattle.still_laws.specs.running_words_Calls.{moving_world, IsSameReshape}
+use Rattle.still_laws.proofs.StepLaws.{IsSameEpoch}
+use Rattle.superblocks.specs.Reading.{is_backward, shape_of, final_shape}
+use Rattle.superblocks.specs.declared.members.Members.{Members}
+use Rattle.still.proofs.Rested.{entries-same}
 use Rattle.still.proofs.state.Still.status.Goals as goal
 
 pub invariant_of-self : goal.invariant_of-self
@@ -57,3 +67,78 @@ returns-clause-few g c =
       omega (arith, ap length roles, are.placed.roles, most),
       omega (arith, ap length spares, are.spares),
     )
+
+-- ---- nothing was done
+
+-- the epoch goes on, with the same members on the same bank
+still-same : {B : Type 0} {tells : Type 0} (given : Given) (tape : List Operation) {old new : RunningParts B} → IsSameEpoch old new → new.parts.members ≡ old.parts.members → (tells → old.parts.first ≤ length tape)
+    → IsSameReshape tells old new (moving_world given tape old) (moving_world given tape new)
+still-same given tape {old = old} epoch members begun = record {
+  array = record {
+    uuid = epoch.uuid;
+    given = epoch.given;
+    first = epoch.first;
+    backup = epoch.backup;
+    shape = ap (λ (m : Members). shape_of m.newest) members;
+    size = ap (λ (m : Members). m.newest.size) members;
+    list = list-same given (scope_in given old.parts.uuid old.parts.given old.parts.backup) old.parts.first refl
+        (λ i. scope_in given (epoch.uuid i) (epoch.given i) (epoch.backup i)) epoch.first (grows-none (λ t. refl)) begun;
+  };
+  final = ap (λ (m : Members). final_shape m.newest) members;
+  backward = ap (λ (m : Members). is_backward m.newest) members;
+  ahead = epoch.ahead;
+  limit = epoch.limit;
+}
+
+pub returns-in-Err-make_room-clause-same : goal.returns-in-Err-make_room-clause-same
+returns-in-Err-make_room-clause-same g c =
+    rw (← c.self.view_is) (still-same (g.B.Bank.given c.self.inside.bank) (g.B.Bank.tape c.self.inside.bank) (record { uuid = refl; given = refl; first = refl; backup = refl; ahead = refl; limit = refl }) refl (λ t. (c.self.invariant.kept.recorded t).begun))
+
+pub returns-clause-same : goal.returns-clause-same
+returns-clause-same g c =
+    rw (← c.self.view_is) (still-same (g.B.Bank.given c.self.inside.bank) (g.B.Bank.tape c.self.inside.bank) (record { uuid = c.enter.ensures.uuid; given = c.enter.ensures.given; first = c.enter.ensures.first; backup = refl; ahead = refl; limit = refl }) refl (λ t. (c.self.invariant.kept.recorded t).begun))
+
+pub returns-in-Err-make_room-clause-unchanged : goal.returns-in-Err-make_room-clause-unchanged
+returns-in-Err-make_room-clause-unchanged g c = entries-same c.make_room.new.self.items c.self.view_is c.make_room.ensures.items
+
+pub returns-in-Err-make_room-clause-ended : goal.returns-in-Err-make_room-clause-ended
+returns-in-Err-make_room-clause-ended g c = λ t. ap (λ (l : List Entry). last_end_from c.self.inside.epoch.first l) c.make_room.ensures.items ∙ (c.self.invariant.kept.recorded t).ended
+
+pub returns-in-Err-make_room-clause-members : goal.returns-in-Err-make_room-clause-members
+returns-in-Err-make_room-clause-members g c = ap (λ p. p.parts.members) c.self.view_is
+
+pub returns-in-Err-make_room-clause-bank : goal.returns-in-Err-make_room-clause-bank
+returns-in-Err-make_room-clause-bank g c = ap (λ p. p.parts.bank) c.self.view_is
+
+pub returns-in-Err-make_room-clause-work : goal.returns-in-Err-make_room-clause-work
+returns-in-Err-make_room-clause-work g c = ap (λ p. p.parts.work) c.self.view_is
+
+pub check_number-requires : goal.check_number-requires
+check_number-requires g c =
+    c.requires.next ∙ ap (λ p. next_number c.args.who.caller p.parts.entries) (sym c.self.view_is) ∙ ap (λ (l : List Entry). next_number c.args.who.caller l) (sym c.make_room.ensures.items)
+
+pub enter-requires-clause-number : goal.enter-requires-clause-number
+enter-requires-clause-number g c = c.check_number.ensures
+
+pub returns-in-Err-clause-ended : goal.returns-in-Err-clause-ended
+returns-in-Err-clause-ended g c = subst (λ p. IsEndOf g.B.Bank.tells p.parts.first p.parts.entries (g.B.Bank.tape p.parts.bank)) c.self.view_is (λ t. (c.self.invariant.kept.recorded t).ended)
+
+pub returns-in-Err-told-clause-ended : goal.returns-in-Err-told-clause-ended
+returns-in-Err-told-clause-ended g c = subst (λ p. IsEndOf g.B.Bank.tells p.parts.first p.parts.entries (g.B.Bank.tape p.parts.bank)) c.self.view_is (λ t. (c.self.invariant.kept.recorded t).ended)
+
+room-first : (room : ℕ) → 2 ≤ room → 0 < room
+room-first room left = omega (arith, left)
+
+pub enter-requires-clause-room : goal.enter-requires-clause-room
+enter-requires-clause-room g c = room-first c.make_room.new.self.room c.in-Ok-make_room.ensures.ok
+
+-- ---- what stays
+
+pub returns-clause-members : goal.returns-clause-members
+returns-clause-members g c = ap (λ p. p.parts.members) c.self.view_is
+
+pub returns-clause-bank : goal.returns-clause-bank
+returns-clause-bank g c = ap (λ p. p.parts.bank) c.self.view_is
+
+pub returns-clause-work : goal.returns-clause-work
+returns-clause-work g c = ap (λ p. p.parts.work) c.self.view_is

@@ -1,7 +1,7 @@
 use Rattle.std.proofs.Common.{◌≡◌, ◌≤◌, ◌<◌, true, [], ◌∷◌, ◌++◌, Some, inl, inr, refl, sym, ◌∙◌, ap, subst, arith}
 use Rattle.md_base.specs.declared.places.Shape.{Shape}
 use Rattle.layout.proofs.Limits.{limited}
-use Rattle.superblocks.specs.Reading.{shape_of, list_length}
+use Rattle.superblocks.specs.Reading.{shape_of, list_length, is_clean}
 use Rattle.superblocks.specs.Reads.{has_spare}
 use Rattle.row_io.specs.Rows.{reading_of}
 use Rattle.flat_history.specs.declared.events.Event.TheVariants.{Step}
@@ -11,8 +11,8 @@ use Rattle.views.specs.declared.work.Work.{Work}
 use Rattle.views.specs.Lacking.{AreLostSince, AreTooMany}
 use Rattle.views.specs.Placed.{is_vacant}
 use Rattle.views.specs.Rebuilding.{with_recovering}
-use Rattle.views.specs.Status.{left_of}
-use Rattle.views.proofs.Fit.{valid}
+use Rattle.views.specs.Status.{left_of, stripes_of}
+use Rattle.views.proofs.Fit.{valid, short}
 use Rattle.views.proofs.GivenMembers.{placed-given, spare-before}
 use Rattle.views.proofs.LackingLaws.{lost-since, never-both}
 use Rattle.views.proofs.Still.{count-still}
@@ -37,6 +37,9 @@ use Rattle.still_laws.proofs.Going.{step-going}
 use Rattle.still_laws.proofs.StepLaws.{shapes-moved, planned-same, stepped, stepped-more, fewer-more}
 use Rattle.still_laws.proofs.RebuildLaws.{taken-less, take-done}
 use Rattle.still_laws.proofs.PlainSteps.{taken-plain}
+use Rattle.std.specs.Prelude.{IfSome}
+use Rattle.still_laws.proofs.still_kept_Staying.{progress-same}
+use Rattle.still.proofs.Asked.{known-at, known-behind, sound-behind, step-taken, room-for-step, done-at-all, refused-at-all, step-entered, room-after}
 use Rattle.still.proofs.state.Still.take_role.Goals as goal
 
 -- ---- refused before anything is done
@@ -140,7 +143,7 @@ invariant_of-self g c =
     kept (taken-plain was c.args.who end c.in_default.ensures goes c.requires.caller c.ops-end.ensures.count c.set_rebuilt.ensures.known leaves left told)
     did.counts (behind-keeps c.args.who end roles spares (Step RebuildTaken left ∷ []) (alone-keeps c.args.who end (Step RebuildTaken left) (λ n. refl) (λ limit. refl)))
     did.given (scope-same given a.backup did.given c.enter_behind.ensures.uuid c.enter_behind.ensures.given) c.enter_behind.ensures.first refl c.enter_behind.ensures.items
-    (omega (arith, c.enter_behind.ensures.room, was.room_left, some))
+    (room-after was.room_left some c.enter_behind.ensures.room)
 
 pub returns-clause-stepped : goal.returns-clause-stepped
 returns-clause-stepped g c =
@@ -268,3 +271,63 @@ returns-clause-open g c = step-going c.args.who c.ops-end.result c.newly_vacant-
 
 pub returns-clause-closable : goal.returns-clause-closable
 returns-clause-closable g c = λ none. inr (inl c.give_and_name-spares.ensures.missing)
+
+-- ---- what the calls ask
+
+pub check_going-requires : goal.check_going-requires
+check_going-requires g c = subst (λ p. IsCallGoing p.parts.entries c.args.who) (sym c.self.view_is) c.requires.open
+
+pub vacant_roles-requires-clause-known : goal.vacant_roles-requires-clause-known
+vacant_roles-requires-clause-known g c = known-at c.self.invariant.kept.members_are.placed c.shape_in-disks.ensures
+
+pub give_and_name-spares-requires-clause-role : goal.give_and_name-spares-requires-clause-role
+give_and_name-spares-requires-clause-role g c = subst (λ p. c.args.role < (shape_of p.parts.members.newest).disks) (sym c.self.view_is) c.requires.role
+
+pub newly_vacant-roles-requires-clause-known : goal.newly_vacant-roles-requires-clause-known
+newly_vacant-roles-requires-clause-known g c = known-behind c.give_and_name-spares.ensures.moved c.shape_in-disks.ensures
+
+pub all_left-left-requires-clause-shape : goal.all_left-left-requires-clause-shape
+all_left-left-requires-clause-shape g c = c.give_and_name-spares.ensures.moved.placed.fit.valid.old
+
+pub all_left-left-requires-clause-size : goal.all_left-left-requires-clause-size
+all_left-left-requires-clause-size g c = short (g.B.Bank.given c.self.inside.bank) c.give_and_name-spares.new.members c.give_and_name-spares.ensures.moved.placed
+
+pub all_left-left-requires-clause-roles : goal.all_left-left-requires-clause-roles
+all_left-left-requires-clause-roles g c = known-at c.give_and_name-spares.ensures.moved.placed refl
+
+pub all_left-left-requires-clause-progress : goal.all_left-left-requires-clause-progress
+all_left-left-requires-clause-progress g c =
+    subst (λ (w : Work). IfSome w.resync (λ mended. mended ≤ stripes_of c.give_and_name-spares.new.members)) (sym c.set_rebuilt.ensures.work)
+    (progress-same c.give_and_name-spares.ensures.moved c.self.inside.work.resync c.self.invariant.kept.progress)
+
+pub all_left-left-requires-clause-sound : goal.all_left-left-requires-clause-sound
+all_left-left-requires-clause-sound g c = sound-behind c.self.inside.ahead c.give_and_name-spares.ensures.moved c.self.invariant.planned
+
+pub enter_behind-requires-clause-room : goal.enter_behind-requires-clause-room
+enter_behind-requires-clause-room g c = room-for-step (ap (λ p. p.parts.steps) c.self.view_is) c.self.invariant.room_left c.requires.room
+
+pub enter_behind-requires-clause-number : goal.enter_behind-requires-clause-number
+enter_behind-requires-clause-number g c = c.check_going.ensures
+
+-- ---- what it enters, and what it leaves as it was
+
+pub returns-in-Some-clause-stays : goal.returns-in-Some-clause-stays
+returns-in-Some-clause-stays g c = c.refuse_step.ensures.stays
+
+pub returns-in-Some-clause-memory : goal.returns-in-Some-clause-memory
+returns-in-Some-clause-memory g c = refused-at-all c.in-Some.refusal
+
+pub returns-clause-entered : goal.returns-clause-entered
+returns-clause-entered g c = inl (step-entered c.args.who c.ops-end.result c.newly_vacant-roles.result c.give_and_name-spares.result RebuildTaken (ap (λ p. p.parts.entries) c.self.view_is) c.all_left-left.ensures c.enter_behind.ensures.items)
+
+pub returns-clause-memory : goal.returns-clause-memory
+returns-clause-memory g c = done-at-all tt
+
+pub returns-clause-clean : goal.returns-clause-clean
+returns-clause-clean g c = c.give_and_name-spares.ensures.clean ∙ ap (λ p. is_clean p.parts.members.newest) c.self.view_is
+
+pub returns-clause-room : goal.returns-clause-room
+returns-clause-room g c = step-taken (ap (λ p. p.parts.steps) c.self.view_is) c.requires.room
+
+pub returns-clause-given : goal.returns-clause-given
+returns-clause-given g c = c.give_and_name-spares.ensures.given ∙ ap (λ p. g.B.Bank.given p.parts.bank) c.self.view_is

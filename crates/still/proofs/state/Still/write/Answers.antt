@@ -11,14 +11,14 @@ use Rattle.flat_history.specs.declared.events.Request.TheVariants.{Write as Asks
 use Rattle.flat_history.specs.Flat.{next_number}
 use Rattle.flat_history.specs.Plain.{entries_of}
 use Rattle.still_laws.proofs.shape_views_Stands.{list-still}
-use Rattle.views.specs.Lacking.{IsUnwritten, LacksTooMany, AreBytes, are_mended, mended_rows}
-use Rattle.views.specs.Placed.{places_of}
+use Rattle.views.specs.Lacking.{IsUnwritten, LacksTooMany, AreBytes, are_mended, mended_rows, HaveRolesFailed}
+use Rattle.views.specs.Placed.{places_of, AreWhole}
 use Rattle.views.specs.Whole.{list_size}
 use Rattle.views.proofs.LackingLaws.{lost-since, shape-without}
 use Rattle.views.proofs.MemberLaws.{list-few}
 use Rattle.views.proofs.MovedLaws.{grows-none, moved-same}
 use Rattle.views.proofs.Still.{count-still, without-still}
-use Rattle.still_laws.specs.safe_updates_First.{write_refusal}
+use Rattle.still_laws.specs.safe_updates_First.{write_refusal, call_refusal}
 use Rattle.call_entries.specs.Losing.{losses_of, failure_events}
 use Rattle.call_entries.proofs.CallLaws.{losses-are, torn-losses}
 use Rattle.still_laws.specs.array_kept_Calls.{IsRefusedFor}
@@ -30,17 +30,21 @@ use Rattle.still_laws.proofs.calls_kept_ReadLaws.{some-of}
 use Rattle.array_state.proofs.FirstLaws.{call-within}
 use Rattle.still_laws.proofs.kept_history_Records.{begins-going}
 use Rattle.still_laws.proofs.still_kept_Writing.{wrote-stands}
-use Rattle.still_laws.specs.running_words_Parts.{visible_size, still_left}
+use Rattle.still_laws.specs.running_words_Parts.{visible_size, still_left, visible_in}
 use Rattle.still_laws.proofs.running_words_Called.{not_254, called, alone-lossless}
 use Rattle.still_laws.proofs.running_words_Lengths.{alone-keeps, behind-keeps, failure-keeps}
 use Rattle.still_laws.proofs.running_words_Replies.{refused_reply, failed_reply, write_kind}
 use Rattle.still_laws.proofs.running_words_VisibleLaws.{visible-within}
 use Rattle.still_laws.proofs.Asking.{refused-alone}
-use Rattle.still_laws.proofs.Kept.{ready, rows-same, rows-moved, with-buffers}
+use Rattle.still_laws.proofs.Kept.{ready, rows-same, rows-moved, with-buffers, roomier}
 use Rattle.still_laws.proofs.PlainBehind.{unwritten-plain, put-plain, plain-wrote, plain-unwritten, first-plain}
 use Rattle.still_laws.proofs.Left.{left-alike}
 use Rattle.still_laws.proofs.Reading.{seen, unwritten-still, refused-first}
 use Rattle.still_laws.proofs.Writing.{put-still, written-still, failed-stands}
+use Rattle.views.proofs.Fit.{valid, multiple, short}
+use Rattle.still.proofs.Rested.{entries-same, idle-called, shape-few, shape-known, room-1, room-49, room-50}
+use Rattle.still_laws.specs.shape_changes_Marking.{AreOthersPresent}
+use Rattle.row_io.specs.Rows.{present}
 use Rattle.still.proofs.state.Still.write.Goals as goal
 
 -- ---- refused before any row is read
@@ -92,12 +96,6 @@ returns-in-Some-clause-called g c =
     (λ slot. omega arith)
     (record { uuid = c.enter.ensures.uuid; given = c.enter.ensures.given; first = c.enter.ensures.first; backup = refl; work = refl; ahead = refl; limit = refl })
     (λ t. (was.kept.recorded t).begun))
-
-pub returns-in-Some-clause-caused : goal.returns-in-Some-clause-caused
-returns-in-Some-clause-caused g c = rw (← c.self.view_is) c.in-Some.ensures.why
-
-pub returns-in-Some-clause-first : goal.returns-in-Some-clause-first
-returns-in-Some-clause-first g c = rw (← c.self.view_is) (sym c.in-Some.ensures.first)
 
 -- ---- it is written by the one shape
 
@@ -223,12 +221,6 @@ returns-in-Some-refusal-clause-first g c =
     rw (← c.self.view_is) (call-within (visible_size a.members a.limit) to (write_refusal (shape_of a.members.newest) asked m) c.in_default.ensures.why.0
     ∙ subst (λ (s : Shape). write_refusal s asked m ≡ Some refusal) c.shape_in-shape.ensures (subst (λ (b : Bool). write_refusal c.shape_in-shape.result b m ≡ Some refusal) same why))
 
-pub returns-in-Some-refusal-clause-failed : goal.returns-in-Some-refusal-clause-failed
-returns-in-Some-refusal-clause-failed g c = rw (← c.self.view_is) c.put-done.ensures.failed.roles
-
-pub returns-in-Some-refusal-clause-whole : goal.returns-in-Some-refusal-clause-whole
-returns-in-Some-refusal-clause-whole g c = rw (← c.self.view_is) c.put-done.ensures.moved.whole
-
 pub returns-in-Some-refusal-clause-called : goal.returns-in-Some-refusal-clause-called
 returns-in-Some-refusal-clause-called g c =
     let was = c.self.invariant in
@@ -338,11 +330,188 @@ returns-clause-called g c =
 pub returns-clause-caused : goal.returns-clause-caused
 returns-clause-caused g c = rw (← c.self.view_is) c.in_default.ensures.why
 
-pub returns-clause-failed : goal.returns-clause-failed
-returns-clause-failed g c = rw (← c.self.view_is) c.put-done.ensures.failed.roles
-
-pub returns-clause-whole : goal.returns-clause-whole
-returns-clause-whole g c = rw (← c.self.view_is) c.put-done.ensures.moved.whole
-
 pub returns-clause-first : goal.returns-clause-first
 returns-clause-first g c = rw (← c.self.view_is) (sym c.in_default.ensures.first)
+
+-- ---- what is handed down, and what is left of it
+
+pub invariant_of-self : goal.invariant_of-self
+invariant_of-self g c = roomier c.self.invariant c.make_room.ensures.items c.make_room.ensures.keeps
+
+pub returns-in-Err-make_room-clause-answered : goal.returns-in-Err-make_room-clause-answered
+returns-in-Err-make_room-clause-answered g c = c.make_room.ensures.items ∙ ap (λ p. p.parts.entries) c.self.view_is
+
+pub returns-in-Err-make_room-clause-unchanged : goal.returns-in-Err-make_room-clause-unchanged
+returns-in-Err-make_room-clause-unchanged g c = entries-same c.make_room.new.self.items c.self.view_is c.make_room.ensures.items
+
+pub returns-in-Err-make_room-clause-called : goal.returns-in-Err-make_room-clause-called
+returns-in-Err-make_room-clause-called g c =
+    let kept = c.self.invariant.kept in
+    rw (← c.self.view_is) (idle-called kept.members_are.placed kept.members_are.unlost (λ t. (kept.recorded t).ended) (λ t. (kept.recorded t).begun) (entries-same c.make_room.new.self.items refl c.make_room.ensures.items))
+
+pub returns-in-Err-make_room-clause-whole : goal.returns-in-Err-make_room-clause-whole
+returns-in-Err-make_room-clause-whole g c = subst (λ p. AreWhole c.self.inside.members → AreWhole p.parts.members) c.self.view_is (λ whole. whole)
+
+pub returns-in-Err-make_room-clause-caused : goal.returns-in-Err-make_room-clause-caused
+returns-in-Err-make_room-clause-caused g c = ap (λ p. p.parts.members) c.self.view_is
+
+pub returns-in-Err-make_room-clause-failed : goal.returns-in-Err-make_room-clause-failed
+returns-in-Err-make_room-clause-failed g c =
+    let a = c.self.inside in
+    subst (λ p. HaveRolesFailed p.parts.members a.members (g.B.Bank.faults_of p.parts.bank) (g.B.Bank.faults_of a.bank)) c.self.view_is (λ role slot held. inl held)
+
+pub returns-in-Err-make_room-clause-given : goal.returns-in-Err-make_room-clause-given
+returns-in-Err-make_room-clause-given g c = ap (λ p. g.B.Bank.given p.parts.bank) c.self.view_is
+
+pub returns-in-Err-clause-called : goal.returns-in-Err-clause-called
+returns-in-Err-clause-called g c =
+    let kept = c.self.invariant.kept in
+    rw (← c.self.view_is) (idle-called kept.members_are.placed kept.members_are.unlost (λ t. (kept.recorded t).ended) (λ t. (kept.recorded t).begun) refl)
+
+pub check_number-requires : goal.check_number-requires
+check_number-requires g c =
+    c.requires.next ∙ ap (λ p. next_number c.args.who.caller p.parts.entries) (sym c.self.view_is) ∙ ap (λ (l : List Entry). next_number c.args.who.caller l) (sym c.make_room.ensures.items)
+
+pub unwritten_here-requires-clause-shape : goal.unwritten_here-requires-clause-shape
+unwritten_here-requires-clause-shape g c = valid (g.B.Bank.given c.self.inside.bank) c.self.inside.members c.self.invariant.kept.members_are.placed
+
+pub unwritten_here-requires-clause-multiple : goal.unwritten_here-requires-clause-multiple
+unwritten_here-requires-clause-multiple g c = multiple (g.B.Bank.given c.self.inside.bank) c.self.inside.members c.self.invariant.kept.members_are.placed
+
+pub unwritten_here-requires-clause-roles : goal.unwritten_here-requires-clause-roles
+unwritten_here-requires-clause-roles g c =
+    let m = c.self.inside.members in
+    shape-known (g.B.Bank.given c.self.inside.bank) m c.self.invariant.kept.members_are.placed (shape_of m.newest) refl
+
+pub unwritten_here-requires-clause-size : goal.unwritten_here-requires-clause-size
+unwritten_here-requires-clause-size g c = short (g.B.Bank.given c.self.inside.bank) c.self.inside.members c.self.invariant.kept.members_are.placed
+
+pub unwritten_here-requires-clause-progress : goal.unwritten_here-requires-clause-progress
+unwritten_here-requires-clause-progress g c = c.self.invariant.kept.progress
+
+pub enter-requires-clause-room : goal.enter-requires-clause-room
+enter-requires-clause-room g c = room-1 c.make_room.new.self.room (room-50 51 c.make_room.new.self.room (omega arith) c.in-Ok-make_room.ensures.ok)
+
+pub enter-requires-clause-number : goal.enter-requires-clause-number
+enter-requires-clause-number g c = c.check_number.ensures
+
+pub returns-in-Some-clause-whole : goal.returns-in-Some-clause-whole
+returns-in-Some-clause-whole g c = subst (λ p. AreWhole c.self.inside.members → AreWhole p.parts.members) c.self.view_is (λ whole. whole)
+
+pub returns-in-Some-clause-failed : goal.returns-in-Some-clause-failed
+returns-in-Some-clause-failed g c =
+    let a = c.self.inside in
+    subst (λ p. HaveRolesFailed p.parts.members a.members (g.B.Bank.faults_of p.parts.bank) (g.B.Bank.faults_of a.bank)) c.self.view_is (λ role slot held. inl held)
+
+pub returns-in-Some-clause-given : goal.returns-in-Some-clause-given
+returns-in-Some-clause-given g c = ap (λ p. g.B.Bank.given p.parts.bank) c.self.view_is
+
+pub shape_in-shape-requires : goal.shape_in-shape-requires
+shape_in-shape-requires g c = valid (g.B.Bank.given c.self.inside.bank) c.self.inside.members c.self.invariant.kept.members_are.placed
+
+pub vacant_roles-before-requires-clause-known : goal.vacant_roles-before-requires-clause-known
+vacant_roles-before-requires-clause-known g c = shape-known (g.B.Bank.given c.self.inside.bank) c.self.inside.members c.self.invariant.kept.members_are.placed c.shape_in-shape.result c.shape_in-shape.ensures
+
+pub vacant_roles-before-requires-clause-few : goal.vacant_roles-before-requires-clause-few
+vacant_roles-before-requires-clause-few g c = shape-few (g.B.Bank.given c.self.inside.bank) c.self.inside.members c.self.invariant.kept.members_are.placed c.shape_in-shape.result c.shape_in-shape.ensures
+
+pub are_mended-synced-requires-clause-shape : goal.are_mended-synced-requires-clause-shape
+are_mended-synced-requires-clause-shape g c = c.shape_in-shape.ensures
+
+pub are_mended-synced-requires-clause-valid : goal.are_mended-synced-requires-clause-valid
+are_mended-synced-requires-clause-valid g c = valid (g.B.Bank.given c.self.inside.bank) c.self.inside.members c.self.invariant.kept.members_are.placed
+
+pub are_mended-synced-requires-clause-multiple : goal.are_mended-synced-requires-clause-multiple
+are_mended-synced-requires-clause-multiple g c = multiple (g.B.Bank.given c.self.inside.bank) c.self.inside.members c.self.invariant.kept.members_are.placed
+
+pub are_mended-synced-requires-clause-size : goal.are_mended-synced-requires-clause-size
+are_mended-synced-requires-clause-size g c = short (g.B.Bank.given c.self.inside.bank) c.self.inside.members c.self.invariant.kept.members_are.placed
+
+pub are_mended-synced-requires-clause-progress : goal.are_mended-synced-requires-clause-progress
+are_mended-synced-requires-clause-progress g c = c.self.invariant.kept.progress
+
+pub put-done-requires-clause-slots : goal.put-done-requires-clause-slots
+put-done-requires-clause-slots g c = c.self.invariant.kept.slots
+
+pub put-done-requires-clause-placed : goal.put-done-requires-clause-placed
+put-done-requires-clause-placed g c = c.self.invariant.kept.members_are.placed
+
+pub put-done-requires-clause-unlost : goal.put-done-requires-clause-unlost
+put-done-requires-clause-unlost g c = c.self.invariant.kept.members_are.unlost
+
+pub put-done-requires-clause-free : goal.put-done-requires-clause-free
+put-done-requires-clause-free g c = c.self.invariant.kept.members_are.free
+
+pub put-done-requires-clause-from : goal.put-done-requires-clause-from
+put-done-requires-clause-from g c = c.requires.whole
+
+pub put-done-requires-clause-few : goal.put-done-requires-clause-few
+put-done-requires-clause-few g c = c.requires.few
+
+pub put-done-requires-clause-rows : goal.put-done-requires-clause-rows
+put-done-requires-clause-rows g c = c.self.invariant.rows_fit
+
+pub put-done-requires-clause-buffer : goal.put-done-requires-clause-buffer
+put-done-requires-clause-buffer g c = c.self.invariant.buffer_fits
+
+pub newly_vacant-roles-requires-clause-known : goal.newly_vacant-roles-requires-clause-known
+newly_vacant-roles-requires-clause-known g c =
+    let moved = c.put-done.ensures.moved in
+    shape-known (g.B.Bank.given c.self.inside.bank) c.put-done.new.members moved.placed c.shape_in-shape.result (c.shape_in-shape.ensures ∙ sym moved.shape)
+
+pub newly_vacant-roles-requires-clause-few : goal.newly_vacant-roles-requires-clause-few
+newly_vacant-roles-requires-clause-few g c = shape-few (g.B.Bank.given c.self.inside.bank) c.self.inside.members c.self.invariant.kept.members_are.placed c.shape_in-shape.result c.shape_in-shape.ensures
+
+pub enter_failure-requires-clause-room : goal.enter_failure-requires-clause-room
+enter_failure-requires-clause-room g c = room-50 51 c.make_room.new.self.room (omega arith) c.in-Ok-make_room.ensures.ok
+
+pub enter_failure-requires-clause-number : goal.enter_failure-requires-clause-number
+enter_failure-requires-clause-number g c = c.check_number.ensures
+
+pub returns-in-Some-refusal-clause-given : goal.returns-in-Some-refusal-clause-given
+returns-in-Some-refusal-clause-given g c = c.put-done.ensures.given ∙ ap (λ p. g.B.Bank.given p.parts.bank) c.self.view_is
+
+pub enter_behind-requires-clause-room : goal.enter_behind-requires-clause-room
+enter_behind-requires-clause-room g c = room-49 c.make_room.new.self.room (room-50 51 c.make_room.new.self.room (omega arith) c.in-Ok-make_room.ensures.ok)
+
+pub enter_behind-requires-clause-number : goal.enter_behind-requires-clause-number
+enter_behind-requires-clause-number g c = c.check_number.ensures
+
+pub returns-clause-dirty : goal.returns-clause-dirty
+returns-clause-dirty g c = c.put-done.ensures.dirty c.in_default-refusal.is
+
+pub returns-clause-given : goal.returns-clause-given
+returns-clause-given g c = c.put-done.ensures.given ∙ ap (λ p. g.B.Bank.given p.parts.bank) c.self.view_is
+
+pub returns-in-Some-clause-caused : goal.returns-in-Some-clause-caused
+returns-in-Some-clause-caused g c =
+    let to = c.args.at + length c.args.from.now / 512 in
+    let m = c.self.inside.members in
+    subst (λ p. IsRefusedFor (visible_in p) to (IsUnwritten (shape_of p.parts.members.newest) (are_mended (shape_of p.parts.members.newest) (mended_rows p.parts.work.resync p.parts.members) to)) p.parts.members m c.in-Some.refusal)
+    c.self.view_is c.in-Some.ensures.why
+
+pub returns-in-Some-clause-first : goal.returns-in-Some-clause-first
+returns-in-Some-clause-first g c =
+    let to = c.args.at + length c.args.from.now / 512 in
+    let m = c.self.inside.members in
+    subst (λ p. call_refusal (visible_in p) to (write_refusal (shape_of p.parts.members.newest) (are_mended (shape_of p.parts.members.newest) (mended_rows p.parts.work.resync p.parts.members) to) m) ≡ Some c.in-Some.refusal)
+    c.self.view_is (sym c.in-Some.ensures.first)
+
+pub returns-in-Some-refusal-clause-failed : goal.returns-in-Some-refusal-clause-failed
+returns-in-Some-refusal-clause-failed g c =
+    subst (λ p. HaveRolesFailed p.parts.members c.put-done.new.members (g.B.Bank.faults_of p.parts.bank) (g.B.Bank.faults_of c.put-done.new.bank)) c.self.view_is c.put-done.ensures.failed.roles
+
+pub returns-in-Some-refusal-clause-whole : goal.returns-in-Some-refusal-clause-whole
+returns-in-Some-refusal-clause-whole g c = subst (λ p. AreWhole c.put-done.new.members → AreWhole p.parts.members) c.self.view_is c.put-done.ensures.moved.whole
+
+pub returns-clause-failed : goal.returns-clause-failed
+returns-clause-failed g c =
+    subst (λ p. HaveRolesFailed p.parts.members c.put-done.new.members (g.B.Bank.faults_of p.parts.bank) (g.B.Bank.faults_of c.put-done.new.bank)) c.self.view_is c.put-done.ensures.failed.roles
+
+pub returns-clause-whole : goal.returns-clause-whole
+returns-clause-whole g c = subst (λ p. AreWhole c.put-done.new.members → AreWhole p.parts.members) c.self.view_is c.put-done.ensures.moved.whole
+
+pub returns-in-Some-clause-untouched : goal.returns-in-Some-clause-untouched
+returns-in-Some-clause-untouched g c = λ none.
+    let a = c.self.inside in
+    subst (λ p. g.B.Bank.tells → AreOthersPresent (present (g.B.Bank.given p.parts.bank) (g.B.Bank.tape p.parts.bank)) (present (g.B.Bank.given p.parts.bank) (g.B.Bank.tape a.bank))) c.self.view_is (λ t s k apart. refl)

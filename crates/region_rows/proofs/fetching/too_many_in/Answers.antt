@@ -1,0 +1,19 @@
+use Rattle.std.proofs.Common.{inl, inr, le_trans, le_of_lt, sym, ◌∙◌, subst}
+use Rattle.std.proofs.lemmas.Bool.{cases_lt}
+use Rattle.md_base.specs.declared.places.Shape.{Shape}
+use Rattle.safe_rows.specs.views_Lacking.{DoesWithout}
+use Rattle.region_rows.proofs.UnreadLaws.{none-match}
+use Rattle.region_rows.proofs.fetching.too_many_in.Goals as goal
+
+pub loop-at-preserved : goal.loop-at-preserved
+loop-at-preserved c =
+    let did = c.stretch_at-stretch.ensures in
+    let was = c.loop-at.invariant in
+    record {
+      from = le_trans was.from (le_of_lt did.some);
+      fine = λ x low high. elim (cases_lt x c.loop-at.at) [
+        | inl before ↦ was.fine x low before
+        | inr here ↦ subst (λ (s : Shape). DoesWithout s c.args.members.now) (sym (did.one x here high))
+            (none-match _ c.too_many_of-refusal.result (sym c.is_some.ensures ∙ c.if-is_some.false) c.too_many_of-refusal.ensures)
+      ];
+    }

@@ -1,0 +1,40 @@
+-- Lines that a loop appends, one after another.
+use Rattle.std.proofs.Common.{◌≡◌, ℕ, ◌+◌, ◌<◌, ◌≤◌, List, [], ◌∷◌, ◌++◌, length, get_or, drop, codes, decimal, ap, sym, ◌∙◌, arith, length-append, append-nil, append_assoc, Vec, vec_capacity, Ok, Err}
+use Rattle.std.proofs.lemmas.List.{drop_more, drop_all}
+use Rattle.md_base.specs.declared.status.Role.{Role}
+use Rattle.script.specs.Appends.{Appends}
+use Rattle.status_text.specs.Texts.{holder, role_lines, spare_lines}
+
+-- one piece more of what is left
+pub goes_on : {Z T E : Type 0} {old new : Vec ℕ Z} {x : T} {a : List ℕ} (rest whole : List ℕ) → Appends {Z = Z} {T = T} {E = E} old new (Ok x) a
+    → old.items ++ (a ++ rest) ≡ whole → new.items ++ rest ≡ whole
+goes_on {old = old} {a = a} rest whole told is = ap (λ t. t ++ rest) told.whole ∙ append_assoc old.items a rest ∙ is
+
+-- one piece more has no room, so the whole has none
+pub ends : {Z T E : Type 0} {old mid new : Vec ℕ Z} {e : E} {a : List ℕ} (rest whole : List ℕ) → vec_capacity old ≤ vec_capacity mid
+    → mid.items ++ (a ++ rest) ≡ old.items ++ whole → Appends {Z = Z} {T = T} {E = E} mid new (Err e) a → Appends {Z = Z} {T = T} {E = E} old new (Err e) whole
+ends {old = old} {mid = mid} {a = a} rest whole room is told = record {
+  whole = tt;
+  full = omega (arith, room, told.full, ap length is, length-append mid.items a, length-append mid.items (a ++ rest), length-append a rest, length-append old.items whole);
+  room = omega (arith, room, told.room);
+}
+
+-- one role of those that are left, and the others
+pub one_role : (rs : List Role) (i : ℕ) (x : Role) (text whole : List ℕ) → i < length rs → text ++ role_lines i (drop i rs) ≡ whole
+    → text ++ (role_lines i (get_or rs i x ∷ []) ++ role_lines (i + 1) (drop (i + 1) rs)) ≡ whole
+one_role rs i x text whole lt is =
+    ap (λ t. text ++ t) (ap (λ l. l ++ role_lines (i + 1) (drop (i + 1) rs)) (append-nil (codes "role " ++ decimal i ++ holder (get_or rs i x) ++ codes "\n"))
+    ∙ ap (role_lines i) (sym (drop_more rs i x lt))) ∙ is
+
+pub all_roles : (rs : List Role) (i : ℕ) (text whole : List ℕ) → length rs ≤ i → text ++ role_lines i (drop i rs) ≡ whole → text ≡ whole
+all_roles rs i text whole le is = sym (append-nil text) ∙ ap (λ r. text ++ role_lines i r) (sym (drop_all i rs le)) ∙ is
+
+-- one spare of those that are left, and the others
+pub one_spare : (slots : List ℕ) (i : ℕ) (text whole : List ℕ) → i < length slots → text ++ spare_lines (drop i slots) ≡ whole
+    → text ++ (spare_lines (get_or slots i 0 ∷ []) ++ spare_lines (drop (i + 1) slots)) ≡ whole
+one_spare slots i text whole lt is =
+    ap (λ t. text ++ t) (ap (λ l. l ++ spare_lines (drop (i + 1) slots)) (append-nil (codes "spare slot " ++ decimal (get_or slots i 0) ++ codes "\n"))
+    ∙ ap spare_lines (sym (drop_more slots i 0 lt))) ∙ is
+
+pub all_spares : (slots : List ℕ) (i : ℕ) (text whole : List ℕ) → length slots ≤ i → text ++ spare_lines (drop i slots) ≡ whole → text ≡ whole
+all_spares slots i text whole le is = sym (append-nil text) ∙ ap (λ r. text ++ spare_lines r) (sym (drop_all i slots le)) ∙ is

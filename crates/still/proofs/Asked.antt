@@ -1,0 +1,178 @@
+-- What calls ask of members that are placed, and what they enter, where the array doesn't move otherwise.
+use Rattle.std.proofs.Common.{◌≡◌, inl, ℕ, ◌+◌, ◌-◌, ◌*◌, ◌/◌, ◌<◌, ◌≤◌, ◌++◌, ◌∷◌, List, [], Result, Ok, Err, length, refl, sym, ◌∙◌, subst, arith, length-append, Fits, w64, append-nil}
+use Rattle.std.proofs.Math.Nat.{div-le_self, le_trans}
+use Rattle.std.proofs.lemmas.List.Elements.{All-nil}
+use Rattle.md_base.specs.declared.places.Shape.{Shape}
+use Rattle.md_base.specs.declared.answers.Who.{Who}
+use Rattle.md_base.specs.declared.answers.Fault.{Fault}
+use Rattle.md_base.specs.declared.answers.Fault.TheVariants.{NoMemory, Refused as IsRefusedWith}
+use Rattle.md_base.specs.declared.answers.Refusal.{Refusal}
+use Rattle.md_base.specs.Sectors.{IsWhole}
+use Rattle.bank.specs.Given.{Given}
+use Rattle.bank.specs.declared.bank.Operation.{Operation}
+use Rattle.sb1.specs.declared.sb.Sb.{Sb}
+use Rattle.grow_plan.specs.Plans.{AreSound}
+use Rattle.superblocks.specs.declared.members.Members.{Members}
+use Rattle.superblocks.specs.Reading.{shape_of, role_count}
+use Rattle.superblocks.proofs.ValidFields.{few-roles}
+use Rattle.flat_history.specs.declared.events.Entry.{Entry}
+use Rattle.flat_history.specs.declared.events.Event.{Event}
+use Rattle.flat_history.specs.declared.events.Event.TheVariants.{Step}
+use Rattle.flat_history.specs.declared.events.StepKind.{StepKind}
+use Rattle.flat_history.specs.Plain.{entries_of}
+use Rattle.views.specs.declared.work.Work.{Work}
+use Rattle.views.specs.Moving.{IsMoved}
+use Rattle.views.specs.Placed.{IsPlaced}
+use Rattle.views.specs.Rebuilding.{Held}
+use Rattle.views.specs.Status.{stripes_of}
+use Rattle.views.specs.shape_changes_Steady.{AreUnlost}
+use Rattle.views.proofs.Fit.{short, disks-within, force-disks}
+use Rattle.views.proofs.MovedLaws.{grows-none, moved-same}
+use Rattle.views.proofs.Still.{count-still}
+use Rattle.call_entries.specs.Losing.{losses_of}
+use Rattle.grow_asked.specs.declared.window.PhasesLeft.{PhasesLeft}
+use Rattle.grow_asked.specs.Left.{phases_of}
+use Rattle.still_laws.specs.array_kept_Calls.{IsBehind, IsBehindAll, IsLossBy, IsEndOf, AreLossesBy, IsWorkAdded}
+use Rattle.still_laws.specs.still_kept_Still.{AreAtRest}
+use Rattle.still_laws.specs.running_words_Calls.{IsCalled}
+use Rattle.still_laws.specs.running_words_Parts.{RunningParts}
+use Rattle.still_laws.specs.Steps.{IsStepped}
+use Rattle.still_laws.proofs.running_words_Called.{called}
+use Rattle.still_laws.proofs.StepLaws.{stepped, shapes-same}
+
+-- ---- roles
+
+pub known-at : {given : Given} {m : Members} {shape : Shape} → IsPlaced given m → shape ≡ shape_of m.newest → shape.disks ≤ length m.roles
+known-at {given = given} {m = m} {shape = shape} placed is = disks-within given m placed shape (inl is)
+
+pub few-at : {given : Given} {m : Members} {shape : Shape} → IsPlaced given m → shape ≡ shape_of m.newest → shape.disks ≤ 32
+few-at {m = m} {shape = shape} placed is = le_trans (force-disks m.newest placed.fit shape (inl is)) (le_trans (few-roles m.newest placed.fit.valid) (omega arith))
+
+pub known-behind : {given : Given} {old new : Members} {shape : Shape} → IsMoved given old new → shape ≡ shape_of old.newest → shape.disks ≤ length new.roles
+known-behind moved is = known-at moved.placed (is ∙ sym moved.shape)
+
+pub role-at : {given : Given} {m : Members} {role : ℕ} → IsPlaced given m → role < role_count m.newest → role < length m.roles
+role-at {role = role} placed lt = subst (λ (n : ℕ). role < n) (sym placed.roles) lt
+
+pub role-of-shape : {given : Given} {m : Members} {shape : Shape} {role : ℕ} → AreAtRest given m → shape ≡ shape_of m.newest → role < role_count m.newest → role < shape.disks
+role-of-shape {m = m} {role = role} here is lt = subst (λ (s : Shape). role < s.disks) (sym is) (subst (λ (n : ℕ). role < n) (count-still m.newest here.still) lt)
+
+pub role-behind : {given : Given} {old new : Members} {role : ℕ} → AreAtRest given old → IsMoved given old new → role < role_count old.newest → role < length new.roles
+role-behind here moved lt = le_trans (role-of-shape here refl lt) (known-behind moved refl)
+
+-- ---- the phases ahead
+
+pub sound-behind : {given : Given} {old new : Members} (ahead : PhasesLeft) → IsMoved given old new → AreSound (shape_of old.newest) old.newest.size (phases_of ahead) → AreSound (shape_of new.newest) new.newest.size (phases_of ahead)
+sound-behind {old = old} {new = new} ahead moved sound =
+    subst (λ (n : ℕ). AreSound (shape_of new.newest) n (phases_of ahead)) (sym moved.size)
+    (subst (λ (s : Shape). AreSound s old.newest.size (phases_of ahead)) (sym moved.shape) sound)
+
+-- ---- counts
+
+pub next-stripe : {given : Given} {m : Members} {stripe : ℕ} → IsPlaced given m → stripe < stripes_of m → Fits w64 (stripe + 1)
+next-stripe {given = given} {m = m} placed lt =
+    let few : stripes_of m ≤ m.newest.size = div-le_self m.newest.size (shape_of m.newest).chunk in
+    let rows = short given m placed in
+    omega (arith, lt, few, rows)
+
+pub step-taken : {was steps : ℕ} → was ≡ steps → 1 ≤ steps → was - 1 + 1 ≡ steps
+step-taken same some = omega (arith, same, some)
+
+pub room-for-step : {was steps room : ℕ} → was ≡ steps → 50 * was < room → 1 ≤ steps → 49 ≤ room
+room-for-step same left some = omega (arith, same, left, some)
+
+pub room-for-losses : {was steps room : ℕ} → was ≡ steps → 50 * was < room → 1 ≤ steps → 48 ≤ room
+room-for-losses same left some = omega (arith, same, left, some)
+
+-- what is left for the steps that follow
+pub room-after : {steps room left : ℕ} → 50 * steps < room → 1 ≤ steps → room ≤ left + 49 → 50 * (steps - 1) < left
+room-after most some less = omega (arith, most, some, less)
+
+pub room-after-losses : {steps room left : ℕ} → 50 * steps < room → 1 ≤ steps → room ≤ left + 48 → 50 * (steps - 1) < left
+room-after-losses most some less = omega (arith, most, some, less)
+
+-- ---- the answer isn't want of memory
+
+pub done-at-all : {T : Type 0} (x : T) → ◌≡◌ {A = Result T Fault} (Ok x) (Err NoMemory) → ⊥
+done-at-all x is = cc
+
+pub refused-at-all : {T : Type 0} (refusal : Refusal) → ◌≡◌ {A = Result T Fault} (Err (IsRefusedWith refusal)) (Err NoMemory) → ⊥
+refused-at-all refusal is = cc
+
+-- ---- what is entered
+
+pub step-entered : {old mid new : List Entry} {n m : ℕ} (who : Who) (end roles spares : ℕ) (kind : StepKind) → mid ≡ old → n ≡ m
+    → new ≡ mid ++ entries_of who end (losses_of roles spares ++ Step kind n ∷ []) → IsBehindAll who old new (Step kind m ∷ [])
+step-entered {old = old} {new = new} {n = n} who end roles spares kind same left is = (
+  roles,
+  spares,
+  end,
+  subst (λ (k : ℕ). new ≡ old ++ entries_of who end (losses_of roles spares ++ Step kind k ∷ [])) left
+      (subst (λ (l : List Entry). new ≡ l ++ entries_of who end (losses_of roles spares ++ Step kind n ∷ [])) same is),
+)
+
+pub one-entered : {old mid new : List Entry} (who : Who) (end roles spares : ℕ) (event : Event) → mid ≡ old
+    → new ≡ mid ++ entries_of who end (losses_of roles spares ++ event ∷ []) → IsBehind who old new event
+one-entered {new = new} who end roles spares event same is =
+    record { roles = roles; spares = spares; end = end; is = subst (λ (l : List Entry). new ≡ l ++ entries_of who end (losses_of roles spares ++ event ∷ [])) same is }
+
+-- ---- behind what was entered
+
+pub number-behind : (old added : List Entry) {new : List Entry} {n : ℕ} → new ≡ old ++ added → n ≤ length old → n ≤ length new
+number-behind old added {n = n} is few = subst (λ (l : List Entry). n ≤ length l) (sym is) (rw length-append (omega (arith, few)))
+
+pub room-behind-step : {was steps room left : ℕ} → was ≡ steps → 50 * was < room → 1 ≤ steps → room ≤ left + 49 → 0 < left
+room-behind-step same most some less = omega (arith, same, most, some, less)
+
+pub step-behind : {old mid new : List Entry} {n m : ℕ} (who : Who) (end roles spares : ℕ) (kind : StepKind) → mid ≡ old → n ≡ m
+    → new ≡ mid ++ entries_of who end (losses_of roles spares ++ Step kind n ∷ []) → IsBehind who old new (Step kind m)
+step-behind {old = old} {new = new} {n = n} who end roles spares kind same left is =
+    subst (λ (k : ℕ). IsBehind who old new (Step kind k)) left (one-entered who end roles spares (Step kind n) same is)
+
+pub room-49 : {room : ℕ} → 50 ≤ room → 49 ≤ room
+room-49 most = omega (arith, most)
+
+pub room-1 : {room : ℕ} → 50 ≤ room → 0 < room
+room-1 most = omega (arith, most)
+
+-- so many roles as were counted before
+pub same-known : {n a b c : ℕ} → n ≡ a → a ≡ c → b ≡ c → n ≤ b
+same-known count was is = omega (arith, count, was, is)
+
+-- ---- bytes
+
+pub whole-alike : (a b : List ℕ) → length a ≡ length b → IsWhole b → IsWhole a
+whole-alike a b len whole = subst (λ (n : ℕ). n ≡ 512 * (n / 512)) (sym len) whole
+
+pub scratch-fits : {a b : List ℕ} → a ≡ b → 1048576 ≤ length b → 8192 ≤ length a
+scratch-fits same fits = subst (λ (l : List ℕ). 8192 ≤ length l) (sym same) (le_trans (omega arith) fits)
+
+-- ---- a call that did nothing
+
+-- it has the same entries, in more room
+pub entries-alike : {B : Type 0} {old now : RunningParts B} (entries : List Entry) → old ≡ now → entries ≡ old.parts.entries → record old { parts = record old.parts { entries = entries } } ≡ now
+entries-alike {old = old} {now = now} entries same is = subst (λ (l : List Entry). record old { parts = record old.parts { entries = l } } ≡ now) (sym is) same
+
+pub work-kept : (newest : Sb) (work : Work) → IsWorkAdded newest work work
+work-kept newest work = record { resync = refl; rebuilt = refl; carried = λ n is. is; one = λ n is. inl is }
+
+never-falls : (n : ℕ) → n ≤ n
+never-falls n = omega arith
+
+lost-none : {had : ℕ → ℕ → Type 0} {faults : ℕ → ℕ} (entries : List Entry) → AreLossesBy had faults faults entries entries
+lost-none {had = had} {faults = faults} entries = record { more = []; grown = sym (append-nil entries); failed = All-nil (λ e. IsLossBy had faults faults e.event) }
+
+pub undone-called : {B : Type 0} {tells : Type 0} {given : Given} {tape : List Operation} {faults : ℕ → ℕ} {old new : RunningParts B}
+    → IsPlaced given old.parts.members → AreUnlost old.parts.members → IsEndOf tells old.parts.first old.parts.entries tape → (tells → old.parts.first ≤ length tape)
+    → new ≡ old → IsCalled tells given tape tape faults faults old new
+undone-called {B = B} {tells = tells} {given = given} {tape = tape} {faults = faults} {old = old} placed unlost ended begun same =
+    subst (λ (p : RunningParts B). IsCalled tells given tape tape faults faults old p) (sym same)
+    (called (grows-none (λ t. refl)) (moved-same given given old.parts.members old.parts.members refl refl placed unlost) ended (lost-none old.parts.entries) (λ slot. never-falls (faults slot))
+    (record { uuid = refl; given = refl; first = refl; backup = refl; work = refl; ahead = refl; limit = refl }) begun)
+
+pub undone-stepped : {B : Type 0} {tells : Type 0} {given : Given} {tape : List Operation} {faults : ℕ → ℕ} {old new : RunningParts B}
+    → IsEndOf tells old.parts.first old.parts.entries tape → (tells → old.parts.first ≤ length tape) → new ≡ old → IsStepped tells given tape tape (Held old.parts.members) faults faults old new
+undone-stepped {B = B} {tells = tells} {given = given} {tape = tape} {faults = faults} {old = old} ended begun same =
+    subst (λ (p : RunningParts B). IsStepped tells given tape tape (Held old.parts.members) faults faults old p) (sym same)
+    (stepped (grows-none (λ t. refl)) (shapes-same old.parts.members.newest) ended (λ role slot held. inl held) (lost-none old.parts.entries) (λ slot. never-falls (faults slot))
+    (record { uuid = refl; given = refl; first = refl; backup = refl; ahead = refl; limit = refl }) begun)
