@@ -2,8 +2,8 @@ use Rattle.std.proofs.Common.{◌≡◌, ℕ, length, sym, subst, arith, [], ◌
 use Rattle.std.specs.Prelude.{IfOk}
 use Rattle.md_base.specs.declared.answers.NoMemory.{NoMemory}
 use Rattle.line_answers.specs.superblocks_Reading.{list_length}
-use Rattle.lane_blocks.specs.Blocks.{HasWorkedBy}
-use Rattle.lane_blocks.specs.lanes_Pace.{asked_by}
+use Rattle.lanes.specs.Blocks.{HasWorkedBy}
+use Rattle.lanes.specs.Pace.{asked_by}
 use Rattle.line_answers.specs.running_Calls.{running_left}
 use Rattle.line_answers.specs.running_words_Parts.{RunningParts}
 use Rattle.line_answers.specs.run_laws_the_Answered.{Answered}

@@ -3,7 +3,7 @@ use Rattle.std.specs.List.{All}
 use Rattle.std.proofs.lemmas.List.Elements.{All-get_or}
 use Rattle.flat_history.specs.declared.events.Entry.{Entry}
 use Rattle.flat_history.specs.declared.events.Request.{Request}
-use Rattle.lane_blocks.specs.seen_laws_Callers.{RepliesFrom}
+use Rattle.lanes.specs.seen_laws_Callers.{RepliesFrom}
 use Rattle.line_answers.specs.running_Calls.{running_left}
 use Rattle.line_answers.specs.running_calls_Replies.{IsAskable}
 use Rattle.line_answers.proofs.running_calls_GoneOn.{gone-none, gone-same}
