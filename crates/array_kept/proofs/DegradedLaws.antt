@@ -195,7 +195,7 @@ module _ {tells : Type 0} {given : Given} {tape tape' : List Operation} {scope :
       → is_clean members'.newest ≡ is_clean members.newest → NamesSafe tells given members members' tape tape'
       → LeavesSafe tells given tape' scope first (entries ++ entries_of who end events) members' work
   leaves-named events silent adds rise told clean named =
-      named-leaves who end was opens caller at_end stays grows work (λ number is. is) events silent adds rise told refl does-before clean named
+      named-leaves who end was opens caller at_end stays grows work (λ slot number is. is) events silent adds rise told refl does-before clean named
 
   -- ---- what is kept after it
 

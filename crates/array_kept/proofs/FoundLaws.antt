@@ -1,14 +1,14 @@
 -- What is under way in an array that is found.
-use Rattle.std.proofs.Common.{◌≡◌, ◌≢◌, inl, inr, ℕ, suc, ◌+◌, ◌<◌, nat_lt, Bool, true, false, ◌||◌, cond, List, length, Option, slice_set, refl, sym, ◌∙◌, ap, subst, arith, length-set}
-use Rattle.std.specs.Prelude.{slice_index, slice_index_or}
+use Rattle.std.proofs.Common.{◌≡◌, ◌≢◌, inl, inr, ℕ, ◌+◌, ◌<◌, nat_lt, Bool, true, false, ◌||◌, cond, List, length, Option, slice_set, refl, sym, ◌∙◌, ap, subst, arith, length-set}
+use Rattle.std.specs.Prelude.{slice_index}
 use Rattle.std.proofs.lemmas.Bool.{cases_eq}
 use Rattle.std.proofs.lemmas.Bool.Decides.{nat_tests}
 use Rattle.std.proofs.lemmas.List.{get_or-set_same, get_or-set_other, ext_get_or}
-use Rattle.md_base.specs.Search.{tabulate, any_below}
+use Rattle.md_base.specs.Search.{tabulate}
 use Rattle.md_base.proofs.Tabulated.{length-tabulate, get_or-tabulate}
 use Rattle.sb1.specs.declared.sb.Sb.{Sb}
 use Rattle.call_entries.specs.superblocks_Reading.{Reading, role_state}
-use Rattle.array_kept.specs.Adopting.{stripes_held, found_stripes, is_number_of}
+use Rattle.array_kept.specs.Adopting.{stripes_held, found_stripes, bearers_of}
 
 -- ---- the stripes of each role
 
@@ -69,40 +69,25 @@ stripes-all r chunk disks rebuilt found =
 -- ---- the numbers of the superblocks
 
 -- so it is of the numbers below this one
-pub record AreNumbersFound (own : List (Option Sb)) (numbers : ℕ) (carried : List Bool) : Type 0 where
+pub record AreNumbersFound (own : List (Option Sb)) (numbers : ℕ) (carried : List ℕ) : Type 0 where
   pub long : length carried ≡ 128
-  pub each : (number : ℕ) → number < numbers → slice_index_or carried number true ≡ is_number_of own number
+  pub each : (number : ℕ) → number < numbers → slice_index carried number ≡ bearers_of own number
 
 -- one number more
-pub numbers-set : (own : List (Option Sb)) (number : ℕ) (carried : List Bool) (is : Bool) → AreNumbersFound own number carried → number < 128 → is ≡ is_number_of own number
-    → AreNumbersFound own (number + 1) (slice_set carried number is)
-numbers-set own number carried is found lt same = record {
-  long = length-set carried number is ∙ found.long;
+pub numbers-set : (own : List (Option Sb)) (number : ℕ) (carried : List ℕ) (slots : ℕ) → AreNumbersFound own number carried → number < 128 → slots ≡ bearers_of own number
+    → AreNumbersFound own (number + 1) (slice_set carried number slots)
+numbers-set own number carried slots found lt same = record {
+  long = length-set carried number slots ∙ found.long;
   each = λ other below. elim (cases_eq other number) [
     | inl here ↦
         let long = found.long in
-        subst (λ (n : ℕ). slice_index_or (slice_set carried number is) n true ≡ is_number_of own n) (sym here) (get_or-set_same carried number is true (omega (arith, lt, long)) ∙ same)
-    | inr apart ↦ get_or-set_other carried number other is true apart ∙ found.each other (omega (arith, below, apart))
+        subst (λ (n : ℕ). slice_index (slice_set carried number slots) n ≡ bearers_of own n) (sym here) (get_or-set_same carried number slots 0 (omega (arith, lt, long)) ∙ same)
+    | inr apart ↦ get_or-set_other carried number other slots 0 apart ∙ found.each other (omega (arith, below, apart))
   ];
 }
 
-pub numbers-all : (own : List (Option Sb)) (carried : List Bool) → AreNumbersFound own 128 carried → carried ≡ tabulate 128 (is_number_of own)
+pub numbers-all : (own : List (Option Sb)) (carried : List ℕ) → AreNumbersFound own 128 carried → carried ≡ tabulate 128 (bearers_of own)
 numbers-all own carried found =
     let long = found.long in
-    ext_get_or true carried (tabulate 128 (is_number_of own)) (long ∙ sym (length-tabulate 128 (is_number_of own)))
-    (λ number lt. found.each number (omega (arith, lt, long)) ∙ sym (get_or-tabulate 128 (is_number_of own) number true (omega (arith, lt, long))))
-
--- ---- a search
-
-pub none-below : (test : ℕ → Bool) → any_below 0 test ≡ false
-unfolding any_below
-none-below test = refl
-
-any-suc : (n : ℕ) (test : ℕ → Bool) → any_below (suc n) test ≡ (any_below n test || test n)
-unfolding any_below
-any-suc n test = refl
-
--- one more fails
-pub none-more : (n : ℕ) (test : ℕ → Bool) → any_below n test ≡ false → test n ≡ false → any_below (n + 1) test ≡ false
-none-more n test none fails = let next : n + 1 ≡ suc n = omega arith in
-    ap (λ (m : ℕ). any_below m test) next ∙ any-suc n test ∙ ap (λ (b : Bool). b || test n) none ∙ fails
+    ext_get_or 0 carried (tabulate 128 (bearers_of own)) (long ∙ sym (length-tabulate 128 (bearers_of own)))
+    (λ number lt. found.each number (omega (arith, lt, long)) ∙ sym (get_or-tabulate 128 (bearers_of own) number 0 (omega (arith, lt, long))))

@@ -22,7 +22,7 @@ use Rattle.call_entries.specs.flat_history_Growing.{grown}
 use Rattle.call_entries.specs.flat_history_Plain.{entries_of}
 use Rattle.call_entries.specs.flat_history_Legal.{told_left}
 use Rattle.call_entries.specs.flat_history_Transfers.{last_end_from}
-use Rattle.call_entries.specs.flat_history_Epochs.{HasRoomForEvents, OpensAlike}
+use Rattle.call_entries.specs.flat_history_Epochs.{HasRoomForEvents}
 use Rattle.call_entries.specs.flat_history_Losses.{was_dirty, is_resync_end, is_unsynced, unsettles}
 use Rattle.call_entries.specs.flat_history_Sound.{LosesNoRole, OpensFit, FillsRight}
 use Rattle.call_entries.specs.flat_history_OneShape.{ShapeOpening, opening_in, is_resyncing, is_unsettled, KeepShape, IsCallOpen, adds_slot, is_used_now}
@@ -52,7 +52,7 @@ use Rattle.array_kept.proofs.NowLaws.{now-quiet, length-more, limit-more, visibl
 use Rattle.array_kept.proofs.RecordLaws.{AreSilent, ends-call}
 use Rattle.array_kept.proofs.ReadyLaws.{AreStill, opening-later, kept-legal}
 use Rattle.call_entries.proofs.StepLaws.{record-goes_on, used-more}
-use Rattle.array_kept.proofs.SafeLaws.{begun-of, room-before, alike-before, room-now, safe-called}
+use Rattle.array_kept.proofs.SafeLaws.{begun-of, room-before, room-now, safe-called}
 use Rattle.array_kept.proofs.LedgerLaws.{told_by, CarriesMore, OnlyAdd, pending-more, unsettled-still, unsettled-by, none-lost-before, told-more as more-told, told-now, told-unclean, more-safe, newest-allowed}
 use Rattle.array_kept.proofs.OnlyLaws.{TellsOnly}
 use Rattle.call_entries.proofs.superblocks_ValidFields.{few-roles}
@@ -71,7 +71,7 @@ pub record StayPlaced (given : Given) (old new : Members) : Type 0 where
 pub record LeavesSafe (tells : Type 0) (given : Given) (tape : List Operation) (scope : Scope) (first : ℕ) (entries : List Entry) (members : Members) (work : Work) : Type 0 where
   pub dirty : DoWithout members → IsSome work.resync → is_clean members.newest ≡ false
   pub unclean : is_clean members.newest ≡ false → (is_some work.resync || is_unsettled entries) ≡ true
-  pub safe : tells → FillsRight (world_in given tape scope first) entries → HasRoomForEvents (world_in given tape scope first) → OpensAlike (world_in given tape scope first)
+  pub safe : tells → FillsRight (world_in given tape scope first) entries → HasRoomForEvents (world_in given tape scope first)
       → IsSafe (world_in given tape scope first) given members work entries
 
 -- What a call leaves of what is under way: a resync that mended no stripe yet had mended none before, it mended no more stripes than there
@@ -240,17 +240,16 @@ module _ {tells : Type 0} {given : Given} {tape tape' : List Operation} {scope :
       → ListStands members (present given tape) (now (opening_list (world_in given tape scope first)) entries)
   holds-before added t fills does = was.holds t does (rebuilds-by was (fills-before added fills))
 
-  pub safe-old : (added : List Entry) (t : tells) → FillsRight (world_in given tape' scope first) (entries ++ added) → HasRoomForEvents (world_in given tape' scope first) → OpensAlike (world_in given tape' scope first)
+  pub safe-old : (added : List Entry) (t : tells) → FillsRight (world_in given tape' scope first) (entries ++ added) → HasRoomForEvents (world_in given tape' scope first)
       → IsSafe (world_in given tape scope first) given members work entries
-  safe-old added t fills room alike = was.safe t (fills-before added (fills-here (entries ++ added) t fills))
+  safe-old added t fills room = was.safe t (fills-before added (fills-here (entries ++ added) t fills))
       (room-before (world_in given tape scope first) (grows.more t).0 (was.recorded t).begun (subst (λ (l : List Operation). HasRoomForEvents (world_in given l scope first)) (grows.more t).1 room))
-      (alike-before (world_in given tape scope first) (grows.more t).0 (was.recorded t).begun (subst (λ (l : List Operation). OpensAlike (world_in given l scope first)) (grows.more t).1 alike))
 
-  pub room-left : (added : List Entry) (t : tells) → FillsRight (world_in given tape' scope first) (entries ++ added) → HasRoomForEvents (world_in given tape' scope first) → OpensAlike (world_in given tape' scope first)
+  pub room-left : (added : List Entry) (t : tells) → FillsRight (world_in given tape' scope first) (entries ++ added) → HasRoomForEvents (world_in given tape' scope first)
       → HasRoomLeft members tape tape'
-  room-left added t fills room alike =
+  room-left added t fills room =
       subst (λ (l : List Operation). HasRoomLeft members tape l) (sym (grows.more t).1)
-      (room-now (world_in given tape scope first) (grows.more t).0 members (was.recorded t).begun (safe-old added t fills room alike).counted
+      (room-now (world_in given tape scope first) (grows.more t).0 members (was.recorded t).begun (safe-old added t fills room).counted
       (subst (λ (l : List Operation). HasRoomForEvents (world_in given l scope first)) (grows.more t).1 room))
 
   -- a flat list's sector may have what it has
@@ -274,15 +273,15 @@ module _ {tells : Type 0} {given : Given} {tape tape' : List Operation} {scope :
         → ((t : tells) → FillsRight (world_in given tape scope first) (entries ++ entries_of who end (early ++ late)) → HasRoomLeft members tape tape'
         → IsTold (told_by (world_in given tape scope first) work' entries (entries_of who end early)) members tape
         → IsTold (ledger_now (world_in given tape scope first) work' (entries ++ entries_of who end (early ++ late))) members' tape')
-        → tells → FillsRight (world_in given tape' scope first) (entries ++ entries_of who end (early ++ late)) → HasRoomForEvents (world_in given tape' scope first) → OpensAlike (world_in given tape' scope first)
+        → tells → FillsRight (world_in given tape' scope first) (entries ++ entries_of who end (early ++ late)) → HasRoomForEvents (world_in given tape' scope first)
         → IsSafe (world_in given tape' scope first) given members' work' (entries ++ entries_of who end (early ++ late))
-    safe-by stretch last t fills room alike =
+    safe-by stretch last t fills room =
         let world = world_in given tape scope first in
         let g = grows.more t in
         let added = entries_of who end (early ++ late) in
-        let old = safe-old added t fills room alike in
+        let old = safe-old added t fills room in
         let here = fills-here (entries ++ added) t fills in
-        let left = room-left added t fills room alike in
+        let left = room-left added t fills room in
         let told = told_by world work' entries (entries_of who end early) in
         let began = more-safe (OpensFit world) scope given (ledger_now world work entries) told members (disk given.start tape) (more-told world work work' carries entries (entries_of who end early) adds) old.now in
         safe-called given tape scope first entries members members' work work' who early late g.0 tape' end g.1 (at_end t ∙ ap (λ (l : List Operation). length l) g.1) was.sizes_are (begun-of world (was.recorded t)) old
@@ -297,12 +296,12 @@ module _ {tells : Type 0} {given : Given} {tape tape' : List Operation} {scope :
     no_more : events ++ [] ≡ events
     no_more = append-nil events
 
-    pub safe-adding : tells → FillsRight (world_in given tape' scope first) (entries ++ entries_of who end events) → HasRoomForEvents (world_in given tape' scope first) → OpensAlike (world_in given tape' scope first)
+    pub safe-adding : tells → FillsRight (world_in given tape' scope first) (entries ++ entries_of who end events) → HasRoomForEvents (world_in given tape' scope first)
         → IsSafe (world_in given tape' scope first) given members' work' (entries ++ entries_of who end events)
     safe-adding t =
         let world = world_in given tape scope first in
         let told = told_by world work' entries (entries_of who end events) in
-        subst (λ (l : List Event). FillsRight (world_in given tape' scope first) (entries ++ entries_of who end l) → HasRoomForEvents (world_in given tape' scope first) → OpensAlike (world_in given tape' scope first)
+        subst (λ (l : List Event). FillsRight (world_in given tape' scope first) (entries ++ entries_of who end l) → HasRoomForEvents (world_in given tape' scope first)
         → IsSafe (world_in given tape' scope first) given members' work' (entries ++ entries_of who end l)) no_more
         (safe-by work' carries events [] silent (subst (AreSilent who end) (sym no_more) silent) adds (subst (λ (l : List Event). KeepShape (entries_of who end l)) (sym no_more) adds.keep) rise
         (λ t fills. stretch t (subst (λ (l : List Event). FillsRight world (entries ++ entries_of who end l)) no_more fills))
@@ -481,13 +480,13 @@ pub leaves-as : {tells : Type 0} {given : Given} {tape : List Operation} {scope 
 leaves-as {given = given} {tape = tape} {scope = scope} {first = first} {entries = entries} {members = members} work work' pending carried leaves = record {
   dirty = λ does is. leaves.dirty does (sym pending ∙ is);
   unclean = λ is. ap (λ (b : Bool). b || is_unsettled entries) pending ∙ leaves.unclean is;
-  safe = λ t fills room alike.
-      let safe = leaves.safe t fills room alike in
+  safe = λ t fills room.
+      let safe = leaves.safe t fills room in
       let world = world_in given tape scope first in
       record {
         past = safe.past;
         sound = safe.sound;
-        now = subst (λ (l : List Bool). IsSafeOver world given (ledger_now world (record work { carried = l }) entries) members tape) (sym carried) safe.now;
+        now = subst (λ (l : List ℕ). IsSafeOver world given (ledger_now world (record work { carried = l }) entries) members tape) (sym carried) safe.now;
         counted = safe.counted;
       };
 }

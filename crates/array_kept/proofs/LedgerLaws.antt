@@ -28,7 +28,7 @@ use Rattle.call_entries.proofs.flat_history_OneShapeGone.{gone-or_lost, losses-g
 use Rattle.call_entries.proofs.history_laws_OneShapeGrowing.{gone-more}
 use Rattle.array_kept.specs.Kept.{ledger_now}
 use Rattle.call_entries.specs.views_the_Work.{Work}
-use Rattle.call_entries.specs.views_Numbers.{is_carried}
+use Rattle.call_entries.specs.views_Numbers.{bears}
 use Rattle.call_entries.specs.shape_views_Views.{Ledger, ledger_of}
 use Rattle.call_entries.specs.shape_changes_Steady.{IsSafeNow, IsMoreTold, AreWritesAllowed, settled_ledger}
 use Rattle.call_entries.specs.views_Whole.{list_size}
@@ -51,12 +51,12 @@ told_by world work entries more = record {
   gone = is_gone_now (entries ++ more);
   unclean = is_unsynced world entries || (is_unsettled entries || list_any (λ e. unsettles e.event) more);
   reshaping = false;
-  carried = is_carried work;
+  carried = bears work;
 }
 
--- superblocks of the array bear no fewer numbers
+-- the superblocks may bear no fewer numbers
 abbrev pub CarriesMore : Work → Work → Type 0
-CarriesMore old new = (number : ℕ) → is_carried old number ≡ true → is_carried new number ≡ true
+CarriesMore old new = (slot number : ℕ) → bears old slot number ≡ true → bears new slot number ≡ true
 
 -- what the first j entries tell of a mark by which the first k were made
 abbrev pub judged_by : World → List Entry → ℕ → ℕ → Ledger
@@ -78,7 +78,7 @@ told-ledger world work entries more rest none keep = record {
   gone = λ role is. judged-gone world (entries ++ (more ++ rest)) (length entries) (length (entries ++ more)) keep role (gone role ∙ is);
   unclean = λ is. judged-unclean world (entries ++ (more ++ rest)) (length entries) (length (entries ++ more)) keep (unclean ∙ is);
   reshaping = λ is. refl;
-  carried = λ number is. refl;
+  carried = λ slot number is. refl;
 }
   where
     first : take (length (entries ++ more)) (entries ++ (more ++ rest)) ≡ entries ++ more
@@ -105,7 +105,7 @@ now-ledger world work entries keep = record {
   gone = λ role is. judged-gone world entries (length entries) (length entries) keep role (gone role ∙ is);
   unclean = λ is. judged-unclean world entries (length entries) (length entries) keep ((λ i. is_unsynced world (take-length entries i) || unwritten i) ∙ is);
   reshaping = λ is. refl;
-  carried = λ number is. refl;
+  carried = λ slot number is. refl;
 }
   where
     none : (test : Entry → Bool) (n : ℕ) (l : List Entry) → n ≡ 0 → list_any test (take n l) ≡ false
@@ -300,7 +300,7 @@ module _ (world : World) (old work : Work) (carries : CarriesMore old work) (ent
     gone = λ role is. is;
     unclean = λ is. ap₂ (λ (a b : Bool). a || b) (unsynced-more world entries more (none-ends more adds.settles)) (unsettled-more entries more adds.settles) ∙ is;
     reshaping = λ is. is;
-    carried = λ number is. is;
+    carried = λ slot number is. is;
   }
 
   -- what was unclean before the call is told so
@@ -414,5 +414,5 @@ settled-now world size work unsynced entries more rest dirty sized sized-all new
   gone = λ role is. subst (λ (l : List Entry). is_gone_now l role ≡ true) (append_assoc entries more rest) (gone-more role (entries ++ more) rest (none role) is);
   unclean = λ is. or_left (is_unsynced world (entries ++ (more ++ rest))) (is_unsettled (entries ++ (more ++ rest))) (dirty ∙ is);
   reshaping = λ is. is;
-  carried = λ number is. is;
+  carried = λ slot number is. is;
 }

@@ -19,6 +19,7 @@ pub use Rattle.call_entries.proofs.StepLaws as call_entries_StepLaws
 pub use Rattle.call_entries.proofs.LosingLaws as call_entries_LosingLaws
 pub use Rattle.call_entries.proofs.PlainLaws as call_entries_PlainLaws
 pub use Rattle.call_entries.proofs.views_LiveLeft
+pub use Rattle.call_entries.proofs.views_BearerLaws
 pub use Rattle.call_entries.proofs.views_Searching
 pub use Rattle.call_entries.proofs.views_Fit
 pub use Rattle.call_entries.proofs.views_LackingLaws

@@ -21,31 +21,32 @@ use Rattle.call_entries.specs.flat_history_Transfers.{last_end_from}
 use Rattle.call_entries.specs.views_Placed.{AreStillHeld}
 use Rattle.call_entries.specs.Losing.{losses_of, failure_events}
 use Rattle.call_entries.specs.views_Lacking.{AreLostSince}
-use Rattle.array_kept.specs.Calls.{IsLossBy, AreLossesBy, AreLossesOf, IsEndOf, IsBehind, IsSettling, is_torn, has_torn}
+use Rattle.array_kept.specs.Calls.{IsLossBy, WasSpare, AreLossesBy, AreLossesOf, IsEndOf, IsBehind, AreSparesFewer, IsSettling, is_torn, has_torn}
 use Rattle.call_entries.specs.views_Rebuilding.{Held}
 use Rattle.call_entries.proofs.PlainLaws.{one}
 use Rattle.call_entries.proofs.LosingLaws.{entries-both, no-losses}
 use Rattle.call_entries.proofs.CallLaws.{all-losses, last_end-behind}
 
--- Losses, and events behind them that tell of none; each role that was lost was held by a slot that may have had it.
-module _ (Had : ℕ → ℕ → Type 0) (old after : Members) (had : (role slot : ℕ) → Held old role slot → Had role slot) (before now : ℕ → ℕ) (entries mid new : List Entry) (who : Who) (end roles spares : ℕ)
+-- Losses, and events behind them that tell of none; each role that was lost was held by a slot that may have had it, and each slot was a spare that may have been one.
+module _ (Had : ℕ → ℕ → Type 0) (Was : ℕ → Type 0) (old after : Members) (had : (role slot : ℕ) → Held old role slot → Had role slot) (was : (slot : ℕ) → WasSpare old slot → Was slot) (before now : ℕ → ℕ) (entries mid new : List Entry) (who : Who) (end roles spares : ℕ)
     (since : AreLostSince old after roles spares before now) (mid_is : mid ≡ entries) where
-  pub losses-tail : (tail : List Event) → All (λ e. IsLossBy Had before now e.event) (entries_of who end tail) → new ≡ mid ++ entries_of who end (losses_of roles spares ++ tail) → AreLossesBy Had before now entries new
+  pub losses-tail : (tail : List Event) → All (λ e. IsLossBy Had Was before now e.event) (entries_of who end tail) → new ≡ mid ++ entries_of who end (losses_of roles spares ++ tail) → AreLossesBy Had Was before now entries new
   losses-tail tail rest is = record {
     more = entries_of who end (losses_of roles spares ++ tail);
     grown = is ∙ ap (λ (l : List Entry). l ++ entries_of who end (losses_of roles spares ++ tail)) mid_is;
-    failed = all-losses (λ event. IsLossBy Had before now event) who end roles spares tail (λ role has. let lost = since.held role has in (lost.0, had role lost.0 lost.1, lost.2)) since.failed rest;
+    failed = all-losses (λ event. IsLossBy Had Was before now event) who end roles spares tail (λ role has. let lost = since.held role has in (lost.0, had role lost.0 lost.1, lost.2))
+        (λ slot has. (was slot (since.were slot has), since.failed slot has)) rest;
   }
 
-  pub losses-before : (event : Event) → IsLossBy Had before now event → new ≡ mid ++ entries_of who end (losses_of roles spares ++ event ∷ []) → AreLossesBy Had before now entries new
+  pub losses-before : (event : Event) → IsLossBy Had Was before now event → new ≡ mid ++ entries_of who end (losses_of roles spares ++ event ∷ []) → AreLossesBy Had Was before now entries new
   losses-before event none is =
-      losses-tail (event ∷ []) (All-cons (λ e. IsLossBy Had before now e.event) (one who end event) [] none (All-nil (λ e. IsLossBy Had before now e.event))) is
+      losses-tail (event ∷ []) (All-cons (λ e. IsLossBy Had Was before now e.event) (one who end event) [] none (All-nil (λ e. IsLossBy Had Was before now e.event))) is
 
 -- where roles are only lost
 pub losses-behind : (old after : Members) (before now : ℕ → ℕ) (entries mid new : List Entry) (who : Who) (end roles spares : ℕ) (event : Event) → AreLostSince old after roles spares before now
-    → IsLossBy (Held old) before now event → mid ≡ entries → new ≡ mid ++ entries_of who end (losses_of roles spares ++ event ∷ []) → AreLossesOf old before now entries new
+    → IsLossBy (Held old) (WasSpare old) before now event → mid ≡ entries → new ≡ mid ++ entries_of who end (losses_of roles spares ++ event ∷ []) → AreLossesOf old before now entries new
 losses-behind old after before now entries mid new who end roles spares event since none mid_is is =
-    losses-before (Held old) old after (λ role slot held. held) before now entries mid new who end roles spares since mid_is event none is
+    losses-before (Held old) (WasSpare old) old after (λ role slot held. held) (λ slot is. is) before now entries mid new who end roles spares since mid_is event none is
 
 assoc : (xs : List Event) (x y : Event) → (xs ++ x ∷ []) ++ y ∷ [] ≡ xs ++ x ∷ y ∷ []
 assoc [] x y = refl
@@ -54,22 +55,23 @@ assoc (z ∷ xs) x y = ap (λ (l : List Event). z ∷ l) (assoc xs x y)
 pub losses-failure : (old after : Members) (before now : ℕ → ℕ) (entries mid new : List Entry) (who : Who) (end roles spares : ℕ) (torn : Bool) (at : ℕ) (body : List Sector) (refusal : Refusal)
     → AreLostSince old after roles spares before now → mid ≡ entries → new ≡ mid ++ entries_of who end (failure_events roles spares torn at body refusal) → AreLossesOf old before now entries new
 losses-failure old after before now entries mid new who end roles spares true at body refusal since mid_is is =
-    losses-tail (Held old) old after (λ role slot held. held) before now entries mid new who end roles spares since mid_is (Torn at body ∷ Refused refusal ∷ [])
-    (All-cons (λ e. IsLossBy (Held old) before now e.event) (one who end (Torn at body)) (one who end (Refused refusal) ∷ []) tt
-    (All-cons (λ e. IsLossBy (Held old) before now e.event) (one who end (Refused refusal)) [] tt (All-nil (λ e. IsLossBy (Held old) before now e.event))))
+    losses-tail (Held old) (WasSpare old) old after (λ role slot held. held) (λ slot is. is) before now entries mid new who end roles spares since mid_is (Torn at body ∷ Refused refusal ∷ [])
+    (All-cons (λ e. IsLossBy (Held old) (WasSpare old) before now e.event) (one who end (Torn at body)) (one who end (Refused refusal) ∷ []) tt
+    (All-cons (λ e. IsLossBy (Held old) (WasSpare old) before now e.event) (one who end (Refused refusal)) [] tt (All-nil (λ e. IsLossBy (Held old) (WasSpare old) before now e.event))))
     (is ∙ ap (λ (l : List Event). mid ++ entries_of who end l) (assoc (losses_of roles spares) (Torn at body) (Refused refusal)))
 losses-failure old after before now entries mid new who end roles spares false at body refusal since mid_is is =
     losses-behind old after before now entries mid new who end roles spares (Refused refusal) since tt mid_is is
 
 -- a role that was taken out by command, and what was lost while it was named
-pub losses-failed : (old out after : Members) (before now : ℕ → ℕ) (entries mid new : List Entry) (who : Who) (end role slot roles spares : ℕ) → AreStillHeld old out → AreLostSince out after roles spares before now
+pub losses-failed : (old out after : Members) (before now : ℕ → ℕ) (entries mid new : List Entry) (who : Who) (end role slot roles spares : ℕ) → AreStillHeld old out → AreSparesFewer old out → AreLostSince out after roles spares before now
     → holder (role_state (reading_of old) role) ≡ Some slot → mid ≡ entries → new ≡ mid ++ entries_of who end ((Lost role Command ∷ losses_of roles spares) ++ Failed role ∷ []) → AreLossesOf old before now entries new
-losses-failed old out after before now entries mid new who end role slot roles spares still since held mid_is is = record {
+losses-failed old out after before now entries mid new who end role slot roles spares still fewer since held mid_is is = record {
   more = entries_of who end ((Lost role Command ∷ losses_of roles spares) ++ Failed role ∷ []);
   grown = is ∙ ap (λ (l : List Entry). l ++ entries_of who end ((Lost role Command ∷ losses_of roles spares) ++ Failed role ∷ [])) mid_is;
-  failed = All-cons (λ e. IsLossBy (Held old) before now e.event) (one who end (Lost role Command)) (entries_of who end (losses_of roles spares ++ Failed role ∷ [])) (slot, held)
-      (all-losses (λ event. IsLossBy (Held old) before now event) who end roles spares (Failed role ∷ []) (λ r has. let h = since.held r has in (h.0, still r h.0 h.1, h.2)) since.failed
-      (All-cons (λ e. IsLossBy (Held old) before now e.event) (one who end (Failed role)) [] tt (All-nil (λ e. IsLossBy (Held old) before now e.event))));
+  failed = All-cons (λ e. IsLossBy (Held old) (WasSpare old) before now e.event) (one who end (Lost role Command)) (entries_of who end (losses_of roles spares ++ Failed role ∷ [])) (slot, held)
+      (all-losses (λ event. IsLossBy (Held old) (WasSpare old) before now event) who end roles spares (Failed role ∷ []) (λ r has. let h = since.held r has in (h.0, still r h.0 h.1, h.2))
+      (λ s has. (fewer s (since.were s has), since.failed s has))
+      (All-cons (λ e. IsLossBy (Held old) (WasSpare old) before now e.event) (one who end (Failed role)) [] tt (All-nil (λ e. IsLossBy (Held old) (WasSpare old) before now e.event))));
 }
 
 -- ---- where a call ended
@@ -93,9 +95,9 @@ behind-alone {old = old} {mid = mid} who end event mid_is is = record {
   is = is ∙ ap (λ (l : List Entry). l ++ entries_of who end (event ∷ [])) mid_is ∙ ap (λ (l : List Event). old ++ entries_of who end (l ++ event ∷ [])) (sym no-losses);
 }
 
-pub settling-no-loss : (members : Members) (before now : ℕ → ℕ) (event : Event) → IsSettling event → IsLossBy (Held members) before now event
-settling-no-loss members before now event (inl is) = subst (IsLossBy (Held members) before now) (sym is) tt
-settling-no-loss members before now event (inr is) = subst (IsLossBy (Held members) before now) (sym is) tt
+pub settling-no-loss : (members : Members) (before now : ℕ → ℕ) (event : Event) → IsSettling event → IsLossBy (Held members) (WasSpare members) before now event
+settling-no-loss members before now event (inl is) = subst (IsLossBy (Held members) (WasSpare members) before now) (sym is) tt
+settling-no-loss members before now event (inr is) = subst (IsLossBy (Held members) (WasSpare members) before now) (sym is) tt
 
 -- ---- torn writes
 

@@ -19,7 +19,7 @@ use Rattle.call_entries.specs.flat_history_World.{World, opening_list}
 use Rattle.call_entries.specs.flat_history_Transfers.{IsReadOver}
 use Rattle.call_entries.specs.flat_history_Plain.{entries_of}
 use Rattle.call_entries.specs.flat_history_OneShape.{ShapeOpening, opening_in, IsOneShapeLegal, KeepShape}
-use Rattle.call_entries.specs.flat_history_Epochs.{HasRoomForEvents, OpensAlike, IsEpochRight, world_of}
+use Rattle.call_entries.specs.flat_history_Epochs.{HasRoomForEvents, IsEpochRight, world_of}
 use Rattle.call_entries.proofs.history_laws_NumberLaws.{safe-throughout}
 use Rattle.call_entries.proofs.flat_history_SoundLaws.{stays-throughout}
 use Rattle.call_entries.proofs.flat_history_OneShapeLegal.{one_shape-legal, found-in}
@@ -159,14 +159,14 @@ kept-legal {given = given} {tape = tape} {scope = scope} {first = first} {entrie
 
 pub epoch-right : {tells : Type 0} {entries : List Entry} {work : Work} (given : Given) (tape : List Operation) (backup : Option ℕ) (epoch : Epoch) (members : Members)
     → IsKept tells given tape (scope_in given epoch.uuid epoch.given backup) epoch.first entries members work → epoch.entries.items ≡ entries → tells → epoch.last ≡ length tape
-    → FillsRight (world_of given tape backup epoch) epoch.entries.items → HasRoomForEvents (world_of given tape backup epoch) → OpensAlike (world_of given tape backup epoch) → IsEpochRight given tape backup epoch
-epoch-right {tells = tells} {work = work} given tape backup epoch members was is t last fills room alike =
+    → FillsRight (world_of given tape backup epoch) epoch.entries.items → HasRoomForEvents (world_of given tape backup epoch) → IsEpochRight given tape backup epoch
+epoch-right {tells = tells} {work = work} given tape backup epoch members was is t last fills room =
     let kept : IsKept tells given tape (scope_in given epoch.uuid epoch.given backup) epoch.first epoch.entries.items members work =
     subst (λ (l : List Entry). IsKept tells given tape (scope_in given epoch.uuid epoch.given backup) epoch.first l members work) (sym is) was in
     let recorded = kept.recorded t in
     let world = world_of given tape backup epoch in
     let legal = one_shape-legal world (opening_in world) epoch.entries.items (found-in world) (kept-legal kept t fills) in
-    let safe = kept.safe t fills room alike in
+    let safe = kept.safe t fills room in
     record {
       begins = omega (arith, recorded.begun, last);
       ends = omega (arith, last);

@@ -12,7 +12,6 @@ use Rattle.bank.specs.Tape.{Contents, IsIn, disk}
 use Rattle.bank.proofs.Laws.{contents-earlier}
 use Rattle.call_entries.specs.superblocks_the_Members.{Members}
 use Rattle.call_entries.specs.superblocks_Reading.{Scope, Reading, reading}
-use Rattle.call_entries.specs.superblocks_Found.{AreLikeNewest}
 use Rattle.call_entries.specs.flat_history_the_Entry.{Entry}
 use Rattle.call_entries.specs.flat_history_the_Event.{Event}
 use Rattle.call_entries.specs.flat_history_Flat.{length_of, values_of}
@@ -22,7 +21,7 @@ use Rattle.call_entries.specs.flat_history_Opened.{IsSound}
 use Rattle.call_entries.specs.flat_history_Sound.{OpensFit, FillsRight}
 use Rattle.call_entries.specs.flat_history_CrashSafe.{made_by, may_be_made, first_call_len, IsSafeAt}
 use Rattle.call_entries.specs.flat_history_Growing.{grown, EndBy}
-use Rattle.call_entries.specs.flat_history_Epochs.{HasRoomForEvents, OpensAlike}
+use Rattle.call_entries.specs.flat_history_Epochs.{HasRoomForEvents}
 use Rattle.call_entries.specs.flat_history_OneShape.{ShapeOpening, is_lost, is_gone_now, is_unsettled, KeepShape}
 use Rattle.call_entries.specs.flat_history_Plain.{entries_of}
 use Rattle.call_entries.proofs.history_laws_GrowingLaws.{calls-owe}
@@ -30,7 +29,7 @@ use Rattle.call_entries.proofs.flat_history_OneShapeGone.{losses-gone, never-gon
 use Rattle.call_entries.proofs.flat_history_OneShapeLegal.{opening-grown as shape-grown}
 use Rattle.call_entries.specs.shape_changes_Safety.{HasLiveSlot, HasRoomLeft, IsRisen}
 use Rattle.call_entries.specs.views_the_Work.{Work}
-use Rattle.call_entries.specs.views_Numbers.{is_carried}
+use Rattle.call_entries.specs.views_Numbers.{bears}
 use Rattle.array_kept.specs.Kept.{world_in, ledger_now, IsRecorded, IsCounted, IsSafe}
 use Rattle.call_entries.specs.shape_views_Views.{Disk, Ledger, IsJudgedBy}
 use Rattle.call_entries.proofs.shape_views_Judged.{views-safe}
@@ -76,14 +75,6 @@ room-now world ops members within counts room live =
 
 -- ---- the opening, seen later
 
--- it found alike superblocks before it does afterwards
-pub alike-before : (world : World) (ops : List Operation) → world.first ≤ length world.tape → OpensAlike (grown world ops) → OpensAlike world
-unfolding reading_at
-alike-before world ops within alike = subst (λ (c : Contents). IfSome (reading world.scope c) (λ r. AreLikeNewest world.scope r.newest c)) same alike
-  where
-    same : contents_at (grown world ops) world.first ≡ contents_at world world.first
-    same = λ i slot at. contents-earlier world.start world.tape ops world.first slot at within i
-
 fit-grown : (world : World) (ops : List Operation) → world.first ≤ length world.tape → OpensFit (grown world ops) ≡ OpensFit world
 unfolding reading_at
 fit-grown world ops within = λ i. IfSome (reading world.scope (same i)) (IsSound world.scope (same i))
@@ -105,7 +96,7 @@ module _ (world : World) (ops : List Operation) (within : world.first ≤ length
     gone = is_gone_now (entries ++ more);
     unclean = unsynced-grown entries i || (is_unsettled entries || list_any (λ e. unsettles e.event) more);
     reshaping = false;
-    carried = is_carried work;
+    carried = bears work;
   }
 
   now-grown : (work : Work) (entries : List Entry) → ledger_now (grown world ops) work entries ≡ ledger_now world work entries
@@ -115,7 +106,7 @@ module _ (world : World) (ops : List Operation) (within : world.first ≤ length
     gone = is_gone_now entries;
     unclean = unsynced-grown entries i || is_unsettled entries;
     reshaping = false;
-    carried = is_carried work;
+    carried = bears work;
   }
 
 -- ---- a mark that is judged

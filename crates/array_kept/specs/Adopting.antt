@@ -11,8 +11,9 @@ use Rattle.md_base.specs.declared.status.Role.{Role}
 use Rattle.md_base.specs.declared.status.Role.TheVariants.{Whole, Recovering, Missing}
 use Rattle.std.specs.Option.{option_map_or}
 use Rattle.md_base.specs.Sectors.{Sector}
-use Rattle.md_base.specs.Search.{tabulate, any_below}
+use Rattle.md_base.specs.Search.{tabulate}
 use Rattle.sb1.specs.declared.sb.Sb.{Sb}
+use Rattle.call_entries.specs.superblocks_Outcome.{set_of}
 use Rattle.call_entries.specs.superblocks_Update.{own_in}
 use Rattle.call_entries.specs.superblocks_Held.{MayRead}
 use Rattle.call_entries.specs.superblocks_Reading.{Scope, Reading, reading, is_reshaping, is_clean, shape_of, role_state, rows_held}
@@ -23,7 +24,6 @@ use Rattle.call_entries.specs.flat_history_the_LostCause_TheVariants.{Absent, Re
 use Rattle.call_entries.specs.flat_history_World.{opening_list}
 use Rattle.call_entries.specs.flat_history_Flat.{now}
 use Rattle.call_entries.specs.flat_history_Losses.{was_dirty}
-use Rattle.call_entries.specs.flat_history_Epochs.{OpensAlike}
 use Rattle.call_entries.specs.flat_history_Plain.{entries_of}
 use Rattle.call_entries.specs.flat_history_OneShape.{opening_in, is_absent_at_first}
 use Rattle.call_entries.specs.shape_changes_Held.{IsHeldBy}
@@ -68,16 +68,16 @@ stripes_held r chunk state = 0
 abbrev pub found_stripes : Reading → ℕ → ℕ → ℕ → ℕ
 found_stripes r chunk disks role = if nat_lt role disks then stripes_held r chunk (role_state r role) else 0
 
--- one of these superblocks bears the device number
-abbrev pub is_number_of : List (Option Sb) → ℕ → Bool
-is_number_of own number = any_below 32 (λ slot. option_map_or (λ sb. sb.dev_number == number) (own_in own slot) false)
+-- the slots of which these superblocks bear the device number
+abbrev pub bearers_of : List (Option Sb) → ℕ → ℕ
+bearers_of own number = set_of 32 (λ slot. option_map_or (λ sb. sb.dev_number == number) (own_in own slot) false)
 
 -- What is under way in an array that is found: a resync, where it is dirty.
 abbrev pub found_work : Members → Work
 found_work members = record {
   resync = if is_clean members.newest then None else Some 0;
   rebuilt = tabulate 16 (found_stripes (reading_of members) (shape_of members.newest).chunk (shape_of members.newest).disks);
-  carried = tabulate 128 (is_number_of members.own);
+  carried = tabulate 128 (bearers_of members.own);
 }
 
 -- each superblock of the array that a slot may show has the number of the one that is kept of it
@@ -105,7 +105,7 @@ pub record IsAdoptable (tells : Type 0) (given : Given) (tape : List Operation) 
   pub whole : tells → HasWholeSectors given tape → AreSectorsWhole (list_size (places_of members)) (now (opening_list (world_in given tape scope (length tape))) [])
   pub good : tells → HasWholeSectors given tape → OpensGood (world_in given tape scope (length tape)) → RowsStand members (present given tape) (now (opening_list (world_in given tape scope (length tape))) [])
   pub flushed : tells → AreHoldersFlushed (reading_of members) given tape
-  pub next : tells → OpensAlike (world_in given tape scope (length tape)) → IsHeldBy scope members (disk given.start tape)
+  pub next : tells → IsHeldBy scope members (disk given.start tape)
   pub numbers : tells → AreNumbersKept scope members.own (disk given.start tape)
   pub newest : tells → (r : Reading) × (reading scope (present given tape) ≡ Some r) × (members.newest.events ≤ r.newest.events)
 

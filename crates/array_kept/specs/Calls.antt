@@ -1,5 +1,5 @@
 -- What a call of an array answers, why it is refused, and what it enters.
-use Rattle.std.specs.Prelude.{◌≡◌, ◌⊎◌, ℕ, ◌+◌, ◌<◌, ◌≤◌, ◌++◌, Bool, true, false, not, List, [], ◌∷◌, length, drop, slice_set, Option, option_map, Some, None, IsSome, IsTrue, MatchOption, Result, Ok, Err, ⊤, Contains}
+use Rattle.std.specs.Prelude.{◌≡◌, ◌≢◌, ◌⊎◌, ℕ, ◌+◌, ◌<◌, ◌≤◌, ◌++◌, ◌==◌, Bool, true, false, not, List, [], ◌∷◌, length, drop, slice_set, Option, option_map, Some, None, IsSome, IfSome, IsTrue, MatchOption, Result, Ok, Err, ⊤, Contains}
 use Rattle.std.specs.List.{list_any, All}
 use Rattle.md_base.specs.declared.answers.Who.{Who}
 use Rattle.md_base.specs.declared.answers.Fault.{Fault}
@@ -36,7 +36,7 @@ use Rattle.call_entries.specs.views_Lacking.{AreTooMany, IsNotResynced}
 use Rattle.call_entries.specs.views_Parts.{Parts}
 use Rattle.call_entries.specs.views_the_Work.{Work}
 use Rattle.call_entries.specs.views_Status.{stripes_of, rebuilt_of, left_of}
-use Rattle.call_entries.specs.views_Numbers.{is_carried, free_number}
+use Rattle.call_entries.specs.views_Numbers.{bears, free_number}
 use Rattle.call_entries.specs.views_Rebuilding.{IfOwn, Held, MayHold}
 use Rattle.array_kept.specs.Kept.{scope_in, world_in}
 
@@ -258,20 +258,25 @@ IsRoleLossBy Had before now role ByFault = (slot : ℕ) × Had role slot × IsFa
 IsRoleLossBy Had before now role Command = (slot : ℕ) × Had role slot
 IsRoleLossBy Had before now role cause = ⊥
 
-abbrev pub IsLossBy : (ℕ → ℕ → Type 0) → (ℕ → ℕ) → (ℕ → ℕ) → Event → Type 0
-IsLossBy Had before now (Lost role cause) = IsRoleLossBy Had before now role cause
-IsLossBy Had before now (SpareLost slot) = IsFaulted slot before now
-IsLossBy Had before now event = ⊤
+-- the slot was a spare
+abbrev pub WasSpare : Members → ℕ → Type 0
+WasSpare members slot = has_spare members.spares slot ≡ true
 
--- More entries stand behind the old ones, and each loss that they tell has its cause, by the slots that had the role.
-pub record AreLossesBy (Had : ℕ → ℕ → Type 0) (before now : ℕ → ℕ) (old new : List Entry) : Type 0 where
+-- a slot that is told lost as a spare was one, and has failed since
+abbrev pub IsLossBy : (ℕ → ℕ → Type 0) → (ℕ → Type 0) → (ℕ → ℕ) → (ℕ → ℕ) → Event → Type 0
+IsLossBy Had Was before now (Lost role cause) = IsRoleLossBy Had before now role cause
+IsLossBy Had Was before now (SpareLost slot) = Was slot × IsFaulted slot before now
+IsLossBy Had Was before now event = ⊤
+
+-- More entries stand behind the old ones, and each loss that they tell has its cause, by the slots that had the role, and by the spares.
+pub record AreLossesBy (Had : ℕ → ℕ → Type 0) (Was : ℕ → Type 0) (before now : ℕ → ℕ) (old new : List Entry) : Type 0 where
   pub more : List Entry
   pub grown : new ≡ old ++ more
-  pub failed : All (λ e. IsLossBy Had before now e.event) more
+  pub failed : All (λ e. IsLossBy Had Was before now e.event) more
 
--- the same where roles are only lost
+-- the same where roles are only lost, and no slot is made a spare
 abbrev pub AreLossesOf : Members → (ℕ → ℕ) → (ℕ → ℕ) → List Entry → List Entry → Type 0
-AreLossesOf members before now old new = AreLossesBy (Held members) before now old new
+AreLossesOf members before now old new = AreLossesBy (Held members) (WasSpare members) before now old new
 
 -- each spare was one before
 abbrev pub AreSparesFewer : Members → Members → Type 0
@@ -319,12 +324,17 @@ AreLeftFlushed members entries given tape = (role slot k : ℕ) → holder (role
 abbrev pub IsAddedAs : Members → Work → Members → ℕ → Type 0
 IsAddedAs old work new slot = IfOwn new slot (λ sb. (free_number old.newest work ≡ Some sb.dev_number) × IsFirstOffset old sb.data_offset)
 
--- superblocks of the array may bear one number more, which was free
-pub record IsWorkAdded (newest : Sb) (old new : Work) : Type 0 where
+-- What is under way stays. The superblock of another slot may bear the numbers that it might before, and that of this one at most one more, which was free.
+pub record IsWorkAdded (newest : Sb) (slot : ℕ) (old new : Work) : Type 0 where
   pub resync : new.resync ≡ old.resync
   pub rebuilt : new.rebuilt ≡ old.rebuilt
-  pub carried : (number : ℕ) → is_carried old number ≡ true → is_carried new number ≡ true
-  pub one : (number : ℕ) → is_carried new number ≡ true → (is_carried old number ≡ true) ⊎ (free_number newest old ≡ Some number)
+  pub others : (s number : ℕ) → s ≢ slot → bears new s number ≡ bears old s number
+  pub one : (number : ℕ) → bears new slot number ≡ true → (bears old slot number ≡ true) ⊎ (free_number newest old ≡ Some number)
+
+-- once its new superblock is written, it bears the number that was free, and no other; or else those that it might before too
+abbrev pub AreNumbersBorne : {T : Type 0} → Sb → ℕ → Work → Work → Result T Fault → Type 0
+AreNumbersBorne newest slot old new (Ok x) = IfSome (free_number newest old) (λ free. (number : ℕ) → number < 128 → bears new slot number ≡ (number == free))
+AreNumbersBorne newest slot old new (Err fault) = (number : ℕ) → bears old slot number ≡ true → bears new slot number ≡ true
 
 -- ---- what no call changes
 

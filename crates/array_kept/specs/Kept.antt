@@ -16,7 +16,7 @@ use Rattle.call_entries.specs.flat_history_Legal.{told_left}
 use Rattle.call_entries.specs.flat_history_Transfers.{last_end_from}
 use Rattle.call_entries.specs.flat_history_Losses.{is_unsynced}
 use Rattle.call_entries.specs.flat_history_Sound.{FillsRight, LosesNoRole, OpensFit, LeavesSoundThroughout}
-use Rattle.call_entries.specs.flat_history_Epochs.{HasRoomForEvents, OpensAlike}
+use Rattle.call_entries.specs.flat_history_Epochs.{HasRoomForEvents}
 use Rattle.call_entries.specs.flat_history_Growing.{EndBy, IsSafeThroughout}
 use Rattle.call_entries.specs.flat_history_OneShape.{opening_in, is_gone_now, is_spare_now, is_unsettled, IsOneShapeLegal, is_used_now}
 use Rattle.call_entries.specs.views_Whole.{list_size}
@@ -26,7 +26,7 @@ use Rattle.call_entries.specs.views_Placed.{places_of, AreWhole, IsPlaced}
 use Rattle.call_entries.specs.shape_changes_Safety.{HasLiveSlot}
 use Rattle.call_entries.specs.views_the_Work.{Work}
 use Rattle.call_entries.specs.views_Status.{stripes_of, left_of}
-use Rattle.call_entries.specs.views_Numbers.{is_carried}
+use Rattle.call_entries.specs.views_Numbers.{bears}
 use Rattle.call_entries.specs.views_Rebuilding.{AreSparesFree, AreRebuilt, HasNoRebuilt, MayHold}
 use Rattle.call_entries.specs.shape_views_Regions.{DoWithout}
 use Rattle.call_entries.specs.views_Lacking.{ListStands, RowsStandBelow, mended_rows}
@@ -93,7 +93,7 @@ ledger_now world work entries = record {
   gone = is_gone_now entries;
   unclean = is_unsynced world entries || is_unsettled entries;
   reshaping = false;
-  carried = is_carried work;
+  carried = bears work;
 }
 
 -- Every mark so far is safe and leaves sound images, what a stop may leave now is right, and the next update may start; as long as a live
@@ -130,7 +130,7 @@ pub record IsKept (tells : Type 0) (given : Given) (tape : List Operation) (scop
   pub sizes_are : scope.sizes ≡ sizes given
   pub dirty : DoWithout members → IsSome work.resync → is_clean members.newest ≡ false
   pub unclean : is_clean members.newest ≡ false → (is_some work.resync || is_unsettled entries) ≡ true
-  pub safe : tells → FillsRight (world_in given tape scope first) entries → HasRoomForEvents (world_in given tape scope first) → OpensAlike (world_in given tape scope first)
+  pub safe : tells → FillsRight (world_in given tape scope first) entries → HasRoomForEvents (world_in given tape scope first)
       → IsSafe (world_in given tape scope first) given members work entries
 
 -- what an array keeps besides: each slot that wasn't found sound has failed, and there is room for the entries of so many steps and of its

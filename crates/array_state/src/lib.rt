@@ -10,5 +10,5 @@ pub mod room;
 pub mod work;
 
 pub use safe_additions::adding::{add_member, look_at};
-pub use safe_additions::device::free_number;
+pub use safe_additions::device::{bear, free_number};
 pub use safe_rows::mending::stripes;

@@ -8,13 +8,14 @@ ghost use Rattle.md_base.specs.declared.status.Role.TheVariants.{Recovering as I
 ghost use Rattle.superblocks.specs.Reading.{is_reshaping, shape_of, role_state, rows_held, holder};
 ghost use Rattle.superblocks.specs.Update.{own_in};
 ghost use Rattle.row_io.specs.Rows.{reading_of};
-ghost use Rattle.calls_kept.specs.array_kept_Adopting.{found_stripes, is_number_of, found_work};
+ghost use Rattle.calls_kept.specs.array_kept_Adopting.{found_stripes, bearers_of, found_work};
 ghost use Rattle.calls_kept.specs.array_kept_Calls.{with_rebuilt};
 
 use md_base::Role;
 use safe_additions::shape_in;
 use superblocks::Members;
 use superblocks::says::is_clean;
+use superblocks::sets::with;
 use views::Work;
 
 // The rows that a recovering slot holds, by its superblock.
@@ -55,27 +56,28 @@ fn bears(members: &Members, slot: u32, number: u32) -> bool
         .map_or(false, |sb| sb.dev_number == number)
 }
 
-// Whether one of the superblocks does.
-fn is_number(members: &Members, number: u32) -> bool
-    ensures { result ≡ is_number_of members.now.own number }
+// The slots whose superblocks bear it.
+fn bearers(members: &Members, number: u32) -> u32
+    ensures { result ≡ bearers_of members.now.own number }
 {
+    let mut slots = 0;
     for slot in 0..32 {
         if bears(members, slot, number) {
-            return true;
+            slots = with(slots, slot);
         }
     }
-    false
+    slots
 }
 
-/// Which of the first 128 device numbers the superblocks bear.
-pub fn found_numbers(members: &Members) -> [bool; 128]
-    ensures numbers { result ≡ tabulate 128 (is_number_of members.now.own) }
+/// For each of the first 128 device numbers the slots whose superblocks bear it.
+pub fn found_numbers(members: &Members) -> [u32; 128]
+    ensures numbers { result ≡ tabulate 128 (bearers_of members.now.own) }
     ensures slots { length members.now.own ≡ 32 }
 {
     let _ = members.own.as_slice();
-    let mut carried = [false; 128];
+    let mut carried = [0; 128];
     for number in 0..128 {
-        carried[number as usize] = is_number(members, number);
+        carried[number as usize] = bearers(members, number);
     }
     carried
 }

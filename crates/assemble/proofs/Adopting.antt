@@ -11,14 +11,13 @@ use Rattle.bank.proofs.Whole.{sectors-whole}
 use Rattle.superblocks.specs.declared.members.Members.{Members}
 use Rattle.superblocks.specs.Reading.{Scope, Reading, reading, is_clean, role_count, shape_of, role_state, is_whole, holder, is_backup}
 use Rattle.superblocks.specs.Election.{reading_in}
-use Rattle.superblocks.specs.Found.{AreLikeNewest, AreInSectors}
+use Rattle.superblocks.specs.Found.{AreInSectors}
 use Rattle.safe_additions.specs.row_io_Rows.{reading_of, is_missing}
 use Rattle.safe_additions.specs.flat_history_Flat.{now}
 use Rattle.safe_additions.specs.flat_history_World.{World, reading_at, opening_list}
 use Rattle.safe_additions.specs.flat_history_Losses.{was_dirty}
 use Rattle.safe_additions.specs.flat_history_Opened.{IsSound, OpensSound, OpensGood}
 use Rattle.safe_additions.specs.flat_history_OneShape.{opening_in, is_absent_at_first, is_used_in}
-use Rattle.safe_additions.specs.flat_history_Epochs.{OpensAlike}
 use Rattle.safe_additions.proofs.flat_history_GivenLaws.{holder-given}
 use Rattle.safe_additions.specs.views_Whole.{Places, list_size}
 use Rattle.safe_additions.specs.views_Placed.{places_of, IsPlaced}
@@ -156,12 +155,8 @@ module _ {tells : Type 0} (bank : Given) (tape : List Operation) (backup : Optio
 
     -- ---- the superblocks
 
-    alike-is : OpensAlike world → AreLikeNewest scope m.newest c
-    unfolding reading_at
-    alike-is alike = subst (λ (o : Option Reading). IfSome o (λ q. AreLikeNewest scope q.newest c)) (is.says told) alike
-
-    held-next : OpensAlike world → IsHeldBy scope m (disk bank.start tape)
-    held-next alike = opened-held bank tape backup asked opened told is inside (flushed told) few (alike-is alike) (stand told)
+    held-next : IsHeldBy scope m (disk bank.start tape)
+    held-next = opened-held bank tape backup asked opened told is inside (flushed told) few (stand told)
 
     newest-is : (q : Reading) × (reading scope c ≡ Some q) × (m.newest.events ≤ q.newest.events)
     newest-is = (r, is.says told, le_refl m.newest.events)

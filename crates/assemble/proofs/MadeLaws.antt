@@ -136,7 +136,7 @@ same-tabulated (suc n) f g same = ap₂ (λ a b. a ++ b ∷ []) (same-tabulated 
 -- ---- one superblock
 
 -- the role entries of a new array
-pub entry-is : (disks : ℕ) (second : List ℕ) (k : ℕ) → k < 128 → get_or (first_entries disks ++ second) k 0xfffe ≡ cond (nat_lt k disks) k 0xfffe
+entry-is : (disks : ℕ) (second : List ℕ) (k : ℕ) → k < 128 → get_or (first_entries disks ++ second) k 0xfffe ≡ cond (nat_lt k disks) k 0xfffe
 entry-is disks second k h =
     let f : ℕ → ℕ = λ number. cond (nat_lt number disks) number 0xfffe in
     get_or_append_left (tabulate 128 f) second 0xfffe k (omega (arith, h, length-tabulate 128 f)) ∙ get_or-tabulate 128 f k 0xfffe h

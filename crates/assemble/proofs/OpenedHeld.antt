@@ -20,7 +20,7 @@ use Rattle.superblocks.specs.Outcome.{set_of, is_in_update, live_set}
 use Rattle.superblocks.specs.Held.{own_at}
 use Rattle.superblocks.specs.Stages.{AreLeft}
 use Rattle.superblocks.specs.Election.{reading_in}
-use Rattle.superblocks.specs.Found.{AreLikeNewest, IsInSectors, AreInSectors}
+use Rattle.superblocks.specs.Found.{IsInSectors, AreInSectors}
 use Rattle.superblocks.proofs.SlotSets.{has-set_of}
 use Rattle.safe_additions.proofs.superblock_reads_Accepted.{IsAccepted, is-accepted}
 use Rattle.safe_additions.proofs.superblock_reads_SaidSlots.{read-parts}
@@ -71,7 +71,7 @@ module _ {tells : Type 0} (bank : Given) (tape : List Operation) (backup : Optio
   inside-seen s seen = inside s (given-seen s seen)
 
   -- what is found in a slot is the member's
-  pub own-found : (s : ℕ) (sb : Sb) → own_at (scope_of bank backup opened.given opened.members.newest.set_uuid) s (contents bank.start tape (length tape) s) ≡ Some sb → own_in opened.members.own s ≡ Some sb
+  own-found : (s : ℕ) (sb : Sb) → own_at (scope_of bank backup opened.given opened.members.newest.set_uuid) s (contents bank.start tape (length tape) s) ≡ Some sb → own_in opened.members.own s ≡ Some sb
   own-found s sb found = own-is s (inside-seen s (found-of scope s (c s) sb found).seen) ∙ found
 
   module _ (flushed : AreFlushed bank.start tape opened.given) where
@@ -94,9 +94,7 @@ module _ {tells : Type 0} (bank : Given) (tape : List Operation) (backup : Optio
         same : own_at scope s shown.at ≡ own_at scope s (c s)
         same = ap₂ (λ (a b : Sector). of_array scope.uuid (cond (is_seen scope s) (cond (nat_le 10 (scope.sizes.sectors s) && is_valid (a ++ b)) (Some (sb_of (a ++ b))) None) None)) eighth ninth
 
-    module _ (few : bank.slots ≤ 32)
-        (alike : AreLikeNewest (scope_of bank backup opened.given opened.members.newest.set_uuid) opened.members.newest (contents bank.start tape (length tape)))
-        (stands : AreInSectors (contents bank.start tape (length tape)) opened.members.own) where
+    module _ (few : bank.slots ≤ 32) (stands : AreInSectors (contents bank.start tape (length tape)) opened.members.own) where
       accepted : IsAccepted scope.sizes.sectors m.newest (superblocks scope c)
       accepted = is-accepted scope.sizes.sectors m.newest (superblocks scope c)
           (ap (members_refusal scope.sizes.sectors) (sym parts.1) ∙ no-refusal scope c (reading_in bank.slots m) (is.says told) (is.accepted told))
@@ -107,7 +105,7 @@ module _ {tells : Type 0} (bank : Given) (tape : List Operation) (backup : Optio
       live-kept : (s : ℕ) → has_slot (set_of 32 (is_live m.roles m.spares)) s ≡ true → has_slot m.lost s ≡ false
       live-kept s live =
           is.lost s ∙ ap (λ b. nat_lt s bank.slots && not b)
-          (given-seen s (live-seen scope c (disk bank.start tape) m parts.0 accepted own-is (ap (λ (q : Reading). q.roles) parts.1) (ap (λ (q : Reading). q.spares) parts.1) inside-seen few flushed-seen alike sectors s live))
+          (given-seen s (live-seen scope c (disk bank.start tape) m parts.0 accepted own-is (ap (λ (q : Reading). q.roles) parts.1) (ap (λ (q : Reading). q.spares) parts.1) inside-seen few flushed-seen sectors s live))
           ∙ never (nat_lt s bank.slots)
         where
           never : (b : Bool) → (b && false) ≡ false
@@ -129,14 +127,14 @@ module _ {tells : Type 0} (bank : Given) (tape : List Operation) (backup : Optio
 
       pub opened-held : IsHeldBy (scope_of bank backup opened.given opened.members.newest.set_uuid) opened.members (disk bank.start tape)
       opened-held =
-          let held = found-held scope c (disk bank.start tape) m parts.0 accepted own-is (ap (λ (q : Reading). q.roles) parts.1) (ap (λ (q : Reading). q.spares) parts.1) inside-seen few flushed-seen alike sectors m.lost in
+          let held = found-held scope c (disk bank.start tape) m parts.0 accepted own-is (ap (λ (q : Reading). q.roles) parts.1) (ap (λ (q : Reading). q.spares) parts.1) inside-seen few flushed-seen sectors m.lost in
           record {
             known = set_of 32 (is_live m.roles m.spares);
             live = live-left;
             updated = record {
               held = held;
-              exact = found-exact scope c (disk bank.start tape) m parts.0 accepted own-is (ap (λ (q : Reading). q.roles) parts.1) (ap (λ (q : Reading). q.spares) parts.1) inside-seen few flushed-seen alike sectors;
+              exact = found-exact scope c (disk bank.start tape) m parts.0 accepted own-is (ap (λ (q : Reading). q.roles) parts.1) (ap (λ (q : Reading). q.spares) parts.1) inside-seen few flushed-seen sectors;
               reads = λ image drawn. held-reads scope (set_of 32 (is_live m.roles m.spares)) m.lost m.newest m.own (disk bank.start tape) held (set_of 32 (is_live m.roles m.spares)) (λ s live. live) image drawn;
             };
-            said = found-said scope c (disk bank.start tape) m parts.0 accepted own-is (ap (λ (q : Reading). q.roles) parts.1) (ap (λ (q : Reading). q.spares) parts.1) inside-seen few flushed-seen alike sectors;
+            said = found-said scope c (disk bank.start tape) m parts.0 accepted own-is (ap (λ (q : Reading). q.roles) parts.1) (ap (λ (q : Reading). q.spares) parts.1) inside-seen few flushed-seen sectors;
           }

@@ -1,28 +1,24 @@
 -- What runs was made, or found, as it is answered.
-use Rattle.std.proofs.Common.{◌≡◌, inl, inr, ℕ, zero, suc, ◌*◌, ◌<◌, ◌≤◌, Bool, true, false, cond, not, ◌&&◌, nat_lt, max, List, [], ◌++◌, length, take, get_or, Option, Some, None, IfSome, Result, Ok, Err, IfOk, refl, sym, ◌∙◌, ap, ap₂, subst, arith}
-use Rattle.std.proofs.lemmas.Bool.{cases_lt}
+use Rattle.std.proofs.Common.{◌≡◌, inl, inr, ℕ, zero, suc, ◌*◌, ◌<◌, ◌≤◌, true, false, not, nat_lt, max, List, [], ◌++◌, length, take, get_or, Option, Some, IfSome, Result, Ok, Err, IfOk, refl, sym, ◌∙◌, ap, ap₂, subst, arith}
 use Rattle.std.proofs.lemmas.Bool.Decides.{nat_tests}
 use Rattle.md_base.specs.declared.status.Role.{Role}
 use Rattle.md_base.specs.declared.status.Role.TheVariants.{Whole, Recovering, Missing}
 use Rattle.md_base.specs.declared.places.Shape.{Shape}
 use Rattle.md_base.specs.Shapes.{has_slot, data_disks}
 use Rattle.md_base.proofs.Tabulated.{get_or-tabulate}
-use Rattle.sb1.specs.declared.sb.Sb.{Sb}
 use Rattle.bank.specs.declared.bank.Operation.{Operation}
 use Rattle.bank.specs.Given.{Given, sizes, IsFaulted, NeverFalls}
 use Rattle.bank.specs.Tape.{Contents, contents}
 use Rattle.superblocks.specs.declared.members.Members.{Members}
-use Rattle.superblocks.specs.Reading.{Reading, is_reshaping, is_backward, entry_of, shape_of, final_shape, is_whole, role_state}
-use Rattle.superblocks.specs.Verdict.{is_role}
+use Rattle.superblocks.specs.Reading.{Reading, shape_of, final_shape, is_whole, role_state}
 use Rattle.superblocks.specs.Election.{reading_in}
-use Rattle.superblocks.specs.Reads.{HasNoLateRoles, IsNewestLike, has_spare}
-use Rattle.superblocks.specs.Found.{AreLikeNewest, AreInSectors}
+use Rattle.superblocks.specs.Reads.{has_spare}
+use Rattle.superblocks.specs.Found.{AreInSectors}
 use Rattle.superblocks.proofs.SlotSets.{none_there}
 use Rattle.safe_additions.specs.row_io_Rows.{reading_of, is_missing}
 use Rattle.safe_additions.specs.flat_history_the_Event.{Event}
 use Rattle.safe_additions.specs.flat_history_Plain.{entries_of}
 use Rattle.safe_additions.specs.flat_history_World.{World, opening_list, reading_at}
-use Rattle.safe_additions.specs.flat_history_Epochs.{OpensAlike}
 use Rattle.safe_additions.specs.flat_history_Opened.{IsSound, OpensSound}
 use Rattle.assemble.specs.declared.spec.CreateSpec.{CreateSpec}
 use Rattle.safe_additions.specs.views_Parts.{Parts}
@@ -37,62 +33,17 @@ use Rattle.array_kept.specs.Calls.{world_for}
 use Rattle.array_kept.specs.Adopting.{opener, found_loss, absent_losses, found_losses, found_work, IsAdoptable, IsAdopted}
 use Rattle.assemble.specs.declared.opening.Opened.{Opened}
 use Rattle.assemble.specs.Opening.{scope_of, AreGiven, AreFlushed, IsOpened}
-use Rattle.assemble.specs.Making.{created_sb}
-use Rattle.assemble.specs.Filling.{IsMade, AreZeros}
+use Rattle.assemble.specs.Filling.{AreZeros}
 use Rattle.assemble.specs.Made.{IsNew}
 use Rattle.assemble.specs.Running.{opened_of, IsBegun, OpensWithZeros, IsCreated, IsAssembled}
 use Rattle.assemble.proofs.Judged.{elected-does}
-use Rattle.assemble.proofs.MadeLaws.{entry-is}
 use Rattle.assemble.proofs.SafeLaws.{opened-told}
 use Rattle.assemble.proofs.NewSound.{whole-sound}
 use Rattle.assemble.proofs.NewZeros.{new-arrays-are-zeros}
-use Rattle.assemble.proofs.OpenedHeld.{own-found}
 use Rattle.assemble.proofs.Adopting.{adoptable}
 
 below : (a b : ℕ) → a < b → nat_lt a b ≡ true
 below a b h = grind (arith, nat_tests, h)
-
-not_below : (a b : ℕ) → b ≤ a → nat_lt a b ≡ false
-not_below a b h = grind (arith, nat_tests, h)
-
-both : (a b : Bool) → (a && b) ≡ true → (a ≡ true) × (b ≡ true)
-both true b e = (refl, e)
-both false b e = absurd (cc)
-
--- ---- the superblocks that are made say the same
-
-module _ (spec : CreateSpec) (number sectors : ℕ) (sb : Sb) (is : IsMade spec number sectors sb) where
-  entry-early : (dev : ℕ) → dev < 128 → entry_of sb dev ≡ cond (nat_lt dev spec.shape.disks) dev 0xfffe
-  entry-early dev h =
-      ap (λ (s : Sb). entry_of s dev) is.made
-      ∙ ap (λ (b : Bool). cond b (get_or (created_sb spec number sectors is.second).dev_roles dev 0xfffe) 0xfffe) (below dev 128 h)
-      ∙ entry-is spec.shape.disks is.second dev h
-
-  entry-late : HasNoLateRoles sb
-  entry-late dev h =
-      ap (λ (s : Sb). is_role (entry_of s dev)) is.made
-      ∙ ap (λ (b : Bool). is_role (cond b (get_or (created_sb spec number sectors is.second).dev_roles dev 0xfffe) 0xfffe)) (not_below dev 128 h)
-
-made-alike : (spec : CreateSpec) (n n' sectors sectors' : ℕ) (a b : Sb) → IsMade spec n sectors a → IsMade spec n' sectors' b → IsNewestLike a b
-made-alike spec n n' sectors sectors' a b one other = record {
-  array = record {
-    level = ap (λ (s : Sb). s.level) one.made ∙ sym (ap (λ (s : Sb). s.level) other.made);
-    layout = ap (λ (s : Sb). s.layout) one.made ∙ sym (ap (λ (s : Sb). s.layout) other.made);
-    size = ap (λ (s : Sb). s.size) one.made ∙ sym (ap (λ (s : Sb). s.size) other.made);
-    chunksize = ap (λ (s : Sb). s.chunksize) one.made ∙ sym (ap (λ (s : Sb). s.chunksize) other.made);
-    raid_disks = ap (λ (s : Sb). s.raid_disks) one.made ∙ sym (ap (λ (s : Sb). s.raid_disks) other.made);
-    new_level = ap (λ (s : Sb). s.new_level) one.made ∙ sym (ap (λ (s : Sb). s.new_level) other.made);
-    reshape_position = ap (λ (s : Sb). s.reshape_position) one.made ∙ sym (ap (λ (s : Sb). s.reshape_position) other.made);
-    delta_disks = ap (λ (s : Sb). s.delta_disks) one.made ∙ sym (ap (λ (s : Sb). s.delta_disks) other.made);
-    new_layout = ap (λ (s : Sb). s.new_layout) one.made ∙ sym (ap (λ (s : Sb). s.new_layout) other.made);
-    new_chunk = ap (λ (s : Sb). s.new_chunk) one.made ∙ sym (ap (λ (s : Sb). s.new_chunk) other.made);
-    resync_offset = ap (λ (s : Sb). s.resync_offset) one.made ∙ sym (ap (λ (s : Sb). s.resync_offset) other.made);
-    reshaping = ap is_reshaping one.made ∙ sym (ap is_reshaping other.made);
-    backward = ap is_backward one.made ∙ sym (ap is_backward other.made);
-  };
-  entries = λ dev h. entry-early spec n sectors a one dev h ∙ sym (entry-early spec n' sectors' b other dev h);
-  late = entry-late spec n' sectors' b other;
-}
 
 -- ---- an array that was just made
 
@@ -118,27 +69,6 @@ module _ {tells : Type 0} (bank : Given) (tape : List Operation) (backup : Optio
 
   new-free : AreSparesFree bank opened.members
   new-free slot is = absurd (let both : false ≡ true = sym (ap (λ (l : List ℕ). has_spare l slot) new.members.spares) ∙ is in cc)
-
-  made-of : (s : ℕ) (sb : Sb) → get_or opened.members.own s None ≡ Some sb → IsMade spec s (bank.sectors s) sb
-  made-of s sb at = elim (cases_lt s spec.shape.disks) [
-    | inl lt ↦ (let found = new.members.own.made s lt in subst (λ (x : Sb). IsMade spec s (bank.sectors s) x) (one found.0 sb (sym found.1 ∙ at)) found.2)
-    | inr past ↦ absurd (none sb (sym (new.members.own.none s past) ∙ at))
-  ]
-    where
-      one : (a b : Sb) → Some a ≡ Some b → a ≡ b
-      one a b e = cc
-
-      none : (sb : Sb) → ◌≡◌ {A = Option Sb} None (Some sb) → ⊥
-      none sb e = absurd (cc)
-
-  new-like : tells → AreLikeNewest (scope_of bank backup opened.given opened.members.newest.set_uuid) opened.members.newest (contents bank.start tape (length tape))
-  new-like told s sb here same =
-      made-alike spec 0 s (bank.sectors 0) (bank.sectors s) opened.members.newest sb (made-of 0 opened.members.newest new.members.newest)
-      (made-of s sb (own-found bank tape backup (Some spec.uuid) opened told is inside s sb here))
-
-  new-alike : tells → OpensAlike (world_in bank tape (scope_of bank backup opened.given opened.members.newest.set_uuid) (length tape))
-  unfolding reading_at
-  new-alike told = subst (λ (o : Option Reading). IfSome o (λ q. AreLikeNewest (scope_of bank backup opened.given opened.members.newest.set_uuid) q.newest c)) (sym (is.says told)) (new-like told)
 
   new-zeros : tells → AreZeros spec.shape.disks spec (contents bank.start tape (length tape))
       → OpensWithZeros (data_disks spec.shape * spec.size) (opening_list (world_in bank tape (scope_of bank backup opened.given opened.members.newest.set_uuid) (length tape)))
@@ -230,7 +160,6 @@ module _ {B tells : Type 0} (device : B) (bank : Given) (tape : List Operation) 
     opened = subst (λ (o : Opened). IsOpened tells bank (contents bank.start tape (length tape)) backup (Some spec.uuid) o) same-opened is;
     zeros = λ told. subst (λ (w : World). OpensWithZeros (data_disks spec.shape * spec.size) (opening_list w)) (same-world told)
         (new-zeros bank tape backup spec opened new is told (zeros told));
-    alike = λ told. subst (λ (w : World). OpensAlike w) (same-world told) (new-alike bank tape backup spec opened new is told);
     sound = λ told. subst (λ (w : World). OpensSound w) (same-world told) (new-sound bank tape backup spec opened new is told (zeros told));
   }
 

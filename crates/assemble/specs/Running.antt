@@ -7,7 +7,6 @@ use Rattle.bank.specs.Given.{Given}
 use Rattle.bank.specs.Tape.{contents}
 use Rattle.safe_additions.specs.row_io_Rows.{reading_of}
 use Rattle.safe_additions.specs.flat_history_World.{opening_list}
-use Rattle.safe_additions.specs.flat_history_Epochs.{OpensAlike}
 use Rattle.safe_additions.specs.flat_history_Opened.{OpensSound}
 use Rattle.safe_additions.specs.views_Parts.{Parts}
 use Rattle.safe_additions.specs.views_Placed.{AreWhole}
@@ -40,7 +39,7 @@ pub record OpensWithZeros (size : ℕ) (list : List (List ℕ)) : Type 0 where
   pub count : length list ≡ size
   pub each : (x : ℕ) → x < size → slice_index_or list x [] ≡ zero_sector
 
--- An array that was just made: it is new, with every role whole, its list is zero, its superblocks are alike, and it is sound.
+-- An array that was just made: it is new, with every role whole, its list is zero, and it is sound.
 pub record IsCreated {B : Type 0} (tells : Type 0) (bank : Given) (tape : List Operation) (backup : Option ℕ) (spec : CreateSpec) (made : Parts B) : Type 0 where
   pub begun : IsBegun tells tape backup made
   pub new : IsNew bank spec (opened_of made)
@@ -48,7 +47,6 @@ pub record IsCreated {B : Type 0} (tells : Type 0) (bank : Given) (tape : List O
   pub quiet : made.entries ≡ []
   pub opened : IsOpened tells bank (contents bank.start tape (length tape)) backup (Some spec.uuid) (opened_of made)
   pub zeros : tells → OpensWithZeros (data_disks spec.shape * spec.size) (opening_list (world_for bank tape made))
-  pub alike : tells → OpensAlike (world_for bank tape made)
   pub sound : tells → OpensSound (world_for bank tape made)
 
 -- An array that was just found, of the uuid that was asked for, if one was.

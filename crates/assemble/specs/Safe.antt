@@ -4,7 +4,7 @@ use Rattle.md_base.specs.Shapes.{has_slot}
 use Rattle.bank.specs.declared.bank.Operation.{Operation}
 use Rattle.bank.specs.Given.{Given}
 use Rattle.bank.specs.Tape.{contents, disk}
-use Rattle.superblocks.specs.Found.{AreLikeNewest, AreInSectors}
+use Rattle.superblocks.specs.Found.{AreInSectors}
 use Rattle.safe_additions.specs.flat_history_World.{World}
 use Rattle.safe_additions.specs.flat_history_CrashSafe.{IsSafeAt}
 use Rattle.safe_additions.specs.flat_history_Settled.{IsKeptAt}
@@ -30,13 +30,11 @@ OpeningsAreSafe = (bank : Given) (tape : List Operation) (backup : Option ℕ) (
     → ((s : ℕ) → IsTrue (has_slot live s) → IsTrue (has_slot opened.given s))
     → IsKeptAt (world_of bank tape backup opened) [] live (length tape) × IsSafeAt (world_of bank tape backup opened) [] (length tape)
 
--- And the superblocks are held there, as the next update needs it, where those that are as new as the newest say the same, and each stands
--- in two sectors of bytes.
+-- And the superblocks are held there, as the next update needs it, where each stands in two sectors of bytes.
 abbrev pub OpeningsAreHeld : Type 0
 OpeningsAreHeld = (bank : Given) (tape : List Operation) (backup : Option ℕ) (asked : Option (List ℕ)) (opened : Opened) → bank.slots ≤ 32
     → IsOpened ⊤ bank (contents bank.start tape (length tape)) backup asked opened
     → AreFlushed bank.start tape opened.given
     → ((s : ℕ) → IsTrue (has_slot opened.given s) → s < bank.slots)
-    → AreLikeNewest (scope_of bank backup opened.given opened.members.newest.set_uuid) opened.members.newest (contents bank.start tape (length tape))
     → AreInSectors (contents bank.start tape (length tape)) opened.members.own
     → IsHeldBy (scope_of bank backup opened.given opened.members.newest.set_uuid) opened.members (disk bank.start tape)

@@ -22,7 +22,7 @@ use Rattle.flat_history.specs.World.{World}
 use Rattle.line_answers.specs.grow_asked_Left.{phases_of}
 use Rattle.line_answers.specs.array_kept_Calls.{IsEndOf}
 use Rattle.line_answers.specs.run_laws_the_State_TheVariants.{Running}
-use Rattle.line_answers.specs.running_calls_Going.{is_added as is_told_added, MayHoldSince, MayBeNewSpare, AreHeldSince as AreHeldBy, AreLossesSince as AreLossesBy, HasGoneOn}
+use Rattle.line_answers.specs.running_calls_Going.{is_added as is_told_added, MayHoldSince, WasMemberSince, MayBeNewSpare, AreHeldSince as AreHeldBy, AreLossesSince as AreLossesBy, HasGoneOn}
 use Rattle.line_answers.specs.running_replies_Going.{is_begin, may_drop}
 use Rattle.line_answers.specs.running_words_Parts.{RunningParts}
 use Rattle.line_answers.specs.run_laws_Asked.{IsSizedBy}
@@ -77,6 +77,11 @@ module _ (world : World) (old done : List Entry) (members : Members) (since : Ar
   held-since role slot (inl may) = held-more world old done role slot (may-held world old members since role slot may)
   held-since role slot (inr spare) = inr (spare-since slot spare)
 
+  was-since : (slot : ℕ) → WasMemberSince members done slot → (role : ℕ) × MayHaveHeld world (old ++ done) role slot
+  was-since slot (inl (inl spare)) = (0, held-since 0 slot (inl (inr spare)))
+  was-since slot (inl (inr (role, had))) = (role, held-since role slot (inl (inl had)))
+  was-since slot (inr added) = (0, held-since 0 slot (inr (inl added)))
+
   -- and of the members that are left
   held-now : (new : Members) → AreHeldBy members new done → AreHeldSince world (old ++ done) new
   held-now new held = record { roles = λ role slot is. held-since role slot (held.roles role slot is); spares = λ slot is. by slot (held.spares slot is) }
@@ -91,7 +96,8 @@ module _ (setting : Setting) (old : List Entry) (history : History) (members : M
   losses-behind : (done more : List Entry) → AreLossesBy members setting.before setting.now done more → All (λ e. IsRefusalTold setting e.event) more → AreLossesBehind setting history (old ++ done) more
   losses-behind done [] was told = tt
   losses-behind done (e ∷ more) (one, was) told = (
-    loss-since setting (old ++ done) history (MayHoldSince members done) (λ t role slot had. held-since (history_world setting history) old done members (since t) role slot had) e.event one (All-head (λ e. IsRefusalTold setting e.event) e more told),
+    loss-since setting (old ++ done) history (MayHoldSince members done) (WasMemberSince members done) (λ t role slot had. held-since (history_world setting history) old done members (since t) role slot had)
+    (λ t slot was. was-since (history_world setting history) old done members (since t) slot was) e.event one (All-head (λ e. IsRefusalTold setting e.event) e more told),
     subst (λ (l : List Entry). AreLossesBehind setting history l more) (sym (append_assoc old done (e ∷ [])))
         (losses-behind (done ++ e ∷ []) more was (All-tail (λ e. IsRefusalTold setting e.event) e more told)),
   )

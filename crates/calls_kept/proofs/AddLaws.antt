@@ -22,7 +22,7 @@ use Rattle.array_kept.specs.Calls.{IsTaken, IsFirstOffset, IsUnaddable, IsAddedA
 use Rattle.array_kept.specs.views_Rebuilding.{Held}
 use Rattle.array_kept.specs.views_Lacking.{AreTooMany}
 use Rattle.array_kept.specs.views_Placed.{is_vacant, IsPlaced}
-use Rattle.array_kept.specs.views_Numbers.{is_carried, free_number, spare_sb, IsSpareSb, IsOfScope, AreSecondEntries}
+use Rattle.array_kept.specs.views_Numbers.{bears, is_carried, free_number, spare_sb, IsSpareSb, IsOfScope, AreSecondEntries}
 use Rattle.array_kept.specs.Kept.{scope_in}
 use Rattle.array_kept.specs.views_the_Work.{Work}
 use Rattle.array_kept.specs.views_Rebuilding.{IfOwn}
@@ -39,6 +39,7 @@ use Rattle.array_kept.proofs.ReplyLaws.{inside-losses, none-inside, replied}
 use Rattle.array_kept.proofs.views_LiveLeft.{some-held}
 use Rattle.array_kept.proofs.views_Searching.{least-found, both-parts}
 use Rattle.array_kept.specs.shape_views_Regions.{DoWithout}
+use Rattle.array_kept.proofs.views_BearerLaws.{uncarried}
 use Rattle.array_kept.proofs.views_Fit.{valid}
 use Rattle.array_kept.proofs.views_LackingLaws.{does-without, never-both}
 
@@ -193,11 +194,11 @@ module _ (given : Given) (backup : Option ℕ) (slot : ℕ) (m : Members) (place
 
 -- ---- the number that is free
 
-pub is-free : (newest : Sb) (work : Work) (number : ℕ) → free_number newest work ≡ Some number → (number < 128) × (is_carried work number ≡ false) × (0xfffe ≤ entry_of newest number)
+pub is-free : (newest : Sb) (work : Work) (number : ℕ) → free_number newest work ≡ Some number → (number < 128) × ((slot : ℕ) → bears work slot number ≡ false) × (0xfffe ≤ entry_of newest number)
 is-free newest work number is =
     let found = least-found 128 (λ (n : ℕ). not (is_carried work n) && nat_le 0xfffe (entry_of newest n)) number is in
     let parts = both-parts (not (is_carried work number)) (nat_le 0xfffe (entry_of newest number)) found.1 in
-    (found.0, falsely (is_carried work number) parts.0, at-most 0xfffe (entry_of newest number) parts.1)
+    (found.0, uncarried work number found.0 (falsely (is_carried work number) parts.0), at-most 0xfffe (entry_of newest number) parts.1)
   where
     falsely : (b : Bool) → not b ≡ true → b ≡ false
     falsely false e = refl

@@ -38,13 +38,15 @@ use Rattle.array_kept.specs.views_Lacking.{AreLostSince, ListStands, RowsStandBe
 use Rattle.array_kept.specs.shape_changes_Marking.{AreOthersPresent}
 use Rattle.array_kept.specs.views_Moving.{Grows}
 use Rattle.array_kept.specs.shape_changes_Safety.{HasLiveSlot, HasRoomLeft, IsRisen}
-use Rattle.array_kept.specs.views_Numbers.{is_carried, IsOfScope, free_number}
+use Rattle.array_kept.specs.views_Numbers.{bears, bearing, IsOfScope}
 use Rattle.array_kept.specs.views_Rebuilding.{AreRebuilt, HasNoRebuilt, with_spare, MayHold}
 use Rattle.array_kept.specs.Calls.{IsUnaddable, IsTaken}
 use Rattle.array_kept.specs.views_Status.{left_of}
 use Rattle.array_kept.specs.shape_views_Views.{Ledger}
 use Rattle.array_kept.specs.shape_changes_Steady.{AreViewsRight, IsSafeOver, IsSafeStretch, KeepsSafe, AreGoneTold, IsUncleanTold, IsMoreTold, with_number}
 use Rattle.array_kept.specs.Kept.{world_in, ledger_now, AreTold, IsKept, IsSafe, AreOnlyTold}
+use Rattle.array_kept.proofs.views_BearerLaws.{bears-more}
+use Rattle.calls_kept.proofs.AddedNumbers.{told-with}
 use Rattle.calls_kept.proofs.AddedLosses.{IsAddDone, with-placed, stays-added, does-added, told-added, left-refused, left-carried, left-added, spares-added}
 use Rattle.array_kept.proofs.views_AddedRows.{list-with, among-with, rebuilt-with}
 use Rattle.array_kept.proofs.call_entries_CallLaws.{GivesNone, losses-are, ends-losses, builds-losses, last_end-behind}
@@ -70,50 +72,17 @@ use Rattle.std.specs.List.{list_any}
 use Rattle.array_kept.proofs.views_Fit.{valid}
 use Rattle.md_base.specs.declared.places.Shape.{Shape}
 
--- ---- the numbers that are known
-
-abbrev pub with_carried : ℕ → Work → Work
-with_carried number work = record work { carried = slice_set work.carried number true }
-
-set-there : (l : List Bool) (k : ℕ) → get_or (slice_set l k true) k true ≡ true
-set-there l k = elim (cases_lt k (length l)) [
-  | inl within ↦ get_or-set_same l k true true within
-  | inr past ↦ get_or_past (slice_set l k true) k true (let long = length-set l k true in omega (arith, past, long))
-]
-
-pub carries-number : (number : ℕ) (work : Work) → CarriesMore work (with_carried number work)
-carries-number number work n is = elim (cases_eq n number) [
-  | inl same ↦ subst (λ (k : ℕ). get_or (slice_set work.carried number true) k true ≡ true) (sym same) (set-there work.carried number)
-  | inr other ↦ get_or-set_other work.carried number n true true other ∙ is
-]
-
--- and of those that are known then each was before, or is the one that was free
-pub carries-only : (newest : Sb) (number : ℕ) (work : Work) → free_number newest work ≡ Some number → (n : ℕ) → is_carried (with_carried number work) n ≡ true
-    → (is_carried work n ≡ true) ⊎ (free_number newest work ≡ Some n)
-carries-only newest number work free n is = elim (cases_eq n number) [
-  | inl same ↦ inr (free ∙ ap (λ (k : ℕ). Some k) (sym same))
-  | inr other ↦ inl (sym (get_or-set_other work.carried number n true true other) ∙ is)
-]
-
 -- a ledger with the number tells no more than one with the work's numbers
-with-number : (number : ℕ) (world : World) (work : Work) (entries added : List Entry)
-    → IsMoreTold (with_number number (told_by world work entries added)) (told_by world (with_carried number work) entries added)
-with-number number world work entries added = record {
+with-number : (slot number : ℕ) (world : World) (work : Work) (entries added : List Entry) → slot < 32
+    → IsMoreTold (with_number slot number (told_by world work entries added)) (told_by world (bearing false slot number work) entries added)
+with-number slot number world work entries added below = record {
   size = refl;
   values = λ x lt v may. may;
   gone = λ role is. is;
   unclean = λ is. is;
   reshaping = λ is. is;
-  carried = λ n is. by n (is_carried work n) (n == number) refl refl is;
+  carried = λ s n is. told-with slot number work s n (bears work s n) below (bears-more slot number work s n) is;
 }
-  where
-    same-as : (a b : ℕ) → (a == b) ≡ true → a ≡ b
-    same-as a b e = grind (arith, nat_tests, e)
-
-    by : (n : ℕ) (a b : Bool) → is_carried work n ≡ a → (n == number) ≡ b → (a || b) ≡ true → is_carried (with_carried number work) n ≡ true
-    by n true b was here is = carries-number number work n was
-    by n false true was here is = subst (λ (k : ℕ). get_or (slice_set work.carried number true) k true ≡ true) (sym (same-as n number here)) (set-there work.carried number)
-    by n false false was here is = absurd (cc)
 
 -- more is told of a stretch
 stretch-told : (sound : Type 0) (scope : Scope) (given : Given) (told more : Ledger) (members : Members) (before after : List Operation) → IsMoreTold told more
@@ -126,9 +95,9 @@ stretch-told sound scope given told more members before after is stretch = recor
 -- what a slot that is made a spare keeps safe
 abbrev pub AddsSafe : Type 0 → Given → ℕ → Sb → Members → Members → List Operation → List Operation → Type 0
 AddsSafe tells given slot sb old new before after = tells → (world : World) → (told : Ledger) → HasRoomLeft old before after
-    → AreGoneTold told new → IsUncleanTold told old → IsOfScope world.scope given slot sb → told.carried sb.dev_number ≡ false
+    → AreGoneTold told new → IsUncleanTold told old → IsOfScope world.scope given slot sb → ((s : ℕ) → told.carried s sb.dev_number ≡ false)
     → ((sector : Sector) → IsIn (disk given.start before slot 9) sector → IsSecondHalf sb sector) → HasLiveSlot old
-    → IsSafeOver world given told old before → KeepsSafe world given (with_number sb.dev_number told) new before after
+    → IsSafeOver world given told old before → KeepsSafe world given (with_number slot sb.dev_number told) new before after
 
 -- ---- a call that makes a slot a spare
 
@@ -151,11 +120,14 @@ module _ {tells : Type 0} {given : Given} {tape mid_tape tape' : List Operation}
   stays : StayPlaced given members members'
   stays = stays-added did was.still
 
+  below : slot < 32
+  below = let few = did.slots in let lt = did.there in omega (arith, few, lt)
+
   abbrev work' : Work
-  work' = with_carried sb.dev_number work
+  work' = bearing false slot sb.dev_number work
 
   module _ (events : List Event) (silent : AreSilent who end events) (adds : OnlyAdd (entries_of who end events)) (told : AreTold members' (entries ++ entries_of who end events)) (live : HasLiveSlot members)
-      (of_scope : IsOfScope scope given slot sb) (unknown : is_carried work sb.dev_number ≡ false)
+      (of_scope : IsOfScope scope given slot sb) (unknown : (s : ℕ) → bears work s sb.dev_number ≡ false)
       (second : tells → (sector : Sector) → IsIn (disk given.start mid_tape slot 9) sector → IsSecondHalf sb sector) (safe : AddsSafe tells given slot sb members members' mid_tape tape') where
     abbrev world : World
     world = world_in given tape scope first
@@ -168,23 +140,23 @@ module _ {tells : Type 0} {given : Given} {tape mid_tape tape' : List Operation}
     stretch t room old =
         let told_old = told_by world work entries added in
         let told_all = told_by world work' entries added in
-        let began = more-safe (OpensFit world) scope given (ledger_now world work entries) told_old members (disk given.start tape) (more-told world work work (λ n is. is) entries added adds) old.now in
+        let began = more-safe (OpensFit world) scope given (ledger_now world work entries) told_old members (disk given.start tape) (more-told world work work (λ s n is. is) entries added adds) old.now in
         let flushed = flushed-safe (OpensFit world) scope given told_old members tape mid_tape (looked t) began in
         let longer = added-longer tape mid_tape (looked t) in
-        let unclean : IsUncleanTold told_old members = λ dirty. told-unclean world work work (λ n is. is) entries added adds (is_some work.resync) (was.recorded t).dirty (was.unclean dirty) in
+        let unclean : IsUncleanTold told_old members = λ dirty. told-unclean world work work (λ s n is. is) entries added adds (is_some work.resync) (was.recorded t).dirty (was.unclean dirty) in
         let done = safe t world told_old (λ some. let r = room some in omega (arith, r, longer)) told unclean of_scope unknown (second t) live flushed.next in
         safe-then (OpensFit world) scope given told_all members members' tape mid_tape tape'
         (stretch-told (OpensFit world) scope given told_old told_all members tape mid_tape
-        (record { size = refl; values = λ x lt v may. may; gone = λ role is. is; unclean = λ is. is; reshaping = λ is. is; carried = carries-number sb.dev_number work }) flushed)
-        (stretch-told (OpensFit world) scope given (with_number sb.dev_number told_old) told_all members' mid_tape tape' (with-number sb.dev_number world work entries added) done)
+        (record { size = refl; values = λ x lt v may. may; gone = λ role is. is; unclean = λ is. is; reshaping = λ is. is; carried = bears-more slot sb.dev_number work }) flushed)
+        (stretch-told (OpensFit world) scope given (with_number slot sb.dev_number told_old) told_all members' mid_tape tape' (with-number slot sb.dev_number world work entries added below) done)
 
     pub leaves-added : LeavesSafe tells given tape' scope first (entries ++ added) members' work'
     leaves-added = record {
       dirty = λ does is. did.clean ∙ was.dirty (does-added did does) is;
       unclean = λ is. by (is_some work.resync) (is_unsettled entries) (was.unclean (sym did.clean ∙ is)) (unsettled-still entries added adds.settles);
-      safe = λ t fills room alike.
-          safe-adding who end was opens caller at_end stays grows work' (carries-number sb.dev_number work) events silent adds (rise live)
-          (λ u fills_now left began. stretch u left (safe-old who end was opens caller at_end stays grows added u fills room alike)) t fills room alike;
+      safe = λ t fills room.
+          safe-adding who end was opens caller at_end stays grows work' (bears-more slot sb.dev_number work) events silent adds (rise live)
+          (λ u fills_now left began. stretch u left (safe-old who end was opens caller at_end stays grows added u fills room)) t fills room;
     }
       where
         by : (a b : Bool) → (a || b) ≡ true → (b ≡ true → is_unsettled (entries ++ added) ≡ true) → (a || is_unsettled (entries ++ added)) ≡ true
@@ -223,7 +195,7 @@ module _ {tells : Type 0} {given : Given} {tape mid_tape tape' : List Operation}
       (unsettled : settles event ≡ false) (keeps : keeps_shape_event event ≡ true) (none : GivesNone (entries_of who end (event ∷ []))) (held : (role s : ℕ) → MayHold members' role s → ((r : ℕ) × MayHold members r s) ⊎ IsTrue (list_any (λ e. adds_slot s e.event) (entries_of who end (losses_of roles spares ++ event ∷ [])))) (loses : LosesNoRole (entries_of who end (event ∷ []))) (makes : MakeSpares members'.spares (entries_of who end (event ∷ []))) (ends : is_resync_end event ≡ false) (unbuilt : HasNoRebuilt (entries_of who end (event ∷ [])))
       (left : IfSome (told_left (entries ++ entries_of who end (losses_of roles spares ++ event ∷ []))) (λ n. n ≡ left_of work' members'))
       (call : (before : List Entry) → IsOneShapeCall (opening_in (world_in given tape scope first)) before who end (event ∷ [])) (live : HasLiveSlot members)
-      (of_scope : IsOfScope scope given slot sb) (unknown : is_carried work sb.dev_number ≡ false)
+      (of_scope : IsOfScope scope given slot sb) (unknown : (s : ℕ) → bears work s sb.dev_number ≡ false)
       (second : tells → (sector : Sector) → IsIn (disk given.start mid_tape slot 9) sector → IsSecondHalf sb sector) (safe : AddsSafe tells given slot sb members members' mid_tape tape') where
     abbrev all : List Event
     all = losses_of roles spares ++ event ∷ []
@@ -284,7 +256,7 @@ module _ {tells : Type 0} {given : Given} {tape mid_tape tape' : List Operation}
         leaves
 
   module _ (roles spares : ℕ) (since : AreLostSince members members' roles spares before after) (live : HasLiveSlot members)
-      (of_scope : IsOfScope scope given slot sb) (unknown : is_carried work sb.dev_number ≡ false)
+      (of_scope : IsOfScope scope given slot sb) (unknown : (s : ℕ) → bears work s sb.dev_number ≡ false)
       (second : tells → (sector : Sector) → IsIn (disk given.start mid_tape slot 9) sector → IsSecondHalf sb sector) (safe : AddsSafe tells given slot sb members members' mid_tape tape') where
     -- a new spare
     pub kept-spare : has_spare members'.spares slot ≡ true → IsKept tells given tape' scope first (entries ++ entries_of who end (losses_of roles spares ++ Added slot ∷ [])) members' work'

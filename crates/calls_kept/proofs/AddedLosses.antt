@@ -69,6 +69,8 @@ pub failed-earlier : {old new : Members} {spares : ℕ} {before mid after : ℕ 
 failed-earlier {old = old} {new = new} {before = before} {mid = mid} {after = after} rises then failed = record {
   roles = λ role s held. elim (failed.roles role s held) [ inl still ↦ inl still | inr did ↦ inr (first s did) ];
   spares_are = λ s is. first s (failed.spares_are s is);
+  were = failed.were;
+  fewer = failed.fewer;
   told = failed.told;
 }
   where
@@ -130,7 +132,7 @@ module _ {tells : Type 0} {given : Given} {slot : ℕ} {sb : Sb} {old new : Memb
   with-free : AreSparesFree given (with_spare slot sb old)
   with-free = free-with given old slot sb did.made did.placed did.unlost did.free did.slots did.there did.own unheld
 
-  free-added : AreSparesFree given new
+  pub free-added : AreSparesFree given new
   free-added = did.moved.free with-free
 
   few-added : length new.spares ≤ 32
@@ -197,12 +199,31 @@ module _ {tells : Type 0} {given : Given} {slot : ℕ} {sb : Sb} {old new : Memb
       first true b e = refl
       first false b e = absurd (cc)
 
+  -- and was a spare, before this slot became one
+  told-were : (spares : ℕ) → AreOtherLost slot lost spares → (s : ℕ) → has_slot spares s ≡ true → has_spare old.spares s ≡ true
+  told-were spares without s is = elim (cases_lt s 32) [
+    | inl small ↦ (
+        let parts = both (has_slot lost s) (slot == s) (sym (without.is s small) ∙ is) in
+        of (nat_lt s 32) (has_spare old.spares s) (slot == s) parts.1 (sym (spares-with old slot sb s) ∙ did.failed.were s parts.0))
+    | inr above ↦ absurd (let e = sym (none_above spares s without.small above) ∙ is in cc)
+  ]
+    where
+      both : (a b : Bool) → (a && not b) ≡ true → (a ≡ true) × (b ≡ false)
+      both true true e = absurd (cc)
+      both true false e = (refl, refl)
+      both false b e = absurd (cc)
+
+      of : (a p q : Bool) → q ≡ false → (a && (p || q)) ≡ true → p ≡ true
+      of true true q none e = refl
+      of true false q none e = sym none ∙ e
+      of false p q none e = absurd (cc)
+
   module _ (disks was roles spares : ℕ) (same : disks ≡ role_count old.newest) (vacant : AreVacant old disks was) (newly : AreNewlyVacant new disks was roles) (without : AreOtherLost slot lost spares) where
     all-since : AreLostSince (with_spare slot sb old) new roles lost before after
     all-since = lost-since given (with_spare slot sb old) new disks was roles lost before after with-placed did.moved did.failed same vacant newly
 
     pub since-added : AreLostSince old new roles spares before after
-    since-added = record { vacant = all-since.vacant; gone = all-since.gone; held = all-since.held; failed = told-lost spares without; told = told-spares spares without }
+    since-added = record { vacant = all-since.vacant; gone = all-since.gone; held = all-since.held; failed = told-lost spares without; were = told-were spares without; told = told-spares spares without }
 
   module _ (roles spares : ℕ) (since : AreLostSince old new roles spares before after) where
     -- behind the entries of the losses each missing role is told gone
@@ -255,10 +276,10 @@ module _ {tells : Type 0} {given : Given} {slot : ℕ} {sb : Sb} {old new : Memb
 
     pub left-refused : (work : Work) → has_spare new.spares slot ≡ false → losses_of roles spares ≡ [] → left_of work new ≡ left_of work old
     left-refused work none quiet =
-        left-moved (moved-lacks none) work roles spares before after (record { vacant = since.vacant; gone = since.gone; held = since.held; failed = since.failed; told = since.told }) quiet ∙ left-lacks work
+        left-moved (moved-lacks none) work roles spares before after (record { vacant = since.vacant; gone = since.gone; held = since.held; failed = since.failed; were = since.were; told = since.told }) quiet ∙ left-lacks work
 
 -- the steps left are as many where other numbers are known
-pub left-carried : (work : Work) (carried : List Bool) (m : Members) → left_of (record work { carried = carried }) m ≡ left_of work m
+pub left-carried : (work : Work) (carried : List ℕ) (m : Members) → left_of (record work { carried = carried }) m ≡ left_of work m
 left-carried work carried m = ap (λ (n : ℕ). resync_left work.resync m + n + min (vacant_count m) (spare_count m) * (stripes_of m + 2)) (recovery-same (shape_of m.newest).disks (record work { carried = carried }) work m m (λ role lt. refl))
 
 -- behind an entry that a slot was added they aren't told

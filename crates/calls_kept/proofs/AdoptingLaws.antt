@@ -1,6 +1,6 @@
 -- What an array keeps that was taken over.
 use Rattle.std.proofs.Common.{◌≡◌, inl, inr, ℕ, ◌<◌, ◌≤◌, ◌*◌, ◌/◌, ◌==◌, nat_lt, ◌⊎◌, ◌&&◌, ◌||◌, Bool, true, false, not, Option, Some, None, List, [], length, refl, sym, ◌∙◌, ap, subst, arith}
-use Rattle.std.specs.Prelude.{if◌then◌else◌, slice_index_or, IfSome, IsSome, is_some}
+use Rattle.std.specs.Prelude.{if◌then◌else◌, slice_index, nat_le, IfSome, IsSome, is_some}
 use Rattle.std.specs.Option.{option_map_or}
 use Rattle.std.proofs.Math.Nat.{div-mul-le_self}
 use Rattle.std.proofs.lemmas.Bool.{cases_lt}
@@ -8,14 +8,14 @@ use Rattle.std.proofs.lemmas.Bool.Decides.{nat_tests}
 use Rattle.std.proofs.lemmas.List.{get_or_past}
 use Rattle.md_base.specs.Search.{tabulate}
 use Rattle.md_base.specs.Shapes.{has_slot}
-use Rattle.md_base.proofs.Tabulated.{length-tabulate, get_or-tabulate}
+use Rattle.md_base.proofs.Tabulated.{get_or-tabulate}
 use Rattle.md_base.specs.declared.status.Role.TheVariants.{Recovering}
 use Rattle.sb1.specs.declared.sb.Sb.{Sb}
 use Rattle.array_kept.specs.superblocks_Update.{own_in}
-use Rattle.array_kept.proofs.superblocks_Searches.{any_below-some}
+use Rattle.array_kept.proofs.superblocks_SlotSets.{in-set_of}
 use Rattle.layout.proofs.Limits.{limited}
 use Rattle.array_kept.specs.views_the_Work.{Work}
-use Rattle.array_kept.specs.views_Numbers.{is_carried}
+use Rattle.array_kept.specs.views_Numbers.{bears}
 use Rattle.array_kept.specs.shape_changes_Carried.{AreCarried}
 use Rattle.array_kept.specs.views_Rebuilding.{AreRebuilt, HasNoRebuilt}
 use Rattle.md_base.specs.Sectors.{Sector}
@@ -37,7 +37,6 @@ use Rattle.array_kept.specs.flat_history_Growing.{EndBy}
 use Rattle.array_kept.specs.flat_history_OneShape.{opening_in, is_unsettled, IsOneShapeLegal}
 use Rattle.array_kept.specs.views_Status.{stripes_of, rebuilt_of, left_of}
 use Rattle.array_kept.specs.flat_history_Losses.{was_dirty, is_unsynced}
-use Rattle.array_kept.specs.flat_history_Epochs.{OpensAlike}
 use Rattle.array_kept.specs.views_Whole.{list_size}
 use Rattle.array_kept.specs.views_Placed.{places_of}
 use Rattle.array_kept.specs.shape_views_Regions.{ArePlaced}
@@ -46,7 +45,7 @@ use Rattle.array_kept.proofs.shape_views_Stands.{flushed-right, still-stands}
 use Rattle.array_kept.specs.shape_changes_Steady.{AreViewsRight, IsSafeOver}
 use Rattle.array_kept.specs.views_Lacking.{ListStands, RowsStand, RowsStandBelow, mended_rows}
 use Rattle.array_kept.specs.Kept.{world_in, ledger_now, IsReady, IsKept, IsRecorded, IsSafe, AreTold, AreSectorsWhole}
-use Rattle.array_kept.specs.Adopting.{opener, found_losses, stripes_held, found_stripes, is_number_of, found_work, AreNumbersKept, IsAdoptable}
+use Rattle.array_kept.specs.Adopting.{opener, found_losses, stripes_held, found_stripes, bearers_of, found_work, AreNumbersKept, IsAdoptable}
 use Rattle.array_kept.proofs.LedgerLaws.{newest-allowed}
 use Rattle.array_kept.proofs.NowLaws.{values-more}
 use Rattle.array_kept.proofs.RecordLaws.{ends-at}
@@ -91,28 +90,42 @@ good-at false m c list stands row mended below = absurd (none (shape_of m.newest
 
 -- ---- what it has under way
 
--- it bears the number of each superblock
-pub found-kept : (own : List (Option Sb)) (slot : ℕ) (sb : Sb) → length own ≡ 32 → own_in own slot ≡ Some sb → slice_index_or (tabulate 128 (is_number_of own)) sb.dev_number true ≡ true
+-- each slot may bear the number of its superblock
+pub found-kept : (own : List (Option Sb)) (slot : ℕ) (sb : Sb) → length own ≡ 32 → own_in own slot ≡ Some sb
+    → (nat_le 128 sb.dev_number || (nat_lt slot 32 && has_slot (slice_index (tabulate 128 (bearers_of own)) sb.dev_number) slot)) ≡ true
 found-kept own slot sb long is = elim (cases_lt sb.dev_number 128) [
   | inl below ↦
-      get_or-tabulate 128 (is_number_of own) sb.dev_number true below
-      ∙ any_below-some 32 (λ s. option_map_or (λ sb'. sb'.dev_number == sb.dev_number) (own_in own s) false) slot (inside (cases_lt slot 32))
-      (ap (λ (o : Option Sb). option_map_or (λ sb'. sb'.dev_number == sb.dev_number) o false) is ∙ itself sb.dev_number)
-  | inr above ↦ get_or_past (tabulate 128 (is_number_of own)) sb.dev_number true (omega (arith, above, length-tabulate 128 (is_number_of own)))
+      let few = inside (cases_lt slot 32) in
+      ap (λ (b : Bool). nat_le 128 sb.dev_number || (nat_lt slot 32 && b))
+      (ap (λ (set : ℕ). has_slot set slot) (get_or-tabulate 128 (bearers_of own) sb.dev_number 0 below)
+      ∙ in-set_of (λ s. option_map_or (λ sb'. sb'.dev_number == sb.dev_number) (own_in own s) false) slot few
+      ∙ ap (λ (o : Option Sb). option_map_or (λ sb'. sb'.dev_number == sb.dev_number) o false) is ∙ itself sb.dev_number)
+      ∙ last (nat_le 128 sb.dev_number) slot few
+  | inr above ↦ counts (nat_lt slot 32 && has_slot (slice_index (tabulate 128 (bearers_of own)) sb.dev_number) slot) sb.dev_number above
 ]
   where
     itself : (n : ℕ) → (n == n) ≡ true
     itself n = grind (arith, nat_tests)
+
+    last : (b : Bool) (s : ℕ) → s < 32 → (b || (nat_lt s 32 && true)) ≡ true
+    last true s lt = refl
+    last false s lt = grind (arith, nat_tests, lt)
+
+    counts : (b : Bool) (n : ℕ) → 128 ≤ n → (nat_le 128 n || b) ≡ true
+    counts b n le = ap (λ (a : Bool). a || b) (all n le)
+      where
+        all : (m : ℕ) → 128 ≤ m → nat_le 128 m ≡ true
+        all m le' = grind (arith, nat_tests, le')
 
     inside : (slot < 32) ⊎ (32 ≤ slot) → slot < 32
     inside (inl lt) = lt
     inside (inr beyond) = absurd (let nothing = sym is ∙ get_or_past own slot None (omega (arith, long, beyond)) in cc)
 
 -- so it does of those that slots may show
-found-carried : {scope : Scope} {d : ℕ → ℕ → List Sector} (members : Members) → length members.own ≡ 32 → AreNumbersKept scope members.own d → AreCarried scope (is_carried (found_work members)) members.own d
+found-carried : {scope : Scope} {d : ℕ → ℕ → List Sector} (members : Members) → length members.own ≡ 32 → AreNumbersKept scope members.own d → AreCarried scope (bears (found_work members)) members.own d
 found-carried members long numbers = record {
   kept = λ slot sb is. found-kept members.own slot sb long is;
-  shown = λ slot sb may. let kept = numbers slot sb may in subst (λ (n : ℕ). is_carried (found_work members) n ≡ true) kept.2 (found-kept members.own slot kept.0 long kept.1);
+  shown = λ slot sb may. let kept = numbers slot sb may in subst (λ (n : ℕ). bears (found_work members) slot n ≡ true) kept.2 (found-kept members.own slot kept.0 long kept.1);
 }
 
 -- nothing is rebuilt beyond what a recovering slot holds
@@ -170,8 +183,8 @@ module _ {tells : Type 0} {given : Given} {tape : List Operation} {scope : Scope
       and_true false = refl
 
   -- what is flushed of the members, on which the list stands, is a right view
-  found-right : OpensAlike world → IsViewRight (OpensFit world) scope given (ledger_now world work entries) members (disk given.start tape)
-  found-right alike =
+  found-right : IsViewRight (OpensFit world) scope given (ledger_now world work entries) members (disk given.start tape)
+  found-right =
       flushed-right (OpensFit world) scope given (ledger_now world work entries) members (present given tape) (now list []) (disk given.start tape) (record {
         placed = two;
         sized = length-still members is.still
@@ -190,24 +203,24 @@ module _ {tells : Type 0} {given : Given} {tape : List Operation} {scope : Scope
       })
     where
       two : ArePlaced scope given members
-      two = held-placed scope given members (disk given.start tape) is.placed (backup-still scope members.newest is.still) (is.next t alike)
+      two = held-placed scope given members (disk given.start tape) is.placed (backup-still scope members.newest is.still) (is.next t)
 
-  found-safe : OpensAlike world → IsSafeOver world given (ledger_now world work entries) members tape
-  found-safe alike = inl (record { former = members; since = since-none scope members (disk given.start tape) (is.next t alike); right = found-right alike; numbers = found-carried members long (is.numbers t) })
+  found-safe : IsSafeOver world given (ledger_now world work entries) members tape
+  found-safe = inl (record { former = members; since = since-none scope members (disk given.start tape) (is.next t); right = found-right; numbers = found-carried members long (is.numbers t) })
 
-  found-seen : OpensAlike world → AreViewsRight (OpensFit world) scope given (ledger_now world work entries) (disk given.start tape)
-  found-seen alike = safe-is-seen (OpensFit world) scope given (ledger_now world work entries) members tape (found-safe alike)
+  found-seen : AreViewsRight (OpensFit world) scope given (ledger_now world work entries) (disk given.start tape)
+  found-seen = safe-is-seen (OpensFit world) scope given (ledger_now world work entries) members tape found-safe
 
-  pub safe-adopted : FillsRight world entries → OpensAlike world → IsSafe world given members work entries
+  pub safe-adopted : FillsRight world entries → IsSafe world given members work entries
   unfolding reading_at
-  safe-adopted fills alike = record {
+  safe-adopted fills = record {
     past = λ mark low high.
         let at : mark ≡ length tape = omega (arith, low, high) in
         subst (λ (n : ℕ). IsSafeAt world entries n) (sym at)
         (safe-last world given entries refl is.sizes_are (ends-at opener (length tape) (found_losses (reading_of members)))
-        (absents-keep opener (length tape) (found_losses (reading_of members)) (absents-are (reading_of members) (shape_of members.newest).disks)) fills work (found-seen alike));
-    sound = throughout-opening world given (ledger_now world work entries) members refl refl (found-safe alike);
-    now = found-safe alike;
+        (absents-keep opener (length tape) (found_losses (reading_of members)) (absents-are (reading_of members) (shape_of members.newest).disks)) fills work found-seen);
+    sound = throughout-opening world given (ledger_now world work entries) members refl refl found-safe;
+    now = found-safe;
     counted = λ live. let newest = is.newest t in record { found = newest.0; is = newest.1; events = let few = newest.2 in omega (arith, few) };
   }
 
@@ -256,9 +269,9 @@ kept-adopted {tells = tells} {given = given} {tape = tape} {scope = scope} {memb
   sizes_are = is.sizes_are;
   dirty = λ does is. dirty-at (is_clean members.newest) is;
   unclean = λ dirty. unclean-at (is_clean members.newest) (is_unsettled (entries_of opener first losses)) dirty;
-  safe = λ t fills room alike.
-      subst (λ (n : ℕ). FillsRight (world_in given tape scope n) (entries_of opener n losses) → OpensAlike (world_in given tape scope n)
-      → IsSafe (world_in given tape scope n) given members (found_work members) (entries_of opener n losses)) (sym (first_is t)) (safe-adopted is has long t) fills alike;
+  safe = λ t fills room.
+      subst (λ (n : ℕ). FillsRight (world_in given tape scope n) (entries_of opener n losses)
+      → IsSafe (world_in given tape scope n) given members (found_work members) (entries_of opener n losses)) (sym (first_is t)) (safe-adopted is has long t) fills;
 }
   where
     resync : Option ℕ

@@ -6,6 +6,7 @@ pub mod TouchedLaws
 pub mod AbsentLaws
 pub mod AddLaws
 pub mod AddedKept
+pub mod AddedNumbers
 pub mod AddedLosses
 pub mod AdoptingLaws
 pub mod SteppedLaws

@@ -119,7 +119,7 @@ module _ {tells : Type 0} {given : Given} {tape tape' : List Operation} {scope :
 
     -- the array stays safe
     leaves-mending : LeavesSafe tells given tape' scope first (entries ++ entries_of who end events) members' work
-    leaves-mending = leaves-unsettled who end was opens caller at_end stays grows work (λ number is. is) events silent-all adds rise stretch (λ does is. dirty)
+    leaves-mending = leaves-unsettled who end was opens caller at_end stays grows work (λ slot number is. is) events silent-all adds rise stretch (λ does is. dirty)
         (λ none. absurd (let no = sym (ap (λ (o : Option ℕ). is_some o) pending) ∙ none in cc))
       where
         stretch : (t : tells) → FillsRight (world_in given tape scope first) (entries ++ entries_of who end events) → HasRoomLeft members tape tape'
@@ -130,7 +130,7 @@ module _ {tells : Type 0} {given : Given} {tape tape' : List Operation} {scope :
             let added = entries_of who end events in
             safe t world (told_by world work entries added) room
             (told-behind who end was opens caller at_end moved grows roles spares before after since (event ∷ []) gives)
-            (told-unclean world work work (λ number is. is) entries added adds (is_some work.resync) (was.recorded t).dirty (ap (λ (o : Option ℕ). is_some o || is_unsettled entries) pending))
+            (told-unclean world work work (λ slot number is. is) entries added adds (is_some work.resync) (was.recorded t).dirty (ap (λ (o : Option ℕ). is_some o || is_unsettled entries) pending))
             list (held t)
             (allowed-more (opening_list world) entries added members was.still adds list (newest-old who end was opens caller at_end stays grows added t fills)) began
 

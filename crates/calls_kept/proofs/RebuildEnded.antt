@@ -129,6 +129,8 @@ module _ (given : Given) (m new : Members) (placed : IsPlaced given m) (role slo
   failed-still spares before after failed = record {
     roles = λ r s held. failed.roles r s (holder-still r s held);
     spares_are = failed.spares_are;
+    were = λ s has. (spare-before given m placed None role slot to s (failed.were s has)).0;
+    fewer = λ s has. (spare-before given m placed None role slot to s (failed.fewer s has)).0;
     told = λ s has. failed.told s (spare-still s has);
   }
 

@@ -1,6 +1,6 @@
 -- What an array keeps after a step that rebuilds the next stripe of a role on the slot that recovers it.
-use Rattle.std.proofs.Common.{◌≡◌, ◌≢◌, inl, inr, ℕ, ◌+◌, ◌*◌, ◌<◌, ◌≤◌, Bool, true, false, not, Option, is_some, List, [], ◌∷◌, ◌++◌, length, refl, sym, ◌∙◌, ap, subst, arith, append-nil}
-use Rattle.std.specs.Prelude.{IfSome, slice_index_or, ⊤}
+use Rattle.std.proofs.Common.{◌≡◌, ◌≢◌, inl, inr, ℕ, ◌+◌, ◌*◌, ◌<◌, ◌≤◌, ◌&&◌, ◌||◌, nat_lt, nat_le, Bool, true, false, not, Option, is_some, List, [], ◌∷◌, ◌++◌, length, refl, sym, ◌∙◌, ap, subst, arith, append-nil}
+use Rattle.std.specs.Prelude.{IfSome, slice_index, ⊤}
 use Rattle.std.specs.List.{Contains}
 use Rattle.std.proofs.lemmas.Bool.{cases_lt, cases_eq}
 use Rattle.std.proofs.lemmas.List.{get_or-set_same, get_or-set_other}
@@ -155,7 +155,7 @@ module _ {tells : Type 0} {given : Given} {tape tape' : List Operation} {scope :
   leaves : (work' : Work) → work'.resync ≡ work.resync → work'.carried ≡ work.carried → (tail : List Event) → AreQuiet who end (losses ++ tail) → GivesNone (entries_of who end tail)
       → LeavesSafe tells given tape' scope first (entries ++ entries_of who end (losses ++ tail)) members' work'
   leaves work' resync carried tail quiet gives =
-      leaves-named who end was opens caller at_end stays grows work' (λ number is. ap (λ (l : List Bool). slice_index_or l number true) carried ∙ is) (losses ++ tail) quiet.silent quiet.adds rise
+      leaves-named who end was opens caller at_end stays grows work' (λ slot number is. ap (λ (l : List ℕ). nat_le 128 number || (nat_lt slot 32 && has_slot (slice_index l number) slot)) carried ∙ is) (losses ++ tail) quiet.silent quiet.adds rise
       (told-behind who end was opens caller at_end moved grows roles spares before after since tail gives) resync (λ d. does) clean safe
 
   -- ---- where it is refused

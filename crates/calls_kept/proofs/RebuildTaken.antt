@@ -180,8 +180,8 @@ module _ {tells : Type 0} {given : Given} {tape tape' : List Operation} {scope :
       (rebuilt-given given members was.placed (Some 0) role slot to work next (present given tape) L (λ other apart. rebuilt-other work role 0 other apart)
       (λ s row is under. absurd (let none : row < 0 * (shape_of members.newest).chunk = subst (λ (n : ℕ). row < n * (shape_of members.newest).chunk) (rebuilt-here work role 0 known) under in omega (arith, none)))
       (was.rebuilt t does fit)))
-      (leaves-alike who end was opens caller at_end stays grows next (λ number is. is) events quiet.silent quiet.adds rise
+      (leaves-alike who end was opens caller at_end stays grows next (λ slot number is. is) events quiet.silent quiet.adds rise
       (λ t fills room began. safe t W (told_by W next entries added) room told
       (told-more members entries added quiet.adds.gives was.told role counted gone)
-      (λ is. told-unclean W work next (λ number is. is) entries added quiet.adds (is_some work.resync) (was.recorded t).dirty (was.unclean is)) began)
+      (λ is. told-unclean W work next (λ slot number is. is) entries added quiet.adds (is_some work.resync) (was.recorded t).dirty (was.unclean is)) began)
       refl (λ d. does) clean)

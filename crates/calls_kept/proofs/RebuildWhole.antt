@@ -143,7 +143,7 @@ module _ {tells : Type 0} {given : Given} {tape tape' : List Operation} {scope :
     gone-told = told-more members entries (entries_of who end early) quiet.adds.gives was.told role counted missing
 
     unclean-told : tells → IsUncleanTold Told members
-    unclean-told t is = told-unclean W work work (λ number is. is) entries (entries_of who end early) quiet.adds (is_some work.resync) (was.recorded t).dirty (was.unclean is)
+    unclean-told t is = told-unclean W work work (λ slot number is. is) entries (entries_of who end early) quiet.adds (is_some work.resync) (was.recorded t).dirty (was.unclean is)
 
     allowed : (added : List Entry) (t : tells) → FillsRight W (entries ++ added) → AreWritesAllowed members Told.values L
     allowed added t fills = allowed-more (opening_list W) entries (entries_of who end early) members was.still quiet.adds L (newest-old who end was opens caller at_end stays grows added t fills)
@@ -168,6 +168,7 @@ module _ {tells : Type 0} {given : Given} {tape tape' : List Operation} {scope :
       gone = since.gone;
       held = λ r has. let h = since.held r has in (h.0, holder-before given members members' was.placed role slot to was.free recovers moved r h.0 h.1, h.2);
       failed = since.failed;
+      were = λ s has. (spare-before given members was.placed None role slot to s (since.were s has)).0;
       told = λ s has. since.told s (spare-still given members members' was.placed role slot to was.free recovers moved s has);
     }
       where
@@ -203,7 +204,7 @@ module _ {tells : Type 0} {given : Given} {tape tape' : List Operation} {scope :
         (subst (λ (s : Shape). RowsStandAmong s (λ row. row < mended_rows work.resync members) members' (present given tape') L) (sym moved.shape)
         (among-moved (shape_of members.newest) (λ row. row < mended_rows work.resync members) given members members' (present given tape) (present given tape') L moved-lost was.placed (others t) (was.good t does fit))))
         (λ t does' fit. rebuilt-moved work given members members' (present given tape) (present given tape') L moved-lost was.placed (others t) (was.rebuilt t does fit))
-        (leaves-alike who end was opens caller at_end stays grows work (λ number is. is) (losses ++ []) quiet-lost.silent quiet-lost.adds rise
+        (leaves-alike who end was opens caller at_end stays grows work (λ slot number is. is) (losses ++ []) quiet-lost.silent quiet-lost.adds rise
         (stretch (losses ++ []) quiet-lost (told-behind-losses [] quiet-lost) (entries_of who end (losses ++ []))) refl (λ d. does) clean))
 
   -- ---- the role is whole
@@ -357,13 +358,13 @@ module _ {tells : Type 0} {given : Given} {tape tape' : List Operation} {scope :
       values = λ x lt v may. subst (λ (l : List Sector). IsIn l v) (sym (ap (λ (l : List Entry). values_of (opening_list W) l x) both ∙ values-more (opening_list W) (entries ++ entries_of who end early) (one who end (Rebuilt role) ∷ []) x)) may;
       gone = λ r is. let p = parts (is_gone_now (entries ++ entries_of who end early) r) (r == role) is in gone-still r (other r role p.1) p.0;
       unclean = λ is.
-          let first = (told-now W work work (λ number has. has) entries (entries_of who end early) quiet-early.adds).unclean is in
+          let first = (told-now W work work (λ slot number has. has) entries (entries_of who end early) quiet-early.adds).unclean is in
           subst (λ (l : List Entry). (is_unsynced W l || is_unsettled l) ≡ true) (sym both)
           (either (is_unsynced W (entries ++ entries_of who end early)) (is_unsettled (entries ++ entries_of who end early)) (is_unsynced W ((entries ++ entries_of who end early) ++ one who end (Rebuilt role) ∷ []))
           (is_unsettled ((entries ++ entries_of who end early) ++ one who end (Rebuilt role) ∷ []))
           (pending-more (was_dirty W) (entries ++ entries_of who end early) (one who end (Rebuilt role) ∷ []) refl) (unsettled-still (entries ++ entries_of who end early) (one who end (Rebuilt role) ∷ []) refl) first);
       reshaping = λ is. is;
-      carried = λ number is. is;
+      carried = λ slot number is. is;
     }
       where
         parts : (a b : Bool) → (a && not b) ≡ true → (a ≡ true) × (b ≡ false)
@@ -382,7 +383,7 @@ module _ {tells : Type 0} {given : Given} {tape tape' : List Operation} {scope :
     leaves-whole = record {
       dirty = λ does' is. absurd (let none : IsSome {T = ℕ} None = subst (λ (o : Option ℕ). IsSome o) synced is in cc);
       unclean = λ is. by (is_some work.resync) (is_unsettled entries) (was.unclean (sym clean ∙ is)) (unsettled-still entries (entries_of who end (early ++ late)) none-settles);
-      safe = safe-by who end was opens caller at_end stays grows work (λ number is. is) early late quiet-early.silent silent quiet-early.adds keep rise
+      safe = safe-by who end was opens caller at_end stays grows work (λ slot number is. is) early late quiet-early.silent silent quiet-early.adds keep rise
           (λ t fills room began. stretch early quiet-early told-early (entries_of who end (early ++ late)) t fills room began)
           (λ t fills room began.
           let fit = fit-of (entries_of who end (early ++ late)) fills in

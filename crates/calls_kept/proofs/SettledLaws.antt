@@ -122,12 +122,12 @@ module _ {tells : Type 0} {given : Given} {tape tape' : List Operation} {scope :
   -- one that was refused behind the losses, since too many are missing
   pub leaves-refused : (refusal : Refusal) → AreTooMany members' refusal → LeavesSafe tells given tape' scope first (entries ++ entries_of who end (losses_of roles spares ++ Refused refusal ∷ [])) members' work
   leaves-refused refusal many =
-      leaves-unsettled who end was opens caller at_end stays grows work (λ number is. is) (losses ++ Refused refusal ∷ [])
+      leaves-unsettled who end was opens caller at_end stays grows work (λ slot number is. is) (losses ++ Refused refusal ∷ [])
       (silent-behind who end losses (Refused refusal) (losses-are roles spares) (record { length = λ n. refl; limit = refl })) adds rise
       (λ t fills room began. safe t (world_in given tape scope first) (told_by (world_in given tape scope first) work entries (entries_of who end (losses ++ Refused refusal ∷ []))) room
-      (told-behind who end was opens caller at_end moved grows roles spares before after since (Refused refusal ∷ []) (λ role. refl)) (unclean-told work (λ number is. is) (losses ++ Refused refusal ∷ []) adds t)
+      (told-behind who end was opens caller at_end moved grows roles spares before after since (Refused refusal ∷ []) (λ role. refl)) (unclean-told work (λ slot number is. is) (losses ++ Refused refusal ∷ []) adds t)
       (now (opening_list (world_in given tape scope first)) entries) (holds-before who end was opens caller at_end stays grows (entries_of who end (losses ++ Refused refusal ∷ [])) t fills) (rows-old t)
-      (newest-told work (λ number is. is) (losses ++ Refused refusal ∷ []) (entries_of who end (losses ++ Refused refusal ∷ [])) adds t fills) began)
+      (newest-told work (λ slot number is. is) (losses ++ Refused refusal ∷ []) (entries_of who end (losses ++ Refused refusal ∷ [])) adds t fills) began)
       (λ does. absurd (never-both members' refusal does many)) (λ synced. unsettles-behind who end losses (Refused refusal ∷ []) (unsettled-many who end members' refusal many))
     where
       adds : OnlyAdd (entries_of who end (losses ++ Refused refusal ∷ []))
@@ -207,4 +207,4 @@ module _ {tells : Type 0} {given : Given} {tape tape' : List Operation} {scope :
       → IsSafeOver world given (settled_ledger unsynced list told) members' tape')
       → LeavesSafe tells given tape' scope first (entries ++ entries_of who end (losses_of roles spares ++ event ∷ [])) members' work
   leaves-flushed event settles same alike clean settled =
-      leaves-settled work (λ number is. is) same event (settles.silent who end) (settles.keep who end) (settles.gives who end) (settles.newest who end) (λ t. unsynced-as event settles.ends t ∙ sym same) (λ is. sym same ∙ is) alike clean settled
+      leaves-settled work (λ slot number is. is) same event (settles.silent who end) (settles.keep who end) (settles.gives who end) (settles.newest who end) (λ t. unsynced-as event settles.ends t ∙ sym same) (λ is. sym same ∙ is) alike clean settled

@@ -103,7 +103,7 @@ module _ {tells : Type 0} {given : Given} {tape tape' : List Operation} {scope :
       → IsIn (fold (λ values e. values_after x values e.event) values (entries_of who end events)) (sector_at at (sectors_of from) x))
       → LeavesSafe tells given tape' scope first (entries ++ entries_of who end events) members' work
   leaves-written events silent adds told unsettled allows =
-      leaves-unsettled who end was opens caller at_end (stays-moved was moved) grows work (λ number is. is) events silent adds rise stretch (λ left pending. stays (was.dirty (without-before given members members' moved left) pending)) unsettled
+      leaves-unsettled who end was opens caller at_end (stays-moved was moved) grows work (λ slot number is. is) events silent adds rise stretch (λ left pending. stays (was.dirty (without-before given members members' moved left) pending)) unsettled
     where
       list : ℕ → Sector
       list = now (opening_list (world_in given tape scope first)) entries

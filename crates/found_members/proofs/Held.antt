@@ -19,7 +19,7 @@ use Rattle.array_kept.specs.superblocks_Outcome.{set_of, is_in_update, live_set}
 use Rattle.array_kept.specs.superblocks_Held.{own_at}
 use Rattle.array_kept.specs.superblocks_Stages.{AreLeft}
 use Rattle.array_kept.specs.superblocks_Election.{reading_in}
-use Rattle.array_kept.specs.superblocks_Found.{AreLikeNewest, IsInSectors}
+use Rattle.array_kept.specs.superblocks_Found.{IsInSectors}
 use Rattle.array_kept.proofs.superblocks_SlotSets.{has-set_of}
 use Rattle.array_kept.proofs.superblock_reads_Accepted.{IsAccepted, is-accepted}
 use Rattle.array_kept.proofs.superblock_reads_SaidSlots.{read-parts}
@@ -89,47 +89,46 @@ module _ (bank : Given) (uuid : List ℕ) (given : ℕ) (backup : Option ℕ) (m
       same : own_at scope s shown.at ≡ own_at scope s (c s)
       same = ap₂ (λ (a b : Sector). of_array scope.uuid (cond (is_seen scope s) (cond (nat_le 10 (scope.sizes.sectors s) && is_valid (a ++ b)) (Some (sb_of (a ++ b))) None) None)) eighth ninth
 
-  module _ (alike : AreLikeNewest (scope_in bank uuid given backup) m.newest c) where
-    accepted : IsAccepted scope.sizes.sectors m.newest (superblocks scope c)
-    accepted = is-accepted scope.sizes.sectors m.newest (superblocks scope c)
-        (ap (members_refusal scope.sizes.sectors) (sym parts.1) ∙ no-refusal scope c (reading_in bank.slots m) stored.says stored.accepted)
+  accepted : IsAccepted scope.sizes.sectors m.newest (superblocks scope c)
+  accepted = is-accepted scope.sizes.sectors m.newest (superblocks scope c)
+      (ap (members_refusal scope.sizes.sectors) (sym parts.1) ∙ no-refusal scope c (reading_in bank.slots m) stored.says stored.accepted)
 
-    sectors : (s : ℕ) (sb : Sb) → own_at scope s (c s) ≡ Some sb → IsInSectors (c s)
-    sectors s sb found = stored.sectors s sb (own-is s (inside-seen s (found-of scope s (c s) sb found).seen) ∙ found)
+  sectors : (s : ℕ) (sb : Sb) → own_at scope s (c s) ≡ Some sb → IsInSectors (c s)
+  sectors s sb found = stored.sectors s sb (own-is s (inside-seen s (found-of scope s (c s) sb found).seen) ∙ found)
 
-    live-kept : (s : ℕ) → has_slot (set_of 32 (is_live m.roles m.spares)) s ≡ true → has_slot m.lost s ≡ false
-    live-kept s live =
-        are.lost s ∙ ap (λ b. nat_lt s bank.slots && not b)
-        (given-seen s (live-seen scope c d m parts.0 accepted own-is (ap (λ (q : Reading). q.roles) parts.1) (ap (λ (q : Reading). q.spares) parts.1) inside-seen are.few flushed-seen alike sectors s live))
-        ∙ never (nat_lt s bank.slots)
-      where
-        never : (b : Bool) → (b && false) ≡ false
-        never true = refl
-        never false = refl
+  live-kept : (s : ℕ) → has_slot (set_of 32 (is_live m.roles m.spares)) s ≡ true → has_slot m.lost s ≡ false
+  live-kept s live =
+      are.lost s ∙ ap (λ b. nat_lt s bank.slots && not b)
+      (given-seen s (live-seen scope c d m parts.0 accepted own-is (ap (λ (q : Reading). q.roles) parts.1) (ap (λ (q : Reading). q.spares) parts.1) inside-seen are.few flushed-seen sectors s live))
+      ∙ never (nat_lt s bank.slots)
+    where
+      never : (b : Bool) → (b && false) ≡ false
+      never true = refl
+      never false = refl
 
-    live-left : AreLeft (live_set m (marking m false)) m.lost (set_of 32 (is_live m.roles m.spares))
-    live-left s = of (has_slot (set_of 32 (is_live m.roles m.spares)) s) refl
-        ∙ ap (λ b. b && not (has_slot m.lost s)) (sym (has-set_of 32 (is_in_update m (marking m false)) s ∙ ap (λ b. nat_lt s 32 && b) (or_false (is_live m.roles m.spares s)) ∙ sym (has-set_of 32 (is_live m.roles m.spares) s)))
-      where
-        or_false : (b : Bool) → (b || false) ≡ b
-        or_false true = refl
-        or_false false = refl
+  live-left : AreLeft (live_set m (marking m false)) m.lost (set_of 32 (is_live m.roles m.spares))
+  live-left s = of (has_slot (set_of 32 (is_live m.roles m.spares)) s) refl
+      ∙ ap (λ b. b && not (has_slot m.lost s)) (sym (has-set_of 32 (is_in_update m (marking m false)) s ∙ ap (λ b. nat_lt s 32 && b) (or_false (is_live m.roles m.spares s)) ∙ sym (has-set_of 32 (is_live m.roles m.spares) s)))
+    where
+      or_false : (b : Bool) → (b || false) ≡ b
+      or_false true = refl
+      or_false false = refl
 
-        of : (b : Bool) → has_slot (set_of 32 (is_live m.roles m.spares)) s ≡ b
-            → has_slot (set_of 32 (is_live m.roles m.spares)) s ≡ (has_slot (set_of 32 (is_live m.roles m.spares)) s && not (has_slot m.lost s))
-        of true live = live ∙ sym (λ i. live i && not (live-kept s live i))
-        of false none = none ∙ sym (ap (λ b. b && not (has_slot m.lost s)) none)
+      of : (b : Bool) → has_slot (set_of 32 (is_live m.roles m.spares)) s ≡ b
+          → has_slot (set_of 32 (is_live m.roles m.spares)) s ≡ (has_slot (set_of 32 (is_live m.roles m.spares)) s && not (has_slot m.lost s))
+      of true live = live ∙ sym (λ i. live i && not (live-kept s live i))
+      of false none = none ∙ sym (ap (λ b. b && not (has_slot m.lost s)) none)
 
-    pub found-is-held : IsHeldBy (scope_in bank uuid given backup) m d
-    found-is-held =
-        let held = found-held scope c d m parts.0 accepted own-is (ap (λ (q : Reading). q.roles) parts.1) (ap (λ (q : Reading). q.spares) parts.1) inside-seen are.few flushed-seen alike sectors m.lost in
-        record {
-          known = set_of 32 (is_live m.roles m.spares);
-          live = live-left;
-          updated = record {
-            held = held;
-            exact = found-exact scope c d m parts.0 accepted own-is (ap (λ (q : Reading). q.roles) parts.1) (ap (λ (q : Reading). q.spares) parts.1) inside-seen are.few flushed-seen alike sectors;
-            reads = λ image drawn. held-reads scope (set_of 32 (is_live m.roles m.spares)) m.lost m.newest m.own d held (set_of 32 (is_live m.roles m.spares)) (λ s live. live) image drawn;
-          };
-          said = found-said scope c d m parts.0 accepted own-is (ap (λ (q : Reading). q.roles) parts.1) (ap (λ (q : Reading). q.spares) parts.1) inside-seen are.few flushed-seen alike sectors;
-        }
+  pub found-is-held : IsHeldBy (scope_in bank uuid given backup) m d
+  found-is-held =
+      let held = found-held scope c d m parts.0 accepted own-is (ap (λ (q : Reading). q.roles) parts.1) (ap (λ (q : Reading). q.spares) parts.1) inside-seen are.few flushed-seen sectors m.lost in
+      record {
+        known = set_of 32 (is_live m.roles m.spares);
+        live = live-left;
+        updated = record {
+          held = held;
+          exact = found-exact scope c d m parts.0 accepted own-is (ap (λ (q : Reading). q.roles) parts.1) (ap (λ (q : Reading). q.spares) parts.1) inside-seen are.few flushed-seen sectors;
+          reads = λ image drawn. held-reads scope (set_of 32 (is_live m.roles m.spares)) m.lost m.newest m.own d held (set_of 32 (is_live m.roles m.spares)) (λ s live. live) image drawn;
+        };
+        said = found-said scope c d m parts.0 accepted own-is (ap (λ (q : Reading). q.roles) parts.1) (ap (λ (q : Reading). q.spares) parts.1) inside-seen are.few flushed-seen sectors;
+      }

@@ -4,7 +4,6 @@ use Rattle.bank.specs.Given.{Given, sizes}
 use Rattle.bank.specs.Tape.{Contents}
 use Rattle.array_kept.specs.superblocks_the_Members.{Members}
 use Rattle.array_kept.specs.superblocks_Election.{reading_in}
-use Rattle.array_kept.specs.superblocks_Found.{AreLikeNewest}
 use Rattle.array_kept.specs.superblocks_Reading.{Scope, is_reshaping}
 use Rattle.array_kept.specs.shape_views_Regions.{AreShapesFit, DoWithout, IsReadOf}
 use Rattle.array_kept.specs.shape_views_Views.{Disk}
@@ -37,11 +36,10 @@ ElectedReshapesFit = (bank : Given) (given : ℕ) (members : Members) → AreEle
 abbrev pub ElectedAreRead : Type 0
 ElectedAreRead = (bank : Given) (given : ℕ) (scope : Scope) (members : Members) → AreElected bank given members → IsPlaced bank members → scope.sizes ≡ sizes bank → IsReadOf scope members (reading_in bank.slots members)
 
--- Where a stop leaves what the slots hold, their superblocks are held, from where an update may start, if those that are as new as the newest say the same as it; and each that a slot
--- may show has the number of the one that is kept of it.
+-- Where a stop leaves what the slots hold, their superblocks are held, from where an update may start; and each that a slot may show has the number of the one that is kept of it.
 abbrev pub StoredAreHeld : Type 0
 StoredAreHeld = (bank : Given) (uuid : List ℕ) (given : ℕ) (backup : Option ℕ) (members : Members) (c : Contents) (d : Disk) → AreElected bank given members → AreStored bank (scope_in bank uuid given backup) members c d
-    → AreLikeNewest (scope_in bank uuid given backup) members.newest c → IsHeldBy (scope_in bank uuid given backup) members d
+    → IsHeldBy (scope_in bank uuid given backup) members d
 
 abbrev pub StoredNumbersAreKept : Type 0
 StoredNumbersAreKept = (bank : Given) (uuid : List ℕ) (given : ℕ) (backup : Option ℕ) (members : Members) (c : Contents) (d : Disk) → AreElected bank given members → AreStored bank (scope_in bank uuid given backup) members c d

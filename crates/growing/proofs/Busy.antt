@@ -50,7 +50,7 @@ busy-fits world before who end request m may number at_end active read = by requ
     by request may = absurd may
 
 -- the array keeps its record behind it
-pub busy-moves : {tells : Type 0} {given : Given} {tape : List Operation} {scope : Scope} {first : ℕ} {entries : List Entry} {m : Members} {carried : ℕ → Bool} {resync : Option ℕ} {course : Course} {buffer : List ℕ} {left : ℕ} (who : Who) (end : ℕ)
+pub busy-moves : {tells : Type 0} {given : Given} {tape : List Operation} {scope : Scope} {first : ℕ} {entries : List Entry} {m : Members} {carried : ℕ → ℕ → Bool} {resync : Option ℕ} {course : Course} {buffer : List ℕ} {left : ℕ} (who : Who) (end : ℕ)
     → IsMoving tells given tape scope first entries m carried resync course buffer left → who.number ≡ next_number who.caller entries → who.caller ≢ 254 → (tells → end ≡ length tape)
     → IsMoving tells given tape scope first (entries ++ entries_of who end (Refused (Busy Reshape) ∷ [])) m carried resync course buffer left
 busy-moves {tells = tells} {given = given} {tape = tape} {scope = scope} {first = first} {entries = entries} {m = m} {carried = carried} {resync = resync} {course = course} {buffer = buffer} {left = left} who end was number caller at_end =

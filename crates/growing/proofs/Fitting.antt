@@ -103,7 +103,6 @@ right-before world entries added begun ends right = record {
   fills = filled-before world [] entries added begun ends
       (subst (λ (l : List Operation). IsFilledRight (record { start = world.start; tape = l; scope = world.scope; first = world.first }) (entries ++ added)) (sym (append-nil world.tape)) right.fills);
   room = right.room;
-  alike = right.alike;
 }
 
 pub phases-told : {tells : Type 0} {given : Given} {tape : List Operation} {scope : Scope} {first : ℕ} {entries : List Entry} {m : Members} {work : Work} {left : ℕ} (who : Who) (end : ℕ) (wish : Wish) (steps : ℕ)

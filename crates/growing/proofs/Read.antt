@@ -36,7 +36,7 @@ pub read-whole : {tells : Type 0} {given : Given} {tape : List Operation} {scope
 unfolding reading_at
 read-whole {given = given} {tape = tape} {scope = scope} {m = m} was t right whole =
     let live = whole-live given m was.members_are whole in
-    let steady = left-steady live (safe-now was live t right.fills right.room right.alike) in
+    let steady = left-steady live (safe-now was live t right.fills right.room) in
     let said = held-read scope given steady.former tape steady.since.held (present given tape) (record { eighth = λ slot seen. now-drawn given tape slot 8; ninth = λ slot seen. now-drawn given tape slot 9 }) in
     let same : m.newest ≡ steady.former.newest = ap (λ (k : Members). k.newest) steady.since.since in (
       said.0,

@@ -38,7 +38,7 @@ use Rattle.turning.specs.running_words_Parts.{RunningParts}
 use Rattle.running_replies.specs.running_words_Visible.{visible_refusal, IsVisibleJudged}
 use Rattle.running_replies.specs.Limits.{limit_refusal}
 use Rattle.running_replies.specs.Replies.{MayRefuseGrow, MayRefuseLimit, RunningAnswers, RunningFits, IsAnsweredWith, IsRepliedWith, IsRefusalBy, IsRefusalToldBy}
-use Rattle.running_replies.specs.Going.{MayHoldBehind, HasRunOn}
+use Rattle.running_replies.specs.Going.{MayHoldBehind, WasSpareOrHolder, HasRunOn}
 use Rattle.growing.specs.Planned.{IsReplied, IsGrowJudged, IsGrowAnswered, IsAsBefore}
 use Rattle.growing.specs.Replied.{IsGrowReplied}
 use Rattle.growing.proofs.Fitting.{first-of}
@@ -127,7 +127,7 @@ module _ {B : Type 0} (tells : Type 0) (given : B → Given) (tape : B → List 
 
   -- One event alone was entered, which tells no loss and changes no length; unless it tells a plan, the same is ahead.
   went-alone : (who : Who) (end : ℕ) (event : Event) → new.parts.entries ≡ old.parts.entries ++ entries_of who end (event ∷ []) → ((n : ℕ) → length_after n event ≡ n)
-      → IsLossBy (MayHoldBehind old.parts.members []) (faults old.parts.bank) (faults new.parts.bank) event → IsRefusalToldBy old.parts.backup (faults old.parts.bank) (faults new.parts.bank) event
+      → IsLossBy (MayHoldBehind old.parts.members []) (WasSpareOrHolder old.parts.members) (faults old.parts.bank) (faults new.parts.bank) event → IsRefusalToldBy old.parts.backup (faults old.parts.bank) (faults new.parts.bank) event
       → (is_planned event ≡ false → new.ahead ≡ old.ahead) → HasRunOn tells given tape faults old new
   went-alone who end event is kept loss told ahead = record {
     more = entries_of who end (event ∷ []);

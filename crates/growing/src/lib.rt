@@ -13,6 +13,6 @@ pub use refusing::{refuse_grow, refuse_limit};
 pub use running_replies::{final_in, shape_in};
 pub use turning::{
     Course, Due, Moving, Opened, Room, Still, answer, begin_reshape, due_step, enter_all_absent,
-    finish_reshape, first_recovering, found_numbers, list_sectors, make_room, room_for, steps_left,
-    still_step, zeros,
+    finish_reshape, first_recovering, found_numbers, list_sectors, make_room, room_for, step,
+    steps_left, still_step, write, zeros,
 };

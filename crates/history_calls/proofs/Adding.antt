@@ -12,7 +12,7 @@ use Rattle.call_entries.specs.superblocks_the_Members.{Members}
 use Rattle.call_entries.specs.superblocks_Reading.{Scope, is_clean, list_length, role_count}
 use Rattle.call_entries.specs.flat_history_the_Entry.{Entry}
 use Rattle.call_entries.specs.flat_history_the_Event.{Event}
-use Rattle.call_entries.specs.flat_history_Epochs.{HasRoomForEvents, OpensAlike}
+use Rattle.call_entries.specs.flat_history_Epochs.{HasRoomForEvents}
 use Rattle.call_entries.specs.flat_history_Flat.{now, values_of, values_after}
 use Rattle.call_entries.specs.flat_history_Legal.{is_loss, level_at, level_after, IsLegalEvent}
 use Rattle.call_entries.specs.flat_history_Losses.{is_unsynced, unsettles}
@@ -30,7 +30,7 @@ use Rattle.call_entries.proofs.LosingLaws.{entries-both}
 use Rattle.kept_history.specs.Recorded.{IsHistoryKept, IsLegalCall, IsCallGoing, entry_of, ends_reshape, gives_some}
 use Rattle.kept_history.specs.Safe.{world_in, IsFilledRight, IsSafeHistory}
 use Rattle.kept_history.specs.Told.{told_now, told_by}
-use Rattle.kept_history.proofs.Growing.{now-grown, alike-before, room-before, room-now}
+use Rattle.kept_history.proofs.Growing.{now-grown, room-before, room-now}
 use Rattle.kept_history.proofs.Lists.{newest-in}
 use Rattle.kept_history.proofs.Seen.{now-more}
 use Rattle.kept_history.proofs.Calls.{safe-called}
@@ -53,7 +53,7 @@ pub record IsAdding (event : Event) : Type 0 where
 -- ---- with more before its event
 
 -- What is asked of a call, from this tape to that one with its end there, that enters these events before its last one: by each value that they allow.
-pub record ChangesEarly (given : Given) (tape : List Operation) (scope : Scope) (first : ℕ) (entries : List Entry) (old new : Members) (carried : ℕ → Bool) (reshaping : Bool)
+pub record ChangesEarly (given : Given) (tape : List Operation) (scope : Scope) (first : ℕ) (entries : List Entry) (old new : Members) (carried : ℕ → ℕ → Bool) (reshaping : Bool)
     (who : Who) (early : List Event) (event : Event) (tape' : List Operation) (end : ℕ) : Type 0 where
   pub within : AreWithin (list_length old.newest) (early ++ event ∷ [])
   pub rise : IsRisen ⊤ old new tape tape'
@@ -69,7 +69,7 @@ pub record ChangesEarly (given : Given) (tape : List Operation) (scope : Scope) 
       → level_at (world_in given tape' scope first) (entries ++ entries_of who end early) ≡ level_at (world_in given tape scope first) entries
       → IsLegalCall (world_in given tape' scope first) entries who end (early ++ event ∷ [])
 
-module _ (given : Given) (tape : List Operation) (scope : Scope) (first : ℕ) (entries : List Entry) (old new : Members) (carried : ℕ → Bool) (reshaping : Bool)
+module _ (given : Given) (tape : List Operation) (scope : Scope) (first : ℕ) (entries : List Entry) (old new : Members) (carried : ℕ → ℕ → Bool) (reshaping : Bool)
     (who : Who) (early : List Event) (IsTaken : ℕ → Type 0) (event : Event) (ops : List Operation) (are : AreFirst early IsTaken)
     (goes : IsCallGoing entries who) (caller : IsFalse (who.caller == 254)) (adding : IsAdding event) (few : role_count new.newest ≤ 16)
     (missing : AreLostOrMissing old new IsTaken)
@@ -80,9 +80,9 @@ module _ (given : Given) (tape : List Operation) (scope : Scope) (first : ℕ) (
     (gone : IsReliable (world_in given tape scope first) entries → AreToldGone (world_in given tape scope first) entries old)
     (unclean : is_clean old.newest ≡ false → (is_unsynced (world_in given tape scope first) entries || is_unsettled entries) ≡ true)
     (recorded : IsHistoryKept (IsReliable (world_in given tape scope first) entries) (world_in given tape scope first) (list_length old.newest) entries)
-    (safe : IsFilledRight (world_in given tape scope first) entries → HasRoomForEvents (world_in given tape scope first) → OpensAlike (world_in given tape scope first)
+    (safe : IsFilledRight (world_in given tape scope first) entries → HasRoomForEvents (world_in given tape scope first)
     → IsSafeHistory ⊤ (world_in given tape scope first) given old carried reshaping entries)
-    (now_safe : IsFilledRight (world_in given tape scope first) entries → HasRoomForEvents (world_in given tape scope first) → OpensAlike (world_in given tape scope first)
+    (now_safe : IsFilledRight (world_in given tape scope first) entries → HasRoomForEvents (world_in given tape scope first)
     → IsSafeOver (world_in given tape scope first) given (told_now (world_in given tape scope first) carried reshaping entries) old tape)
     (call : ChangesEarly given tape scope first entries old new carried reshaping who early event (tape ++ ops) (length (tape ++ ops))) where
   abbrev world : World
@@ -116,7 +116,7 @@ module _ (given : Given) (tape : List Operation) (scope : Scope) (first : ℕ) (
 
   told-first : IsMoreTold (told_now world carried reshaping entries) told
   told-first = subst (λ (l : Ledger). IsMoreTold l told) (now-grown world ops begun carried reshaping entries recorded.ends)
-      (told-adding later carried carried reshaping reshaping entries added adds-all (λ number is. is) (λ is. is))
+      (told-adding later carried carried reshaping reshaping entries added adds-all (λ slot number is. is) (λ is. is))
 
   told-last : IsMoreTold told (told_now later carried reshaping all)
   told-last = told-added later carried reshaping entries added adds-all behind.gives_all
@@ -156,15 +156,15 @@ module _ (given : Given) (tape : List Operation) (scope : Scope) (first : ℕ) (
 
   -- ---- each mark
 
-  module _ (fills : IsFilledRight later all) (room : HasRoomForEvents later) (alike : OpensAlike later) where
+  module _ (fills : IsFilledRight later all) (room : HasRoomForEvents later) where
     abbrev was : IsSafeHistory ⊤ (world_in given tape scope first) given old carried reshaping entries
-    was = safe (behind.fills fills) (room-before world ops begun room) (alike-before world ops begun alike)
+    was = safe (behind.fills fills) (room-before world ops begun room)
 
     stretch : KeepsSafe world given told new tape (tape ++ ops)
-    stretch = call.keeps told (record { fills = fills; room = room; alike = alike }) (behind.gone_all (record { fills = fills; room = room; alike = alike })) (behind.fills fills) told-first allowed (room-now world ops begun old was.counted room)
-        (λ role lt miss. behind.counts_all (record { fills = fills; room = room; alike = alike }) role lt miss)
+    stretch = call.keeps told (record { fills = fills; room = room }) (behind.gone_all (record { fills = fills; room = room })) (behind.fills fills) told-first allowed (room-now world ops begun old was.counted room)
+        (λ role lt miss. behind.counts_all (record { fills = fills; room = room }) role lt miss)
         (λ dirty. told-first.unclean (unclean dirty)) told-unsettled
-        (now-more (OpensFit world) scope given (told_now world carried reshaping entries) told old (disk given.start tape) told-first (now_safe (behind.fills fills) (room-before world ops begun room) (alike-before world ops begun alike)))
+        (now-more (OpensFit world) scope given (told_now world carried reshaping entries) told old (disk given.start tape) told-first (now_safe (behind.fills fills) (room-before world ops begun room)))
 
     last : IsSafeOver world given (told_now later carried reshaping all) new (tape ++ ops)
     last = now-more (OpensFit world) scope given told (told_now later carried reshaping all) new (disk given.start (tape ++ ops)) told-last stretch.next
@@ -180,7 +180,7 @@ module _ (given : Given) (tape : List Operation) (scope : Scope) (first : ℕ) (
         (safe-called ⊤ given tape scope first entries old new carried carried reshaping reshaping who (early ++ event ∷ []) [] told ops (tape ++ ops) end refl refl sizes_are begun recorded.ends was
         (subst (λ (l : List Event). IsFilledRight later (all_of l)) (sym no-more) fills) call.rise
         (λ claimed opened mark low high. throughout-kept world given told new ops refl begun stretch (was.sound tt) opened mark (omega (arith, begun, low)) high)
-        (record { size = refl; values = λ x lt v may. may; gone = λ role is. is; unclean = λ is. is; reshaping = λ is. refl; carried = λ number is. refl }) stretch
+        (record { size = refl; values = λ x lt v may. may; gone = λ role is. is; unclean = λ is. is; reshaping = λ is. refl; carried = λ slot number is. refl }) stretch
         (subst (λ (l : List Event). IsSafeOver world given (told_now later carried reshaping (all_of l)) new (tape ++ ops)) (sym no-more) last))
 
   pub changing-leaves : IsLeftBehind given tape scope first entries all new carried reshaping (tape ++ ops)
@@ -201,7 +201,7 @@ module _ (given : Given) (tape : List Operation) (scope : Scope) (first : ℕ) (
 -- ---- with losses before it
 
 -- What is asked of a call, from this tape to that one with its end there.
-pub record ChangesList (given : Given) (tape : List Operation) (scope : Scope) (first : ℕ) (entries : List Entry) (old new : Members) (carried : ℕ → Bool) (reshaping : Bool)
+pub record ChangesList (given : Given) (tape : List Operation) (scope : Scope) (first : ℕ) (entries : List Entry) (old new : Members) (carried : ℕ → ℕ → Bool) (reshaping : Bool)
     (who : Who) (roles spares : ℕ) (event : Event) (tape' : List Operation) (end : ℕ) : Type 0 where
   pub within : IsWithin (list_length old.newest) event
   pub rise : IsRisen ⊤ old new tape tape'
@@ -228,7 +228,7 @@ unsettled-last who end early event is =
     last-true false true e = refl
     last-true false false e = absurd (cc)
 
-module _ (given : Given) (tape : List Operation) (scope : Scope) (first : ℕ) (entries : List Entry) (old new : Members) (carried : ℕ → Bool) (reshaping : Bool)
+module _ (given : Given) (tape : List Operation) (scope : Scope) (first : ℕ) (entries : List Entry) (old new : Members) (carried : ℕ → ℕ → Bool) (reshaping : Bool)
     (who : Who) (roles spares : ℕ) (event : Event) (ops : List Operation)
     (goes : IsCallGoing entries who) (caller : IsFalse (who.caller == 254)) (adding : IsAdding event) (few : role_count new.newest ≤ 16)
     (missing : AreLostOrMissing old new (IsAmong roles))
@@ -236,9 +236,9 @@ module _ (given : Given) (tape : List Operation) (scope : Scope) (first : ℕ) (
     (gone : IsReliable (world_in given tape scope first) entries → AreToldGone (world_in given tape scope first) entries old)
     (unclean : is_clean old.newest ≡ false → (is_unsynced (world_in given tape scope first) entries || is_unsettled entries) ≡ true)
     (recorded : IsHistoryKept (IsReliable (world_in given tape scope first) entries) (world_in given tape scope first) (list_length old.newest) entries)
-    (safe : IsFilledRight (world_in given tape scope first) entries → HasRoomForEvents (world_in given tape scope first) → OpensAlike (world_in given tape scope first)
+    (safe : IsFilledRight (world_in given tape scope first) entries → HasRoomForEvents (world_in given tape scope first)
     → IsSafeHistory ⊤ (world_in given tape scope first) given old carried reshaping entries)
-    (now_safe : IsFilledRight (world_in given tape scope first) entries → HasRoomForEvents (world_in given tape scope first) → OpensAlike (world_in given tape scope first)
+    (now_safe : IsFilledRight (world_in given tape scope first) entries → HasRoomForEvents (world_in given tape scope first)
     → IsSafeOver (world_in given tape scope first) given (told_now (world_in given tape scope first) carried reshaping entries) old tape)
     (call : ChangesList given tape scope first entries old new carried reshaping who roles spares event (tape ++ ops) (length (tape ++ ops))) where
   abbrev events : List Event

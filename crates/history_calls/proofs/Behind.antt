@@ -27,7 +27,7 @@ use Rattle.call_entries.proofs.CallLaws.{AreLossEvents, losses-are, told-losses,
 use Rattle.call_entries.proofs.StepLaws.{faults-are}
 use Rattle.kept_history.specs.Recorded.{IsHistoryKept, IsLegalCall, entry_of, ends_reshape, gives_some}
 use Rattle.kept_history.specs.Safe.{world_in, is_taken_over, IsFilledRight}
-use Rattle.kept_history.proofs.Growing.{reading-grown, opening-grown, fit-grown, course-before, gone-grown, takes-grown, alike-before, room-before}
+use Rattle.kept_history.proofs.Growing.{reading-grown, opening-grown, fit-grown, course-before, gone-grown, takes-grown, room-before}
 use Rattle.kept_history.proofs.Tests.{none-before}
 use Rattle.kept_history.proofs.Ledgers.{any-gone}
 use Rattle.kept_history.proofs.Longer.{regains-none}
@@ -218,7 +218,7 @@ module _ (given : Given) (tape : List Operation) (scope : Scope) (first : ℕ) (
   fills-before (inr fit) = inr (subst (λ (p : Type 0). p) (fit-grown world ops recorded.begun) fit)
 
   right-before : IsReliable later (entries ++ added) → IsReliable world entries
-  right-before right = record { fills = fills-before right.fills; room = room-before world ops recorded.begun right.room; alike = alike-before world ops recorded.begun right.alike }
+  right-before right = record { fills = fills-before right.fills; room = room-before world ops recorded.begun right.room }
 
   gone-counts : IsReliable world entries → (ys : List Entry) → ((role : ℕ) → role < 16 → IsTaken role → is_lost ys role ≡ true) → (role : ℕ) → role < role_count new.newest → is_missing (reading_of new) role ≡ true
       → (is_gone_after later entries role || list_any (loses later role) ys) ≡ true

@@ -16,7 +16,7 @@ use Rattle.call_entries.specs.row_io_Rows.{reading_of, is_missing}
 use Rattle.call_entries.specs.flat_history_the_Entry.{Entry}
 use Rattle.call_entries.specs.flat_history_the_Event.{Event}
 use Rattle.call_entries.specs.flat_history_the_Event_TheVariants.{Rebuilt}
-use Rattle.call_entries.specs.flat_history_Epochs.{HasRoomForEvents, OpensAlike}
+use Rattle.call_entries.specs.flat_history_Epochs.{HasRoomForEvents}
 use Rattle.call_entries.specs.flat_history_Flat.{values_of, values_after}
 use Rattle.call_entries.specs.flat_history_Legal.{level_at, level_after}
 use Rattle.call_entries.specs.flat_history_Losses.{loses, is_gone_after, is_unsynced}
@@ -33,7 +33,7 @@ use Rattle.call_entries.proofs.LosingLaws.{entries-both}
 use Rattle.kept_history.specs.Recorded.{IsHistoryKept, IsLegalCall, IsCallGoing, IsOpenBehind, entry_of, gives_some}
 use Rattle.kept_history.specs.Safe.{world_in, is_taken_over, IsFilledRight, IsSafeHistory}
 use Rattle.kept_history.specs.Told.{told_now, told_by}
-use Rattle.kept_history.proofs.Growing.{now-grown, alike-before, room-before, room-now}
+use Rattle.kept_history.proofs.Growing.{now-grown, room-before, room-now}
 use Rattle.kept_history.proofs.Seen.{now-more}
 use Rattle.kept_history.proofs.Calls.{safe-called}
 use Rattle.kept_history.proofs.KeptCalls.{kept-call}
@@ -59,7 +59,7 @@ telling-then {early = early} event are adding giving level = record {
 
 -- What is asked of a call, from this tape to that one with its end there, that enters these events and gives this role back: up to its end its marks are judged
 -- with the role gone, and what a stop leaves there without, too.
-pub record GivesRole (given : Given) (tape : List Operation) (scope : Scope) (first : ℕ) (entries : List Entry) (old new : Members) (carried : ℕ → Bool) (reshaping : Bool)
+pub record GivesRole (given : Given) (tape : List Operation) (scope : Scope) (first : ℕ) (entries : List Entry) (old new : Members) (carried : ℕ → ℕ → Bool) (reshaping : Bool)
     (who : Who) (early : List Event) (role : ℕ) (tape' : List Operation) (end : ℕ) : Type 0 where
   pub within : AreWithin (list_length old.newest) (early ++ Rebuilt role ∷ [])
   pub rise : IsRisen ⊤ old new tape tape'
@@ -73,7 +73,7 @@ pub record GivesRole (given : Given) (tape : List Operation) (scope : Scope) (fi
       → IsLegalCall (world_in given tape' scope first) entries who end (early ++ Rebuilt role ∷ [])
   pub reshaped : EndsRight given tape' scope first entries new carried reshaping who end (early ++ Rebuilt role ∷ [])
 
-module _ (given : Given) (tape : List Operation) (scope : Scope) (first : ℕ) (entries : List Entry) (old new : Members) (carried : ℕ → Bool) (reshaping : Bool)
+module _ (given : Given) (tape : List Operation) (scope : Scope) (first : ℕ) (entries : List Entry) (old new : Members) (carried : ℕ → ℕ → Bool) (reshaping : Bool)
     (who : Who) (early : List Event) (IsTaken : ℕ → Type 0) (role : ℕ) (ops : List Operation) (are : AreTelling early IsTaken)
     (goes : IsCallGoing entries who) (caller : IsFalse (who.caller == 254)) (few : role_count new.newest ≤ 16)
     (open_behind : IsReliable (world_in given (tape ++ ops) scope first) (entries ++ entries_of who (length (tape ++ ops)) (early ++ Rebuilt role ∷ [])) → IsOpenBehind (world_in given (tape ++ ops) scope first) goes.call)
@@ -82,9 +82,9 @@ module _ (given : Given) (tape : List Operation) (scope : Scope) (first : ℕ) (
     (gone : IsReliable (world_in given tape scope first) entries → AreToldGone (world_in given tape scope first) entries old)
     (unclean : is_clean old.newest ≡ false → (is_unsynced (world_in given tape scope first) entries || is_unsettled entries) ≡ true)
     (recorded : IsHistoryKept (IsReliable (world_in given tape scope first) entries) (world_in given tape scope first) (list_length old.newest) entries)
-    (safe : IsFilledRight (world_in given tape scope first) entries → HasRoomForEvents (world_in given tape scope first) → OpensAlike (world_in given tape scope first)
+    (safe : IsFilledRight (world_in given tape scope first) entries → HasRoomForEvents (world_in given tape scope first)
     → IsSafeHistory ⊤ (world_in given tape scope first) given old carried reshaping entries)
-    (now_safe : IsFilledRight (world_in given tape scope first) entries → HasRoomForEvents (world_in given tape scope first) → OpensAlike (world_in given tape scope first)
+    (now_safe : IsFilledRight (world_in given tape scope first) entries → HasRoomForEvents (world_in given tape scope first)
     → IsSafeOver (world_in given tape scope first) given (told_now (world_in given tape scope first) carried reshaping entries) old tape)
     (call : GivesRole given tape scope first entries old new carried reshaping who early role (tape ++ ops) (length (tape ++ ops))) where
   abbrev world : World
@@ -135,7 +135,7 @@ module _ (given : Given) (tape : List Operation) (scope : Scope) (first : ℕ) (
   fills-early (inr fit) = inr fit
 
   right-early : IsReliable later all → IsReliable (world_in given (tape ++ ops) scope first) (entries ++ entries_of who (length (tape ++ ops)) (early ++ []))
-  right-early right = record { fills = fills-early right.fills; room = right.room; alike = right.alike }
+  right-early right = record { fills = fills-early right.fills; room = right.room }
 
   fills-before : IsFilledRight later all → IsFilledRight (world_in given tape scope first) entries
   fills-before = filled-before world ops entries added begun recorded.ends
@@ -156,7 +156,7 @@ module _ (given : Given) (tape : List Operation) (scope : Scope) (first : ℕ) (
 
   told-first : IsMoreTold (told_now world carried reshaping entries) told
   told-first = subst (λ (l : Ledger). IsMoreTold l told) (now-grown world ops begun carried reshaping entries recorded.ends)
-      (told-adding later carried carried reshaping reshaping entries more behind.adds_more (λ number is. is) (λ is. is))
+      (told-adding later carried carried reshaping reshaping entries more behind.adds_more (λ slot number is. is) (λ is. is))
 
   told-last : IsMoreTold (given_back role told) (told_now later carried reshaping all)
   told-last = subst (λ (l : List Entry). IsMoreTold (given_back role told) (told_now later carried reshaping l)) (sym both)
@@ -191,15 +191,15 @@ module _ (given : Given) (tape : List Operation) (scope : Scope) (first : ℕ) (
 
   -- ---- each mark
 
-  module _ (fills : IsFilledRight later all) (room : HasRoomForEvents later) (alike : OpensAlike later) where
+  module _ (fills : IsFilledRight later all) (room : HasRoomForEvents later) where
     abbrev right : IsReliable later all
-    right = record { fills = fills; room = room; alike = alike }
+    right = record { fills = fills; room = room }
 
     abbrev was : IsSafeHistory ⊤ (world_in given tape scope first) given old carried reshaping entries
-    was = safe (fills-before fills) (room-before world ops begun room) (alike-before world ops begun alike)
+    was = safe (fills-before fills) (room-before world ops begun room)
 
     before : IsSafeOver (world_in given tape scope first) given told old tape
-    before = now-more (OpensFit world) scope given (told_now world carried reshaping entries) told old (disk given.start tape) told-first (now_safe (fills-before fills) (room-before world ops begun room) (alike-before world ops begun alike))
+    before = now-more (OpensFit world) scope given (told_now world carried reshaping entries) told old (disk given.start tape) told-first (now_safe (fills-before fills) (room-before world ops begun room))
 
     stretch : KeepsSafe (world_in given tape scope first) given told new tape (tape ++ ops)
     stretch = call.keeps told (right-before right) told-first (room-now world ops begun old was.counted room)
@@ -212,7 +212,7 @@ module _ (given : Given) (tape : List Operation) (scope : Scope) (first : ℕ) (
 
     safe-all : IsSafeHistory ⊤ later given new carried reshaping all
     safe-all = safe-called ⊤ given tape scope first entries old new carried carried reshaping reshaping who early (Rebuilt role ∷ []) told ops (tape ++ ops) end refl refl sizes_are begun recorded.ends was
-        fills call.rise (λ claimed opened mark low high. throughout-kept world given told new ops refl begun stretch (was.sound tt) opened mark (omega (arith, begun, low)) high) (record { size = refl; values = λ x lt v may. may; gone = λ role is. is; unclean = λ is. is; reshaping = λ is. refl; carried = λ number is. refl }) stretch last
+        fills call.rise (λ claimed opened mark low high. throughout-kept world given told new ops refl begun stretch (was.sound tt) opened mark (omega (arith, begun, low)) high) (record { size = refl; values = λ x lt v may. may; gone = λ role is. is; unclean = λ is. is; reshaping = λ is. refl; carried = λ slot number is. refl }) stretch last
 
   -- ---- the history
 
@@ -220,7 +220,7 @@ module _ (given : Given) (tape : List Operation) (scope : Scope) (first : ℕ) (
   recorded-all = kept-call (IsReliable world entries) (IsReliable later all) world ops (list_length old.newest) (list_length new.newest) entries who (early ++ Rebuilt role ∷ []) goes recorded right-before caller
       (λ right. inl (open_behind right)) (length-adding (length (opening_list world)) entries added adds-all ∙ recorded.sized ∙ sym sized)
       (last_end-behind first entries who end early (Rebuilt role)) (λ right. call.legal right (right-before right))
-      (λ right fit. call.reshaped right (gone-all right) (safe-all right.fills right.room right.alike) fit)
+      (λ right fit. call.reshaped right (gone-all right) (safe-all right.fills right.room) fit)
 
   level-all : level_at later all ≡ level_at world entries
   level-all = ap (λ (l : List Entry). level_at later l) whole

@@ -27,6 +27,7 @@ pub use Rattle.kept_history.proofs.Seen as kept_history_Seen
 pub use Rattle.kept_history.proofs.Tests as kept_history_Tests
 pub use Rattle.kept_history.proofs.Idle as kept_history_Idle
 pub use Rattle.kept_history.proofs.Opened as kept_history_Opened
+pub use Rattle.kept_history.proofs.Anew as kept_history_Anew
 pub use Rattle.kept_history.proofs.Marks as kept_history_Marks
 pub use Rattle.call_entries.proofs.history_laws_OneShapeGrowing
 pub use Rattle.call_entries.proofs.history_laws_NumberLaws

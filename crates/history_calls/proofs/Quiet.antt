@@ -11,7 +11,7 @@ use Rattle.call_entries.specs.superblocks_the_Members.{Members}
 use Rattle.call_entries.specs.superblocks_Reading.{Scope, is_clean, list_length, role_count}
 use Rattle.call_entries.specs.flat_history_the_Entry.{Entry}
 use Rattle.call_entries.specs.flat_history_the_Event.{Event}
-use Rattle.call_entries.specs.flat_history_Epochs.{HasRoomForEvents, OpensAlike}
+use Rattle.call_entries.specs.flat_history_Epochs.{HasRoomForEvents}
 use Rattle.call_entries.specs.flat_history_Flat.{now, values_of, values_after}
 use Rattle.call_entries.specs.flat_history_Legal.{is_loss, level_at, level_after, IsLegalEvent}
 use Rattle.call_entries.specs.flat_history_Transfers.{last_end_from}
@@ -31,7 +31,7 @@ use Rattle.call_entries.proofs.shape_changes_Steady.{views-told}
 use Rattle.kept_history.specs.Recorded.{IsHistoryKept, IsLegalCall, IsCallGoing, entry_of, ends_reshape, gives_some, IsReshapedCall}
 use Rattle.kept_history.specs.Safe.{world_in, is_taken_over, IsFilledRight, IsSafeHistory}
 use Rattle.kept_history.specs.Told.{told_now, told_by}
-use Rattle.kept_history.proofs.Growing.{fit-grown, now-grown, alike-before, room-before, room-now}
+use Rattle.kept_history.proofs.Growing.{fit-grown, now-grown, room-before, room-now}
 use Rattle.kept_history.proofs.Ledgers.{more-then}
 use Rattle.kept_history.proofs.Seen.{now-more}
 use Rattle.kept_history.proofs.Calls.{safe-called}
@@ -83,11 +83,11 @@ stretch-more sound scope given told more m before after is stretch = record {
 
 -- What is asked of a call, from this tape to that one with its end there, that enters these events before its last ones. It may make more device numbers known: its
 -- marks are judged with them, from what was told without.
-pub record LeavesNumbers (given : Given) (tape : List Operation) (scope : Scope) (first : ℕ) (entries : List Entry) (old new : Members) (carried carried' : ℕ → Bool) (reshaping : Bool)
+pub record LeavesNumbers (given : Given) (tape : List Operation) (scope : Scope) (first : ℕ) (entries : List Entry) (old new : Members) (carried carried' : ℕ → ℕ → Bool) (reshaping : Bool)
     (who : Who) (early tail : List Event) (tape' : List Operation) (end : ℕ) : Type 0 where
   pub rise : IsRisen ⊤ old new tape tape'
   pub keeps : (was told : Ledger) → IsReliable (world_in given tape scope first) entries → IsMoreTold (told_now (world_in given tape scope first) carried reshaping entries) was → IsMoreTold was told
-      → ((number : ℕ) → was.carried number ≡ carried number) → ((number : ℕ) → told.carried number ≡ carried' number)
+      → ((slot number : ℕ) → was.carried slot number ≡ carried slot number) → ((slot number : ℕ) → told.carried slot number ≡ carried' slot number)
       → HasRoomLeft old tape tape' → AreGoneTold was new → IsUncleanTold was old
       → IsSafeOver (world_in given tape scope first) given was old tape → KeepsSafe (world_in given tape scope first) given told new tape tape'
   pub legal : IsReliable (world_in given tape' scope first) (entries ++ entries_of who end (early ++ tail)) → IsReliable (world_in given tape scope first) entries
@@ -96,7 +96,7 @@ pub record LeavesNumbers (given : Given) (tape : List Operation) (scope : Scope)
       → IsLegalCall (world_in given tape' scope first) entries who end (early ++ tail)
 
 -- What the call ends, it ends right, by what it leaves: as far as the history can be relied on, what is missing is told by it, and each mark is safe; and if the opening was sound.
-abbrev pub EndsRight : Given → List Operation → Scope → ℕ → List Entry → Members → (ℕ → Bool) → Bool → Who → ℕ → List Event → Type 0
+abbrev pub EndsRight : Given → List Operation → Scope → ℕ → List Entry → Members → (ℕ → ℕ → Bool) → Bool → Who → ℕ → List Event → Type 0
 EndsRight given tape' scope first entries new carried reshaping who end events =
     IsReliable (world_in given tape' scope first) (entries ++ entries_of who end events)
     → AreToldGone (world_in given tape' scope first) (entries ++ entries_of who end events) new
@@ -104,7 +104,7 @@ EndsRight given tape' scope first entries new carried reshaping who end events =
     → OpensFit (world_in given tape' scope first) → IsReshapedCall (world_in given tape' scope first) entries who end events
 
 -- What it leaves, of what is kept over a bank that tells its contents.
-pub record IsLeftBehind (given : Given) (tape : List Operation) (scope : Scope) (first : ℕ) (entries all : List Entry) (new : Members) (carried : ℕ → Bool) (reshaping : Bool) (tape' : List Operation) : Type 0 where
+pub record IsLeftBehind (given : Given) (tape : List Operation) (scope : Scope) (first : ℕ) (entries all : List Entry) (new : Members) (carried : ℕ → ℕ → Bool) (reshaping : Bool) (tape' : List Operation) : Type 0 where
   pub right : IsReliable (world_in given tape' scope first) all → IsReliable (world_in given tape scope first) entries
   pub levelled : level_at (world_in given tape' scope first) all ≡ level_at (world_in given tape scope first) entries
   pub gone : IsReliable (world_in given tape' scope first) all → AreToldGone (world_in given tape' scope first) all new
@@ -115,17 +115,17 @@ pub record IsLeftBehind (given : Given) (tape : List Operation) (scope : Scope) 
   pub grown : (ops : List Operation) × (tape' ≡ tape ++ ops)
   pub fills : IsFilledRight (world_in given tape' scope first) all → IsFilledRight (world_in given tape scope first) entries
   pub past : (size : ℕ) → list_length new.newest ≤ size → IsNonePast (world_in given tape scope first) entries size → IsNonePast (world_in given tape' scope first) all size
-  pub safe : IsFilledRight (world_in given tape' scope first) all → HasRoomForEvents (world_in given tape' scope first) → OpensAlike (world_in given tape' scope first)
+  pub safe : IsFilledRight (world_in given tape' scope first) all → HasRoomForEvents (world_in given tape' scope first)
       → IsSafeHistory ⊤ (world_in given tape' scope first) given new carried reshaping all
 
 -- what the opening found is what it was
-pub fit-later : {given : Given} {tape tape' : List Operation} {scope : Scope} {first : ℕ} {entries all : List Entry} {new : Members} {carried : ℕ → Bool} {reshaping : Bool}
+pub fit-later : {given : Given} {tape tape' : List Operation} {scope : Scope} {first : ℕ} {entries all : List Entry} {new : Members} {carried : ℕ → ℕ → Bool} {reshaping : Bool}
     → IsLeftBehind given tape scope first entries all new carried reshaping tape' → OpensFit (world_in given tape' scope first) ≡ OpensFit (world_in given tape scope first)
 fit-later {given = given} {tape = tape} {scope = scope} {first = first} left =
     ap (λ (l : List Operation). OpensFit (world_in given l scope first)) left.grown.1 ∙ fit-grown (world_in given tape scope first) left.grown.0 left.begun
 
 -- its last step ended with the tape, if its last event is no loss
-pub last-left : (given : Given) (tape tape' : List Operation) (scope : Scope) (first : ℕ) (entries : List Entry) (size : ℕ) (new : Members) (carried : ℕ → Bool) (reshaping : Bool)
+pub last-left : (given : Given) (tape tape' : List Operation) (scope : Scope) (first : ℕ) (entries : List Entry) (size : ℕ) (new : Members) (carried : ℕ → ℕ → Bool) (reshaping : Bool)
     (who : Who) (end : ℕ) (early : List Event) (event : Event) → IsLeftBehind given tape scope first entries (entries ++ entries_of who end (early ++ event ∷ [])) new carried reshaping tape'
     → end ≡ length tape' → is_loss event ≡ false → list_length new.newest ≡ size → IsNonePast (world_in given tape scope first) entries size
     → HasLastStep (world_in given tape' scope first) (entries ++ entries_of who end (early ++ event ∷ [])) (list_length new.newest)
@@ -134,8 +134,8 @@ last-left given tape tape' scope first entries size new carried reshaping who en
   past = left.past (list_length new.newest) (omega arith) (subst (λ (n : ℕ). IsNonePast (world_in given tape scope first) entries n) (sym sized) none);
 }
 
-module _ (given : Given) (tape : List Operation) (scope : Scope) (first : ℕ) (entries : List Entry) (old new : Members) (carried carried' : ℕ → Bool) (reshaping : Bool)
-    (who : Who) (early : List Event) (IsTaken : ℕ → Type 0) (tail : List Event) (ops : List Operation) (are : AreEarly early IsTaken) (carries : (number : ℕ) → carried number ≡ true → carried' number ≡ true)
+module _ (given : Given) (tape : List Operation) (scope : Scope) (first : ℕ) (entries : List Entry) (old new : Members) (carried carried' : ℕ → ℕ → Bool) (reshaping : Bool)
+    (who : Who) (early : List Event) (IsTaken : ℕ → Type 0) (tail : List Event) (ops : List Operation) (are : AreEarly early IsTaken) (carries : (slot number : ℕ) → carried slot number ≡ true → carried' slot number ≡ true)
     (goes : IsCallGoing entries who) (caller : IsFalse (who.caller == 254)) (quiet : AreQuietLast who (length (tape ++ ops)) tail)
     (ended : last_end_from first (entries ++ entries_of who (length (tape ++ ops)) (early ++ tail)) ≡ length (tape ++ ops))
     (reshaped : EndsRight given (tape ++ ops) scope first entries new carried' reshaping who (length (tape ++ ops)) (early ++ tail)) (few : role_count new.newest ≤ 16)
@@ -189,14 +189,14 @@ module _ (given : Given) (tape : List Operation) (scope : Scope) (first : ℕ) (
 
   told-first : IsMoreTold (told_now world carried reshaping entries) before
   told-first = subst (λ (l : Ledger). IsMoreTold l before) (now-grown world ops begun carried reshaping entries recorded.ends)
-      (told-adding later carried carried reshaping reshaping entries more behind.adds_more (λ number is. is) (λ is. is))
+      (told-adding later carried carried reshaping reshaping entries more behind.adds_more (λ slot number is. is) (λ is. is))
 
   told-last : IsMoreTold told (told_now later carried' reshaping all)
   told-last = subst (λ (l : List Entry). IsMoreTold told (told_now later carried' reshaping l)) (append_assoc entries more (entries_of who end tail) ∙ ap (λ (l : List Entry). entries ++ l) (sym (entries-both who end early tail)))
       (more-then told (told_now later carried' reshaping (entries ++ more)) (told_now later carried' reshaping ((entries ++ more) ++ entries_of who end tail))
       (told-added later carried' reshaping entries more behind.adds_more behind.gives_more)
       (more-then (told_now later carried' reshaping (entries ++ more)) (told_by later carried' reshaping (entries ++ more) (entries_of who end tail)) (told_now later carried' reshaping ((entries ++ more) ++ entries_of who end tail))
-      (told-adding later carried' carried' reshaping reshaping (entries ++ more) (entries_of who end tail) quiet.adds (λ number is. is) (λ is. is))
+      (told-adding later carried' carried' reshaping reshaping (entries ++ more) (entries_of who end tail) quiet.adds (λ slot number is. is) (λ is. is))
       (told-added later carried' reshaping (entries ++ more) (entries_of who end tail) quiet.adds quiet.gives)))
 
   unclean-all : is_clean new.newest ≡ false → (is_unsynced later all || is_unsettled all) ≡ true
@@ -204,11 +204,11 @@ module _ (given : Given) (tape : List Operation) (scope : Scope) (first : ℕ) (
 
   -- ---- the history
 
-  recorded-all : (IsFilledRight later all → HasRoomForEvents later → OpensAlike later → IsSafeHistory ⊤ later given new carried' reshaping all) → IsHistoryKept (IsReliable later all) later (list_length new.newest) all
+  recorded-all : (IsFilledRight later all → HasRoomForEvents later → IsSafeHistory ⊤ later given new carried' reshaping all) → IsHistoryKept (IsReliable later all) later (list_length new.newest) all
   recorded-all safe = kept-call (IsReliable world entries) (IsReliable later all) world ops (list_length old.newest) (list_length new.newest) entries who (early ++ tail) goes recorded behind.right caller
       (λ fills. inr behind.gives_all) (length-adding (length (opening_list world)) entries added adds-all ∙ recorded.sized ∙ sym sized)
       ended (λ fills. legal fills (behind.right fills) (behind.gone_more fills) behind.level_more)
-      (λ right fit. reshaped right (behind.gone_all right) (safe right.fills right.room right.alike) fit)
+      (λ right fit. reshaped right (behind.gone_all right) (safe right.fills right.room) fit)
 
   -- past the list's end it tells no more than before
   past-all : (size : ℕ) → list_length new.newest ≤ size → IsNonePast world entries size → IsNonePast later all size
@@ -217,7 +217,7 @@ module _ (given : Given) (tape : List Operation) (scope : Scope) (first : ℕ) (
       ∙ are.values who end tail x (values_of (opening_list world) entries x) ∙ quiet.still x (values_of (opening_list world) entries x) ∙ none (behind.fills fills) x high
 
   -- what it leaves, if each mark is safe
-  pub left-behind : (IsFilledRight later all → HasRoomForEvents later → OpensAlike later → IsSafeHistory ⊤ later given new carried' reshaping all)
+  pub left-behind : (IsFilledRight later all → HasRoomForEvents later → IsSafeHistory ⊤ later given new carried' reshaping all)
       → IsLeftBehind given tape scope first entries all new carried' reshaping (tape ++ ops)
   left-behind safe = record {
     right = behind.right;
@@ -236,33 +236,33 @@ module _ (given : Given) (tape : List Operation) (scope : Scope) (first : ℕ) (
   -- ---- each mark
 
   module _ (sizes_are : scope.sizes ≡ sizes given)
-      (safe : IsFilledRight (world_in given tape scope first) entries → HasRoomForEvents (world_in given tape scope first) → OpensAlike (world_in given tape scope first)
+      (safe : IsFilledRight (world_in given tape scope first) entries → HasRoomForEvents (world_in given tape scope first)
       → IsSafeHistory ⊤ (world_in given tape scope first) given old carried reshaping entries)
-      (now_safe : IsFilledRight (world_in given tape scope first) entries → HasRoomForEvents (world_in given tape scope first) → OpensAlike (world_in given tape scope first)
+      (now_safe : IsFilledRight (world_in given tape scope first) entries → HasRoomForEvents (world_in given tape scope first)
       → IsSafeOver (world_in given tape scope first) given (told_now (world_in given tape scope first) carried reshaping entries) old tape)
       (call : LeavesNumbers given tape scope first entries old new carried carried' reshaping who early tail (tape ++ ops) (length (tape ++ ops))) where
-    module _ (fills : IsFilledRight later all) (room : HasRoomForEvents later) (alike : OpensAlike later) where
+    module _ (fills : IsFilledRight later all) (room : HasRoomForEvents later) where
       abbrev was : IsSafeHistory ⊤ (world_in given tape scope first) given old carried reshaping entries
-      was = safe (behind.fills fills) (room-before world ops begun room) (alike-before world ops begun alike)
+      was = safe (behind.fills fills) (room-before world ops begun room)
 
       stretch : KeepsSafe world given told new tape (tape ++ ops)
-      stretch = call.keeps before told (behind.right (record { fills = fills; room = room; alike = alike })) told-first told-more (λ number. refl) (λ number. refl) (room-now world ops begun old was.counted room)
-          (λ role lt miss. behind.counts_more (record { fills = fills; room = room; alike = alike }) role lt miss)
+      stretch = call.keeps before told (behind.right (record { fills = fills; room = room })) told-first told-more (λ slot number. refl) (λ slot number. refl) (room-now world ops begun old was.counted room)
+          (λ role lt miss. behind.counts_more (record { fills = fills; room = room }) role lt miss)
           (λ dirty. told-first.unclean (unclean dirty))
-          (now-more (OpensFit world) scope given (told_now world carried reshaping entries) before old (disk given.start tape) told-first (now_safe (behind.fills fills) (room-before world ops begun room) (alike-before world ops begun alike)))
+          (now-more (OpensFit world) scope given (told_now world carried reshaping entries) before old (disk given.start tape) told-first (now_safe (behind.fills fills) (room-before world ops begun room)))
 
       last : IsSafeOver world given (told_now later carried' reshaping all) new (tape ++ ops)
       last = now-more (OpensFit world) scope given told (told_now later carried' reshaping all) new (disk given.start (tape ++ ops)) told-last stretch.next
 
       safe-all : IsSafeHistory ⊤ later given new carried' reshaping all
       safe-all = safe-called ⊤ given tape scope first entries old new carried carried' reshaping reshaping who early tail told ops (tape ++ ops) end refl refl sizes_are begun recorded.ends was
-          fills call.rise (λ claimed opened mark low high. throughout-kept world given told new ops refl begun stretch (was.sound tt) opened mark (omega (arith, begun, low)) high) (record { size = refl; values = λ x lt v may. may; gone = λ role is. is; unclean = λ is. is; reshaping = λ is. refl; carried = λ number is. refl }) stretch last
+          fills call.rise (λ claimed opened mark low high. throughout-kept world given told new ops refl begun stretch (was.sound tt) opened mark (omega (arith, begun, low)) high) (record { size = refl; values = λ x lt v may. may; gone = λ role is. is; unclean = λ is. is; reshaping = λ is. refl; carried = λ slot number is. refl }) stretch last
 
     pub marks-leave : IsLeftBehind given tape scope first entries all new carried' reshaping (tape ++ ops)
     marks-leave = left-behind safe-all
 
-module _ (given : Given) (tape : List Operation) (scope : Scope) (first : ℕ) (entries : List Entry) (old new : Members) (carried carried' : ℕ → Bool) (reshaping : Bool)
-    (who : Who) (early : List Event) (IsTaken : ℕ → Type 0) (tail : List Event) (ops : List Operation) (are : AreEarly early IsTaken) (carries : (number : ℕ) → carried number ≡ true → carried' number ≡ true)
+module _ (given : Given) (tape : List Operation) (scope : Scope) (first : ℕ) (entries : List Entry) (old new : Members) (carried carried' : ℕ → ℕ → Bool) (reshaping : Bool)
+    (who : Who) (early : List Event) (IsTaken : ℕ → Type 0) (tail : List Event) (ops : List Operation) (are : AreEarly early IsTaken) (carries : (slot number : ℕ) → carried slot number ≡ true → carried' slot number ≡ true)
     (goes : IsCallGoing entries who) (caller : IsFalse (who.caller == 254)) (quiet : AreQuietLast who (length (tape ++ ops)) tail)
     (ended : last_end_from first (entries ++ entries_of who (length (tape ++ ops)) (early ++ tail)) ≡ length (tape ++ ops))
     (reshaped : EndsRight given (tape ++ ops) scope first entries new carried' reshaping who (length (tape ++ ops)) (early ++ tail)) (few : role_count new.newest ≤ 16)
@@ -271,9 +271,9 @@ module _ (given : Given) (tape : List Operation) (scope : Scope) (first : ℕ) (
     (gone : IsReliable (world_in given tape scope first) entries → AreToldGone (world_in given tape scope first) entries old)
     (unclean : is_clean old.newest ≡ false → (is_unsynced (world_in given tape scope first) entries || is_unsettled entries) ≡ true)
     (recorded : IsHistoryKept (IsReliable (world_in given tape scope first) entries) (world_in given tape scope first) (list_length old.newest) entries)
-    (safe : IsFilledRight (world_in given tape scope first) entries → HasRoomForEvents (world_in given tape scope first) → OpensAlike (world_in given tape scope first)
+    (safe : IsFilledRight (world_in given tape scope first) entries → HasRoomForEvents (world_in given tape scope first)
     → IsSafeHistory ⊤ (world_in given tape scope first) given old carried reshaping entries)
-    (now_safe : IsFilledRight (world_in given tape scope first) entries → HasRoomForEvents (world_in given tape scope first) → OpensAlike (world_in given tape scope first)
+    (now_safe : IsFilledRight (world_in given tape scope first) entries → HasRoomForEvents (world_in given tape scope first)
     → IsSafeOver (world_in given tape scope first) given (told_now (world_in given tape scope first) carried reshaping entries) old tape)
     (call : LeavesNumbers given tape scope first entries old new carried carried' reshaping who early tail (tape ++ ops) (length (tape ++ ops))) where
   pub numbers-leaves : IsLeftBehind given tape scope first entries (entries ++ entries_of who (length (tape ++ ops)) (early ++ tail)) new carried' reshaping (tape ++ ops)
@@ -283,18 +283,18 @@ module _ (given : Given) (tape : List Operation) (scope : Scope) (first : ℕ) (
 -- ---- one that makes no device call
 
 -- It enters one event, whether a live slot is left or not.
-pub resting-leaves : (given : Given) (tape : List Operation) (scope : Scope) (first : ℕ) (entries : List Entry) (m : Members) (carried : ℕ → Bool) (reshaping : Bool) (who : Who) (event : Event)
+pub resting-leaves : (given : Given) (tape : List Operation) (scope : Scope) (first : ℕ) (entries : List Entry) (m : Members) (carried : ℕ → ℕ → Bool) (reshaping : Bool) (who : Who) (event : Event)
     → IsCallGoing entries who → IsFalse (who.caller == 254) → IsQuiet event → role_count m.newest ≤ 16 → scope.sizes ≡ sizes given
     → (IsReliable (world_in given tape scope first) entries → AreToldGone (world_in given tape scope first) entries m)
     → (is_clean m.newest ≡ false → (is_unsynced (world_in given tape scope first) entries || is_unsettled entries) ≡ true)
     → IsHistoryKept (IsReliable (world_in given tape scope first) entries) (world_in given tape scope first) (list_length m.newest) entries
-    → (IsFilledRight (world_in given tape scope first) entries → HasRoomForEvents (world_in given tape scope first) → OpensAlike (world_in given tape scope first)
+    → (IsFilledRight (world_in given tape scope first) entries → HasRoomForEvents (world_in given tape scope first)
     → IsSafeHistory ⊤ (world_in given tape scope first) given m carried reshaping entries)
     → (IsReliable (world_in given tape scope first) entries → IsLegalEvent (world_in given tape scope first) entries (entry_of who (length tape) event) [] event)
     → IsLeftBehind given tape scope first entries (entries ++ entries_of who (length tape) (event ∷ [])) m carried reshaping tape
 resting-leaves given tape scope first entries m carried reshaping who event goes caller quiet few sizes_are gone unclean recorded safe legal =
     subst Here (append-nil tape)
-    (left-behind given tape scope first entries m m carried carried reshaping who [] (λ role. ⊥) (event ∷ []) [] early-none (λ number is. is) goes caller (quiet-last who (length (tape ++ [])) event quiet)
+    (left-behind given tape scope first entries m m carried carried reshaping who [] (λ role. ⊥) (event ∷ []) [] early-none (λ slot number is. is) goes caller (quiet-last who (length (tape ++ [])) event quiet)
     (last_end-behind first entries who (length (tape ++ [])) [] event)
     (λ right told safe fit. call-ends_none (world_in given (tape ++ []) scope first) entries who (length (tape ++ [])) (event ∷ []) (or-false (ends_reshape event) false quiet.ends refl)) few (λ role lt miss. inl (lt, miss)) refl refl gone unclean recorded
     (λ all right told level. (subst Legal (sym (append-nil tape)) legal right, tt, tt))
@@ -307,7 +307,7 @@ resting-leaves given tape scope first entries m carried reshaping who event goes
     Legal l = IsReliable (world_in given tape scope first) entries → IsLegalEvent (world_in given l scope first) entries (entry_of who (length l) event) [] event
 
     Safe : List Operation → Type 0
-    Safe l = IsFilledRight (world_in given l scope first) (entries ++ entries_of who (length l) (event ∷ [])) → HasRoomForEvents (world_in given l scope first) → OpensAlike (world_in given l scope first)
+    Safe l = IsFilledRight (world_in given l scope first) (entries ++ entries_of who (length l) (event ∷ [])) → HasRoomForEvents (world_in given l scope first)
         → IsSafeHistory ⊤ (world_in given l scope first) given m carried reshaping (entries ++ entries_of who (length l) (event ∷ []))
 
     -- what is filled in was right before it, too
@@ -320,13 +320,13 @@ resting-leaves given tape scope first entries m carried reshaping who event goes
     before (inr fit) = inr fit
 
     idle : Safe tape
-    idle fills room alike = idle-call ⊤ given tape scope first entries m carried reshaping who (event ∷ []) sizes_are recorded.begun recorded.ends fills (safe (before fills) room alike)
+    idle fills room = idle-call ⊤ given tape scope first entries m carried reshaping who (event ∷ []) sizes_are recorded.begun recorded.ends fills (safe (before fills) room)
         (and-true (adds_only event) true quiet.adds refl) (or-false (gives_some event) false quiet.gives refl)
 
 -- ---- one that makes no number known
 
 -- What is asked of a call, from this tape to that one with its end there, that enters these events before its last one.
-pub record LeavesList (given : Given) (tape : List Operation) (scope : Scope) (first : ℕ) (entries : List Entry) (old new : Members) (carried : ℕ → Bool) (reshaping : Bool)
+pub record LeavesList (given : Given) (tape : List Operation) (scope : Scope) (first : ℕ) (entries : List Entry) (old new : Members) (carried : ℕ → ℕ → Bool) (reshaping : Bool)
     (who : Who) (early : List Event) (event : Event) (tape' : List Operation) (end : ℕ) : Type 0 where
   pub rise : IsRisen ⊤ old new tape tape'
   pub keeps : (told : Ledger) → IsFilledRight (world_in given tape scope first) entries → IsMoreTold (told_now (world_in given tape scope first) carried reshaping entries) told
@@ -338,7 +338,7 @@ pub record LeavesList (given : Given) (tape : List Operation) (scope : Scope) (f
       → IsLegalCall (world_in given tape' scope first) entries who end (early ++ event ∷ [])
 
 -- marks that are safe by any ledger that tells enough are so with no more numbers
-pub numbers-kept : (given : Given) (tape : List Operation) (scope : Scope) (first : ℕ) (entries : List Entry) (old new : Members) (carried : ℕ → Bool) (reshaping : Bool)
+pub numbers-kept : (given : Given) (tape : List Operation) (scope : Scope) (first : ℕ) (entries : List Entry) (old new : Members) (carried : ℕ → ℕ → Bool) (reshaping : Bool)
     (who : Who) (early tail : List Event) (tape' : List Operation) (at : ℕ) → IsRisen ⊤ old new tape tape'
     → ((told : Ledger) → IsReliable (world_in given tape scope first) entries → IsMoreTold (told_now (world_in given tape scope first) carried reshaping entries) told
     → HasRoomLeft old tape tape' → AreGoneTold told new → IsUncleanTold told old
@@ -357,13 +357,13 @@ numbers-kept given tape scope first entries old new carried reshaping who early 
 }
 
 -- it is such a call
-pub numbers-of : (given : Given) (tape : List Operation) (scope : Scope) (first : ℕ) (entries : List Entry) (old new : Members) (carried : ℕ → Bool) (reshaping : Bool)
+pub numbers-of : (given : Given) (tape : List Operation) (scope : Scope) (first : ℕ) (entries : List Entry) (old new : Members) (carried : ℕ → ℕ → Bool) (reshaping : Bool)
     (who : Who) (early : List Event) (event : Event) (tape' : List Operation) (at : ℕ)
     → LeavesList given tape scope first entries old new carried reshaping who early event tape' at → LeavesNumbers given tape scope first entries old new carried carried reshaping who early (event ∷ []) tape' at
 numbers-of given tape scope first entries old new carried reshaping who early event tape' at call =
     numbers-kept given tape scope first entries old new carried reshaping who early (event ∷ []) tape' at call.rise (λ told right. call.keeps told right.fills) call.legal
 
-module _ (given : Given) (tape : List Operation) (scope : Scope) (first : ℕ) (entries : List Entry) (old new : Members) (carried : ℕ → Bool) (reshaping : Bool)
+module _ (given : Given) (tape : List Operation) (scope : Scope) (first : ℕ) (entries : List Entry) (old new : Members) (carried : ℕ → ℕ → Bool) (reshaping : Bool)
     (who : Who) (early : List Event) (IsTaken : ℕ → Type 0) (event : Event) (ops : List Operation) (are : AreEarly early IsTaken)
     (goes : IsCallGoing entries who) (caller : IsFalse (who.caller == 254)) (quiet : IsQuiet event) (few : role_count new.newest ≤ 16)
     (missing : AreLostOrMissing old new IsTaken)
@@ -371,13 +371,13 @@ module _ (given : Given) (tape : List Operation) (scope : Scope) (first : ℕ) (
     (gone : IsReliable (world_in given tape scope first) entries → AreToldGone (world_in given tape scope first) entries old)
     (unclean : is_clean old.newest ≡ false → (is_unsynced (world_in given tape scope first) entries || is_unsettled entries) ≡ true)
     (recorded : IsHistoryKept (IsReliable (world_in given tape scope first) entries) (world_in given tape scope first) (list_length old.newest) entries)
-    (safe : IsFilledRight (world_in given tape scope first) entries → HasRoomForEvents (world_in given tape scope first) → OpensAlike (world_in given tape scope first)
+    (safe : IsFilledRight (world_in given tape scope first) entries → HasRoomForEvents (world_in given tape scope first)
     → IsSafeHistory ⊤ (world_in given tape scope first) given old carried reshaping entries)
-    (now_safe : IsFilledRight (world_in given tape scope first) entries → HasRoomForEvents (world_in given tape scope first) → OpensAlike (world_in given tape scope first)
+    (now_safe : IsFilledRight (world_in given tape scope first) entries → HasRoomForEvents (world_in given tape scope first)
     → IsSafeOver (world_in given tape scope first) given (told_now (world_in given tape scope first) carried reshaping entries) old tape)
     (call : LeavesList given tape scope first entries old new carried reshaping who early event (tape ++ ops) (length (tape ++ ops))) where
   pub quiet-leaves : IsLeftBehind given tape scope first entries (entries ++ entries_of who (length (tape ++ ops)) (early ++ event ∷ [])) new carried reshaping (tape ++ ops)
-  quiet-leaves = numbers-leaves given tape scope first entries old new carried carried reshaping who early IsTaken (event ∷ []) ops are (λ number is. is) goes caller
+  quiet-leaves = numbers-leaves given tape scope first entries old new carried carried reshaping who early IsTaken (event ∷ []) ops are (λ slot number is. is) goes caller
       (quiet-last who (length (tape ++ ops)) event quiet) (last_end-behind first entries who (length (tape ++ ops)) early event)
       (λ right told safe fit. call-ends_none (world_in given (tape ++ ops) scope first) entries who (length (tape ++ ops)) (early ++ event ∷ []) (are.ends (event ∷ []) (or-false (ends_reshape event) false quiet.ends refl))) few missing sized clean sizes_are gone unclean recorded safe now_safe
       (numbers-of given tape scope first entries old new carried reshaping who early event (tape ++ ops) (length (tape ++ ops)) call)

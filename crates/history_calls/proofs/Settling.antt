@@ -14,7 +14,7 @@ use Rattle.call_entries.specs.flat_history_the_Entry.{Entry}
 use Rattle.call_entries.specs.flat_history_the_Event.{Event}
 use Rattle.call_entries.specs.flat_history_the_Event_TheVariants.{Lost, SpareLost}
 use Rattle.call_entries.specs.flat_history_the_LostCause_TheVariants.{Fault}
-use Rattle.call_entries.specs.flat_history_Epochs.{HasRoomForEvents, OpensAlike}
+use Rattle.call_entries.specs.flat_history_Epochs.{HasRoomForEvents}
 use Rattle.call_entries.specs.flat_history_Flat.{now, length_of, length_after, values_of, values_after}
 use Rattle.call_entries.specs.flat_history_Legal.{level_at, level_after, IsLegalEvent}
 use Rattle.call_entries.specs.flat_history_Losses.{was_dirty, is_unsynced, is_resync_end}
@@ -32,7 +32,7 @@ use Rattle.call_entries.proofs.LosingLaws.{entries-both}
 use Rattle.kept_history.specs.Recorded.{IsHistoryKept, IsLegalCall, IsReshapedCall, IsCallGoing, entry_of, ends_reshape, gives_some}
 use Rattle.kept_history.specs.Safe.{world_in, IsFilledRight, IsSafeHistory}
 use Rattle.kept_history.specs.Told.{told_now, told_by}
-use Rattle.kept_history.proofs.Growing.{unsynced-grown, now-grown, alike-before, room-before, room-now}
+use Rattle.kept_history.proofs.Growing.{unsynced-grown, now-grown, room-before, room-now}
 use Rattle.kept_history.proofs.Ledgers.{more-then}
 use Rattle.kept_history.proofs.Lists.{newest-in}
 use Rattle.kept_history.proofs.Seen.{now-more}
@@ -106,7 +106,7 @@ settled-alike unsynced list other told same = record {
   gone = λ role is. is;
   unclean = λ is. is;
   reshaping = λ is. is;
-  carried = λ number is. is;
+  carried = λ slot number is. is;
 }
 
 -- ---- the call
@@ -118,7 +118,7 @@ pub record IsSettledBy (world : World) (given : Given) (told : Ledger) (old new 
   pub safe : IsSafeOver world given (settled_ledger unsynced list told) new tape'
 
 -- What is asked of a call, from this tape to that one with its end there: by what is told while it runs each mark is safe, and its end by the list alone.
-pub record SettlesList (given : Given) (tape : List Operation) (scope : Scope) (first : ℕ) (entries : List Entry) (old new : Members) (carried : ℕ → Bool) (reshaping : Bool) (unsynced : Bool)
+pub record SettlesList (given : Given) (tape : List Operation) (scope : Scope) (first : ℕ) (entries : List Entry) (old new : Members) (carried : ℕ → ℕ → Bool) (reshaping : Bool) (unsynced : Bool)
     (who : Who) (roles spares : ℕ) (event : Event) (tape' : List Operation) (end : ℕ) : Type 0 where
   pub rise : IsRisen ⊤ old new tape tape'
   pub keeps : (told : Ledger) → IsFilledRight (world_in given tape scope first) entries → IsMoreTold (told_now (world_in given tape scope first) carried reshaping entries) told
@@ -134,7 +134,7 @@ pub record SettlesList (given : Given) (tape : List Operation) (scope : Scope) (
       → IsLegalEvent (world_in given tape' scope first) (entries ++ entries_of who end (losses_of roles spares)) (entry_of who end event) [] event
   pub reshaped : EndsRight given tape' scope first entries new carried reshaping who end (losses_of roles spares ++ event ∷ [])
 
-module _ (given : Given) (tape : List Operation) (scope : Scope) (first : ℕ) (entries : List Entry) (old new : Members) (carried : ℕ → Bool) (reshaping : Bool) (unsynced : Bool)
+module _ (given : Given) (tape : List Operation) (scope : Scope) (first : ℕ) (entries : List Entry) (old new : Members) (carried : ℕ → ℕ → Bool) (reshaping : Bool) (unsynced : Bool)
     (who : Who) (roles spares : ℕ) (event : Event) (ops : List Operation)
     (goes : IsCallGoing entries who) (caller : IsFalse (who.caller == 254)) (settling : IsSettlement event) (few : role_count new.newest ≤ 16)
     (missing : AreLostOrMissing old new (IsAmong roles))
@@ -143,9 +143,9 @@ module _ (given : Given) (tape : List Operation) (scope : Scope) (first : ℕ) (
     (gone : IsReliable (world_in given tape scope first) entries → AreToldGone (world_in given tape scope first) entries old)
     (unclean : is_clean old.newest ≡ false → (is_unsynced (world_in given tape scope first) entries || is_unsettled entries) ≡ true)
     (recorded : IsHistoryKept (IsReliable (world_in given tape scope first) entries) (world_in given tape scope first) (list_length old.newest) entries)
-    (safe : IsFilledRight (world_in given tape scope first) entries → HasRoomForEvents (world_in given tape scope first) → OpensAlike (world_in given tape scope first)
+    (safe : IsFilledRight (world_in given tape scope first) entries → HasRoomForEvents (world_in given tape scope first)
     → IsSafeHistory ⊤ (world_in given tape scope first) given old carried reshaping entries)
-    (now_safe : IsFilledRight (world_in given tape scope first) entries → HasRoomForEvents (world_in given tape scope first) → OpensAlike (world_in given tape scope first)
+    (now_safe : IsFilledRight (world_in given tape scope first) entries → HasRoomForEvents (world_in given tape scope first)
     → IsSafeOver (world_in given tape scope first) given (told_now (world_in given tape scope first) carried reshaping entries) old tape)
     (call : SettlesList given tape scope first entries old new carried reshaping unsynced who roles spares event (tape ++ ops) (length (tape ++ ops))) where
   abbrev world : World
@@ -188,7 +188,7 @@ module _ (given : Given) (tape : List Operation) (scope : Scope) (first : ℕ) (
 
   told-first : IsMoreTold (told_now world carried reshaping entries) told
   told-first = subst (λ (l : Ledger). IsMoreTold l told) (now-grown world ops begun carried reshaping entries recorded.ends)
-      (told-adding later carried carried reshaping reshaping entries more behind.adds_more (λ number is. is) (λ is. is))
+      (told-adding later carried carried reshaping reshaping entries more behind.adds_more (λ slot number is. is) (λ is. is))
 
   -- the list keeps its length
   length-opened : length_of (length (opening_list later)) entries ≡ list_length old.newest
@@ -259,33 +259,33 @@ module _ (given : Given) (tape : List Operation) (scope : Scope) (first : ℕ) (
       (newest-all x (let n = length-now in omega (arith, lt, n))))
       (subst (λ (l : List Entry). list_any (λ e. gives_some e.event) l ≡ false) both behind.gives_all)))
 
-  module _ (fills : IsFilledRight later all) (room : HasRoomForEvents later) (alike : OpensAlike later) where
+  module _ (fills : IsFilledRight later all) (room : HasRoomForEvents later) where
     abbrev was : IsSafeHistory ⊤ (world_in given tape scope first) given old carried reshaping entries
-    was = safe (behind.fills fills) (room-before world ops begun room) (alike-before world ops begun alike)
+    was = safe (behind.fills fills) (room-before world ops begun room)
 
     before : IsSafeOver world given told old tape
-    before = now-more (OpensFit world) scope given (told_now world carried reshaping entries) told old (disk given.start tape) told-first (now_safe (behind.fills fills) (room-before world ops begun room) (alike-before world ops begun alike))
+    before = now-more (OpensFit world) scope given (told_now world carried reshaping entries) told old (disk given.start tape) told-first (now_safe (behind.fills fills) (room-before world ops begun room))
 
     stretch : KeepsSafe world given told new tape (tape ++ ops)
     stretch = call.keeps told (behind.fills fills) told-first allowed (room-now world ops begun old was.counted room)
-        (λ role lt miss. behind.counts_more (record { fills = fills; room = room; alike = alike }) role lt miss) (λ dirty. told-first.unclean (unclean dirty)) before
+        (λ role lt miss. behind.counts_more (record { fills = fills; room = room }) role lt miss) (λ dirty. told-first.unclean (unclean dirty)) before
 
     last : IsSafeOver world given (told_now later carried reshaping all) new (tape ++ ops)
     last =
         let by = call.settled told (behind.fills fills) told-first allowed (room-now world ops begun old was.counted room)
-        (λ role lt miss. behind.counts_more (record { fills = fills; room = room; alike = alike }) role lt miss) (λ dirty. told-first.unclean (unclean dirty)) before in
+        (λ role lt miss. behind.counts_more (record { fills = fills; room = room }) role lt miss) (λ dirty. told-first.unclean (unclean dirty)) before in
         now-more (OpensFit world) scope given (settled_ledger unsynced by.list told) (told_now later carried reshaping all) new (disk given.start (tape ++ ops)) (told-last by.list by.is) by.safe
 
     safe-all : IsSafeHistory ⊤ later given new carried reshaping all
     safe-all = safe-called ⊤ given tape scope first entries old new carried carried reshaping reshaping who losses (event ∷ []) told ops (tape ++ ops) end refl refl sizes_are begun recorded.ends was
         fills call.rise (λ claimed opened mark low high. throughout-kept world given told new ops refl begun stretch (was.sound tt) opened mark (omega (arith, begun, low)) high)
-        (record { size = refl; values = λ x lt v may. may; gone = λ role is. is; unclean = λ is. is; reshaping = λ is. refl; carried = λ number is. refl }) stretch last
+        (record { size = refl; values = λ x lt v may. may; gone = λ role is. is; unclean = λ is. is; reshaping = λ is. refl; carried = λ slot number is. refl }) stretch last
 
   recorded-all : IsHistoryKept (IsReliable later all) later (list_length new.newest) all
   recorded-all = kept-call (IsReliable world entries) (IsReliable later all) world ops (list_length old.newest) (list_length new.newest) entries who (losses ++ event ∷ []) goes recorded behind.right caller
       (λ fills. inr behind.gives_all) (ap (λ (l : List Sector). length_of (length l) all) (sym behind.opened) ∙ length-all ∙ sym sized)
       (last_end-behind first entries who end losses event) legal-call
-      (λ right fit. call.reshaped right (behind.gone_all right) (safe-all right.fills right.room right.alike) fit)
+      (λ right fit. call.reshaped right (behind.gone_all right) (safe-all right.fills right.room) fit)
 
   pub settling-leaves : IsLeftBehind given tape scope first entries all new carried reshaping (tape ++ ops)
   settling-leaves = record {

@@ -4,18 +4,17 @@ use Rattle.call_entries.specs.superblocks_the_Members.{Members}
 use Rattle.call_entries.specs.superblocks_Reading.{role_count}
 use Rattle.call_entries.specs.row_io_Rows.{reading_of, is_missing}
 use Rattle.call_entries.specs.flat_history_the_Entry.{Entry}
-use Rattle.call_entries.specs.flat_history_Epochs.{HasRoomForEvents, OpensAlike}
+use Rattle.call_entries.specs.flat_history_Epochs.{HasRoomForEvents}
 use Rattle.call_entries.specs.flat_history_Flat.{values_of}
 use Rattle.call_entries.specs.flat_history_Legal.{end_before}
 use Rattle.call_entries.specs.flat_history_Losses.{is_gone_after}
 use Rattle.call_entries.specs.flat_history_World.{World, opening_list}
 use Rattle.kept_history.specs.Safe.{IsFilledRight}
 
--- What is filled in is right, and the superblocks can be read, for the event counts have room, and those of the opening that have the same count are alike.
+-- What is filled in is right, and the superblocks can be read, for the event counts have room.
 pub record IsReliable (world : World) (entries : List Entry) : Type 0 where
   pub fills : IsFilledRight world entries
   pub room : HasRoomForEvents world
-  pub alike : OpensAlike world
 
 -- each role that is missing is gone by the history
 abbrev pub AreToldGone : World → List Entry → Members → Type 0

@@ -31,13 +31,13 @@ use Rattle.kept_history.proofs.Seen.{seen-now}
 -- ---- what a stop may leave
 
 -- while a live slot is left it is right by the whole history
-pub now-live : {given : Given} {members : Members} {carried : ℕ → Bool} {reshaping : Bool} {entries : List Entry} (world : World) → HasLiveSlot members → IsNowRight world given members carried reshaping entries
+pub now-live : {given : Given} {members : Members} {carried : ℕ → ℕ → Bool} {reshaping : Bool} {entries : List Entry} (world : World) → HasLiveSlot members → IsNowRight world given members carried reshaping entries
     → IsSafeOver world given (told_now world carried reshaping entries) members world.tape
 now-live world live (inl safe) = safe
 now-live world live (inr unkept) = absurd (unkept.spent.none live)
 
 -- and where no entry changes the length
-pub now-still : {given : Given} {members : Members} {carried : ℕ → Bool} {reshaping : Bool} (world : World) (entries : List Entry) → last_resized entries ≡ None
+pub now-still : {given : Given} {members : Members} {carried : ℕ → ℕ → Bool} {reshaping : Bool} (world : World) (entries : List Entry) → last_resized entries ≡ None
     → IsNowRight world given members carried reshaping entries → IsSafeOver world given (told_now world carried reshaping entries) members world.tape
 now-still world entries none (inl safe) = safe
 now-still world entries none (inr unkept) =
@@ -68,12 +68,12 @@ sound-later claims world ops within was leaves claimed opened = throughout-grown
 -- ---- a call
 
 -- The call enters some events that are told while it runs, and others behind them that stand only for its end.
-module _ (claims : Type 0) (given : Given) (tape : List Operation) (scope : Scope) (first : ℕ) (entries : List Entry) (old new : Members) (carried carried' : ℕ → Bool) (reshaping reshaping' : Bool)
+module _ (claims : Type 0) (given : Given) (tape : List Operation) (scope : Scope) (first : ℕ) (entries : List Entry) (old new : Members) (carried carried' : ℕ → ℕ → Bool) (reshaping reshaping' : Bool)
     (who : Who) (early late : List Event) (ops : List Operation) (told : Ledger) (sizes_are : scope.sizes ≡ sizes given) (within : first ≤ length tape) (ends : EndBy (length tape) entries)
     (fills : IsFilledRight (grown (world_in given tape scope first) ops) (entries ++ entries_of who (length (tape ++ ops)) (early ++ late)))
     (was : IsSafeHistory claims (world_in given tape scope first) given old carried reshaping entries) (rise : IsRisen ⊤ old new tape (tape ++ ops))
     (sound : claims → OpensFit (grown (world_in given tape scope first) ops) → LeavesSoundFrom (world_in given tape scope first) ops)
-    (less : IsMoreTold told (told_by (grown (world_in given tape scope first) ops) (λ number. true) true entries (entries_of who (length (tape ++ ops)) early)))
+    (less : IsMoreTold told (told_by (grown (world_in given tape scope first) ops) (λ slot number. true) true entries (entries_of who (length (tape ++ ops)) early)))
     (stretch : KeepsSafe (world_in given tape scope first) given told new tape (tape ++ ops))
     (last : IsSafeOver (world_in given tape scope first) given (told_now (grown (world_in given tape scope first) ops) carried' reshaping' (entries ++ entries_of who (length (tape ++ ops)) (early ++ late))) new (tape ++ ops)) where
   abbrev world : World
@@ -102,9 +102,9 @@ module _ (claims : Type 0) (given : Given) (tape : List Operation) (scope : Scop
 
   told-early : IsMoreTold told judge
   told-early =
-      more-then told (told_by later (λ number. true) true entries more) judge less
-      (subst (λ (l : List Entry). IsMoreTold (told_by later (λ number. true) true entries more) (judged_by later l (length entries) (length (entries ++ more)))) (sym all-is)
-      (told-ledger later (λ number. true) true entries more rest))
+      more-then told (told_by later (λ slot number. true) true entries more) judge less
+      (subst (λ (l : List Entry). IsMoreTold (told_by later (λ slot number. true) true entries more) (judged_by later l (length entries) (length (entries ++ more)))) (sym all-is)
+      (told-ledger later (λ slot number. true) true entries more rest))
 
   seen-early : (mark : ℕ) → length tape ≤ mark → mark < end → (c : Contents) → IsDrawn (disk given.start (take mark (tape ++ ops))) c
       → IsSeenBefore given tape scope first entries who (early ++ late) ops sizes_are within ends fills (disk given.start (take mark (tape ++ ops))) c
@@ -136,16 +136,16 @@ module _ (claims : Type 0) (given : Given) (tape : List Operation) (scope : Scop
   }
 
 -- the same, over a tape and an end that are given
-abbrev pub IsSafeThen : Type 0 → Given → List Operation → Scope → ℕ → List Entry → Members → Members → (ℕ → Bool) → Bool → Who → List Event → List Event → Ledger → List Operation → ℕ → Type 0
+abbrev pub IsSafeThen : Type 0 → Given → List Operation → Scope → ℕ → List Entry → Members → Members → (ℕ → ℕ → Bool) → Bool → Who → List Event → List Event → Ledger → List Operation → ℕ → Type 0
 IsSafeThen claims given tape scope first entries old new carried' reshaping' who early late told tape' end =
     IsFilledRight (world_in given tape' scope first) (entries ++ entries_of who end (early ++ late)) → IsRisen ⊤ old new tape tape'
     → (claims → OpensFit (world_in given tape' scope first) → (mark : ℕ) → length tape ≤ mark → mark ≤ length tape' → LeavesSound (world_in given tape' scope first) mark)
-    → IsMoreTold told (told_by (world_in given tape' scope first) (λ number. true) true entries (entries_of who end early))
+    → IsMoreTold told (told_by (world_in given tape' scope first) (λ slot number. true) true entries (entries_of who end early))
     → KeepsSafe (world_in given tape scope first) given told new tape tape'
     → IsSafeOver (world_in given tape scope first) given (told_now (world_in given tape' scope first) carried' reshaping' (entries ++ entries_of who end (early ++ late))) new tape'
     → IsSafeHistory claims (world_in given tape' scope first) given new carried' reshaping' (entries ++ entries_of who end (early ++ late))
 
-pub safe-called : (claims : Type 0) (given : Given) (tape : List Operation) (scope : Scope) (first : ℕ) (entries : List Entry) (old new : Members) (carried carried' : ℕ → Bool) (reshaping reshaping' : Bool) (who : Who)
+pub safe-called : (claims : Type 0) (given : Given) (tape : List Operation) (scope : Scope) (first : ℕ) (entries : List Entry) (old new : Members) (carried carried' : ℕ → ℕ → Bool) (reshaping reshaping' : Bool) (who : Who)
     (early late : List Event) (told : Ledger) (ops tape' : List Operation) (end : ℕ) → tape' ≡ tape ++ ops → end ≡ length (tape ++ ops) → scope.sizes ≡ sizes given → first ≤ length tape → EndBy (length tape) entries
     → IsSafeHistory claims (world_in given tape scope first) given old carried reshaping entries → IsSafeThen claims given tape scope first entries old new carried' reshaping' who early late told tape' end
 safe-called claims given tape scope first entries old new carried carried' reshaping reshaping' who early late told ops tape' end grown_is end_is sizes_are within ends was =

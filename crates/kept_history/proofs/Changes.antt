@@ -53,13 +53,13 @@ resized-at (x ∷ xs) e ys is none = ap (λ (o : Option ℕ). option_map_or (λ 
 
 -- The call enters some events that are told without the change, then the change of length, with others behind it that are told while it runs, and last
 -- those that stand only for its end. Where no live slot is left at its end, no slot need have kept the change.
-module _ (claims : Type 0) (given : Given) (tape : List Operation) (scope : Scope) (first : ℕ) (entries : List Entry) (old new : Members) (carried carried' : ℕ → Bool) (reshaping reshaping' : Bool)
+module _ (claims : Type 0) (given : Given) (tape : List Operation) (scope : Scope) (first : ℕ) (entries : List Entry) (old new : Members) (carried carried' : ℕ → ℕ → Bool) (reshaping reshaping' : Bool)
     (who : Who) (early : List Event) (n : ℕ) (losses late : List Event) (ops : List Operation) (told more : Ledger) (sizes_are : scope.sizes ≡ sizes given) (within : first ≤ length tape) (ends : EndBy (length tape) entries)
     (fills : IsFilledRight (grown (world_in given tape scope first) ops) (entries ++ entries_of who (length (tape ++ ops)) ((early ++ Resized n ∷ losses) ++ late)))
     (was : IsSafeHistory claims (world_in given tape scope first) given old carried reshaping entries) (rise : IsRisen ⊤ old new tape (tape ++ ops))
     (sound : claims → OpensFit (grown (world_in given tape scope first) ops) → LeavesSoundFrom (world_in given tape scope first) ops)
-    (less : IsMoreTold told (told_by (grown (world_in given tape scope first) ops) (λ number. true) true entries (entries_of who (length (tape ++ ops)) early)))
-    (most : IsMoreTold more (told_by (grown (world_in given tape scope first) ops) (λ number. true) true entries (entries_of who (length (tape ++ ops)) (early ++ Resized n ∷ losses))))
+    (less : IsMoreTold told (told_by (grown (world_in given tape scope first) ops) (λ slot number. true) true entries (entries_of who (length (tape ++ ops)) early)))
+    (most : IsMoreTold more (told_by (grown (world_in given tape scope first) ops) (λ slot number. true) true entries (entries_of who (length (tape ++ ops)) (early ++ Resized n ∷ losses))))
     (change : IsSafeChange (OpensFit (world_in given tape scope first)) scope given told more new tape (tape ++ ops))
     (last : IsMoreTold more (told_now (grown (world_in given tape scope first) ops) carried' reshaping' (entries ++ entries_of who (length (tape ++ ops)) ((early ++ Resized n ∷ losses) ++ late))))
     (none_later : list_any (λ e. is_resized e.event) (entries_of who (length (tape ++ ops)) (losses ++ late)) ≡ false)
@@ -111,18 +111,18 @@ module _ (claims : Type 0) (given : Given) (tape : List Operation) (scope : Scop
 
   told-judged : IsMoreTold told (judged_by later all (length entries) (length (entries ++ before)))
   told-judged =
-      more-then told (told_by later (λ number. true) true entries before) (judged_by later all (length entries) (length (entries ++ before))) less
-      (subst (λ (l : List Entry). IsMoreTold (told_by later (λ number. true) true entries before) (judged_by later l (length entries) (length (entries ++ before)))) (sym all-is)
-      (told-ledger later (λ number. true) true entries before (one who end (Resized n) ∷ behind)))
+      more-then told (told_by later (λ slot number. true) true entries before) (judged_by later all (length entries) (length (entries ++ before))) less
+      (subst (λ (l : List Entry). IsMoreTold (told_by later (λ slot number. true) true entries before) (judged_by later l (length entries) (length (entries ++ before)))) (sym all-is)
+      (told-ledger later (λ slot number. true) true entries before (one who end (Resized n) ∷ behind)))
 
   abbrev with_it : List Entry
   with_it = entries_of who (length (tape ++ ops)) (early ++ Resized n ∷ losses)
 
   more-judged : IsMoreTold more (judged_by later all (length entries) (length (entries ++ with_it)))
   more-judged =
-      more-then more (told_by later (λ number. true) true entries with_it) (judged_by later all (length entries) (length (entries ++ with_it))) most
-      (subst (λ (l : List Entry). IsMoreTold (told_by later (λ number. true) true entries with_it) (judged_by later l (length entries) (length (entries ++ with_it)))) (sym all-early)
-      (told-ledger later (λ number. true) true entries with_it (entries_of who end late)))
+      more-then more (told_by later (λ slot number. true) true entries with_it) (judged_by later all (length entries) (length (entries ++ with_it))) most
+      (subst (λ (l : List Entry). IsMoreTold (told_by later (λ slot number. true) true entries with_it) (judged_by later l (length entries) (length (entries ++ with_it)))) (sym all-early)
+      (told-ledger later (λ slot number. true) true entries with_it (entries_of who end late)))
 
   fit-is : OpensFit later ≡ OpensFit world
   fit-is = fit-grown world ops within

@@ -129,19 +129,19 @@ pub values-adding : (list : List Sector) (entries added : List Entry) → AreAdd
 values-adding list entries added adds x v may = subst (λ (l : List Sector). IsIn l v) (sym (values-more list entries added x)) (all-stay x added (values_of list entries x) v adds may)
 
 -- A call that enters them tells more than the history before it.
-pub told-adding : (world : World) (old new : ℕ → Bool) (was is_now : Bool) (entries more : List Entry) → AreAdding more → ((number : ℕ) → old number ≡ true → new number ≡ true) → (was ≡ true → is_now ≡ true)
+pub told-adding : (world : World) (old new : ℕ → ℕ → Bool) (was is_now : Bool) (entries more : List Entry) → AreAdding more → ((slot number : ℕ) → old slot number ≡ true → new slot number ≡ true) → (was ≡ true → is_now ≡ true)
     → IsMoreTold (told_now world old was entries) (told_by world new is_now entries more)
 told-adding world old new was is_now entries more adds carries turns =
     told-more world old new was is_now entries more (length-adding (length (opening_list world)) entries more adds) (values-adding (opening_list world) entries more adds) carries turns
 
 -- And its end no less than the call, where no role is given a holder.
-pub told-added : (world : World) (carried : ℕ → Bool) (reshaping : Bool) (entries more : List Entry) → AreAdding more → list_any (λ e. gives_some e.event) more ≡ false
+pub told-added : (world : World) (carried : ℕ → ℕ → Bool) (reshaping : Bool) (entries more : List Entry) → AreAdding more → list_any (λ e. gives_some e.event) more ≡ false
     → IsMoreTold (told_by world carried reshaping entries more) (told_now world carried reshaping (entries ++ more))
 told-added world carried reshaping entries more adds none = told-now world carried reshaping entries more (λ role. regains-none world role more none) (settle-none more adds)
 
 -- The history with them tells what it told before, where the roles that were gone are gone still.
-pub now-given : (world : World) (old new : ℕ → Bool) (was is_now : Bool) (entries added : List Entry) → AreAdding added
-    → ((role : ℕ) → is_gone_after world entries role ≡ true → is_gone_after world (entries ++ added) role ≡ true) → ((number : ℕ) → old number ≡ true → new number ≡ true) → (was ≡ true → is_now ≡ true)
+pub now-given : (world : World) (old new : ℕ → ℕ → Bool) (was is_now : Bool) (entries added : List Entry) → AreAdding added
+    → ((role : ℕ) → is_gone_after world entries role ≡ true → is_gone_after world (entries ++ added) role ≡ true) → ((slot number : ℕ) → old slot number ≡ true → new slot number ≡ true) → (was ≡ true → is_now ≡ true)
     → IsMoreTold (told_now world old was entries) (told_now world new is_now (entries ++ added))
 now-given world old new was is_now entries added adds gone carries turns = record {
   size = sym (length-adding (length (opening_list world)) entries added adds);
@@ -177,7 +177,7 @@ none-losses who end (event ∷ xs) ys are rest = absurd are
 -- ---- what is settled
 
 -- A flush or a stop behind the first entries of a call leaves each sector its newest value, and so does the end of a resync.
-pub settled-now : (world : World) (carried : ℕ → Bool) (reshaping unsynced : Bool) (entries more rest : List Entry) → is_unsynced world (entries ++ (more ++ rest)) ≡ unsynced
+pub settled-now : (world : World) (carried : ℕ → ℕ → Bool) (reshaping unsynced : Bool) (entries more rest : List Entry) → is_unsynced world (entries ++ (more ++ rest)) ≡ unsynced
     → length_of (length (opening_list world)) (entries ++ (more ++ rest)) ≡ length_of (length (opening_list world)) (entries ++ more)
     → ((x : ℕ) → x < length_of (length (opening_list world)) (entries ++ more) → IsIn (values_of (opening_list world) (entries ++ (more ++ rest)) x) (now (opening_list world) entries x))
     → list_any (λ e. gives_some e.event) (more ++ rest) ≡ false
@@ -191,7 +191,7 @@ settled-now world carried reshaping unsynced entries more rest dirty sized newes
   gone = λ role is. any-gone world role entries (more ++ rest) (regains-none world role (more ++ rest) none) (with_rest role is);
   unclean = λ is. or-left (is_unsynced world (entries ++ (more ++ rest))) (is_unsettled (entries ++ (more ++ rest))) (dirty ∙ is);
   reshaping = λ is. is;
-  carried = λ number is. is;
+  carried = λ slot number is. is;
 }
   where
     three : (a b c : Bool) → (a || b) ≡ true → (a || (b || c)) ≡ true

@@ -4,16 +4,14 @@ use Rattle.std.specs.Prelude.{◌^◌, IfSome, IsTrue}
 use Rattle.std.specs.Option.{option_map_or}
 use Rattle.std.specs.List.{list_any, list_all}
 use Rattle.bank.specs.declared.bank.Operation.{Operation}
-use Rattle.bank.specs.Tape.{Contents}
 use Rattle.bank.proofs.Laws.{contents-earlier}
 use Rattle.shape_changes.specs.superblocks_the_Members.{Members}
-use Rattle.shape_changes.specs.superblocks_Found.{AreLikeNewest}
 use Rattle.shape_changes.specs.superblocks_Reading.{Reading, reading, is_clean, is_reshaping}
 use Rattle.shape_changes.specs.flat_history_the_Entry.{Entry}
 use Rattle.shape_changes.specs.flat_history_the_Event.{Event}
 use Rattle.shape_changes.specs.flat_history_the_Event_TheVariants.{Lost, Rebuilt, Step}
 use Rattle.shape_changes.specs.flat_history_the_StepKind_TheVariants.{Begun, TakenOver}
-use Rattle.shape_changes.specs.flat_history_Epochs.{HasRoomForEvents, OpensAlike}
+use Rattle.shape_changes.specs.flat_history_Epochs.{HasRoomForEvents}
 use Rattle.shape_changes.specs.flat_history_Flat.{length_of, values_of}
 use Rattle.shape_changes.specs.flat_history_Growing.{grown, EndBy}
 use Rattle.shape_changes.specs.flat_history_Losses.{takes, gives_back, loses, regains, gone_surely, is_gone_after, is_resync_end, is_unsynced, unsettles}
@@ -56,11 +54,6 @@ module _ (world : World) (ops : List Operation) where
   -- what the opening found of a reshape it found before more was done
   pub course-before : world.first ≤ length world.tape → OpensOnCourse (grown world ops) → OpensOnCourse world
   course-before within on = subst (λ (p : Type 0). p) (course-grown within) on
-
-  -- it found alike superblocks before it does afterwards
-  pub alike-before : world.first ≤ length world.tape → OpensAlike (grown world ops) → OpensAlike world
-  unfolding reading_at
-  alike-before within alike = subst (λ (c : Contents). IfSome (reading world.scope c) (λ r. AreLikeNewest world.scope r.newest c)) (contents-grown world.first within) alike
 
 -- ---- roles that are gone
 
@@ -125,7 +118,7 @@ module _ (world : World) (ops : List Operation) (within : world.first ≤ length
   unsynced-grown entries = ap (λ (found : Option Reading). option_map_or (λ r. not (is_clean r.newest)) found false && not (list_any (λ e. is_resync_end e.event) entries)) (reading-grown world ops world.first within)
 
   -- by a history it is the same whatever is done after it
-  pub now-grown : (carried : ℕ → Bool) (reshaping : Bool) (entries : List Entry) → EndBy (length world.tape) entries → told_now (grown world ops) carried reshaping entries ≡ told_now world carried reshaping entries
+  pub now-grown : (carried : ℕ → ℕ → Bool) (reshaping : Bool) (entries : List Entry) → EndBy (length world.tape) entries → told_now (grown world ops) carried reshaping entries ≡ told_now world carried reshaping entries
   now-grown carried reshaping entries ends = λ i. record {
     size = length_of (length (opening-grown world ops within i)) entries;
     values = values_of (opening-grown world ops within i) entries;
@@ -135,7 +128,7 @@ module _ (world : World) (ops : List Operation) (within : world.first ≤ length
     carried = carried;
   }
 
-  told-alike : (carried : ℕ → Bool) (reshaping : Bool) (entries more : List Entry) → EndBy (length world.tape) entries
+  told-alike : (carried : ℕ → ℕ → Bool) (reshaping : Bool) (entries more : List Entry) → EndBy (length world.tape) entries
       → ((role : ℕ) → list_any (loses (grown world ops) role) more ≡ list_any (loses world role) more)
       → told_by (grown world ops) carried reshaping entries more ≡ told_by world carried reshaping entries more
   told-alike carried reshaping entries more ends takes = λ i. record {
@@ -148,12 +141,12 @@ module _ (world : World) (ops : List Operation) (within : world.first ≤ length
   }
 
   -- so it is with entries of a call
-  pub told-grown : (carried : ℕ → Bool) (reshaping : Bool) (entries more : List Entry) → EndBy (length world.tape) entries → EndBy (length world.tape) more
+  pub told-grown : (carried : ℕ → ℕ → Bool) (reshaping : Bool) (entries more : List Entry) → EndBy (length world.tape) entries → EndBy (length world.tape) more
       → told_by (grown world ops) carried reshaping entries more ≡ told_by world carried reshaping entries more
   told-grown carried reshaping entries more ends made = told-alike carried reshaping entries more ends (λ role. takes-grown world ops more role made)
 
   -- and with entries that turn no shape, wherever they end
-  pub told-plain : (carried : ℕ → Bool) (reshaping : Bool) (entries more : List Entry) → EndBy (length world.tape) entries → KeepShape more
+  pub told-plain : (carried : ℕ → ℕ → Bool) (reshaping : Bool) (entries more : List Entry) → EndBy (length world.tape) entries → KeepShape more
       → told_by (grown world ops) carried reshaping entries more ≡ told_by world carried reshaping entries more
   told-plain carried reshaping entries more ends keep = told-alike carried reshaping entries more ends (λ role. takes-lost (grown world ops) role more keep ∙ sym (takes-lost world role more keep))
 

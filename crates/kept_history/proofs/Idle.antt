@@ -165,32 +165,32 @@ left_out-more world ops entries added place within ends adds none out =
 
 -- ---- what is told
 
-module _ (world : World) (carried : ℕ → Bool) (reshaping : Bool) (entries added : List Entry) (adds : AreAdding added) (none : list_any (λ e. gives_some e.event) added ≡ false) where
+module _ (world : World) (carried : ℕ → ℕ → Bool) (reshaping : Bool) (entries added : List Entry) (adds : AreAdding added) (none : list_any (λ e. gives_some e.event) added ≡ false) where
   -- entries that only add tell more
   pub now-adding : IsMoreTold (told_now world carried reshaping entries) (told_now world carried reshaping (entries ++ added))
   now-adding =
       more-then (told_now world carried reshaping entries) (told_by world carried reshaping entries added) (told_now world carried reshaping (entries ++ added))
-      (told-adding world carried carried reshaping reshaping entries added adds (λ number is. is) (λ is. is)) (told-added world carried reshaping entries added adds none)
+      (told-adding world carried carried reshaping reshaping entries added adds (λ slot number is. is) (λ is. is)) (told-added world carried reshaping entries added adds none)
 
 -- so they do without a change of length before them
 pub without-adding : (world : World) (entries added : List Entry) (place : ℕ) → AreAdding added → list_any (λ e. gives_some e.event) added ≡ false → place < length entries
     → IsMoreTold (told_without world entries place) (told_without world (entries ++ added) place)
 without-adding world entries added place adds none lt =
     let same : remove (entries ++ added) place ≡ remove entries place ++ added = remove-append_left entries added place lt in
-    let more = now-adding world (λ number. true) true entries added adds none in
+    let more = now-adding world (λ slot number. true) true entries added adds none in
     record {
       size = sym (ap (λ (l : List Entry). length_of (length (opening_list world)) l) same ∙ length-adding (length (opening_list world)) (remove entries place) added adds);
       values = λ x lt v may. subst (λ (l : List Entry). IsIn (values_of (opening_list world) l x) v) (sym same) (values-adding (opening_list world) (remove entries place) added adds x v may);
       gone = more.gone;
       unclean = more.unclean;
       reshaping = λ is. is;
-      carried = λ number is. is;
+      carried = λ slot number is. is;
     }
 
 -- ---- the call
 
 -- It enters events that only add and give no role a holder; the tape stays as it is.
-module _ (claims : Type 0) (given : Given) (tape : List Operation) (scope : Scope) (first : ℕ) (entries : List Entry) (members : Members) (carried : ℕ → Bool) (reshaping : Bool) (who : Who) (events : List Event)
+module _ (claims : Type 0) (given : Given) (tape : List Operation) (scope : Scope) (first : ℕ) (entries : List Entry) (members : Members) (carried : ℕ → ℕ → Bool) (reshaping : Bool) (who : Who) (events : List Event)
     (sizes_are : scope.sizes ≡ sizes given) (within : first ≤ length tape) (ends : EndBy (length tape) entries)
     (fills : IsFilledRight (world_in given tape scope first) (entries ++ entries_of who (length tape) events)) (was : IsSafeHistory claims (world_in given tape scope first) given members carried reshaping entries)
     (adds : AreAdding (entries_of who (length tape) events)) (none : list_any (λ e. gives_some e.event) (entries_of who (length tape) events) ≡ false) where

@@ -20,7 +20,7 @@ use Rattle.kept_history.specs.Told.{told_now, told_by}
 use Rattle.kept_history.proofs.Tests.{neither, or-none, or-left, or-right, or-assoc, weaken, none-take, none-drop}
 
 pub more-alike : (told : Ledger) → IsMoreTold told told
-more-alike told = record { size = refl; values = λ x lt v may. may; gone = λ role is. is; unclean = λ is. is; reshaping = λ is. is; carried = λ number is. is }
+more-alike told = record { size = refl; values = λ x lt v may. may; gone = λ role is. is; unclean = λ is. is; reshaping = λ is. is; carried = λ slot number is. is }
 
 pub more-equal : (told more : Ledger) → told ≡ more → IsMoreTold told more
 more-equal told more same = subst (IsMoreTold told) same (more-alike told)
@@ -32,12 +32,12 @@ more-then told mid more first second = record {
   gone = λ role is. second.gone role (first.gone role is);
   unclean = λ is. second.unclean (first.unclean is);
   reshaping = λ is. second.reshaping (first.reshaping is);
-  carried = λ number is. second.carried number (first.carried number is);
+  carried = λ slot number is. second.carried slot number (first.carried slot number is);
 }
 
 -- whatever reshape may be active in it, and whatever numbers are known
-pub told-any : (world : World) (carried : ℕ → Bool) (reshaping : Bool) (entries more : List Entry) → IsMoreTold (told_by world carried reshaping entries more) (told_by world (λ number. true) true entries more)
-told-any world carried reshaping entries more = record { size = refl; values = λ x lt v may. may; gone = λ role is. is; unclean = λ is. is; reshaping = λ is. refl; carried = λ number is. refl }
+pub told-any : (world : World) (carried : ℕ → ℕ → Bool) (reshaping : Bool) (entries more : List Entry) → IsMoreTold (told_by world carried reshaping entries more) (told_by world (λ slot number. true) true entries more)
+told-any world carried reshaping entries more = record { size = refl; values = λ x lt v may. may; gone = λ role is. is; unclean = λ is. is; reshaping = λ is. refl; carried = λ slot number is. refl }
 
 -- ---- what is gone
 
@@ -179,7 +179,7 @@ unclean-now world entries more settled is =
 abbrev pub judged_by : World → List Entry → ℕ → ℕ → Ledger
 judged_by world entries k j = ledger_of world entries k j (take j entries)
 
-module _ (world : World) (carried : ℕ → Bool) (reshaping : Bool) where
+module _ (world : World) (carried : ℕ → ℕ → Bool) (reshaping : Bool) where
   -- A mark at which a call's entries aren't made yet is judged by as much as it tells.
   pub told-ledger : (entries more rest : List Entry) → IsMoreTold (told_by world carried reshaping entries more) (judged_by world (entries ++ (more ++ rest)) (length entries) (length (entries ++ more)))
   unfolding is_gone is_gone_after is_unclean
@@ -189,7 +189,7 @@ module _ (world : World) (carried : ℕ → Bool) (reshaping : Bool) where
     gone = λ role is. gone role ∙ is;
     unclean = λ is. unclean ∙ is;
     reshaping = λ is. refl;
-    carried = λ number is. refl;
+    carried = λ slot number is. refl;
   }
     where
       first : take (length (entries ++ more)) (entries ++ (more ++ rest)) ≡ entries ++ more
@@ -221,7 +221,7 @@ module _ (world : World) (carried : ℕ → Bool) (reshaping : Bool) where
     gone = λ role is. gone role ∙ is;
     unclean = λ is. unclean ∙ is;
     reshaping = λ is. refl;
-    carried = λ number is. refl;
+    carried = λ slot number is. refl;
   }
     where
       none : (n : ℕ) → n - n ≡ 0
@@ -246,7 +246,7 @@ module _ (world : World) (carried : ℕ → Bool) (reshaping : Bool) where
     unclean = λ is. by (is_unsynced world (entries ++ more)) (is_unsettled (entries ++ more)) is
         (unsynced-before world entries more) (λ was. unsettled-any (is_unsettled entries) more (sym (unsettled-behind entries more) ∙ was));
     reshaping = λ is. is;
-    carried = λ number is. is;
+    carried = λ slot number is. is;
   }
     where
       by : (a b : Bool) → (a || b) ≡ true → (a ≡ true → is_unsynced world entries ≡ true) → (b ≡ true → (is_unsettled entries || list_any (λ e. unsettles e.event) more) ≡ true)
@@ -263,13 +263,13 @@ module _ (world : World) (carried : ℕ → Bool) (reshaping : Bool) where
     gone = λ role is. any-gone world role entries more (gives role) is;
     unclean = λ is. unclean-now world entries more settled is;
     reshaping = λ is. is;
-    carried = λ number is. is;
+    carried = λ slot number is. is;
   }
 
 -- A call tells more than the history before it, where its entries keep the length and each value that a sector may have.
-pub told-more : (world : World) (old new : ℕ → Bool) (was is_now : Bool) (entries more : List Entry) → length_of (length (opening_list world)) (entries ++ more) ≡ length_of (length (opening_list world)) entries
+pub told-more : (world : World) (old new : ℕ → ℕ → Bool) (was is_now : Bool) (entries more : List Entry) → length_of (length (opening_list world)) (entries ++ more) ≡ length_of (length (opening_list world)) entries
     → ((x : ℕ) (v : Sector) → IsIn (values_of (opening_list world) entries x) v → IsIn (values_of (opening_list world) (entries ++ more) x) v)
-    → ((number : ℕ) → old number ≡ true → new number ≡ true) → (was ≡ true → is_now ≡ true) → IsMoreTold (told_now world old was entries) (told_by world new is_now entries more)
+    → ((slot number : ℕ) → old slot number ≡ true → new slot number ≡ true) → (was ≡ true → is_now ≡ true) → IsMoreTold (told_now world old was entries) (told_by world new is_now entries more)
 told-more world old new was is_now entries more sized adds carries turns = record {
   size = sym sized;
   values = λ x lt v may. adds x v may;

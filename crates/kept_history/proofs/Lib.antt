@@ -16,4 +16,5 @@ pub mod Unkept
 pub mod Turned
 pub mod Turns
 pub mod Opened
+pub mod Anew
 pub mod Lengths

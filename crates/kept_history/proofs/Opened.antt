@@ -115,7 +115,7 @@ opened-kept right world who found caller number first are = record {
 -- ---- what is safe there
 
 -- Where what a stop may leave is right by what the opening told, and is sound where that is claimed, the history is safe.
-module _ (claims : Type 0) (given : Given) (tape : List Operation) (scope : Scope) (members : Members) (carried : ℕ → Bool) (reshaping : Bool) (who : Who) (events : List Event) (sizes_are : scope.sizes ≡ sizes given)
+module _ (claims : Type 0) (given : Given) (tape : List Operation) (scope : Scope) (members : Members) (carried : ℕ → ℕ → Bool) (reshaping : Bool) (who : Who) (events : List Event) (sizes_are : scope.sizes ≡ sizes given)
     (fills : IsFilledRight (world_in given tape scope (length tape)) (entries_of who (length tape) events))
     (now : IsSafeOver (world_in given tape scope (length tape)) given (told_now (world_in given tape scope (length tape)) carried reshaping (entries_of who (length tape) events)) members tape)
     (sound : claims → OpensFit (world_in given tape scope (length tape)) → LeavesSound (world_in given tape scope (length tape)) (length tape))

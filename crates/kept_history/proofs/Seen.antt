@@ -71,14 +71,14 @@ now-more sound scope given told more members d is safe =
 -- what is told without it is what its entries tell without it
 pub without-ledger : (world : World) (place : ℕ) (entries : List Entry) → IsMoreTold (told_without world entries place) (ledger_of world entries (length entries) (length entries) (remove (take (length entries) entries) place))
 without-ledger world place entries =
-    let by = now-ledger world (λ number. true) true entries in
+    let by = now-ledger world (λ slot number. true) true entries in
     record {
       size = ap (λ (l : List Entry). length_of (length (opening_list world)) (remove l place)) (sym (take-length entries));
       values = λ x lt v may. subst (λ (l : List Entry). IsIn (values_of (opening_list world) (remove l place) x) v) (sym (take-length entries)) may;
       gone = by.gone;
       unclean = by.unclean;
       reshaping = λ is. refl;
-      carried = λ number is. refl;
+      carried = λ slot number is. refl;
     }
 
 -- ---- the end of a call
@@ -86,7 +86,7 @@ without-ledger world place entries =
 -- where what a stop may leave there is right by the whole history, each image is seen right
 module _ (given : Given) (tape : List Operation) (scope : Scope) (first : ℕ) (entries : List Entry) (who : Who) (events : List Event) (ops : List Operation) (sizes_are : scope.sizes ≡ sizes given)
     (within : first ≤ length tape) (ends : EndBy (length tape) entries)
-    (fills : IsFilledRight (grown (world_in given tape scope first) ops) (entries ++ entries_of who (length (tape ++ ops)) events)) (members : Members) (carried : ℕ → Bool) (reshaping : Bool)
+    (fills : IsFilledRight (grown (world_in given tape scope first) ops) (entries ++ entries_of who (length (tape ++ ops)) events)) (members : Members) (carried : ℕ → ℕ → Bool) (reshaping : Bool)
     (now : IsNowRight (grown (world_in given tape scope first) ops) given members carried reshaping (entries ++ entries_of who (length (tape ++ ops)) events)) where
   abbrev later : World
   later = grown (world_in given tape scope first) ops

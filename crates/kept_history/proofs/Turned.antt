@@ -68,7 +68,7 @@ module _ (world : World) (entries : List Entry) (e : Entry) (left : ℕ) (r : Re
 -- ---- a role is rebuilt
 
 -- Behind events that only add, it isn't told gone any more, and what else a call told is told at its end.
-pub told-rebuilt : (world : World) (carried : ℕ → Bool) (reshaping : Bool) (entries more : List Entry) (e : Entry) (role : ℕ) → e.event ≡ Rebuilt role → AreAdding more → list_any (λ e. gives_some e.event) more ≡ false
+pub told-rebuilt : (world : World) (carried : ℕ → ℕ → Bool) (reshaping : Bool) (entries more : List Entry) (e : Entry) (role : ℕ) → e.event ≡ Rebuilt role → AreAdding more → list_any (λ e. gives_some e.event) more ≡ false
     → IsMoreTold (given_back role (told_by world carried reshaping entries more)) (told_now world carried reshaping (entries ++ (more ++ e ∷ [])))
 told-rebuilt world carried reshaping entries more e role is adds none = record {
   size = sym (ap (λ (l : List Entry). length_of (length (opening_list world)) l) whole ∙ length-adding (length (opening_list world)) (entries ++ more) (e ∷ []) one-adds);
@@ -80,7 +80,7 @@ told-rebuilt world carried reshaping entries more e role is adds none = record {
       ∙ ap (λ (b : Bool). not b || false) (turn r role p.1);
   unclean = λ was. unclean-now world entries (more ++ e ∷ []) settled (with_it was);
   reshaping = λ was. was;
-  carried = λ number was. was;
+  carried = λ slot number was. was;
 }
   where
     whole : entries ++ (more ++ e ∷ []) ≡ (entries ++ more) ++ e ∷ []

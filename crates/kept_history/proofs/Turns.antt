@@ -65,7 +65,7 @@ module _ (world : World) (entries : List Entry) (who : Who) (end : ℕ) (early :
       (resized-zero (entries ++ entries_of who end early) (one who end (Resized n)) n (entries_of who end losses) refl (losses-add who end losses are) list x lt none)
 
   -- where no slot kept it, the history without it tells what was told before it
-  turned-unkept : (told : Ledger) → AreAdding (entries_of who end early) → IsMoreTold told (told_by world (λ number. true) true entries (entries_of who end early))
+  turned-unkept : (told : Ledger) → AreAdding (entries_of who end early) → IsMoreTold told (told_by world (λ slot number. true) true entries (entries_of who end early))
       → ((role : ℕ) → told.gone role ≡ true → is_gone_after world (entries ++ entries_of who end (early ++ Resized n ∷ losses)) role ≡ true)
       → IsTrue (is_all_gone world end (entries ++ entries_of who end (early ++ Resized n ∷ losses)))
       → IsTrue (is_all_gone world end (up_to (entries ++ entries_of who end (early ++ Resized n ∷ losses)) (length (entries ++ entries_of who end early))))
@@ -84,13 +84,13 @@ module _ (world : World) (entries : List Entry) (who : Who) (end : ℕ) (early :
 
 -- ---- a call that changes the length, and ends with the losses of its update
 
-module _ (claims : Type 0) (given : Given) (tape : List Operation) (scope : Scope) (first : ℕ) (entries : List Entry) (old new : Members) (carried carried' : ℕ → Bool) (reshaping reshaping' : Bool)
+module _ (claims : Type 0) (given : Given) (tape : List Operation) (scope : Scope) (first : ℕ) (entries : List Entry) (old new : Members) (carried carried' : ℕ → ℕ → Bool) (reshaping reshaping' : Bool)
     (who : Who) (early : List Event) (n : ℕ) (losses : List Event) (ops : List Operation) (told : Ledger) (sizes_are : scope.sizes ≡ sizes given) (within : first ≤ length tape) (ends : EndBy (length tape) entries)
     (fills : IsFilledRight (grown (world_in given tape scope first) ops) (entries ++ entries_of who (length (tape ++ ops)) (early ++ Resized n ∷ losses)))
     (was : IsSafeHistory claims (world_in given tape scope first) given old carried reshaping entries) (rise : IsRisen ⊤ old new tape (tape ++ ops))
     (sound : claims → OpensFit (grown (world_in given tape scope first) ops) → LeavesSoundFrom (world_in given tape scope first) ops)
     (adds : AreAdding (entries_of who (length (tape ++ ops)) early)) (faults : AreFaults losses)
-    (less : IsMoreTold told (told_by (grown (world_in given tape scope first) ops) (λ number. true) true entries (entries_of who (length (tape ++ ops)) early)))
+    (less : IsMoreTold told (told_by (grown (world_in given tape scope first) ops) (λ slot number. true) true entries (entries_of who (length (tape ++ ops)) early)))
     (change : IsSafeChange (OpensFit (world_in given tape scope first)) scope given told
     (told_now (grown (world_in given tape scope first) ops) carried' reshaping' (entries ++ entries_of who (length (tape ++ ops)) (early ++ Resized n ∷ losses))) new tape (tape ++ ops))
     (spent : (HasLiveSlot new → ⊥) → IsTrue (is_all_gone (grown (world_in given tape scope first) ops) (length (tape ++ ops)) (entries ++ entries_of who (length (tape ++ ops)) (early ++ Resized n ∷ losses)))
@@ -119,7 +119,7 @@ module _ (claims : Type 0) (given : Given) (tape : List Operation) (scope : Scop
       subst (λ (l : List Event). IsSafeHistory claims later given new carried' reshaping' (all_of l)) (sym no-more)
       (safe-change claims given tape scope first entries old new carried carried' reshaping reshaping' who early n losses [] ops told more sizes_are within ends
       (subst (λ (l : List Event). IsFilledRight later (all_of l)) no-more fills) was rise sound less
-      (more-then more (told_by later carried' reshaping' entries (entries_of who end events)) (told_by later (λ number. true) true entries (entries_of who end events))
+      (more-then more (told_by later carried' reshaping' entries (entries_of who end events)) (told_by later (λ slot number. true) true entries (entries_of who end events))
       (now-told later carried' reshaping' entries (entries_of who end events)) (told-any later carried' reshaping' entries (entries_of who end events)))
       change
       (subst (λ (l : List Event). IsMoreTold more (told_now later carried' reshaping' (all_of l))) no-more (more-alike more))
@@ -129,12 +129,12 @@ module _ (claims : Type 0) (given : Given) (tape : List Operation) (scope : Scop
 
 -- ---- a call that tells more, and keeps the length
 
-module _ (claims : Type 0) (given : Given) (tape : List Operation) (scope : Scope) (first : ℕ) (entries : List Entry) (old new : Members) (carried carried' : ℕ → Bool) (reshaping reshaping' : Bool)
+module _ (claims : Type 0) (given : Given) (tape : List Operation) (scope : Scope) (first : ℕ) (entries : List Entry) (old new : Members) (carried carried' : ℕ → ℕ → Bool) (reshaping reshaping' : Bool)
     (who : Who) (events : List Event) (ops : List Operation) (told : Ledger) (sizes_are : scope.sizes ≡ sizes given) (within : first ≤ length tape) (ends : EndBy (length tape) entries)
     (fills : IsFilledRight (grown (world_in given tape scope first) ops) (entries ++ entries_of who (length (tape ++ ops)) events))
     (was : IsSafeHistory claims (world_in given tape scope first) given old carried reshaping entries) (rise : IsRisen ⊤ old new tape (tape ++ ops))
     (sound : claims → OpensFit (grown (world_in given tape scope first) ops) → LeavesSoundFrom (world_in given tape scope first) ops)
-    (less : IsMoreTold told (told_by (grown (world_in given tape scope first) ops) (λ number. true) true entries (entries_of who (length (tape ++ ops)) events)))
+    (less : IsMoreTold told (told_by (grown (world_in given tape scope first) ops) (λ slot number. true) true entries (entries_of who (length (tape ++ ops)) events)))
     (change : IsSafeChange (OpensFit (world_in given tape scope first)) scope given told
     (told_now (grown (world_in given tape scope first) ops) carried' reshaping' (entries ++ entries_of who (length (tape ++ ops)) events)) new tape (tape ++ ops))
     (spent : (HasLiveSlot new → ⊥) → IsMoreTold told (told_now (grown (world_in given tape scope first) ops) carried' reshaping' (entries ++ entries_of who (length (tape ++ ops)) events))) where
@@ -148,7 +148,7 @@ module _ (claims : Type 0) (given : Given) (tape : List Operation) (scope : Scop
   now_told = told_now after carried' reshaping' (whole events)
 
   abbrev by_call : Ledger
-  by_call = told_by after (λ number. true) true entries (entries_of who (length (tape ++ ops)) events)
+  by_call = told_by after (λ slot number. true) true entries (entries_of who (length (tape ++ ops)) events)
 
   now-by : IsMoreTold now_told by_call
   now-by = more-then now_told (told_by after carried' reshaping' entries (entries_of who (length (tape ++ ops)) events)) by_call

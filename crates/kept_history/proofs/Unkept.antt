@@ -29,7 +29,7 @@ use Rattle.kept_history.proofs.Ledgers.{unclean-now}
 -- Of a call that enters some events, then a change of length, and others behind it, all of which settle nothing: without the change it tells at its end
 -- what its first events told, where the roles that they tell gone are gone still.
 pub unkept-told : (world : World) (told : Ledger) (entries before : List Entry) (e : Entry) (n : ℕ) (behind : List Entry) → e.event ≡ Resized n → AreAdding before → AreAdding behind
-    → IsMoreTold told (told_by world (λ number. true) true entries before)
+    → IsMoreTold told (told_by world (λ slot number. true) true entries before)
     → ((role : ℕ) → told.gone role ≡ true → is_gone_after world (entries ++ (before ++ e ∷ behind)) role ≡ true)
     → IsMoreTold told (told_without world (entries ++ (before ++ e ∷ behind)) (length (entries ++ before)))
 unkept-told world told entries before e n behind is adds more less gone = record {
@@ -38,7 +38,7 @@ unkept-told world told entries before e n behind is adds more less gone = record
   gone = gone;
   unclean = λ was. unclean-now world entries (before ++ e ∷ behind) settled (with_more (less.unclean was));
   reshaping = λ was. refl;
-  carried = λ number was. refl;
+  carried = λ slot number was. refl;
 }
   where
     removed : (xs : List Entry) (x : Entry) (ys : List Entry) → remove (xs ++ x ∷ ys) (length xs) ≡ xs ++ ys

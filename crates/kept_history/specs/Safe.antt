@@ -68,24 +68,24 @@ told_without world entries place = record {
   gone = is_gone_after world entries;
   unclean = is_unsynced world entries || is_unsettled entries;
   reshaping = true;
-  carried = λ number. true;
+  carried = λ slot number. true;
 }
 
 -- No live slot is left, and none had kept the last change of length: each view is right with it or without it, and nothing is written any more.
-pub record IsUnkept (world : World) (given : Given) (members : Members) (carried : ℕ → Bool) (reshaping : Bool) (entries : List Entry) : Type 0 where
+pub record IsUnkept (world : World) (given : Given) (members : Members) (carried : ℕ → ℕ → Bool) (reshaping : Bool) (entries : List Entry) : Type 0 where
   pub place : ℕ
   pub left_out : MayBeLeftOut world entries (length entries) place
   pub spent : IsSpentByEither (OpensFit world) world.scope given (told_without world entries place) (told_now world carried reshaping entries)
       members (disk given.start world.tape)
 
 -- What a stop may leave now is right by what the whole history tells.
-abbrev pub IsNowRight : World → Given → Members → (ℕ → Bool) → Bool → List Entry → Type 0
+abbrev pub IsNowRight : World → Given → Members → (ℕ → ℕ → Bool) → Bool → List Entry → Type 0
 IsNowRight world given members carried reshaping entries =
     IsSafeOver world given (told_now world carried reshaping entries) members world.tape ⊎ IsUnkept world given members carried reshaping entries
 
 -- Every mark so far is safe, and leaves sound images where that is claimed of the array; what a stop may leave now is right, and the next update may
 -- start; as long as a live slot is left, the event count has room.
-pub record IsSafeHistory (claims : Type 0) (world : World) (given : Given) (members : Members) (carried : ℕ → Bool) (reshaping : Bool) (entries : List Entry) : Type 0 where
+pub record IsSafeHistory (claims : Type 0) (world : World) (given : Given) (members : Members) (carried : ℕ → ℕ → Bool) (reshaping : Bool) (entries : List Entry) : Type 0 where
   pub past : IsSafeThroughout world entries
   pub sound : claims → OpensFit world → LeavesSoundThroughout world
   pub now : IsNowRight world given members carried reshaping entries

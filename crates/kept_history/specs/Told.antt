@@ -9,8 +9,8 @@ use Rattle.shape_changes.specs.flat_history_OneShape.{is_unsettled}
 use Rattle.shape_changes.specs.shape_views_Views.{Ledger}
 
 -- The whole history: how long the list is and the values of each of its sectors, the roles that are gone, and whether a write may be unsettled; with
--- it, what a history doesn't tell: whether a reshape may be active, and the device numbers that superblocks may bear.
-abbrev pub told_now : World → (ℕ → Bool) → Bool → List Entry → Ledger
+-- it, what a history doesn't tell: whether a reshape may be active, and the device numbers that slots may bear.
+abbrev pub told_now : World → (ℕ → ℕ → Bool) → Bool → List Entry → Ledger
 told_now world carried reshaping entries = record {
   size = length_of (length (opening_list world)) entries;
   values = values_of (opening_list world) entries;
@@ -22,7 +22,7 @@ told_now world carried reshaping entries = record {
 
 -- The history before a call that runs and the first of its entries, which may have happened by now: each role that one of them takes counts as gone,
 -- and each write in them as unsettled; what they give back or settle doesn't count. Its world is that in which they are made.
-abbrev pub told_by : World → (ℕ → Bool) → Bool → List Entry → List Entry → Ledger
+abbrev pub told_by : World → (ℕ → ℕ → Bool) → Bool → List Entry → List Entry → Ledger
 told_by world carried reshaping entries more = record {
   size = length_of (length (opening_list world)) (entries ++ more);
   values = values_of (opening_list world) (entries ++ more);

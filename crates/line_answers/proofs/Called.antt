@@ -173,7 +173,7 @@ same-epoch same = record { uuid = same.array.uuid; given = same.array.given; fir
 pub epoch-opening : {B : Type 0} {old new : RunningParts B} → IsSameEpoch old new → IsSameOpening (running_history old.parts) (running_history new.parts)
 epoch-opening same = record { uuid = same.uuid; given = same.given; first = same.first }
 
-pub epoch-later : {B : Type 0} {Had : ℕ → ℕ → Type 0} {f g : ℕ → ℕ} {old new : RunningParts B} → IsSameEpoch old new → AreLossesBy Had f g old.parts.entries new.parts.entries
+pub epoch-later : {B : Type 0} {Had : ℕ → ℕ → Type 0} {Was : ℕ → Type 0} {f g : ℕ → ℕ} {old new : RunningParts B} → IsSameEpoch old new → AreLossesBy Had Was f g old.parts.entries new.parts.entries
     → IsHistoryLater (running_history old.parts) (running_history new.parts)
 epoch-later same lost = record { same = epoch-opening same; more = lost.more; grown = lost.grown }
 

@@ -37,7 +37,6 @@ use Rattle.flat_history.specs.Transfers.{last_end_from}
 use Rattle.flat_history.proofs.OneShapeLegal.{last-snoc}
 use Rattle.run_laws.proofs.history_laws_OneShapeGrowing.{call-ends}
 use Rattle.flat_history.specs.World.{World, opening_list}
-use Rattle.flat_history.specs.Epochs.{OpensAlike}
 use Rattle.flat_history.specs.Opened.{OpensSound}
 use Rattle.bank.specs.Given.{sizes}
 use Rattle.run_laws.specs.superblocks_the_Members.{Members}
@@ -485,7 +484,6 @@ module _ {B : Type 0} (setting : Setting) (bank : B) (olds epochs : Vec Epoch) (
           free = free;
           stored = λ t. subst (λ (w : World). IsStoredNew w (spec_of line)) (found_history setting array.parts (running_history array.parts) (sym made.begun.uuid) refl (sym (made.begun.first t)))
               (stored_made setting.given setting.tape setting.backup (spec_of line) array.parts made t);
-          alike = λ t. subst OpensAlike (world_is made.begun.backup_is) (made.alike t);
           sound = λ t. subst OpensSound (world_is made.begun.backup_is) (made.sound t);
         },
       );

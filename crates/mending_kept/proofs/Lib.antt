@@ -37,6 +37,7 @@ pub use Rattle.moving_kept.proofs.call_entries_LosingLaws
 pub use Rattle.moving_kept.proofs.views_MovedLaws
 pub use Rattle.moving_kept.proofs.views_LackingLaws
 pub use Rattle.moving_kept.proofs.views_LiveLeft
+pub use Rattle.moving_kept.proofs.views_BearerLaws
 pub use Rattle.moving_kept.proofs.views_Fit
 pub use Rattle.moving_kept.proofs.views_LackingLists
 pub use Rattle.moving_kept.proofs.views_HeldRows

@@ -117,7 +117,7 @@ not-mended-right world before given m shape placed force gone level pending refu
     (gone lacked.0 (let lt = lacked.4.0 in let disks = force-disks m.newest placed.fit shape force in omega (arith, lt, disks)) lacked.3, pending)
 
 -- A call that is refused so before any device is touched keeps the record.
-pub untried-moves : (tells : Type 0) (given : Given) (tape : List Operation) (scope : Scope) (first : ℕ) (entries : List Entry) (m : Members) (carried : ℕ → Bool)
+pub untried-moves : (tells : Type 0) (given : Given) (tape : List Operation) (scope : Scope) (first : ℕ) (entries : List Entry) (m : Members) (carried : ℕ → ℕ → Bool)
     (resync : Option ℕ) (course : Course) (buffer : List ℕ) (left : ℕ) (who : Who) (end mended : ℕ) (refusal : Refusal)
     → IsMoving tells given tape scope first entries m carried resync course buffer left → IsCallGoing entries who → IsFalse (who.caller == 254) → (tells → end ≡ length tape)
     → resync ≡ Some mended → mended < mend_stripes m.newest → IsNotMended (mend_shape m.newest mended) m refusal
@@ -135,7 +135,7 @@ aside-shown Closed aside x = refl
 aside-shown (Entered span copied sectioned) aside x = absurd aside
 aside-shown (Unsure span) aside x = refl
 
-module _ (tells : Type 0) (given : Given) (tape tape' : List Operation) (scope : Scope) (first : ℕ) (entries : List Entry) (old new : Members) (carried : ℕ → Bool)
+module _ (tells : Type 0) (given : Given) (tape tape' : List Operation) (scope : Scope) (first : ℕ) (entries : List Entry) (old new : Members) (carried : ℕ → ℕ → Bool)
     (resync : Option ℕ) (course : Course) (buffer : List ℕ) (left : ℕ) (who : Who) (end roles spares mended : ℕ)
     (was : IsMoving tells given tape scope first entries old carried resync course buffer left) (does : DoWithout old) (goes : IsCallGoing entries who) (caller : IsFalse (who.caller == 254))
     (at_end : tells → end ≡ length tape') (waits : resync ≡ Some mended) (aside : IsAside course.window) (below : mended < mend_stripes old.newest)
@@ -284,7 +284,7 @@ module _ (tells : Type 0) (given : Given) (tape tape' : List Operation) (scope :
 
 -- ---- its end
 
-module _ (tells : Type 0) (given : Given) (tape tape' : List Operation) (scope : Scope) (first : ℕ) (entries : List Entry) (old new : Members) (carried : ℕ → Bool)
+module _ (tells : Type 0) (given : Given) (tape tape' : List Operation) (scope : Scope) (first : ℕ) (entries : List Entry) (old new : Members) (carried : ℕ → ℕ → Bool)
     (resync : Option ℕ) (course : Course) (buffer : List ℕ) (left : ℕ) (who : Who) (end roles spares : ℕ)
     (was : IsMoving tells given tape scope first entries old carried resync course buffer left) (does : DoWithout old) (goes : IsCallGoing entries who) (caller : IsFalse (who.caller == 254))
     (at_end : tells → end ≡ length tape') (grows : Grows tells tape tape') (all : resync ≡ Some (mend_stripes old.newest)) (did : AreFlushed tells given tape tape' old new roles false) where

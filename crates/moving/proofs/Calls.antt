@@ -32,7 +32,7 @@ use Rattle.views.specs.Lacking.{AreTooMany}
 use Rattle.views.specs.Rebuilding.{Held}
 use Rattle.views.proofs.MovedLaws.{grows-none, moved-same}
 use Rattle.moving_laws.specs.shape_changes_Steady.{AreUnlost}
-use Rattle.moving_laws.specs.array_kept_Calls.{by_answer, IsLossBy, IsEndOf, IsRefusedFor, IsBehind}
+use Rattle.moving_laws.specs.array_kept_Calls.{by_answer, IsLossBy, WasSpare, IsEndOf, IsRefusedFor, IsBehind}
 use Rattle.moving_laws.proofs.array_kept_ReplyLaws.{too-many-of, refused-for}
 use Rattle.moving_laws.proofs.Kept.{AreSameShapes}
 use Rattle.moving_laws.specs.running_words_Parts.{RunningParts}
@@ -48,7 +48,7 @@ pub still-called : {B tells : Type 0} {given : Given} {tape : List Operation} {f
     → IsCalled tells given tape tape faults faults array array
 still-called {given = given} {faults = faults} array placed unlost ended begun =
     called (grows-none (λ t. refl)) (moved-same given given array.parts.members array.parts.members refl refl placed unlost) ended
-    (record { more = []; grown = sym (append-nil array.parts.entries); failed = All-nil (λ e. IsLossBy (Held array.parts.members) faults faults e.event) })
+    (record { more = []; grown = sym (append-nil array.parts.entries); failed = All-nil (λ e. IsLossBy (Held array.parts.members) (WasSpare array.parts.members) faults faults e.event) })
     (λ slot. omega arith)
     (record { uuid = refl; given = refl; first = refl; backup = refl; work = refl; ahead = refl; limit = refl })
     begun

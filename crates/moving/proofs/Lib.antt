@@ -37,4 +37,22 @@ pub use Rattle.moving_laws.proofs.history_laws_OneShapeGrowing
 pub use Rattle.moving_laws.proofs.history_laws_ReshapedLaws
 pub use Rattle.moving_laws.proofs.history_laws_GrowingLaws
 pub mod StepLaws
-mod Calls
+pub mod Calls
+pub use Rattle.moving_laws.proofs.array_kept_LossLaws
+pub use Rattle.moving_laws.proofs.array_kept_ReadyLaws
+pub use Rattle.moving_laws.proofs.array_kept_ReplyLaws
+pub use Rattle.moving_laws.proofs.moving_kept_FinishedCall
+pub use Rattle.moving_laws.proofs.moving_kept_Going
+pub use Rattle.moving_laws.proofs.RecordLaws as moving_laws_RecordLaws
+pub use Rattle.moving_laws.proofs.Settled as moving_laws_Settled
+pub use Rattle.moving_laws.proofs.WriteLaws as moving_laws_WriteLaws
+pub use Rattle.moving_laws.proofs.ZeroLaws as moving_laws_ZeroLaws
+pub use Rattle.moving_laws.proofs.BarredLaws as moving_laws_BarredLaws
+pub use Rattle.moving_laws.proofs.FirstLaws as moving_laws_FirstLaws
+pub use Rattle.moving_laws.proofs.Examined as moving_laws_Examined
+pub use Rattle.moving_laws.proofs.EnterLaws as moving_laws_EnterLaws
+pub use Rattle.moving_laws.proofs.DueSteps as moving_laws_DueSteps
+pub use Rattle.moving_laws.proofs.calls_kept_ReadLaws
+pub use Rattle.moving_laws.proofs.moving_kept_Writing
+pub use Rattle.moving_laws.proofs.WriteReplies as moving_laws_WriteReplies
+pub use Rattle.moving_laws.proofs.Entered as moving_laws_Entered

@@ -38,3 +38,15 @@ pub use Rattle.moving_laws.specs.shape_views_Views
 pub use Rattle.grow_asked.specs.declared.window.PhasesLeft as grow_asked_the_PhasesLeft
 pub use Rattle.superblocks.specs.declared.members.Members as superblocks_the_Members
 pub use Rattle.superblocks.specs.Reading as superblocks_Reading
+pub use Rattle.moving_laws.specs.array_kept_Calls
+pub use Rattle.moving_laws.specs.Refusing as moving_laws_Refusing
+pub use Rattle.moving_laws.specs.list_io_Full
+pub use Rattle.moving_laws.specs.shape_views_Windows
+pub use Rattle.moving_laws.specs.safe_updates_Unused
+pub use Rattle.moving_laws.specs.window_rows_Copies
+pub use Rattle.moving_laws.specs.window_calls_Finishing
+pub use Rattle.moving_laws.specs.region_writes_Runs
+pub use Rattle.moving_laws.specs.safe_updates_First
+pub use Rattle.moving_laws.specs.array_kept_Kept
+pub use Rattle.moving_laws.specs.course_mends_Mended
+pub use Rattle.moving_laws.specs.moving_state_Left

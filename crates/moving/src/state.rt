@@ -10,24 +10,18 @@ ghost use Rattle.moving_laws.specs.running_words_Parts.{left_in};
 
 mod adding;
 mod asking;
-mod clearing;
 mod ending;
-mod entering;
 mod examining;
 mod failing;
-mod finishing;
+mod going;
 mod mending;
-mod moves;
 mod parting;
 mod reading;
-mod recording;
 mod settling;
-mod stepping;
-mod writing;
-mod zeroing;
 
 use bank::Bank;
 use flat_history::Epoch;
+pub use going::check_going;
 use grow_asked::{PhasesLeft, planned_left, reshape_left};
 use moving_laws::{Course, final_in, resync_left};
 use std::alloc::Global;
@@ -40,21 +34,21 @@ use views::Work;
 /// of its visible size in sectors.
 #[derive(Drop)]
 pub struct Moving<B: Bank> {
-    alloc: Global,
-    bank: B,
-    epoch: Epoch,
-    backup: u32,
-    members: Members,
-    work: Work,
-    course: Course,
-    ahead: PhasesLeft,
-    limit: Option<u64>,
-    steps: u64,
-    rows: Vec<u64>,
-    buffer: Vec<u8>,
-    far_rows: Vec<u64>,
-    far_buffer: Vec<u8>,
-    window: Vec<u8>,
+    pub alloc: Global,
+    pub bank: B,
+    pub epoch: Epoch,
+    pub backup: u32,
+    pub members: Members,
+    pub work: Work,
+    pub course: Course,
+    pub ahead: PhasesLeft,
+    pub limit: Option<u64>,
+    pub steps: u64,
+    pub rows: Vec<u64>,
+    pub buffer: Vec<u8>,
+    pub far_rows: Vec<u64>,
+    pub far_buffer: Vec<u8>,
+    pub window: Vec<u8>,
 }
 
 impl<B: Bank> Model for Moving<B> {
@@ -88,8 +82,8 @@ impl<B: Bank> Model for Moving<B> {
         (vec_capacity a.rows) (length a.buffer.items) (vec_capacity a.far_rows) (length a.far_buffer.items) };
 }
 
-// The steps that are left, of the reshape, of a pending resync and of the phases ahead.
-pub(crate) fn steps_left(members: &Members, work: &Work, course: &Course, ahead: &PhasesLeft) -> u64
+/// The steps that are left, of the reshape, of a pending resync and of the phases ahead.
+pub fn all_left(members: &Members, work: &Work, course: &Course, ahead: &PhasesLeft) -> u64
     requires fit { AreShapesFit members.now.newest }
     requires reshape { IsReshapeUnderWay members.now.newest }
     requires open { IsWindowRight members.now.newest course.now.window }
@@ -146,6 +140,6 @@ impl<B: Bank> Moving<B> {
     pub fn left(&self) -> u64
         ensures { result ≡ left_in self.now.parts.work self.now.parts.members self.now.course self.now.ahead }
     {
-        steps_left(&self.members, &self.work, &self.course, &self.ahead)
+        all_left(&self.members, &self.work, &self.course, &self.ahead)
     }
 }

@@ -29,7 +29,7 @@ use Rattle.moving_kept.specs.flat_history_the_Event.{Event}
 use Rattle.moving_kept.specs.flat_history_the_Event_TheVariants.{Lost, SpareLost, Resized, Step}
 use Rattle.moving_kept.specs.flat_history_the_LostCause_TheVariants.{Fault}
 use Rattle.moving_kept.specs.flat_history_the_StepKind_TheVariants.{Finished}
-use Rattle.moving_kept.specs.flat_history_Epochs.{HasRoomForEvents, OpensAlike}
+use Rattle.moving_kept.specs.flat_history_Epochs.{HasRoomForEvents}
 use Rattle.moving_kept.specs.flat_history_Flat.{is_same_call, length_of, resized, values_of, now}
 use Rattle.moving_kept.specs.flat_history_Legal.{call_before, disturbs, end_before, is_all_gone, is_free_step, known_left, left_after, level_after, level_at, size_at, target_at, told_left, IsResized, IsResizedAfter, IsStep, IsUnkeptLength}
 use Rattle.moving_kept.specs.flat_history_Losses.{is_gone_after, is_unsynced, loses, unsettles}
@@ -60,7 +60,7 @@ use Rattle.moving_kept.specs.kept_history_Safe.{world_in, IsFilledRight, IsSafeH
 use Rattle.moving_kept.specs.kept_history_Told.{told_now, told_by}
 use Rattle.moving_kept.proofs.kept_history_Entered.{AreAdding, adding-losses, told-adding, length-more, length-adding, values-more, values-adding, gone-was, gone-lost}
 use Rattle.moving_kept.proofs.kept_history_Calls.{LeavesSoundFrom}
-use Rattle.moving_kept.proofs.kept_history_Growing.{reading-grown, opening-grown, fit-grown, gone-grown, unsynced-grown, now-grown, alike-before, room-before, room-now}
+use Rattle.moving_kept.proofs.kept_history_Growing.{reading-grown, opening-grown, fit-grown, gone-grown, unsynced-grown, now-grown, room-before, room-now}
 use Rattle.moving_kept.proofs.kept_history_KeptCalls.{kept-call}
 use Rattle.moving_kept.proofs.kept_history_Ledgers.{any-gone, unclean-now}
 use Rattle.moving_kept.proofs.kept_history_Lengths.{length-now, now-drawn}
@@ -93,12 +93,12 @@ use Rattle.moving_kept.proofs.Steps.{told-behind}
 
 -- What the end of a reshape leaves: the list stands by the new shape; its update is safe from one ledger to another; what is missing then was missing, or is told
 -- lost; and what is read at its end says the former shapes or the new one.
-pub record IsEndingCall (given : Given) (tape : List Operation) (scope : Scope) (first : ℕ) (old new : Members) (carried carried' : ℕ → Bool) (zeroed : ℕ) (buffer : List ℕ) (roles late : ℕ) (tape' : List Operation) : Type 0 where
+pub record IsEndingCall (given : Given) (tape : List Operation) (scope : Scope) (first : ℕ) (old new : Members) (carried carried' : ℕ → ℕ → Bool) (zeroed : ℕ) (buffer : List ℕ) (roles late : ℕ) (tape' : List Operation) : Type 0 where
   pub have : HaveEnded given old new
   pub clean : is_clean new.newest ≡ is_clean old.newest
   pub few : role_count new.newest ≤ 16
   pub within : (role : ℕ) → IsAmong roles role → role < 16
-  pub numbers : (number : ℕ) → carried number ≡ true → carried' number ≡ true
+  pub numbers : (slot number : ℕ) → carried slot number ≡ true → carried' slot number ≡ true
   pub since : (role : ℕ) → role < role_count new.newest → is_missing (reading_of new) role ≡ true
       → ((role < role_count old.newest) × (is_missing (reading_of old) role ≡ true)) ⊎ (IsAmong roles role ⊎ IsAmong late role)
   pub rise : IsRisen ⊤ old new tape tape'
@@ -108,7 +108,7 @@ pub record IsEndingCall (given : Given) (tape : List Operation) (scope : Scope) 
       → IsSafeOver (world_in given tape scope first) given told old tape → IsEitherRead scope (present given tape') old.newest new.newest
   pub safe : (told more : Ledger) → (list : ℕ → Sector) → HasRoomLeft old tape tape' → IsFinishable (OpensFit (world_in given tape scope first)) more old (present given tape) list
       → AreGoneTold told old → ((role : ℕ) → IsAmong roles role → told.gone role ≡ true) → AreGoneTold more new → IsUncleanTold told old → IsUncleanTold more old
-      → ((number : ℕ) → told.carried number ≡ true → more.carried number ≡ true) → IsSafeOver (world_in given tape scope first) given told old tape
+      → ((slot number : ℕ) → told.carried slot number ≡ true → more.carried slot number ≡ true) → IsSafeOver (world_in given tape scope first) given told old tape
       → IsSafeChange (OpensFit (world_in given tape scope first)) scope given told more new tape tape'
 
 -- If no step is left, the plans that are open go to the shape of this reshape.
@@ -140,7 +140,7 @@ disturbs-entries : (who : Who) (end : ℕ) (xs : List Event) → list_any (λ e.
 disturbs-entries who end [] = refl
 disturbs-entries who end (x ∷ xs) = ap (λ (b : Bool). disturbs x || b) (disturbs-entries who end xs)
 
-module _ (given : Given) (tape : List Operation) (scope : Scope) (first : ℕ) (entries : List Entry) (old new : Members) (carried carried' : ℕ → Bool) (buffer : List ℕ) (zeroed steps left : ℕ)
+module _ (given : Given) (tape : List Operation) (scope : Scope) (first : ℕ) (entries : List Entry) (old new : Members) (carried carried' : ℕ → ℕ → Bool) (buffer : List ℕ) (zeroed steps left : ℕ)
     (who : Who) (roles spares late late_spares : ℕ) (ops : List Operation) (tells : Type 0) (was : IsMoving tells given tape scope first entries old carried None (closed zeroed) buffer steps) (t : tells)
     (few_roles : role_count old.newest ≤ 16)
     (all_zeroed : zeroed ≡ zeroed_stripes (shape_of old.newest) (final_shape old.newest) old.newest.size (is_backward old.newest))
@@ -316,7 +316,7 @@ module _ (given : Given) (tape : List Operation) (scope : Scope) (first : ℕ) (
   -- ---- what is gone
 
   pub ended-before : IsReliable later all → IsReliable world entries
-  ended-before right = record { fills = filled-before world ops entries added begun recorded.ends right.fills; room = room-before world ops begun right.room; alike = alike-before world ops begun right.alike }
+  ended-before right = record { fills = filled-before world ops entries added begun recorded.ends right.fills; room = room-before world ops begun right.room }
 
   gone-behind : (role : ℕ) → (is_gone_after later entries role || list_any (loses later role) added) ≡ true → is_gone_after later all role ≡ true
   gone-behind role is = any-gone later role entries added (regains-none later role added gives-all) is
@@ -338,7 +338,7 @@ module _ (given : Given) (tape : List Operation) (scope : Scope) (first : ℕ) (
 
   told-first : IsMoreTold (told_now world carried true entries) told
   told-first = subst (λ (l : Ledger). IsMoreTold l told) (now-grown world ops begun carried true entries recorded.ends)
-      (told-adding later carried carried true true entries flushed adds-first (λ number is. is) (λ is. is))
+      (told-adding later carried carried true true entries flushed adds-first (λ slot number is. is) (λ is. is))
 
   told-gone : IsReliable world entries → AreGoneTold told old
   told-gone right role lt miss = gone-was later entries flushed role (gone-still right role lt miss)
@@ -397,15 +397,15 @@ module _ (given : Given) (tape : List Operation) (scope : Scope) (first : ℕ) (
 
   module _ (reshaping' : Bool) (goes_on : (HasLiveSlot new → ⊥) → reshaping' ≡ true)
       (fills : IsFilledRight (world_in given (tape ++ ops) scope first) (entries ++ entries_of who (length (tape ++ ops)) (ending_events roles spares left (grown_to (list_length old.newest) (list_length new.newest)) late late_spares)))
-      (room : HasRoomForEvents (world_in given (tape ++ ops) scope first)) (alike : OpensAlike (world_in given (tape ++ ops) scope first)) where
+      (room : HasRoomForEvents (world_in given (tape ++ ops) scope first)) where
     right : IsReliable later all
-    right = record { fills = fills; room = room; alike = alike }
+    right = record { fills = fills; room = room }
 
     abbrev before : IsReliable (world_in given tape scope first) entries
-    before = ended-before (record { fills = fills; room = room; alike = alike })
+    before = ended-before (record { fills = fills; room = room })
 
     safe-before : IsSafeHistory ⊤ world given old carried true entries
-    safe-before = was.safe t before.fills before.room before.alike
+    safe-before = was.safe t before.fills before.room
 
     room-left : HasRoomLeft old tape (tape ++ ops)
     room-left = room-now world ops begun old safe-before.counted room
@@ -414,7 +414,7 @@ module _ (given : Given) (tape : List Operation) (scope : Scope) (first : ℕ) (
     live-old = without-left given old was.members_are.placed was.members_are.unlost call.have.enough
 
     safe-old : IsSafeOver world given told old tape
-    safe-old = now-more (OpensFit world) scope given (told_now world carried true entries) told old (disk given.start tape) told-first (safe-now was live-old t before.fills before.room before.alike)
+    safe-old = now-more (OpensFit world) scope given (told_now world carried true entries) told old (disk given.start tape) told-first (safe-now was live-old t before.fills before.room)
 
     abbrev more : Ledger
     more = told_now later carried' reshaping' all
@@ -632,8 +632,8 @@ module _ (given : Given) (tape : List Operation) (scope : Scope) (first : ℕ) (
     early-parts : entries_of who end early ≡ flushed ++ step ∷ []
     early-parts = entries-both who end losses (Step Finished left ∷ [])
 
-    less-early : IsMoreTold told (told_by later (λ number. true) true entries (entries_of who end early))
-    less-early = subst (λ (l : List Entry). IsMoreTold told (told_by later (λ number. true) true entries l)) (sym early-parts) (told-longer later carried entries flushed (step ∷ []) adds-first refl)
+    less-early : IsMoreTold told (told_by later (λ slot number. true) true entries (entries_of who end early))
+    less-early = subst (λ (l : List Entry). IsMoreTold told (told_by later (λ slot number. true) true entries l)) (sym early-parts) (told-longer later carried entries flushed (step ∷ []) adds-first refl)
 
     -- the entries up to the step take no more than all
     gone-early : (role : ℕ) → (is_gone_after later entries role || list_any (loses later role) (entries_of who end early)) ≡ true → is_gone_after later all role ≡ true
@@ -683,7 +683,7 @@ module _ (given : Given) (tape : List Operation) (scope : Scope) (first : ℕ) (
     safe-same : nat_lt (list_length old.newest) (list_length new.newest) ≡ false → P events
     safe-same is =
         either-call ⊤ given tape scope first entries old new carried carried' true reshaping' who events ops told was.sizes_are begun recorded.ends fills safe-before call.rise leaves-sound
-        (subst (λ (l : List Entry). IsMoreTold told (told_by later (λ number. true) true entries l)) (sym added-parts) (told-longer later carried entries flushed (step ∷ rest) adds-first (adds-rest is))) change (most is)
+        (subst (λ (l : List Entry). IsMoreTold told (told_by later (λ slot number. true) true entries l)) (sym added-parts) (told-longer later carried entries flushed (step ∷ rest) adds-first (adds-rest is))) change (most is)
 
     pub ended-safe : IsSafeHistory ⊤ later given new carried' reshaping' all
     ended-safe = of longer refl
@@ -698,4 +698,4 @@ module _ (given : Given) (tape : List Operation) (scope : Scope) (first : ℕ) (
   ended-recorded goes caller =
       kept-call (IsReliable world entries) (IsReliable later all) world ops (list_length old.newest) (list_length new.newest) entries who events goes recorded ended-before caller (λ right. inr gives-all)
       length-all (ending-last who end roles spares left longer size late late_spares first entries)
-      (λ right. ended-legal true (λ none. refl) right.fills right.room right.alike) (λ right fit. ended-right true (λ none. refl) right.fills right.room right.alike fit)
+      (λ right. ended-legal true (λ none. refl) right.fills right.room) (λ right fit. ended-right true (λ none. refl) right.fills right.room fit)

@@ -63,7 +63,7 @@ pub record IsEndedBy (tells : Type 0) (given : Given) (tape tape' : List Operati
   pub since : (role : ℕ) → role < role_count new.newest → is_missing (reading_of new) role ≡ true → (is_missing (reading_of old) role ≡ true) ⊎ (IsAmong roles role ⊎ IsAmong late role)
   pub safe : tells → (world : World) → (told more : Ledger) → (list : ℕ → Sector) → HasRoomLeft old tape tape' → ArePlaced world.scope given old
       → IsFinishable (OpensFit world) more old (present given tape) list → AreGoneTold told old → ((role : ℕ) → IsAmong roles role → told.gone role ≡ true) → AreGoneTold more new
-      → IsUncleanTold told old → IsUncleanTold more old → ((number : ℕ) → told.carried number ≡ true → more.carried number ≡ true) → IsSafeOver world given told old tape
+      → IsUncleanTold told old → IsUncleanTold more old → ((slot number : ℕ) → told.carried slot number ≡ true → more.carried slot number ≡ true) → IsSafeOver world given told old tape
       → IsSafeChange (OpensFit world) world.scope given told more new tape tape'
 
 -- What is missing then was so, or it is told lost: the late roles are those that no slot holds then, but for those that none held before, and those that were told lost
@@ -160,8 +160,8 @@ module _ (tells : Type 0) (given : Given) (tape tape' : List Operation) (scope :
       larger : (a b : ℕ) → b ≤ max a b
       larger a b = omega arith
 
-  pub ended-call : (carried carried' : ℕ → Bool) (zeroed : ℕ) (buffer : List ℕ) → zeroed ≡ zeroed_stripes (shape_of old.newest) (final_shape old.newest) old.newest.size (is_backward old.newest)
-      → ((number : ℕ) → carried number ≡ true → carried' number ≡ true) → IsEndingCall given tape scope first old new carried carried' zeroed buffer roles late tape'
+  pub ended-call : (carried carried' : ℕ → ℕ → Bool) (zeroed : ℕ) (buffer : List ℕ) → zeroed ≡ zeroed_stripes (shape_of old.newest) (final_shape old.newest) old.newest.size (is_backward old.newest)
+      → ((slot number : ℕ) → carried slot number ≡ true → carried' slot number ≡ true) → IsEndingCall given tape scope first old new carried carried' zeroed buffer roles late tape'
   ended-call carried carried' zeroed buffer all numbers = record {
     have = have-ended;
     clean = did.over.clean;

@@ -12,7 +12,7 @@ use Rattle.moving_kept.specs.superblocks_Reading.{Scope, is_backward, shape_of, 
 use Rattle.moving_kept.proofs.superblocks_ValidFields.{few-roles}
 use Rattle.moving_kept.specs.row_io_Rows.{present}
 use Rattle.moving_kept.specs.flat_history_the_Entry.{Entry}
-use Rattle.moving_kept.specs.flat_history_Epochs.{HasRoomForEvents, OpensAlike}
+use Rattle.moving_kept.specs.flat_history_Epochs.{HasRoomForEvents}
 use Rattle.moving_kept.specs.flat_history_Flat.{now}
 use Rattle.moving_kept.specs.flat_history_Legal.{level_at}
 use Rattle.moving_kept.specs.flat_history_Losses.{is_unsynced}
@@ -46,7 +46,7 @@ told-still m = elim (some-or-none m false m.lost) [
 ]
 
 -- What the call leaves, of what is kept over a bank that tells its contents.
-record IsStillLeft (given : Given) (tape : List Operation) (scope : Scope) (first : ℕ) (entries all : List Entry) (old new : Members) (carried' : ℕ → Bool) (reshaping : Bool) (tape' : List Operation) : Type 0 where
+record IsStillLeft (given : Given) (tape : List Operation) (scope : Scope) (first : ℕ) (entries all : List Entry) (old new : Members) (carried' : ℕ → ℕ → Bool) (reshaping : Bool) (tape' : List Operation) : Type 0 where
   pub right : IsReliable (world_in given tape' scope first) all → IsReliable (world_in given tape scope first) entries
   pub levelled : level_at (world_in given tape' scope first) all ≡ level_at (world_in given tape scope first) entries
   pub gone : IsReliable (world_in given tape' scope first) all → AreToldGone (world_in given tape' scope first) all new
@@ -54,14 +54,14 @@ record IsStillLeft (given : Given) (tape : List Operation) (scope : Scope) (firs
   pub recorded : IsHistoryKept (IsReliable (world_in given tape' scope first) all) (world_in given tape' scope first) (list_length new.newest) all
   pub past : IsNonePast (world_in given tape' scope first) all (list_length new.newest)
   pub listed : IsFilledRight (world_in given tape' scope first) all → HasListStill (OpensFit (world_in given tape' scope first)) new (present given tape') (now (opening_list (world_in given tape' scope first)) all)
-  pub safe : IsFilledRight (world_in given tape' scope first) all → HasRoomForEvents (world_in given tape' scope first) → OpensAlike (world_in given tape' scope first)
+  pub safe : IsFilledRight (world_in given tape' scope first) all → HasRoomForEvents (world_in given tape' scope first)
       → IsSafeHistory ⊤ (world_in given tape' scope first) given new carried' reshaping all
 
-module _ (tells : Type 0) (given : Given) (tape tape' : List Operation) (scope : Scope) (first : ℕ) (entries : List Entry) (old new : Members) (carried carried' : ℕ → Bool) (buffer : List ℕ) (zeroed steps left : ℕ)
+module _ (tells : Type 0) (given : Given) (tape tape' : List Operation) (scope : Scope) (first : ℕ) (entries : List Entry) (old new : Members) (carried carried' : ℕ → ℕ → Bool) (buffer : List ℕ) (zeroed steps left : ℕ)
     (who : Who) (end roles spares late late_spares : ℕ) (was : IsMoving tells given tape scope first entries old carried None (closed zeroed) buffer steps) (goes : IsCallGoing entries who) (caller : IsFalse (who.caller == 254))
     (at_end : tells → end ≡ length tape') (grows : Grows tells tape tape')
     (all_zeroed : zeroed ≡ zeroed_stripes (shape_of old.newest) (final_shape old.newest) old.newest.size (is_backward old.newest))
-    (stepped : IsStepped old steps left (losses_of roles spares ++ losses_of late late_spares)) (planned : tells → IsPlannedTo (world_in given tape scope first) entries old left) (numbers : (number : ℕ) → carried number ≡ true → carried' number ≡ true)
+    (stepped : IsStepped old steps left (losses_of roles spares ++ losses_of late late_spares)) (planned : tells → IsPlannedTo (world_in given tape scope first) entries old left) (numbers : (slot number : ℕ) → carried slot number ≡ true → carried' slot number ≡ true)
     (did : IsEndedBy tells given tape tape' old new roles late) where
   few : role_count old.newest ≤ 16
   few = few-roles old.newest was.members_are.placed.fit.valid

@@ -198,7 +198,7 @@ before-step (x ∷ before) e other = step-by _ (list_all (λ e. is_loss e.event)
 -- ---- what is told
 
 -- A call tells more with more entries that add, whatever numbers are known.
-module _ (world : World) (carried : ℕ → Bool) (entries xs ys : List Entry) (first : AreAdding xs) (second : AreAdding ys) where
+module _ (world : World) (carried : ℕ → ℕ → Bool) (entries xs ys : List Entry) (first : AreAdding xs) (second : AreAdding ys) where
   abbrev opening : List Sector
   opening = opening_list world
 
@@ -222,7 +222,7 @@ module _ (world : World) (carried : ℕ → Bool) (entries xs ys : List Entry) (
   four false false true d is = refl
   four false false false d is = absurd (cc)
 
-  pub told-longer : IsMoreTold (told_by world carried true entries xs) (told_by world (λ number. true) true entries (xs ++ ys))
+  pub told-longer : IsMoreTold (told_by world carried true entries xs) (told_by world (λ slot number. true) true entries (xs ++ ys))
   told-longer = record {
     size = longer-length;
     values = λ x lt v may. longer-values x v may;
@@ -231,5 +231,5 @@ module _ (world : World) (carried : ℕ → Bool) (entries xs ys : List Entry) (
     unclean = λ is. ap (λ (b : Bool). is_unsynced world entries || (is_unsettled entries || b)) (list_any-append (λ e. unsettles e.event) xs ys)
         ∙ four (is_unsynced world entries) (is_unsettled entries) (list_any (λ e. unsettles e.event) xs) (list_any (λ e. unsettles e.event) ys) is;
     reshaping = λ is. is;
-    carried = λ number is. refl;
+    carried = λ slot number is. refl;
   }

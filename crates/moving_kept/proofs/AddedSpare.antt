@@ -31,6 +31,7 @@ use Rattle.course_mends.specs.flat_history_World.{World, opening_list}
 use Rattle.course_mends.specs.shape_views_Regions.{backup_of, ArePlaced, DoWithout}
 use Rattle.course_mends.specs.shape_views_Views.{Disk, Ledger}
 use Rattle.course_mends.specs.shape_views_Windows.{AreFewer}
+use Rattle.course_mends.specs.shape_changes_Carried.{AreToldAnew}
 use Rattle.course_mends.specs.shape_changes_Marking.{AreOthersPresent}
 use Rattle.course_mends.specs.shape_changes_Safety.{HasLiveSlot, HasRoomLeft, IsRisen}
 use Rattle.course_mends.specs.shape_changes_Steady.{IsMoreTold, IsSafeOver, KeepsSafe, AreGoneTold, IsUncleanTold, with_number}
@@ -57,6 +58,7 @@ use Rattle.history_calls.specs.call_entries_Losing.{losses_of}
 use Rattle.history_calls.proofs.call_entries_CallLaws.{losses-are}
 use Rattle.history_calls.proofs.call_entries_LeftLaws.{TellLeft, left-behind, left-more}
 use Rattle.array_kept.specs.Calls.{IsUnaddable}
+use Rattle.history_calls.proofs.kept_history_Anew.{history-anew}
 use Rattle.history_calls.specs.kept_history_Recorded.{IsCallGoing, entry_of}
 use Rattle.history_calls.specs.kept_history_Safe.{world_in, OpensOnCourse}
 use Rattle.course_mends.specs.course_kept_the_Course.{Course}
@@ -155,14 +157,14 @@ fewer-backup scope window d e fewer = record {
 -- ---- what is told with the new number
 
 -- these numbers are told instead, which are no fewer
-more-carried : (told : Ledger) (carried : ℕ → Bool) → ((number : ℕ) → told.carried number ≡ true → carried number ≡ true) → IsMoreTold told (record told { carried = carried })
+more-carried : (told : Ledger) (carried : ℕ → ℕ → Bool) → ((slot number : ℕ) → told.carried slot number ≡ true → carried slot number ≡ true) → IsMoreTold told (record told { carried = carried })
 more-carried told carried more = record { size = refl; values = λ x lt v may. may; gone = λ role is. is; unclean = λ is. is; reshaping = λ is. is; carried = more }
 
 -- ---- the call
 
 -- A slot without a part in the array was flushed and looked at, up to the tape `mid`, and then made a spare with this superblock, or lost in this. Others may
 -- have been lost; these roles are told of them. The superblock's number is one more that is known then.
-pub record IsSpareMade (tells : Type 0) (given : Given) (tape mid tape' : List Operation) (scope : Scope) (old new : Members) (carried carried' : ℕ → Bool) (slot : ℕ) (sb : Sb) (roles : ℕ) : Type 0 where
+pub record IsSpareMade (tells : Type 0) (given : Given) (tape mid tape' : List Operation) (scope : Scope) (old new : Members) (carried carried' : ℕ → ℕ → Bool) (slot : ℕ) (sb : Sb) (roles : ℕ) : Type 0 where
   pub there : slot < given.slots
   pub apart : backup_of scope ≢ slot
   pub untaken : (role : ℕ) → MayHold old role slot → ⊥
@@ -170,9 +172,9 @@ pub record IsSpareMade (tells : Type 0) (given : Given) (tape mid tape' : List O
   pub made : IsSpareSb given old.newest slot sb
   pub own : length old.own ≡ 32
   pub of_scope : IsOfScope scope given slot sb
-  pub unknown : carried sb.dev_number ≡ false
-  pub carries : (number : ℕ) → carried number ≡ true → carried' number ≡ true
-  pub known : carried' sb.dev_number ≡ true
+  pub unknown : (s : ℕ) → carried s sb.dev_number ≡ false
+  pub carries : (slot number : ℕ) → carried slot number ≡ true → carried' slot number ≡ true
+  pub known : carried' slot sb.dev_number ≡ true
   pub looked : tells → OnlyFlushesAdded tape mid
   pub second : tells → (sector : Sector) → IsIn (disk given.start mid slot 9) sector → IsSecondHalf sb sector
   pub moved : IsMoved given (with_spare slot sb old) new
@@ -182,11 +184,11 @@ pub record IsSpareMade (tells : Type 0) (given : Given) (tape mid tape' : List O
   pub others : tells → AreOthersPresent (present given mid) (present given tape')
   pub rest : tells → IsRestKept (with_spare slot sb old) (disk given.start mid) (disk given.start tape')
   pub rise : IsRisen tells (with_spare slot sb old) new mid tape'
-  pub safe : tells → (world : World) → (told : Ledger) → HasRoomLeft old mid tape' → AreGoneTold told new → IsUncleanTold told old → IsOfScope world.scope given slot sb → told.carried sb.dev_number ≡ false
+  pub safe : tells → (world : World) → (told : Ledger) → HasRoomLeft old mid tape' → AreGoneTold told new → IsUncleanTold told old → IsOfScope world.scope given slot sb → ((s : ℕ) → told.carried s sb.dev_number ≡ false)
       → ((sector : Sector) → IsIn (disk given.start mid slot 9) sector → IsSecondHalf sb sector) → HasLiveSlot old
-      → IsSafeOver world given told old mid → KeepsSafe world given (with_number sb.dev_number told) new mid tape'
+      → IsSafeOver world given told old mid → KeepsSafe world given (with_number slot sb.dev_number told) new mid tape'
 
-module _ (tells : Type 0) (given : Given) (tape mid tape' : List Operation) (scope : Scope) (first : ℕ) (entries : List Entry) (old new : Members) (carried carried' : ℕ → Bool)
+module _ (tells : Type 0) (given : Given) (tape mid tape' : List Operation) (scope : Scope) (first : ℕ) (entries : List Entry) (old new : Members) (carried carried' : ℕ → ℕ → Bool)
     (resync : Option ℕ) (course : Course) (buffer : List ℕ) (left : ℕ) (who : Who) (end slot : ℕ) (sb : Sb) (roles spares : ℕ)
     (was : IsMoving tells given tape scope first entries old carried resync course buffer left) (goes : IsCallGoing entries who) (caller : IsFalse (who.caller == 254)) (at_end : tells → end ≡ length tape')
     (did : IsSpareMade tells given tape mid tape' scope old new carried carried' slot sb roles) where
@@ -240,16 +242,17 @@ module _ (tells : Type 0) (given : Given) (tape mid tape' : List Operation) (sco
 
   -- ---- each mark
 
-  both-carried : (told : Ledger) → told.carried ≡ carried → IsMoreTold (with_number sb.dev_number told) (record told { carried = carried' })
-  both-carried told same = more-carried (with_number sb.dev_number told) carried' (λ number is. by number (told.carried number) (number == sb.dev_number) refl refl is)
+  both-carried : (told : Ledger) → told.carried ≡ carried → IsMoreTold (with_number slot sb.dev_number told) (record told { carried = carried' })
+  both-carried told same = more-carried (with_number slot sb.dev_number told) carried' (λ s number is. by s number (told.carried s number) (s == slot) (number == sb.dev_number) refl refl refl is)
     where
       same-as : (a b : ℕ) → (a == b) ≡ true → a ≡ b
       same-as a b e = grind (arith, nat_tests, e)
 
-      by : (number : ℕ) (a b : Bool) → told.carried number ≡ a → (number == sb.dev_number) ≡ b → (a || b) ≡ true → carried' number ≡ true
-      by number true b here there is = did.carries number (sym (ap (λ (c : ℕ → Bool). c number) same) ∙ here)
-      by number false true here there is = ap carried' (same-as number sb.dev_number there) ∙ did.known
-      by number false false here there is = absurd (cc)
+      by : (s number : ℕ) (a b c : Bool) → told.carried s number ≡ a → (s == slot) ≡ b → (number == sb.dev_number) ≡ c → (a || (b && c)) ≡ true → carried' s number ≡ true
+      by s number true b c before here there is = did.carries s number (sym (ap (λ (told : ℕ → ℕ → Bool). told s number) same) ∙ before)
+      by s number false true true before here there is = (λ i. carried' (same-as s slot here i) (same-as number sb.dev_number there i)) ∙ did.known
+      by s number false true false before here there is = absurd (cc)
+      by s number false false c before here there is = absurd (cc)
 
   keeps-all : tells → (told : Ledger) → told.carried ≡ carried → HasRoomLeft old tape tape' → AreGoneTold told new → IsUncleanTold told old
       → IsSafeOver (world_in given tape scope first) given told old tape → KeepsSafe (world_in given tape scope first) given (record told { carried = carried' }) new tape tape'
@@ -258,10 +261,10 @@ module _ (tells : Type 0) (given : Given) (tape mid tape' : List Operation) (sco
       let more = record told { carried = carried' } in
       let longer = added-longer tape mid (did.looked t) in
       let flushed = flushed-safe (OpensFit world) scope given told old tape mid (did.looked t) before in
-      let done = did.safe t world told (λ some. let r = room some in omega (arith, r, longer)) gone unclean did.of_scope (ap (λ (c : ℕ → Bool). c sb.dev_number) same ∙ did.unknown) (did.second t) live flushed.next in
+      let done = did.safe t world told (λ some. let r = room some in omega (arith, r, longer)) gone unclean did.of_scope (λ s. ap (λ (c : ℕ → ℕ → Bool). c s sb.dev_number) same ∙ did.unknown s) (did.second t) live flushed.next in
       safe-then (OpensFit world) scope given more old new tape mid tape'
-      (stretch-more (OpensFit world) scope given told more old tape mid (more-carried told carried' (λ number is. did.carries number (sym (ap (λ (c : ℕ → Bool). c number) same) ∙ is))) flushed)
-      (stretch-more (OpensFit world) scope given (with_number sb.dev_number told) more new mid tape' (both-carried told same) done)
+      (stretch-more (OpensFit world) scope given told more old tape mid (more-carried told carried' (λ s number is. did.carries s number (sym (ap (λ (c : ℕ → ℕ → Bool). c s number) same) ∙ is))) flushed)
+      (stretch-more (OpensFit world) scope given (with_number slot sb.dev_number told) more new mid tape' (both-carried told same) done)
 
   -- ---- what is kept
 
@@ -297,10 +300,36 @@ module _ (tells : Type 0) (given : Given) (tape mid tape' : List Operation) (sco
   pub added-lost-moves : IsMoving tells given tape' scope first (entries ++ entries_of who end (losses_of roles spares ++ Refused (SlotFault slot) ∷ [])) new carried' resync course buffer left
   added-lost-moves = spare-moves (Refused (SlotFault slot)) (quiet-refusal (SlotFault slot)) (λ told is. is) (λ world before e. tt)
 
+-- ---- the number of a new spare
+
+-- the device numbers that slots may bear may be told anew
+pub moves-anew : (tells : Type 0) (given : Given) (tape : List Operation) (scope : Scope) (first : ℕ) (entries : List Entry) (m : Members) (carried carried' : ℕ → ℕ → Bool)
+    (resync : Option ℕ) (course : Course) (buffer : List ℕ) (left : ℕ) → AreToldAnew m carried carried'
+    → IsMoving tells given tape scope first entries m carried resync course buffer left → IsMoving tells given tape scope first entries m carried' resync course buffer left
+moves-anew tells given tape scope first entries m carried carried' resync course buffer left anew was = record {
+  slots = was.slots;
+  members_are = was.members_are;
+  course_is = was.course_is;
+  sizes_are = was.sizes_are;
+  left_told = was.left_told;
+  progress = was.progress;
+  beside = was.beside;
+  pending = was.pending;
+  dirty = was.dirty;
+  levelled = was.levelled;
+  gone = was.gone;
+  unclean = was.unclean;
+  recorded = was.recorded;
+  last_step = was.last_step;
+  stored = was.stored;
+  listed = was.listed;
+  safe = λ t fills room. history-anew ⊤ (world_in given tape scope first) given m carried carried' true entries anew (was.safe t fills room);
+}
+
 -- ---- a slot that isn't made a spare
 
 -- It failed at the first look, behind flushes alone.
-pub looked-moves : (tells : Type 0) (given : Given) (tape tape' : List Operation) (scope : Scope) (first : ℕ) (entries : List Entry) (m : Members) (carried : ℕ → Bool)
+pub looked-moves : (tells : Type 0) (given : Given) (tape tape' : List Operation) (scope : Scope) (first : ℕ) (entries : List Entry) (m : Members) (carried : ℕ → ℕ → Bool)
     (resync : Option ℕ) (course : Course) (buffer : List ℕ) (left : ℕ) (who : Who) (end slot : ℕ)
     → IsMoving tells given tape scope first entries m carried resync course buffer left → HasLiveSlot m → IsCallGoing entries who → IsFalse (who.caller == 254) → (tells → end ≡ length tape') → (tells → OnlyFlushesAdded tape tape')
     → IsMoving tells given tape' scope first (entries ++ entries_of who end (Refused (SlotFault slot) ∷ [])) m carried resync course buffer left
@@ -326,7 +355,7 @@ unadded-right world before given backup slot m placed gone level (PastEnd visibl
 unadded-right world before given backup slot m placed gone level (NotResynced role) why = absurd why
 unadded-right world before given backup slot m placed gone level refusal why = tt
 
-pub unadded-moves : (tells : Type 0) (given : Given) (tape : List Operation) (scope : Scope) (first : ℕ) (entries : List Entry) (m : Members) (carried : ℕ → Bool)
+pub unadded-moves : (tells : Type 0) (given : Given) (tape : List Operation) (scope : Scope) (first : ℕ) (entries : List Entry) (m : Members) (carried : ℕ → ℕ → Bool)
     (resync : Option ℕ) (course : Course) (buffer : List ℕ) (left : ℕ) (who : Who) (end : ℕ) (backup : Option ℕ) (slot : ℕ) (refusal : Refusal)
     → IsMoving tells given tape scope first entries m carried resync course buffer left → IsCallGoing entries who → IsFalse (who.caller == 254) → (tells → end ≡ length tape) → IsUnaddable given backup slot m refusal
     → IsMoving tells given tape scope first (entries ++ entries_of who end (Refused refusal ∷ [])) m carried resync course buffer left

@@ -47,7 +47,7 @@ use Rattle.history_calls.proofs.kept_history_Entered.{adds_only, length-adding}
 
 -- What is asked of a call, from this tape to that one with its end there, that enters these events before its last one: it may lose only what it tells, so that what is
 -- filled in is right, where it is by its entries.
-pub record IsAddingBehind (given : Given) (tape : List Operation) (scope : Scope) (first : ℕ) (entries : List Entry) (old new : Members) (carried : ℕ → Bool) (resync : Option ℕ) (course' : Course) (buffer' : List ℕ)
+pub record IsAddingBehind (given : Given) (tape : List Operation) (scope : Scope) (first : ℕ) (entries : List Entry) (old new : Members) (carried : ℕ → ℕ → Bool) (resync : Option ℕ) (course' : Course) (buffer' : List ℕ)
     (who : Who) (early : List Event) (event : Event) (tape' : List Operation) (end : ℕ) : Type 0 where
   pub within : AreWithin (list_length old.newest) (early ++ event ∷ [])
   pub rise : IsRisen ⊤ old new tape tape'
@@ -65,7 +65,7 @@ pub record IsAddingBehind (given : Given) (tape : List Operation) (scope : Scope
       → IsLegalCall (world_in given tape' scope first) entries who end (early ++ event ∷ [])
 
 -- The same of a call that enters losses before its event.
-pub record IsAddingCall (given : Given) (tape : List Operation) (scope : Scope) (first : ℕ) (entries : List Entry) (old new : Members) (carried : ℕ → Bool) (resync : Option ℕ) (course' : Course) (buffer' : List ℕ)
+pub record IsAddingCall (given : Given) (tape : List Operation) (scope : Scope) (first : ℕ) (entries : List Entry) (old new : Members) (carried : ℕ → ℕ → Bool) (resync : Option ℕ) (course' : Course) (buffer' : List ℕ)
     (who : Who) (roles spares : ℕ) (event : Event) (tape' : List Operation) (end : ℕ) : Type 0 where
   pub within : IsWithin (list_length old.newest) event
   pub rise : IsRisen ⊤ old new tape tape'
@@ -87,7 +87,7 @@ unfolding is_gone_after
 not-gone world entries role none is = absurd (let any : list_any (loses world role) entries ≡ true = gone-any world role [] entries is in let both = sym none ∙ any in cc)
 
 -- Over a bank that tells its contents: what such a call says of its marks, where no more is known of what is filled in than its entries say.
-module _ (given : Given) (tape : List Operation) (scope : Scope) (first : ℕ) (entries : List Entry) (old new : Members) (carried : ℕ → Bool) (resync : Option ℕ) (course' : Course) (buffer' : List ℕ)
+module _ (given : Given) (tape : List Operation) (scope : Scope) (first : ℕ) (entries : List Entry) (old new : Members) (carried : ℕ → ℕ → Bool) (resync : Option ℕ) (course' : Course) (buffer' : List ℕ)
     (who : Who) (early : List Event) (IsTaken : ℕ → Type 0) (event : Event) (ops : List Operation) (are : AreFirst early IsTaken) (adding : IsAdding event)
     (recorded : IsHistoryKept (IsReliable (world_in given tape scope first) entries) (world_in given tape scope first) (list_length old.newest) entries)
     (call_to : IsAddingBehind given tape scope first entries old new carried resync course' buffer' who early event (tape ++ ops) (length (tape ++ ops))) where
@@ -127,7 +127,7 @@ module _ (given : Given) (tape : List Operation) (scope : Scope) (first : ℕ) (
 -- ---- what is kept
 
 -- The call keeps the record, by the list that it leaves.
-pub behind-moves : (tells : Type 0) (given : Given) (tape tape' : List Operation) (scope : Scope) (first : ℕ) (entries : List Entry) (old new : Members) (carried : ℕ → Bool) (resync : Option ℕ) (course course' : Course)
+pub behind-moves : (tells : Type 0) (given : Given) (tape tape' : List Operation) (scope : Scope) (first : ℕ) (entries : List Entry) (old new : Members) (carried : ℕ → ℕ → Bool) (resync : Option ℕ) (course course' : Course)
     (buffer buffer' : List ℕ) (left left' : ℕ) (who : Who) (end : ℕ) (early : List Event) (IsTaken : ℕ → Type 0) (event : Event)
     → IsMoving tells given tape scope first entries old carried resync course buffer left → HasLiveSlot old → IsCallGoing entries who → IsFalse (who.caller == 254) → (tells → end ≡ length tape') → Grows tells tape tape' → IsAdding event
     → AreReshaping scope given new → HasResync new resync course' → role_count new.newest ≤ 16
@@ -178,7 +178,7 @@ behind-moves tells given tape tape' scope first entries old new carried resync c
         (call t)
 
 -- And so does a call that enters losses before its event.
-pub adding-moves : (tells : Type 0) (given : Given) (tape tape' : List Operation) (scope : Scope) (first : ℕ) (entries : List Entry) (old new : Members) (carried : ℕ → Bool) (resync : Option ℕ) (course course' : Course)
+pub adding-moves : (tells : Type 0) (given : Given) (tape tape' : List Operation) (scope : Scope) (first : ℕ) (entries : List Entry) (old new : Members) (carried : ℕ → ℕ → Bool) (resync : Option ℕ) (course course' : Course)
     (buffer buffer' : List ℕ) (left left' : ℕ) (who : Who) (end roles spares : ℕ) (event : Event)
     → IsMoving tells given tape scope first entries old carried resync course buffer left → HasLiveSlot old → IsCallGoing entries who → IsFalse (who.caller == 254) → (tells → end ≡ length tape') → Grows tells tape tape' → IsAdding event
     → AreReshaping scope given new → HasResync new resync course' → role_count new.newest ≤ 16

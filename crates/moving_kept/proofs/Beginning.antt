@@ -18,7 +18,7 @@ use Rattle.course_mends.specs.flat_history_the_Entry.{Entry}
 use Rattle.course_mends.specs.flat_history_the_Event.{Event}
 use Rattle.course_mends.specs.flat_history_the_Event_TheVariants.{Step}
 use Rattle.course_mends.specs.flat_history_the_StepKind_TheVariants.{Begun}
-use Rattle.course_mends.specs.flat_history_Epochs.{HasRoomForEvents, OpensAlike}
+use Rattle.course_mends.specs.flat_history_Epochs.{HasRoomForEvents}
 use Rattle.course_mends.specs.flat_history_Flat.{length_of, values_of, values_after, now}
 use Rattle.course_mends.specs.flat_history_Growing.{EndBy}
 use Rattle.course_mends.specs.flat_history_Legal.{told_left, level_at, level_after, call_before, disturbs}
@@ -39,7 +39,7 @@ use Rattle.history_calls.proofs.call_entries_PlainLaws.{last_end-call}
 use Rattle.history_calls.specs.kept_history_Recorded.{IsHistoryKept, IsLegalCall, IsCallGoing, IsOpenBehind, entry_of, ends_reshape, gives_some}
 use Rattle.history_calls.specs.kept_history_Safe.{world_in, IsFilledRight, IsSafeHistory}
 use Rattle.history_calls.specs.kept_history_Told.{told_now, told_by}
-use Rattle.history_calls.proofs.kept_history_Growing.{reading-grown, opening-grown, gone-grown, unsynced-grown, now-grown, alike-before, room-before, room-now}
+use Rattle.history_calls.proofs.kept_history_Growing.{reading-grown, opening-grown, gone-grown, unsynced-grown, now-grown, room-before, room-now}
 use Rattle.history_calls.proofs.kept_history_Ledgers.{more-then, any-gone, unclean-now, unsynced-still, none-ends}
 use Rattle.history_calls.proofs.kept_history_Longer.{regains-none}
 use Rattle.history_calls.proofs.kept_history_Calls.{now-live}
@@ -54,15 +54,15 @@ use Rattle.moving_kept.specs.Moving.{IsStillKept}
 use Rattle.moving_kept.proofs.ReadShapes.{IsShapeRead}
 
 -- while a live slot is left, no superblocks tell a reshape
-pub safe-over : {tells : Type 0} {given : Given} {tape : List Operation} {scope : Scope} {first : ℕ} {entries : List Entry} {members : Members} {carried : ℕ → Bool}
+pub safe-over : {tells : Type 0} {given : Given} {tape : List Operation} {scope : Scope} {first : ℕ} {entries : List Entry} {members : Members} {carried : ℕ → ℕ → Bool}
     → IsStillKept tells given tape scope first entries members carried → tells → HasLiveSlot members
-    → IsFilledRight (world_in given tape scope first) entries → HasRoomForEvents (world_in given tape scope first) → OpensAlike (world_in given tape scope first)
+    → IsFilledRight (world_in given tape scope first) entries → HasRoomForEvents (world_in given tape scope first)
     → IsSafeHistory ⊤ (world_in given tape scope first) given members carried false entries
-safe-over {given = given} {tape = tape} {scope = scope} {first = first} {entries = entries} {members = members} {carried = carried} was t live fills room alike =
-    subst (λ (b : Bool). IsSafeHistory ⊤ (world_in given tape scope first) given members carried b entries) (was.over live) (was.safe t fills room alike)
+safe-over {given = given} {tape = tape} {scope = scope} {first = first} {entries = entries} {members = members} {carried = carried} was t live fills room =
+    subst (λ (b : Bool). IsSafeHistory ⊤ (world_in given tape scope first) given members carried b entries) (was.over live) (was.safe t fills room)
 
 -- what is told before it, of the roles that the old shape has
-abbrev pub told_before : World → (ℕ → Bool) → List Entry → ℕ → Ledger
+abbrev pub told_before : World → (ℕ → ℕ → Bool) → List Entry → ℕ → Ledger
 told_before world carried entries disks = record {
   size = length_of (length (opening_list world)) entries;
   values = values_of (opening_list world) entries;
@@ -74,21 +74,21 @@ told_before world carried entries disks = record {
 
 -- What the begin of a reshape leaves: its update is safe from one ledger to another, what is missing then was missing among the roles of the old shape or is
 -- told lost, and what is read at its end says the old shape.
-pub record IsBeginningCall (given : Given) (tape : List Operation) (scope : Scope) (first : ℕ) (entries : List Entry) (old plan new : Members) (carried carried' : ℕ → Bool) (roles : ℕ) (tape' : List Operation) : Type 0 where
+pub record IsBeginningCall (given : Given) (tape : List Operation) (scope : Scope) (first : ℕ) (entries : List Entry) (old plan new : Members) (carried carried' : ℕ → ℕ → Bool) (roles : ℕ) (tape' : List Operation) : Type 0 where
   pub live : HasLiveSlot old
   pub count : role_count old.newest ≡ (shape_of old.newest).disks
   pub planned : list_length plan.newest ≡ list_length old.newest
   pub sized : list_length new.newest ≡ list_length old.newest
   pub few : role_count new.newest ≤ 16
-  pub numbers : (number : ℕ) → carried number ≡ true → carried' number ≡ true
+  pub numbers : (slot number : ℕ) → carried slot number ≡ true → carried' slot number ≡ true
   pub since : (role : ℕ) → role < role_count new.newest → is_missing (reading_of new) role ≡ true → ((role < (shape_of old.newest).disks) × (is_missing (reading_of old) role ≡ true)) ⊎ IsAmong roles role
   pub fewer : (role : ℕ) → role < role_count plan.newest → is_missing (reading_of plan) role ≡ true → (role < role_count new.newest) × (is_missing (reading_of new) role ≡ true)
   pub rise : IsRisen ⊤ old new tape tape'
   pub read : IsReliable (world_in given tape scope first) entries → HasRoomForEvents (world_in given tape' scope first) → IsShapeRead scope (contents_at (world_in given tape' scope first) (length tape')) (shape_of old.newest)
-  pub safe : (told more : Ledger) → HasRoomLeft old tape tape' → IsToldWith told more plan → AreGoneTold told old → AreGoneTold more new → ((number : ℕ) → told.carried number ≡ true → more.carried number ≡ true)
+  pub safe : (told more : Ledger) → HasRoomLeft old tape tape' → IsToldWith told more plan → AreGoneTold told old → AreGoneTold more new → ((slot number : ℕ) → told.carried slot number ≡ true → more.carried slot number ≡ true)
       → IsSafeOver (world_in given tape scope first) given told old tape → IsSafeChange (OpensFit (world_in given tape scope first)) scope given told more new tape tape'
 
-module _ (given : Given) (tape : List Operation) (scope : Scope) (first : ℕ) (entries : List Entry) (old plan new : Members) (carried carried' : ℕ → Bool) (who : Who) (left roles spares : ℕ) (ops : List Operation)
+module _ (given : Given) (tape : List Operation) (scope : Scope) (first : ℕ) (entries : List Entry) (old plan new : Members) (carried carried' : ℕ → ℕ → Bool) (who : Who) (left roles spares : ℕ) (ops : List Operation)
     (sizes_are : scope.sizes ≡ sizes given) (begun : first ≤ length tape) (ends : EndBy (length tape) entries) (recorded : length_of (length (opening_list (world_in given tape scope first))) entries ≡ list_length old.newest)
     (gone : IsReliable (world_in given tape scope first) entries → AreToldGone (world_in given tape scope first) entries old)
     (call : IsBeginningCall given tape scope first entries old plan new carried carried' roles (tape ++ ops)) where
@@ -134,7 +134,7 @@ module _ (given : Given) (tape : List Operation) (scope : Scope) (first : ℕ) (
   -- ---- what is gone
 
   right-before : IsReliable later all → IsReliable world entries
-  right-before right = record { fills = filled-before world ops entries added begun ends right.fills; room = room-before world ops begun right.room; alike = alike-before world ops begun right.alike }
+  right-before right = record { fills = filled-before world ops entries added begun ends right.fills; room = room-before world ops begun right.room }
 
   -- a role of the old shape is gone behind it as before
   gone-begun : IsReliable later all → (role : ℕ) → role < disks → is_gone_after later (entries ++ entry ∷ []) role ≡ is_gone_after world entries role
@@ -183,13 +183,13 @@ module _ (given : Given) (tape : List Operation) (scope : Scope) (first : ℕ) (
     gone = λ role is. (and-parts (is_gone_after world entries role) (nat_lt role disks) is).0;
     unclean = λ is. is;
     reshaping = λ is. is;
-    carried = λ number is. is;
+    carried = λ slot number is. is;
   }
 
-  less : IsMoreTold told (told_by later (λ number. true) true entries added)
-  less = more-then told (told_now world carried false entries) (told_by later (λ number. true) true entries added) told-less
-      (subst (λ (l : Ledger). IsMoreTold l (told_by later (λ number. true) true entries added)) (now-grown world ops begun carried false entries ends)
-      (told-adding later carried (λ number. true) false true entries added adds-all (λ number is. refl) (λ is. refl)))
+  less : IsMoreTold told (told_by later (λ slot number. true) true entries added)
+  less = more-then told (told_now world carried false entries) (told_by later (λ slot number. true) true entries added) told-less
+      (subst (λ (l : Ledger). IsMoreTold l (told_by later (λ slot number. true) true entries added)) (now-grown world ops begun carried false entries ends)
+      (told-adding later carried (λ slot number. true) false true entries added adds-all (λ slot number is. refl) (λ is. refl)))
 
   length-all : length_of (length (opening_list later)) all ≡ length_of (length (opening_list world)) entries
   length-all = length-adding (length (opening_list later)) entries added adds-all ∙ ap (λ (l : List Sector). length_of (length l) entries) (opening-grown world ops begun)
@@ -308,15 +308,15 @@ module _ (given : Given) (tape : List Operation) (scope : Scope) (first : ℕ) (
 
   -- ---- each mark
 
-  module _ (safe : IsFilledRight (world_in given tape scope first) entries → HasRoomForEvents (world_in given tape scope first) → OpensAlike (world_in given tape scope first)
+  module _ (safe : IsFilledRight (world_in given tape scope first) entries → HasRoomForEvents (world_in given tape scope first)
       → IsSafeHistory ⊤ (world_in given tape scope first) given old carried false entries)
       (fills : IsFilledRight (world_in given (tape ++ ops) scope first) (entries ++ entries_of who (length (tape ++ ops)) (Step Begun left ∷ losses_of roles spares)))
-      (room : HasRoomForEvents (world_in given (tape ++ ops) scope first)) (alike : OpensAlike (world_in given (tape ++ ops) scope first)) where
+      (room : HasRoomForEvents (world_in given (tape ++ ops) scope first)) where
     abbrev was : IsSafeHistory ⊤ (world_in given tape scope first) given old carried false entries
-    was = safe (filled-before world ops entries added begun ends fills) (room-before world ops begun room) (alike-before world ops begun alike)
+    was = safe (filled-before world ops entries added begun ends fills) (room-before world ops begun room)
 
     right : IsReliable later all
-    right = record { fills = fills; room = room; alike = alike }
+    right = record { fills = fills; room = room }
 
     change : IsSafeChange (OpensFit world) scope given told with_it new tape (tape ++ ops)
     change = call.safe told with_it (room-now world ops begun old was.counted room) (told-with right) (gone-old right) (begun-gone right) call.numbers (safe-old (now-live world call.live was.now))

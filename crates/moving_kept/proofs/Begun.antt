@@ -36,7 +36,7 @@ use Rattle.history_calls.proofs.call_entries_CallLaws.{losses-are}
 use Rattle.history_calls.proofs.call_entries_LeftLaws.{left-behind, fold-left}
 use Rattle.history_calls.specs.kept_history_Recorded.{IsHistoryKept, IsCallGoing, IsOpenBehind}
 use Rattle.history_calls.specs.kept_history_Safe.{world_in, IsFilledRight}
-use Rattle.history_calls.proofs.kept_history_Growing.{fit-grown, alike-before, room-before}
+use Rattle.history_calls.proofs.kept_history_Growing.{fit-grown, room-before}
 use Rattle.history_calls.proofs.kept_history_Turned.{filled-before}
 use Rattle.course_mends.specs.course_kept_Laws.{closed}
 use Rattle.course_mends.proofs.course_kept_Frames.{does-or}
@@ -58,7 +58,7 @@ pub record AreBegun (scope : Scope) (given : Given) (old plan new : Members) : T
   pub moved : IsMoved given plan new
   pub clean : is_clean new.newest ≡ is_clean old.newest
 
-module _ (given : Given) (tape : List Operation) (scope : Scope) (first : ℕ) (entries : List Entry) (old plan new : Members) (carried carried' : ℕ → Bool) (buffer : List ℕ) (who : Who) (left roles spares : ℕ)
+module _ (given : Given) (tape : List Operation) (scope : Scope) (first : ℕ) (entries : List Entry) (old plan new : Members) (carried carried' : ℕ → ℕ → Bool) (buffer : List ℕ) (who : Who) (left roles spares : ℕ)
     (ops : List Operation) (tells : Type 0) (was : IsStillKept tells given tape scope first entries old carried) (t : tells) (synced : is_unsynced (world_in given tape scope first) entries ≡ false) (goes : IsCallGoing entries who) (caller : IsFalse (who.caller == 254))
     (told : IfSome (told_left entries) (λ n. n ≡ left + 1)) (some : left ≢ 0) (are : AreBegun scope given old plan new)
     (rows : AreOtherRowsKept (λ row. ⊥) (reading_of new) (present given tape) (present given (tape ++ ops)))
@@ -140,7 +140,6 @@ module _ (given : Given) (tape : List Operation) (scope : Scope) (first : ℕ) (
     right = λ right. record {
       fills = filled-before world ops entries (entries_of who (length (tape ++ ops)) (Step Begun left ∷ losses_of roles spares)) recorded.begun recorded.ends right.fills;
       room = room-before world ops recorded.begun right.room;
-      alike = alike-before world ops recorded.begun right.alike;
     };
     levelled = begun-level given tape scope first entries old plan new carried carried' who left roles spares ops was.sizes_are recorded.begun recorded.ends recorded.sized (was.gone t) call;
     gone = begun-gone given tape scope first entries old plan new carried carried' who left roles spares ops was.sizes_are recorded.begun recorded.ends recorded.sized (was.gone t) call;
@@ -153,7 +152,7 @@ module _ (given : Given) (tape : List Operation) (scope : Scope) (first : ℕ) (
   }
 
 -- So the array is in its reshape: no window is open, and nothing is zeroed yet.
-pub begun-moves : (tells : Type 0) (given : Given) (tape tape' : List Operation) (scope : Scope) (first : ℕ) (entries : List Entry) (old plan new : Members) (carried carried' : ℕ → Bool) (buffer : List ℕ)
+pub begun-moves : (tells : Type 0) (given : Given) (tape tape' : List Operation) (scope : Scope) (first : ℕ) (entries : List Entry) (old plan new : Members) (carried carried' : ℕ → ℕ → Bool) (buffer : List ℕ)
     (left : ℕ) (who : Who) (end roles spares : ℕ)
     → IsStillKept tells given tape scope first entries old carried → (tells → is_unsynced (world_in given tape scope first) entries ≡ false) → (goes : IsCallGoing entries who) → IsFalse (who.caller == 254) → (tells → end ≡ length tape') → Grows tells tape tape'
     → IfSome (told_left entries) (λ n. n ≡ left + 1) → left ≢ 0 → AreBegun scope given old plan new → (tells → IsCleared scope (disk given.start tape'))

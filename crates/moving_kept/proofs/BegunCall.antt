@@ -71,12 +71,12 @@ pub record IsBegunBy (tells : Type 0) (given : Given) (tape tape' : List Operati
   pub rise : IsRisen tells old new tape tape'
   pub since : (role : ℕ) → role < role_count new.newest → is_missing (reading_of new) role ≡ true → ((role < (shape_of old.newest).disks) × (is_missing (reading_of old) role ≡ true)) ⊎ IsAmong roles role
   pub safe : tells → (world : World) → (told more : Ledger) → HasRoomLeft old tape tape' → HasLiveSlot old → IsBackupOf world.scope old to backup uuid → ArePlaced world.scope given old
-      → IsToldWith told more (begun_plan old to) → AreGoneTold told old → AreGoneTold more new → ((number : ℕ) → told.carried number ≡ true → more.carried number ≡ true)
+      → IsToldWith told more (begun_plan old to) → AreGoneTold told old → AreGoneTold more new → ((slot number : ℕ) → told.carried slot number ≡ true → more.carried slot number ≡ true)
       → IsSafeOver world given told old tape → IsSafeChange (OpensFit world) world.scope given told more new tape tape'
 
-pub begun-call : (tells : Type 0) (given : Given) (tape ops : List Operation) (scope : Scope) (first : ℕ) (entries : List Entry) (backup : ℕ) (uuid : List ℕ) (to : Shape) (old new : Members) (carried carried' : ℕ → Bool) (roles : ℕ)
+pub begun-call : (tells : Type 0) (given : Given) (tape ops : List Operation) (scope : Scope) (first : ℕ) (entries : List Entry) (backup : ℕ) (uuid : List ℕ) (to : Shape) (old new : Members) (carried carried' : ℕ → ℕ → Bool) (roles : ℕ)
     → IsStillKept tells given tape scope first entries old carried → tells → goes_back (shape_of old.newest) to ≡ false → IsBegunBy tells given tape (tape ++ ops) scope backup uuid to old new roles
-    → ((number : ℕ) → carried number ≡ true → carried' number ≡ true) → IsBeginningCall given tape scope first entries old (begun_plan old to) new carried carried' roles (tape ++ ops)
+    → ((slot number : ℕ) → carried slot number ≡ true → carried' slot number ≡ true) → IsBeginningCall given tape scope first entries old (begun_plan old to) new carried carried' roles (tape ++ ops)
 begun-call tells given tape ops scope first entries backup uuid to old new carried carried' roles was t forward did numbers = record {
   live = did.live;
   count = count-still old.newest was.still;
@@ -103,7 +103,7 @@ begun-call tells given tape ops scope first entries backup uuid to old new carri
     read : IsReliable (world_in given tape scope first) entries → HasRoomForEvents (world_in given (tape ++ ops) scope first)
         → IsShapeRead scope (contents_at (world_in given (tape ++ ops) scope first) (length (tape ++ ops))) (shape_of old.newest)
     read right room =
-        let safe = safe-over was t did.live right.fills right.room right.alike in
+        let safe = safe-over was t did.live right.fills right.room in
         begun-read tells (OpensFit (world_in given tape scope first)) scope given (told_now (world_in given tape scope first) carried false entries) backup uuid to old new tape (tape ++ ops)
         did.backed.backup did.backed.array did.sixteen was.still same_roles did.in_force did.level did.live (room-now (world_in given tape scope first) ops (was.recorded t).begun old safe.counted room) did.begun t
         (now-live (world_in given tape scope first) did.live safe.now) (contents given.start (tape ++ ops) (length (tape ++ ops))) drawn

@@ -78,7 +78,7 @@ module _ (old : Members) (to : Shape) (whole : HasNoneRecovering old) where
 
 -- ---- the members
 
-module _ (tells : Type 0) (given : Given) (tape tape' : List Operation) (scope : Scope) (first : ℕ) (entries : List Entry) (backup : ℕ) (uuid : List ℕ) (to : Shape) (old new : Members) (carried carried' : ℕ → Bool) (roles : ℕ)
+module _ (tells : Type 0) (given : Given) (tape tape' : List Operation) (scope : Scope) (first : ℕ) (entries : List Entry) (backup : ℕ) (uuid : List ℕ) (to : Shape) (old new : Members) (carried carried' : ℕ → ℕ → Bool) (roles : ℕ)
     (was : IsStillKept tells given tape scope first entries old carried) (did : IsBegunBy tells given tape tape' scope backup uuid to old new roles) (whole : HasNoneRecovering old) (free : AreSparesFree given old)
     (long : length old.own ≡ 32) (still_free : AreSparesFree given new) (spares : length new.spares ≤ 32) where
   pub begun-members : AreBegun scope given old (begun_plan old to) new
@@ -116,7 +116,7 @@ module _ (tells : Type 0) (given : Given) (tape tape' : List Operation) (scope :
 
   -- So a reshape that begins in an array that keeps its record leaves one that keeps it in the reshape: from what `begin` says of its call.
   pub array-begins : (buffer : List ℕ) (left : ℕ) (who : Who) (end lost_spares : ℕ) → goes_back (shape_of old.newest) to ≡ false → (tells → is_unsynced (world_in given tape scope first) entries ≡ false) → (goes : IsCallGoing entries who) → IsFalse (who.caller == 254) → (tells → end ≡ length tape') → Grows tells tape tape'
-      → IfSome (told_left entries) (λ n. n ≡ left + 1) → left ≢ 0 → ((number : ℕ) → carried number ≡ true → carried' number ≡ true) → (tells → IsCleared scope (disk given.start tape'))
+      → IfSome (told_left entries) (λ n. n ≡ left + 1) → left ≢ 0 → ((slot number : ℕ) → carried slot number ≡ true → carried' slot number ≡ true) → (tells → IsCleared scope (disk given.start tape'))
       → (tells → (s k : ℕ) → k ≢ 8 → (s ≢ backup) ⊎ (k ≢ 0) → present given tape' s k ≡ present given tape s k) → (tells → IsOpenBehind (world_in given tape' scope first) goes.call)
       → IsMoving tells given tape' scope first (entries ++ entries_of who end (Step Begun left ∷ losses_of roles lost_spares)) new carried' None (closed 0) buffer left
   array-begins buffer left who end lost_spares forward synced goes caller at_end grows told some numbers cleared others behind =

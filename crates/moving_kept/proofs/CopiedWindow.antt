@@ -140,7 +140,7 @@ module _ (given : Given) (old new : Members) (span : Span) (placed : AreShapesFi
           let size = moved.size in
           omega (arith, low, row, at, size)
 
-module _ (tells : Type 0) (given : Given) (tape tape' : List Operation) (scope : Scope) (first : ℕ) (entries : List Entry) (old new : Members) (carried : ℕ → Bool)
+module _ (tells : Type 0) (given : Given) (tape tape' : List Operation) (scope : Scope) (first : ℕ) (entries : List Entry) (old new : Members) (carried : ℕ → ℕ → Bool)
     (resync : Option ℕ) (span : Span) (copied done : ℕ) (sectioned : Bool) (buffer : List ℕ) (who : Who) (end roles spares former left : ℕ)
     (was : IsMoving tells given tape scope first entries old carried resync (entered span copied sectioned) buffer former) (enough : DoWithout old) (grows : Grows tells tape tape') (some : left ≢ 0)
     (did : IsFinishedBy tells given tape tape' old new (final_shape old.newest) span copied done buffer roles None) where

@@ -50,7 +50,7 @@ pub record IsTakenOut (tells : Type 0) (given : Given) (tape tape' : List Operat
   pub unused : tells → IsUnusedKept old (disk given.start tape) (disk given.start tape')
   pub safe : tells → (world : World) → (told : Ledger) → HasRoomLeft old tape tape' → AreGoneTold told new → IsUncleanTold told old → IsSafeOver world given told old tape → KeepsSafe world given told new tape tape'
 
-pub failed-moves : (tells : Type 0) (given : Given) (tape tape' : List Operation) (scope : Scope) (first : ℕ) (entries : List Entry) (old new : Members) (carried : ℕ → Bool)
+pub failed-moves : (tells : Type 0) (given : Given) (tape tape' : List Operation) (scope : Scope) (first : ℕ) (entries : List Entry) (old new : Members) (carried : ℕ → ℕ → Bool)
     (resync : Option ℕ) (course : Course) (buffer : List ℕ) (left : ℕ) (who : Who) (end role roles spares : ℕ)
     → IsMoving tells given tape scope first entries old carried resync course buffer left → HasLiveSlot old → IsCallGoing entries who → IsFalse (who.caller == 254) → (tells → end ≡ length tape') → Grows tells tape tape'
     → IsTakenOut tells given tape tape' old new role roles

@@ -78,7 +78,7 @@ pub record IsFinishedBy (tells : Type 0) (given : Given) (tape tape' : List Oper
       → IsOpenWindow (OpensFit world) world.scope told old span buffer copied list (present given tape) (disk given.start tape)
       → IsSafeOver world given told old tape → KeepsSafe world given told new tape tape'
 
-module _ (tells : Type 0) (given : Given) (tape tape' : List Operation) (scope : Scope) (first : ℕ) (entries : List Entry) (old new : Members) (carried : ℕ → Bool)
+module _ (tells : Type 0) (given : Given) (tape tape' : List Operation) (scope : Scope) (first : ℕ) (entries : List Entry) (old new : Members) (carried : ℕ → ℕ → Bool)
     (resync : Option ℕ) (shape : Shape) (span : Span) (copied done : ℕ) (sectioned : Bool) (buffer : List ℕ) (who : Who) (end roles spares : ℕ)
     (goes : IsCallGoing entries who) (caller : IsFalse (who.caller == 254)) (at_end : tells → end ≡ length tape') (grows : Grows tells tape tape') (enough : DoWithout old) where
   rest : (refusal : Option Refusal) → IsPlaced given new → IsFinishedBy tells given tape tape' old new shape span copied done buffer roles refusal → IsRestWritten tells given tape tape' old new span copied buffer roles

@@ -54,7 +54,7 @@ use Rattle.history_calls.proofs.kept_history_Turned.{fills-on_course}
 -- ---- the open window
 
 -- What is kept of it is what the call asks, by whatever tells more than the history does.
-pub window-open : (tells : Type 0) (given : Given) (tape : List Operation) (scope : Scope) (first : ℕ) (entries : List Entry) (old : Members) (carried : ℕ → Bool)
+pub window-open : (tells : Type 0) (given : Given) (tape : List Operation) (scope : Scope) (first : ℕ) (entries : List Entry) (old : Members) (carried : ℕ → ℕ → Bool)
     (resync : Option ℕ) (span : Span) (copied : ℕ) (sectioned : Bool) (buffer : List ℕ) (left : ℕ) → IsMoving tells given tape scope first entries old carried resync (entered span copied sectioned) buffer left → tells
     → IsFilledRight (world_in given tape scope first) entries → DoWithout old → (told : Ledger) → IsMoreTold (told_now (world_in given tape scope first) carried true entries) told
     → (l : HasListInCourse (OpensFit (world_in given tape scope first)) old resync (entered span copied sectioned) buffer (present given tape) (now (opening_list (world_in given tape scope first)) entries))
@@ -94,7 +94,7 @@ pub record IsRestWritten (tells : Type 0) (given : Given) (tape tape' : List Ope
       → IsOpenWindow (OpensFit world) world.scope told old span buffer copied list (present given tape) (disk given.start tape)
       → IsSafeOver world given told old tape → KeepsSafe world given told new tape tape'
 
-module _ (tells : Type 0) (given : Given) (tape tape' : List Operation) (scope : Scope) (first : ℕ) (entries : List Entry) (old new : Members) (carried : ℕ → Bool)
+module _ (tells : Type 0) (given : Given) (tape tape' : List Operation) (scope : Scope) (first : ℕ) (entries : List Entry) (old new : Members) (carried : ℕ → ℕ → Bool)
     (resync : Option ℕ) (span : Span) (copied : ℕ) (sectioned : Bool) (buffer : List ℕ) (who : Who) (end roles spares : ℕ)
     (goes : IsCallGoing entries who) (caller : IsFalse (who.caller == 254)) (at_end : tells → end ≡ length tape') (grows : Grows tells tape tape')
     (did : IsRestWritten tells given tape tape' old new span copied buffer roles) where

@@ -87,7 +87,7 @@ record IsFlushable (given : Given) (tape : List Operation) (scope : Scope) (firs
   pub stands : DoWithout old → StandsUnder scope old (present given tape) (disk given.start tape) list
   pub rows : unsynced ≡ false → DoWithout old → OpensFit (world_in given tape scope first) → RowsStandUnder scope old (present given tape) (disk given.start tape) list
 
-module _ (tells : Type 0) (given : Given) (tape tape' : List Operation) (scope : Scope) (first : ℕ) (entries : List Entry) (old new : Members) (carried : ℕ → Bool)
+module _ (tells : Type 0) (given : Given) (tape tape' : List Operation) (scope : Scope) (first : ℕ) (entries : List Entry) (old new : Members) (carried : ℕ → ℕ → Bool)
     (resync : Option ℕ) (course : Course) (buffer : List ℕ) (left : ℕ) (who : Who) (end roles spares : ℕ) (unsynced : Bool)
     (was : IsMoving tells given tape scope first entries old carried resync course buffer left) (live : HasLiveSlot old) (goes : IsCallGoing entries who) (caller : IsFalse (who.caller == 254))
     (at_end : tells → end ≡ length tape') (grows : Grows tells tape tape')

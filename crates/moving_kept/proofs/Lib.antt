@@ -73,6 +73,7 @@ pub use Rattle.history_calls.proofs.call_entries_CallLaws
 pub use Rattle.history_calls.proofs.call_entries_LeftLaws
 pub use Rattle.course_mends.proofs.views_Fit
 pub use Rattle.course_mends.proofs.views_LiveLeft
+pub use Rattle.array_kept.proofs.views_BearerLaws
 pub use Rattle.history_calls.proofs.kept_history_Growing
 pub use Rattle.history_calls.proofs.kept_history_Ledgers
 pub use Rattle.history_calls.proofs.kept_history_Lists
@@ -123,6 +124,7 @@ pub use Rattle.history_calls.proofs.kept_history_Idle
 pub use Rattle.course_mends.proofs.shape_changes_Without
 pub use Rattle.course_mends.proofs.views_MemberLaws
 pub use Rattle.history_calls.proofs.kept_history_Opened
+pub use Rattle.history_calls.proofs.kept_history_Anew
 pub use Rattle.course_mends.proofs.shape_views_WindowLaws
 pub use Rattle.course_mends.proofs.shape_ends_TakenShapes
 pub use Rattle.course_mends.proofs.shape_ends_Takeovers

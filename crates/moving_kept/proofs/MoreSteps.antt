@@ -57,7 +57,7 @@ use Rattle.history_calls.proofs.kept_history_Turned.{fills-on_course}
 
 -- ---- a stripe behind the list is zeroed
 
-pub zeroed-moves : (tells : Type 0) (given : Given) (tape tape' : List Operation) (scope : Scope) (first : ℕ) (entries : List Entry) (old new : Members) (carried : ℕ → Bool)
+pub zeroed-moves : (tells : Type 0) (given : Given) (tape tape' : List Operation) (scope : Scope) (first : ℕ) (entries : List Entry) (old new : Members) (carried : ℕ → ℕ → Bool)
     (resync : Option ℕ) (zeroed : ℕ) (buffer : List ℕ) (left : ℕ) (who : Who) (end roles spares : ℕ)
     → IsMoving tells given tape scope first entries old carried resync (closed zeroed) buffer (left + 1) → resync ≡ None → HasLiveSlot old → IsCallGoing entries who → IsFalse (who.caller == 254) → (tells → end ≡ length tape') → Grows tells tape tape'
     → IsThrough old.newest → zeroed < zeroed_stripes (shape_of old.newest) (final_shape old.newest) old.newest.size (is_backward old.newest) → left ≢ 0
@@ -103,7 +103,7 @@ zeroed-moves tells given tape tape' scope first entries old new carried resync z
 
 -- ---- a window is recorded
 
-pub recorded-moves : (tells : Type 0) (given : Given) (tape tape' : List Operation) (scope : Scope) (first : ℕ) (entries : List Entry) (old new : Members) (carried : ℕ → Bool)
+pub recorded-moves : (tells : Type 0) (given : Given) (tape tape' : List Operation) (scope : Scope) (first : ℕ) (entries : List Entry) (old new : Members) (carried : ℕ → ℕ → Bool)
     (resync : Option ℕ) (span : Span) (sectioned : Bool) (buffer : List ℕ) (left : ℕ) (who : Who) (end roles spares : ℕ)
     → IsMoving tells given tape scope first entries old carried resync (entered span (stripes (final_shape old.newest) span.lo span.hi) sectioned) buffer (left + 1)
     → IsCallGoing entries who → IsFalse (who.caller == 254) → (tells → end ≡ length tape') → Grows tells tape tape' → left ≢ 0

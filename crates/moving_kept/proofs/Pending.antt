@@ -37,7 +37,7 @@ pub record HasResync (m : Members) (resync : Option ℕ) (course : Course) : Typ
   pub beside : IsAside course.window ⊎ IsUnmended resync
   pub dirty : DoWithout m → IsSome resync → is_clean m.newest ≡ false
 
-pub resync-of : {tells : Type 0} {given : Given} {tape : List Operation} {scope : Scope} {first : ℕ} {entries : List Entry} {members : Members} {carried : ℕ → Bool} {resync : Option ℕ} {course : Course} {buffer : List ℕ} {left : ℕ}
+pub resync-of : {tells : Type 0} {given : Given} {tape : List Operation} {scope : Scope} {first : ℕ} {entries : List Entry} {members : Members} {carried : ℕ → ℕ → Bool} {resync : Option ℕ} {course : Course} {buffer : List ℕ} {left : ℕ}
     → IsMoving tells given tape scope first entries members carried resync course buffer left → HasResync members resync course
 resync-of was = record { progress = was.progress; beside = was.beside; dirty = was.dirty }
 
@@ -75,13 +75,13 @@ clean-none m (Some mended) course has does clean = absurd (let both = sym (has.d
 -- ---- what is told of it
 
 -- the opening says the same of it
-pub later-unsynced : {given : Given} {tape tape' : List Operation} {scope : Scope} {first : ℕ} {entries all : List Entry} {new : Members} {carried : ℕ → Bool}
+pub later-unsynced : {given : Given} {tape tape' : List Operation} {scope : Scope} {first : ℕ} {entries all : List Entry} {new : Members} {carried : ℕ → ℕ → Bool}
     → IsLeftBehind given tape scope first entries all new carried true tape' → (xs : List Entry) → is_unsynced (world_in given tape' scope first) xs ≡ is_unsynced (world_in given tape scope first) xs
 later-unsynced {given = given} {tape = tape} {scope = scope} {first = first} left xs =
     ap (λ (l : List Operation). is_unsynced (world_in given l scope first) xs) left.grown.1 ∙ unsynced-grown (world_in given tape scope first) left.grown.0 left.begun xs
 
 -- it is as pending behind entries that settle nothing
-pub pending-on : {given : Given} {tape tape' : List Operation} {scope : Scope} {first : ℕ} {entries : List Entry} {new : Members} {carried : ℕ → Bool} (added : List Entry)
+pub pending-on : {given : Given} {tape tape' : List Operation} {scope : Scope} {first : ℕ} {entries : List Entry} {new : Members} {carried : ℕ → ℕ → Bool} (added : List Entry)
     → IsLeftBehind given tape scope first entries (entries ++ added) new carried true tape' → AreAdding added → is_unsynced (world_in given tape' scope first) (entries ++ added) ≡ is_unsynced (world_in given tape scope first) entries
 pending-on {given = given} {tape = tape} {scope = scope} {first = first} {entries = entries} added left adds =
     later-unsynced left (entries ++ added) ∙ unsynced-still (world_in given tape scope first) entries added (none-ends added (settle-none added adds))

@@ -12,7 +12,7 @@ use Rattle.course_mends.specs.superblocks_Reading.{Scope, is_clean, shape_of, li
 use Rattle.course_mends.specs.row_io_Rows.{present}
 use Rattle.course_mends.specs.flat_history_the_Entry.{Entry}
 use Rattle.course_mends.specs.flat_history_the_Event.{Event}
-use Rattle.course_mends.specs.flat_history_Epochs.{HasRoomForEvents, OpensAlike}
+use Rattle.course_mends.specs.flat_history_Epochs.{HasRoomForEvents}
 use Rattle.course_mends.specs.flat_history_Flat.{now}
 use Rattle.course_mends.specs.flat_history_Legal.{told_left, level_at, IsLegalEvent}
 use Rattle.course_mends.specs.flat_history_Losses.{is_unsynced}
@@ -46,16 +46,16 @@ use Rattle.history_calls.proofs.kept_history_Growing.{course-before}
 -- ---- what a stop may leave now
 
 -- While a live slot is left, it is right by the whole history.
-pub safe-now : {tells : Type 0} {given : Given} {tape : List Operation} {scope : Scope} {first : ℕ} {entries : List Entry} {members : Members} {carried : ℕ → Bool} {resync : Option ℕ} {course : Course} {buffer : List ℕ} {left : ℕ}
+pub safe-now : {tells : Type 0} {given : Given} {tape : List Operation} {scope : Scope} {first : ℕ} {entries : List Entry} {members : Members} {carried : ℕ → ℕ → Bool} {resync : Option ℕ} {course : Course} {buffer : List ℕ} {left : ℕ}
     → IsMoving tells given tape scope first entries members carried resync course buffer left → HasLiveSlot members → tells
-    → IsFilledRight (world_in given tape scope first) entries → HasRoomForEvents (world_in given tape scope first) → OpensAlike (world_in given tape scope first)
+    → IsFilledRight (world_in given tape scope first) entries → HasRoomForEvents (world_in given tape scope first)
     → IsSafeOver (world_in given tape scope first) given (told_now (world_in given tape scope first) carried true entries) members tape
-safe-now {given = given} {tape = tape} {scope = scope} {first = first} was live t fills room alike = now-live (world_in given tape scope first) live (was.safe t fills room alike).now
+safe-now {given = given} {tape = tape} {scope = scope} {first = first} was live t fills room = now-live (world_in given tape scope first) live (was.safe t fills room).now
 
 -- ---- the call
 
 -- What is asked of a call, from this tape to that one with its end there, that enters these events before its last one.
-pub record IsEarlyCall (given : Given) (tape : List Operation) (scope : Scope) (first : ℕ) (entries : List Entry) (old new : Members) (carried : ℕ → Bool) (resync : Option ℕ) (course' : Course) (buffer' : List ℕ)
+pub record IsEarlyCall (given : Given) (tape : List Operation) (scope : Scope) (first : ℕ) (entries : List Entry) (old new : Members) (carried : ℕ → ℕ → Bool) (resync : Option ℕ) (course' : Course) (buffer' : List ℕ)
     (who : Who) (early : List Event) (event : Event) (tape' : List Operation) (end : ℕ) : Type 0 where
   pub rise : IsRisen ⊤ old new tape tape'
   pub keeps : (told : Ledger) → IsFilledRight (world_in given tape scope first) entries → IsMoreTold (told_now (world_in given tape scope first) carried true entries) told
@@ -68,7 +68,7 @@ pub record IsEarlyCall (given : Given) (tape : List Operation) (scope : Scope) (
       → IsLegalCall (world_in given tape' scope first) entries who end (early ++ event ∷ [])
 
 -- The same of a call behind which superblocks may bear these numbers.
-pub record IsCarryingCall (given : Given) (tape : List Operation) (scope : Scope) (first : ℕ) (entries : List Entry) (old new : Members) (carried carried' : ℕ → Bool) (resync : Option ℕ) (course' : Course) (buffer' : List ℕ)
+pub record IsCarryingCall (given : Given) (tape : List Operation) (scope : Scope) (first : ℕ) (entries : List Entry) (old new : Members) (carried carried' : ℕ → ℕ → Bool) (resync : Option ℕ) (course' : Course) (buffer' : List ℕ)
     (who : Who) (early : List Event) (event : Event) (tape' : List Operation) (end : ℕ) : Type 0 where
   pub rise : IsRisen ⊤ old new tape tape'
   pub keeps : (told : Ledger) → told.carried ≡ carried → IsFilledRight (world_in given tape scope first) entries → IsMoreTold (told_now (world_in given tape scope first) carried true entries) told
@@ -81,7 +81,7 @@ pub record IsCarryingCall (given : Given) (tape : List Operation) (scope : Scope
       → IsLegalCall (world_in given tape' scope first) entries who end (early ++ event ∷ [])
 
 -- The same of a call that enters losses before its event.
-pub record IsQuietCall (given : Given) (tape : List Operation) (scope : Scope) (first : ℕ) (entries : List Entry) (old new : Members) (carried : ℕ → Bool) (resync : Option ℕ) (course' : Course) (buffer' : List ℕ)
+pub record IsQuietCall (given : Given) (tape : List Operation) (scope : Scope) (first : ℕ) (entries : List Entry) (old new : Members) (carried : ℕ → ℕ → Bool) (resync : Option ℕ) (course' : Course) (buffer' : List ℕ)
     (who : Who) (roles spares : ℕ) (event : Event) (tape' : List Operation) (end : ℕ) : Type 0 where
   pub rise : IsRisen ⊤ old new tape tape'
   pub keeps : (told : Ledger) → IsFilledRight (world_in given tape scope first) entries → IsMoreTold (told_now (world_in given tape scope first) carried true entries) told
@@ -95,7 +95,7 @@ pub record IsQuietCall (given : Given) (tape : List Operation) (scope : Scope) (
       → IsLegalEvent (world_in given tape' scope first) (entries ++ entries_of who end (losses_of roles spares)) (entry_of who end event) [] event
 
 -- What a call leaves of the record, over a bank that tells its contents, where no resync is pending.
-pub record IsLeftBy (given : Given) (tape : List Operation) (scope : Scope) (first : ℕ) (entries all : List Entry) (new : Members) (carried : ℕ → Bool) (course' : Course) (buffer' : List ℕ) (tape' : List Operation) : Type 0 where
+pub record IsLeftBy (given : Given) (tape : List Operation) (scope : Scope) (first : ℕ) (entries all : List Entry) (new : Members) (carried : ℕ → ℕ → Bool) (course' : Course) (buffer' : List ℕ) (tape' : List Operation) : Type 0 where
   pub right : IsReliable (world_in given tape' scope first) all → IsReliable (world_in given tape scope first) entries
   pub levelled : level_at (world_in given tape' scope first) all ≡ level_at (world_in given tape scope first) entries
   pub gone : IsReliable (world_in given tape' scope first) all → AreToldGone (world_in given tape' scope first) all new
@@ -105,11 +105,11 @@ pub record IsLeftBy (given : Given) (tape : List Operation) (scope : Scope) (fir
   pub pending : is_unsynced (world_in given tape' scope first) all ≡ false
   pub listed : IsFilledRight (world_in given tape' scope first) all
       → HasListInCourse (OpensFit (world_in given tape' scope first)) new None course' buffer' (present given tape') (now (opening_list (world_in given tape' scope first)) all)
-  pub safe : IsFilledRight (world_in given tape' scope first) all → HasRoomForEvents (world_in given tape' scope first) → OpensAlike (world_in given tape' scope first)
+  pub safe : IsFilledRight (world_in given tape' scope first) all → HasRoomForEvents (world_in given tape' scope first)
       → IsSafeHistory ⊤ (world_in given tape' scope first) given new carried true all
 
 -- The list of the history that stood in the course stands so by more entries that say the same of it.
-pub listed-later : (given : Given) (tape : List Operation) (scope : Scope) (first : ℕ) (entries all : List Entry) (new : Members) (carried : ℕ → Bool) (resync : Option ℕ) (course' : Course) (buffer' : List ℕ) (tape' : List Operation) (current : ℕ → Sector)
+pub listed-later : (given : Given) (tape : List Operation) (scope : Scope) (first : ℕ) (entries all : List Entry) (new : Members) (carried : ℕ → ℕ → Bool) (resync : Option ℕ) (course' : Course) (buffer' : List ℕ) (tape' : List Operation) (current : ℕ → Sector)
     → IsLeftBehind given tape scope first entries all new carried true tape' → ((x : ℕ) → now (opening_list (world_in given tape scope first)) all x ≡ current x)
     → (IsFilledRight (world_in given tape scope first) entries → HasListInCourse (OpensFit (world_in given tape scope first)) new resync course' buffer' (present given tape') current)
     → IsFilledRight (world_in given tape' scope first) all
@@ -131,7 +131,7 @@ course-earlier given tape tape' scope first begun grown on = course-before (worl
 -- ---- what is kept
 
 -- The call keeps the record: the array is in its reshape still, however far that has come then.
-pub early-moves : (tells : Type 0) (given : Given) (tape tape' : List Operation) (scope : Scope) (first : ℕ) (entries : List Entry) (old new : Members) (carried : ℕ → Bool) (resync resync' : Option ℕ) (course course' : Course)
+pub early-moves : (tells : Type 0) (given : Given) (tape tape' : List Operation) (scope : Scope) (first : ℕ) (entries : List Entry) (old new : Members) (carried : ℕ → ℕ → Bool) (resync resync' : Option ℕ) (course course' : Course)
     (buffer buffer' : List ℕ) (left left' : ℕ) (who : Who) (end : ℕ) (early : List Event) (IsTaken : ℕ → Type 0) (event : Event)
     → IsMoving tells given tape scope first entries old carried resync course buffer left → HasLiveSlot old → IsCallGoing entries who → IsFalse (who.caller == 254) → (tells → end ≡ length tape') → Grows tells tape tape' → IsQuiet event
     → AreReshaping scope given new → HasResync new resync' course' → is_some resync' ≡ is_some resync → role_count new.newest ≤ 16
@@ -176,9 +176,9 @@ early-moves tells given tape tape' scope first entries old new carried resync re
         (call t)
 
 -- And so does a call behind which superblocks may bear more numbers.
-pub carrying-moves : (tells : Type 0) (given : Given) (tape tape' : List Operation) (scope : Scope) (first : ℕ) (entries : List Entry) (old new : Members) (carried carried' : ℕ → Bool) (resync : Option ℕ) (course course' : Course)
+pub carrying-moves : (tells : Type 0) (given : Given) (tape tape' : List Operation) (scope : Scope) (first : ℕ) (entries : List Entry) (old new : Members) (carried carried' : ℕ → ℕ → Bool) (resync : Option ℕ) (course course' : Course)
     (buffer buffer' : List ℕ) (left left' : ℕ) (who : Who) (end : ℕ) (early : List Event) (IsTaken : ℕ → Type 0) (event : Event)
-    → ((number : ℕ) → carried number ≡ true → carried' number ≡ true) → IsMoving tells given tape scope first entries old carried resync course buffer left → HasLiveSlot old → IsCallGoing entries who → IsFalse (who.caller == 254) → (tells → end ≡ length tape') → Grows tells tape tape' → IsQuiet event
+    → ((slot number : ℕ) → carried slot number ≡ true → carried' slot number ≡ true) → IsMoving tells given tape scope first entries old carried resync course buffer left → HasLiveSlot old → IsCallGoing entries who → IsFalse (who.caller == 254) → (tells → end ≡ length tape') → Grows tells tape tape' → IsQuiet event
     → AreReshaping scope given new → HasResync new resync course' → role_count new.newest ≤ 16
     → AreEarly early IsTaken → AreLostOrMissing old new IsTaken
     → list_length new.newest ≡ list_length old.newest → (shape_of new.newest).level ≡ (shape_of old.newest).level → is_clean new.newest ≡ is_clean old.newest → IsCourseOf new.newest course' → (tells → OpensOnCourse (world_in given tape scope first) → IsStored scope new course'.window buffer' (disk given.start tape'))
@@ -223,14 +223,14 @@ carrying-moves tells given tape tape' scope first entries old new carried carrie
           rise = call_to.rise;
           keeps = λ before told right first_more more same_before same_told room gone unclean safe.
               stretch-more (OpensFit (world_in given tape scope first)) scope given (record before { carried = carried' }) told new tape (tape ++ g.0)
-              (record { size = more.size; values = more.values; gone = more.gone; unclean = more.unclean; reshaping = more.reshaping; carried = λ number is. same_told number ∙ is })
-              (call_to.keeps before (λ i number. same_before number i) right.fills first_more room gone unclean safe);
+              (record { size = more.size; values = more.values; gone = more.gone; unclean = more.unclean; reshaping = more.reshaping; carried = λ slot number is. same_told slot number ∙ is })
+              (call_to.keeps before (λ i slot number. same_before slot number i) right.fills first_more room gone unclean safe);
           legal = λ all fills gone level. call_to.legal fills gone level;
         })))
         (call t)
 
 -- And so does a call that enters losses before its event.
-pub quiet-moves : (tells : Type 0) (given : Given) (tape tape' : List Operation) (scope : Scope) (first : ℕ) (entries : List Entry) (old new : Members) (carried : ℕ → Bool) (resync resync' : Option ℕ) (course course' : Course)
+pub quiet-moves : (tells : Type 0) (given : Given) (tape tape' : List Operation) (scope : Scope) (first : ℕ) (entries : List Entry) (old new : Members) (carried : ℕ → ℕ → Bool) (resync resync' : Option ℕ) (course course' : Course)
     (buffer buffer' : List ℕ) (left left' : ℕ) (who : Who) (end roles spares : ℕ) (event : Event)
     → IsMoving tells given tape scope first entries old carried resync course buffer left → HasLiveSlot old → IsCallGoing entries who → IsFalse (who.caller == 254) → (tells → end ≡ length tape') → Grows tells tape tape' → IsQuiet event
     → AreReshaping scope given new → HasResync new resync' course' → is_some resync' ≡ is_some resync → role_count new.newest ≤ 16

@@ -26,7 +26,7 @@ use Rattle.history_calls.proofs.Quiet.{IsQuiet, IsLeftBehind, last-left, resting
 use Rattle.moving_kept.proofs.Pending.{pending-on}
 use Rattle.moving_kept.proofs.Quiet.{listed-later}
 
-pub resting-moves : (tells : Type 0) (given : Given) (tape : List Operation) (scope : Scope) (first : ℕ) (entries : List Entry) (m : Members) (carried : ℕ → Bool)
+pub resting-moves : (tells : Type 0) (given : Given) (tape : List Operation) (scope : Scope) (first : ℕ) (entries : List Entry) (m : Members) (carried : ℕ → ℕ → Bool)
     (resync : Option ℕ) (course : Course) (buffer : List ℕ) (left : ℕ) (who : Who) (end : ℕ) (event : Event)
     → IsMoving tells given tape scope first entries m carried resync course buffer left → IsCallGoing entries who → IsFalse (who.caller == 254) → (tells → end ≡ length tape)
     → IsQuiet event → TellLeft left who end (event ∷ [])

@@ -88,7 +88,7 @@ unsynced-then world entries who end roles spares event =
 -- ---- the call
 
 -- What is asked of a call, from this tape to that one with its end there: by what is told while it runs each mark is safe, and its end by the list alone.
-pub record IsSettlingCall (given : Given) (tape : List Operation) (scope : Scope) (first : ℕ) (entries : List Entry) (old new : Members) (carried : ℕ → Bool) (unsynced : Bool) (resync : Option ℕ) (course' : Course) (buffer' : List ℕ)
+pub record IsSettlingCall (given : Given) (tape : List Operation) (scope : Scope) (first : ℕ) (entries : List Entry) (old new : Members) (carried : ℕ → ℕ → Bool) (unsynced : Bool) (resync : Option ℕ) (course' : Course) (buffer' : List ℕ)
     (who : Who) (roles spares : ℕ) (event : Event) (tape' : List Operation) (end : ℕ) : Type 0 where
   pub rise : IsRisen ⊤ old new tape tape'
   pub keeps : (told : Ledger) → IsFilledRight (world_in given tape scope first) entries → IsMoreTold (told_now (world_in given tape scope first) carried true entries) told
@@ -105,7 +105,7 @@ pub record IsSettlingCall (given : Given) (tape : List Operation) (scope : Scope
 -- ---- what is kept
 
 -- The call keeps the record: what was written is settled; a resync is pending as it was, or ended with that.
-pub settling-moves : (tells : Type 0) (given : Given) (tape tape' : List Operation) (scope : Scope) (first : ℕ) (entries : List Entry) (old new : Members) (carried : ℕ → Bool) (resync resync' : Option ℕ) (unsynced : Bool) (course course' : Course)
+pub settling-moves : (tells : Type 0) (given : Given) (tape tape' : List Operation) (scope : Scope) (first : ℕ) (entries : List Entry) (old new : Members) (carried : ℕ → ℕ → Bool) (resync resync' : Option ℕ) (unsynced : Bool) (course course' : Course)
     (buffer buffer' : List ℕ) (left left' : ℕ) (who : Who) (end roles spares : ℕ) (event : Event)
     → IsMoving tells given tape scope first entries old carried resync course buffer left → HasLiveSlot old → IsCallGoing entries who → IsFalse (who.caller == 254) → (tells → end ≡ length tape') → Grows tells tape tape'
     → IsSettlement event → is_loss event ≡ false → ends_reshape event ≡ false

@@ -51,7 +51,7 @@ use Rattle.history_calls.specs.kept_history_Recorded.{IsHistoryKept, IsCallGoing
 use Rattle.history_calls.specs.kept_history_Safe.{world_in, IsFilledRight}
 use Rattle.history_calls.specs.kept_history_Told.{told_now}
 use Rattle.history_calls.proofs.kept_history_Calls.{now-live}
-use Rattle.history_calls.proofs.kept_history_Growing.{fit-grown, alike-before, room-before, room-now}
+use Rattle.history_calls.proofs.kept_history_Growing.{fit-grown, room-before, room-now}
 use Rattle.history_calls.proofs.kept_history_Lengths.{now-drawn}
 use Rattle.history_calls.proofs.kept_history_Turned.{filled-before}
 use Rattle.course_mends.specs.course_kept_Laws.{closed}
@@ -74,7 +74,7 @@ use Rattle.moving_kept.proofs.Shortening.{IsShorteningCall, shortened-gone, shor
 
 -- ---- the record
 
-module _ (given : Given) (tape : List Operation) (scope : Scope) (first : ℕ) (entries : List Entry) (old plan new : Members) (carried carried' : ℕ → Bool) (buffer : List ℕ) (who : Who) (left n roles spares : ℕ)
+module _ (given : Given) (tape : List Operation) (scope : Scope) (first : ℕ) (entries : List Entry) (old plan new : Members) (carried carried' : ℕ → ℕ → Bool) (buffer : List ℕ) (who : Who) (left n roles spares : ℕ)
     (ops : List Operation) (tells : Type 0) (was : IsStillKept tells given tape scope first entries old carried) (t : tells) (synced : is_unsynced (world_in given tape scope first) entries ≡ false) (goes : IsCallGoing entries who) (caller : IsFalse (who.caller == 254))
     (told : IfSome (told_left entries) (λ n. n ≡ left + 1)) (some : left ≢ 0) (are : AreBegun scope given old plan new) (back : is_backward plan.newest ≡ true)
     (rows : AreOtherRowsKept (λ row. ⊥) (reading_of new) (present given tape) (present given (tape ++ ops)))
@@ -150,7 +150,6 @@ module _ (given : Given) (tape : List Operation) (scope : Scope) (first : ℕ) (
     right = λ right. record {
       fills = filled-before world ops entries (entries_of who (length (tape ++ ops)) (Step Begun left ∷ Resized n ∷ losses_of roles spares)) recorded.begun recorded.ends right.fills;
       room = room-before world ops recorded.begun right.room;
-      alike = alike-before world ops recorded.begun right.alike;
     };
     levelled = shortened-level given tape scope first entries old plan new carried carried' who left n roles spares ops was.sizes_are recorded.begun recorded.ends recorded.sized (was.gone t) call;
     gone = shortened-gone given tape scope first entries old plan new carried carried' who left n roles spares ops was.sizes_are recorded.begun recorded.ends recorded.sized (was.gone t) call;
@@ -163,7 +162,7 @@ module _ (given : Given) (tape : List Operation) (scope : Scope) (first : ℕ) (
   }
 
 -- So the array is in its reshape, with the shorter list.
-pub shortened-moves : (tells : Type 0) (given : Given) (tape tape' : List Operation) (scope : Scope) (first : ℕ) (entries : List Entry) (old plan new : Members) (carried carried' : ℕ → Bool) (buffer : List ℕ)
+pub shortened-moves : (tells : Type 0) (given : Given) (tape tape' : List Operation) (scope : Scope) (first : ℕ) (entries : List Entry) (old plan new : Members) (carried carried' : ℕ → ℕ → Bool) (buffer : List ℕ)
     (left n : ℕ) (who : Who) (end roles spares : ℕ)
     → IsStillKept tells given tape scope first entries old carried → (tells → is_unsynced (world_in given tape scope first) entries ≡ false) → (goes : IsCallGoing entries who) → IsFalse (who.caller == 254) → (tells → end ≡ length tape') → Grows tells tape tape'
     → IfSome (told_left entries) (λ n. n ≡ left + 1) → left ≢ 0 → AreBegun scope given old plan new → is_backward plan.newest ≡ true → (tells → IsCleared scope (disk given.start tape'))
@@ -236,9 +235,9 @@ is-shorter former to force still back =
     same : (a : ℕ) → min a a ≡ a
     same a = omega arith
 
-module _ (tells : Type 0) (given : Given) (scope : Scope) (first : ℕ) (entries : List Entry) (backup : ℕ) (uuid : List ℕ) (to : Shape) (old new : Members) (carried carried' : ℕ → Bool) (roles : ℕ) (tape : List Operation)
+module _ (tells : Type 0) (given : Given) (scope : Scope) (first : ℕ) (entries : List Entry) (backup : ℕ) (uuid : List ℕ) (to : Shape) (old new : Members) (carried carried' : ℕ → ℕ → Bool) (roles : ℕ) (tape : List Operation)
     (was : IsStillKept tells given tape scope first entries old carried) (back : goes_back (shape_of old.newest) to ≡ true) where
-  shortened-call : (ops : List Operation) → tells → IsBegunBy tells given tape (tape ++ ops) scope backup uuid to old new roles → ((number : ℕ) → carried number ≡ true → carried' number ≡ true)
+  shortened-call : (ops : List Operation) → tells → IsBegunBy tells given tape (tape ++ ops) scope backup uuid to old new roles → ((slot number : ℕ) → carried slot number ≡ true → carried' slot number ≡ true)
       → IsShorteningCall given tape scope first entries old (begun_plan old to) new carried carried' (list_length new.newest) roles (tape ++ ops)
   shortened-call ops t did numbers = record {
     live = did.live;
@@ -276,7 +275,7 @@ module _ (tells : Type 0) (given : Given) (scope : Scope) (first : ℕ) (entries
       read : IsReliable (world_in given tape scope first) entries → HasRoomForEvents (world_in given (tape ++ ops) scope first)
           → IsEitherRead scope (contents_at (world_in given (tape ++ ops) scope first) (length (tape ++ ops))) old.newest (begun_plan old to).newest
       read right room =
-          let safe = safe-over was t did.live right.fills right.room right.alike in
+          let safe = safe-over was t did.live right.fills right.room in
           begun-either tells (OpensFit (world_in given tape scope first)) scope given (told_now (world_in given tape scope first) carried false entries) backup uuid to old new tape (tape ++ ops)
           did.backed.backup did.backed.array did.sixteen was.still same_roles did.in_force did.level did.live (room-now (world_in given tape scope first) ops (was.recorded t).begun old safe.counted room) did.begun t
           (now-live (world_in given tape scope first) did.live safe.now) (contents given.start (tape ++ ops) (length (tape ++ ops))) drawn
@@ -286,7 +285,7 @@ module _ (tells : Type 0) (given : Given) (scope : Scope) (first : ℕ) (entries
   -- So a reshape that makes the list shorter begins in an array that keeps its record and leaves one that keeps it in the reshape: from what `begin` says of its call.
   pub array-shortens : (tape' : List Operation) (did : IsBegunBy tells given tape tape' scope backup uuid to old new roles) → HasNoneRecovering old → AreSparesFree given old → length old.own ≡ 32 → AreSparesFree given new
       → length new.spares ≤ 32 → (buffer : List ℕ) (left : ℕ) (who : Who) (end lost_spares : ℕ) → (tells → is_unsynced (world_in given tape scope first) entries ≡ false) → (goes : IsCallGoing entries who) → IsFalse (who.caller == 254) → (tells → end ≡ length tape')
-      → Grows tells tape tape' → IfSome (told_left entries) (λ n. n ≡ left + 1) → left ≢ 0 → ((number : ℕ) → carried number ≡ true → carried' number ≡ true) → (tells → IsCleared scope (disk given.start tape'))
+      → Grows tells tape tape' → IfSome (told_left entries) (λ n. n ≡ left + 1) → left ≢ 0 → ((slot number : ℕ) → carried slot number ≡ true → carried' slot number ≡ true) → (tells → IsCleared scope (disk given.start tape'))
       → (tells → (s k : ℕ) → k ≢ 8 → (s ≢ backup) ⊎ (k ≢ 0) → present given tape' s k ≡ present given tape s k) → (tells → IsOpenBehind (world_in given tape' scope first) goes.call)
       → IsMoving tells given tape' scope first (entries ++ entries_of who end (Step Begun left ∷ Resized (list_length new.newest) ∷ losses_of roles lost_spares)) new carried' None (closed 0) buffer left
   array-shortens tape' did whole free long still_free spares buffer left who end lost_spares synced goes caller at_end grows told some numbers cleared others behind =

@@ -21,7 +21,7 @@ use Rattle.course_mends.specs.flat_history_the_Entry.{Entry}
 use Rattle.course_mends.specs.flat_history_the_Event.{Event}
 use Rattle.course_mends.specs.flat_history_the_Event_TheVariants.{Resized, Step}
 use Rattle.course_mends.specs.flat_history_the_StepKind_TheVariants.{Begun}
-use Rattle.course_mends.specs.flat_history_Epochs.{HasRoomForEvents, OpensAlike}
+use Rattle.course_mends.specs.flat_history_Epochs.{HasRoomForEvents}
 use Rattle.course_mends.specs.flat_history_Flat.{length_of, values_of, values_after, now, is_same_call, last_of}
 use Rattle.course_mends.specs.flat_history_Flat.{resized as cut}
 use Rattle.course_mends.specs.flat_history_Growing.{EndBy}
@@ -46,7 +46,7 @@ use Rattle.history_calls.proofs.call_entries_StepLaws.{faults-are}
 use Rattle.history_calls.specs.kept_history_Recorded.{IsHistoryKept, IsLegalCall, IsCallGoing, IsOpenBehind, entry_of, ends_reshape, gives_some}
 use Rattle.history_calls.specs.kept_history_Safe.{world_in, IsFilledRight, IsSafeHistory}
 use Rattle.history_calls.specs.kept_history_Told.{told_now, told_by}
-use Rattle.history_calls.proofs.kept_history_Growing.{reading-grown, opening-grown, fit-grown, gone-grown, unsynced-grown, now-grown, alike-before, room-before, room-now}
+use Rattle.history_calls.proofs.kept_history_Growing.{reading-grown, opening-grown, fit-grown, gone-grown, unsynced-grown, now-grown, room-before, room-now}
 use Rattle.history_calls.proofs.kept_history_Ledgers.{more-then, any-gone, unclean-now, unsynced-still, none-ends}
 use Rattle.history_calls.proofs.kept_history_Longer.{regains-none}
 use Rattle.history_calls.proofs.kept_history_Lengths.{length-now}
@@ -65,7 +65,7 @@ use Rattle.moving_kept.proofs.ReadShapes.{HasShapesOf, IsEitherRead}
 
 -- What the begin of such a reshape leaves: its update is safe from one ledger to another, what is missing then was missing among the roles of the old shape or is told
 -- lost, what is read at its end says the shapes as before or as planned, and the list has its new length, that of a shape of the array's level.
-pub record IsShorteningCall (given : Given) (tape : List Operation) (scope : Scope) (first : ℕ) (entries : List Entry) (old plan new : Members) (carried carried' : ℕ → Bool) (n roles : ℕ) (tape' : List Operation) : Type 0 where
+pub record IsShorteningCall (given : Given) (tape : List Operation) (scope : Scope) (first : ℕ) (entries : List Entry) (old plan new : Members) (carried carried' : ℕ → ℕ → Bool) (n roles : ℕ) (tape' : List Operation) : Type 0 where
   pub live : HasLiveSlot old
   pub placed : IsPlaced given new
   pub unlost : AreUnlost new
@@ -78,12 +78,12 @@ pub record IsShorteningCall (given : Given) (tape : List Operation) (scope : Sco
   pub sized : list_length new.newest ≡ n
   pub shorter : n < list_length old.newest
   pub few : role_count new.newest ≤ 16
-  pub numbers : (number : ℕ) → carried number ≡ true → carried' number ≡ true
+  pub numbers : (slot number : ℕ) → carried slot number ≡ true → carried' slot number ≡ true
   pub since : (role : ℕ) → role < role_count new.newest → is_missing (reading_of new) role ≡ true → ((role < (shape_of old.newest).disks) × (is_missing (reading_of old) role ≡ true)) ⊎ IsAmong roles role
   pub fewer : (role : ℕ) → role < role_count plan.newest → is_missing (reading_of plan) role ≡ true → (role < role_count new.newest) × (is_missing (reading_of new) role ≡ true)
   pub rise : IsRisen ⊤ old new tape tape'
   pub read : IsReliable (world_in given tape scope first) entries → HasRoomForEvents (world_in given tape' scope first) → IsEitherRead scope (contents_at (world_in given tape' scope first) (length tape')) old.newest plan.newest
-  pub safe : (told more : Ledger) → HasRoomLeft old tape tape' → IsToldWith told more plan → AreGoneTold told old → AreGoneTold more new → ((number : ℕ) → told.carried number ≡ true → more.carried number ≡ true)
+  pub safe : (told more : Ledger) → HasRoomLeft old tape tape' → IsToldWith told more plan → AreGoneTold told old → AreGoneTold more new → ((slot number : ℕ) → told.carried slot number ≡ true → more.carried slot number ≡ true)
       → IsSafeOver (world_in given tape scope first) given told old tape → IsSafeChange (OpensFit (world_in given tape scope first)) scope given told more new tape tape'
 
 -- ---- the last entry that is no loss
@@ -96,7 +96,7 @@ last-kept (x ∷ xs) e none = by (is_loss x.event) (last-kept xs e none)
     by true rest = rest
     by false rest = ap (λ (o : Option Entry). Some (unwrap_or o x)) rest
 
-module _ (given : Given) (tape : List Operation) (scope : Scope) (first : ℕ) (entries : List Entry) (old plan new : Members) (carried carried' : ℕ → Bool) (who : Who) (left n roles spares : ℕ) (ops : List Operation)
+module _ (given : Given) (tape : List Operation) (scope : Scope) (first : ℕ) (entries : List Entry) (old plan new : Members) (carried carried' : ℕ → ℕ → Bool) (who : Who) (left n roles spares : ℕ) (ops : List Operation)
     (sizes_are : scope.sizes ≡ sizes given) (begun : first ≤ length tape) (ends : EndBy (length tape) entries) (recorded : length_of (length (opening_list (world_in given tape scope first))) entries ≡ list_length old.newest)
     (gone : IsReliable (world_in given tape scope first) entries → AreToldGone (world_in given tape scope first) entries old)
     (call : IsShorteningCall given tape scope first entries old plan new carried carried' n roles (tape ++ ops)) where
@@ -148,7 +148,7 @@ module _ (given : Given) (tape : List Operation) (scope : Scope) (first : ℕ) (
   -- ---- what is gone
 
   right-before : IsReliable later all → IsReliable world entries
-  right-before right = record { fills = filled-before world ops entries added begun ends right.fills; room = room-before world ops begun right.room; alike = alike-before world ops begun right.alike }
+  right-before right = record { fills = filled-before world ops entries added begun ends right.fills; room = room-before world ops begun right.room }
 
   -- what is read at its end says the old shape, with its size, and has no more roles than the members
   old-said : (sb : Sb) → HasShapesOf old.newest sb ⊎ HasShapesOf plan.newest sb → shape_of sb ≡ shape_of old.newest
@@ -237,14 +237,14 @@ module _ (given : Given) (tape : List Operation) (scope : Scope) (first : ℕ) (
     gone = λ role is. (and-parts (is_gone_after world entries role) (nat_lt role disks) is).0;
     unclean = λ is. is;
     reshaping = λ is. is;
-    carried = λ number is. is;
+    carried = λ slot number is. is;
   }
 
   -- the step alone tells no less
-  less : IsMoreTold told (told_by later (λ number. true) true entries (entries_of who end (Step Begun left ∷ [])))
-  less = more-then told (told_now world carried false entries) (told_by later (λ number. true) true entries (entries_of who end (Step Begun left ∷ []))) told-less
-      (subst (λ (l : Ledger). IsMoreTold l (told_by later (λ number. true) true entries (entries_of who end (Step Begun left ∷ [])))) (now-grown world ops begun carried false entries ends)
-      (told-adding later carried (λ number. true) false true entries (entries_of who end (Step Begun left ∷ [])) refl (λ number is. refl) (λ is. refl)))
+  less : IsMoreTold told (told_by later (λ slot number. true) true entries (entries_of who end (Step Begun left ∷ [])))
+  less = more-then told (told_now world carried false entries) (told_by later (λ slot number. true) true entries (entries_of who end (Step Begun left ∷ []))) told-less
+      (subst (λ (l : Ledger). IsMoreTold l (told_by later (λ slot number. true) true entries (entries_of who end (Step Begun left ∷ [])))) (now-grown world ops begun carried false entries ends)
+      (told-adding later carried (λ slot number. true) false true entries (entries_of who end (Step Begun left ∷ [])) refl (λ slot number is. refl) (λ is. refl)))
 
   length-all : length_of (length (opening_list later)) all ≡ n
   length-all = turned-length later entries who end (Step Begun left ∷ []) n (losses_of roles spares) faults (length (opening_list later))
@@ -331,15 +331,15 @@ module _ (given : Given) (tape : List Operation) (scope : Scope) (first : ℕ) (
 
   -- ---- each mark
 
-  module _ (safe : IsFilledRight (world_in given tape scope first) entries → HasRoomForEvents (world_in given tape scope first) → OpensAlike (world_in given tape scope first)
+  module _ (safe : IsFilledRight (world_in given tape scope first) entries → HasRoomForEvents (world_in given tape scope first)
       → IsSafeHistory ⊤ (world_in given tape scope first) given old carried false entries) where
     module _ (fills : IsFilledRight (world_in given (tape ++ ops) scope first) (entries ++ entries_of who (length (tape ++ ops)) (Step Begun left ∷ Resized n ∷ losses_of roles spares)))
-        (room : HasRoomForEvents (world_in given (tape ++ ops) scope first)) (alike : OpensAlike (world_in given (tape ++ ops) scope first)) where
+        (room : HasRoomForEvents (world_in given (tape ++ ops) scope first)) where
       abbrev was : IsSafeHistory ⊤ (world_in given tape scope first) given old carried false entries
-      was = safe (filled-before world ops entries added begun ends fills) (room-before world ops begun room) (alike-before world ops begun alike)
+      was = safe (filled-before world ops entries added begun ends fills) (room-before world ops begun room)
 
       right : IsReliable later all
-      right = record { fills = fills; room = room; alike = alike }
+      right = record { fills = fills; room = room }
 
       -- what is told gone before it is so behind it
       gone-told : (role : ℕ) → told.gone role ≡ true → is_gone_after later all role ≡ true
@@ -373,7 +373,7 @@ module _ (given : Given) (tape : List Operation) (scope : Scope) (first : ℕ) (
             length-adding (length (opening_list later)) entries (entry ∷ []) refl ∙ ap (λ (l : List Sector). length_of (length l) entries) (opening-grown world ops begun) ∙ recorded in
             let shorter = call.shorter in
             omega (arith, same, shorter);
-        kept = elim (change fills.fills fills.room fills.alike).next [
+        kept = elim (change fills.fills fills.room).next [
           | inl named ↦ inl (sym length-all ∙ length-now given (tape ++ ops) scope first with_it new
               (subst (λ (fit : Type 0). IsSafeNow fit scope given with_it new (disk given.start (tape ++ ops))) (sym (fit-grown world ops begun)) (inl named.steady)))
           | inr spent ↦ inr (ap (λ (l : List Entry). is_all_gone later end l) parts ∙ all-gone fills spent.none, unkept fills)

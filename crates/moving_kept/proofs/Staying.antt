@@ -72,7 +72,7 @@ course-moved given old new course moved was = record {
 
 -- ---- a call that leaves it
 
-pub stays-moves : (tells : Type 0) (given : Given) (tape tape' : List Operation) (scope : Scope) (first : ℕ) (entries : List Entry) (old new : Members) (carried : ℕ → Bool)
+pub stays-moves : (tells : Type 0) (given : Given) (tape tape' : List Operation) (scope : Scope) (first : ℕ) (entries : List Entry) (old new : Members) (carried : ℕ → ℕ → Bool)
     (resync : Option ℕ) (course : Course) (buffer : List ℕ) (left : ℕ) (who : Who) (end roles spares : ℕ) (event : Event)
     → IsMoving tells given tape scope first entries old carried resync course buffer left → HasLiveSlot old → IsCallGoing entries who → IsFalse (who.caller == 254) → (tells → end ≡ length tape') → Grows tells tape tape'
     → IsQuiet event → TellLeft left who end (event ∷ []) → IsMoved given old new → role_count new.newest ≤ 16 → AreMissingSince old new roles → is_clean new.newest ≡ is_clean old.newest
@@ -107,7 +107,7 @@ stays-moves tells given tape tape' scope first entries old new carried resync co
 
 -- ---- a call that is refused
 
-pub refused-moves : (tells : Type 0) (given : Given) (tape tape' : List Operation) (scope : Scope) (first : ℕ) (entries : List Entry) (old new : Members) (carried : ℕ → Bool)
+pub refused-moves : (tells : Type 0) (given : Given) (tape tape' : List Operation) (scope : Scope) (first : ℕ) (entries : List Entry) (old new : Members) (carried : ℕ → ℕ → Bool)
     (resync : Option ℕ) (course : Course) (buffer : List ℕ) (left : ℕ) (who : Who) (end roles spares : ℕ) (refusal : Refusal)
     → IsMoving tells given tape scope first entries old carried resync course buffer left → HasLiveSlot old → IsCallGoing entries who → IsFalse (who.caller == 254) → (tells → end ≡ length tape') → Grows tells tape tape'
     → IsMoved given old new → role_count new.newest ≤ 16 → AreMissingSince old new roles → is_clean new.newest ≡ is_clean old.newest → (refusal ≡ BackupFault) ⊎ AreTooMany new refusal

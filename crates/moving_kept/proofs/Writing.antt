@@ -222,7 +222,7 @@ written-sector at from list list' x w whole bytes was = elim (cases_lt x at) [
 
 -- ---- the call
 
-module _ (tells : Type 0) (given : Given) (tape tape' : List Operation) (scope : Scope) (first : ℕ) (entries : List Entry) (old new : Members) (carried : ℕ → Bool)
+module _ (tells : Type 0) (given : Given) (tape tape' : List Operation) (scope : Scope) (first : ℕ) (entries : List Entry) (old new : Members) (carried : ℕ → ℕ → Bool)
     (resync : Option ℕ) (course : Course) (buffer : List ℕ) (left : ℕ) (who : Who) (end roles spares at : ℕ) (from : List ℕ) (past : Option Span) (relied : ℕ) (begun : Bool)
     (was : IsMoving tells given tape scope first entries old carried resync course buffer left) (live : HasLiveSlot old) (goes : IsCallGoing entries who) (caller : IsFalse (who.caller == 254))
     (at_end : tells → end ≡ length tape') (grows : Grows tells tape tape') (does : (x : ℕ) → at ≤ x → x < at + length from / 512 → DoesWithout (shape_for old.newest x) old)

@@ -10,7 +10,7 @@ use Rattle.course_mends.specs.superblocks_the_Members.{Members}
 use Rattle.course_mends.specs.superblocks_Reading.{Scope, is_reshaping, is_backward, is_clean, shape_of, list_length}
 use Rattle.course_mends.specs.row_io_Rows.{present}
 use Rattle.course_mends.specs.flat_history_the_Entry.{Entry}
-use Rattle.course_mends.specs.flat_history_Epochs.{HasRoomForEvents, OpensAlike}
+use Rattle.course_mends.specs.flat_history_Epochs.{HasRoomForEvents}
 use Rattle.course_mends.specs.flat_history_Flat.{now}
 use Rattle.course_mends.specs.flat_history_Legal.{told_left, level_at}
 use Rattle.course_mends.specs.flat_history_Losses.{is_unsynced}
@@ -69,7 +69,7 @@ pub record HasListStill (sound : Type 0) (members : Members) (c : Contents) (cur
 -- No reshape is active in the array, though some may have been before. What is missing was told so, and a dirty mark; over a bank that tells its contents the
 -- history is legal, reaches to the tape's end and tells nothing past the list's, the list stands where what is filled in is right, and each mark so far is safe. Superblocks may tell a
 -- reshape still only where no live slot is left: its end was recorded in none then.
-pub record IsStillKept (tells : Type 0) (given : Given) (tape : List Operation) (scope : Scope) (first : ℕ) (entries : List Entry) (members : Members) (carried : ℕ → Bool) : Type 0 where
+pub record IsStillKept (tells : Type 0) (given : Given) (tape : List Operation) (scope : Scope) (first : ℕ) (entries : List Entry) (members : Members) (carried : ℕ → ℕ → Bool) : Type 0 where
   pub slots : given.slots ≤ 32
   pub placed : IsPlaced given members
   pub still : is_reshaping members.newest ≡ false
@@ -83,7 +83,7 @@ pub record IsStillKept (tells : Type 0) (given : Given) (tape : List Operation) 
   pub past : tells → IsNonePast (world_in given tape scope first) entries (list_length members.newest)
   pub listed : tells → DoWithout members → IsFilledRight (world_in given tape scope first) entries
       → HasListStill (OpensFit (world_in given tape scope first)) members (present given tape) (now (opening_list (world_in given tape scope first)) entries)
-  pub safe : tells → IsFilledRight (world_in given tape scope first) entries → HasRoomForEvents (world_in given tape scope first) → OpensAlike (world_in given tape scope first)
+  pub safe : tells → IsFilledRight (world_in given tape scope first) entries → HasRoomForEvents (world_in given tape scope first)
       → IsSafeHistory ⊤ (world_in given tape scope first) given members carried reshaping entries
 
 -- A reshape is active in the array, and this is how far it has come; a resync may be pending, beside whose mended stripes no window is open; so many steps are left. What is
@@ -92,7 +92,7 @@ pub record IsStillKept (tells : Type 0) (given : Given) (tape : List Operation) 
 -- one on its course, the backup's headers say how far the window has come; where what is filled in is right the list stands, by each shape that does without what is
 -- missing of it, and each mark so far is safe.
 pub record IsMoving (tells : Type 0) (given : Given) (tape : List Operation) (scope : Scope) (first : ℕ) (entries : List Entry)
-    (members : Members) (carried : ℕ → Bool) (resync : Option ℕ) (course : Course) (buffer : List ℕ) (left : ℕ) : Type 0 where
+    (members : Members) (carried : ℕ → ℕ → Bool) (resync : Option ℕ) (course : Course) (buffer : List ℕ) (left : ℕ) : Type 0 where
   pub slots : given.slots ≤ 32
   pub members_are : AreReshaping scope given members
   pub course_is : IsCourseOf members.newest course
@@ -110,5 +110,5 @@ pub record IsMoving (tells : Type 0) (given : Given) (tape : List Operation) (sc
   pub stored : tells → OpensOnCourse (world_in given tape scope first) → IsStored scope members course.window buffer (disk given.start tape)
   pub listed : tells → IsFilledRight (world_in given tape scope first) entries
       → HasListInCourse (OpensFit (world_in given tape scope first)) members resync course buffer (present given tape) (now (opening_list (world_in given tape scope first)) entries)
-  pub safe : tells → IsFilledRight (world_in given tape scope first) entries → HasRoomForEvents (world_in given tape scope first) → OpensAlike (world_in given tape scope first)
+  pub safe : tells → IsFilledRight (world_in given tape scope first) entries → HasRoomForEvents (world_in given tape scope first)
       → IsSafeHistory ⊤ (world_in given tape scope first) given members carried true entries

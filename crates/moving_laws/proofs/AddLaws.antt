@@ -1,9 +1,7 @@
 -- A slot is made a spare in a reshape, from what `add_member` says of it: what is kept, done or refused, and what the call leaves.
-use Rattle.std.proofs.Common.{◌≡◌, ◌≢◌, inl, inr, ℕ, ◌*◌, ◌<◌, ◌≤◌, ◌==◌, Bool, true, false, List, [], length, slice_set, get_or, Option, Some, refl, sym, ◌∙◌, ap, subst, arith, append-nil}
-use Rattle.std.proofs.lemmas.Bool.{cases_lt}
+use Rattle.std.proofs.Common.{◌≡◌, ◌≢◌, inl, inr, ℕ, ◌*◌, ◌<◌, ◌≤◌, ◌==◌, Bool, true, false, List, [], length, Option, Some, refl, sym, ◌∙◌, ap, subst, arith, append-nil}
 use Rattle.std.proofs.lemmas.Bool.Decides.{nat_tests}
 use Rattle.std.proofs.lemmas.List.Elements.{All-nil}
-use Rattle.std.proofs.lemmas.List.{get_or-set_same, get_or_past, length-set}
 use Rattle.md_base.specs.Sectors.{Sector}
 use Rattle.md_base.specs.declared.answers.Refusal.{Refusal}
 use Rattle.bank.specs.declared.bank.Operation.{Operation}
@@ -19,16 +17,18 @@ use Rattle.mending_kept.specs.views_the_Work.{Work}
 use Rattle.mending_kept.specs.views_Flushing.{OnlyFlushesAdded}
 use Rattle.mending_kept.specs.views_Lacking.{AreLostSince}
 use Rattle.mending_kept.specs.views_Moving.{Grows}
-use Rattle.mending_kept.specs.views_Numbers.{is_carried, free_number, IsOfScope}
+use Rattle.mending_kept.specs.views_Numbers.{bears, bearing, free_number, IsOfScope}
 use Rattle.mending_kept.specs.views_Placed.{IsPlaced}
 use Rattle.mending_kept.specs.views_Rebuilding.{Held, with_spare}
 use Rattle.mending_kept.specs.views_Under.{IsRestKept}
+use Rattle.mending_kept.proofs.views_BearerLaws.{bears-more, bears-new}
 use Rattle.mending_kept.proofs.views_MovedLaws.{grows-none, grows-then}
 use Rattle.running_words.specs.array_kept_Kept.{scope_in}
-use Rattle.running_words.specs.array_kept_Calls.{IsUnaddable, IsLossBy, AreLossesOf, IsEndOf, IsWorkAdded}
+use Rattle.running_words.specs.array_kept_Calls.{IsUnaddable, IsLossBy, WasSpare, AreLossesOf, IsEndOf, IsWorkAdded}
 use Rattle.running_words.proofs.array_kept_ReadyLaws.{list-same}
 use Rattle.running_words.proofs.calls_kept_AddLaws.{slot-free}
-use Rattle.running_words.proofs.calls_kept_AddedKept.{AddsSafe, with_carried, carries-number, carries-only}
+use Rattle.running_words.proofs.calls_kept_AddedKept.{AddsSafe}
+use Rattle.running_words.proofs.calls_kept_AddedNumbers.{work-kept, work-added}
 use Rattle.running_words.proofs.calls_kept_AddedLosses.{IsAddDone, spares-added}
 use Rattle.mending_kept.specs.grow_asked_the_PhasesLeft.{PhasesLeft}
 use Rattle.mending_kept.specs.course_kept_the_Course.{Course}
@@ -38,14 +38,6 @@ use Rattle.running_words.specs.Parts.{RunningParts}
 use Rattle.running_words.specs.Calls.{IsCalled}
 use Rattle.running_words.specs.Adding.{IsAddCalled}
 use Rattle.moving_laws.specs.Ready.{IsReady}
-
--- ---- the numbers that superblocks may bear
-
-number-known : (l : List Bool) (number : ℕ) → get_or (slice_set l number true) number true ≡ true
-number-known l number = elim (cases_lt number (length l)) [
-  | inl within ↦ get_or-set_same l number true true within
-  | inr past ↦ get_or_past (slice_set l number true) number true (let long = length-set l number true in omega (arith, past, long))
-]
 
 -- ---- room for more entries
 
@@ -86,10 +78,10 @@ looked-grows looked = record { more = λ t. ((looked t).0, (looked t).2) }
 
 module _ {tells : Type 0} {given : Given} {tape mid tape' : List Operation} {slot : ℕ} {sb : Sb} {old new : Members} {lost : ℕ} {before after : ℕ → ℕ} (scope : Scope) (work : Work) (number roles spares : ℕ)
     (did : IsAddDone tells given slot sb old new lost mid tape' before after) where
-  pub spare-made : backup_of scope ≢ slot → DoWithout old → IsOfScope scope given slot sb → sb.dev_number ≡ number → is_carried work number ≡ false → (tells → OnlyFlushesAdded tape mid)
+  pub spare-made : backup_of scope ≢ slot → DoWithout old → IsOfScope scope given slot sb → sb.dev_number ≡ number → ((s : ℕ) → bears work s number ≡ false) → (tells → OnlyFlushesAdded tape mid)
       → (tells → (sector : Sector) → IsIn (disk given.start mid slot 9) sector → IsSecondHalf sb sector) → (tells → IsRestKept (with_spare slot sb old) (disk given.start mid) (disk given.start tape'))
       → AddsSafe tells given slot sb old new mid tape' → AreLostSince old new roles spares before after
-      → IsSpareMade tells given tape mid tape' scope old new (is_carried work) (is_carried (with_carried number work)) slot sb roles
+      → IsSpareMade tells given tape mid tape' scope old new (bears work) (bears (bearing false slot number work)) slot sb roles
   spare-made apart does of_scope is unknown looked second rest safe since = record {
     there = did.there;
     apart = apart;
@@ -98,9 +90,9 @@ module _ {tells : Type 0} {given : Given} {tape mid tape' : List Operation} {slo
     made = did.made;
     own = did.own;
     of_scope = of_scope;
-    unknown = ap (is_carried work) is ∙ unknown;
-    carries = carries-number number work;
-    known = ap (is_carried (with_carried number work)) is ∙ number-known work.carried number;
+    unknown = λ s. ap (bears work s) is ∙ unknown s;
+    carries = bears-more slot number work;
+    known = ap (bears (bearing false slot number work) slot) is ∙ bears-new false slot number work (let few = did.slots in let lt = did.there in omega (arith, few, lt));
     looked = looked;
     second = second;
     moved = did.moved;
@@ -124,16 +116,16 @@ still-called {tells = tells} {given = given} {tape = tape} {faults = faults} {sl
       ended = ended;
       held = λ role s held. held;
       spares = λ s is. inl is;
-      losses = record { more = []; grown = sym (append-nil old.parts.entries); failed = All-nil (λ e. IsLossBy (Held old.parts.members) faults faults e.event) };
+      losses = record { more = []; grown = sym (append-nil old.parts.entries); failed = All-nil (λ e. IsLossBy (Held old.parts.members) (WasSpare old.parts.members) faults faults e.event) };
       never_falls = λ s. omega arith;
-      work = record { resync = refl; rebuilt = refl; carried = λ number is. is; one = λ number is. inl is };
+      work = work-kept old.parts.members.newest slot old.parts.work;
       same = record { array = record { uuid = refl; given = refl; first = refl; backup = refl; shape = refl; size = refl; list = λ t. refl }; final = refl; backward = refl; ahead = refl; limit = refl };
     })
 
 -- no slot is made one
 pub none-added : {B : Type 0} {tells : Type 0} {given : Given} {tape tape' : List Operation} {before after : ℕ → ℕ} {slot : ℕ} {old new : RunningParts B}
     → IsCalled tells given tape tape' before after old new → IsAddCalled tells given tape tape' before after slot old new
-none-added was = record {
+none-added {slot = slot} was = record {
   grows = was.grows;
   ended = was.ended;
   held = was.held;
@@ -143,38 +135,34 @@ none-added was = record {
   work = record {
     resync = ap (λ (w : Work). w.resync) was.work;
     rebuilt = ap (λ (w : Work). w.rebuilt) was.work;
-    carried = λ number is. ap (λ (w : Work). is_carried w number) was.work ∙ is;
-    one = λ number is. inl (sym (ap (λ (w : Work). is_carried w number) was.work) ∙ is);
+    others = λ s number other. ap (λ (w : Work). bears w s number) was.work;
+    one = λ number is. inl (sym (ap (λ (w : Work). bears w slot number) was.work) ∙ is);
   };
   same = was.same;
 }
 
--- What an add does over the same bank: the epoch, the phases ahead and the limit are those that they were, and one number more is known.
-pub record AddsNumber {B : Type 0} (number : ℕ) (old new : RunningParts B) : Type 0 where
+-- What an add does over the same bank: the epoch, the phases ahead and the limit are those that they were, and the slot may bear one number more, or bears it only.
+pub record AddsNumber {B : Type 0} (only : Bool) (slot number : ℕ) (old new : RunningParts B) : Type 0 where
   pub uuid : new.parts.uuid ≡ old.parts.uuid
   pub given : new.parts.given ≡ old.parts.given
   pub first : new.parts.first ≡ old.parts.first
   pub backup : new.parts.backup ≡ old.parts.backup
-  pub work : new.parts.work ≡ with_carried number old.parts.work
+  pub work : new.parts.work ≡ bearing only slot number old.parts.work
   pub ahead : new.ahead ≡ old.ahead
   pub limit : new.limit ≡ old.limit
 
--- the one number is the free one
-pub adds-one : (newest : Sb) (number : ℕ) (work : Work) → free_number newest work ≡ Some number → IsWorkAdded newest work (with_carried number work)
-adds-one newest number work free = record { resync = refl; rebuilt = refl; carried = carries-number number work; one = carries-only newest number work free }
-
-pub add-called : {B : Type 0} {tells : Type 0} {given : Given} {tape mid tape' : List Operation} {before after : ℕ → ℕ} {slot : ℕ} {sb : Sb} {lost : ℕ} {old new : RunningParts B} (number : ℕ)
+pub add-called : {B : Type 0} {tells : Type 0} {given : Given} {tape mid tape' : List Operation} {before after : ℕ → ℕ} {slot : ℕ} {sb : Sb} {lost : ℕ} {old new : RunningParts B} (only : Bool) (number : ℕ)
     → (tells → OnlyFlushesAdded tape mid) → IsAddDone tells given slot sb old.parts.members new.parts.members lost mid tape' before after → IsEndOf tells new.parts.first new.parts.entries tape'
-    → AreLossesOf old.parts.members before after old.parts.entries new.parts.entries → free_number old.parts.members.newest old.parts.work ≡ Some number → AddsNumber number old new
+    → AreLossesOf old.parts.members before after old.parts.entries new.parts.entries → free_number old.parts.members.newest old.parts.work ≡ Some number → AddsNumber only slot number old new
     → (tells → old.parts.first ≤ length tape) → IsAddCalled tells given tape tape' before after slot old new
-add-called {tells = tells} {given = given} {tape = tape} {tape' = tape'} {old = old} {new = new} number looked did ended losses free epoch begun = record {
+add-called {tells = tells} {given = given} {tape = tape} {tape' = tape'} {slot = slot} {old = old} {new = new} only number looked did ended losses free epoch begun = record {
   grows = grows;
   ended = ended;
   held = did.moved.held;
   spares = spares-added did;
   losses = losses;
   never_falls = did.counts;
-  work = subst (λ (w : Work). IsWorkAdded old.parts.members.newest old.parts.work w) (sym epoch.work) (adds-one old.parts.members.newest number old.parts.work free);
+  work = subst (λ (w : Work). IsWorkAdded old.parts.members.newest slot old.parts.work w) (sym epoch.work) (work-added only old.parts.members.newest slot number old.parts.work free);
   same = record {
     array = record {
       uuid = epoch.uuid;

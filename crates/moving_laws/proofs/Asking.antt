@@ -50,7 +50,7 @@ halted-quiet : IsQuiet Halted
 halted-quiet = record { adds = refl; gives = refl; ends = refl; still = λ x values. refl; level = λ n. refl; other = refl }
 
 -- what an array keeps behind a call that makes no device call
-module _ {tells : Type 0} {given : Given} {tape : List Operation} {scope : Scope} {first : ℕ} {entries : List Entry} {members : Members} {carried : ℕ → Bool} {resync : Option ℕ} {course : Course} {buffer : List ℕ} {left : ℕ}
+module _ {tells : Type 0} {given : Given} {tape : List Operation} {scope : Scope} {first : ℕ} {entries : List Entry} {members : Members} {carried : ℕ → ℕ → Bool} {resync : Option ℕ} {course : Course} {buffer : List ℕ} {left : ℕ}
     (who : Who) (end : ℕ) (was : IsMoving tells given tape scope first entries members carried resync course buffer left)
     (number : who.number ≡ next_number who.caller entries) (caller : who.caller ≢ 254) (at_end : tells → end ≡ length tape) where
   pub shown-moves : (status : Status) → status.left ≡ left → IsMoving tells given tape scope first (entries ++ entries_of who end (Shown status ∷ [])) members carried resync course buffer left
@@ -62,13 +62,13 @@ module _ {tells : Type 0} {given : Given} {tape : List Operation} {scope : Scope
       halted-quiet (λ told is. is) (λ t right. tt)
 
 -- the epoch that is handed out
-pub epoch-kept : {tells : Type 0} {members : Members} {carried : ℕ → Bool} {resync : Option ℕ} {course : Course} {buffer : List ℕ} {left : ℕ} (given : Given) (tape : List Operation) (backup : Option ℕ) (epoch : Epoch)
+pub epoch-kept : {tells : Type 0} {members : Members} {carried : ℕ → ℕ → Bool} {resync : Option ℕ} {course : Course} {buffer : List ℕ} {left : ℕ} (given : Given) (tape : List Operation) (backup : Option ℕ) (epoch : Epoch)
     → IsMoving tells given tape (scope_in given epoch.uuid epoch.given backup) epoch.first epoch.entries.items members carried resync course buffer left → tells → epoch.last ≡ length tape
     → IsReliable (world_of given tape backup epoch) epoch.entries.items → IsEpochKept given tape backup epoch
 epoch-kept given tape backup epoch was t last right =
     let recorded = was.recorded t in
     let world = world_of given tape backup epoch in
-    let safe = was.safe t right.fills right.room right.alike in
+    let safe = was.safe t right.fills right.room in
     record {
       begins = omega (arith, recorded.begun, last);
       ends = omega (arith, last);

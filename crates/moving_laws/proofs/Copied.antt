@@ -166,7 +166,7 @@ pub record IsStripeTried (tells : Type 0) (given : Given) (tape tape' : List Ope
   pub safe : tells → (world : World) → (told : Ledger) → HasRoomLeft old tape tape' → AreGoneTold told new → IsUncleanTold told old → IsCopyable world.scope old span (disk given.start tape)
       → IsSafeOver world given told old tape → KeepsSafe world given told new tape tape'
 
-module _ (tells : Type 0) (given : Given) (tape tape' : List Operation) (scope : Scope) (first : ℕ) (entries : List Entry) (old new : Members) (carried : ℕ → Bool)
+module _ (tells : Type 0) (given : Given) (tape tape' : List Operation) (scope : Scope) (first : ℕ) (entries : List Entry) (old new : Members) (carried : ℕ → ℕ → Bool)
     (resync : Option ℕ) (course : Course) (ahead : PhasesLeft) (window : List ℕ) (span : Span) (copied : ℕ) (sectioned : Bool) (who : Who) (end roles spares : ℕ)
     (was : IsMoving tells given tape scope first entries old carried resync course (bytes_in course.window window) (left_by resync old course ahead)) (is : course ≡ entered span copied sectioned) (live : HasLiveSlot old)
     (more : copied < stripes_in old.newest span) (goes : IsCallGoing entries who) (caller : IsFalse (who.caller == 254)) (at_end : tells → end ≡ length tape') (grows : Grows tells tape tape')

@@ -143,7 +143,7 @@ pub record IsNextTried (tells : Type 0) (given : Given) (tape tape' : List Opera
       → AreWhole new ⊎ RowsStand None old (present given tape) list → AreWritesAllowed old told.values list
       → IsSafeOver (world_in given tape scope first) given told old tape → KeepsSafe (world_in given tape scope first) given told new tape tape'
 
-module _ {tells : Type 0} {given : Given} {tape tape' : List Operation} {scope : Scope} {first : ℕ} {entries : List Entry} {old new : Members} {carried : ℕ → Bool} {resync : Option ℕ} {former : List ℕ} {left : ℕ} (window : Window) (bytes : List ℕ)
+module _ {tells : Type 0} {given : Given} {tape tape' : List Operation} {scope : Scope} {first : ℕ} {entries : List Entry} {old new : Members} {carried : ℕ → ℕ → Bool} {resync : Option ℕ} {former : List ℕ} {left : ℕ} (window : Window) (bytes : List ℕ)
     (who : Who) (end roles spares : ℕ) (was : IsMoving tells given tape scope first entries old carried resync (closed 0) former left) (synced : resync ≡ None) (full : tells → TakesNone (world_in given tape scope first) entries → AreWhole old) (does : DoWithout old)
     (goes : IsCallGoing entries who) (caller : IsFalse (who.caller == 254)) (at_end : tells → end ≡ length tape') (grows : Grows tells tape tape')
     (next : IsNextWindow old.newest window) (did : IsNextTried tells given tape tape' scope first old new window bytes roles) where
@@ -262,7 +262,7 @@ module _ {tells : Type 0} {given : Given} {tape tape' : List Operation} {scope :
 -- ---- the step
 
 -- the bytes of the window in the buffer
-bytes-of : (tells : Type 0) (given : Given) (tape : List Operation) (scope : Scope) (first : ℕ) (entries : List Entry) (m : Members) (carried : ℕ → Bool) (resync : Option ℕ) (left : ℕ) (span : Span) (buffer : List ℕ) (window : Window)
+bytes-of : (tells : Type 0) (given : Given) (tape : List Operation) (scope : Scope) (first : ℕ) (entries : List Entry) (m : Members) (carried : ℕ → ℕ → Bool) (resync : Option ℕ) (left : ℕ) (span : Span) (buffer : List ℕ) (window : Window)
     → (window ≡ Closed) ⊎ (((sectioned : Bool) × (window ≡ Entered span 0 sectioned)) ⊎ (window ≡ Unsure span))
     → IsMoving tells given tape scope first entries m carried resync (course_in window) (take (512 * (span.hi - span.lo)) buffer) left
     → IsMoving tells given tape scope first entries m carried resync (course_in window) (bytes_in window buffer) left
@@ -277,7 +277,7 @@ bytes-of tells given tape scope first entries m carried resync left span buffer 
     subst (λ (w : Window). IsMoving tells given tape scope first entries m carried resync (course_in w) (bytes_in w buffer) left) (sym is)
     (subst (λ (w : Window). IsMoving tells given tape scope first entries m carried resync (course_in w) (take (512 * (span.hi - span.lo)) buffer) left) is kept)
 
-module _ {tells : Type 0} {given : Given} {tape tape' : List Operation} {scope : Scope} {first : ℕ} {entries : List Entry} {old new : Members} {carried : ℕ → Bool} {resync : Option ℕ} {former : List ℕ} (course : Course) (ahead : PhasesLeft)
+module _ {tells : Type 0} {given : Given} {tape tape' : List Operation} {scope : Scope} {first : ℕ} {entries : List Entry} {old new : Members} {carried : ℕ → ℕ → Bool} {resync : Option ℕ} {former : List ℕ} (course : Course) (ahead : PhasesLeft)
     (window : Window) (span : Span) (buffer : List ℕ) (who : Who) (end roles spares : ℕ) (is : course ≡ closed 0) (at : next_window old.newest ≡ Some span)
     (was : IsMoving tells given tape scope first entries old carried resync course former (left_by resync old course ahead)) (synced : resync ≡ None) (full : tells → TakesNone (world_in given tape scope first) entries → AreWhole old) (does : DoWithout old)
     (goes : IsCallGoing entries who) (caller : who.caller ≢ 254) (at_end : tells → end ≡ length tape') (grows : Grows tells tape tape')

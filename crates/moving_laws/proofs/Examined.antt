@@ -14,7 +14,7 @@ use Rattle.mending_kept.specs.moving_kept_Moving.{IsMoving}
 use Rattle.moving_laws.specs.Ready.{IsReady}
 
 -- nothing was written
-pub moving-still : {tells : Type 0} {given : Given} {tape tape' : List Operation} {scope : Scope} {first : ℕ} {entries : List Entry} {members : Members} {carried : ℕ → Bool} {resync : Option ℕ} {course : Course} {buffer : List ℕ} {left : ℕ}
+pub moving-still : {tells : Type 0} {given : Given} {tape tape' : List Operation} {scope : Scope} {first : ℕ} {entries : List Entry} {members : Members} {carried : ℕ → ℕ → Bool} {resync : Option ℕ} {course : Course} {buffer : List ℕ} {left : ℕ}
     → (tells → tape' ≡ tape) → IsMoving tells given tape scope first entries members carried resync course buffer left → IsMoving tells given tape' scope first entries members carried resync course buffer left
 moving-still {tells = tells} {given = given} {tape' = tape'} {scope = scope} {first = first} {entries = entries} {members = members} {carried = carried} {resync = resync} {course = course} {buffer = buffer} {left = left} same was = record {
   slots = was.slots;

@@ -37,7 +37,7 @@ use Rattle.mending_kept.specs.shape_changes_Safety.{HasLiveSlot}
 use Rattle.mending_kept.specs.views_Placed.{AreWhole, HaveSameReshape}
 use Rattle.mending_kept.specs.views_the_Work.{Work}
 use Rattle.mending_kept.specs.views_Moving.{Grows, IsMoved}
-use Rattle.mending_kept.specs.views_Numbers.{is_carried}
+use Rattle.mending_kept.specs.views_Numbers.{bears}
 use Rattle.mending_kept.proofs.views_LiveLeft.{without-left}
 use Rattle.mending_kept.specs.grow_asked_the_Window.{Window}
 use Rattle.mending_kept.specs.grow_asked_the_Window_TheVariants.{Closed, Entered, Unsure}
@@ -165,7 +165,7 @@ pub ready-moved : {tells : Type 0} {given given' : Given} {tape tape' : List Ope
     {work work' : Work} {course course' : Course} {ahead : PhasesLeft} {limit : Option ℕ} {window window' : List ℕ} {steps steps' room room' rows buffer far_rows far_buffer : ℕ} {before after : ℕ → ℕ} (added : List Entry)
     → IsReady tells given tape scope first entries members work course ahead limit window before steps room rows buffer far_rows far_buffer
     → Grows tells tape tape' → AreSameShapes members.newest members'.newest
-    → IsMoving tells given tape' scope first (entries ++ added) members' (is_carried work') work'.resync course' (bytes_in course'.window window') (left_in work' members' course' ahead)
+    → IsMoving tells given tape' scope first (entries ++ added) members' (bears work') work'.resync course' (bytes_in course'.window window') (left_in work' members' course' ahead)
     → ((span : Span) → course'.window ≡ Unsure span → (course.window ≡ Unsure span) ⊎ (0 < after (backup_of scope)))
     → length window' ≡ length window → NeverFalls before after → IsLengthKept added
     → (TakesNone (world_in given tape' scope first) (entries ++ added) → AreWhole members → AreWhole members')
@@ -204,7 +204,7 @@ pub ready-with : {tells : Type 0} {given given' : Given} {tape tape' : List Oper
     {work work' : Work} {course : Course} {zeroed : ℕ} {ahead : PhasesLeft} {limit : Option ℕ} {window window' : List ℕ} {steps steps' room room' rows buffer far_rows far_buffer : ℕ} {before after : ℕ → ℕ} (added : List Entry)
     → IsReady tells given tape scope first entries members work course ahead limit window before steps room rows buffer far_rows far_buffer
     → Grows tells tape tape' → AreSameShapes members.newest members'.newest
-    → IsMoving tells given tape' scope first (entries ++ added) members' (is_carried work') work'.resync (record course { zeroed = zeroed }) (bytes_in course.window window') (left_in work' members' (record course { zeroed = zeroed }) ahead)
+    → IsMoving tells given tape' scope first (entries ++ added) members' (bears work') work'.resync (record course { zeroed = zeroed }) (bytes_in course.window window') (left_in work' members' (record course { zeroed = zeroed }) ahead)
     → length window' ≡ length window → NeverFalls before after → IsLengthKept added
     → (TakesNone (world_in given tape' scope first) (entries ++ added) → AreWhole members → AreWhole members')
     → given' ≡ given → scope' ≡ scope → first' ≡ first → mid ≡ entries → entries' ≡ mid ++ added → 50 * steps' < room'
@@ -216,7 +216,7 @@ pub ready : {tells : Type 0} {given given' : Given} {tape tape' : List Operation
     {work : Work} {course : Course} {zeroed : ℕ} {ahead : PhasesLeft} {limit : Option ℕ} {window window' : List ℕ} {steps steps' room room' rows buffer far_rows far_buffer : ℕ} {before after : ℕ → ℕ} (added : List Entry)
     → IsReady tells given tape scope first entries members work course ahead limit window before steps room rows buffer far_rows far_buffer
     → Grows tells tape tape' → AreSameShapes members.newest members'.newest
-    → IsMoving tells given tape' scope first (entries ++ added) members' (is_carried work) work.resync (record course { zeroed = zeroed }) (bytes_in course.window window') (left_in work members' (record course { zeroed = zeroed }) ahead)
+    → IsMoving tells given tape' scope first (entries ++ added) members' (bears work) work.resync (record course { zeroed = zeroed }) (bytes_in course.window window') (left_in work members' (record course { zeroed = zeroed }) ahead)
     → length window' ≡ length window → NeverFalls before after → IsLengthKept added
     → (TakesNone (world_in given tape' scope first) (entries ++ added) → AreWhole members → AreWhole members')
     → given' ≡ given → scope' ≡ scope → first' ≡ first → mid ≡ entries → entries' ≡ mid ++ added → 50 * steps' < room'
@@ -276,6 +276,6 @@ written-whole n bytes written len ok = take-append-le n written (drop (length wr
 -- ---- live slots
 
 -- an array that does without what it misses has one
-pub live-of : {tells : Type 0} {given : Given} {tape : List Operation} {scope : Scope} {first : ℕ} {entries : List Entry} {members : Members} {carried : ℕ → Bool} {resync : Option ℕ} {course : Course} {buffer : List ℕ} {left : ℕ}
+pub live-of : {tells : Type 0} {given : Given} {tape : List Operation} {scope : Scope} {first : ℕ} {entries : List Entry} {members : Members} {carried : ℕ → ℕ → Bool} {resync : Option ℕ} {course : Course} {buffer : List ℕ} {left : ℕ}
     → IsMoving tells given tape scope first entries members carried resync course buffer left → DoWithout members → HasLiveSlot members
 live-of {given = given} {members = members} was does = without-left given members was.members_are.placed was.members_are.unlost does

@@ -44,6 +44,7 @@ pub use Rattle.running_words.proofs.array_kept_ReadyLaws
 pub use Rattle.running_words.proofs.array_kept_ReplyLaws
 pub use Rattle.running_words.proofs.calls_kept_AddLaws
 pub use Rattle.running_words.proofs.calls_kept_AddedKept
+pub use Rattle.running_words.proofs.calls_kept_AddedNumbers
 pub use Rattle.running_words.proofs.calls_kept_AddedLosses
 pub use Rattle.running_words.proofs.calls_kept_FailedLaws
 pub use Rattle.running_words.proofs.calls_kept_ReadLaws

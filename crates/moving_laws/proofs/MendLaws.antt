@@ -32,7 +32,7 @@ use Rattle.mending_kept.specs.shape_changes_Steady.{IsSafeOver, KeepsSafe, AreGo
 use Rattle.mending_kept.specs.views_the_Work.{Work}
 use Rattle.mending_kept.specs.views_Moving.{Grows, IsMoved}
 use Rattle.mending_kept.specs.views_Lacking.{DoesWithout, AreTooMany, AreLostSince, AreOtherRowsKept}
-use Rattle.mending_kept.specs.views_Numbers.{is_carried}
+use Rattle.mending_kept.specs.views_Numbers.{bears}
 use Rattle.mending_kept.proofs.views_Fit.{fit-short}
 use Rattle.mending_kept.proofs.views_LackingLaws.{never-both}
 use Rattle.running_words.specs.safe_updates_First.{write_refusal}
@@ -292,58 +292,58 @@ mend-step given old new tape tape' mended roles spares before after moved grows 
 -- ---- what is kept
 
 -- while a resync is pending, the mark is dirty
-pub was-dirty : {tells : Type 0} {given : Given} {tape : List Operation} {scope : Scope} {first : ℕ} {entries : List Entry} {members : Members} {carried : ℕ → Bool} {resync : Option ℕ} {course : Course} {buffer : List ℕ} {left : ℕ} (mended : ℕ)
+pub was-dirty : {tells : Type 0} {given : Given} {tape : List Operation} {scope : Scope} {first : ℕ} {entries : List Entry} {members : Members} {carried : ℕ → ℕ → Bool} {resync : Option ℕ} {course : Course} {buffer : List ℕ} {left : ℕ} (mended : ℕ)
     → IsMoving tells given tape scope first entries members carried resync course buffer left → resync ≡ Some mended → DoWithout members → is_clean members.newest ≡ false
 was-dirty mended was is does = was.dirty does (subst IsSome (sym is) refl)
 
 module _ {tells : Type 0} {given : Given} {tape tape' : List Operation} {scope : Scope} {first : ℕ} {entries : List Entry} {old new : Members} (work : Work) (course : Course) {buffer : List ℕ} (ahead : PhasesLeft)
     (who : Who) (end roles spares mended : ℕ) (is : work.resync ≡ Some mended) (below : mended < mend_stripes old.newest) (aside : IsAside course.window)
-    (was : IsMoving tells given tape scope first entries old (is_carried work) work.resync course buffer (left_in work old course ahead)) (does : DoWithout old)
+    (was : IsMoving tells given tape scope first entries old (bears work) work.resync course buffer (left_in work old course ahead)) (does : DoWithout old)
     (goes : IsCallGoing entries who) (caller : who.caller ≢ 254) (at_end : tells → end ≡ length tape') (did : IsMendingMoving tells given tape tape' old new mended roles) where
   -- a stripe isn't mended
   pub mend-refused : (refusal : Refusal) → IsNotMended (mend_shape old.newest mended) new refusal
-      → IsMoving tells given tape' scope first (entries ++ entries_of who end (losses_of roles spares ++ Refused refusal ∷ [])) new (is_carried work) work.resync course buffer (left_in work new course ahead)
+      → IsMoving tells given tape' scope first (entries ++ entries_of who end (losses_of roles spares ++ Refused refusal ∷ [])) new (bears work) work.resync course buffer (left_in work new course ahead)
   mend-refused refusal why =
-      subst (λ (n : ℕ). IsMoving tells given tape' scope first (entries ++ entries_of who end (losses_of roles spares ++ Refused refusal ∷ [])) new (is_carried work) work.resync course buffer n) (sym (left-moved given old new work.resync course ahead did.moved))
-      (unmended-moves tells given tape tape' scope first entries old new (is_carried work) work.resync course buffer (left_in work old course ahead) who end roles spares mended was does goes (not_254 who.caller caller) at_end
+      subst (λ (n : ℕ). IsMoving tells given tape' scope first (entries ++ entries_of who end (losses_of roles spares ++ Refused refusal ∷ [])) new (bears work) work.resync course buffer n) (sym (left-moved given old new work.resync course ahead did.moved))
+      (unmended-moves tells given tape tape' scope first entries old new (bears work) work.resync course buffer (left_in work old course ahead) who end roles spares mended was does goes (not_254 who.caller caller) at_end
       is aside below did refusal why)
 
   -- it is
   pub mend-done : (left : ℕ) → left ≡ left_in (mended_work work (Some (mended + 1))) new course ahead → DoWithout new → AreRowsMended tells given tape tape' old new mended
-      → IsMoving tells given tape' scope first (entries ++ entries_of who end (losses_of roles spares ++ Step MendsStripe left ∷ [])) new (is_carried work) (Some (mended + 1)) course buffer
+      → IsMoving tells given tape' scope first (entries ++ entries_of who end (losses_of roles spares ++ Step MendsStripe left ∷ [])) new (bears work) (Some (mended + 1)) course buffer
       (left_in (mended_work work (Some (mended + 1))) new course ahead)
   mend-done left told can mends =
-      subst (λ (n : ℕ). IsMoving tells given tape' scope first (entries ++ entries_of who end (losses_of roles spares ++ Step MendsStripe left ∷ [])) new (is_carried work) (Some (mended + 1)) course buffer n) told
-      (mended-moves tells given tape tape' scope first entries old new (is_carried work) work.resync course buffer (left_in work old course ahead) who end roles spares mended was does goes (not_254 who.caller caller) at_end
+      subst (λ (n : ℕ). IsMoving tells given tape' scope first (entries ++ entries_of who end (losses_of roles spares ++ Step MendsStripe left ∷ [])) new (bears work) (Some (mended + 1)) course buffer n) told
+      (mended-moves tells given tape tape' scope first entries old new (bears work) work.resync course buffer (left_in work old course ahead) who end roles spares mended was does goes (not_254 who.caller caller) at_end
       is aside below did left
       (sym (ap (λ (n : ℕ). n + 1) told ∙ mend-left given old new work course ahead mended was.members_are.placed.fit was.members_are.active is below did.moved aside))
       (λ zero. left-some new (mended_work work (Some (mended + 1))) course ahead (did.moved.reshape.reshaping ∙ was.members_are.active) (course-moved given old new course did.moved was.course_is) (sym told ∙ zero)) can mends)
 
 module _ {tells : Type 0} {given : Given} {tape tape' : List Operation} {scope : Scope} {first : ℕ} {entries : List Entry} {old new : Members} (work : Work) (course : Course) {buffer : List ℕ} (ahead : PhasesLeft)
     (who : Who) (end roles spares : ℕ) (is : work.resync ≡ Some (mend_stripes old.newest)) (aside : IsAside course.window)
-    (was : IsMoving tells given tape scope first entries old (is_carried work) work.resync course buffer (left_in work old course ahead)) (does : DoWithout old)
+    (was : IsMoving tells given tape scope first entries old (bears work) work.resync course buffer (left_in work old course ahead)) (does : DoWithout old)
     (goes : IsCallGoing entries who) (caller : who.caller ≢ 254) (at_end : tells → end ≡ length tape') (grows : Grows tells tape tape') (did : AreFlushed tells given tape tape' old new roles false) where
   -- the end is refused
   pub end-refused : (refusal : Refusal) → AreTooMany new refusal
-      → IsMoving tells given tape' scope first (entries ++ entries_of who end (losses_of roles spares ++ Refused refusal ∷ [])) new (is_carried work) work.resync course buffer (left_in work new course ahead)
+      → IsMoving tells given tape' scope first (entries ++ entries_of who end (losses_of roles spares ++ Refused refusal ∷ [])) new (bears work) work.resync course buffer (left_in work new course ahead)
   end-refused refusal many =
-      subst (λ (n : ℕ). IsMoving tells given tape' scope first (entries ++ entries_of who end (losses_of roles spares ++ Refused refusal ∷ [])) new (is_carried work) work.resync course buffer n) (sym (left-moved given old new work.resync course ahead did.moved))
-      (unresynced-moves tells given tape tape' scope first entries old new (is_carried work) work.resync course buffer (left_in work old course ahead) who end roles spares was does goes (not_254 who.caller caller) at_end grows is did
+      subst (λ (n : ℕ). IsMoving tells given tape' scope first (entries ++ entries_of who end (losses_of roles spares ++ Refused refusal ∷ [])) new (bears work) work.resync course buffer n) (sym (left-moved given old new work.resync course ahead did.moved))
+      (unresynced-moves tells given tape tape' scope first entries old new (bears work) work.resync course buffer (left_in work old course ahead) who end roles spares was does goes (not_254 who.caller caller) at_end grows is did
       refusal many)
 
   -- it is done
   pub end-done : (left : ℕ) → left ≡ left_in (mended_work work None) new course ahead → AreSettled tells given tape tape' old new false
-      → IsMoving tells given tape' scope first (entries ++ entries_of who end (losses_of roles spares ++ Step EndsResync left ∷ [])) new (is_carried work) None course buffer (left_in (mended_work work None) new course ahead)
+      → IsMoving tells given tape' scope first (entries ++ entries_of who end (losses_of roles spares ++ Step EndsResync left ∷ [])) new (bears work) None course buffer (left_in (mended_work work None) new course ahead)
   end-done left told done =
-      subst (λ (n : ℕ). IsMoving tells given tape' scope first (entries ++ entries_of who end (losses_of roles spares ++ Step EndsResync left ∷ [])) new (is_carried work) None course buffer n) told
-      (resynced-moves tells given tape tape' scope first entries old new (is_carried work) work.resync course buffer (left_in work old course ahead) who end roles spares was does goes (not_254 who.caller caller) at_end grows is did left
+      subst (λ (n : ℕ). IsMoving tells given tape' scope first (entries ++ entries_of who end (losses_of roles spares ++ Step EndsResync left ∷ [])) new (bears work) None course buffer n) told
+      (resynced-moves tells given tape tape' scope first entries old new (bears work) work.resync course buffer (left_in work old course ahead) who end roles spares was does goes (not_254 who.caller caller) at_end grows is did left
       (sym (ap (λ (n : ℕ). n + 1) told ∙ end-left given old new work course ahead was.members_are.placed.fit was.members_are.active is did.moved aside))
       (λ zero. left-some new (mended_work work None) course ahead (did.moved.reshape.reshaping ∙ was.members_are.active) (course-moved given old new course did.moved was.course_is) (sym told ∙ zero)) done)
 
 -- ---- the rows
 
 -- where none is pending, the list stands with the rows of all its sectors
-pub rows-good : {tells : Type 0} {given : Given} {tape : List Operation} {scope : Scope} {first : ℕ} {entries : List Entry} {m : Members} {carried : ℕ → Bool} (course : Course) {buffer : List ℕ} {left : ℕ} → IsAside course.window
+pub rows-good : {tells : Type 0} {given : Given} {tape : List Operation} {scope : Scope} {first : ℕ} {entries : List Entry} {m : Members} {carried : ℕ → ℕ → Bool} (course : Course) {buffer : List ℕ} {left : ℕ} → IsAside course.window
     → IsMoving tells given tape scope first entries m carried None course buffer left → tells → OpensFit (world_in given tape scope first)
     → AreRowsGood m (present given tape) (now (opening_list (world_in given tape scope first)) entries)
 rows-good {given = given} {tape = tape} {m = m} course aside was t fit =

@@ -146,7 +146,7 @@ read-does m hidden relied from to none x low high = elim (cases_lt (tolerance (s
 ]
 
 -- so a live slot is left, where a sector is read
-pub read-live : {tells : Type 0} {given : Given} {tape : List Operation} {scope : Scope} {first : ℕ} {entries : List Entry} {m : Members} {carried : ℕ → Bool} {resync : Option ℕ} {course : Course} {buffer : List ℕ} {left : ℕ}
+pub read-live : {tells : Type 0} {given : Given} {tape : List Operation} {scope : Scope} {first : ℕ} {entries : List Entry} {m : Members} {carried : ℕ → ℕ → Bool} {resync : Option ℕ} {course : Course} {buffer : List ℕ} {left : ℕ}
     (hidden : Option Span) (relied from to : ℕ) → IsMoving tells given tape scope first entries m carried resync course buffer left → ((refusal : Refusal) → IsUnreadAround hidden relied from to m refusal → ⊥) → from < to → HasLiveSlot m
 read-live {given = given} {m = m} hidden relied from to was none some =
     shape-left given m was.members_are.placed was.members_are.unlost (shape_for m.newest from) (shape-force m.newest from) (read-does m hidden relied from to none from (omega arith) some)
@@ -199,7 +199,7 @@ pub record IsFetched (tells : Type 0) (given : Given) (tape tape' : List Operati
 pub read-quiet : (at : ℕ) (body : List Sector) → IsQuiet (Read at body)
 read-quiet at body = record { adds = refl; gives = refl; ends = refl; still = λ x values. refl; level = λ n. refl; other = refl }
 
-module _ {tells : Type 0} {given : Given} {tape : List Operation} {scope : Scope} {first : ℕ} {entries : List Entry} {old : Members} {carried : ℕ → Bool} {resync : Option ℕ} {course : Course} {buffer : List ℕ} {left : ℕ} {limit : Option ℕ}
+module _ {tells : Type 0} {given : Given} {tape : List Operation} {scope : Scope} {first : ℕ} {entries : List Entry} {old : Members} {carried : ℕ → ℕ → Bool} {resync : Option ℕ} {course : Course} {buffer : List ℕ} {left : ℕ} {limit : Option ℕ}
     (was : IsMoving tells given tape scope first entries old carried resync course buffer left) (limited : limit_of entries ≡ limit) where
   -- so much of the list is visible
   seen : tells → visible_at (world_in given tape scope first) entries ≡ visible_size old limit

@@ -70,8 +70,8 @@ pub since-past : (given : Given) (old new : Members) (span : Span) (disks was ro
     → HaveFailedSince old new spares before after → disks ≡ role_count old.newest → AreVacant old disks was → AreNewlyVacant new disks was roles → AreLostSince old new roles spares before after
 since-past given old new span disks was roles spares before after placed next moved failed same vacant newly =
     let since = lost-since given (moved_past span old) new disks was roles spares before after (past-placed given old span placed next) moved
-    (record { roles = failed.roles; spares_are = failed.spares_are; told = failed.told }) same vacant newly in
-    record { vacant = since.vacant; gone = since.gone; held = since.held; failed = since.failed; told = since.told }
+    (record { roles = failed.roles; spares_are = failed.spares_are; were = failed.were; fewer = failed.fewer; told = failed.told }) same vacant newly in
+    record { vacant = since.vacant; gone = since.gone; held = since.held; failed = since.failed; were = since.were; told = since.told }
 
 -- ---- the steps that are left
 
@@ -105,7 +105,7 @@ record-some given old new resync span ahead moved active =
 
 -- ---- where no window is open, the buffer has nothing
 
-pub closed-bare : {tells : Type 0} {given : Given} {tape : List Operation} {scope : Scope} {first : ℕ} {entries : List Entry} {members : Members} {carried : ℕ → Bool} {resync : Option ℕ} (count : ℕ) (buffer : List ℕ) (left : ℕ)
+pub closed-bare : {tells : Type 0} {given : Given} {tape : List Operation} {scope : Scope} {first : ℕ} {entries : List Entry} {members : Members} {carried : ℕ → ℕ → Bool} {resync : Option ℕ} (count : ℕ) (buffer : List ℕ) (left : ℕ)
     → IsMoving tells given tape scope first entries members carried resync (closed count) buffer left → IsMoving tells given tape scope first entries members carried resync (closed count) [] left
 closed-bare count buffer left was = record {
   slots = was.slots;
@@ -148,7 +148,7 @@ IsRecordSafe tells given old new tape tape' span refusal = tells → (world : Wo
     → (refusal ≡ None → IsCopiedWindow (OpensFit world) world.scope told old span list (present given tape) (disk given.start tape))
     → IsSafeOver world given told old tape → KeepsSafe world given told new tape tape'
 
-module _ {tells : Type 0} {given : Given} {tape tape' : List Operation} {scope : Scope} {first : ℕ} {entries : List Entry} {old new : Members} {carried : ℕ → Bool} {resync : Option ℕ} (course : Course) {buffer : List ℕ} (ahead : PhasesLeft)
+module _ {tells : Type 0} {given : Given} {tape tape' : List Operation} {scope : Scope} {first : ℕ} {entries : List Entry} {old new : Members} {carried : ℕ → ℕ → Bool} {resync : Option ℕ} (course : Course) {buffer : List ℕ} (ahead : PhasesLeft)
     (span : Span) (who : Who) (end roles spares : ℕ) (was : IsMoving tells given tape scope first entries old carried resync course buffer (left_by resync old course ahead))
     (live : HasLiveSlot old) (goes : IsCallGoing entries who) (caller : who.caller ≢ 254) (at_end : tells → end ≡ length tape') (grows : Grows tells tape tape') {before after : ℕ → ℕ} (since : AreLostSince old new roles spares before after)
     (clean : is_clean new.newest ≡ is_clean old.newest) (rise : IsRisen tells old new tape tape') (others : tells → AreOthersPresent (present given tape) (present given tape')) where

@@ -43,7 +43,7 @@ none-ended : (who : Who) (end roles spares : ℕ) → list_any (λ e. is_resync_
 none-ended who end roles spares =
     subst (λ (l : List Event). list_any (λ e. is_resync_end e.event) (entries_of who end l) ≡ false) (append-nil (losses_of roles spares)) (ends-losses who end (losses_of roles spares) [] (losses-are roles spares))
 
-module _ {tells : Type 0} {given : Given} {tape : List Operation} {scope : Scope} {first : ℕ} {entries : List Entry} {old : Members} {carried : ℕ → Bool} {resync : Option ℕ} {course : Course} {buffer : List ℕ} {left : ℕ}
+module _ {tells : Type 0} {given : Given} {tape : List Operation} {scope : Scope} {first : ℕ} {entries : List Entry} {old : Members} {carried : ℕ → ℕ → Bool} {resync : Option ℕ} {course : Course} {buffer : List ℕ} {left : ℕ}
     (was : IsMoving tells given tape scope first entries old carried resync course buffer left) (relied : ℕ) (relies : relied ≡ relied_sector old.newest resync) where
   -- on members with as long a list too
   pub pending-at : (new : Members) → AreShapesFit new.newest → list_length new.newest ≡ list_length old.newest → (x : ℕ) → x < list_length new.newest

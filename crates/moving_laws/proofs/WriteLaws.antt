@@ -43,7 +43,7 @@ use Rattle.mending_kept.proofs.views_LackingLaws.{AreVacant, AreNewlyVacant, los
 use Rattle.mending_kept.proofs.views_MovedLaws.{grows-then}
 use Rattle.mending_kept.specs.call_entries_Losing.{losses_of, failure_events}
 use Rattle.mending_kept.proofs.call_entries_CallLaws.{losses-are, length-losses, limit-losses}
-use Rattle.running_words.specs.array_kept_Calls.{IsRoleLossBy, IsLossBy, AreLossesOf, IsBehind, IsRefusedFor, IsCausedBy}
+use Rattle.running_words.specs.array_kept_Calls.{IsRoleLossBy, IsLossBy, WasSpare, AreLossesOf, AreSparesFewer, IsBehind, IsRefusedFor, IsCausedBy}
 use Rattle.running_words.proofs.array_kept_ReplyLaws.{IsOfMissing, unwritten-of}
 use Rattle.mending_kept.specs.region_writes_Runs.{IsListUnwritten}
 use Rattle.mending_kept.proofs.region_writes_Together.{shape-force}
@@ -218,7 +218,7 @@ pub finished-missing : (given : Given) (old new : Members) (span : Span) (refusa
 finished-missing given old new span None moved {roles = roles} since = missing-since {old = moved_past span old} roles moved since.vacant
 finished-missing given old new span (Some why) moved {roles = roles} since = missing-since roles moved since.vacant
 
-module _ {tells : Type 0} {given : Given} {tape tape' : List Operation} {scope : Scope} {first : ℕ} {entries : List Entry} {old new : Members} {carried : ℕ → Bool} {resync : Option ℕ} (course : Course) (ahead : PhasesLeft) (window : List ℕ)
+module _ {tells : Type 0} {given : Given} {tape tape' : List Operation} {scope : Scope} {first : ℕ} {entries : List Entry} {old new : Members} {carried : ℕ → ℕ → Bool} {resync : Option ℕ} (course : Course) (ahead : PhasesLeft) (window : List ℕ)
     (span : Span) (copied done : ℕ) (sectioned : Bool) (who : Who) (end roles spares : ℕ) (was : IsMoving tells given tape scope first entries old carried resync course (bytes_in course.window window) (left_by resync old course ahead))
     (is : course ≡ entered span copied sectioned) (goes : IsCallGoing entries who) (caller : who.caller ≢ 254) (at_end : tells → end ≡ length tape') (grows : Grows tells tape tape') (enough : DoWithout old)
     (refusal : Option Refusal) (did : IsFinishedBy tells given tape tape' old new (final_shape old.newest) span copied done (take (512 * (span.hi - span.lo)) window) roles refusal) where
@@ -307,7 +307,7 @@ pub torn-missing : (window : Option Span) (relied at to : ℕ) (m : Members) (re
 torn-missing window relied at to m refusal (inl torn) = unwritten-of (shape_for m.newest torn.0) false m refusal (inl torn.3)
 torn-missing window relied at to m refusal (inr (each, there)) = unwritten-of (shape_for m.newest there.0) false m refusal (inr there.5)
 
-module _ {tells : Type 0} {given : Given} {tape : List Operation} {scope : Scope} {first : ℕ} {entries : List Entry} {old : Members} {carried : ℕ → Bool} {resync : Option ℕ} {course : Course} {buffer : List ℕ} {left : ℕ} {limit : Option ℕ}
+module _ {tells : Type 0} {given : Given} {tape : List Operation} {scope : Scope} {first : ℕ} {entries : List Entry} {old : Members} {carried : ℕ → ℕ → Bool} {resync : Option ℕ} {course : Course} {buffer : List ℕ} {left : ℕ} {limit : Option ℕ}
     (was : IsMoving tells given tape scope first entries old carried resync course buffer left) (limited : limit_of entries ≡ limit) where
   -- so much of the list is visible
   pub all-seen : tells → visible_at (world_in given tape scope first) entries ≡ visible_size old limit
@@ -331,7 +331,7 @@ module _ {tells : Type 0} {given : Given} {tape : List Operation} {scope : Scope
           unsynced-right (world_in given tape scope first) entries old (was.gone t right) refusal cause.0 cause.1 (omega (arith, few, disks)) cause.3
           (pending-at was relied relies old was.members_are.placed.fit refl there.0 (omega (arith, high, within)) there.4 t)
 
-module _ {tells : Type 0} {given : Given} {tape tape' : List Operation} {scope : Scope} {first : ℕ} {entries : List Entry} {old new : Members} {carried : ℕ → Bool} {resync : Option ℕ} {limit : Option ℕ} (course : Course) (ahead : PhasesLeft) (buffer : List ℕ)
+module _ {tells : Type 0} {given : Given} {tape tape' : List Operation} {scope : Scope} {first : ℕ} {entries : List Entry} {old new : Members} {carried : ℕ → ℕ → Bool} {resync : Option ℕ} {limit : Option ℕ} (course : Course) (ahead : PhasesLeft) (buffer : List ℕ)
     (who : Who) (end roles spares at : ℕ) (from : List ℕ) (past : Option Span) (relied : ℕ) (begun : Bool)
     (was : IsMoving tells given tape scope first entries old carried resync course buffer (left_by resync old course ahead)) (goes : IsCallGoing entries who) (caller : who.caller ≢ 254)
     (at_end : tells → end ≡ length tape') (grows : Grows tells tape tape') (limited : limit_of entries ≡ limit) (visible : at + length from / 512 ≤ visible_size old limit) (some : 0 < length from / 512)
@@ -364,27 +364,27 @@ module _ {tells : Type 0} {given : Given} {tape tape' : List Operation} {scope :
 
 -- ---- one call behind another
 
-module _ (Had Has : ℕ → ℕ → Type 0) (f g h k : ℕ → ℕ) (had : (role slot : ℕ) → Has role slot → Had role slot) (before : NeverFalls f g) (since : NeverFalls g h) (after : NeverFalls h k) where
+module _ (Had Has : ℕ → ℕ → Type 0) (Was Is : ℕ → Type 0) (f g h k : ℕ → ℕ) (had : (role slot : ℕ) → Has role slot → Had role slot) (was : (slot : ℕ) → Is slot → Was slot) (before : NeverFalls f g) (since : NeverFalls g h) (after : NeverFalls h k) where
   -- a loss between two marks is one between marks around them, of slots that had the role earlier
   role-around : (role : ℕ) (cause : LostCause) → IsRoleLossBy Has g h role cause → IsRoleLossBy Had f k role cause
   role-around role Fault loss = (loss.0, had role loss.0 loss.1, faulted_longer loss.0 f g h k (before loss.0) (after loss.0) (since loss.0) loss.2)
   role-around role Command loss = (loss.0, had role loss.0 loss.1)
   role-around role cause loss = absurd loss
 
-  loss-around : (event : Event) → IsLossBy Has g h event → IsLossBy Had f k event
+  loss-around : (event : Event) → IsLossBy Has Is g h event → IsLossBy Had Was f k event
   loss-around (Lost role cause) loss = role-around role cause loss
-  loss-around (SpareLost slot) failed = faulted_longer slot f g h k (before slot) (after slot) (since slot) failed
+  loss-around (SpareLost slot) loss = (was slot loss.0, faulted_longer slot f g h k (before slot) (after slot) (since slot) loss.1)
   loss-around event loss = tt
 
-losses-then : (a b : Members) (f g h : ℕ → ℕ) → NeverFalls f g → NeverFalls g h → AreStillHeld a b → (old mid new : List Entry) → AreLossesOf a f g old mid → AreLossesOf b g h mid new → AreLossesOf a f h old new
-losses-then a b f g h early late held old mid new one two = record {
+losses-then : (a b : Members) (f g h : ℕ → ℕ) → NeverFalls f g → NeverFalls g h → AreStillHeld a b → AreSparesFewer a b → (old mid new : List Entry) → AreLossesOf a f g old mid → AreLossesOf b g h mid new → AreLossesOf a f h old new
+losses-then a b f g h early late held fewer old mid new one two = record {
   more = one.more ++ two.more;
   grown = two.grown ∙ ap (λ (l : List Entry). l ++ two.more) one.grown ∙ append_assoc old one.more two.more;
-  failed = All-append (λ e. IsLossBy (Held a) f h e.event) one.more two.more
-      (All-weaker (λ e. IsLossBy (Held a) f g e.event) (λ e. IsLossBy (Held a) f h e.event)
-      (λ e loss. loss-around (Held a) (Held a) f f g h (λ role slot may. may) (λ slot. omega arith) early late e.event loss) one.more one.failed)
-      (All-weaker (λ e. IsLossBy (Held b) g h e.event) (λ e. IsLossBy (Held a) f h e.event)
-      (λ e loss. loss-around (Held a) (Held b) f g h h held early late (λ slot. omega arith) e.event loss) two.more two.failed);
+  failed = All-append (λ e. IsLossBy (Held a) (WasSpare a) f h e.event) one.more two.more
+      (All-weaker (λ e. IsLossBy (Held a) (WasSpare a) f g e.event) (λ e. IsLossBy (Held a) (WasSpare a) f h e.event)
+      (λ e loss. loss-around (Held a) (Held a) (WasSpare a) (WasSpare a) f f g h (λ role slot may. may) (λ slot is. is) (λ slot. omega arith) early late e.event loss) one.more one.failed)
+      (All-weaker (λ e. IsLossBy (Held b) (WasSpare b) g h e.event) (λ e. IsLossBy (Held a) (WasSpare a) f h e.event)
+      (λ e loss. loss-around (Held a) (Held b) (WasSpare a) (WasSpare b) f g h h held fewer early late (λ slot. omega arith) e.event loss) two.more two.failed);
 }
 
 -- a slot has failed, or has its role still
@@ -408,7 +408,7 @@ called-then {tells = tells} {given = given} {tape0 = tape0} {tape1 = tape1} {tap
       ended = two.ended;
       held = λ role slot holds. one.held role slot (two.held role slot holds);
       spares = λ slot spare. one.spares slot (two.spares slot spare);
-      losses = losses-then a.parts.members b.parts.members f g h one.never_falls two.never_falls one.held a.parts.entries b.parts.entries c.parts.entries one.losses two.losses;
+      losses = losses-then a.parts.members b.parts.members f g h one.never_falls two.never_falls one.held one.spares a.parts.entries b.parts.entries c.parts.entries one.losses two.losses;
       never_falls = λ slot. let early = one.never_falls slot in let late = two.never_falls slot in omega (arith, early, late);
       work = two.work ∙ one.work;
       same = record {

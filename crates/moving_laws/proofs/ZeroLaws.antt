@@ -129,7 +129,7 @@ rows-zeroed {tells = tells} given old new tape' shape stripe zeroed same at stan
 
 -- ---- what is kept
 
-module _ {tells : Type 0} {given : Given} {tape tape' : List Operation} {scope : Scope} {first : ℕ} {entries : List Entry} {old new : Members} {carried : ℕ → Bool} {resync : Option ℕ} (course : Course) {buffer : List ℕ} (ahead : PhasesLeft)
+module _ {tells : Type 0} {given : Given} {tape tape' : List Operation} {scope : Scope} {first : ℕ} {entries : List Entry} {old new : Members} {carried : ℕ → ℕ → Bool} {resync : Option ℕ} (course : Course) {buffer : List ℕ} (ahead : PhasesLeft)
     (who : Who) (end roles spares : ℕ) (is : course ≡ closed course.zeroed) (none : next_window old.newest ≡ None) (synced : resync ≡ None)
     (was : IsMoving tells given tape scope first entries old carried resync course buffer (left_by resync old course ahead))
     (live : HasLiveSlot old) (goes : IsCallGoing entries who) (caller : who.caller ≢ 254) (at_end : tells → end ≡ length tape') (did : IsZeroStep tells given old new tape tape' course.zeroed roles) where

@@ -12,7 +12,7 @@ use Rattle.mending_kept.specs.flat_history_Flat.{length_of, limit_of}
 use Rattle.mending_kept.specs.flat_history_Stands.{reach_of}
 use Rattle.mending_kept.specs.shape_views_Regions.{backup_of}
 use Rattle.mending_kept.specs.views_the_Work.{Work}
-use Rattle.mending_kept.specs.views_Numbers.{is_carried}
+use Rattle.mending_kept.specs.views_Numbers.{bears}
 use Rattle.mending_kept.specs.grow_asked_the_Window.{Window}
 use Rattle.mending_kept.specs.grow_asked_the_Window_TheVariants.{Closed, Entered, Unsure}
 use Rattle.mending_kept.specs.grow_asked_the_PhasesLeft.{PhasesLeft}
@@ -34,7 +34,7 @@ bytes_in (Unsure span) buffer = take (512 * (span.hi - span.lo)) buffer
 -- steps and of its end, and for the rows of one call in two regions.
 pub record IsReady (tells : Type 0) (given : Given) (tape : List Operation) (scope : Scope) (first : ℕ) (entries : List Entry)
     (members : Members) (work : Work) (course : Course) (ahead : PhasesLeft) (limit : Option ℕ) (window : List ℕ) (faults : ℕ → ℕ) (steps room rows buffer far_rows far_buffer : ℕ) : Type 0 where
-  pub kept : IsMoving tells given tape scope first entries members (is_carried work) work.resync course (bytes_in course.window window) (left_in work members course ahead)
+  pub kept : IsMoving tells given tape scope first entries members (bears work) work.resync course (bytes_in course.window window) (left_in work members course ahead)
   pub sized : length_of (list_length members.newest) entries ≡ list_length members.newest
   pub limited : limit_of entries ≡ limit
   pub full : tells → TakesNone (world_in given tape scope first) entries → AreWhole members

@@ -17,13 +17,12 @@ use Rattle.bank.proofs.Whole.{sectors-whole}
 use Rattle.backup.specs.Section.{is_header_of, names_span}
 use Rattle.moving_kept.specs.superblocks_the_Members.{Members}
 use Rattle.moving_kept.specs.superblocks_Election.{reading_in}
-use Rattle.moving_kept.specs.superblocks_Found.{AreLikeNewest}
 use Rattle.moving_kept.specs.superblocks_Reading.{Scope, Reading, reading, is_reshaping, is_clean, is_whole, shape_of, list_length, role_count, role_state, holder}
 use Rattle.moving_kept.specs.row_io_Rows.{reading_of, present, is_missing, role_without, members_without}
 use Rattle.moving_kept.proofs.row_io_Losses.{state_after}
 use Rattle.moving_kept.specs.flat_history_the_Entry.{Entry}
 use Rattle.moving_kept.specs.flat_history_the_Event.{Event}
-use Rattle.moving_kept.specs.flat_history_Epochs.{HasRoomForEvents, OpensAlike}
+use Rattle.moving_kept.specs.flat_history_Epochs.{HasRoomForEvents}
 use Rattle.moving_kept.specs.flat_history_Flat.{now}
 use Rattle.moving_kept.specs.flat_history_Legal.{IsAbsentAtFirst, level_at}
 use Rattle.moving_kept.specs.flat_history_Losses.{was_dirty, is_unsynced}
@@ -354,7 +353,7 @@ module _ {tells : Type 0} {bank : Given} {tape : List Operation} {given backup :
 
       -- ---- what a stop may leave
 
-      module _ (carried : ℕ → Bool) (among : AreAmong carried former) where
+      module _ (carried : ℕ → ℕ → Bool) (among : AreAmong carried former) where
         abbrev told : Ledger
         told = told_now world carried true entries
 
@@ -376,13 +375,13 @@ module _ {tells : Type 0} {bank : Given} {tape : List Operation} {given backup :
             found-right (OpensFit world) bank tape scope former told list backed placed (found-flushed bank tape scope former stored.says stored.flushed) sized values
             (λ role lt miss. gone role lt (missing-moved moved role miss)) unclean refl under.0 (λ clean so. under.1 (record { clean = clean; fit = so })) (λ so. headers reshape) tails (λ x tail. stands-former.zeros tail.forth x tail.past)
 
-        safe-now : OpensAlike world → IsSafeOver world bank told m tape
-        safe-now alike = inl (record {
+        safe-now : IsSafeOver world bank told m tape
+        safe-now = inl (record {
           former = former;
           since = record {
             gone = lost;
             since = refl;
-            held = found-is-held bank former.newest.set_uuid given (Some backup) former c d opened.members_are.elected stored (subst (λ (o : Option Reading). IfSome o (λ q. AreLikeNewest scope q.newest c)) reading-is alike);
+            held = found-is-held bank former.newest.set_uuid given (Some backup) former c d opened.members_are.elected stored;
           };
           right = seen-right;
           numbers = found-carried scope carried former d among (found-numbers bank former.newest.set_uuid given (Some backup) former c d opened.members_are.elected stored);
@@ -391,10 +390,10 @@ module _ {tells : Type 0} {bank : Given} {tape : List Operation} {given backup :
         counted : HasLiveSlot m → IsCounted world m
         counted live = record { found = r; is = reading-is; events = omega arith }
 
-        safe : IsFilledRight world entries → OpensAlike world → IsSafeHistory ⊤ world bank m carried true entries
-        safe right alike =
-            opened-safe ⊤ bank tape scope m carried true opener (absent_losses (reading_of m) n) refl right (safe-now alike)
-            (λ claimed so. leaves-now world bank told m refl (safe-now alike) so) counted
+        safe : IsFilledRight world entries → IsSafeHistory ⊤ world bank m carried true entries
+        safe right =
+            opened-safe ⊤ bank tape scope m carried true opener (absent_losses (reading_of m) n) refl right safe-now
+            (λ claimed so. leaves-now world bank told m refl safe-now so) counted
 
 abbrev Opening : Given → List Operation → ℕ → ℕ → Members → ℕ → World
 Opening bank tape given backup former k = world_in bank tape (scope_of bank given backup former) k
@@ -439,10 +438,10 @@ openings-move tells bank tape given backup lost first left former window buffer 
       (now (opening_list (Opening bank tape given backup former k)) (opening_entries k (members_without lost former))))
       (λ right. listed opened lost recovering t (reshape-fit opened lost recovering t
       (fills-on_course (Opening bank tape given backup former (length tape)) (opening_entries (length tape) (members_without lost former)) right)));
-  safe = λ t. at t (λ (k : ℕ). IsFilledRight (Opening bank tape given backup former k) (opening_entries k (members_without lost former)) → HasRoomForEvents (Opening bank tape given backup former k) → OpensAlike (Opening bank tape given backup former k)
+  safe = λ t. at t (λ (k : ℕ). IsFilledRight (Opening bank tape given backup former k) (opening_entries k (members_without lost former)) → HasRoomForEvents (Opening bank tape given backup former k)
       → IsSafeHistory ⊤ (Opening bank tape given backup former k) bank (members_without lost former) carried true (opening_entries k (members_without lost former)))
-      (λ right room alike. safe opened lost recovering t (reshape-fit opened lost recovering t
-      (fills-on_course (Opening bank tape given backup former (length tape)) (opening_entries (length tape) (members_without lost former)) right)) carried among right alike);
+      (λ right room. safe opened lost recovering t (reshape-fit opened lost recovering t
+      (fills-on_course (Opening bank tape given backup former (length tape)) (opening_entries (length tape) (members_without lost former)) right)) carried among right);
 }
   where
     at : tells → (P : ℕ → Type 0) → P (length tape) → P first

@@ -90,8 +90,8 @@ pub found-flushed : (bank : Given) (tape : List Operation) (scope : Scope) (m : 
 found-flushed bank tape scope m says flushed role slot k held eighth = flushed slot k (holder-given scope (present bank tape) (reading_in bank.slots m) role slot says held)
 
 -- each number that a superblock bears is known
-pub found-carried : (scope : Scope) (carried : ℕ → Bool) (m : Members) (d : Disk) → AreAmong carried m → AreNumbersKept scope m.own d → AreCarried scope carried m.own d
+pub found-carried : (scope : Scope) (carried : ℕ → ℕ → Bool) (m : Members) (d : Disk) → AreAmong carried m → AreNumbersKept scope m.own d → AreCarried scope carried m.own d
 found-carried scope carried m d among kept = record {
   kept = among;
-  shown = λ slot sb may. (let found = kept slot sb may in ap carried (sym found.2) ∙ among slot found.0 found.1);
+  shown = λ slot sb may. (let found = kept slot sb may in ap (carried slot) (sym found.2) ∙ among slot found.0 found.1);
 }

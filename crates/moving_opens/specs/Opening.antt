@@ -55,9 +55,9 @@ FoundWindowsOpen tells = (bank : Given) (tape : List Operation) (given backup : 
 abbrev pub opening_entries : ℕ → Members → List Entry
 opening_entries first members = entries_of opener first (absent_losses (reading_of members) (role_count members.newest))
 
--- each of the superblocks bears one of these numbers
-abbrev pub AreAmong : (ℕ → Bool) → Members → Type 0
-AreAmong carried members = (slot : ℕ) (sb : Sb) → own_in members.own slot ≡ Some sb → carried sb.dev_number ≡ true
+-- the number of each superblock is one of these of its slot
+abbrev pub AreAmong : (ℕ → ℕ → Bool) → Members → Type 0
+AreAmong carried members = (slot : ℕ) (sb : Sb) → own_in members.own slot ≡ Some sb → carried slot sb.dev_number ≡ true
 
 -- the window is under way, and nothing behind the list is zeroed
 abbrev pub found_course : Window → Course
@@ -69,7 +69,7 @@ found_resync members = if is_clean members.newest then None else Some 0
 
 -- What was opened keeps, without the slots that recover a role, what an array in a reshape keeps, whatever number of steps is left.
 abbrev pub OpeningsMove : (tells : Type 0) → Type 0
-OpeningsMove tells = (bank : Given) (tape : List Operation) (given backup recovering first left : ℕ) (former : Members) (window : Window) (buffer : List ℕ) (carried : ℕ → Bool)
+OpeningsMove tells = (bank : Given) (tape : List Operation) (given backup recovering first left : ℕ) (former : Members) (window : Window) (buffer : List ℕ) (carried : ℕ → ℕ → Bool)
     → IsOpenedMoving tells bank tape given backup former window buffer → AreRecovering former recovering → AreAmong carried former → (tells → first ≡ length tape)
     → IsMoving tells bank tape (scope_of bank given backup former) first (opening_entries first (members_without recovering former)) (members_without recovering former) carried
     (found_resync former) (found_course window) buffer left

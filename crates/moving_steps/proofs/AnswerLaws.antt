@@ -15,7 +15,7 @@ use Rattle.flat_history.specs.Losses.{is_unsynced}
 use Rattle.flat_history.specs.Plain.{entries_of}
 use Rattle.flat_history.specs.World.{World}
 use Rattle.moving.specs.views_the_Work.{Work}
-use Rattle.moving.specs.views_Numbers.{is_carried}
+use Rattle.moving.specs.views_Numbers.{bears}
 use Rattle.moving.specs.views_Placed.{IsPlaced}
 use Rattle.moving.proofs.views_Fit.{force-disks}
 use Rattle.call_entries.proofs.LeftLaws.{keeps-left}
@@ -40,7 +40,7 @@ use Rattle.moving_steps.specs.Replies.{IsUnmendableNow, IsEndedInReshape, IsRepl
 -- ---- a reply
 
 -- steps are left, the end of the reshape at least
-reply-left : {tells : Type 0} {given : Given} {tape : List Operation} {scope : Scope} {first : ℕ} {entries : List Entry} {m : Members} {carried : ℕ → Bool} {resync : Option ℕ} {buffer : List ℕ} {left : ℕ} (work : Work) (course : Course) (ahead : PhasesLeft)
+reply-left : {tells : Type 0} {given : Given} {tape : List Operation} {scope : Scope} {first : ℕ} {entries : List Entry} {m : Members} {carried : ℕ → ℕ → Bool} {resync : Option ℕ} {buffer : List ℕ} {left : ℕ} (work : Work) (course : Course) (ahead : PhasesLeft)
     → IsMoving tells given tape scope first entries m carried resync course buffer left → left_in work m course ahead ≢ 0
 reply-left {m = m} work course ahead was = left-some m work course ahead was.members_are.active was.course_is
 
@@ -55,11 +55,11 @@ unmended-right world before given m work placed gone pending refusal (waits, sha
     (gone lacked.0 (let lt = lacked.4.0 in let disks = force-disks m.newest placed.fit shape force in omega (arith, lt, disks)) lacked.3, pending ∙ waits)
 
 pub answer-moves : {tells : Type 0} {given : Given} {tape : List Operation} {scope : Scope} {first : ℕ} {entries : List Entry} {m : Members} {buffer : List ℕ} (work : Work) (course : Course) (ahead : PhasesLeft) (who : Who) (end : ℕ) (event : Event)
-    → IsMoving tells given tape scope first entries m (is_carried work) work.resync course buffer (left_in work m course ahead)
+    → IsMoving tells given tape scope first entries m (bears work) work.resync course buffer (left_in work m course ahead)
     → IsCallGoing entries who → who.caller ≢ 254 → (tells → end ≡ length tape) → IsReplyInReshape work m course ahead event
-    → IsMoving tells given tape scope first (entries ++ entries_of who end (event ∷ [])) m (is_carried work) work.resync course buffer (left_in work m course ahead)
+    → IsMoving tells given tape scope first (entries ++ entries_of who end (event ∷ [])) m (bears work) work.resync course buffer (left_in work m course ahead)
 answer-moves {tells = tells} {given = given} {tape = tape} {scope = scope} {first = first} {entries = entries} {m = m} {buffer = buffer} work course ahead who end (Stepped done left ended) was goes caller at_end reply =
-    resting-moves tells given tape scope first entries m (is_carried work) work.resync course buffer (left_in work m course ahead) who end (Stepped done left ended) was goes (not_254 who.caller caller) at_end
+    resting-moves tells given tape scope first entries m (bears work) work.resync course buffer (left_in work m course ahead) who end (Stepped done left ended) was goes (not_254 who.caller caller) at_end
     (quiet-reply done left ended (λ none. reply-left work course ahead was (sym reply.0 ∙ none))) (λ told is. reply.0)
     (λ t right. (keeps-left (left_in work m course ahead) entries (entry_of who end (Stepped done left ended)) [] left was.left_told reply.0, ended-right ended reply.1 t right))
   where
@@ -78,9 +78,9 @@ pub reply-keeps : (work : Work) (m : Members) (course : Course) (ahead : PhasesL
 reply-keeps work m course ahead who end (Stepped done left ended) reply = alone-keeps who end (Stepped done left ended) (λ n. refl) (λ limit. refl)
 reply-keeps work m course ahead who end event reply = absurd reply
 
-pub reply-lossless : (work : Work) (m : Members) (course : Course) (ahead : PhasesLeft) (Had : ℕ → ℕ → Type 0) (before after : ℕ → ℕ) (event : Event) → IsReplyInReshape work m course ahead event → IsLossBy Had before after event
-reply-lossless work m course ahead Had before after (Stepped done left ended) reply = tt
-reply-lossless work m course ahead Had before after event reply = absurd reply
+pub reply-lossless : (work : Work) (m : Members) (course : Course) (ahead : PhasesLeft) (Had : ℕ → ℕ → Type 0) (Was : ℕ → Type 0) (before after : ℕ → ℕ) (event : Event) → IsReplyInReshape work m course ahead event → IsLossBy Had Was before after event
+reply-lossless work m course ahead Had Was before after (Stepped done left ended) reply = tt
+reply-lossless work m course ahead Had Was before after event reply = absurd reply
 
 -- ---- room
 

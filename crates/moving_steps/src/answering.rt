@@ -1,6 +1,6 @@
 //! The answer to a request for steps.
 
-ghost use Rattle.std.specs.Prelude.{◌≡◌, ◌≢◌, ◌+◌, ◌≤◌, ◌∷◌, [], length};
+ghost use Rattle.std.specs.Prelude.{◌≡◌, ◌≢◌, ◌+◌, ◌≤◌, ◌∷◌, []};
 ghost use Rattle.still_kept.specs.array_kept_Calls.{IsEntered};
 ghost use Rattle.moving.specs.kept_history_Recorded.{IsCallGoing};
 ghost use Rattle.moving.specs.running_words_Calls.{IsCalled};
@@ -8,17 +8,9 @@ ghost use Rattle.moving_steps.specs.Replies.{IsReplyInReshape};
 
 use bank::Bank;
 use call_entries::calls::enter;
-use flat_history::{Entries, Event};
+use flat_history::Event;
 use md_base::Who;
-use moving::Moving;
-
-// The number of a call that goes on is at most the number of entries.
-fn check_going(entries: &Entries, who: Who)
-    requires { IsCallGoing entries.now.items who }
-    ensures { who.number ≤ length entries.now.items }
-{
-    let _ = entries.next_number(who.caller);
-}
+use moving::{Moving, check_going};
 
 /// Answers a request for steps: how many were done and what refused one. It makes no device call, and takes no memory.
 pub fn answer<B: Bank>(moving: Moving<B>, who: Who, event: Event) -> Moving<B>

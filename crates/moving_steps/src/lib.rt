@@ -1,8 +1,16 @@
-//! What the background steps of an array in a reshape share: room for their entries, and the answer to a request for some.
+//! What moves the windows of an array in a reshape, its steps and writes; room for the entries of steps, and the answer to a request for some.
 #![tactic(auto)]
 
 mod answering;
+mod clearing;
+mod copying;
+mod entering;
+mod finishing;
+mod recording;
 mod rooms;
+mod stepping;
+mod writing;
+mod zeroing;
 
 pub use answering::answer;
 pub use moving::{
@@ -10,4 +18,6 @@ pub use moving::{
     found_numbers, holds_role, is_spare, list_length, list_sectors, room_for, steps_left, zeros,
 };
 pub use rooms::make_room;
+pub use stepping::step;
 pub use still_kept::{newly_vacant, shape_in, too_many, vacant_roles};
+pub use writing::write;

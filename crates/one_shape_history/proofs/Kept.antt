@@ -19,7 +19,7 @@ use Rattle.array_kept.proofs.flat_history_OneShapeLegal.{found-in, one_shape-leg
 use Rattle.array_kept.specs.shape_views_Views.{Ledger}
 use Rattle.array_kept.specs.shape_changes_Steady.{IsSafeOver, AreGoneTold}
 use Rattle.array_kept.specs.views_the_Work.{Work}
-use Rattle.array_kept.specs.views_Numbers.{is_carried}
+use Rattle.array_kept.specs.views_Numbers.{bears}
 use Rattle.array_kept.proofs.call_entries_CallLaws.{GivesNone}
 use Rattle.array_kept.specs.Kept.{ledger_now, AreTold, AreFillsRight, IsRecorded, IsCounted, IsSafe}
 use Rattle.array_kept.proofs.LedgerLaws.{told_by}
@@ -36,33 +36,33 @@ use Rattle.kept_history.proofs.Growing.{takes-lost}
 pub gone-alike : (world : World) (entries : List Entry) → KeepShape entries → is_gone_now entries ≡ is_gone_after world entries
 gone-alike world entries keep = λ i role. sym (after-gone world role entries keep) i
 
-pub now-alike : (world : World) (work : Work) (entries : List Entry) → KeepShape entries → ledger_now world work entries ≡ told_now world (is_carried work) false entries
+pub now-alike : (world : World) (work : Work) (entries : List Entry) → KeepShape entries → ledger_now world work entries ≡ told_now world (bears work) false entries
 now-alike world work entries keep = ap (λ (gone : ℕ → Bool). record {
   size = length_of (length (opening_list world)) entries;
   values = values_of (opening_list world) entries;
   gone = gone;
   unclean = is_unsynced world entries || is_unsettled entries;
   reshaping = false;
-  carried = is_carried work;
+  carried = bears work;
 }) (gone-alike world entries keep)
 
 -- so it is in a call whose entries give no role back
 pub told-alike : (world : World) (work : Work) (entries more : List Entry) → KeepShape entries → KeepShape more → GivesNone more
-    → told_by world work entries more ≡ history_told.told_by world (is_carried work) false entries more
+    → told_by world work entries more ≡ history_told.told_by world (bears work) false entries more
 told-alike world work entries more keep still none = ap (λ (gone : ℕ → Bool). record {
   size = length_of (length (opening_list world)) (entries ++ more);
   values = values_of (opening_list world) (entries ++ more);
   gone = gone;
   unclean = is_unsynced world entries || (is_unsettled entries || list_any (λ e. unsettles e.event) more);
   reshaping = false;
-  carried = is_carried work;
+  carried = bears work;
 }) (λ i role. gone role i)
   where
     gone : (role : ℕ) → is_gone_now (entries ++ more) role ≡ (is_gone_after world entries role || list_any (loses world role) more)
     gone role = gone-or_lost entries more role (none role) ∙ ap₂ (λ (a b : Bool). a || b) (sym (after-gone world role entries keep)) (sym (takes-lost world role more still))
 
 -- each missing role is told gone
-pub gone-told : (world : World) (carried : ℕ → Bool) (reshaping : Bool) (members : Members) (entries : List Entry) → KeepShape entries → AreTold members entries → AreGoneTold (told_now world carried reshaping entries) members
+pub gone-told : (world : World) (carried : ℕ → ℕ → Bool) (reshaping : Bool) (members : Members) (entries : List Entry) → KeepShape entries → AreTold members entries → AreGoneTold (told_now world carried reshaping entries) members
 gone-told world carried reshaping members entries keep told role lt missing = after-gone world role entries keep ∙ told role lt missing
 
 -- ---- what is filled in
@@ -93,7 +93,7 @@ counted-alike world members counted = record { found = counted.found; is = count
 
 -- An array of one shape is safe by them, and claims soundness.
 pub safe-alike : (world : World) (given : Given) (members : Members) (work : Work) (entries : List Entry) → KeepShape entries → IsSafe world given members work entries
-    → IsSafeHistory ⊤ world given members (is_carried work) false entries
+    → IsSafeHistory ⊤ world given members (bears work) false entries
 safe-alike world given members work entries keep safe = record {
   past = safe.past;
   sound = λ claimed opened. safe.sound opened;
@@ -102,7 +102,7 @@ safe-alike world given members work entries keep safe = record {
 }
 
 -- whatever it claims
-pub safe-claiming : (claims : Type 0) (world : World) (given : Given) (members : Members) (carried : ℕ → Bool) (reshaping : Bool) (entries : List Entry) → IsSafeHistory ⊤ world given members carried reshaping entries
+pub safe-claiming : (claims : Type 0) (world : World) (given : Given) (members : Members) (carried : ℕ → ℕ → Bool) (reshaping : Bool) (entries : List Entry) → IsSafeHistory ⊤ world given members carried reshaping entries
     → IsSafeHistory claims world given members carried reshaping entries
 safe-claiming claims world given members carried reshaping entries safe = record {
   past = safe.past;

@@ -9,7 +9,7 @@ use Rattle.running_steps.specs.row_io_Rows.{reading_of, members_without}
 use Rattle.flat_history.specs.declared.events.Entry.{Entry}
 use Rattle.flat_history.specs.Stands.{reach_of}
 use Rattle.views.specs.declared.work.Work.{Work}
-use Rattle.views.specs.Numbers.{is_carried}
+use Rattle.views.specs.Numbers.{bears}
 use Rattle.views.specs.Placed.{AreWhole}
 use Rattle.running_steps.specs.array_kept_Kept.{scope_in}
 use Rattle.running_steps.specs.array_kept_Adopting.{opener}
@@ -46,7 +46,7 @@ module _ {tells : Type 0} {bank : Given} {tape : List Operation} {given backup :
   m = members_without lost former
 
   -- the number of each superblock is known
-  among : AreAmong (is_carried (moving_work (members_without lost former))) former
+  among : AreAmong (bears (moving_work (members_without lost former))) former
   among slot sb is = found-kept former.own slot sb own is
 
   -- no role is missing where none is told lost
@@ -60,7 +60,7 @@ module _ {tells : Type 0} {bank : Given} {tape : List Operation} {given backup :
       → IsReady tells bank tape (scope_in bank former.newest.set_uuid given (Some backup)) first (opening_entries first (members_without lost former)) (members_without lost former)
       (moving_work (members_without lost former)) (found_course window) planless None bytes faults 0 room rows buffer far_rows far_buffer
   found-ready sure failed wide room_left rows_fit buffer_fits far_rows_fit far_buffer_fits = record {
-    kept = openings-move tells bank tape given backup lost first (left_in (moving_work m) m (found_course window) planless) former window (bytes_in window bytes) (is_carried (moving_work m)) opened recovering among first_is;
+    kept = openings-move tells bank tape given backup lost first (left_in (moving_work m) m (found_course window) planless) former window (bytes_in window bytes) (bears (moving_work m)) opened recovering among first_is;
     sized = same-length opener first (reading_of m) (role_count former.newest) (list_length former.newest);
     limited = no-limit opener first (reading_of m) (role_count former.newest);
     full = λ t. whole;

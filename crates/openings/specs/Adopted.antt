@@ -10,7 +10,7 @@ use Rattle.superblocks.specs.declared.members.Members.{Members}
 use Rattle.running_steps.specs.row_io_Rows.{present, members_without}
 use Rattle.running_steps.specs.shape_views_Regions.{header_in, open_by}
 use Rattle.views.specs.declared.work.Work.{Work}
-use Rattle.running_steps.specs.array_kept_Adopting.{is_number_of}
+use Rattle.running_steps.specs.array_kept_Adopting.{bearers_of}
 use Rattle.grow_asked.specs.Left.{phases_of}
 use Rattle.moving_opens.specs.reshape_openings_Finding.{window_for}
 use Rattle.moving_opens.specs.reshape_openings_Recovering.{AreRecovering}
@@ -22,7 +22,7 @@ abbrev pub moving_work : Members → Work
 moving_work members = record {
   resync = found_resync members;
   rebuilt = replicate 16 0;
-  carried = tabulate 128 (is_number_of members.own);
+  carried = tabulate 128 (bearers_of members.own);
 }
 
 -- An array in a reshape that was just taken over, as its superblocks say, but that the slots are lost which recover a role: the losses that it found stand first. Its window is the one

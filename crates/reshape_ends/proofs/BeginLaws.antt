@@ -206,8 +206,18 @@ module _ (given : Given) (old : Members) (to : Shape) (still : is_reshaping old.
           so : is_planned_spare old.spares ch.added (give_of ch.gives s) s ≡ true
           so = ap (λ (g : Give). is_planned_spare old.spares None g s) gets ∙ or-so (has_spare old.spares s) spare-parts.0
 
+      -- a spare then is one by the plan
+      spares-fewer : (s : ℕ) → has_spare new.spares s ≡ true → has_spare (planned_view old (beginning old to) old.lost).spares s ≡ true
+      spares-fewer s has =
+          let was = spare-planned old ch new.lost s (ap (λ (l : List ℕ). has_spare l s) (sym done.spares) ∙ has) in
+          planned-spare old ch old.lost s was.0 (kept (has_slot old.lost s) refl was.1) was.2
+        where
+          kept : (b : Bool) → has_slot old.lost s ≡ b → has_slot new.lost s ≡ false → has_slot old.lost s ≡ false
+          kept true gone left = absurd (let stays = done.stay s gone in let clash = sym stays ∙ left in cc)
+          kept false is left = is
+
       pub begun-failed : HaveFailedSince (planned_view old (beginning old to) old.lost) new told f0 f2
-      begun-failed = record { roles = roles-failed; spares_are = spares-failed; told = spares-told }
+      begun-failed = record { roles = roles-failed; spares_are = spares-failed; were = begun-spares; fewer = spares-fewer; told = spares-told }
 
   -- ---- what it takes to be safe
 

@@ -47,10 +47,10 @@ module _ (scope : Scope) (slot : ℕ) (there : scope.backup ≡ Some slot) (d e 
       ]
 
   -- nor the device numbers that slots may show
-  carried-then : (told : ℕ → Bool) (own : List (Option Sb)) → AreCarried scope told own d → AreCarried scope told own e
+  carried-then : (told : ℕ → ℕ → Bool) (own : List (Option Sb)) → AreCarried scope told own d → AreCarried scope told own e
   carried-then told own are = record { kept = are.kept; shown = λ s sb may. by s sb may (is_seen scope s) refl }
     where
-      by : (s : ℕ) (sb : Sb) → MayRead scope e s (Some sb) → (b : Bool) → is_seen scope s ≡ b → told sb.dev_number ≡ true
+      by : (s : ℕ) (sb : Sb) → MayRead scope e s (Some sb) → (b : Bool) → is_seen scope s ≡ b → told s sb.dev_number ≡ true
       by s sb may true seen = are.shown s sb (record { at = may.at; eighth = none-newer.eighth s (may.at 8) seen may.eighth; ninth = none-newer.ninth s (may.at 9) seen may.ninth; is = may.is })
       by s sb may false unseen = absurd (
           let none : ◌≡◌ {A = Option Sb} None (Some sb) = sym (λ i. of_array scope.uuid (cond (unseen i) (superblock_in (scope.sizes.sectors s) may.at) None)) ∙ may.is in cc)

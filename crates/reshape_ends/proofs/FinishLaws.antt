@@ -1,6 +1,7 @@
 -- What the flush before a reshape ends leaves, and the update that ends it, and what it takes for that to be safe.
 use Rattle.std.proofs.Common.{◌≡◌, ◌⊎◌, inl, inr, ℕ, ◌+◌, ◌-◌, ◌*◌, ◌==◌, ◌<◌, ◌≤◌, ◌&&◌, ◌||◌, Bool, true, false, not, nat_lt, cond, min, List, length, drop, get_or, Option, Some, None, is_some, refl, sym, ◌∙◌, ap, subst, arith}
 use Rattle.std.specs.Prelude.{◌^◌}
+use Rattle.std.specs.List.{list_any}
 use Rattle.std.proofs.lemmas.Bool.Decides.{nat_tests}
 use Rattle.std.proofs.lemmas.List.{get_or-drop}
 use Rattle.md_base.specs.Shapes.{has_slot, data_disks}
@@ -22,7 +23,7 @@ use Rattle.superblocks.specs.declared.change.Change.{Change}
 use Rattle.superblocks.specs.declared.members.Members.{Members}
 use Rattle.superblocks.specs.Reading.{Scope, is_clean, is_reshaping, is_backward, shape_of, final_shape, list_length, role_count, role_state, holder, is_whole, data_offset_of}
 use Rattle.superblocks.specs.Reads.{has_spare}
-use Rattle.superblocks.specs.Update.{give_of, role_from, planned_role, is_planned_spare}
+use Rattle.superblocks.specs.Update.{give_of, is_held_by, is_live, role_from, planned_role, is_planned_spare}
 use Rattle.superblocks.proofs.SlotSets.{some_role, none_there}
 use Rattle.superblocks.specs.Updating.{AreLosses}
 use Rattle.superblocks.specs.Outcome.{live_set, AreGivesOfLive, held_state, planned_state}
@@ -47,7 +48,7 @@ use Rattle.safe_updates.specs.shape_changes_Updates.{planned_view, IsLessView, H
 use Rattle.safe_updates.proofs.shape_changes_FitKinds.{dropping-live}
 use Rattle.safe_updates.proofs.shape_changes_LessViews.{ends-place}
 use Rattle.safe_updates.proofs.shape_changes_PlannedRoles.{planned-held}
-use Rattle.safe_updates.proofs.shape_changes_Without.{any-holds, any-held}
+use Rattle.safe_updates.proofs.shape_changes_Without.{any-holds, any-held, live-of}
 use Rattle.reshape_updates.specs.shape_ends_Ends.{AreRolesKept, ArePlacesAlike, IsEnded}
 use Rattle.reshape_updates.specs.shape_ends_Grown.{IsPastRow}
 use Rattle.reshape_updates.specs.shape_ends_Plans.{HasNoneRecovering}
@@ -391,6 +392,10 @@ module _ (given : Given) (old m new : Members) (moved : IsMoved given old m) (ac
     lost_are = λ slot has. (
         let parts = both (has_slot new.lost slot) (not (has_slot m.lost slot)) (sym (lost-is slot) ∙ has) in
         faulted_longer slot f0 f1 f2 f2 (rising slot) (omega arith) (more slot) (losses.failed slot parts.0 (flip (has_slot m.lost slot) parts.1)));
+    were = since.were;
+    lost_were = λ slot has. (
+        let parts = both (has_slot new.lost slot) (not (has_slot m.lost slot)) (sym (lost-is slot) ∙ has) in
+        was-live slot (losses.live slot parts.0 (flip (has_slot m.lost slot) parts.1)));
     told = λ slot has. elim (since.told slot has) [
       | inr gone ↦ inr (inl gone)
       | inl still ↦ spare-at slot still
@@ -404,6 +409,15 @@ module _ (given : Given) (old m new : Members) (moved : IsMoved given old m) (ac
       flip : (b : Bool) → not b ≡ true → b ≡ false
       flip true e = absurd (cc)
       flip false e = refl
+
+      -- a slot that is live in the update is a spare then, or holds a role; so it was before the flush
+      was-live : (slot : ℕ) → has_slot (live_set m (ending m)) slot ≡ true → (has_spare old.spares slot ≡ true) ⊎ ((role : ℕ) × (holder (role_state (reading_of old) role) ≡ Some slot))
+      was-live slot live = of (list_any (is_held_by slot) m.roles) refl
+          (both (nat_lt slot 32) (is_live m.roles m.spares slot) (sym (live-of m (ending m) refl slot) ∙ live)).1
+        where
+          of : (b : Bool) → list_any (is_held_by slot) m.roles ≡ b → (b || has_spare m.spares slot) ≡ true → (has_spare old.spares slot ≡ true) ⊎ ((role : ℕ) × (holder (role_state (reading_of old) role) ≡ Some slot))
+          of true holds e = let found = any-holds slot m.roles holds in inr (found.0, moved.held found.0 slot found.1)
+          of false holds e = inl (moved.fewer slot e)
 
       spare-at : (slot : ℕ) → has_spare m.spares slot ≡ true → (has_spare new.spares slot ≡ true) ⊎ ((has_slot spares slot ≡ true) ⊎ (has_slot lost slot ≡ true))
       spare-at slot is = of (has_slot new.lost slot) refl
@@ -500,6 +514,8 @@ module _ (given : Given) (old m : Members) (moved : IsMoved given old m) (was : 
     gone = roles-gone spares f0 f1 since;
     spares_are = since.spares_are;
     lost_are = λ slot has. absurd (let clash = sym (none_there slot) ∙ has in cc);
+    were = since.were;
+    lost_were = λ slot has. absurd (let clash = sym (none_there slot) ∙ has in cc);
     told = λ slot has. elim (since.told slot has) [ inl there ↦ inl there | inr gone ↦ inr (inl gone) ];
   }
 

@@ -33,13 +33,16 @@ pub record IsOver (former newest : Sb) : Type 0 where
 -- ---- what was lost
 
 -- Each slot that held a role holds it still, or it has failed and the role is one of these, or it was lost in the end's update, or its role was dropped
--- and it is a spare. Each spare is one still, or was lost in the flush or in the update. Each that is said to be lost has failed.
+-- and it is a spare. Each spare is one still, or was lost in the flush or in the update. Each that is said to be lost has failed; those of the flush were
+-- spares, and those of the update were so or held a role.
 pub record AreLostInEnd (old new : Members) (roles spares lost : ℕ) (before after : ℕ → ℕ) : Type 0 where
   pub held : (role slot : ℕ) → holder (role_state (reading_of old) role) ≡ Some slot → (holder (role_state (reading_of new) role) ≡ Some slot)
       ⊎ (((has_slot roles role ≡ true) × IsFaulted slot before after) ⊎ ((has_slot lost slot ≡ true) ⊎ (((final_shape old.newest).disks ≤ role) × (has_spare new.spares slot ≡ true))))
   pub gone : (role : ℕ) → has_slot roles role ≡ true → (slot : ℕ) × (holder (role_state (reading_of old) role) ≡ Some slot) × IsFaulted slot before after
   pub spares_are : (slot : ℕ) → has_slot spares slot ≡ true → IsFaulted slot before after
   pub lost_are : (slot : ℕ) → has_slot lost slot ≡ true → IsFaulted slot before after
+  pub were : (slot : ℕ) → has_slot spares slot ≡ true → has_spare old.spares slot ≡ true
+  pub lost_were : (slot : ℕ) → has_slot lost slot ≡ true → (has_spare old.spares slot ≡ true) ⊎ ((role : ℕ) × (holder (role_state (reading_of old) role) ≡ Some slot))
   pub told : (slot : ℕ) → has_spare old.spares slot ≡ true → (has_spare new.spares slot ≡ true) ⊎ ((has_slot spares slot ≡ true) ⊎ (has_slot lost slot ≡ true))
 
 -- Behind the flush, where each slot that holds a role was flushed, and the array is as safe as before once these roles are told gone, the end was recorded.

@@ -131,7 +131,7 @@ pub fn begin<B: Bank>(
         → KeepsSafe world (B.given bank.old) told members.new (B.tape bank.old) (B.tape bank.new) }
     ensures safe { result.refusal ≡ None → B.tells → (world : World) → (told more : Ledger) → HasRoomLeft members.old (B.tape bank.old) (B.tape bank.new) → HasLiveSlot members.old
         → IsBackupOf world.scope members.old to.now backup uuid.now → ArePlaced world.scope (B.given bank.old) members.old → IsToldWith told more (begun_plan members.old to.now)
-        → AreGoneTold told members.old → AreGoneTold more members.new → ((number : ℕ) → told.carried number ≡ true → more.carried number ≡ true)
+        → AreGoneTold told members.old → AreGoneTold more members.new → ((slot number : ℕ) → told.carried slot number ≡ true → more.carried slot number ≡ true)
         → IsSafeOver world (B.given bank.old) told members.old (B.tape bank.old)
         → IsSafeChange (OpensFit world) world.scope (B.given bank.old) told more members.new (B.tape bank.old) (B.tape bank.new) }
     ensures counts { NeverFalls (B.faults_of bank.old) (B.faults_of bank.new) }

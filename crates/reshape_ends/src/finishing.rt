@@ -87,7 +87,7 @@ pub fn finish<B: Bank>(members: &mut Members, bank: &mut B) -> Finished
     ensures safe { result.refusal ≡ None → B.tells → (world : World) → (told more : Ledger) → (list : ℕ → Sector) → HasRoomLeft members.old (B.tape bank.old) (B.tape bank.new)
         → ArePlaced world.scope (B.given bank.old) members.old → IsFinishable (OpensFit world) more members.old (present (B.given bank.old) (B.tape bank.old)) list
         → AreGoneTold told members.old → ((role : ℕ) → has_slot result.roles role ≡ true → told.gone role ≡ true) → AreGoneTold more members.new
-        → IsUncleanTold told members.old → IsUncleanTold more members.old → ((number : ℕ) → told.carried number ≡ true → more.carried number ≡ true)
+        → IsUncleanTold told members.old → IsUncleanTold more members.old → ((slot number : ℕ) → told.carried slot number ≡ true → more.carried slot number ≡ true)
         → IsSafeOver world (B.given bank.old) told members.old (B.tape bank.old)
         → IsSafeChange (OpensFit world) world.scope (B.given bank.old) told more members.new (B.tape bank.old) (B.tape bank.new) }
     ensures counts { NeverFalls (B.faults_of bank.old) (B.faults_of bank.new) }

@@ -164,7 +164,7 @@ pub fn begin_update<B: Bank>(members: &mut Members, bank: &mut B, to: &Shape) ->
         → ArePlaced world.scope (B.given bank.old) (planned_view members.old (beginning members.old to.now) members.old.lost)
         → IsCleared world.scope (disk (B.given bank.old).start (B.tape bank.old))
         → IsToldOf world.scope (planned_view members.old (beginning members.old to.now) members.old.lost) (disk (B.given bank.old).start (B.tape bank.old)) told more
-        → AreGoneTold told members.old → AreGoneTold more members.new → ((number : ℕ) → told.carried number ≡ true → more.carried number ≡ true)
+        → AreGoneTold told members.old → AreGoneTold more members.new → ((slot number : ℕ) → told.carried slot number ≡ true → more.carried slot number ≡ true)
         → IsSafeOver world (B.given bank.old) told members.old (B.tape bank.old)
         → IsSafeChange (OpensFit world) world.scope (B.given bank.old) told more members.new (B.tape bank.old) (B.tape bank.new) }
     ensures live { AreLive (B.given bank.new) members.new }

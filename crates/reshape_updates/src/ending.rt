@@ -132,11 +132,11 @@ pub fn end_update<B: Bank>(members: &mut Members, bank: &mut B) -> Lostness
         → IsToldWith told more (planned_view members.old (ending members.old) members.old.lost)
         → (is_backward members.old.newest ≡ true)
         ⊎ IsGrown more members.old (planned_view members.old (ending members.old) members.old.lost) (disk (B.given bank.old).start (B.tape bank.old))
-        → AreGoneTold told members.old → AreGoneTold more members.new → ((number : ℕ) → told.carried number ≡ true → more.carried number ≡ true)
+        → AreGoneTold told members.old → AreGoneTold more members.new → ((slot number : ℕ) → told.carried slot number ≡ true → more.carried slot number ≡ true)
         → IsSafeOver world (B.given bank.old) told members.old (B.tape bank.old)
         → IsSafeChange (OpensFit world) world.scope (B.given bank.old) told more members.new (B.tape bank.old) (B.tape bank.new) }
     ensures flushed { B.tells → (world : World) → (told more : Ledger) → HasRoomLeft members.old (B.tape bank.old) (B.tape bank.new)
-        → AreGoneTold more members.new → ((number : ℕ) → told.carried number ≡ true → more.carried number ≡ true) → (c : Contents) → (list : ℕ → Sector)
+        → AreGoneTold more members.new → ((slot number : ℕ) → told.carried slot number ≡ true → more.carried slot number ≡ true) → (c : Contents) → (list : ℕ → Sector)
         → (IsSteady (OpensFit world) world.scope (B.given bank.old) told members.old (disk (B.given bank.old).start (B.tape bank.old))
         → IsFlushedRight (OpensFit world) world.scope (B.given bank.old) more (planned_view members.old (ending members.old) members.old.lost) c list (disk (B.given bank.old).start (B.tape bank.old)))
         → IsSafeOver world (B.given bank.old) told members.old (B.tape bank.old)

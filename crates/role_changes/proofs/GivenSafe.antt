@@ -317,7 +317,7 @@ module _ (sound : Type 0) (scope : Scope) (given : Given) (told : Ledger) (role 
           reshaping = λ active. old-right.reshaping ((says-shared old Change').reshaping ∙ active);
         }) old-right;
     gone = told-end;
-    carried = λ number is. is;
+    carried = λ slot number is. is;
   }
 
 gives-live : (scope : Scope) (given : Given) (old : Members) (role slot : ℕ) → IsReceiver given old role slot → AreGivesOfLive old (giving old slot role (Some 0))

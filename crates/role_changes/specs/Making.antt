@@ -32,7 +32,7 @@ pub record IsMakable (sound : Type 0) (scope : Scope) (given : Given) (told more
   pub right : IsViewRight sound scope given more (planned_view old change old.lost) d
   pub gone_still : AreGoneTold told (planned_view old (without_gives change) new.lost)
   pub gone : AreGoneTold more (planned_view old change new.lost)
-  pub carried : (number : ℕ) → told.carried number ≡ true → more.carried number ≡ true
+  pub carried : (slot number : ℕ) → told.carried slot number ≡ true → more.carried slot number ≡ true
 
 -- Then it keeps the array safe, whichever slots are lost in it: each image is seen as before it or with the slot still recovering by the one ledger, and with
 -- the slot whole by the other.

@@ -17,7 +17,6 @@ use Rattle.md_base.specs.Shapes.{data_disks, has_slot}
 use Rattle.sb1.specs.declared.sb.Sb.{Sb}
 use Rattle.sb1.specs.Superblock.{superblock_in}
 use Rattle.flat_history.specs.World.{World, opening_list}
-use Rattle.flat_history.specs.Epochs.{OpensAlike}
 use Rattle.flat_history.specs.Opened.{OpensSound}
 use Rattle.flat_history.specs.Growing.{grown}
 use Rattle.running_calls.specs.views_Moving.{Grows}
@@ -52,7 +51,7 @@ use Rattle.running_calls.specs.running_replies_Replies.{RunningFits, MayTellBy}
 use Rattle.running_calls.specs.Turning.{may_be_active, may_be_ahead, IsTellable}
 use Rattle.run_laws.specs.States.{IsGrown, AreGrown, IsNamed, IsWaitingAt, IsCutShort, IsBeside}
 use Rattle.run_laws.proofs.Causes.{faulted-wider, given-wider, create-later, assemble-later}
-use Rattle.run_laws.proofs.Worlds.{list-same, alike-later, sound-later, new-later, stored-later}
+use Rattle.run_laws.proofs.Worlds.{list-same, sound-later, new-later, stored-later}
 
 rest_append : (e : Entry) (xs ys : List Entry) → rest_of_call e xs ≡ [] → rest_of_call e ys ≡ [] → rest_of_call e (xs ++ ys) ≡ []
 rest_append e [] ys nothing after = after
@@ -414,7 +413,6 @@ module _ (was now : Setting) (wider : IsWider was now) (end later : ℕ) (moved 
         ∙ ap (λ (b : Option ℕ). used_slot (scope_of was.given b is.history.given line.uuid) (held_at now later) line.shape.disks) wider.backup
         ∙ ap (λ (c : Contents). used_slot (scope_of was.given was.backup is.history.given line.uuid) c line.shape.disks) (held t) ∙ is.free (wider.told t);
     stored = λ t. subst (λ (w : World). IsStoredNew w (spec_of line)) (sym (world_stays was now wider is.history t)) (new-later (history_world was is.history) (wider.grows.more t).0 (begun_by is.history is.first t) (is.stored (wider.told t)));
-    alike = λ t. subst OpensAlike (sym (world_stays was now wider is.history t)) (alike-later (history_world was is.history) (wider.grows.more t).0 (begun_by is.history is.first t) (is.alike (wider.told t)));
     sound = λ t. subst OpensSound (sym (world_stays was now wider is.history t)) (sound-later (history_world was is.history) (wider.grows.more t).0 (begun_by is.history is.first t) (is.sound (wider.told t)));
   }
   made_wider histories epoch (Read at count) is = is
@@ -493,7 +491,6 @@ made_stays setting olds news grown epoch end (Create line) is =
       zeros = λ t. subst (λ (w : World). OpensWithZeros (data_disks line.shape * line.size) (opening_list w)) same (is.zeros t);
       free = λ t. ap (λ (n : ℕ). used_slot (scope_of setting.given setting.backup n line.uuid) (held_at setting end) line.shape.disks) now.2.given ∙ is.free t;
       stored = λ t. subst (λ (w : World). IsStoredNew w (spec_of line)) same (is.stored t);
-      alike = λ t. subst OpensAlike same (is.alike t);
       sound = λ t. subst OpensSound same (is.sound t);
     }
 made_stays setting olds news grown epoch end (Read at count) is = is

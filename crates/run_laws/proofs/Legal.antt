@@ -33,7 +33,7 @@ use Rattle.run_laws.specs.Histories.{History, history_of, histories_of}
 use Rattle.run_laws.specs.Making.{world_at, AreHeldSince}
 use Rattle.run_laws.specs.States.{running_history}
 use Rattle.run_laws.proofs.Losses.{IsSameOpening, IsHistoryLater, AreHeldOn, world_same, held-later, held-on}
-use Rattle.run_laws.proofs.Worlds.{room-before, alike-before, fills-before, keeps-before, accepted-later, safe-longer, sound-longer}
+use Rattle.run_laws.proofs.Worlds.{room-before, fills-before, keeps-before, accepted-later, safe-longer, sound-longer}
 use Rattle.run_laws.specs.Ended.{IsLegalEpoch, AreLegal, IfReliable, IfShapeKept, IsSafeEpoch, AreSafe, next_mark, AreRising, AreFormer, IsGoing}
 
 ends_later : (a b : ℕ) (entries : List Entry) → a ≤ b → EndBy a entries → EndBy b entries
@@ -45,7 +45,6 @@ pub reliable-before : (world : World) (more : List Operation) (entries : List En
 reliable-before world more entries begun ends was = record {
   fills = filled-before world more entries [] begun ends (subst (λ (l : List Entry). IsFilledRight (grown world more) l) (sym (append-nil entries)) was.fills);
   room = room-before world more begun was.room;
-  alike = alike-before world more begun was.alike;
 }
 
 legal_longer : (given : Given) (tape more : List Operation) (backup : Option ℕ) (epoch : Epoch) → IsLegalEpoch given tape backup epoch → IsLegalEpoch given (tape ++ more) backup epoch

@@ -24,10 +24,10 @@ use Rattle.running_calls.specs.superblocks_Reading.{Reading, is_whole, role_stat
 use Rattle.running_calls.specs.superblocks_Reads.{has_spare}
 use Rattle.running_calls.specs.row_io_Rows.{is_missing}
 use Rattle.running_calls.specs.array_kept_Adopting.{opener, found_loss, absent_loss, absent_losses}
-use Rattle.running_calls.specs.array_kept_Calls.{IsRoleLossBy, IsLossBy, AreLossesBy, AreLossesOf, AreSparesFewer, IsSameArray, IsEntered}
+use Rattle.running_calls.specs.array_kept_Calls.{IsRoleLossBy, IsLossBy, WasSpare, AreLossesBy, AreLossesOf, AreSparesFewer, IsSameArray, IsEntered}
 use Rattle.running_calls.specs.views_Rebuilding.{Held, MayHold}
 use Rattle.running_calls.specs.views_Placed.{AreStillHeld}
-use Rattle.running_calls.specs.running_replies_Going.{may_drop, MayBeDropped, MayHoldBehind, AreHeldBehind, AreLossesAlong}
+use Rattle.running_calls.specs.running_replies_Going.{may_drop, MayBeDropped, MayHoldBehind, WasSpareOrHolder, AreHeldBehind, AreLossesAlong}
 use Rattle.running_calls.specs.views_Moving.{Grows}
 use Rattle.run_laws.specs.Histories.{History}
 use Rattle.run_laws.specs.Making.{Setting, world_at, history_world, HeldAtFirst, MissingAtFirst, SpareAtFirst, is_added, IsSpareSince, MayHaveHeld, AreHeldSince}
@@ -60,7 +60,7 @@ pub later-same : (history : History) → IsHistoryLater history history
 later-same history = record { same = opened-same history; more = []; grown = sym (append-nil history.entries) }
 
 -- so it is behind a call of an array
-pub later-of : {B tells : Type 0} {before after : World} {Had : ℕ → ℕ → Type 0} {f g : ℕ → ℕ} {old new : Parts B} → IsSameArray tells old new before after → AreLossesBy Had f g old.entries new.entries
+pub later-of : {B tells : Type 0} {before after : World} {Had : ℕ → ℕ → Type 0} {Was : ℕ → Type 0} {f g : ℕ → ℕ} {old new : Parts B} → IsSameArray tells old new before after → AreLossesBy Had Was f g old.entries new.entries
     → IsHistoryLater (running_history old) (running_history new)
 later-of same lost = record { same = record { uuid = same.uuid; given = same.given; first = same.first }; more = lost.more; grown = lost.grown }
 
@@ -221,7 +221,7 @@ refusal-wider was now wider refusal failed = tt
 
 loss-wider : (was now : Setting) → IsWider was now → (old new : History) → IsHistoryLater old new → (event : Event) → IsLossSince was old event → IsLossSince now new event
 loss-wider was now wider old new later (Lost role cause) loss = role-wider was now wider old new later role cause loss
-loss-wider was now wider old new later (SpareLost slot) loss = faulted-wider slot wider.early wider.between wider.late loss
+loss-wider was now wider old new later (SpareLost slot) (failed, held) = (faulted-wider slot wider.early wider.between wider.late failed, λ t. let is = held (wider.told t) in (is.0, held-wider was now wider old new later t is.0 slot is.1))
 loss-wider was now wider old new later (Stepped done left None) loss = tt
 loss-wider was now wider old new later (Stepped done left (Some refusal)) loss = refusal-wider was now wider refusal loss
 loss-wider was now wider old new later (Refused refusal) loss = refusal-wider was now wider refusal loss
@@ -264,7 +264,7 @@ role-later setting history before more role Recovering missing = missing
 
 loss-later : (setting : Setting) (history : History) (before more : List Entry) (event : Event) → IsLossSince setting (with_entries before history) event → IsLossSince setting (with_entries (before ++ more) history) event
 loss-later setting history before more (Lost role cause) loss = role-later setting history before more role cause loss
-loss-later setting history before more (SpareLost slot) loss = loss
+loss-later setting history before more (SpareLost slot) (failed, held) = (failed, λ t. let is = held t in (is.0, held-more (history_world setting history) before more is.0 slot is.1))
 loss-later setting history before more (Stepped done left ended) loss = loss
 loss-later setting history before more (Refused refusal) loss = loss
 loss-later setting history before more event loss = tt
@@ -290,31 +290,32 @@ behind-append setting history before (x ∷ xs) ys (first, one) two = (
 
 -- ---- one history
 
-module _ (setting : Setting) (old : List Entry) (history : History) (Had : ℕ → ℕ → Type 0) (since : setting.tells → (role slot : ℕ) → Had role slot → MayHaveHeld (history_world setting history) old role slot) where
+module _ (setting : Setting) (old : List Entry) (history : History) (Had : ℕ → ℕ → Type 0) (Was : ℕ → Type 0) (since : setting.tells → (role slot : ℕ) → Had role slot → MayHaveHeld (history_world setting history) old role slot)
+    (was : setting.tells → (slot : ℕ) → Was slot → (role : ℕ) × MayHaveHeld (history_world setting history) old role slot) where
   role-since : (role : ℕ) (cause : LostCause) → IsRoleLossBy Had setting.before setting.now role cause → IsRoleLossSince setting (with_entries old history) role cause
   role-since role Fault (slot, had, failed) = (slot, failed, λ t. since t role slot had)
   role-since role Command (slot, had) = λ t. (slot, since t role slot had)
   role-since role Absent loss = absurd loss
   role-since role Recovering loss = absurd loss
 
-  pub loss-since : (event : Event) → IsLossBy Had setting.before setting.now event → IsRefusalTold setting event → IsLossSince setting (with_entries old history) event
+  pub loss-since : (event : Event) → IsLossBy Had Was setting.before setting.now event → IsRefusalTold setting event → IsLossSince setting (with_entries old history) event
   loss-since (Lost role cause) loss told = role-since role cause loss
-  loss-since (SpareLost slot) failed told = failed
+  loss-since (SpareLost slot) (spare, failed) told = (failed, λ t. was t slot spare)
   loss-since (Stepped done left ended) loss told = told
   loss-since (Refused refusal) loss told = told
   loss-since event loss told = tt
 
-  losses-since : AreLossesBy Had setting.before setting.now old history.entries → HasTold setting old history.entries → AreLossesSince setting old history
-  losses-since was told = record {
-    more = was.more;
-    grown = was.grown;
-    failed = behind-start setting history old was.more (λ k d lt. loss-since (slice_index_or was.more k d).event (was.failed k d lt) (told_more setting told was.more was.grown k d lt));
+  losses-since : AreLossesBy Had Was setting.before setting.now old history.entries → HasTold setting old history.entries → AreLossesSince setting old history
+  losses-since lost told = record {
+    more = lost.more;
+    grown = lost.grown;
+    failed = behind-start setting history old lost.more (λ k d lt. loss-since (slice_index_or lost.more k d).event (lost.failed k d lt) (told_more setting told lost.more lost.grown k d lt));
   }
 
 -- the losses of a call of an array, by which roles are only lost
 pub losses-of : {members : Members} {old : List Entry} (setting : Setting) (new : History) → (setting.tells → AreHeldSince (history_world setting new) old members) → AreLossesOf members setting.before setting.now old new.entries
     → HasTold setting old new.entries → AreLossesSince setting old new
-losses-of {members = members} {old = old} setting new since was told = losses-since setting old new (Held members) (λ t role slot had. (since t).roles role slot had) was told
+losses-of {members = members} {old = old} setting new since was told = losses-since setting old new (Held members) (WasSpare members) (λ t role slot had. (since t).roles role slot had) (λ t slot spare. (0, inr ((since t).spares slot spare))) was told
 
 -- the losses of steps, by what may have held the role behind the entries before
 module _ (setting : Setting) (old : List Entry) (history : History) (members : Members) (since : setting.tells → AreHeldSince (history_world setting history) old members) where
@@ -326,10 +327,15 @@ module _ (setting : Setting) (old : List Entry) (history : History) (members : M
       of (inl first) = inr (inr (inr (told-behind (λ e. may_drop e.event) old done finished, had, first)))
       of (inr spare) = inr spare
 
+  along-was : (done : List Entry) (slot : ℕ) → setting.tells → WasSpareOrHolder members slot → (role : ℕ) × MayHaveHeld (history_world setting history) (old ++ done) role slot
+  along-was done slot t (inl spare) = (0, along-held done 0 slot t (inl (inr spare)))
+  along-was done slot t (inr (role, had)) = (role, along-held done role slot t (inl (inl had)))
+
   losses-behind : (done more : List Entry) → AreLossesAlong members setting.before setting.now done more → All (λ e. IsRefusalTold setting e.event) more → AreLossesBehind setting history (old ++ done) more
   losses-behind done [] was told = tt
   losses-behind done (e ∷ more) (one, was) told = (
-    loss-since setting (old ++ done) history (MayHoldBehind members done) (λ t role slot had. along-held done role slot t had) e.event one (All-head (λ e. IsRefusalTold setting e.event) e more told),
+    loss-since setting (old ++ done) history (MayHoldBehind members done) (WasSpareOrHolder members) (λ t role slot had. along-held done role slot t had)
+    (λ t slot was. along-was done slot t was) e.event one (All-head (λ e. IsRefusalTold setting e.event) e more told),
     subst (λ (l : List Entry). AreLossesBehind setting history l more) (sym (append_assoc old done (e ∷ [])))
         (losses-behind (done ++ e ∷ []) more was (All-tail (λ e. IsRefusalTold setting e.event) e more told)),
   )

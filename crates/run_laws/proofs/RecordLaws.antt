@@ -20,7 +20,7 @@ use Rattle.flat_history.specs.declared.events.Request.TheVariants.{Steps as Asks
 use Rattle.flat_history.specs.Flat.{length_of}
 use Rattle.flat_history.specs.Reshaped.{is_planned}
 use Rattle.running_calls.specs.views_Lacking.{HaveRolesFailed}
-use Rattle.running_calls.specs.Going.{MayHoldSince, AreLossesSince}
+use Rattle.running_calls.specs.Going.{MayHoldSince, WasMemberSince, AreLossesSince}
 use Rattle.running_calls.specs.array_kept_Calls.{IsLossBy}
 use Rattle.running_calls.specs.running_Calls.{running_left}
 use Rattle.running_calls.specs.running_replies_Going.{is_begin, AreHeldBehind, HasNoReshape, HasRunOn}
@@ -189,16 +189,16 @@ module _ (first before now last : ℕ → ℕ) (early : NeverFalls first before)
   left-wider old new line event is = less-wider old new is
 
   -- what a block leaves
-  loss-wider : (Had : ℕ → ℕ → Type 0) (event : Event) → IsLossBy Had before now event → IsLossBy Had first last event
-  loss-wider Had (Lost role ByFault) (slot, had, failed) = (slot, had, faulted-wider slot early between late failed)
-  loss-wider Had (Lost role Command) is = is
-  loss-wider Had (Lost role cause) is = absurd is
-  loss-wider Had (SpareLost slot) failed = faulted-wider slot early between late failed
-  loss-wider Had event is = tt
+  loss-wider : (Had : ℕ → ℕ → Type 0) (Was : ℕ → Type 0) (event : Event) → IsLossBy Had Was before now event → IsLossBy Had Was first last event
+  loss-wider Had Was (Lost role ByFault) (slot, had, failed) = (slot, had, faulted-wider slot early between late failed)
+  loss-wider Had Was (Lost role Command) is = is
+  loss-wider Had Was (Lost role cause) is = absurd is
+  loss-wider Had Was (SpareLost slot) (was, failed) = (was, faulted-wider slot early between late failed)
+  loss-wider Had Was event is = tt
 
   losses-wider : (members : Members) (done more : List Entry) → AreLossesSince members before now done more → AreLossesSince members first last done more
   losses-wider members done [] was = tt
-  losses-wider members done (e ∷ more) (loss, was) = (loss-wider (MayHoldSince members done) e.event loss, losses-wider members (done ++ e ∷ []) more was)
+  losses-wider members done (e ∷ more) (loss, was) = (loss-wider (MayHoldSince members done) (WasMemberSince members done) e.event loss, losses-wider members (done ++ e ∷ []) more was)
 
   block-wider : (old new : Record) → IsLeftByBlock before now old new → IsLeftByBlock first last old new
   block-wider old new was = record {

@@ -21,7 +21,6 @@ use Rattle.running_calls.specs.region_mends_Left.{resync_left}
 use Rattle.running_calls.specs.reshape_openings_Finding.{window_for}
 use Rattle.running_calls.specs.array_kept_Adopting.{found_work}
 use Rattle.running_calls.specs.views_Status.{left_of}
-use Rattle.running_calls.specs.superblocks_Found.{AreLikeNewest}
 use Rattle.md_base.specs.declared.status.Status.{Status}
 use Rattle.flat_history.specs.declared.events.Entry.{Entry}
 use Rattle.flat_history.specs.declared.events.Event.{Event}
@@ -31,7 +30,7 @@ use Rattle.flat_history.specs.Flat.{last_of}
 use Rattle.flat_history.specs.Transfers.{last_end_from}
 use Rattle.flat_history.specs.Legal.{last_end}
 use Rattle.flat_history.specs.CrashSafe.{IsSafeAt, IsSafeFor, IsCrashSafe, made_by}
-use Rattle.flat_history.specs.Epochs.{HasRoomForEvents, OpensAlike}
+use Rattle.flat_history.specs.Epochs.{HasRoomForEvents}
 use Rattle.flat_history.specs.Opened.{IsSound, OpensSound}
 use Rattle.flat_history.specs.Reopened.{OpensAccepted}
 use Rattle.flat_history.specs.Sound.{FillsRight, LeavesSound, StaysSound}
@@ -57,20 +56,10 @@ module _ (world : World) (more : List Operation) (begun : world.first ≤ length
   unfolding opening_list
   list-same = ap (stands world.scope) first-same
 
-  pub alike-later : OpensAlike world → OpensAlike (grown world more)
-  alike-later was =
-      subst (λ (o : Option Reading). IfSome o (λ r. AreLikeNewest world.scope r.newest (contents_at (grown world more) world.first))) (sym reading-same)
-      (subst (λ (c : Contents). IfSome (reading_at world world.first) (λ r. AreLikeNewest world.scope r.newest c)) (sym first-same) was)
-
   pub sound-later : OpensSound world → OpensSound (grown world more)
   sound-later was =
       subst (λ (o : Option Reading). IfSome o (IsSound world.scope (contents_at (grown world more) world.first))) (sym reading-same)
       (subst (λ (c : Contents). IfSome (reading_at world world.first) (IsSound world.scope c)) (sym first-same) was)
-
-  pub alike-before : OpensAlike (grown world more) → OpensAlike world
-  alike-before was =
-      subst (λ (c : Contents). IfSome (reading_at world world.first) (λ r. AreLikeNewest world.scope r.newest c)) first-same
-      (subst (λ (o : Option Reading). IfSome o (λ r. AreLikeNewest world.scope r.newest (contents_at (grown world more) world.first))) reading-same was)
 
   -- a longer tape leaves less room
   pub room-before : HasRoomForEvents (grown world more) → HasRoomForEvents world

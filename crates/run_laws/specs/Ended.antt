@@ -4,7 +4,7 @@ use Rattle.std.specs.List.{All}
 use Rattle.bank.specs.Given.{Given}
 use Rattle.bank.specs.declared.bank.Operation.{Operation}
 use Rattle.flat_history.specs.declared.events.Epoch.{Epoch}
-use Rattle.flat_history.specs.Epochs.{world_of, IsEpochRight, HasRoomForEvents, OpensAlike}
+use Rattle.flat_history.specs.Epochs.{world_of, IsEpochRight, HasRoomForEvents}
 use Rattle.flat_history.specs.Legal.{IsLegal}
 use Rattle.flat_history.specs.CrashSafe.{IsCrashSafe}
 use Rattle.flat_history.specs.Growing.{EndBy}
@@ -24,7 +24,7 @@ use Rattle.run_laws.specs.Making.{world_at, AreHeldSince}
 use Rattle.run_laws.specs.States.{running_history}
 
 -- A fact of an epoch whose history can be relied on: it opened sound, or takes no role's holder away, takes no level over and opened with no reshape but one on its course, so that what is filled in for a
--- missing role is right; it had room for its events, and it opened with superblocks that are alike.
+-- missing role is right; and it had room for its events.
 abbrev pub IfReliable : Given → List Operation → Option ℕ → Epoch → Type 0 → Type 0
 IfReliable given tape backup epoch fact = IsReliable (world_of given tape backup epoch) epoch.entries.items → fact
 
@@ -33,11 +33,10 @@ abbrev pub IfShapeKept : Given → List Operation → Option ℕ → Epoch → T
 IfShapeKept given tape backup epoch fact = KeepsShape (world_of given tape backup epoch) epoch.entries.items → fact
 
 -- A fact of an epoch in which no role is told lost, or which opened sound, so that what is filled in for a missing role is right, and which
--- had room for its events and opened with superblocks that are alike.
+-- had room for its events.
 abbrev pub IfFilledRight : Given → List Operation → Option ℕ → Epoch → Type 0 → Type 0
 IfFilledRight given tape backup epoch fact =
-    FillsRight (world_of given tape backup epoch) epoch.entries.items → HasRoomForEvents (world_of given tape backup epoch)
-    → OpensAlike (world_of given tape backup epoch) → fact
+    FillsRight (world_of given tape backup epoch) epoch.entries.items → HasRoomForEvents (world_of given tape backup epoch) → fact
 
 -- The epoch begins, and each of its entries ends, within the tape, and what its opening found was refused for nothing. Where its history can be relied
 -- on, it is legal, and if it opened sound, each reshape of it ends right. Where the array kept its shape, its history is legal as one of one shape, if no role is

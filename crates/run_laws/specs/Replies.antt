@@ -15,7 +15,6 @@ use Rattle.flat_history.specs.Flat.{rest_of_call, number_after, length_of}
 use Rattle.flat_history.specs.Fits.{FitsStop, FitsHalt}
 use Rattle.running_calls.specs.running_replies_Replies.{RunningFits}
 use Rattle.flat_history.specs.World.{opening_list}
-use Rattle.flat_history.specs.Epochs.{OpensAlike}
 use Rattle.flat_history.specs.Opened.{OpensSound}
 use Rattle.running_calls.specs.assemble_Creating.{create_refusal}
 use Rattle.running_calls.specs.assemble_Opening.{AreGiven, array_of, scope_of}
@@ -179,8 +178,8 @@ pub record IsAnsweredInside (histories : List History) (course : Course) (epoch 
   pub tellable : IsTellable history.entries place
 
 -- The next history is that of an array that was made as the line asks: nothing spoke against it, it has the uuid, all slots are given,
--- and it begins where the reply was made; there its list is zero, it is sound, its superblocks are alike and say what was asked for, and
--- no slot behind them holds the array.
+-- and it begins where the reply was made; there its list is zero, it is sound, its superblocks say what was asked for, and no slot
+-- behind them holds the array.
 pub record IsMadeAt (setting : Setting) (histories : List History) (epoch end : ℕ) (line : CreateLine) : Type 0 where
   pub unrefused : create_refusal setting.given setting.backup (spec_of line) ≡ None
   pub history : History
@@ -191,7 +190,6 @@ pub record IsMadeAt (setting : Setting) (histories : List History) (epoch end : 
   pub zeros : setting.tells → OpensWithZeros (data_disks line.shape * line.size) (opening_list (history_world setting history))
   pub free : setting.tells → used_slot (scope_of setting.given setting.backup history.given line.uuid) (held_at setting end) line.shape.disks ≡ None
   pub stored : setting.tells → IsStoredNew (history_world setting history) (spec_of line)
-  pub alike : setting.tells → OpensAlike (history_world setting history)
   pub sound : setting.tells → OpensSound (history_world setting history)
 
 abbrev pub IsMadeBy : Setting → List History → ℕ → ℕ → Line → Type 0

@@ -140,11 +140,12 @@ IsRoleLossSince setting history role Recovering = setting.tells → MissingAtFir
 abbrev pub IsRefusalSince : Setting → Refusal → Type 0
 IsRefusalSince setting refusal = IsRefusalBy setting.backup setting.before setting.now refusal
 
--- An event that tells a loss or a refusal has its cause, also where the refusal ended some steps; a spare is told lost only where it has
--- failed since.
+-- An event that tells a loss or a refusal has its cause, also where the refusal ended some steps; a slot is told lost as a spare only where it has
+-- failed since, and held a role at the opening, or was a spare there or since.
 abbrev pub IsLossSince : Setting → History → Event → Type 0
 IsLossSince setting history (Lost role cause) = IsRoleLossSince setting history role cause
 IsLossSince setting history (SpareLost slot) = IsFaulted slot setting.before setting.now
+    × (setting.tells → (role : ℕ) × MayHaveHeld (history_world setting history) history.entries role slot)
 IsLossSince setting history (Stepped done left ended) = IfSome ended (IsRefusalSince setting)
 IsLossSince setting history (Refused refusal) = IsRefusalSince setting refusal
 IsLossSince setting history event = ⊤

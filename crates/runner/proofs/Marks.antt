@@ -145,9 +145,9 @@ right_epoch given tape backup epoch legal safe begun within = record {
     sound = λ opens mark low high only. (safe relied).1 opens mark low (omega (arith, high, within)) only;
     reshaped = legal.reshaped relied;
   };
-  plain = λ keeps fills room alike.
+  plain = λ keeps fills room.
       let world = world_of given tape backup epoch in
-      let relied : IsReliable world epoch.entries.items = record { fills = kept-fills world epoch.entries.items keeps fills; room = room; alike = alike } in
+      let relied : IsReliable world epoch.entries.items = record { fills = kept-fills world epoch.entries.items keeps fills; room = room } in
       let right = one_shape-legal world (opening_in world) epoch.entries.items (found-in world) ((legal.plain keeps).legal fills) in
       record {
         begins = begun;

@@ -43,10 +43,10 @@ one_kept : (given : Given) (tape : List Operation) (backup : Option ℕ) (former
     → former.first ≤ next.first → EndBy next.first former.entries.items → next.first ≤ length tape → IsListKept given tape backup former next
 one_kept given tape backup former next legal opened safe later made within = record {
   relied = λ relied kept again. settled-found-later (world_of given tape backup former) (world_of given tape backup next) former.entries.items (length tape) kept (safe relied).0 within (later_found again) opened.accepted again.settled;
-  plain = λ keeps fills room alike again.
+  plain = λ keeps fills room again.
       settled-found (world_of given tape backup former) (world_of given tape backup next) former.entries.items (length tape)
       (entries_keep (opening_in (world_of given tape backup former)) (length tape) [] former.entries.items ((legal.plain keeps).legal fills))
-      (safe (record { fills = kept-fills (world_of given tape backup former) former.entries.items keeps fills; room = room; alike = alike })).0 within (later_found again) opened.accepted again.settled;
+      (safe (record { fills = kept-fills (world_of given tape backup former) former.entries.items keeps fills; room = room })).0 within (later_found again) opened.accepted again.settled;
 }
   where
     later_found : IsFoundAgain given tape backup former next → IsFoundLater (world_of given tape backup former) former.entries.items (world_of given tape backup next)
@@ -54,8 +54,8 @@ one_kept given tape backup former next legal opened safe later made within = rec
 
 sound_kept : (given : Given) (tape : List Operation) (backup : Option ℕ) (former next : Epoch) → IsLegalEpoch given tape backup next → IsSafeEpoch given tape backup former
     → former.first ≤ next.first → EndBy next.first former.entries.items → next.first ≤ length tape → IsSoundKept given tape backup former next
-sound_kept given tape backup former next opened safe later made within fit room alike again =
-    let kept = safe (record { fills = inr fit; room = room; alike = alike }) in
+sound_kept given tape backup former next opened safe later made within fit room again =
+    let kept = safe (record { fills = inr fit; room = room }) in
     sound-found-later (world_of given tape backup former) (world_of given tape backup next) former.entries.items (length tape) fit kept.0 kept.1 within
     (record { start = refl; tape = refl; array = again.array; later = later; within = within; made = made; flushes = again.flushes }) opened.accepted
 

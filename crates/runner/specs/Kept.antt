@@ -4,7 +4,7 @@ use Rattle.bank.specs.Given.{Given}
 use Rattle.bank.specs.Tape.{contents, OnlyFlushesBetween}
 use Rattle.bank.specs.declared.bank.Operation.{Operation}
 use Rattle.flat_history.specs.declared.events.Epoch.{Epoch}
-use Rattle.flat_history.specs.Epochs.{world_of, HasRoomForEvents, OpensAlike}
+use Rattle.flat_history.specs.Epochs.{world_of, HasRoomForEvents}
 use Rattle.flat_history.specs.Opened.{OpensSound}
 use Rattle.flat_history.specs.Reopened.{EndsSettled, OpensWith, IsSameArray}
 use Rattle.flat_history.specs.Sound.{OpensFit}
@@ -35,11 +35,11 @@ pub record IsListKept (given : Given) (tape : List Operation) (backup : Option �
   pub relied : IfReliable given tape backup former (IsLengthKept (world_of given tape backup former) former.entries.items → OpensAsLeft given tape backup former next)
   pub plain : IfShapeKept given tape backup former (IfFilledRight given tape backup former (OpensAsLeft given tape backup former next))
 
--- Where the former epoch opened fit, with room for its events and superblocks that are alike, and is opened again, perhaps in fewer slots, the
+-- Where the former epoch opened fit, with room for its events, and is opened again, perhaps in fewer slots, the
 -- next one opens sound, however the former ended.
 abbrev pub IsSoundKept : Given → List Operation → Option ℕ → Epoch → Epoch → Type 0
 IsSoundKept given tape backup former next =
-    OpensFit (world_of given tape backup former) → HasRoomForEvents (world_of given tape backup former) → OpensAlike (world_of given tape backup former)
+    OpensFit (world_of given tape backup former) → HasRoomForEvents (world_of given tape backup former)
     → IsOpenedAgain given tape backup former next → OpensSound (world_of given tape backup next)
 
 -- so it is of each epoch and the next one

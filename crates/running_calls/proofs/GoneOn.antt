@@ -28,7 +28,7 @@ use Rattle.call_entries.proofs.PlainLaws.{one}
 use Rattle.openings.specs.views_Moving.{Grows}
 use Rattle.openings.specs.views_Placed.{AreStillHeld}
 use Rattle.openings.specs.views_Rebuilding.{Held}
-use Rattle.openings.specs.array_kept_Calls.{AreSparesFewer, AreLossesBy, IsAddedFor, IsEntered}
+use Rattle.openings.specs.array_kept_Calls.{AreSparesFewer, WasSpare, AreLossesBy, IsAddedFor, IsEntered}
 use Rattle.openings.specs.grow_asked_the_PhasesLeft.{PhasesLeft}
 use Rattle.openings.specs.grow_asked_Left.{phases_of}
 use Rattle.openings.specs.running_words_Parts.{RunningParts}
@@ -129,7 +129,7 @@ module _ {B : Type 0} (tells : Type 0) (given : B → Given) (tape : B → List 
   pub record IsPlainCall : Type 0 where
     pub long : list_length new.parts.members.newest ≡ list_length old.parts.members.newest
     pub held : AreStillHeld old.parts.members new.parts.members
-    pub losses : AreLossesBy (Held old.parts.members) (faults old.parts.bank) (faults new.parts.bank) old.parts.entries new.parts.entries
+    pub losses : AreLossesBy (Held old.parts.members) (WasSpare old.parts.members) (faults old.parts.bank) (faults new.parts.bank) old.parts.entries new.parts.entries
     pub grows : Grows tells (tape old.parts.bank) (tape new.parts.bank)
     pub never_falls : NeverFalls (faults old.parts.bank) (faults new.parts.bank)
     pub given_is : given new.parts.bank ≡ given old.parts.bank

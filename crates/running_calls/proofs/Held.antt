@@ -16,9 +16,9 @@ use Rattle.flat_history.specs.declared.events.LostCause.{LostCause}
 use Rattle.flat_history.specs.declared.events.LostCause.TheVariants.{Absent, Recovering, Command, Fault}
 use Rattle.openings.specs.views_Placed.{AreStillHeld}
 use Rattle.openings.specs.views_Rebuilding.{Held}
-use Rattle.openings.specs.array_kept_Calls.{IsRoleLossBy, IsLossBy, AreLossesBy}
-use Rattle.openings.specs.running_replies_Going.{may_drop, MayBeDropped, MayHoldBehind, AreHeldBehind, AreLossesAlong}
-use Rattle.running_calls.specs.Going.{is_added, MayBeNewSpare, MayHoldSince, AreHeldSince, AreLossesSince}
+use Rattle.openings.specs.array_kept_Calls.{IsRoleLossBy, IsLossBy, WasSpare, AreLossesBy}
+use Rattle.openings.specs.running_replies_Going.{may_drop, MayBeDropped, MayHoldBehind, WasSpareOrHolder, AreHeldBehind, AreLossesAlong}
+use Rattle.running_calls.specs.Going.{is_added, MayBeNewSpare, MayHoldSince, WasMemberSince, AreHeldSince, AreLossesSince}
 
 -- ---- some entry is of a kind, in one list or in the other
 
@@ -91,23 +91,42 @@ module _ (old mid : Members) (one : List Entry) (held : AreHeldSince old mid one
 -- ---- the losses of more calls
 
 -- by more slots, by counts that rise later, and that rose before
-module _ {first before now last : ℕ → ℕ} (early : NeverFalls first before) (between : NeverFalls before now) (late : NeverFalls now last) (Had More : ℕ → ℕ → Type 0) (more : (role slot : ℕ) → Had role slot → More role slot) where
+module _ {first before now last : ℕ → ℕ} (early : NeverFalls first before) (between : NeverFalls before now) (late : NeverFalls now last) (Had More : ℕ → ℕ → Type 0) (Was Were : ℕ → Type 0) (more : (role slot : ℕ) → Had role slot → More role slot)
+    (wider : (slot : ℕ) → Was slot → Were slot) where
   role-wider : (role : ℕ) (cause : LostCause) → IsRoleLossBy Had before now role cause → IsRoleLossBy More first last role cause
   role-wider role Fault (slot, had, failed) = (slot, more role slot had, faulted_longer slot first before now last (early slot) (late slot) (between slot) failed)
   role-wider role Command (slot, had) = (slot, more role slot had)
   role-wider role Absent loss = absurd loss
   role-wider role Recovering loss = absurd loss
 
-  loss-wider : (event : Event) → IsLossBy Had before now event → IsLossBy More first last event
+  loss-wider : (event : Event) → IsLossBy Had Was before now event → IsLossBy More Were first last event
   loss-wider (Lost role cause) loss = role-wider role cause loss
-  loss-wider (SpareLost slot) failed = faulted_longer slot first before now last (early slot) (late slot) (between slot) failed
+  loss-wider (SpareLost slot) (was, failed) = (wider slot was, faulted_longer slot first before now last (early slot) (late slot) (between slot) failed)
   loss-wider event loss = tt
 
 module _ (old mid : Members) (first before now : ℕ → ℕ) (one : List Entry) (held : AreHeldSince old mid one) (early : NeverFalls first before) (late : NeverFalls before now) where
+  -- who was a spare then, or had a role, or was added later, was so before, or was added since
+  was-before : (done : List Entry) (slot : ℕ) → WasMemberSince mid done slot → WasMemberSince old (one ++ done) slot
+  was-before done slot (inl (inl spare)) = of (held.spares slot spare)
+    where
+      of : (has_spare old.spares slot ≡ true) ⊎ MayBeNewSpare old one slot → WasMemberSince old (one ++ done) slot
+      of (inl was) = inl (inl was)
+      of (inr (inl added)) = inr (any-left (is_added slot) one done added)
+      of (inr (inr (dropped, role, had))) = inl (inr (role, had))
+  was-before done slot (inl (inr (role, had))) = of (held.roles role slot had)
+    where
+      of : MayHoldSince old one role slot → WasMemberSince old (one ++ done) slot
+      of (inl (inl was)) = inl (inr (role, was))
+      of (inl (inr spare)) = inl (inl spare)
+      of (inr (inl added)) = inr (any-left (is_added slot) one done added)
+      of (inr (inr (dropped, other, was))) = inl (inr (other, was))
+  was-before done slot (inr added) = inr (any-right (is_added slot) one done added)
+
   pub losses-later : (done more : List Entry) → AreLossesSince mid before now done more → AreLossesSince old first now (one ++ done) more
   losses-later done [] was = tt
   losses-later done (e ∷ more) (loss, was) = (
-    loss-wider early late (λ s. omega arith) (MayHoldSince mid done) (MayHoldSince old (one ++ done)) (λ role slot had. may-then old mid one held done role slot had) e.event loss,
+    loss-wider early late (λ s. omega arith) (MayHoldSince mid done) (MayHoldSince old (one ++ done)) (WasMemberSince mid done) (WasMemberSince old (one ++ done))
+    (λ role slot had. may-then old mid one held done role slot had) (was-before done) e.event loss,
     subst (λ (l : List Entry). AreLossesSince old first now l more) (sym (append_assoc one done (e ∷ []))) (losses-later (done ++ e ∷ []) more was),
   )
 
@@ -121,7 +140,7 @@ since-append members before now done (x ∷ xs) ys (loss, one) two = (
 pub since-wider : (members : Members) (before now last : ℕ → ℕ) (done xs : List Entry) → NeverFalls before now → NeverFalls now last → AreLossesSince members before now done xs → AreLossesSince members before last done xs
 since-wider members before now last done [] rises late was = tt
 since-wider members before now last done (x ∷ xs) rises late (loss, was) = (
-  loss-wider (λ s. omega arith) rises late (MayHoldSince members done) (MayHoldSince members done) (λ role slot had. had) x.event loss,
+  loss-wider (λ s. omega arith) rises late (MayHoldSince members done) (MayHoldSince members done) (WasMemberSince members done) (WasMemberSince members done) (λ role slot had. had) (λ slot was. was) x.event loss,
   since-wider members before now last (done ++ x ∷ []) xs rises late was,
 )
 
@@ -141,7 +160,8 @@ held-behind old new entries was = record { roles = λ role slot has. may-behind 
 pub losses-behind : (members : Members) (before now : ℕ → ℕ) (done xs : List Entry) → NeverFalls before now → AreLossesAlong members before now done xs → AreLossesSince members before now done xs
 losses-behind members before now done [] rises was = tt
 losses-behind members before now done (x ∷ xs) rises (loss, was) = (
-  loss-wider (λ s. omega arith) rises (λ s. omega arith) (MayHoldBehind members done) (MayHoldSince members done) (λ role slot had. may-behind members done role slot had) x.event loss,
+  loss-wider (λ s. omega arith) rises (λ s. omega arith) (MayHoldBehind members done) (MayHoldSince members done) (WasSpareOrHolder members) (WasMemberSince members done)
+  (λ role slot had. may-behind members done role slot had) (λ slot was. inl was) x.event loss,
   losses-behind members before now (done ++ x ∷ []) xs rises was,
 )
 
@@ -155,16 +175,16 @@ held-kept old new entries held spares = record { roles = λ role slot has. inl (
     of slot (inl spare) = inl spare
     of slot (inr added) = inr (inl added)
 
-each-loss : (members : Members) (before now : ℕ → ℕ) (rises : NeverFalls before now) (done xs : List Entry) → All (λ e. IsLossBy (Held members) before now e.event) xs → AreLossesSince members before now done xs
+each-loss : (members : Members) (before now : ℕ → ℕ) (rises : NeverFalls before now) (done xs : List Entry) → All (λ e. IsLossBy (Held members) (WasSpare members) before now e.event) xs → AreLossesSince members before now done xs
 each-loss members before now rises done [] all = tt
 each-loss members before now rises done (x ∷ xs) all = (
-  loss-wider (λ s. omega arith) rises (λ s. omega arith) (Held members) (MayHoldSince members done) (λ role slot had. inl (inl had)) x.event (All-head (λ e. IsLossBy (Held members) before now e.event) x xs all),
-  each-loss members before now rises (done ++ x ∷ []) xs (All-tail (λ e. IsLossBy (Held members) before now e.event) x xs all),
+  loss-wider (λ s. omega arith) rises (λ s. omega arith) (Held members) (MayHoldSince members done) (WasSpare members) (WasMemberSince members done) (λ role slot had. inl (inl had)) (λ slot was. inl (inl was)) x.event (All-head (λ e. IsLossBy (Held members) (WasSpare members) before now e.event) x xs all),
+  each-loss members before now rises (done ++ x ∷ []) xs (All-tail (λ e. IsLossBy (Held members) (WasSpare members) before now e.event) x xs all),
 )
 
 -- those of a call that entered these entries
-pub losses-of : (members : Members) (before now : ℕ → ℕ) (old new more : List Entry) → NeverFalls before now → new ≡ old ++ more → AreLossesBy (Held members) before now old new → AreLossesSince members before now [] more
+pub losses-of : (members : Members) (before now : ℕ → ℕ) (old new more : List Entry) → NeverFalls before now → new ≡ old ++ more → AreLossesBy (Held members) (WasSpare members) before now old new → AreLossesSince members before now [] more
 losses-of members before now old new more rises is was =
     each-loss members before now rises [] more
-    (subst (λ (l : List Entry). All (λ e. IsLossBy (Held members) before now e.event) l)
+    (subst (λ (l : List Entry). All (λ e. IsLossBy (Held members) (WasSpare members) before now e.event) l)
     (sym (drop-append_seam old was.more) ∙ ap (λ (l : List Entry). drop (length old) l) (sym was.grown ∙ is) ∙ drop-append_seam old more) was.failed)

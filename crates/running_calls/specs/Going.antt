@@ -18,7 +18,7 @@ use Rattle.openings.specs.grow_asked_Left.{phases_of}
 use Rattle.openings.specs.running_words_Parts.{RunningParts}
 use Rattle.openings.specs.running_words_Plans.{aim_of}
 use Rattle.openings.specs.running_replies_Replies.{HasToldBy}
-use Rattle.openings.specs.running_replies_Going.{is_begin, MayBeDropped, IsSameEpoch}
+use Rattle.openings.specs.running_replies_Going.{is_begin, MayBeDropped, WasSpareOrHolder, IsSameEpoch}
 use Rattle.openings.specs.running_steps_Steps.{is_turn, IsUnturned}
 
 -- the event tells that the slot was made a spare
@@ -39,10 +39,14 @@ pub record AreHeldSince (old new : Members) (entries : List Entry) : Type 0 wher
   pub roles : (role slot : ℕ) → Held new role slot → MayHoldSince old entries role slot
   pub spares : (slot : ℕ) → has_spare new.spares slot ≡ true → (has_spare old.spares slot ≡ true) ⊎ MayBeNewSpare old entries slot
 
--- each loss has its cause, by what may have held its role behind the entries before it
+-- the slot was a spare, or had a role, or it was added since
+abbrev pub WasMemberSince : Members → List Entry → ℕ → Type 0
+WasMemberSince members entries slot = WasSpareOrHolder members slot ⊎ IsTrue (list_any (λ e. is_added slot e.event) entries)
+
+-- Each loss has its cause, by what may have held its role behind the entries before it, and by what may have been a spare.
 abbrev pub AreLossesSince : Members → (ℕ → ℕ) → (ℕ → ℕ) → List Entry → List Entry → Type 0
 AreLossesSince members before now done [] = ⊤
-AreLossesSince members before now done (e ∷ entries) = IsLossBy (MayHoldSince members done) before now e.event × AreLossesSince members before now (done ++ e ∷ []) entries
+AreLossesSince members before now done (e ∷ entries) = IsLossBy (MayHoldSince members done) (WasMemberSince members done) before now e.event × AreLossesSince members before now (done ++ e ∷ []) entries
 
 -- An array goes its way: it keeps its size; where these entries tell no plan, it goes to the shape that it went to; and as long as they tell no begin, no end of a reshape and no takeover either, the same shapes are in
 -- force, and the same phases ahead.

@@ -23,7 +23,7 @@ use Rattle.running_words.specs.flat_history_Reshaped.{is_planned}
 use Rattle.running_words.specs.array_kept_Calls.{IsRoleLossBy, IsLossBy}
 use Rattle.running_words.specs.Parts.{RunningParts}
 use Rattle.running_replies.specs.Replies.{IsRefusalBy, IsRefusalToldBy, HasToldBy}
-use Rattle.running_replies.specs.Going.{may_drop, is_begin, MayBeDropped, MayHoldBehind, AreHeldBehind, AreLossesAlong, HasRunOn}
+use Rattle.running_replies.specs.Going.{may_drop, is_begin, MayBeDropped, MayHoldBehind, WasSpareOrHolder, AreHeldBehind, AreLossesAlong, HasRunOn}
 
 -- ---- counts that rise later, and that rose before
 
@@ -53,16 +53,16 @@ module _ {first before now last : ℕ → ℕ} (early : NeverFalls first before)
     told = All-weaker (λ e. IsRefusalToldBy backup before now e.event) (λ e. IsRefusalToldBy backup first last e.event) (λ e is. told-wider backup e.event is) was.more was.told;
   }
 
-  module _ (Had More : ℕ → ℕ → Type 0) (more : (role slot : ℕ) → Had role slot → More role slot) where
+  module _ (Had More : ℕ → ℕ → Type 0) (Was Were : ℕ → Type 0) (more : (role slot : ℕ) → Had role slot → More role slot) (wider : (slot : ℕ) → Was slot → Were slot) where
     role-wider : (role : ℕ) (cause : LostCause) → IsRoleLossBy Had before now role cause → IsRoleLossBy More first last role cause
     role-wider role Fault (slot, had, failed) = (slot, more role slot had, faulted slot failed)
     role-wider role Command (slot, had) = (slot, more role slot had)
     role-wider role Absent loss = absurd loss
     role-wider role Recovering loss = absurd loss
 
-    loss-wider : (event : Event) → IsLossBy Had before now event → IsLossBy More first last event
+    loss-wider : (event : Event) → IsLossBy Had Was before now event → IsLossBy More Were first last event
     loss-wider (Lost role cause) loss = role-wider role cause loss
-    loss-wider (SpareLost slot) failed = faulted slot failed
+    loss-wider (SpareLost slot) (was, failed) = (wider slot was, faulted slot failed)
     loss-wider event loss = tt
 
 pub told-then : {backup : Option ℕ} {before now : ℕ → ℕ} {old mid new : List Entry} → HasToldBy backup before now old mid → HasToldBy backup before now mid new → HasToldBy backup before now old new
@@ -125,10 +125,24 @@ module _ (old mid : Members) (one : List Entry) (held : AreHeldBehind old mid on
 -- ---- the losses of more steps
 
 module _ (old mid : Members) (first before now : ℕ → ℕ) (one : List Entry) (held : AreHeldBehind old mid one) (early : NeverFalls first before) (late : NeverFalls before now) where
+  -- a spare then, or the holder of a role, was one before
+  was-before : (slot : ℕ) → WasSpareOrHolder mid slot → WasSpareOrHolder old slot
+  was-before slot (inl spare) = of (held.spares slot spare)
+    where
+      of : (has_spare old.spares slot ≡ true) ⊎ MayBeDropped old one slot → WasSpareOrHolder old slot
+      of (inl was) = inl was
+      of (inr (dropped, role, had)) = inr (role, had)
+  was-before slot (inr (role, had)) = of (held.roles role slot had)
+    where
+      of : MayHoldBehind old one role slot → WasSpareOrHolder old slot
+      of (inl (inl was)) = inr (role, was)
+      of (inl (inr spare)) = inl spare
+      of (inr (dropped, other, was)) = inr (other, was)
+
   losses-later : (done more : List Entry) → AreLossesAlong mid before now done more → AreLossesAlong old first now (one ++ done) more
   losses-later done [] was = tt
   losses-later done (e ∷ more) (loss, was) = (
-    loss-wider early late (λ s. omega arith) (MayHoldBehind mid done) (MayHoldBehind old (one ++ done)) (λ role slot had. may-then old mid one held done role slot had) e.event loss,
+    loss-wider early late (λ s. omega arith) (MayHoldBehind mid done) (MayHoldBehind old (one ++ done)) (WasSpareOrHolder mid) (WasSpareOrHolder old) (λ role slot had. may-then old mid one held done role slot had) was-before e.event loss,
     subst (λ (l : List Entry). AreLossesAlong old first now l more) (sym (append_assoc one done (e ∷ []))) (losses-later (done ++ e ∷ []) more was),
   )
 
@@ -142,7 +156,7 @@ along-append members before now done (x ∷ xs) ys (loss, one) two = (
 along-wider : (members : Members) (before now last : ℕ → ℕ) (done xs : List Entry) → NeverFalls before now → NeverFalls now last → AreLossesAlong members before now done xs → AreLossesAlong members before last done xs
 along-wider members before now last done [] rises late was = tt
 along-wider members before now last done (x ∷ xs) rises late (loss, was) = (
-  loss-wider (λ s. omega arith) rises late (MayHoldBehind members done) (MayHoldBehind members done) (λ role slot had. had) x.event loss,
+  loss-wider (λ s. omega arith) rises late (MayHoldBehind members done) (MayHoldBehind members done) (WasSpareOrHolder members) (WasSpareOrHolder members) (λ role slot had. had) (λ slot was. was) x.event loss,
   along-wider members before now last (done ++ x ∷ []) xs rises late was,
 )
 

@@ -48,10 +48,14 @@ pub record AreHeldBehind (old new : Members) (entries : List Entry) : Type 0 whe
   pub roles : (role slot : ℕ) → Held new role slot → MayHoldBehind old entries role slot
   pub spares : (slot : ℕ) → has_spare new.spares slot ≡ true → (has_spare old.spares slot ≡ true) ⊎ MayBeDropped old entries slot
 
--- each loss has its cause, by what may have held its role behind the entries before it
+-- the slot was a spare, or had a role
+abbrev pub WasSpareOrHolder : Members → ℕ → Type 0
+WasSpareOrHolder members slot = (has_spare members.spares slot ≡ true) ⊎ ((role : ℕ) × Held members role slot)
+
+-- Each loss has its cause, by what may have held its role behind the entries before it; a slot that is told lost as a spare was one, or had a role, as the entries began.
 abbrev pub AreLossesAlong : Members → (ℕ → ℕ) → (ℕ → ℕ) → List Entry → List Entry → Type 0
 AreLossesAlong members before now done [] = ⊤
-AreLossesAlong members before now done (e ∷ entries) = IsLossBy (MayHoldBehind members done) before now e.event × AreLossesAlong members before now (done ++ e ∷ []) entries
+AreLossesAlong members before now done (e ∷ entries) = IsLossBy (MayHoldBehind members done) (WasSpareOrHolder members) before now e.event × AreLossesAlong members before now (done ++ e ∷ []) entries
 
 -- it is the array of the same epoch, with the same backup
 pub record IsSameEpoch {B : Type 0} (old new : RunningParts B) : Type 0 where

@@ -39,7 +39,7 @@ use Rattle.running.proofs.shape_views_Stands.{final-still}
 use Rattle.running.specs.views_Moving.{Grows}
 use Rattle.running.specs.views_Placed.{AreStillHeld}
 use Rattle.running.specs.views_Rebuilding.{Held, MayHold}
-use Rattle.running.specs.array_kept_Calls.{AreHeldOrSpare, AreSparesFewer, IsLossBy}
+use Rattle.running.specs.array_kept_Calls.{AreHeldOrSpare, AreSparesFewer, IsLossBy, WasSpare}
 use Rattle.running.proofs.array_kept_LossLaws.{behind-alone}
 use Rattle.running.specs.reshape_updates_Beginning.{beginning, goes_back}
 use Rattle.running.proofs.reshape_updates_NewRoles.{new-or}
@@ -166,7 +166,8 @@ module _ {B : Type 0} (tells : Type 0) (given : B → Given) (tape : B → List 
       grown = was.entered.is;
       sized = begun-length who end left roles spares (list_length old.parts.members.newest) size back (λ forward. begun-long old.parts.members.newest new.parts.members.newest to was.start still forward);
       held = held-behind old.parts.members new.parts.members inner (begun-held old.parts.members to new.parts.members was.held was.spares);
-      losses = losses-along old.parts.members (faults old.parts.bank) (faults new.parts.bank) (Held (begun_plan old.parts.members to)) (plan-may old.parts.members to) old.parts.entries new.parts.entries inner was.entered.is was.losses;
+      losses = losses-along old.parts.members (faults old.parts.bank) (faults new.parts.bank) (Held (begun_plan old.parts.members to)) (WasSpare (begun_plan old.parts.members to)) (plan-may old.parts.members to)
+          (λ slot is. inl (plan-spare old.parts.members to slot is)) old.parts.entries new.parts.entries inner was.entered.is was.losses;
       refusals = record {
         more = inner;
         grown = was.entered.is;
@@ -250,7 +251,7 @@ module _ {B : Type 0} (tells : Type 0) (given : B → Given) (tape : B → List 
         losses = record {
           more = entries_of who back.end (Refused refusal ∷ []);
           grown = back.entered;
-          failed = All-cons (λ e. IsLossBy (Held old.parts.members) (faults old.parts.bank) (faults new.parts.bank) e.event) (one who back.end (Refused refusal)) [] tt (All-nil (λ e. IsLossBy (Held old.parts.members) (faults old.parts.bank) (faults new.parts.bank) e.event));
+          failed = All-cons (λ e. IsLossBy (Held old.parts.members) (WasSpare old.parts.members) (faults old.parts.bank) (faults new.parts.bank) e.event) (one who back.end (Refused refusal)) [] tt (All-nil (λ e. IsLossBy (Held old.parts.members) (WasSpare old.parts.members) (faults old.parts.bank) (faults new.parts.bank) e.event));
         };
         grows = grows;
         never_falls = rises;

@@ -28,7 +28,7 @@ use Rattle.running.specs.grow_asked_the_PhasesLeft.{PhasesLeft}
 use Rattle.running.specs.kept_history_Recorded.{MayGoOn, IsCallGoing}
 use Rattle.running.specs.running_words_Parts.{RunningParts, still_left}
 use Rattle.running.specs.still_laws_Steps.{IsClosable}
-use Rattle.running.specs.turning_Ended.{ended_length, AreSparesOrDropped, IsReshapeEnded}
+use Rattle.running.specs.turning_Ended.{ended_length, WasSpareOrDropped, AreSparesOrDropped, IsReshapeEnded}
 use Rattle.running.specs.running_replies_Replies.{IsRefusalToldBy}
 use Rattle.running.specs.running_replies_Going.{is_finish, may_drop, MayBeDropped, AreHeldBehind}
 use Rattle.running.specs.Calls.{running_left}
@@ -115,7 +115,8 @@ module _ {B : Type 0} (tells : Type 0) (given : B → Given) (tape : B → List 
       grown = was.entered.is;
       sized = ended-length who end left roles spares late late_spares before size (no-shorter old.parts.members.newest new.parts.members.newest was.long);
       held = dropped-behind old.parts.members new.parts.members inner drops was.held was.spares;
-      losses = losses-along old.parts.members (faults old.parts.bank) (faults new.parts.bank) (Held old.parts.members) (λ role slot has. inl has) old.parts.entries new.parts.entries inner was.entered.is was.losses;
+      losses = losses-along old.parts.members (faults old.parts.bank) (faults new.parts.bank) (Held old.parts.members) (WasSpareOrDropped old.parts.members) (λ role slot has. inl has)
+          (λ slot was. elim was [ inl spare ↦ inl spare | inr (role, past, had) ↦ inr (role, had) ]) old.parts.entries new.parts.entries inner was.entered.is was.losses;
       refusals = record {
         more = inner;
         grown = was.entered.is;

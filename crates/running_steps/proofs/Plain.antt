@@ -1,5 +1,5 @@
 -- A step that neither begins nor ends a reshape, and one that is refused.
-use Rattle.std.proofs.Common.{◌≡◌, ℕ, ◌<◌, ◌++◌, Bool, true, false, cond, List, [], ◌∷◌, MatchBool, refl, sym, ◌∙◌, ap, subst, arith, append-nil}
+use Rattle.std.proofs.Common.{◌≡◌, inl, ℕ, ◌<◌, ◌++◌, Bool, true, false, cond, List, [], ◌∷◌, MatchBool, refl, sym, ◌∙◌, ap, subst, arith, append-nil}
 use Rattle.std.proofs.lemmas.List.Elements.{All-nil, All-weaker}
 use Rattle.std.specs.List.{All, list_any}
 use Rattle.md_base.specs.declared.answers.Refusal.{Refusal}
@@ -17,7 +17,7 @@ use Rattle.flat_history.specs.Reshaped.{is_done}
 use Rattle.running.specs.call_entries_Losing.{losses_of}
 use Rattle.running.specs.views_Moving.{Grows}
 use Rattle.running.specs.views_Rebuilding.{MayHold}
-use Rattle.running.specs.array_kept_Calls.{AreHeldOrSpare, AreLossesBy, AreStepsFewer, IsBehind, IsEndOf}
+use Rattle.running.specs.array_kept_Calls.{AreHeldOrSpare, WasSpare, AreLossesBy, AreStepsFewer, IsBehind, IsEndOf}
 use Rattle.running.specs.grow_asked_Left.{phases_of}
 use Rattle.running.specs.grow_asked_the_PhasesLeft.{PhasesLeft}
 use Rattle.running.specs.kept_history_Recorded.{MayGoOn, IsCallGoing}
@@ -78,7 +78,7 @@ pub record IsPlainStep {B : Type 0} (tells : Type 0) (given : B → Given) (tape
   pub long : list_length new.parts.members.newest ≡ list_length old.parts.members.newest
   pub held : AreHeldOrSpare old.parts.members new.parts.members
   pub had : (role slot : ℕ) → Had role slot → MayHold old.parts.members role slot
-  pub losses : AreLossesBy Had (faults old.parts.bank) (faults new.parts.bank) old.parts.entries new.parts.entries
+  pub losses : AreLossesBy Had (WasSpare old.parts.members) (faults old.parts.bank) (faults new.parts.bank) old.parts.entries new.parts.entries
   pub grows : Grows tells (tape old.parts.bank) (tape new.parts.bank)
   pub never_falls : NeverFalls (faults old.parts.bank) (faults new.parts.bank)
   pub given_is : given new.parts.bank ≡ given old.parts.bank
@@ -108,7 +108,7 @@ module _ {B : Type 0} (tells : Type 0) (given : B → Given) (tape : B → List 
       grown = so.is;
       sized = did.long ∙ sym (long-kept so.inner lengthless (list_length old.parts.members.newest));
       held = held-behind old.parts.members new.parts.members so.inner did.held;
-      losses = losses-along old.parts.members (faults old.parts.bank) (faults new.parts.bank) Had did.had old.parts.entries new.parts.entries so.inner so.is did.losses;
+      losses = losses-along old.parts.members (faults old.parts.bank) (faults new.parts.bank) Had (WasSpare old.parts.members) did.had (λ slot was. inl was) old.parts.entries new.parts.entries so.inner so.is did.losses;
       refusals = record {
         more = so.inner;
         grown = so.is;
@@ -155,7 +155,7 @@ module _ {B : Type 0} (tells : Type 0) (given : B → Given) (tape : B → List 
       grown = behind.is;
       sized = did.long ∙ sym (long-kept inner lengthless (list_length old.parts.members.newest));
       held = held-behind old.parts.members new.parts.members inner did.held;
-      losses = losses-along old.parts.members (faults old.parts.bank) (faults new.parts.bank) Had did.had old.parts.entries new.parts.entries inner behind.is did.losses;
+      losses = losses-along old.parts.members (faults old.parts.bank) (faults new.parts.bank) Had (WasSpare old.parts.members) did.had (λ slot was. inl was) old.parts.entries new.parts.entries inner behind.is did.losses;
       refusals = record {
         more = inner;
         grown = behind.is;

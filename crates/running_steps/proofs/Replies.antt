@@ -43,7 +43,7 @@ use Rattle.running.specs.kept_history_Recorded.{MayGoOn}
 use Rattle.running.specs.running_words_Parts.{RunningParts, left_in, still_left}
 use Rattle.running.specs.still_laws_Steps.{MayAnswer}
 use Rattle.running.specs.running_replies_Replies.{may_end_early, DidRunningSteps, EndsRunningSteps, IsRefusalBy, IsRefusalToldBy, HasToldBy, IsAnsweredWith}
-use Rattle.running.specs.running_replies_Going.{is_finish, is_begin, MayHoldBehind, AreLossesAlong, HasNoReshape, HasRunOn, IsSameEpoch}
+use Rattle.running.specs.running_replies_Going.{is_finish, is_begin, MayHoldBehind, WasSpareOrHolder, AreLossesAlong, HasNoReshape, HasRunOn, IsSameEpoch}
 use Rattle.running.proofs.running_replies_GoneOn.{refusal-wider, told-then, along-append, may-then, spares-then, none-first, gone-then}
 use Rattle.running.specs.Calls.{running_left}
 use Rattle.running_steps.specs.Steps.{IsOpenFor, KeepsItsWay, IsStepDone, IsStepRefused, IsStepAnswered, AreStepsOf, has_finished}
@@ -265,7 +265,7 @@ module _ {B : Type 0} (tells : Type 0) (given : B → Given) (tape : B → List 
 
   -- the reply changes no length, and tells no loss; what it tells to be refused has its cause
   pub gone-answered : (old mid new : RunningParts B) (who : Who) (event : Event) (end : ℕ) → HasRunOn tells given tape faults old mid → new.parts.entries ≡ mid.parts.entries ++ entries_of who end (event ∷ [])
-      → new.parts.bank ≡ mid.parts.bank → new.parts.members ≡ mid.parts.members → new.ahead ≡ mid.ahead → IsSameEpoch mid new → ((n : ℕ) → length_after n event ≡ n) → ((Had : ℕ → ℕ → Type 0) (before now : ℕ → ℕ) → IsLossBy Had before now event)
+      → new.parts.bank ≡ mid.parts.bank → new.parts.members ≡ mid.parts.members → new.ahead ≡ mid.ahead → IsSameEpoch mid new → ((n : ℕ) → length_after n event ≡ n) → ((Had : ℕ → ℕ → Type 0) (Was : ℕ → Type 0) (before now : ℕ → ℕ) → IsLossBy Had Was before now event)
       → IsRefusalToldBy old.parts.backup (faults old.parts.bank) (faults mid.parts.bank) event → HasRunOn tells given tape faults old new
   gone-answered old mid new who event end was entered bank members ahead epoch lengthless lossless cause = record {
     more = was.more ++ last;
@@ -276,7 +276,7 @@ module _ {B : Type 0} (tells : Type 0) (given : B → Given) (tape : B → List 
       spares = λ slot spare. spares-then old.parts.members mid.parts.members was.more was.held last slot (inl (subst (λ (m : Members). has_spare m.spares slot ≡ true) members spare));
     };
     losses = subst (λ (b : B). AreLossesAlong old.parts.members (faults old.parts.bank) (faults b) [] (was.more ++ last)) (sym bank)
-        (along-append old.parts.members (faults old.parts.bank) (faults mid.parts.bank) [] was.more last was.losses (lossless (MayHoldBehind old.parts.members was.more) (faults old.parts.bank) (faults mid.parts.bank), tt));
+        (along-append old.parts.members (faults old.parts.bank) (faults mid.parts.bank) [] was.more last was.losses (lossless (MayHoldBehind old.parts.members was.more) (WasSpareOrHolder old.parts.members) (faults old.parts.bank) (faults mid.parts.bank), tt));
     refusals = subst (λ (b : B). HasToldBy old.parts.backup (faults old.parts.bank) (faults b) old.parts.entries new.parts.entries) (sym bank)
         (told-then was.refusals (record {
           more = last;

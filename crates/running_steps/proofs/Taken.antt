@@ -27,7 +27,7 @@ use Rattle.running.specs.call_entries_Losing.{losses_of}
 use Rattle.running.proofs.call_entries_PlainLaws.{one}
 use Rattle.running.proofs.views_MovedLaws.{grows-none}
 use Rattle.running.specs.views_Rebuilding.{Held}
-use Rattle.running.specs.array_kept_Calls.{IsLossBy, IsEndOf}
+use Rattle.running.specs.array_kept_Calls.{IsLossBy, WasSpare, IsEndOf}
 use Rattle.running.proofs.array_kept_LossLaws.{behind-alone}
 use Rattle.running.specs.grow_asked_the_PhasesLeft.{PhasesLeft}
 use Rattle.running.specs.grow_asked_Left.{phases_of}
@@ -79,7 +79,8 @@ module _ {B : Type 0} (tells : Type 0) (given : B → Given) (tape : B → List 
         roles = λ role slot has. inl (taken-roles old.parts.members to was.slot was.chosen new.parts.members was.held role slot has);
         spares = λ slot is. spared slot (taken-spares old.parts.members to was.slot was.chosen new.parts.members was.spares slot is);
       };
-      losses = losses-along old.parts.members (faults old.parts.bank) (faults new.parts.bank) (Held (taken_plan old.parts.members to was.slot)) (plan-may old.parts.members to was.slot was.chosen) old.parts.entries new.parts.entries inner
+      losses = losses-along old.parts.members (faults old.parts.bank) (faults new.parts.bank) (Held (taken_plan old.parts.members to was.slot)) (WasSpare (taken_plan old.parts.members to was.slot)) (plan-may old.parts.members to was.slot was.chosen)
+          (λ slot is. taken-spares old.parts.members to was.slot was.chosen (taken_plan old.parts.members to was.slot) (λ s spare. spare) slot is) old.parts.entries new.parts.entries inner
           was.entered.is was.losses;
       refusals = record {
         more = inner;
@@ -170,7 +171,7 @@ module _ {B : Type 0} (tells : Type 0) (given : B → Given) (tape : B → List 
         losses = record {
           more = entries_of who back.end (Refused refusal ∷ []);
           grown = back.entered;
-          failed = All-cons (λ e. IsLossBy (Held old.parts.members) (faults old.parts.bank) (faults new.parts.bank) e.event) (one who back.end (Refused refusal)) [] tt (All-nil (λ e. IsLossBy (Held old.parts.members) (faults old.parts.bank) (faults new.parts.bank) e.event));
+          failed = All-cons (λ e. IsLossBy (Held old.parts.members) (WasSpare old.parts.members) (faults old.parts.bank) (faults new.parts.bank) e.event) (one who back.end (Refused refusal)) [] tt (All-nil (λ e. IsLossBy (Held old.parts.members) (WasSpare old.parts.members) (faults old.parts.bank) (faults new.parts.bank) e.event));
         };
         grows = grows-none (λ t. ap tape back.bank);
         never_falls = same-faults back.bank;

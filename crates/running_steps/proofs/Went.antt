@@ -8,7 +8,7 @@ use Rattle.running.specs.superblocks_Reading.{list_length}
 use Rattle.running.specs.superblocks_Reads.{has_spare}
 use Rattle.flat_history.specs.declared.events.Entry.{Entry}
 use Rattle.flat_history.specs.declared.events.Event.{Event}
-use Rattle.flat_history.specs.declared.events.Event.TheVariants.{Lost}
+use Rattle.flat_history.specs.declared.events.Event.TheVariants.{Lost, SpareLost}
 use Rattle.flat_history.specs.declared.events.LostCause.TheVariants.{Fault, Command}
 use Rattle.flat_history.specs.World.{World}
 use Rattle.running.specs.views_Placed.{AreStillHeld}
@@ -17,7 +17,7 @@ use Rattle.running.specs.array_kept_Calls.{AreHeldOrSpare, AreSparesFewer, IsLos
 use Rattle.running.specs.running_words_Parts.{RunningParts}
 use Rattle.running.specs.running_words_Calls.{IsSameReshape}
 use Rattle.running.specs.turning_Begun.{StaysItself}
-use Rattle.running.specs.running_replies_Going.{MayHoldBehind, AreHeldBehind, AreLossesAlong, IsSameEpoch}
+use Rattle.running.specs.running_replies_Going.{MayHoldBehind, WasSpareOrHolder, AreHeldBehind, AreLossesAlong, IsSameEpoch}
 use Rattle.running_steps.proofs.Events.{same-rest}
 
 -- ---- the same array
@@ -48,22 +48,26 @@ held-same old new same = record {
 
 -- ---- losses
 
-loss-more : (Had More : ℕ → ℕ → Type 0) → ((role slot : ℕ) → Had role slot → More role slot) → (before after : ℕ → ℕ) (event : Event) → IsLossBy Had before after event → IsLossBy More before after event
-loss-more Had More more before after (Lost role Fault) is = (is.0, more role is.0 is.1, is.2)
-loss-more Had More more before after (Lost role Command) is = (is.0, more role is.0 is.1)
-loss-more Had More more before after (Lost role cause) is = absurd is
-loss-more Had More more before after event is = is
+loss-more : (Had More : ℕ → ℕ → Type 0) (Was Were : ℕ → Type 0) → ((role slot : ℕ) → Had role slot → More role slot) → ((slot : ℕ) → Was slot → Were slot) → (before after : ℕ → ℕ) (event : Event)
+    → IsLossBy Had Was before after event → IsLossBy More Were before after event
+loss-more Had More Was Were more wider before after (Lost role Fault) is = (is.0, more role is.0 is.1, is.2)
+loss-more Had More Was Were more wider before after (Lost role Command) is = (is.0, more role is.0 is.1)
+loss-more Had More Was Were more wider before after (Lost role cause) is = absurd is
+loss-more Had More Was Were more wider before after (SpareLost slot) is = (wider slot is.0, is.1)
+loss-more Had More Was Were more wider before after event is = tt
 
-along-all : (members : Members) (before after : ℕ → ℕ) (Had : ℕ → ℕ → Type 0) → ((role slot : ℕ) → Had role slot → MayHold members role slot) → (done xs : List Entry) → All (λ e. IsLossBy Had before after e.event) xs
+along-all : (members : Members) (before after : ℕ → ℕ) (Had : ℕ → ℕ → Type 0) (Was : ℕ → Type 0) → ((role slot : ℕ) → Had role slot → MayHold members role slot) → ((slot : ℕ) → Was slot → WasSpareOrHolder members slot) → (done xs : List Entry)
+    → All (λ e. IsLossBy Had Was before after e.event) xs
     → AreLossesAlong members before after done xs
-along-all members before after Had had done [] all = tt
-along-all members before after Had had done (x ∷ xs) all = (
-  loss-more Had (MayHoldBehind members done) (λ role slot has. inl (had role slot has)) before after x.event (All-head (λ e. IsLossBy Had before after e.event) x xs all),
-  along-all members before after Had had (done ++ x ∷ []) xs (All-tail (λ e. IsLossBy Had before after e.event) x xs all),
+along-all members before after Had Was had was done [] all = tt
+along-all members before after Had Was had was done (x ∷ xs) all = (
+  loss-more Had (MayHoldBehind members done) Was (WasSpareOrHolder members) (λ role slot has. inl (had role slot has)) was before after x.event (All-head (λ e. IsLossBy Had Was before after e.event) x xs all),
+  along-all members before after Had Was had was (done ++ x ∷ []) xs (All-tail (λ e. IsLossBy Had Was before after e.event) x xs all),
 )
 
 -- those of a call, by the slots that had the roles before it, or were spares
-pub losses-along : (members : Members) (before after : ℕ → ℕ) (Had : ℕ → ℕ → Type 0) → ((role slot : ℕ) → Had role slot → MayHold members role slot) → (old new inner : List Entry) → new ≡ old ++ inner → AreLossesBy Had before after old new
+pub losses-along : (members : Members) (before after : ℕ → ℕ) (Had : ℕ → ℕ → Type 0) (Was : ℕ → Type 0) → ((role slot : ℕ) → Had role slot → MayHold members role slot) → ((slot : ℕ) → Was slot → WasSpareOrHolder members slot)
+    → (old new inner : List Entry) → new ≡ old ++ inner → AreLossesBy Had Was before after old new
     → AreLossesAlong members before after [] inner
-losses-along members before after Had had old new inner is was =
-    along-all members before after Had had [] inner (subst (λ (l : List Entry). All (λ e. IsLossBy Had before after e.event) l) (same-rest old was.more inner new was.grown is) was.failed)
+losses-along members before after Had Was had spares old new inner is was =
+    along-all members before after Had Was had spares [] inner (subst (λ (l : List Entry). All (λ e. IsLossBy Had Was before after e.event) l) (same-rest old was.more inner new was.grown is) was.failed)

@@ -17,7 +17,7 @@ use Rattle.moving_state.specs.views_Lacking.{AreTooMany}
 use Rattle.moving_state.specs.views_Rebuilding.{Held}
 use Rattle.moving_state.specs.views_Moving.{Grows, IsMoved}
 use Rattle.moving_state.specs.array_kept_Kept.{scope_in}
-use Rattle.moving_state.specs.array_kept_Calls.{IsLossBy, AreLossesOf, IsEndOf}
+use Rattle.moving_state.specs.array_kept_Calls.{IsLossBy, WasSpare, AreLossesOf, IsEndOf}
 use Rattle.moving_state.proofs.array_kept_ReadyLaws.{list-same}
 use Rattle.running_words.specs.Parts.{RunningParts}
 use Rattle.running_words.specs.Calls.{IsCalled}
@@ -67,12 +67,12 @@ called {given = given} {old = old} {new = new} grows moved ended losses rises ep
 }
 
 -- an event alone that tells of no loss
-pub alone-lossless : (members : Members) (before after : ℕ → ℕ) (entries mid new : List Entry) (who : Who) (end : ℕ) (event : Event) → IsLossBy (Held members) before after event
+pub alone-lossless : (members : Members) (before after : ℕ → ℕ) (entries mid new : List Entry) (who : Who) (end : ℕ) (event : Event) → IsLossBy (Held members) (WasSpare members) before after event
     → mid ≡ entries → new ≡ mid ++ entries_of who end (event ∷ []) → AreLossesOf members before after entries new
 alone-lossless members before after entries mid new who end event none mid_is is = record {
   more = entries_of who end (event ∷ []);
   grown = is ∙ ap (λ (l : List Entry). l ++ entries_of who end (event ∷ [])) mid_is;
-  failed = All-cons (λ e. IsLossBy (Held members) before after e.event) (one who end event) [] none (All-nil (λ e. IsLossBy (Held members) before after e.event));
+  failed = All-cons (λ e. IsLossBy (Held members) (WasSpare members) before after e.event) (one who end event) [] none (All-nil (λ e. IsLossBy (Held members) (WasSpare members) before after e.event));
 }
 
 -- ---- what a call did

@@ -5,6 +5,7 @@ pub mod Replies
 pub mod TakenOut
 pub use Rattle.calls_kept.proofs.AddLaws as calls_kept_AddLaws
 pub use Rattle.calls_kept.proofs.AddedKept as calls_kept_AddedKept
+pub use Rattle.calls_kept.proofs.AddedNumbers as calls_kept_AddedNumbers
 pub use Rattle.calls_kept.proofs.AddedLosses as calls_kept_AddedLosses
 pub use Rattle.calls_kept.proofs.AdoptingLaws as calls_kept_AdoptingLaws
 pub use Rattle.calls_kept.proofs.FailedLaws as calls_kept_FailedLaws

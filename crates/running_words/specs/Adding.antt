@@ -15,7 +15,7 @@ abbrev pub AreSparesBut : ℕ → Members → Members → Type 0
 AreSparesBut slot old new = (s : ℕ) → has_spare new.spares s ≡ true → (has_spare old.spares s ≡ true) ⊎ (s ≡ slot)
 
 -- What a call leaves that may make this slot a spare, done or refused: it is as after each call (`IsCalled`), but that the slot may be a spare then, and that
--- superblocks may bear one number more, which was free.
+-- its superblock may bear one number more, which was free, or that one alone.
 pub record IsAddCalled {B : Type 0} (tells : Type 0) (given : Given) (tape tape' : List Operation) (before after : ℕ → ℕ) (slot : ℕ) (old new : RunningParts B) : Type 0 where
   pub grows : Grows tells tape tape'
   pub ended : IsEndOf tells new.parts.first new.parts.entries tape'
@@ -23,5 +23,5 @@ pub record IsAddCalled {B : Type 0} (tells : Type 0) (given : Given) (tape tape'
   pub spares : AreSparesBut slot old.parts.members new.parts.members
   pub losses : AreLossesOf old.parts.members before after old.parts.entries new.parts.entries
   pub never_falls : NeverFalls before after
-  pub work : IsWorkAdded old.parts.members.newest old.parts.work new.parts.work
+  pub work : IsWorkAdded old.parts.members.newest slot old.parts.work new.parts.work
   pub same : IsSameReshape tells old new (moving_world given tape old) (moving_world given tape' new)

@@ -110,7 +110,7 @@ module _ (sound : Type 0) (scope : Scope) (given : Given) (told : Ledger) (forme
   Kept = (with_spare slot sb m).own
 
   abbrev More : Ledger
-  More = with_number sb.dev_number told
+  More = with_number slot sb.dev_number told
 
   less : AreLess new.lost (with_spare slot sb m) new
   less = added-less did placed
@@ -294,7 +294,7 @@ module _ (sound : Type 0) (scope : Scope) (given : Given) (told : Ledger) (forme
 
   -- the number that is new is told, and the others were
   numbers-with : AreCarried scope More.carried Kept Start
-  numbers-with = record { kept = kept; shown = λ s x may. either (told.carried x.dev_number) (x.dev_number == sb.dev_number) (inl (carried.shown s x may)) }
+  numbers-with = record { kept = kept; shown = λ s x may. either (told.carried s x.dev_number) ((s == slot) && (x.dev_number == sb.dev_number)) (inl (carried.shown s x may)) }
     where
       either : (a b : Bool) → (a ≡ true) ⊎ (b ≡ true) → (a || b) ≡ true
       either true b is = refl
@@ -302,13 +302,13 @@ module _ (sound : Type 0) (scope : Scope) (given : Given) (told : Ledger) (forme
       either false false (inl is) = absurd (cc)
       either false false (inr is) = absurd (cc)
 
-      kept : (s : ℕ) (x : Sb) → own_in Kept s ≡ Some x → More.carried x.dev_number ≡ true
+      kept : (s : ℕ) (x : Sb) → own_in Kept s ≡ Some x → More.carried s x.dev_number ≡ true
       kept s x is = elim (cases_eq s slot) [
         | inl same ↦
             let two : Some (record sb { events = m.newest.events }) ≡ Some x = sym (own-here m slot sb below long) ∙ ap (own_in Kept) (sym same) ∙ is in
             let number : x.dev_number ≡ sb.dev_number = (let e : record sb { events = m.newest.events } ≡ x = cc in ap (λ (y : Sb). y.dev_number) (sym e)) in
-            either (told.carried x.dev_number) (x.dev_number == sb.dev_number) (inr (grind (arith, nat_tests, number)))
-        | inr other ↦ either (told.carried x.dev_number) (x.dev_number == sb.dev_number) (inl (carried.kept s x (sym (own-other m slot sb s other) ∙ is)))
+            either (told.carried s x.dev_number) ((s == slot) && (x.dev_number == sb.dev_number)) (inr (grind (arith, nat_tests, same, number)))
+        | inr other ↦ either (told.carried s x.dev_number) ((s == slot) && (x.dev_number == sb.dev_number)) (inl (carried.kept s x (sym (own-other m slot sb s other) ∙ is)))
       ]
 
   module _ (some : IsSomeLeft Live new.lost) where
@@ -452,14 +452,14 @@ pub record IsAddableTo (scope : Scope) (given : Given) (told : Ledger) (m : Memb
   pub unspare : has_spare m.spares slot ≡ false
   pub made : IsSpareSb given m.newest slot sb
   pub of_scope : IsOfScope scope given slot sb
-  pub unknown : told.carried sb.dev_number ≡ false
+  pub unknown : (s : ℕ) → told.carried s sb.dev_number ≡ false
   pub second : (sector : Sector) → IsIn (d slot 9) sector → IsSecondHalf sb sector
 
 module _ (sound : Type 0) (scope : Scope) (given : Given) (told : Ledger) (new : Members) (slot : ℕ) (sb : Sb) (before after : List Operation) where
   -- from where it is safe, of these members
   abbrev AddsSafely : Members → Type 0
   AddsSafely m = IsPlaced given m → AreUnlost m → AreSparesFree given m → IsAddableTo scope given told m slot sb (disk given.start before) → IsAddedBy ⊤ given slot sb m new before after
-      → HasMarkRoom m before after → AreGoneTold told new → IsSafeStretch sound scope given (with_number sb.dev_number told) new before after
+      → HasMarkRoom m before after → AreGoneTold told new → IsSafeStretch sound scope given (with_number slot sb.dev_number told) new before after
 
   -- by former members, of which slots may be lost that aren't named yet, but not this one
   adding-from : (former : Members) (missed : ℕ) → has_slot missed slot ≡ false → IsHeldBy scope former (disk given.start before) → IsViewRight sound scope given told former (disk given.start before)
@@ -491,7 +491,7 @@ module _ (sound : Type 0) (scope : Scope) (given : Given) (told : Ledger) (new :
       numbers : AreCarried scope told.carried old.own (disk given.start before)
       numbers = subst (λ (own : List (Option Sb)). AreCarried scope told.carried own (disk given.start before)) (ap (λ (v : Members). v.own) (sym same)) steady.numbers
 
-      of : (b : Bool) → has_slot old.lost slot ≡ b → IsSafeStretch sound scope given (with_number sb.dev_number told) new before after
+      of : (b : Bool) → has_slot old.lost slot ≡ b → IsSafeStretch sound scope given (with_number slot sb.dev_number told) new before after
       of true lost = subst AddsSafely (without-none old)
           (adding-from old 0 (none_there slot) (named-held sound scope given told old (disk given.start before) placed unlost free (fresh lost) steady)
           (steady-right sound scope given told old (disk given.start before) steady (gone-now old placed unlost free is did gone)) numbers) placed unlost free is did room gone

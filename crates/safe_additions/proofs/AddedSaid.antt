@@ -155,6 +155,14 @@ module _ (scope : Scope) (m : Members) (slot : ℕ) (sb : Sb) (d : Disk) (known 
         | inr other ↦ ready.held.top.2 found (of_put scope slot [] d ready.held.top.0 found other may)
       ],
     );
+    first = λ s sb f. ready.held.first s sb (record {
+      there = f.there;
+      shown = f.shown;
+      may = λ t low. of_put scope slot [] d t (f.shown t) (λ same. none_read scope slot d t (f.shown t) same (f.may t low)) (f.may t low);
+      is = f.is;
+      events = f.events;
+      none = f.none;
+    });
     apart = λ s t a b differ is is' fresh fresh'. of s t a b differ fresh fresh' (emptied-shows s a is) (emptied-shows t b is');
   }
     where

@@ -177,7 +177,6 @@ module _ (newest : Sb) (uuid : List ℕ) (number offset sectors : ℕ) (second :
   suited-new : 128 ≤ newest.max_dev → 128 ≤ length newest.dev_roles → events ≡ newest.events → 10 ≤ offset → offset + newest.size ≤ sectors → IsSuited newest sectors New
   suited-new room long same behind within = record {
     events = omega (arith, same);
-    as_new = λ e. record { array = says-new; entries = entries-new room long; late = late-new };
     bits = λ fresh. bits-new;
     room = λ fresh. omega arith;
     within = λ fresh holds. lies-new behind within;
@@ -186,10 +185,10 @@ module _ (newest : Sb) (uuid : List ℕ) (number offset sectors : ℕ) (second :
 
 -- ---- the start, where slots may be lost that aren't named yet, but not this one
 
-module _ (scope : Scope) (given : Given) (told : ℕ → Bool) (former : Members) (gone slot : ℕ) (sb : Sb) (d : ℕ → ℕ → List Sector) (held : IsHeldBy scope former d) (ungone : has_slot gone slot ≡ false)
+module _ (scope : Scope) (given : Given) (told : ℕ → ℕ → Bool) (former : Members) (gone slot : ℕ) (sb : Sb) (d : ℕ → ℕ → List Sector) (held : IsHeldBy scope former d) (ungone : has_slot gone slot ≡ false)
     (placed : IsPlaced given (members_without gone former)) (free : AreSparesFree given (members_without gone former)) (few : given.slots ≤ 32) (there : slot < given.slots) (long : length former.own ≡ 32) (small : bit_or former.lost gone < 2 ^ 32)
     (untaken : (role : ℕ) → holder (get_or (map (role_without gone) former.roles) role Missing) ≡ Some slot → ⊥) (unspare : has_spare former.spares slot ≡ false)
-    (made : IsSpareSb given former.newest slot sb) (of_scope : IsOfScope scope given slot sb) (carried : AreCarried scope told former.own d) (unknown : told sb.dev_number ≡ false)
+    (made : IsSpareSb given former.newest slot sb) (of_scope : IsOfScope scope given slot sb) (carried : AreCarried scope told former.own d) (unknown : (s : ℕ) → told s sb.dev_number ≡ false)
     (second : (sector : Sector) → IsIn (d slot 9) sector → IsSecondHalf sb sector) where
   abbrev m : Members
   m = members_without gone former
@@ -268,7 +267,7 @@ module _ (scope : Scope) (given : Given) (told : ℕ → Bool) (former : Members
 
   -- in no image has another slot its number
   numbers-apart : (s : ℕ) (a : Sb) → Shows scope held.known m.own d s a → a.dev_number ≡ sb.dev_number → ⊥
-  numbers-apart s a shows same = absurd (let known = sym (ap told same) ∙ ⊎_elim (λ kept. carried.kept s a kept.1) (λ shown. carried.shown s a shown.1) shows in let e = sym known ∙ unknown in cc)
+  numbers-apart s a shows same = absurd (let known = sym (ap (told s) same) ∙ ⊎_elim (λ kept. carried.kept s a kept.1) (λ shown. carried.shown s a shown.1) shows in let e = sym known ∙ unknown s in cc)
 
   abbrev Newcomer : Sb → Type 0
   Newcomer x = IsNewcomer scope held.known m.newest m.own slot (record x { events = m.newest.events }) d

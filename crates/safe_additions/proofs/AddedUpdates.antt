@@ -41,7 +41,7 @@ use Rattle.safe_updates.proofs.shape_changes_Kept.{give_of-same}
 use Rattle.views.proofs.MarkedSafe.{told-marks}
 use Rattle.views.proofs.MovedLaws.{moved-less}
 use Rattle.views.proofs.PlacedLaws.{placed-less, less-unlost}
-use Rattle.safe_updates.proofs.SparesLaws.{spare-left, spare-stays, free-told}
+use Rattle.safe_updates.proofs.SparesLaws.{spare-left, spare-stays, free-told, told-were}
 use Rattle.views.proofs.Fit.{reshape-said}
 
 is-below : (a b : ℕ) → a < b → nat_lt a b ≡ true
@@ -225,6 +225,12 @@ module _ {tells : Type 0} {given : Given} {slot : ℕ} {sb : Sb} {old new : Memb
     added-failed = since-less new.lost told (with_spare slot sb old) new f g (added-less placed)
         (λ role s is gone. losses.failed s gone (unlost role s is))
         (λ s is. let parts = was-lost s is in losses.failed s parts.0 parts.1)
+        (λ s is.
+        let parts = both (has_slot lost s) (has_slot held s) (sym (without s (small s is)) ∙ is) in
+        let gone = was-lost s is in
+        told-were (with_spare slot sb old) (marking (with_spare slot sb old) false) held s refl (record { all = holders.all; only = holders.only })
+        (sym (live-with old slot sb false s) ∙ losses.live s gone.0 gone.1) parts.1)
+        (λ s is. (spare-left (with_spare slot sb old) false new.lost new.spares (added-spares false) s is).0)
         told-spare
 
     -- a slot that is told isn't a spare

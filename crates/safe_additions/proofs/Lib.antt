@@ -1,4 +1,5 @@
 pub mod AddedLooks
+pub mod Bearers
 pub mod AddedNamed
 pub mod AddedSafe
 pub mod AddedSaid

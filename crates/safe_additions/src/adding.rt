@@ -118,10 +118,10 @@ pub fn add_member<B: Bank>(members: &mut Members, bank: &mut B, slot: u32, sb: &
     ensures rise { IsRisen B.tells (with_spare slot sb.now members.old) members.new (B.tape bank.old) (B.tape bank.new) }
     ensures stored { has_slot result slot ≡ false → IfOwn members.new slot (λ own. (own.dev_number ≡ sb.now.dev_number) × (own.data_offset ≡ sb.now.data_offset)) }
     ensures safe { B.tells → (world : World) → (told : Ledger) → HasRoomLeft members.old (B.tape bank.old) (B.tape bank.new)
-        → AreGoneTold told members.new → IsUncleanTold told members.old → IsOfScope world.scope (B.given bank.old) slot sb.now → told.carried sb.now.dev_number ≡ false
+        → AreGoneTold told members.new → IsUncleanTold told members.old → IsOfScope world.scope (B.given bank.old) slot sb.now → ((s : ℕ) → told.carried s sb.now.dev_number ≡ false)
         → ((sector : Sector) → IsIn (disk (B.given bank.old).start (B.tape bank.old) slot 9) sector → IsSecondHalf sb.now sector) → HasLiveSlot members.old
         → IsSafeOver world (B.given bank.old) told members.old (B.tape bank.old)
-        → KeepsSafe world (B.given bank.old) (with_number sb.now.dev_number told) members.new (B.tape bank.old) (B.tape bank.new) }
+        → KeepsSafe world (B.given bank.old) (with_number slot sb.now.dev_number told) members.new (B.tape bank.old) (B.tape bank.new) }
     ensures given { B.given bank.new ≡ B.given bank.old }
     ensures counts { NeverFalls (B.faults_of bank.old) (B.faults_of bank.new) }
 {

@@ -1,10 +1,11 @@
 //! The superblock of a device that is new to an array.
 
 ghost use Rattle.std.specs.Prelude.{◌≡◌, ◌≤◌, ◌++◌, ◌<◌, ◌-◌, take, drop, length, IfSome};
-ghost use Rattle.views.specs.Numbers.{device_uuid, spare_sb, free_number};
+ghost use Rattle.views.specs.Numbers.{bearers, bearing, device_uuid, spare_sb, free_number};
 
 use sb1::{Features, Sb};
 use superblocks::says::entry_of;
+use superblocks::sets::{with, without};
 use uuid::Uuid;
 use views::Work;
 
@@ -19,13 +20,41 @@ pub fn device_uuid(array: &[u8; 16], number: u32) -> [u8; 16]
     *Uuid::new_v5(&Uuid::from_bytes(*array), digits.format(number).as_bytes()).as_bytes()
 }
 
-/// The smallest device number that no superblock of the array bears and that has no role.
+// The slots that may bear a device number, of these, once this slot bears a new one: that number or another. It may bear the
+// former ones too, or bears its new one only.
+fn bearers(slots: u32, slot: u32, is: bool, only: bool) -> u32
+    requires { slot < 32 }
+    ensures { result ≡ bearers only slot is slots }
+{
+    if is {
+        return with(slots, slot);
+    }
+    if only {
+        return without(slots, with(0, slot));
+    }
+    slots
+}
+
+/// From now on the slot's superblock may bear this device number too, or bears it only.
+pub fn bear(work: &mut Work, slot: u32, number: u32, only: bool)
+    requires slot { slot < 32 }
+    ensures { work.new ≡ bearing only slot number work.old }
+{
+    let mut carried = [0; 128];
+    for other in 0..128u32 {
+        let slots = work.carried[other as usize];
+        carried[other as usize] = bearers(slots, slot, other == number, only);
+    }
+    work.carried = carried;
+}
+
+/// The smallest device number that no superblock of the array may bear and that has no role.
 pub fn free_number(newest: &Sb, work: &Work) -> Option<u32>
     ensures number { result ≡ free_number newest.now work.now }
     ensures below { IfSome result (λ number. number < 128) }
 {
     for number in 0..128u32 {
-        if !work.carried[number as usize] && entry_of(newest, number) >= 0xfffe {
+        if work.carried[number as usize] == 0 && entry_of(newest, number) >= 0xfffe {
             return Some(number);
         }
     }

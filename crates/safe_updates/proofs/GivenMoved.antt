@@ -1,6 +1,7 @@
 -- What an update leaves of the members that gives a role to a slot.
 use Rattle.std.proofs.Common.{◌≡◌, ◌≢◌, ◌⊎◌, inl, inr, ⊎_elim, ℕ, ◌<◌, ◌≤◌, ◌==◌, ◌||◌, ◌&&◌, Bool, true, false, not, cond, nat_lt, List, map, length, get_or, Option, Some, None, refl, sym, ◌∙◌, ap, subst, arith}
 use Rattle.std.specs.Prelude.{pos, ◌-ℤ◌}
+use Rattle.std.specs.List.{list_any}
 use Rattle.std.specs.Option.{option_map_or}
 use Rattle.std.proofs.lemmas.Bool.{cases_eq}
 use Rattle.std.proofs.lemmas.Bool.Decides.{nat_tests}
@@ -16,7 +17,7 @@ use Rattle.superblocks.specs.declared.change.Give.TheVariants as give
 use Rattle.superblocks.specs.declared.members.Members.{Members}
 use Rattle.superblocks.specs.Reading.{count_of, is_reshaping, shape_of, final_shape, is_backward, role_count, role_state, holder, is_whole, data_offset_of}
 use Rattle.superblocks.specs.Reads.{SaysSame, has_spare}
-use Rattle.superblocks.specs.Update.{own_in, planned, give_of, is_planned_spare}
+use Rattle.superblocks.specs.Update.{own_in, planned, give_of, is_held_by, is_live, is_planned_spare}
 use Rattle.superblocks.specs.Updating.{IsLater, AreLosses, planned_newest}
 use Rattle.superblocks.specs.Outcome.{live_set, is_left, AreLive, AreStored, IsPlannedOwn, planned_roles, planned_spares}
 use Rattle.superblocks.proofs.ReadLists.{by_bool}
@@ -35,7 +36,7 @@ use Rattle.views.proofs.LackingLaws.{holder-without}
 use Rattle.views.proofs.MarkLaws.{few-planned}
 use Rattle.views.proofs.MovedLaws.{moved-less}
 use Rattle.views.proofs.PlacedLaws.{placed-less, less-unlost}
-use Rattle.views.proofs.shape_changes_Without.{state-without, live-is}
+use Rattle.views.proofs.shape_changes_Without.{state-without, any-holds, live-is, live-of}
 use Rattle.safe_updates.proofs.SparesLaws.{free-told}
 use Rattle.views.proofs.Gives.{holder-given, gives_of, give-here, give-other, roles-given, given-lost}
 use Rattle.safe_updates.proofs.GivenAway.{moved-away}
@@ -293,6 +294,11 @@ module _ (given : Given) (recovery : Option ℕ) (role slot : ℕ) (old new : Me
         let one = both (has_slot lost s) (not (has_slot held s)) (sym (is_told s) ∙ has) in
         let two = both (has_slot new.lost s) (not (has_slot old.lost s)) (sym (is_lost s) ∙ one.0) in
         losses.failed s two.0 (flip (has_slot old.lost s) two.1);
+    were = λ s has.
+        let one = both (has_slot lost s) (not (has_slot held s)) (sym (is_told s) ∙ has) in
+        let two = both (has_slot new.lost s) (not (has_slot old.lost s)) (sym (is_lost s) ∙ one.0) in
+        was-spare s (losses.live s two.0 (flip (has_slot old.lost s) two.1)) (flip (has_slot held s) one.1);
+    fewer = fewer;
     told = λ s has.
         let free = free-given all s has in
         let p = spare-before given old placed recovery role slot to s has in
@@ -309,6 +315,29 @@ module _ (given : Given) (recovery : Option ℕ) (role slot : ℕ) (old new : Me
       flip : (b : Bool) → not b ≡ true → b ≡ false
       flip true e = absurd (cc)
       flip false e = refl
+
+      -- a slot that was live, and holds no role then, is another spare
+      was-spare : (s : ℕ) → has_slot (live_set old (giving old slot role recovery)) s ≡ true → has_slot held s ≡ false → has_spare (W given old placed recovery role slot to).spares s ≡ true
+      was-spare s live idle = of (list_any (is_held_by s) old.roles) refl parts.1
+        where
+          parts : (nat_lt s 32 ≡ true) × (is_live old.roles old.spares s ≡ true)
+          parts = both (nat_lt s 32) (is_live old.roles old.spares s) (sym (live-of old (giving old slot role recovery) refl s) ∙ live)
+
+          unheld : (r : ℕ) → holder (role_state (reading_of (W given old placed recovery role slot to)) r) ≡ Some s → ⊥
+          unheld r is = absurd (let there = holders.all r s is in let clash = sym there ∙ idle in cc)
+
+          apart : s ≢ slot
+          apart same = unheld role (ap holder (state-here given old placed recovery role slot to) ∙ holder-given recovery slot ∙ ap (λ (n : ℕ). Some n) (sym same))
+
+          differ : (a b : ℕ) → a ≢ b → (a == b) ≡ false
+          differ a b apart = grind (arith, nat_tests, apart)
+
+          of : (b : Bool) → list_any (is_held_by s) old.roles ≡ b → (b || has_spare old.spares s) ≡ true → has_spare (W given old placed recovery role slot to).spares s ≡ true
+          of true holds e = absurd (
+              let found = any-holds s old.roles holds in
+              unheld found.0 (ap holder (state-other given old placed recovery role slot to found.0
+              (λ same. apart (to.others s (subst (λ (r : ℕ). holder (role_state (reading_of old) r) ≡ Some s) same found.1)))) ∙ found.1))
+          of false holds e = spare-then given old placed recovery role slot to s ∙ (λ i. parts.0 i && (e i && not (differ slot s (λ same. apart (sym same)) i)))
 
       is-below : (s : ℕ) → s < 32 → nat_lt s 32 ≡ true
       is-below s lt = grind (arith, nat_tests, lt)

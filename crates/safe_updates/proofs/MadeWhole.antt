@@ -240,10 +240,10 @@ making-of scope given role slot former gone d placed small held recovers = recor
 pub record IsMoreBack (sound : Type 0) (scope : Scope) (given : Given) (told more : Ledger) (role slot : ℕ) (new : Members) : Type 0 where
   pub right : (m : Members) (d : ℕ → ℕ → List Sector) → role_state (reading_of m) role ≡ Whole slot → IsViewRight sound scope given told m d → IsViewRight sound scope given more m d
   pub gone : AreGoneTold more new
-  pub carried : (number : ℕ) → told.carried number ≡ true → more.carried number ≡ true
+  pub carried : (slot number : ℕ) → told.carried slot number ≡ true → more.carried slot number ≡ true
 
 pub back-same : (sound : Type 0) (scope : Scope) (given : Given) (told : Ledger) (role slot : ℕ) (new : Members) → AreGoneTold told new → IsMoreBack sound scope given told told role slot new
-back-same sound scope given told role slot new gone = record { right = λ m d whole right. right; gone = gone; carried = λ number is. is }
+back-same sound scope given told role slot new gone = record { right = λ m d whole right. right; gone = gone; carried = λ slot number is. is }
 
 pub back-told : (told : Ledger) (role slot : ℕ) (new : Members) → AreGoneTold told new → role_state (reading_of new) role ≡ Whole slot → AreGoneTold (given_back role told) new
 back-told told role slot new gone whole r lt missing = (λ i. gone r lt missing i && not (other i))
@@ -272,7 +272,7 @@ back-given sound scope given told role slot new gone whole = record {
     tails = right.tails;
   };
   gone = back-told told role slot new gone whole;
-  carried = λ number is. is;
+  carried = λ slot number is. is;
 }
 
 -- ---- what the update owes

@@ -1,21 +1,24 @@
 -- The spares that an update leaves.
 use Rattle.std.proofs.Common.{◌≡◌, ◌⊎◌, inl, inr, ℕ, ◌<◌, ◌&&◌, ◌||◌, Bool, true, false, not, nat_lt, List, replicate, refl, sym, ◌∙◌, ap, arith}
 use Rattle.std.specs.Prelude.{None}
+use Rattle.std.specs.List.{list_any}
 use Rattle.std.proofs.lemmas.Bool.Decides.{nat_tests}
 use Rattle.md_base.specs.Shapes.{has_slot}
 use Rattle.bank.specs.Given.{Given}
+use Rattle.superblocks.specs.declared.change.Change.{Change}
 use Rattle.superblocks.specs.declared.change.Give.{Give}
 use Rattle.superblocks.specs.declared.change.Give.TheVariants.{Same}
 use Rattle.superblocks.specs.declared.members.Members.{Members}
-use Rattle.superblocks.specs.Outcome.{planned_spares}
+use Rattle.superblocks.specs.Outcome.{live_set, planned_spares}
 use Rattle.superblocks.specs.Reads.{has_spare}
-use Rattle.superblocks.specs.Update.{is_planned_spare, give_of}
+use Rattle.superblocks.specs.Update.{is_held_by, is_live, is_planned_spare, give_of}
 use Rattle.views.proofs.superblock_reads_SaidSlots.{has-slots_below}
 use Rattle.row_io.specs.Rows.{reading_of}
 use Rattle.views.specs.Flushing.{AreHolders}
 use Rattle.views.specs.shape_changes_Marking.{marking}
 use Rattle.views.specs.Rebuilding.{IsFree}
 use Rattle.views.proofs.shape_changes_Kept.{give_of-same}
+use Rattle.views.proofs.shape_changes_Without.{any-holds, live-of}
 
 -- a mark leaves those that aren't lost
 module _ (old : Members) (clean : Bool) (lost : ℕ) (slots : List ℕ) (is : slots ≡ planned_spares old (marking old clean) lost) where
@@ -42,6 +45,19 @@ module _ (old : Members) (clean : Bool) (lost : ℕ) (slots : List ℕ) (is : sl
       all below true spare one two three = absurd (cc)
       all false gone spare one two three = absurd (cc)
       all below gone false one two three = absurd (cc)
+
+-- a slot that was lost in an update, and holds no role, was a spare
+pub told-were : (m : Members) (change : Change) (held slot : ℕ) → change.added ≡ None → AreHolders (reading_of m) held → has_slot (live_set m change) slot ≡ true → has_slot held slot ≡ false
+    → has_spare m.spares slot ≡ true
+told-were m change held slot none holders live idle = of (list_any (is_held_by slot) m.roles) refl (second (nat_lt slot 32) (is_live m.roles m.spares slot) (sym (live-of m change none slot) ∙ live))
+  where
+    second : (a b : Bool) → (a && b) ≡ true → b ≡ true
+    second true b e = e
+    second false b e = absurd (cc)
+
+    of : (b : Bool) → list_any (is_held_by slot) m.roles ≡ b → (b || has_spare m.spares slot) ≡ true → has_spare m.spares slot ≡ true
+    of true holds e = absurd (let found = any-holds slot m.roles holds in let there = holders.all found.0 slot found.1 in let clash = sym there ∙ idle in cc)
+    of false holds e = e
 
 -- Of the slots that were lost in an update those that held no role are told: a free one is left, or it is among them.
 pub free-told : {given : Given} (m : Members) (held after lost told slot : ℕ) → IsFree given m slot → AreHolders (reading_of m) held

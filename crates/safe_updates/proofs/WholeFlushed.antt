@@ -1,5 +1,5 @@
 -- The slot that recovers a role is flushed, before the role is recorded whole: it has every row then, or it failed and is lost.
-use Rattle.std.proofs.Common.{◌≡◌, ◌≢◌, inl, inr, ⊎_elim, ℕ, zero, suc, ◌+◌, ◌<◌, ◌≤◌, ◌==◌, ◌++◌, Bool, true, false, not, cond, take, take_all, le_refl, List, [], ◌∷◌, length, Some, None, Result, Ok, Err, refl, sym, ◌∙◌, ap, subst, arith}
+use Rattle.std.proofs.Common.{◌≡◌, ◌≢◌, inl, inr, ⊎_elim, ℕ, zero, suc, ◌+◌, ◌<◌, ◌≤◌, ◌==◌, ◌++◌, ◌&&◌, nat_lt, Bool, true, false, not, cond, take, take_all, le_refl, List, [], ◌∷◌, length, Some, None, Result, Ok, Err, refl, sym, ◌∙◌, ap, subst, arith}
 use Rattle.std.specs.Prelude.{IsOk, is_err}
 use Rattle.std.proofs.lemmas.Bool.{cases_eq}
 use Rattle.std.proofs.lemmas.Bool.Decides.{nat_tests}
@@ -28,7 +28,7 @@ use Rattle.views.proofs.HeldRows.{missing-moved}
 use Rattle.views.proofs.LackingLaws.{holder-without}
 use Rattle.views.proofs.MovedLaws.{moved-without, moved-then, moved-from}
 use Rattle.safe_updates.proofs.GivenAway.{moved-away}
-use Rattle.views.proofs.GivenMembers.{IsReceiver, W, holder-then, spare-before}
+use Rattle.views.proofs.GivenMembers.{IsReceiver, W, holder-then, spare-then, spare-before}
 use Rattle.safe_updates.proofs.MadeWhole.{holder-receives}
 
 -- ---- it was flushed
@@ -47,6 +47,8 @@ pub since-earlier : (old new : Members) (spares : ℕ) (f g h : ℕ → ℕ) →
 since-earlier old new spares f g h early late since = record {
   roles = λ r s held. ⊎_elim (λ still. inl still) (λ did. inr (longer s did)) (since.roles r s held);
   spares_are = λ s has. longer s (since.spares_are s has);
+  were = since.were;
+  fewer = since.fewer;
   told = since.told;
 }
   where
@@ -116,11 +118,24 @@ module _ (given given1 : Given) (m mid : Members) (lost role slot : ℕ) (placed
             (holder-then given m placed None role slot to r s holds)
       ];
       spares_are = λ s has. longer s (since.spares_are s has);
+      were = λ s has. spare-mid s (since.were s has);
+      fewer = λ s has. spare-mid s (since.fewer s has);
       told = λ s has. since.told s (ap (λ (x : Members). has_spare x.spares s) is ∙ (spare-before given m placed None role slot to s has).0);
     }
       where
         differ : (a b : ℕ) → a ≢ b → (a == b) ≡ false
         differ a b apart = grind (arith, nat_tests, apart)
+
+        is-below : (a b : ℕ) → a < b → nat_lt a b ≡ true
+        is-below a b lt = grind (arith, nat_tests, lt)
+
+        -- the slot was no spare, since it held the role
+        spare-mid : (s : ℕ) → has_spare mid.spares s ≡ true → has_spare (W given m placed None role slot to).spares s ≡ true
+        spare-mid s has =
+            let was : has_spare m.spares s ≡ true = ap (λ (x : Members). has_spare x.spares s) (sym is) ∙ has in
+            let room = free s was in
+            let apart : slot ≢ s = λ here. room.none role (ap holder recovers ∙ ap (λ (k : ℕ). Some k) here) in
+            spare-then given m placed None role slot to s ∙ (λ i. is-below s 32 room.room.small i && (was i && not (differ slot s apart i)))
 
         longer : (s : ℕ) → IsFaulted s g h → IsFaulted s f h
         longer s fault = faulted_longer s f g h h (early s) (omega arith) (late s) fault

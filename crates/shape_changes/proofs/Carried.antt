@@ -27,7 +27,7 @@ use Rattle.shape_views.proofs.superblocks_SlotSets.{has-set_of}
 use Rattle.shape_views.proofs.superblocks_WrittenReads.{planned-stamped}
 use Rattle.shape_changes.specs.Marking.{marking}
 use Rattle.shape_changes.specs.Rounds.{IsHeldSince}
-use Rattle.shape_changes.specs.Carried.{AreCarried}
+use Rattle.shape_changes.specs.Carried.{AreCarried, BearsOwn, AreToldAnew}
 use Rattle.shape_changes.proofs.Without.{in-both, live-before}
 
 abbrev Disk : Type 0
@@ -35,13 +35,13 @@ Disk = ℕ → ℕ → List Sector
 
 -- ---- more that is told, and less that a stop may leave
 
-pub carried-more : (scope : Scope) (told more : ℕ → Bool) (own : List (Option Sb)) (d : Disk) → ((number : ℕ) → told number ≡ true → more number ≡ true) → AreCarried scope told own d → AreCarried scope more own d
+pub carried-more : (scope : Scope) (told more : ℕ → ℕ → Bool) (own : List (Option Sb)) (d : Disk) → ((slot number : ℕ) → told slot number ≡ true → more slot number ≡ true) → AreCarried scope told own d → AreCarried scope more own d
 carried-more scope told more own d still are = record {
-  kept = λ slot sb is. still sb.dev_number (are.kept slot sb is);
-  shown = λ slot sb may. still sb.dev_number (are.shown slot sb may);
+  kept = λ slot sb is. still slot sb.dev_number (are.kept slot sb is);
+  shown = λ slot sb may. still slot sb.dev_number (are.shown slot sb may);
 }
 
-pub carried-fewer : (scope : Scope) (told : ℕ → Bool) (own : List (Option Sb)) (d e : Disk) → ((s : ℕ) (v : Sector) → IsIn (e s 8) v → IsIn (d s 8) v) → ((s : ℕ) (v : Sector) → IsIn (e s 9) v → IsIn (d s 9) v)
+pub carried-fewer : (scope : Scope) (told : ℕ → ℕ → Bool) (own : List (Option Sb)) (d e : Disk) → ((s : ℕ) (v : Sector) → IsIn (e s 8) v → IsIn (d s 8) v) → ((s : ℕ) (v : Sector) → IsIn (e s 9) v → IsIn (d s 9) v)
     → AreCarried scope told own d → AreCarried scope told own e
 carried-fewer scope told own d e eighth ninth are = record {
   kept = are.kept;
@@ -78,27 +78,27 @@ number-planned scope slot d e held later own sb g is rewritable may ninth first 
 
 -- ---- an update, by what it touched
 
-module _ (scope : Scope) (told : ℕ → Bool) (former newest : Sb) (change : Change) (old new : List (Option Sb)) (live lost : ℕ) (left : ℕ → Bool) (d e : Disk) where
+module _ (scope : Scope) (told : ℕ → ℕ → Bool) (former newest : Sb) (change : Change) (old new : List (Option Sb)) (live lost : ℕ) (left : ℕ → Bool) (d e : Disk) where
   -- what a slot may show that was written
   shown-planned : AreCarried scope told old d → (slot : ℕ) (sb later : Sb) (g : Give) → IsRewritable scope (own_in old slot) slot d → (may : MayRead scope e slot (Some sb)) → IsIn (d slot 9) (may.at 9)
-      → IsPlanned later g (own_in old slot) (may.at 8) → told sb.dev_number ≡ true
+      → IsPlanned later g (own_in old slot) (may.at 8) → told slot sb.dev_number ≡ true
   shown-planned are slot sb later g rewritable may ninth = of (own_in old slot) refl
     where
-      of : (held : Option Sb) → own_in old slot ≡ held → IsPlanned later g held (may.at 8) → told sb.dev_number ≡ true
+      of : (held : Option Sb) → own_in old slot ≡ held → IsPlanned later g held (may.at 8) → told slot sb.dev_number ≡ true
       of None is plan = absurd plan
-      of (Some own) is plan = ap told (number-planned scope slot d e (own_in old slot) later own sb g is rewritable may ninth plan) ∙ are.kept slot own is
+      of (Some own) is plan = ap (told slot) (number-planned scope slot d e (own_in old slot) later own sb g is rewritable may ninth plan) ∙ are.kept slot own is
 
   -- what was stored bears the number of the former one
-  stored-number : AreStored newest change.gives left old new → AreCarried scope told old d → (slot : ℕ) (sb : Sb) → own_in new slot ≡ Some sb → told sb.dev_number ≡ true
+  stored-number : AreStored newest change.gives left old new → AreCarried scope told old d → (slot : ℕ) (sb : Sb) → own_in new slot ≡ Some sb → told slot sb.dev_number ≡ true
   stored-number stored are slot sb is = by (left slot) refl
     where
-      of : (held : Option Sb) → own_in old slot ≡ held → IsPlannedOwn newest (give_of change.gives slot) held (own_in new slot) → told sb.dev_number ≡ true
+      of : (held : Option Sb) → own_in old slot ≡ held → IsPlannedOwn newest (give_of change.gives slot) held (own_in new slot) → told slot sb.dev_number ≡ true
       of None was plan = absurd plan
       of (Some own) was plan =
           let same : sb ≡ record (planned newest (give_of change.gives slot) own) { sb_csum = checksum plan.bytes } = some-same sb (sb_of plan.bytes) (sym is ∙ plan.own) ∙ plan.fields in
-          ap told (ap (λ (x : Sb). x.dev_number) same ∙ (planned-of newest own (give_of change.gives slot)).number) ∙ are.kept slot own was
+          ap (told slot) (ap (λ (x : Sb). x.dev_number) same ∙ (planned-of newest own (give_of change.gives slot)).number) ∙ are.kept slot own was
 
-      by : (b : Bool) → left slot ≡ b → told sb.dev_number ≡ true
+      by : (b : Bool) → left slot ≡ b → told slot sb.dev_number ≡ true
       by true here = of (own_in old slot) refl (stored.written slot here)
       by false there = are.kept slot sb (sym (stored.others slot there) ∙ is)
 
@@ -110,13 +110,13 @@ module _ (scope : Scope) (told : ℕ → Bool) (former newest : Sb) (change : Ch
       was-ninth : (s : ℕ) (v : Sector) → IsIn (e s 9) v → IsIn (d s 9) v
       was-ninth s v may = kept_in (d s 9) (e s 9) v (touched.elsewhere s 9 (λ is. absurd (omega (arith, is)))) may
 
-      shown : (slot : ℕ) (sb : Sb) → MayRead scope e slot (Some sb) → told sb.dev_number ≡ true
+      shown : (slot : ℕ) (sb : Sb) → MayRead scope e slot (Some sb) → told slot sb.dev_number ≡ true
       shown slot sb may = by (touched.values slot (may.at 8) may.eighth)
         where
-          former-one : IsIn (d slot 8) (may.at 8) → told sb.dev_number ≡ true
+          former-one : IsIn (d slot 8) (may.at 8) → told slot sb.dev_number ≡ true
           former-one eighth = are.shown slot sb (record { at = may.at; eighth = eighth; ninth = was-ninth slot (may.at 9) may.ninth; is = may.is })
 
-          of : (a b : Bool) → has_slot live slot ≡ a → has_slot lost slot ≡ b → IsWrittenBy former change old slot (may.at 8) → told sb.dev_number ≡ true
+          of : (a b : Bool) → has_slot live slot ≡ a → has_slot lost slot ≡ b → IsWrittenBy former change old slot (may.at 8) → told slot sb.dev_number ≡ true
           of false b dead is written = former-one (subst (λ (l : List Sector). IsIn l (may.at 8)) (touched.others slot 8 dead) may.eighth)
           of true true alive gone written = former-one (subst (λ (l : List Sector). IsIn l (may.at 8)) (touched.gone slot 8 gone) may.eighth)
           of true false alive there (inl recorded) =
@@ -124,7 +124,7 @@ module _ (scope : Scope) (told : ℕ → Bool) (former newest : Sb) (change : Ch
           of true false alive there (inr recorded) =
               shown-planned are slot sb recorded.0 (give_of change.gives slot) (rewritable slot alive there) may (was-ninth slot (may.at 9) may.ninth) recorded.2
 
-          by : IsIn (d slot 8) (may.at 8) ⊎ IsWrittenBy former change old slot (may.at 8) → told sb.dev_number ≡ true
+          by : IsIn (d slot 8) (may.at 8) ⊎ IsWrittenBy former change old slot (may.at 8) → told slot sb.dev_number ≡ true
           by (inl eighth) = former-one eighth
           by (inr written) = of (has_slot live slot) (has_slot lost slot) refl refl written
 
@@ -163,7 +163,7 @@ live-known scope former members change d s none since live there =
         (ap (λ (m : Members). has_slot (live_set m (marking m false)) s) (sym since.since) ∙ sym (live-marking members change s none) ∙ live)
 
 -- Each number stays told over such an update.
-pub numbers-updated : {tells : Type 0} (scope : Scope) (given : Given) (told : ℕ → Bool) (former members new : Members) (change : Change) (newest : Sb) (lost : ℕ) (left : ℕ → Bool) (before after : List Operation)
+pub numbers-updated : {tells : Type 0} (scope : Scope) (given : Given) (told : ℕ → ℕ → Bool) (former members new : Members) (change : Change) (newest : Sb) (lost : ℕ) (left : ℕ → Bool) (before after : List Operation)
     → tells → change.added ≡ None → IsUpdate tells (live_set members change) members.lost lost (IsWrittenBy members.newest change members.own) given.start before after
     → AreStored newest change.gives left members.own new.own → IsHeldSince scope former members (disk given.start before)
     → AreCarried scope told former.own (disk given.start before) → AreCarried scope told new.own (disk given.start after)
@@ -177,3 +177,31 @@ numbers-updated scope given told former members new change newest lost left befo
   where
     own-same : members.own ≡ former.own
     own-same = ap (λ (m : Members). m.own) since.since
+
+-- ---- numbers that are told anew
+
+-- a live slot shows the number of its kept superblock alone
+pub carried-anew : (scope : Scope) (told more : ℕ → ℕ → Bool) (former members : Members) (d : Disk) → IsHeldSince scope former members d → AreToldAnew members told more
+    → AreCarried scope told former.own d → AreCarried scope more former.own d
+carried-anew scope told more former members d since anew are = record { kept = kept; shown = shown }
+  where
+    own-same : members.own ≡ former.own
+    own-same = ap (λ (m : Members). m.own) since.since
+
+    kept : (slot : ℕ) (sb : Sb) → own_in former.own slot ≡ Some sb → more slot sb.dev_number ≡ true
+    kept slot sb is = elim (anew slot) [
+      | inl keeps ↦ keeps sb.dev_number (are.kept slot sb is)
+      | inr own ↦ own.own sb ((λ i. own_in (own-same i) slot) ∙ is)
+    ]
+
+    shown : (slot : ℕ) (sb : Sb) → MayRead scope d slot (Some sb) → more slot sb.dev_number ≡ true
+    shown slot sb may = elim (anew slot) [
+      | inl keeps ↦ keeps sb.dev_number (are.shown slot sb may)
+      | inr own ↦ by own (live-known scope former members (marking members false) d slot refl since own.live own.there)
+    ]
+      where
+        by : BearsOwn members more slot → IsKnown scope former.newest (own_in former.own slot) slot d → more slot sb.dev_number ≡ true
+        by own known =
+            let (before, stamped, is) = known.reads (Some sb) may in
+            let same : sb ≡ record before { sb_csum = stamped.0 } = some-same sb (record before { sb_csum = stamped.0 }) stamped.1 in
+            ap (more slot) (ap (λ (x : Sb). x.dev_number) same ∙ is.number) ∙ own.own known.sb ((λ i. own_in (own-same i) slot) ∙ known.own)

@@ -57,6 +57,14 @@ module _ (scope : Scope) (d e : ℕ → ℕ → List Sector) (eighth : (s : ℕ)
             spare = λ found left m. other.spare found left (was-read s found m);
           };
       top = (h.top.0, h.top.1, λ found m. h.top.2 found (was-read h.top.0 found m));
+      first = λ s sb f. h.first s sb (record {
+        there = f.there;
+        shown = f.shown;
+        may = λ t low. was-read t (f.shown t) (f.may t low);
+        is = f.is;
+        events = f.events;
+        none = f.none;
+      });
       apart = λ s t a b differ is is' fresh fresh'. h.apart s t a b differ (was-shown s a is) (was-shown t b is') fresh fresh';
     }
 

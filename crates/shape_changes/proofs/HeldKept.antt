@@ -74,6 +74,14 @@ module _ (scope : Scope) (d e : ℕ → ℕ → List Sector) (some : IsSomewhere
         spare = λ found left m. o.spare found left (read-before s found m);
       };
       top = (h.top.0, h.top.1, λ found m. h.top.2 found (read-before h.top.0 found m));
+      first = λ s sb f. h.first s sb (record {
+        there = f.there;
+        shown = f.shown;
+        may = λ t low. read-before t (f.shown t) (f.may t low);
+        is = f.is;
+        events = f.events;
+        none = f.none;
+      });
       apart = λ s t a b differ is is' fresh fresh'. h.apart s t a b differ (shown-before s a is) (shown-before t b is') fresh fresh';
     }
 

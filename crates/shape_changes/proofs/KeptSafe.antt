@@ -105,7 +105,7 @@ steady-count sound scope given told old d steady = subst (λ (o : Members). leng
 
 module _ (sound : Type 0) (scope : Scope) (given : Given) (told more : Ledger) (change : Change) (old new : Members) (before after : List Operation)
     (m : IsChanged ⊤ given change old new before after) (keeps : IsKeepingAll old change) (gone : AreGoneTold more new)
-    (carried : (number : ℕ) → told.carried number ≡ true → more.carried number ≡ true) (steady : IsSteady sound scope given told old (disk given.start before)) where
+    (carried : (slot number : ℕ) → told.carried slot number ≡ true → more.carried slot number ≡ true) (steady : IsSteady sound scope given told old (disk given.start before)) where
   fit : IsFitUpdate old change
   fit = taking-is-fit scope steady.former old change (disk given.start before) steady.since (record {
     none = keeps.none;
@@ -205,9 +205,9 @@ module _ (sound : Type 0) (scope : Scope) (given : Given) (told : Ledger) (clean
     (m : IsChanged ⊤ given (marking old clean) old new before after) (room : HasRoomLeft old before after) (markable : IsMarkable sound scope clean told old new (disk given.start before))
     (now : IsSafeNow sound scope given told old (disk given.start before)) where
   pub marked-change : IsSafeChange sound scope given told told new before after
-  marked-change = kept-safe sound scope given told told (marking old clean) old new before after m (keeps-mark old clean) room markable.gone (λ number is. is) (λ steady.
+  marked-change = kept-safe sound scope given told told (marking old clean) old new before after m (keeps-mark old clean) room markable.gone (λ slot number is. is) (λ steady.
       marked-right sound scope given told clean old new (disk given.start before) markable (steady-right sound scope given told old (disk given.start before) steady
-      (λ role lt missing. told-as sound scope given told told (marking old clean) old new before after m (keeps-mark old clean) markable.gone (λ number is. is) steady role lt missing))) now
+      (λ role lt missing. told-as sound scope given told told (marking old clean) old new before after m (keeps-mark old clean) markable.gone (λ slot number is. is) steady role lt missing))) now
 
 pub mark-safe : (sound : Type 0) → MarkStaysSafe sound
 mark-safe sound scope given told clean old new before after m room markable now =
@@ -228,7 +228,7 @@ keeps-record span old = record { none = refl; size = refl; count = refl; same = 
 pub record-safe : (sound : Type 0) → RecordStaysSafe sound
 record-safe sound scope given told span old new before after m room gone right now =
     one-stretch sound scope given told new before after
-    (kept-safe sound scope given told told (recording span old) old new before after m (keeps-record span old) room gone (λ number is. is) (λ steady.
+    (kept-safe sound scope given told told (recording span old) old new before after m (keeps-record span old) room gone (λ slot number is. is) (λ steady.
     subst (λ (o : Members). AreGoneTold told (moved_past span o) → IsViewRight sound scope given told (moved_past span o) (disk given.start before)) (sym steady.since.since)
     (λ tells. without-right sound scope given told (moved_past span steady.former) steady.since.gone (disk given.start before) (right steady) tells)
-    (told-as sound scope given told told (recording span old) old new before after m (keeps-record span old) gone (λ number is. is) steady)) now)
+    (told-as sound scope given told told (recording span old) old new before after m (keeps-record span old) gone (λ slot number is. is) steady)) now)

@@ -6,19 +6,19 @@ use Rattle.md_base.specs.Shapes.{has_slot}
 use Rattle.bank.specs.declared.bank.Operation.{Operation}
 use Rattle.bank.specs.declared.bank.Operation.TheVariants.{Write, Flush}
 use Rattle.bank.specs.Given.{Given}
-use Rattle.bank.specs.Tape.{IsIn, disk, run, AreFlushes}
+use Rattle.bank.specs.Tape.{Contents, IsIn, disk, run, AreFlushes}
 use Rattle.bank.proofs.Marks.{Along, each_mark-along}
 use Rattle.shape_views.specs.superblocks_the_Members.{Members}
 use Rattle.shape_views.specs.superblocks_Reading.{Scope, list_length}
 use Rattle.shape_views.specs.row_io_Rows.{members_without}
 use Rattle.shape_views.proofs.flat_history_SameLaws.{read-same}
-use Rattle.shape_views.specs.Views.{Disk, Ledger, IsSettled, IsViewRight}
+use Rattle.shape_views.specs.Views.{Disk, Ledger, IsSettled, IsViewRight, IsSeenRight}
 use Rattle.shape_views.specs.Windows.{IsSomewhere, AreFewer}
 use Rattle.shape_views.proofs.Stands.{window-inside}
 use Rattle.shape_views.proofs.WindowLaws.{fewer-right, open-window}
 use Rattle.shape_changes.specs.Safety.{HasLiveSlot}
-use Rattle.shape_changes.specs.Steady.{AreViewsRight, HeldIsRead, IsSteady, IsSafeNow, SafeIsSeen, IsMoreTold, LosingStaysSafe, FlushesStaySafe}
-use Rattle.shape_changes.proofs.Carried.{carried-more, carried-fewer}
+use Rattle.shape_changes.specs.Steady.{AreViewsRight, HeldIsRead, IsSteady, IsSafeNow, SafeIsSeen, IsMoreTold, LosingStaysSafe, NumbersStaySafe, FlushesStaySafe}
+use Rattle.shape_changes.proofs.Carried.{carried-more, carried-fewer, carried-anew}
 use Rattle.shape_changes.proofs.ChangeViews.{known-read}
 use Rattle.shape_changes.proofs.Drawn.{disk-somewhere, filled, filled-drawn, filled-same}
 use Rattle.shape_changes.proofs.HeldKept.{held-fewer}
@@ -104,6 +104,39 @@ losing-stays-safe sound scope given lost told more members d is (inl steady) = i
 losing-stays-safe sound scope given lost told more members d is (inr spent) = inr (record {
   right = views-told sound given told more is scope d spent.right;
   none = none-left members lost spent.none;
+})
+
+-- ---- device numbers that are told anew
+
+module _ (sound : Type 0) (scope : Scope) (given : Given) (told : Ledger) (carried : ℕ → ℕ → Bool) (d : Disk) where
+  -- no view tells of them
+  view-anew : (m : Members) → IsViewRight sound scope given told m d → IsViewRight sound scope given (record told { carried = carried }) m d
+  view-anew m right = record {
+    placed = right.placed;
+    sized = right.sized;
+    gone = right.gone;
+    unclean = right.unclean;
+    reshaping = right.reshaping;
+    held = right.held;
+    sections = right.sections;
+    settled = right.settled;
+    headers = right.headers;
+    tails = right.tails;
+  }
+
+  pub seen-anew : (c : Contents) → IsSeenRight sound scope given told d c → IsSeenRight sound scope given (record told { carried = carried }) d c
+  seen-anew c seen = record { found = seen.found; is = seen.is; view = seen.view; same = seen.same; right = view-anew seen.view seen.right }
+
+pub numbers-stay-safe : (sound : Type 0) → NumbersStaySafe sound
+numbers-stay-safe sound scope given told carried members d anew (inl steady) = inl (record {
+  former = steady.former;
+  since = steady.since;
+  right = view-anew sound scope given told carried d steady.former steady.right;
+  numbers = carried-anew scope told.carried carried steady.former members d steady.since anew steady.numbers;
+})
+numbers-stay-safe sound scope given told carried members d anew (inr spent) = inr (record {
+  right = λ c drawn. seen-anew sound scope given told carried d c (spent.right c drawn);
+  none = spent.none;
 })
 
 -- ---- where a stop may leave less

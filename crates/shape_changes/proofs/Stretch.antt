@@ -108,7 +108,7 @@ pub record IsUnderWay (sound : Type 0) (scope : Scope) (given : Given) (told mor
       → role < role_count (planned_newest change.shared former.newest)
   pub plan : IsViewRight sound scope given more (planned_view (members_without gone former) change (members_without gone former).lost) (disk given.start before)
   pub missing : AreGoneTold more (planned_view (members_without gone former) change new.lost)
-  pub carried : (number : ℕ) → told.carried number ≡ true → more.carried number ≡ true
+  pub carried : (slot number : ℕ) → told.carried slot number ≡ true → more.carried slot number ≡ true
 
 module _ {sound : Type 0} {scope : Scope} {given : Given} {told more : Ledger} {change : Change} {former : Members} {gone : ℕ} {new : Members} {before after : List Operation}
     (u : IsUnderWay sound scope given told more change former gone new before after) where

@@ -74,5 +74,5 @@ module _ (sound : Type 0) (scope : Scope) (given : Given) (told : Ledger) (shape
 pub writes-stay-safe : (sound : Type 0) → WritesStaySafe sound
 writes-stay-safe sound scope given told members shape list rows lost d e holders dirty unlost region allowed zeros putting kept safe =
     losing-stays-safe sound scope given lost told told members e
-    (record { size = refl; values = λ x lt v may. may; gone = λ role is. is; unclean = λ is. is; reshaping = λ is. is; carried = λ number is. is })
+    (record { size = refl; values = λ x lt v may. may; gone = λ role is. is; unclean = λ is. is; reshaping = λ is. is; carried = λ slot number is. is })
     (safe-written sound scope given told shape list rows d e kept members holders dirty unlost region allowed zeros putting safe)

@@ -1,12 +1,26 @@
 -- The device numbers that superblocks of an array bear.
-use Rattle.std.specs.Prelude.{◌≡◌, ℕ, Bool, true, List, Option, Some}
+use Rattle.std.specs.Prelude.{◌≡◌, ◌⊎◌, ℕ, Bool, true, false, List, Option, Some}
 use Rattle.md_base.specs.Sectors.{Sector}
+use Rattle.md_base.specs.Shapes.{has_slot}
 use Rattle.sb1.specs.declared.sb.Sb.{Sb}
+use Rattle.shape_views.specs.superblocks_the_Members.{Members}
 use Rattle.shape_views.specs.superblocks_Reading.{Scope}
+use Rattle.shape_views.specs.superblocks_Outcome.{live_set}
 use Rattle.shape_views.specs.superblocks_Update.{own_in}
 use Rattle.shape_views.specs.superblocks_Held.{MayRead}
+use Rattle.shape_changes.specs.Marking.{marking}
 
--- each number that a kept superblock bears, or one that a slot may show, is among these
-pub record AreCarried (scope : Scope) (carried : ℕ → Bool) (own : List (Option Sb)) (d : ℕ → ℕ → List Sector) : Type 0 where
-  pub kept : (slot : ℕ) (sb : Sb) → own_in own slot ≡ Some sb → carried sb.dev_number ≡ true
-  pub shown : (slot : ℕ) (sb : Sb) → MayRead scope d slot (Some sb) → carried sb.dev_number ≡ true
+-- each number that a slot's kept superblock bears, or one that it may show, is told of it
+pub record AreCarried (scope : Scope) (carried : ℕ → ℕ → Bool) (own : List (Option Sb)) (d : ℕ → ℕ → List Sector) : Type 0 where
+  pub kept : (slot : ℕ) (sb : Sb) → own_in own slot ≡ Some sb → carried slot sb.dev_number ≡ true
+  pub shown : (slot : ℕ) (sb : Sb) → MayRead scope d slot (Some sb) → carried slot sb.dev_number ≡ true
+
+-- A live slot, of which the number of its kept superblock is told.
+pub record BearsOwn (members : Members) (carried : ℕ → ℕ → Bool) (slot : ℕ) : Type 0 where
+  pub live : has_slot (live_set members (marking members false)) slot ≡ true
+  pub there : has_slot members.lost slot ≡ false
+  pub own : (sb : Sb) → own_in members.own slot ≡ Some sb → carried slot sb.dev_number ≡ true
+
+-- of each slot the numbers are told that were before, or it is such a one
+abbrev pub AreToldAnew : Members → (ℕ → ℕ → Bool) → (ℕ → ℕ → Bool) → Type 0
+AreToldAnew members old new = (slot : ℕ) → ((number : ℕ) → old slot number ≡ true → new slot number ≡ true) ⊎ BearsOwn members new slot

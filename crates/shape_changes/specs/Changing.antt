@@ -58,7 +58,7 @@ pub record IsPlannedSafe (sound : Type 0) (scope : Scope) (given : Given) (told 
   pub fit : IsFitUpdate old change
   pub right : IsViewRight sound scope given more (planned_view old change old.lost) d
   pub gone : AreGoneTold more (planned_view old change new.lost)
-  pub carried : (number : ℕ) → told.carried number ≡ true → more.carried number ≡ true
+  pub carried : (slot number : ℕ) → told.carried slot number ≡ true → more.carried slot number ≡ true
 
 -- ---- what it leaves
 

@@ -42,7 +42,7 @@ pub record IsKeepingAll (old : Members) (change : Change) : Type 0 where
 abbrev pub KeptStaysSafe : (sound : Type 0) → Type 0
 KeptStaysSafe sound = (scope : Scope) (given : Given) (told more : Ledger) (change : Change) (old new : Members) (before after : List Operation)
     → IsChanged ⊤ given change old new before after → IsKeepingAll old change → HasRoomLeft old before after → AreGoneTold more new
-    → ((number : ℕ) → told.carried number ≡ true → more.carried number ≡ true)
+    → ((slot number : ℕ) → told.carried slot number ≡ true → more.carried slot number ≡ true)
     → (IsSteady sound scope given told old (disk given.start before) → IsViewRight sound scope given more (record old { newest = change.shared }) (disk given.start before))
     → IsSafeNow sound scope given told old (disk given.start before) → IsSafeChange sound scope given told more new before after
 

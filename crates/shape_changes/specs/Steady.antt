@@ -16,7 +16,7 @@ use Rattle.shape_views.specs.flat_history_Sound.{OpensFit}
 use Rattle.shape_views.specs.Regions.{IsReadOf}
 use Rattle.shape_views.specs.Views.{Disk, Ledger, IsTailZero, IsViewRight, IsSeenRight}
 use Rattle.shape_views.specs.Windows.{IsOfRegion}
-use Rattle.shape_changes.specs.Carried.{AreCarried}
+use Rattle.shape_changes.specs.Carried.{AreCarried, AreToldAnew}
 use Rattle.shape_changes.specs.Held.{IsHeldBy}
 use Rattle.shape_changes.specs.Rounds.{IsHeldSince}
 use Rattle.shape_changes.specs.Safety.{HasLiveSlot}
@@ -80,12 +80,17 @@ pub record IsMoreTold (told more : Ledger) : Type 0 where
   pub gone : (role : ℕ) → told.gone role ≡ true → more.gone role ≡ true
   pub unclean : told.unclean ≡ true → more.unclean ≡ true
   pub reshaping : told.reshaping ≡ true → more.reshaping ≡ true
-  pub carried : (number : ℕ) → told.carried number ≡ true → more.carried number ≡ true
+  pub carried : (slot number : ℕ) → told.carried slot number ≡ true → more.carried slot number ≡ true
 
 -- slots that are lost leave it safe, and so does more that is told
 abbrev pub LosingStaysSafe : (sound : Type 0) → Type 0
 LosingStaysSafe sound = (scope : Scope) (given : Given) (lost : ℕ) (told more : Ledger) (members : Members) (d : Disk) → IsMoreTold told more
     → IsSafeNow sound scope given told members d → IsSafeNow sound scope given more (members_without lost members) d
+
+-- the device numbers that its slots may bear may be told anew
+abbrev pub NumbersStaySafe : (sound : Type 0) → Type 0
+NumbersStaySafe sound = (scope : Scope) (given : Given) (told : Ledger) (carried : ℕ → ℕ → Bool) (members : Members) (d : Disk) → AreToldAnew members told.carried carried
+    → IsSafeNow sound scope given told members d → IsSafeNow sound scope given (record told { carried = carried }) members d
 
 -- flushes leave it safe
 abbrev pub FlushesStaySafe : (sound : Type 0) → Type 0
@@ -154,6 +159,6 @@ settled_ledger unsynced list told = record told { values = λ x. list x ∷ []; 
 abbrev pub given_back : ℕ → Ledger → Ledger
 given_back role told = record told { gone = λ r. told.gone r && not (r == role) }
 
--- the same, and superblocks of the array bear this number
-abbrev pub with_number : ℕ → Ledger → Ledger
-with_number number told = record told { carried = λ n. told.carried n || (n == number) }
+-- the same, and the slot may bear this number
+abbrev pub with_number : ℕ → ℕ → Ledger → Ledger
+with_number slot number told = record told { carried = λ s n. told.carried s n || ((s == slot) && (n == number)) }

@@ -260,7 +260,7 @@ begin-safe sound scope given told more change old new before after m begins room
 -- ---- behind a flush
 
 module _ (sound : Type 0) (scope : Scope) (given : Given) (told more : Ledger) (change : Change) (old new : Members) (before after : List Operation) (c : Contents) (list : ℕ → Sector)
-    (m : IsChanged ⊤ given change old new before after) (gone : AreGoneTold more new) (carried : (number : ℕ) → told.carried number ≡ true → more.carried number ≡ true)
+    (m : IsChanged ⊤ given change old new before after) (gone : AreGoneTold more new) (carried : (slot number : ℕ) → told.carried slot number ≡ true → more.carried slot number ≡ true)
     (flushed : IsSteady sound scope given told old (disk given.start before) → IsFlushedRight sound scope given more (planned_view old change old.lost) c list (disk given.start before)) where
   flushed-safe : (IsSteady sound scope given told old (disk given.start before) → IsFitUpdate old change) → IsSteady sound scope given told old (disk given.start before)
       → IsPlannedSafe sound scope given told more change old new (disk given.start before)

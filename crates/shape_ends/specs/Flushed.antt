@@ -37,7 +37,7 @@ BeginStaysSafe sound = (scope : Scope) (given : Given) (told more : Ledger) (cha
     → IsChanged ⊤ given change old new before after → IsBeginning old change → HasRoomLeft old before after
     → ArePlaced scope given (planned_view old change old.lost) → IsCleared scope (disk given.start before)
     → IsToldOf scope (planned_view old change old.lost) (disk given.start before) told more → AreGoneTold told old → AreGoneTold more new
-    → ((number : ℕ) → told.carried number ≡ true → more.carried number ≡ true)
+    → ((slot number : ℕ) → told.carried slot number ≡ true → more.carried slot number ≡ true)
     → IsSafeNow sound scope given told old (disk given.start before) → IsSafeChange sound scope given told more new before after
 
 -- ---- an update behind a flush
@@ -47,6 +47,6 @@ BeginStaysSafe sound = (scope : Scope) (given : Given) (told more : Ledger) (cha
 abbrev pub FlushedChangeStaysSafe : (sound : Type 0) → Type 0
 FlushedChangeStaysSafe sound = (scope : Scope) (given : Given) (told more : Ledger) (change : Change) (old new : Members) (before after : List Operation) (c : Contents) (list : ℕ → Sector)
     → IsChanged ⊤ given change old new before after → IsTaking old change ⊎ IsDropping old change → HasRoomLeft old before after → AreGoneTold more new
-    → ((number : ℕ) → told.carried number ≡ true → more.carried number ≡ true)
+    → ((slot number : ℕ) → told.carried slot number ≡ true → more.carried slot number ≡ true)
     → (IsSteady sound scope given told old (disk given.start before) → IsFlushedRight sound scope given more (planned_view old change old.lost) c list (disk given.start before))
     → IsSafeNow sound scope given told old (disk given.start before) → IsSafeChange sound scope given told more new before after

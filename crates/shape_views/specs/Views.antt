@@ -25,14 +25,14 @@ abbrev pub Disk : Type 0
 Disk = ℕ → ℕ → List Sector
 
 -- What is told of an array, by which a view is judged: how long its list is and the values that each of its sectors may have, the roles that are
--- gone, whether a write may be unsettled, whether a reshape may be active, and the device numbers that its superblocks may bear.
+-- gone, whether a write may be unsettled, whether a reshape may be active, and the device numbers that each slot's superblock may bear.
 pub record Ledger : Type 0 where
   pub size : ℕ
   pub values : ℕ → List Sector
   pub gone : ℕ → Bool
   pub unclean : Bool
   pub reshaping : Bool
-  pub carried : ℕ → Bool
+  pub carried : ℕ → ℕ → Bool
 
 -- a sector of the list that no active section covers, by this header
 pub record IsOutside (scope : Scope) (m : Members) (header : Sector) (x : ℕ) : Type 0 where
@@ -126,7 +126,7 @@ ledger_of world entries k j judged = record {
   gone = is_gone world entries k j;
   unclean = is_unclean world entries k j;
   reshaping = true;
-  carried = λ number. true;
+  carried = λ slot number. true;
 }
 
 -- The values bound what a stop may leave at the mark, and each image that is drawn of them is seen right by entries that judge it. These may differ

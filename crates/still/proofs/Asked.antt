@@ -10,7 +10,6 @@ use Rattle.md_base.specs.declared.answers.Refusal.{Refusal}
 use Rattle.md_base.specs.Sectors.{IsWhole}
 use Rattle.bank.specs.Given.{Given}
 use Rattle.bank.specs.declared.bank.Operation.{Operation}
-use Rattle.sb1.specs.declared.sb.Sb.{Sb}
 use Rattle.grow_plan.specs.Plans.{AreSound}
 use Rattle.superblocks.specs.declared.members.Members.{Members}
 use Rattle.superblocks.specs.Reading.{shape_of, role_count}
@@ -20,7 +19,6 @@ use Rattle.flat_history.specs.declared.events.Event.{Event}
 use Rattle.flat_history.specs.declared.events.Event.TheVariants.{Step}
 use Rattle.flat_history.specs.declared.events.StepKind.{StepKind}
 use Rattle.flat_history.specs.Plain.{entries_of}
-use Rattle.views.specs.declared.work.Work.{Work}
 use Rattle.views.specs.Moving.{IsMoved}
 use Rattle.views.specs.Placed.{IsPlaced}
 use Rattle.views.specs.Rebuilding.{Held}
@@ -32,7 +30,7 @@ use Rattle.views.proofs.Still.{count-still}
 use Rattle.call_entries.specs.Losing.{losses_of}
 use Rattle.grow_asked.specs.declared.window.PhasesLeft.{PhasesLeft}
 use Rattle.grow_asked.specs.Left.{phases_of}
-use Rattle.still_laws.specs.array_kept_Calls.{IsBehind, IsBehindAll, IsLossBy, IsEndOf, AreLossesBy, IsWorkAdded}
+use Rattle.still_laws.specs.array_kept_Calls.{IsBehind, IsBehindAll, IsLossBy, IsEndOf, AreLossesBy}
 use Rattle.still_laws.specs.still_kept_Still.{AreAtRest}
 use Rattle.still_laws.specs.running_words_Calls.{IsCalled}
 use Rattle.still_laws.specs.running_words_Parts.{RunningParts}
@@ -153,14 +151,11 @@ scratch-fits same fits = subst (λ (l : List ℕ). 8192 ≤ length l) (sym same)
 pub entries-alike : {B : Type 0} {old now : RunningParts B} (entries : List Entry) → old ≡ now → entries ≡ old.parts.entries → record old { parts = record old.parts { entries = entries } } ≡ now
 entries-alike {old = old} {now = now} entries same is = subst (λ (l : List Entry). record old { parts = record old.parts { entries = l } } ≡ now) (sym is) same
 
-pub work-kept : (newest : Sb) (work : Work) → IsWorkAdded newest work work
-work-kept newest work = record { resync = refl; rebuilt = refl; carried = λ n is. is; one = λ n is. inl is }
-
 never-falls : (n : ℕ) → n ≤ n
 never-falls n = omega arith
 
-lost-none : {had : ℕ → ℕ → Type 0} {faults : ℕ → ℕ} (entries : List Entry) → AreLossesBy had faults faults entries entries
-lost-none {had = had} {faults = faults} entries = record { more = []; grown = sym (append-nil entries); failed = All-nil (λ e. IsLossBy had faults faults e.event) }
+lost-none : {had : ℕ → ℕ → Type 0} {was : ℕ → Type 0} {faults : ℕ → ℕ} (entries : List Entry) → AreLossesBy had was faults faults entries entries
+lost-none {had = had} {was = was} {faults = faults} entries = record { more = []; grown = sym (append-nil entries); failed = All-nil (λ e. IsLossBy had was faults faults e.event) }
 
 pub undone-called : {B : Type 0} {tells : Type 0} {given : Given} {tape : List Operation} {faults : ℕ → ℕ} {old new : RunningParts B}
     → IsPlaced given old.parts.members → AreUnlost old.parts.members → IsEndOf tells old.parts.first old.parts.entries tape → (tells → old.parts.first ≤ length tape)

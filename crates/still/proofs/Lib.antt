@@ -1,3 +1,4 @@
+pub mod Lowest
 pub use Rattle.still_laws.proofs.AddLaws as still_laws_AddLaws
 pub use Rattle.still_laws.proofs.Closing as still_laws_Closing
 pub use Rattle.still_laws.proofs.Going as still_laws_Going
@@ -25,4 +26,38 @@ pub use Rattle.still_laws.proofs.shape_views_Stands
 pub use Rattle.still_laws.proofs.superblock_reads_SaidLists
 pub use Rattle.still_laws.proofs.superblock_reads_SaidSlots
 pub mod Rested
-mod Asked
+pub mod Asked
+pub use Rattle.still_laws.proofs.array_kept_LossLaws
+pub use Rattle.still_laws.proofs.array_kept_ReplyLaws
+pub use Rattle.still_laws.proofs.still_kept_Flushing
+pub use Rattle.still_laws.proofs.MendLaws as still_laws_MendLaws
+pub use Rattle.still_laws.proofs.array_kept_DegradedLaws
+pub use Rattle.still_laws.proofs.PlainSteps as still_laws_PlainSteps
+pub use Rattle.array_state.proofs.UnmendableLaws as array_state_UnmendableLaws
+pub use Rattle.still_laws.proofs.calls_kept_MendLaws
+pub use Rattle.still_laws.proofs.still_kept_Resync
+pub use Rattle.layout.proofs.Limits as layout_Limits
+pub use Rattle.still_laws.proofs.calls_kept_RebuildGiven
+pub use Rattle.still_laws.proofs.still_kept_Rebuilding
+pub use Rattle.still_laws.proofs.RebuildLaws as still_laws_RebuildLaws
+pub use Rattle.still_laws.proofs.still_kept_Staying
+pub use Rattle.still_laws.proofs.calls_kept_RebuildLaws
+pub use Rattle.still_laws.proofs.calls_kept_RebuildEnded
+pub use Rattle.still_laws.proofs.still_kept_Ending
+pub use Rattle.still_laws.proofs.shape_changes_Risen
+pub use Rattle.still_laws.proofs.still_kept_Stood
+pub use Rattle.array_state.proofs.FirstLaws as array_state_FirstLaws
+pub use Rattle.still_laws.proofs.Reading as still_laws_Reading
+pub use Rattle.still_laws.proofs.calls_kept_ReadLaws
+pub use Rattle.still_laws.proofs.kept_history_Records
+pub use Rattle.still_laws.proofs.still_kept_Leaving
+pub use Rattle.still_laws.proofs.still_kept_Reading
+pub use Rattle.still_laws.proofs.running_words_Replies
+pub use Rattle.still_laws.proofs.Asking as still_laws_Asking
+pub use Rattle.still_laws.proofs.calls_kept_AddLaws
+pub use Rattle.still_laws.proofs.PlainAdds as still_laws_PlainAdds
+pub use Rattle.still_laws.proofs.calls_kept_AddedNumbers
+pub use Rattle.still_laws.proofs.calls_kept_AddedKept
+pub use Rattle.still_laws.proofs.calls_kept_AddedLosses
+pub use Rattle.still_laws.proofs.still_kept_Writing
+pub use Rattle.still_laws.proofs.Writing as still_laws_Writing

@@ -22,7 +22,7 @@ use Rattle.views.proofs.MovedLaws.{grows-none, moved-same}
 use Rattle.grow_asked.specs.declared.window.PhasesLeft.{PhasesLeft}
 use Rattle.grow_asked.specs.Left.{phases_of}
 use Rattle.still_laws.specs.Steps.{IsStepped}
-use Rattle.still_laws.specs.array_kept_Calls.{IsLossBy, IsEndOf, AreLossesOf}
+use Rattle.still_laws.specs.array_kept_Calls.{IsLossBy, WasSpare, IsEndOf, AreLossesOf}
 use Rattle.still_laws.specs.running_words_Calls.{IsCalled}
 use Rattle.still_laws.specs.running_words_Parts.{RunningParts, still_left}
 use Rattle.still_laws.proofs.running_words_Called.{called}
@@ -99,7 +99,7 @@ pub entries-same : {B : Type 0} {old now : RunningParts B} (entries : List Entry
 entries-same {old = old} {now = now} entries same is = subst (λ (l : List Entry). record old { parts = record old.parts { entries = l } } ≡ now) (sym is) same
 
 no_losses : (members : Members) (faults : ℕ → ℕ) (entries : List Entry) → AreLossesOf members faults faults entries entries
-no_losses members faults entries = record { more = []; grown = sym (append-nil entries); failed = All-nil (λ e. IsLossBy (Held members) faults faults e.event) }
+no_losses members faults entries = record { more = []; grown = sym (append-nil entries); failed = All-nil (λ e. IsLossBy (Held members) (WasSpare members) faults faults e.event) }
 
 -- a call that did nothing
 pub idle-called : {B : Type 0} {tells : Type 0} {given : Given} {tape : List Operation} {faults : ℕ → ℕ} {old new : RunningParts B}

@@ -1,3 +1,4 @@
+pub mod Rebuilding
 pub use Rattle.still_laws.specs.Plain as still_laws_Plain
 pub use Rattle.still_laws.specs.Ready as still_laws_Ready
 pub use Rattle.still_laws.specs.Steps as still_laws_Steps
@@ -37,3 +38,6 @@ pub use Rattle.flat_history.specs.declared.events.LostCause as flat_history_the_
 pub use Rattle.flat_history.specs.declared.events.LostCause.TheVariants as flat_history_the_LostCause_TheVariants
 pub use Rattle.flat_history.specs.Plain as flat_history_Plain
 pub use Rattle.row_io.specs.Rows as row_io_Rows
+pub use Rattle.still_laws.specs.safe_updates_First
+pub use Rattle.still_laws.specs.list_io_Writing
+pub use Rattle.still_laws.specs.safe_updates_Named

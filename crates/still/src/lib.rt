@@ -1,10 +1,19 @@
 //! An array without an active reshape, whether some were before or not: it is read and written, and keeps its history.
 #![tactic(auto)]
 
-mod naming;
+mod choosing;
 mod state;
 
-pub use array_state::asking::steps_left;
+pub use array_state::adding::{spare_for, unaddable};
+pub use array_state::asking::{steps_left, visible};
+pub use array_state::refusing::{are_mended, unmended};
+pub use array_state::room::zeros;
 pub use array_state::work::set_rebuilt;
-pub use state::{Opened, Still};
-pub use still_laws::{is_spare, vacant_roles};
+pub use array_state::{add_member, bear, free_number, look_at};
+pub use choosing::{first_recovering, first_spare, first_vacant};
+pub use state::{Opened, Still, all_left, check_going};
+pub use still_laws::{
+    Filled, fetch, fill, flush_and_record, give_role, has_unnamed, is_spare, is_vacant, mend,
+    mended_rows, name_missing, newly_vacant, put, recovering_slot, settle, shape_in, too_many,
+    unread, unwritten, vacant_roles, visible_of,
+};

@@ -9,20 +9,15 @@ ghost use Rattle.views.specs.Status.{stripes_of};
 ghost use Rattle.grow_asked.specs.Left.{phases_of};
 ghost use Rattle.still_laws.specs.running_words_Parts.{still_left};
 
-mod adding;
 mod adopting;
 mod asking;
 mod ending;
 mod examining;
 mod failing;
 mod limiting;
-mod mending;
 mod parting;
-mod reading;
-mod rebuilding;
 mod settling;
 mod steps;
-mod writing;
 
 pub use adopting::Opened;
 use array_state::asking::steps_left;
@@ -31,6 +26,7 @@ use flat_history::Epoch;
 use grow_asked::{PhasesLeft, planned_left};
 use std::alloc::Global;
 use std::marker::Model;
+pub use steps::check_going;
 use still_laws::shape_in;
 use superblocks::Members;
 use views::Work;
@@ -39,19 +35,19 @@ use views::Work;
 /// plan that hasn't begun; only the sectors of the list below `limit` can be read and written, or all of them without one.
 #[derive(Drop)]
 pub struct Still<B: Bank> {
-    alloc: Global,
-    bank: B,
-    epoch: Epoch,
-    backup: Option<u32>,
-    members: Members,
-    work: Work,
-    ahead: PhasesLeft,
-    limit: Option<u64>,
-    steps: u64,
-    rows: Vec<u64>,
-    buffer: Vec<u8>,
-    far_rows: Vec<u64>,
-    far_buffer: Vec<u8>,
+    pub alloc: Global,
+    pub bank: B,
+    pub epoch: Epoch,
+    pub backup: Option<u32>,
+    pub members: Members,
+    pub work: Work,
+    pub ahead: PhasesLeft,
+    pub limit: Option<u64>,
+    pub steps: u64,
+    pub rows: Vec<u64>,
+    pub buffer: Vec<u8>,
+    pub far_rows: Vec<u64>,
+    pub far_buffer: Vec<u8>,
 }
 
 impl<B: Bank> Model for Still<B> {
@@ -86,8 +82,8 @@ impl<B: Bank> Model for Still<B> {
         (vec_capacity a.rows) (length a.buffer.items) (vec_capacity a.far_rows) (length a.far_buffer.items) };
 }
 
-// The steps that are left: of a pending resync, of the roles that are to be rebuilt, and of the phases ahead.
-pub(crate) fn all_left(members: &Members, work: &Work, ahead: &PhasesLeft) -> u64
+/// The steps that are left: of a pending resync, of the roles that are to be rebuilt, and of the phases ahead.
+pub fn all_left(members: &Members, work: &Work, ahead: &PhasesLeft) -> u64
     requires shape { IsTrue (is_valid_shape (shape_of members.now.newest)) }
     requires size { members.now.newest.size ≤ 2 ^ 48 }
     requires roles { (shape_of members.now.newest).disks ≤ length members.now.roles }

@@ -22,7 +22,7 @@ use Rattle.moving_kept.specs.shape_views_Regions.{DoWithout}
 use Rattle.moving_kept.specs.shape_changes_Safety.{HasLiveSlot}
 use Rattle.moving_kept.specs.views_the_Work.{Work}
 use Rattle.moving_kept.specs.views_Moving.{Grows, IsMoved}
-use Rattle.moving_kept.specs.views_Numbers.{is_carried}
+use Rattle.moving_kept.specs.views_Numbers.{bears}
 use Rattle.moving_kept.proofs.views_Fit.{list-alike}
 use Rattle.moving_kept.specs.kept_history_Recorded.{IsCallGoing}
 use Rattle.moving_kept.specs.kept_history_Safe.{world_in, IsFilledRight}
@@ -44,7 +44,7 @@ pub changing-stands : (tells : Type 0) (given : Given) (tape tape' : List Operat
     → IfSome (told_left (entries ++ entries_of who end (early ++ event ∷ []))) (λ n. n ≡ left')
     → (tells → DoWithout new → IsFilledRight (world_in given tape scope first) entries
     → HasListStood (OpensFit (world_in given tape scope first)) work new (present given tape') (now (opening_list (world_in given tape scope first)) (entries ++ entries_of who end (early ++ event ∷ []))))
-    → (tells → ChangesEarly given tape scope first entries old new (is_carried work) false who early event tape' end)
+    → (tells → ChangesEarly given tape scope first entries old new (bears work) false who early event tape' end)
     → IsStill tells given tape' scope first (entries ++ entries_of who end (early ++ event ∷ [])) new work left'
 changing-stands tells given tape tape' scope first entries old new work left left' who end early IsTaken event was live goes caller at_end grows adding moved are missing clean dirty told listed call =
     leaves-stands tells given tape tape' scope first entries (entries ++ added) old new work work left left' was grows (rest-moved given old new moved was.members_are) (ap (λ (s : Shape). s.level) moved.shape)
@@ -63,16 +63,16 @@ changing-stands tells given tape tape' scope first entries old new work left lef
     ends = none-ends (entries_of who end (early ++ event ∷ [])) (settle-none (entries_of who end (early ++ event ∷ [])) (are.adds who end (event ∷ []) (and-true (adds_only event) true adding.adds refl)))
 
     Then : List Operation → ℕ → Type 0
-    Then l e = ChangesEarly given tape scope first entries old new (is_carried work) false who early event l e
+    Then l e = ChangesEarly given tape scope first entries old new (bears work) false who early event l e
         → (is_clean new.newest ≡ false → (is_clean old.newest ≡ false) ⊎ (list_any (λ e. unsettles e.event) (entries_of who e (early ++ event ∷ [])) ≡ true))
-        → IsLeftBehind given tape scope first entries (entries ++ entries_of who e (early ++ event ∷ [])) new (is_carried work) false l
+        → IsLeftBehind given tape scope first entries (entries ++ entries_of who e (early ++ event ∷ [])) new (bears work) false l
 
-    leaves : tells → IsLeftBehind given tape scope first entries (entries ++ entries_of who end (early ++ event ∷ [])) new (is_carried work) false tape'
+    leaves : tells → IsLeftBehind given tape scope first entries (entries ++ entries_of who end (early ++ event ∷ [])) new (bears work) false tape'
     leaves t =
         let g = grows.more t in
         subst (λ (l : List Operation). Then l end) (sym g.1)
         (subst (Then (tape ++ g.0)) (sym (at_end t ∙ ap (λ (l : List Operation). length l) g.1))
-        (λ call_to marked. changing-leaves given tape scope first entries old new (is_carried work) false who early IsTaken event g.0 are goes caller adding (few-roles new.newest moved.placed.fit.valid) missing
+        (λ call_to marked. changing-leaves given tape scope first entries old new (bears work) false who early IsTaken event g.0 are goes caller adding (few-roles new.newest moved.placed.fit.valid) missing
         (list-alike old.newest new.newest moved.reshape moved.shape moved.size)
         (λ is. elim (marked is) [
           | inl before ↦ inl (was.unclean t before)

@@ -10,7 +10,7 @@ use Rattle.moving_kept.specs.superblocks_the_Members.{Members}
 use Rattle.moving_kept.specs.superblocks_Reading.{Scope, shape_of, list_length}
 use Rattle.moving_kept.specs.row_io_Rows.{present}
 use Rattle.moving_kept.specs.flat_history_the_Entry.{Entry}
-use Rattle.moving_kept.specs.flat_history_Epochs.{HasRoomForEvents, OpensAlike}
+use Rattle.moving_kept.specs.flat_history_Epochs.{HasRoomForEvents}
 use Rattle.moving_kept.specs.flat_history_Flat.{now}
 use Rattle.moving_kept.specs.flat_history_Legal.{told_left}
 use Rattle.moving_kept.specs.flat_history_Losses.{is_unsynced}
@@ -22,7 +22,7 @@ use Rattle.moving_kept.specs.shape_ends_Plans.{HasNoneRecovering}
 use Rattle.moving_kept.proofs.shape_ends_GrownLaws.{row-list}
 use Rattle.moving_kept.specs.views_the_Work.{Work}
 use Rattle.moving_kept.specs.views_Lacking.{mended_rows}
-use Rattle.moving_kept.specs.views_Numbers.{is_carried}
+use Rattle.moving_kept.specs.views_Numbers.{bears}
 use Rattle.moving_kept.specs.views_Rebuilding.{AreSparesFree}
 use Rattle.moving_kept.specs.views_Status.{stripes_of}
 use Rattle.moving_kept.proofs.views_Fit.{valid}
@@ -69,7 +69,7 @@ module _ (tells : Type 0) (given : Given) (tape : List Operation) (scope : Scope
             (l.rows fit row (subst (λ (o : Option ℕ). row < mended_rows o m) (sym synced) lt) lt));
       }
 
-  pub stands-kept : IsStillKept tells given tape scope first entries m (is_carried work)
+  pub stands-kept : IsStillKept tells given tape scope first entries m (bears work)
   stands-kept = record {
     slots = was.slots;
     placed = was.members_are.placed;
@@ -88,8 +88,8 @@ module _ (tells : Type 0) (given : Given) (tape : List Operation) (scope : Scope
 
 -- ---- and the other way
 
-pub kept-again : (tells : Type 0) (given : Given) (tape : List Operation) (scope : Scope) (first : ℕ) (entries : List Entry) (m : Members) (carried : ℕ → Bool) (work : Work) (left : ℕ)
-    → IsStillKept tells given tape scope first entries m carried → AreUnlost m → AreSparesFree given m → length m.spares ≤ 32 → HasNoneRecovering m → work.resync ≡ None → is_carried work ≡ carried
+pub kept-again : (tells : Type 0) (given : Given) (tape : List Operation) (scope : Scope) (first : ℕ) (entries : List Entry) (m : Members) (carried : ℕ → ℕ → Bool) (work : Work) (left : ℕ)
+    → IsStillKept tells given tape scope first entries m carried → AreUnlost m → AreSparesFree given m → length m.spares ≤ 32 → HasNoneRecovering m → work.resync ≡ None → bears work ≡ carried
     → IfSome (told_left entries) (λ n. n ≡ left) → (tells → is_unsynced (world_in given tape scope first) entries ≡ false)
     → (tells → TakesNone (world_in given tape scope first) entries → KeepsLevel entries → AreNoneMissing m)
     → IsStill tells given tape scope first entries m work left
@@ -110,7 +110,7 @@ kept-again tells given tape scope first entries m carried work left was unlost f
   recorded = was.recorded;
   past = was.past;
   listed = listed;
-  safe = subst (λ (c : ℕ → Bool). tells → IsFilledRight (world_in given tape scope first) entries → HasRoomForEvents (world_in given tape scope first) → OpensAlike (world_in given tape scope first)
+  safe = subst (λ (c : ℕ → ℕ → Bool). tells → IsFilledRight (world_in given tape scope first) entries → HasRoomForEvents (world_in given tape scope first)
       → IsSafeHistory ⊤ (world_in given tape scope first) given m c was.reshaping entries) (sym carries) was.safe;
 }
   where

@@ -143,7 +143,7 @@ module _ (sound : Type 0) (scope : Scope) (given : Given) (told : Ledger) (m : M
 -- ---- at its end
 
 -- So it is behind a call that leaves the array at rest, where all rows stand, and each missing role is told gone.
-pub closing-consistent : (given : Given) (tape : List Operation) (scope : Scope) (first : ℕ) (entries : List Entry) (m : Members) (carried : ℕ → Bool) (reshaping : Bool) (list : ℕ → Sector) → AreAtRest given m
+pub closing-consistent : (given : Given) (tape : List Operation) (scope : Scope) (first : ℕ) (entries : List Entry) (m : Members) (carried : ℕ → ℕ → Bool) (reshaping : Bool) (list : ℕ → Sector) → AreAtRest given m
     → AreToldGone (world_in given tape scope first) entries m → IsSafeHistory ⊤ (world_in given tape scope first) given m carried reshaping entries → (DoWithout m → IsNamedOrClean m) → OpensFit (world_in given tape scope first)
     → (DoWithout m → RowsStandBelow m.newest.size m (present given tape) list) → IsConsistentAt (world_in given tape scope first) entries (length tape) (shape_of m.newest)
 closing-consistent given tape scope first entries m carried reshaping list rest gone safe named fit stand =

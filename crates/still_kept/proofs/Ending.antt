@@ -39,7 +39,7 @@ use Rattle.moving_kept.specs.views_the_Work.{Work}
 use Rattle.moving_kept.specs.safe_updates_Named.{AreNamedMissing}
 use Rattle.moving_kept.specs.views_Lacking.{AreLostSince, RowsStandBelow, mended_rows}
 use Rattle.moving_kept.specs.views_Moving.{Grows, IsMoved}
-use Rattle.moving_kept.specs.views_Numbers.{is_carried}
+use Rattle.moving_kept.specs.views_Numbers.{bears}
 use Rattle.moving_kept.specs.views_Placed.{IsPlaced, is_vacant}
 use Rattle.moving_kept.specs.views_Status.{stripes_of, rebuilt_of}
 use Rattle.moving_kept.proofs.views_Fit.{list-alike}
@@ -150,7 +150,7 @@ module _ (tells : Type 0) (given : Given) (tape tape' : List Operation) (scope :
   counted : role < role_count old.newest
   counted = let n = placed.roles in let at = to.below in omega (arith, at, n)
 
-  gone-told : (t : tells) (told : Ledger) → IsReliable (world_in given tape scope first) entries → IsMoreTold (told_now (world_in given tape scope first) (is_carried work) false entries) told → told.gone role ≡ true
+  gone-told : (t : tells) (told : Ledger) → IsReliable (world_in given tape scope first) entries → IsMoreTold (told_now (world_in given tape scope first) (bears work) false entries) told → told.gone role ≡ true
   gone-told t told right more = more.gone role (was.gone t right role counted gone-before)
 
   missing : AreLostOrMissing old new (IsAmong roles)
@@ -171,12 +171,12 @@ module _ (tells : Type 0) (given : Given) (tape tape' : List Operation) (scope :
   full : tells → IsFilledRight (world_in given tape scope first) entries → AreRowsFull old role slot (now (opening_list (world_in given tape scope first)) entries) (present given tape)
   full t fills = rows-full given old work role slot (present given tape) current placed did.below did.recovers all (rows t fills) ((was.listed t does fills).rebuilt (fit t fills))
 
-  allowed : (t : tells) (told : Ledger) → IsMoreTold (told_now (world_in given tape scope first) (is_carried work) false entries) told → AreWritesAllowed old told.values (now (opening_list (world_in given tape scope first)) entries)
+  allowed : (t : tells) (told : Ledger) → IsMoreTold (told_now (world_in given tape scope first) (bears work) false entries) told → AreWritesAllowed old told.values (now (opening_list (world_in given tape scope first)) entries)
   allowed t told more x lt =
       let size = (was.recorded t).sized in
       more.values x (omega (arith, lt, size)) (current x) (newest-in (opening_list (world_in given tape scope first)) entries x (omega (arith, lt, size)))
 
-  keeps : (t : tells) (told : Ledger) → IsReliable (world_in given tape scope first) entries → IsMoreTold (told_now (world_in given tape scope first) (is_carried work) false entries) told
+  keeps : (t : tells) (told : Ledger) → IsReliable (world_in given tape scope first) entries → IsMoreTold (told_now (world_in given tape scope first) (bears work) false entries) told
       → HasRoomLeft old tape tape' → AreGoneTold told new → IsUncleanTold told old → IsSafeOver (world_in given tape scope first) given told old tape → KeepsSafe (world_in given tape scope first) given told new tape tape'
   keeps t told right more room gone unclean began =
       did.safe t (world_in given tape scope first) told room gone (gone-told t told right more) unclean (fit t right.fills) does current (rows t right.fills) (allowed t told more) (full t right.fills) began
@@ -221,12 +221,12 @@ module _ (tells : Type 0) (given : Given) (tape tape' : List Operation) (scope :
         (legal-losses (world_in given tape' scope first) entries who end (losses_of roles spares) (Step RebuildEnded left' ∷ Rebuilt role ∷ []) (losses-are roles spares)
         (step-between (world_in given tape' scope first) entries who end roles spares (entries_of who end (Rebuilt role ∷ [])) RebuildEnded left left' was.left_told less, tt, (tt, tt, tt)))
 
-    reshaped : tells → EndsRight given tape' scope first entries new (is_carried work) false who end ((losses_of roles spares ++ Step RebuildEnded left' ∷ []) ++ Rebuilt role ∷ [])
-    reshaped t = subst (λ (l : List Event). EndsRight given tape' scope first entries new (is_carried work) false who end l) (sym split)
-        (ends-right tells given tape scope first entries new work (is_carried work) false who (losses_of roles spares) (Step RebuildEnded left') (Rebuilt role ∷ []) (losses-are roles spares) refl refl free rest
+    reshaped : tells → EndsRight given tape' scope first entries new (bears work) false who end ((losses_of roles spares ++ Step RebuildEnded left' ∷ []) ++ Rebuilt role ∷ [])
+    reshaped t = subst (λ (l : List Event). EndsRight given tape' scope first entries new (bears work) false who end l) (sym split)
+        (ends-right tells given tape scope first entries new work (bears work) false who (losses_of roles spares) (Step RebuildEnded left') (Rebuilt role ∷ []) (losses-are roles spares) refl refl free rest
         (λ u. (was.recorded u).begun) (λ u. (was.recorded u).ends) current end did.grows at_end (λ u can right so. (listed u can right.fills).rows so) t)
 
-    call : tells → GivesRole given tape scope first entries old new (is_carried work) false who (losses_of roles spares ++ Step RebuildEnded left' ∷ []) role tape' end
+    call : tells → GivesRole given tape scope first entries old new (bears work) false who (losses_of roles spares ++ Step RebuildEnded left' ∷ []) role tape' end
     call t = record {
       within = subst (AreWithin (list_length old.newest)) (sym split)
           (losses-within (list_length old.newest) (losses_of roles spares) (Step RebuildEnded left' ∷ Rebuilt role ∷ []) (losses-are roles spares) (tt, (tt, tt)));
@@ -239,20 +239,20 @@ module _ (tells : Type 0) (given : Given) (tape tape' : List Operation) (scope :
     }
 
     Then : List Operation → ℕ → Type 0
-    Then l e = GivesRole given tape scope first entries old new (is_carried work) false who (losses_of roles spares ++ Step RebuildEnded left' ∷ []) role l e
+    Then l e = GivesRole given tape scope first entries old new (bears work) false who (losses_of roles spares ++ Step RebuildEnded left' ∷ []) role l e
         → (IsReliable (world_in given l scope first) (entries ++ entries_of who e ((losses_of roles spares ++ Step RebuildEnded left' ∷ []) ++ Rebuilt role ∷ [])) → IsOpenBehind (world_in given l scope first) goes.call)
-        → IsLeftBehind given tape scope first entries (entries ++ entries_of who e ((losses_of roles spares ++ Step RebuildEnded left' ∷ []) ++ Rebuilt role ∷ [])) new (is_carried work) false l
+        → IsLeftBehind given tape scope first entries (entries ++ entries_of who e ((losses_of roles spares ++ Step RebuildEnded left' ∷ []) ++ Rebuilt role ∷ [])) new (bears work) false l
 
     sized : list_length new.newest ≡ list_length old.newest
     sized = list-alike V.newest new.newest did.moved.reshape did.moved.shape did.moved.size
 
-    leaves : tells → IsLeftBehind given tape scope first entries (entries ++ entries_of who end ((losses_of roles spares ++ Step RebuildEnded left' ∷ []) ++ Rebuilt role ∷ [])) new (is_carried work) false tape'
+    leaves : tells → IsLeftBehind given tape scope first entries (entries ++ entries_of who end ((losses_of roles spares ++ Step RebuildEnded left' ∷ []) ++ Rebuilt role ∷ [])) new (bears work) false tape'
     unfolding Then
     leaves t =
         let g = did.grows.more t in
         subst (λ (l : List Operation). Then l end) (sym g.1)
         (subst (Then (tape ++ g.0)) (sym (at_end t ∙ ap (λ (l : List Operation). length l) g.1))
-        (λ call_to opens. giving-leaves given tape scope first entries old new (is_carried work) false who early (IsAmong roles) role g.0
+        (λ call_to opens. giving-leaves given tape scope first entries old new (bears work) false who early (IsAmong roles) role g.0
         (telling-then (Step RebuildEnded left') (telling-of (first-of (early-losses roles spares))) refl refl (λ n. refl)) goes caller (few-roles new.newest rest.placed.fit.valid) opens
         missing (ap (λ (s : Role). not (is_whole s)) whole_is) sized did.clean was.sizes_are (was.gone t) (was.unclean t) (was.recorded t) (safe-over was (without-left given old placed was.members_are.unlost does) t) (safe-now was (without-left given old placed was.members_are.unlost does) t) call_to))
         (call t) (open_behind t)
@@ -307,10 +307,10 @@ module _ (tells : Type 0) (given : Given) (tape tape' : List Operation) (scope :
     ended-stands = subst (λ (l : List Event). IsStill tells given tape' scope first (entries ++ entries_of who end l) new work left') (append-nil (losses_of roles spares))
         (tail-stands tells given tape tape' scope first entries old new work work left left' who end (losses_of roles spares) (IsAmong roles) [] was
         (without-left given old placed was.members_are.unlost does) goes caller at_end did.grows (quiet-none who end) rest did.moved.shape did.moved.size (λ can. does) (early-losses roles spares) missing did.clean
-        (λ number is. is) refl (subst (λ (o : Option ℕ). IfSome o (λ mended. mended ≤ stripes_of new)) (sym synced) tt)
+        (λ slot number is. is) refl (subst (λ (o : Option ℕ). IfSome o (λ mended. mended ≤ stripes_of new)) (sym synced) tt)
         (subst (λ (l : List Event). last_end_from first (entries ++ entries_of who end l) ≡ end) (sym (append-nil (losses_of roles spares))) (losses-end first entries who end (losses_of roles spares) (Lost role Fault) among))
         (λ t right told safe fits. call-ends_none (world_in given tape' scope first) entries who end (losses_of roles spares ++ []) ((early-losses roles spares).ends [] refl))
         (left-lost left left' entries who end (losses_of roles spares) [] (losses-are roles spares) (λ none. absurd (some-lost (losses_of roles spares) (Lost role Fault) among none)) was.left_told (λ told is. is))
         (λ t can fills. stood-moved (OpensFit (world_in given tape scope first)) work given old new (present given tape) (present given tape') current moved-lost placed (did.others t) (was.listed t does fills))
-        (λ t. numbers-kept given tape scope first entries old new (is_carried work) false who (losses_of roles spares) [] tape' end (did.rise t) (keeps t)
+        (λ t. numbers-kept given tape scope first entries old new (bears work) false who (losses_of roles spares) [] tape' end (did.rise t) (keeps t)
         (λ all right gone level. legal-losses (world_in given tape' scope first) entries who end (losses_of roles spares) [] (losses-are roles spares) tt)))

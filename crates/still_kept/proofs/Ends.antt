@@ -29,7 +29,7 @@ use Rattle.moving_kept.proofs.call_entries_LosingLaws.{entries-both}
 use Rattle.moving_kept.proofs.call_entries_StepLaws.{faults-are}
 use Rattle.moving_kept.specs.kept_history_Recorded.{IsReshapedCall, entry_of, ends_reshape}
 use Rattle.moving_kept.specs.kept_history_Safe.{world_in, IsSafeHistory}
-use Rattle.moving_kept.proofs.kept_history_Growing.{alike-before, room-before}
+use Rattle.moving_kept.proofs.kept_history_Growing.{room-before}
 use Rattle.moving_kept.proofs.kept_history_Reshapes.{call-ends_none, ends-none, reshaped-losses, unplanned}
 use Rattle.moving_kept.proofs.kept_history_Turned.{filled-before}
 use Rattle.moving_kept.specs.history_calls_Reliable.{IsReliable, AreToldGone}
@@ -58,7 +58,7 @@ free-finish world before e rest (Step Finished left) none = absurd (cc)
 free-finish world before e rest event none = tt
 
 -- So it is of a call that enters losses before it, and behind it what comes with a step.
-module _ (tells : Type 0) (given : Given) (tape : List Operation) (scope : Scope) (first : ℕ) (entries : List Entry) (new : Members) (work : Work) (carried : ℕ → Bool) (reshaping : Bool)
+module _ (tells : Type 0) (given : Given) (tape : List Operation) (scope : Scope) (first : ℕ) (entries : List Entry) (new : Members) (work : Work) (carried : ℕ → ℕ → Bool) (reshaping : Bool)
     (who : Who) (xs : List Event) (event : Event) (tail : List Event) (are : AreLossEvents xs) (comes : list_all comes_with_step tail ≡ true) (last : list_any ends_reshape tail ≡ false)
     (ends : EndsPlans tells (world_in given tape scope first) entries new work event) (rest : AreAtRest given new) (begun : tells → first ≤ length tape) (made : tells → EndBy (length tape) entries) (list : ℕ → Sector) where
   abbrev world : World
@@ -92,7 +92,6 @@ module _ (tells : Type 0) (given : Given) (tape : List Operation) (scope : Scope
     reliable = record {
       fills = filled-before world ops entries (entries_of who end (xs ++ event ∷ tail)) (begun t) (made t) right.fills;
       room = room-before world ops (begun t) right.room;
-      alike = alike-before world ops (begun t) right.alike;
     }
 
     module _ (closes : ClosesPlans tells (world_in given tape scope first) entries new work event) where

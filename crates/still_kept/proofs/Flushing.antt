@@ -32,7 +32,7 @@ use Rattle.moving_kept.specs.shape_changes_Steady.{IsSafeOver, KeepsSafe, AreGon
 use Rattle.moving_kept.specs.views_the_Work.{Work}
 use Rattle.moving_kept.specs.views_Lacking.{AreLostSince, AreTooMany, mended_rows}
 use Rattle.moving_kept.specs.views_Moving.{Grows, IsMoved}
-use Rattle.moving_kept.specs.views_Numbers.{is_carried}
+use Rattle.moving_kept.specs.views_Numbers.{bears}
 use Rattle.moving_kept.specs.views_Status.{stripes_of}
 use Rattle.moving_kept.specs.views_Under.{StandsUnder, RowsStandUnder}
 use Rattle.moving_kept.proofs.views_Fit.{list-alike}
@@ -138,7 +138,7 @@ module _ (tells : Type 0) (given : Given) (tape tape' : List Operation) (scope :
 
   -- it may end a resync: then another work is under way behind it, by which the list stands too
   pub settled-stands : (work' : Work) (left' : ℕ) (event : Event) → IsSettledStill tells given tape tape' old new unsynced → IsSettlement event → EndsPlans tells (world_in given tape scope first) entries new work' event
-      → is_carried work' ≡ is_carried work → unsynced ≡ is_some work'.resync → (unsynced ≡ true → IsSome work.resync) → IfSome work'.resync (λ mended. mended ≤ stripes_of new)
+      → bears work' ≡ bears work → unsynced ≡ is_some work'.resync → (unsynced ≡ true → IsSome work.resync) → IfSome work'.resync (λ mended. mended ≤ stripes_of new)
       → (tells → (is_unsynced (world_in given tape scope first) entries && not (is_resync_end event)) ≡ unsynced)
       → IfSome (told_left (entries ++ entries_of who end (losses_of roles spares ++ event ∷ []))) (λ n. n ≡ left')
       → ((sound : Type 0) (c : Contents) (list : ℕ → Sector) → HasListStood sound work new c list → HasListStood sound work' new c list)
@@ -153,7 +153,7 @@ module _ (tells : Type 0) (given : Given) (tape tape' : List Operation) (scope :
       (again (OpensFit (world_in given tape scope first)) (present given tape') current (still-listed t does fills)))
       (none-taken tells given tape tape' scope first entries old new who end (losses_of roles spares ++ event ∷ []) (IsAmong roles) did.grows (λ u. (was.recorded u).ends) (few-roles new.newest did.moved.placed.fit.valid)
       (missing-since did.moved did.since) (λ role lt has. (early-losses roles spares).lost who end (event ∷ []) role lt has) was.full)
-      (λ t. subst (λ (c : ℕ → Bool). IsLeftBehind given tape scope first entries (entries ++ added) new c false tape') (sym carries) (leaves t))
+      (λ t. subst (λ (c : ℕ → ℕ → Bool). IsLeftBehind given tape scope first entries (entries ++ added) new c false tape') (sym carries) (leaves t))
     where
       added : List Entry
       added = entries_of who end (losses_of roles spares ++ event ∷ [])
@@ -162,10 +162,10 @@ module _ (tells : Type 0) (given : Given) (tape tape' : List Operation) (scope :
       same = λ i x. settled-same (opening_list (world_in given tape scope first)) entries who end roles spares event settling x i
 
       Then : List Operation → ℕ → Type 0
-      Then l e = SettlesList given tape scope first entries old new (is_carried work) false unsynced who roles spares event l e
-          → IsLeftBehind given tape scope first entries (entries ++ entries_of who e (losses_of roles spares ++ event ∷ [])) new (is_carried work) false l
+      Then l e = SettlesList given tape scope first entries old new (bears work) false unsynced who roles spares event l e
+          → IsLeftBehind given tape scope first entries (entries ++ entries_of who e (losses_of roles spares ++ event ∷ [])) new (bears work) false l
 
-      call : tells → SettlesList given tape scope first entries old new (is_carried work) false unsynced who roles spares event tape' end
+      call : tells → SettlesList given tape scope first entries old new (bears work) false unsynced who roles spares event tape' end
       call t = record {
         rise = did.rise t;
         keeps = λ told_so fills more allowed room gone unclean safe. did.safe t (world_in given tape scope first) told_so room gone unclean current (under t fills) (rows-under t fills) allowed safe;
@@ -175,17 +175,17 @@ module _ (tells : Type 0) (given : Given) (tape tape' : List Operation) (scope :
           safe = done.settled t (world_in given tape scope first) told_so room gone unclean (λ does is. was.dirty does (waits is)) current (under t fills) (rows-under t fills) allowed safe;
         };
         legal = λ fills gone level. legal t;
-        reshaped = ends-right tells given tape scope first entries new work' (is_carried work) false who (losses_of roles spares) event [] (losses-are roles spares) refl refl free (rest-moved given old new did.moved was.members_are)
+        reshaped = ends-right tells given tape scope first entries new work' (bears work) false who (losses_of roles spares) event [] (losses-are roles spares) refl refl free (rest-moved given old new did.moved was.members_are)
             (λ u. (was.recorded u).begun) (λ u. (was.recorded u).ends) current end did.grows at_end
             (λ u does right fit. (again (OpensFit (world_in given tape scope first)) (present given tape') current (still-listed u does right.fills)).rows fit) t;
       }
 
-      leaves : tells → IsLeftBehind given tape scope first entries (entries ++ entries_of who end (losses_of roles spares ++ event ∷ [])) new (is_carried work) false tape'
+      leaves : tells → IsLeftBehind given tape scope first entries (entries ++ entries_of who end (losses_of roles spares ++ event ∷ [])) new (bears work) false tape'
       leaves t =
           let g = did.grows.more t in
           subst (λ (l : List Operation). Then l end) (sym g.1)
           (subst (Then (tape ++ g.0)) (sym (at_end t ∙ ap (λ (l : List Operation). length l) g.1))
-          (settling-leaves given tape scope first entries old new (is_carried work) false unsynced who roles spares event g.0 goes caller settling (few-roles new.newest did.moved.placed.fit.valid)
+          (settling-leaves given tape scope first entries old new (bears work) false unsynced who roles spares event g.0 goes caller settling (few-roles new.newest did.moved.placed.fit.valid)
           (missing-since did.moved did.since) (list-alike old.newest new.newest did.moved.reshape did.moved.shape did.moved.size) done.clean was.sizes_are (unsynced_is t)
           (was.gone t) (was.unclean t) (was.recorded t) (safe-over was live t) (safe-now was live t)))
           (call t)

@@ -137,5 +137,5 @@ module _ {tells : Type 0} {given : Given} {tape : List Operation} {scope : Scope
     recorded = recorded;
     past = past;
     listed = listed;
-    safe = λ t right room alike. safe-alike world given members work entries (keep t right) (was.safe t (fills right) room alike);
+    safe = λ t right room. safe-alike world given members work entries (keep t right) (was.safe t (fills right) room);
   }

@@ -9,7 +9,7 @@ use Rattle.moving_kept.specs.superblocks_the_Members.{Members}
 use Rattle.moving_kept.specs.superblocks_Reading.{Scope, is_clean, shape_of, list_length}
 use Rattle.moving_kept.specs.row_io_Rows.{present}
 use Rattle.moving_kept.specs.flat_history_the_Entry.{Entry}
-use Rattle.moving_kept.specs.flat_history_Epochs.{HasRoomForEvents, OpensAlike}
+use Rattle.moving_kept.specs.flat_history_Epochs.{HasRoomForEvents}
 use Rattle.moving_kept.specs.flat_history_Flat.{now}
 use Rattle.moving_kept.specs.flat_history_Legal.{told_left}
 use Rattle.moving_kept.specs.flat_history_Losses.{is_unsynced}
@@ -21,7 +21,7 @@ use Rattle.moving_kept.specs.shape_changes_Safety.{HasLiveSlot}
 use Rattle.moving_kept.specs.shape_changes_Steady.{IsSafeOver}
 use Rattle.moving_kept.specs.views_the_Work.{Work}
 use Rattle.moving_kept.specs.views_Moving.{Grows, IsMoved}
-use Rattle.moving_kept.specs.views_Numbers.{is_carried}
+use Rattle.moving_kept.specs.views_Numbers.{bears}
 use Rattle.moving_kept.specs.views_Status.{stripes_of}
 use Rattle.std.specs.List.{list_any}
 use Rattle.std.proofs.lemmas.List.Folds.{list_any-append}
@@ -54,17 +54,17 @@ use Rattle.still_kept.specs.Still.{AreAtRest, HasListStood, IsStill}
 -- While a live slot is left, no superblocks tell a reshape.
 pub safe-over : {tells : Type 0} {given : Given} {tape : List Operation} {scope : Scope} {first : ℕ} {entries : List Entry} {members : Members} {work : Work} {left : ℕ}
     → IsStill tells given tape scope first entries members work left → HasLiveSlot members → tells
-    → IsFilledRight (world_in given tape scope first) entries → HasRoomForEvents (world_in given tape scope first) → OpensAlike (world_in given tape scope first)
-    → IsSafeHistory ⊤ (world_in given tape scope first) given members (is_carried work) false entries
-safe-over {given = given} {tape = tape} {scope = scope} {first = first} {entries = entries} {members = members} {work = work} was live t fills room alike =
-    subst (λ (b : Bool). IsSafeHistory ⊤ (world_in given tape scope first) given members (is_carried work) b entries) (was.over live) (was.safe t fills room alike)
+    → IsFilledRight (world_in given tape scope first) entries → HasRoomForEvents (world_in given tape scope first)
+    → IsSafeHistory ⊤ (world_in given tape scope first) given members (bears work) false entries
+safe-over {given = given} {tape = tape} {scope = scope} {first = first} {entries = entries} {members = members} {work = work} was live t fills room =
+    subst (λ (b : Bool). IsSafeHistory ⊤ (world_in given tape scope first) given members (bears work) b entries) (was.over live) (was.safe t fills room)
 
 -- And it is right by the whole history.
 pub safe-now : {tells : Type 0} {given : Given} {tape : List Operation} {scope : Scope} {first : ℕ} {entries : List Entry} {members : Members} {work : Work} {left : ℕ}
     → IsStill tells given tape scope first entries members work left → HasLiveSlot members → tells
-    → IsFilledRight (world_in given tape scope first) entries → HasRoomForEvents (world_in given tape scope first) → OpensAlike (world_in given tape scope first)
-    → IsSafeOver (world_in given tape scope first) given (told_now (world_in given tape scope first) (is_carried work) false entries) members tape
-safe-now {given = given} {tape = tape} {scope = scope} {first = first} was live t fills room alike = now-live (world_in given tape scope first) live (safe-over was live t fills room alike).now
+    → IsFilledRight (world_in given tape scope first) entries → HasRoomForEvents (world_in given tape scope first)
+    → IsSafeOver (world_in given tape scope first) given (told_now (world_in given tape scope first) (bears work) false entries) members tape
+safe-now {given = given} {tape = tape} {scope = scope} {first = first} was live t fills room = now-live (world_in given tape scope first) live (safe-over was live t fills room).now
 
 -- ---- the opening, later
 
@@ -132,7 +132,7 @@ pub leaves-stands : (tells : Type 0) (given : Given) (tape tape' : List Operatio
     → (tells → DoWithout new → IsFilledRight (world_in given tape scope first) entries
     → HasListStood (OpensFit (world_in given tape scope first)) work' new (present given tape') (now (opening_list (world_in given tape scope first)) all))
     → (tells → TakesNone (world_in given tape' scope first) all → KeepsLevel all → AreNoneMissing new)
-    → (tells → IsLeftBehind given tape scope first entries all new (is_carried work') false tape')
+    → (tells → IsLeftBehind given tape scope first entries all new (bears work') false tape')
     → IsStill tells given tape' scope first all new work' left'
 leaves-stands tells given tape tape' scope first entries all old new work work' left left' was grows members level sized told progress pending dirty listed full leaves = record {
   slots = was.slots;

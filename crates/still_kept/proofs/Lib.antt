@@ -22,6 +22,7 @@ pub mod Ending
 pub use Rattle.calls_kept.proofs.AbsentLaws as calls_kept_AbsentLaws
 pub use Rattle.calls_kept.proofs.AddLaws as calls_kept_AddLaws
 pub use Rattle.calls_kept.proofs.AddedKept as calls_kept_AddedKept
+pub use Rattle.calls_kept.proofs.AddedNumbers as calls_kept_AddedNumbers
 pub use Rattle.calls_kept.proofs.AddedLosses as calls_kept_AddedLosses
 pub use Rattle.calls_kept.proofs.AdoptingLaws as calls_kept_AdoptingLaws
 pub use Rattle.calls_kept.proofs.EndLaws as calls_kept_EndLaws

@@ -26,7 +26,7 @@ use Rattle.moving_kept.proofs.shape_views_Stands.{list-still}
 use Rattle.moving_kept.specs.shape_changes_Safety.{HasLiveSlot}
 use Rattle.moving_kept.specs.views_the_Work.{Work}
 use Rattle.moving_kept.specs.views_Moving.{Grows, IsMoved}
-use Rattle.moving_kept.specs.views_Numbers.{is_carried}
+use Rattle.moving_kept.specs.views_Numbers.{bears}
 use Rattle.moving_kept.specs.views_Status.{stripes_of}
 use Rattle.moving_kept.proofs.views_HeldRows.{without-before}
 use Rattle.moving_kept.proofs.call_entries_CallLaws.{last_end-behind}
@@ -47,12 +47,12 @@ pub tail-stands : (tells : Type 0) (given : Given) (tape tape' : List Operation)
     → IsStill tells given tape scope first entries old work left → HasLiveSlot old → IsCallGoing entries who → IsFalse (who.caller == 254) → (tells → end ≡ length tape') → Grows tells tape tape' → AreQuietLast who end tail
     → AreAtRest given new → shape_of new.newest ≡ shape_of old.newest → new.newest.size ≡ old.newest.size → (DoWithout new → DoWithout old)
     → AreEarly early IsTaken → AreLostOrMissing old new IsTaken → is_clean new.newest ≡ is_clean old.newest
-    → ((number : ℕ) → is_carried work number ≡ true → is_carried work' number ≡ true) → is_some work'.resync ≡ is_some work.resync → IfSome work'.resync (λ mended. mended ≤ stripes_of new)
-    → last_end_from first (entries ++ entries_of who end (early ++ tail)) ≡ end → (tells → EndsRight given tape' scope first entries new (is_carried work') false who end (early ++ tail))
+    → ((slot number : ℕ) → bears work slot number ≡ true → bears work' slot number ≡ true) → is_some work'.resync ≡ is_some work.resync → IfSome work'.resync (λ mended. mended ≤ stripes_of new)
+    → last_end_from first (entries ++ entries_of who end (early ++ tail)) ≡ end → (tells → EndsRight given tape' scope first entries new (bears work') false who end (early ++ tail))
     → IfSome (told_left (entries ++ entries_of who end (early ++ tail))) (λ n. n ≡ left')
     → (tells → DoWithout new → IsFilledRight (world_in given tape scope first) entries
     → HasListStood (OpensFit (world_in given tape scope first)) work' new (present given tape') (now (opening_list (world_in given tape scope first)) entries))
-    → (tells → LeavesNumbers given tape scope first entries old new (is_carried work) (is_carried work') false who early tail tape' end)
+    → (tells → LeavesNumbers given tape scope first entries old new (bears work) (bears work') false who early tail tape' end)
     → IsStill tells given tape' scope first (entries ++ entries_of who end (early ++ tail)) new work' left'
 tail-stands tells given tape tape' scope first entries old new work work' left left' who end early IsTaken tail was live goes caller at_end grows quiet rest shape size before are missing clean carries pends progress ended reshaped told listed call =
     leaves-stands tells given tape tape' scope first entries (entries ++ added) old new work work' left left' was grows rest (ap (λ (s : Shape). s.level) shape) sized told progress
@@ -75,16 +75,16 @@ tail-stands tells given tape tape' scope first entries old new work work' left l
     sized = list-still new.newest rest.still ∙ (λ i. data_disks (shape i) * size i) ∙ sym (list-still old.newest was.members_are.still)
 
     Then : List Operation → ℕ → Type 0
-    Then l e = AreQuietLast who e tail → last_end_from first (entries ++ entries_of who e (early ++ tail)) ≡ e → EndsRight given l scope first entries new (is_carried work') false who e (early ++ tail)
-        → LeavesNumbers given tape scope first entries old new (is_carried work) (is_carried work') false who early tail l e
-        → IsLeftBehind given tape scope first entries (entries ++ entries_of who e (early ++ tail)) new (is_carried work') false l
+    Then l e = AreQuietLast who e tail → last_end_from first (entries ++ entries_of who e (early ++ tail)) ≡ e → EndsRight given l scope first entries new (bears work') false who e (early ++ tail)
+        → LeavesNumbers given tape scope first entries old new (bears work) (bears work') false who early tail l e
+        → IsLeftBehind given tape scope first entries (entries ++ entries_of who e (early ++ tail)) new (bears work') false l
 
-    leaves : tells → IsLeftBehind given tape scope first entries (entries ++ entries_of who end (early ++ tail)) new (is_carried work') false tape'
+    leaves : tells → IsLeftBehind given tape scope first entries (entries ++ entries_of who end (early ++ tail)) new (bears work') false tape'
     leaves t =
         let g = grows.more t in
         subst (λ (l : List Operation). Then l end) (sym g.1)
         (subst (Then (tape ++ g.0)) (sym (at_end t ∙ ap (λ (l : List Operation). length l) g.1))
-        (λ quiet_here ended_here reshaped_here. numbers-leaves given tape scope first entries old new (is_carried work) (is_carried work') false who early IsTaken tail g.0 are carries goes caller quiet_here ended_here reshaped_here (few-roles new.newest rest.placed.fit.valid) missing
+        (λ quiet_here ended_here reshaped_here. numbers-leaves given tape scope first entries old new (bears work) (bears work') false who early IsTaken tail g.0 are carries goes caller quiet_here ended_here reshaped_here (few-roles new.newest rest.placed.fit.valid) missing
         sized clean was.sizes_are (was.gone t) (was.unclean t) (was.recorded t) (safe-over was live t) (safe-now was live t)))
         quiet ended (reshaped t) (call t)
 
@@ -94,11 +94,11 @@ pub placed-stands : (tells : Type 0) (given : Given) (tape tape' : List Operatio
     → IsStill tells given tape scope first entries old work left → HasLiveSlot old → IsCallGoing entries who → IsFalse (who.caller == 254) → (tells → end ≡ length tape') → Grows tells tape tape' → IsQuiet event
     → AreAtRest given new → shape_of new.newest ≡ shape_of old.newest → new.newest.size ≡ old.newest.size → (DoWithout new → DoWithout old)
     → AreEarly early IsTaken → AreLostOrMissing old new IsTaken → is_clean new.newest ≡ is_clean old.newest
-    → ((number : ℕ) → is_carried work number ≡ true → is_carried work' number ≡ true) → is_some work'.resync ≡ is_some work.resync → IfSome work'.resync (λ mended. mended ≤ stripes_of new)
+    → ((slot number : ℕ) → bears work slot number ≡ true → bears work' slot number ≡ true) → is_some work'.resync ≡ is_some work.resync → IfSome work'.resync (λ mended. mended ≤ stripes_of new)
     → IfSome (told_left (entries ++ entries_of who end (early ++ event ∷ []))) (λ n. n ≡ left')
     → (tells → DoWithout new → IsFilledRight (world_in given tape scope first) entries
     → HasListStood (OpensFit (world_in given tape scope first)) work' new (present given tape') (now (opening_list (world_in given tape scope first)) entries))
-    → (tells → LeavesNumbers given tape scope first entries old new (is_carried work) (is_carried work') false who early (event ∷ []) tape' end)
+    → (tells → LeavesNumbers given tape scope first entries old new (bears work) (bears work') false who early (event ∷ []) tape' end)
     → IsStill tells given tape' scope first (entries ++ entries_of who end (early ++ event ∷ [])) new work' left'
 placed-stands tells given tape tape' scope first entries old new work work' left left' who end early IsTaken event was live goes caller at_end grows quiet rest shape size before are missing clean carries pends progress =
     tail-stands tells given tape tape' scope first entries old new work work' left left' who end early IsTaken (event ∷ []) was live goes caller at_end grows (quiet-last who end event quiet)
@@ -110,14 +110,14 @@ pub early-stands : (tells : Type 0) (given : Given) (tape tape' : List Operation
     (who : Who) (end : ℕ) (early : List Event) (IsTaken : ℕ → Type 0) (event : Event)
     → IsStill tells given tape scope first entries old work left → HasLiveSlot old → IsCallGoing entries who → IsFalse (who.caller == 254) → (tells → end ≡ length tape') → Grows tells tape tape' → IsQuiet event
     → IsMoved given old new → AreEarly early IsTaken → AreLostOrMissing old new IsTaken → is_clean new.newest ≡ is_clean old.newest
-    → is_carried work' ≡ is_carried work → is_some work'.resync ≡ is_some work.resync → IfSome work'.resync (λ mended. mended ≤ stripes_of new)
+    → bears work' ≡ bears work → is_some work'.resync ≡ is_some work.resync → IfSome work'.resync (λ mended. mended ≤ stripes_of new)
     → IfSome (told_left (entries ++ entries_of who end (early ++ event ∷ []))) (λ n. n ≡ left')
     → (tells → DoWithout new → IsFilledRight (world_in given tape scope first) entries
     → HasListStood (OpensFit (world_in given tape scope first)) work' new (present given tape') (now (opening_list (world_in given tape scope first)) entries))
-    → (tells → LeavesList given tape scope first entries old new (is_carried work) false who early event tape' end)
+    → (tells → LeavesList given tape scope first entries old new (bears work) false who early event tape' end)
     → IsStill tells given tape' scope first (entries ++ entries_of who end (early ++ event ∷ [])) new work' left'
 early-stands tells given tape tape' scope first entries old new work work' left left' who end early IsTaken event was live goes caller at_end grows quiet moved are missing clean carries pends progress told listed call =
     placed-stands tells given tape tape' scope first entries old new work work' left left' who end early IsTaken event was live goes caller at_end grows quiet (rest-moved given old new moved was.members_are) moved.shape moved.size
-    (without-before given old new moved) are missing clean (λ number is. (λ i. carries i number) ∙ is) pends progress told listed
-    (λ t. subst (λ (c : ℕ → Bool). LeavesNumbers given tape scope first entries old new (is_carried work) c false who early (event ∷ []) tape' end) (sym carries)
-    (numbers-of given tape scope first entries old new (is_carried work) false who early event tape' end (call t)))
+    (without-before given old new moved) are missing clean (λ slot number is. (λ i. carries i slot number) ∙ is) pends progress told listed
+    (λ t. subst (λ (c : ℕ → ℕ → Bool). LeavesNumbers given tape scope first entries old new (bears work) c false who early (event ∷ []) tape' end) (sym carries)
+    (numbers-of given tape scope first entries old new (bears work) false who early event tape' end (call t)))

@@ -52,7 +52,7 @@ use Rattle.moving_kept.specs.views_the_Work.{Work}
 use Rattle.moving_kept.specs.safe_updates_Named.{AreNamedMissing}
 use Rattle.moving_kept.specs.views_Lacking.{AreLostSince, LacksTooMany, AreTooMany, RowsStandBelow, RowsStandAmong, DataStandsAmong, IsOfStripe, mended_rows}
 use Rattle.moving_kept.specs.views_Moving.{Grows, IsMoved}
-use Rattle.moving_kept.specs.views_Numbers.{is_carried}
+use Rattle.moving_kept.specs.views_Numbers.{bears}
 use Rattle.moving_kept.specs.views_Placed.{IsPlaced, is_vacant}
 use Rattle.moving_kept.specs.views_Rebuilding.{with_recovering, IsFilledAmong}
 use Rattle.moving_kept.specs.views_Status.{stripes_of, rebuilt_of}
@@ -175,11 +175,11 @@ module _ (tells : Type 0) (given : Given) (tape tape' : List Operation) (scope :
       tail-stands tells given tape tape' scope first entries old new work (with_rebuilt role 0 work) left left' who end (losses_of roles spares) (IsAmong roles) (Step RebuildTaken left' ∷ []) was
       (without-left given old placed was.members_are.unlost does) goes caller at_end did.grows
       (record { adds = refl; gives = refl; still = λ x values. refl; level = λ n. refl }) rest did.moved.shape did.moved.size (λ can. does)
-      (early-losses roles spares) missing did.clean (λ number is. is) refl (progress work.resync was.progress)
-      (last_end-behind first entries who end (losses_of roles spares) (Step RebuildTaken left')) (ends-right tells given tape scope first entries new (with_rebuilt role 0 work) (is_carried (with_rebuilt role 0 work)) false who (losses_of roles spares) (Step RebuildTaken left') [] (losses-are roles spares) refl refl free rest
+      (early-losses roles spares) missing did.clean (λ slot number is. is) refl (progress work.resync was.progress)
+      (last_end-behind first entries who end (losses_of roles spares) (Step RebuildTaken left')) (ends-right tells given tape scope first entries new (with_rebuilt role 0 work) (bears (with_rebuilt role 0 work)) false who (losses_of roles spares) (Step RebuildTaken left') [] (losses-are roles spares) refl refl free rest
       (λ u. (was.recorded u).begun) (λ u. (was.recorded u).ends) current end did.grows at_end (λ u can right fit. (listed u can right.fills).rows fit))
       (told-step entries who end roles spares RebuildTaken left') listed
-      (λ t. numbers-of given tape scope first entries old new (is_carried work) false who (losses_of roles spares) (Step RebuildTaken left') tape' end
+      (λ t. numbers-of given tape scope first entries old new (bears work) false who (losses_of roles spares) (Step RebuildTaken left') tape' end
       (record {
         rise = did.rise t;
         keeps = λ told fills more room gone unclean began. did.safe t (world_in given tape scope first) told room gone (gone role counted still-missing) unclean began;
@@ -241,10 +241,10 @@ module _ (tells : Type 0) (given : Given) (tape tape' : List Operation) (scope :
       tail-stands tells given tape tape' scope first entries old new work (with_rebuilt role (rebuilt_of work role + 1) work) left left' who end (losses_of roles spares) (IsAmong roles) tail was
       (without-left given old was.members_are.placed was.members_are.unlost does) goes caller at_end did.grows quiet (rest-moved given old new did.moved was.members_are) did.moved.shape did.moved.size
       (without-before given old new did.moved) (early-losses roles spares) (missing-since did.moved did.since) did.clean
-      (λ number is. is) refl (progress-same did.moved work.resync was.progress) ended
+      (λ slot number is. is) refl (progress-same did.moved work.resync was.progress) ended
       (λ t right gone safe fit. call-ends_none (world_in given tape' scope first) entries who end (losses_of roles spares ++ tail) ((early-losses roles spares).ends tail going)) told
       (λ t can fills. filled-list few synced filled t (was.listed t does fills))
-      (λ t. numbers-kept given tape scope first entries old new (is_carried work) false who (losses_of roles spares) tail tape' end (did.rise t)
+      (λ t. numbers-kept given tape scope first entries old new (bears work) false who (losses_of roles spares) tail tape' end (did.rise t)
       (λ told right more room gone unclean began. did.safe t (world_in given tape scope first) told room gone unclean began)
       (λ all right gone level. legal-losses (world_in given tape' scope first) entries who end (losses_of roles spares) tail (losses-are roles spares) (legal t)))
 

@@ -13,14 +13,14 @@ use Rattle.moving_kept.proofs.superblocks_ValidFields.{few-roles}
 use Rattle.moving_kept.specs.row_io_Rows.{present}
 use Rattle.moving_kept.specs.flat_history_the_Entry.{Entry}
 use Rattle.moving_kept.specs.flat_history_the_Event.{Event}
-use Rattle.moving_kept.specs.flat_history_Epochs.{HasRoomForEvents, OpensAlike}
+use Rattle.moving_kept.specs.flat_history_Epochs.{HasRoomForEvents}
 use Rattle.moving_kept.specs.flat_history_Flat.{now, values_of, values_after}
 use Rattle.moving_kept.specs.flat_history_Legal.{told_left, level_at, level_after, IsLegalEvent}
 use Rattle.moving_kept.specs.flat_history_Plain.{entries_of}
 use Rattle.moving_kept.specs.flat_history_Sound.{OpensFit}
 use Rattle.moving_kept.specs.flat_history_World.{World, opening_list}
 use Rattle.moving_kept.specs.views_the_Work.{Work}
-use Rattle.moving_kept.specs.views_Numbers.{is_carried}
+use Rattle.moving_kept.specs.views_Numbers.{bears}
 use Rattle.moving_kept.proofs.call_entries_CallLaws.{last_end-behind}
 use Rattle.moving_kept.specs.kept_history_Recorded.{IsHistoryKept, IsCallGoing, entry_of, gives_some}
 use Rattle.moving_kept.proofs.kept_history_Tests.{none-before}
@@ -72,9 +72,9 @@ module _ (tells : Type 0) (given : Given) (tape : List Operation) (scope : Scope
 
   Then : List Operation → ℕ → Type 0
   Then l e = (IsReliable (world_in given tape scope first) entries → IsLegalEvent (world_in given l scope first) entries (entry_of who e event) [] event)
-      → EndsRight given l scope first entries m (is_carried work) was.reshaping who e (event ∷ [])
-      → (IsFilledRight (world_in given l scope first) (entries ++ entries_of who e (event ∷ [])) → HasRoomForEvents (world_in given l scope first) → OpensAlike (world_in given l scope first)
-      → IsSafeHistory ⊤ (world_in given l scope first) given m (is_carried work) was.reshaping (entries ++ entries_of who e (event ∷ [])))
+      → EndsRight given l scope first entries m (bears work) was.reshaping who e (event ∷ [])
+      → (IsFilledRight (world_in given l scope first) (entries ++ entries_of who e (event ∷ [])) → HasRoomForEvents (world_in given l scope first)
+      → IsSafeHistory ⊤ (world_in given l scope first) given m (bears work) was.reshaping (entries ++ entries_of who e (event ∷ [])))
       → IsRested given tape scope first entries (entries ++ entries_of who e (event ∷ [])) m l
 
   rested-here : tells → Then (tape ++ []) (length (tape ++ []))
@@ -94,14 +94,14 @@ module _ (tells : Type 0) (given : Given) (tape : List Operation) (scope : Scope
             (λ all. inr behind.gives_all)
             (length-adding (length (opening_list (world_in given tape scope first))) entries (entries_of who (length (tape ++ [])) (event ∷ [])) (adds (length (tape ++ []))) ∙ (was.recorded t).sized)
             (last_end-behind first entries who (length (tape ++ [])) [] event) (λ all. (right (behind.right all), tt, tt))
-            (λ all fit. ends all (behind.gone_all all) (safe all.fills all.room all.alike) fit);
+            (λ all fit. ends all (behind.gone_all all) (safe all.fills all.room) fit);
       }
 
   -- ---- what is told, and what a stop may leave
 
-  unclean : tells → (is_told : (told_now (world_in given tape scope first) (is_carried work) false entries).unclean ≡ true)
-      → (told_now (world_in given tape scope first) (is_carried work) false (entries ++ entries_of who end (event ∷ []))).unclean ≡ true
-  unclean t is_told = (now-adding (world_in given tape scope first) (is_carried work) false entries (entries_of who end (event ∷ [])) (adds end) (none end)).unclean is_told
+  unclean : tells → (is_told : (told_now (world_in given tape scope first) (bears work) false entries).unclean ≡ true)
+      → (told_now (world_in given tape scope first) (bears work) false (entries ++ entries_of who end (event ∷ []))).unclean ≡ true
+  unclean t is_told = (now-adding (world_in given tape scope first) (bears work) false entries (entries_of who end (event ∷ [])) (adds end) (none end)).unclean is_told
 
   -- what is filled in was right before it, too
   before : (n : ℕ) → IsFilledRight (world_in given tape scope first) (entries ++ entries_of who n (event ∷ [])) → IsFilledRight (world_in given tape scope first) entries
@@ -112,15 +112,15 @@ module _ (tells : Type 0) (given : Given) (tape : List Operation) (scope : Scope
   )
   before n (inr fit) = inr fit
 
-  safe : tells → IsFilledRight world (entries ++ added) → HasRoomForEvents world → OpensAlike world → IsSafeHistory ⊤ world given m (is_carried work) was.reshaping (entries ++ added)
-  safe t fills room alike =
-      subst (λ (n : ℕ). IsFilledRight (world_in given tape scope first) (entries ++ entries_of who n (event ∷ [])) → IsSafeHistory ⊤ (world_in given tape scope first) given m (is_carried work) was.reshaping (entries ++ entries_of who n (event ∷ []))) (sym (at_end t))
-      (λ right. idle-call ⊤ given tape scope first entries m (is_carried work) was.reshaping who (event ∷ []) was.sizes_are (was.recorded t).begun (was.recorded t).ends right
-      (was.safe t (before (length tape) right) room alike) (adds (length tape)) (none (length tape)))
+  safe : tells → IsFilledRight world (entries ++ added) → HasRoomForEvents world → IsSafeHistory ⊤ world given m (bears work) was.reshaping (entries ++ added)
+  safe t fills room =
+      subst (λ (n : ℕ). IsFilledRight (world_in given tape scope first) (entries ++ entries_of who n (event ∷ [])) → IsSafeHistory ⊤ (world_in given tape scope first) given m (bears work) was.reshaping (entries ++ entries_of who n (event ∷ []))) (sym (at_end t))
+      (λ right. idle-call ⊤ given tape scope first entries m (bears work) was.reshaping who (event ∷ []) was.sizes_are (was.recorded t).begun (was.recorded t).ends right
+      (was.safe t (before (length tape) right) room) (adds (length tape)) (none (length tape)))
       fills
 
-  ends : tells → EndsRight given tape scope first entries m (is_carried work) was.reshaping who end (event ∷ [])
-  ends = ends-right tells given tape scope first entries m work (is_carried work) was.reshaping who [] event [] tt refl refl free was.members_are (λ u. (was.recorded u).begun) (λ u. (was.recorded u).ends)
+  ends : tells → EndsRight given tape scope first entries m (bears work) was.reshaping who end (event ∷ [])
+  ends = ends-right tells given tape scope first entries m work (bears work) was.reshaping who [] event [] tt refl refl free was.members_are (λ u. (was.recorded u).begun) (λ u. (was.recorded u).ends)
       (now (opening_list (world_in given tape scope first)) entries) end (record { more = λ u. ([], sym (append-nil tape)) }) at_end (λ u does right fit. (was.listed u does right.fills).rows fit)
 
   rested : tells → IsRested given tape scope first entries (entries ++ entries_of who end (event ∷ [])) m tape

@@ -37,7 +37,7 @@ use Rattle.moving_kept.specs.shape_changes_Steady.{IsMoreTold, IsSafeOver, Keeps
 use Rattle.moving_kept.specs.views_the_Work.{Work}
 use Rattle.moving_kept.specs.views_Lacking.{AreLostSince, DoesWithout, IsUnwritten, DataStandsAmong, AreOtherRowsKept, IsOfStripe, ListStands, mended_rows}
 use Rattle.moving_kept.specs.views_Moving.{Grows, IsMoved}
-use Rattle.moving_kept.specs.views_Numbers.{is_carried}
+use Rattle.moving_kept.specs.views_Numbers.{bears}
 use Rattle.moving_kept.specs.views_Rebuilding.{AreRebuilt}
 use Rattle.moving_kept.specs.views_Status.{stripes_of, rebuilt_of}
 use Rattle.moving_kept.proofs.views_Fit.{multiple, list-alike}
@@ -166,12 +166,12 @@ module _ (tells : Type 0) (given : Given) (tape tape' : List Operation) (scope :
   list-stays t can l = list-mended given old new did.moved was.members_are.placed shape same_shape mended tape tape' did.others did.stands can t current l.stands
 
   -- the sectors of the list are those that are told
-  allowed : (t : tells) (told : Ledger) → IsMoreTold (told_now (world_in given tape scope first) (is_carried work) false entries) told → AreWritesAllowed old told.values (now (opening_list (world_in given tape scope first)) entries)
+  allowed : (t : tells) (told : Ledger) → IsMoreTold (told_now (world_in given tape scope first) (bears work) false entries) told → AreWritesAllowed old told.values (now (opening_list (world_in given tape scope first)) entries)
   allowed t told more x lt =
       let size = (was.recorded t).sized in
       more.values x (omega (arith, lt, size)) (current x) (newest-in (opening_list (world_in given tape scope first)) entries x (omega (arith, lt, size)))
 
-  keeps : (t : tells) (told : Ledger) → IsFilledRight (world_in given tape scope first) entries → IsMoreTold (told_now (world_in given tape scope first) (is_carried work) false entries) told
+  keeps : (t : tells) (told : Ledger) → IsFilledRight (world_in given tape scope first) entries → IsMoreTold (told_now (world_in given tape scope first) (bears work) false entries) told
       → HasRoomLeft old tape tape' → AreGoneTold told new → IsUncleanTold told old → IsSafeOver (world_in given tape scope first) given told old tape → KeepsSafe (world_in given tape scope first) given told new tape tape'
   keeps t told fills more room gone unclean safe =
       safe-mend given old new did.moved was.members_are.placed shape same_shape mended tape tape' was.members_are.still did.safe t (world_in given tape scope first) told room gone (unclean was-dirty) current (stood t fills).stands

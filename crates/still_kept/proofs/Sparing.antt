@@ -26,6 +26,7 @@ use Rattle.moving_kept.specs.flat_history_Sound.{OpensFit}
 use Rattle.moving_kept.specs.flat_history_World.{opening_list}
 use Rattle.moving_kept.specs.shape_views_Regions.{DoWithout}
 use Rattle.moving_kept.specs.shape_views_Views.{Ledger}
+use Rattle.moving_kept.specs.shape_changes_Carried.{AreToldAnew}
 use Rattle.moving_kept.specs.shape_changes_Marking.{AreOthersPresent}
 use Rattle.moving_kept.specs.shape_changes_Safety.{HasLiveSlot, HasRoomLeft, IsRisen}
 use Rattle.moving_kept.specs.shape_changes_Steady.{AreViewsRight, IsMoreTold, IsSafeStretch, IsSafeOver, KeepsSafe, AreGoneTold, IsUncleanTold, with_number}
@@ -34,10 +35,11 @@ use Rattle.moving_kept.specs.views_the_Work.{Work}
 use Rattle.moving_kept.specs.views_Flushing.{OnlyFlushesAdded}
 use Rattle.moving_kept.specs.views_Lacking.{AreLostSince, RowsStandBelow, mended_rows}
 use Rattle.moving_kept.specs.views_Moving.{Grows}
-use Rattle.moving_kept.specs.views_Numbers.{is_carried, IsOfScope}
+use Rattle.moving_kept.specs.views_Numbers.{bears, bearing, IsOfScope}
 use Rattle.moving_kept.specs.views_Rebuilding.{with_spare}
 use Rattle.moving_kept.specs.views_Status.{stripes_of}
 use Rattle.moving_kept.proofs.views_AddedRows.{list-with, among-with, rebuilt-with}
+use Rattle.moving_kept.proofs.views_BearerLaws.{bears-more}
 use Rattle.moving_kept.proofs.views_Flushed.{contents-added}
 use Rattle.moving_kept.proofs.views_HeldRows.{missing-before, vacant-missing}
 use Rattle.moving_kept.proofs.views_MarkedSafe.{added-longer, flushed-safe}
@@ -47,10 +49,12 @@ use Rattle.moving_kept.specs.call_entries_Losing.{losses_of}
 use Rattle.moving_kept.proofs.call_entries_CallLaws.{losses-are}
 use Rattle.moving_kept.proofs.array_kept_DegradedLaws.{count-moved}
 use Rattle.moving_kept.proofs.array_kept_KeptLaws.{left-lost}
-use Rattle.calls_kept.proofs.AddedKept.{with_carried, carries-number, AddsSafe}
+use Rattle.calls_kept.proofs.AddedKept.{AddsSafe}
+use Rattle.calls_kept.proofs.AddedNumbers.{told-with}
 use Rattle.calls_kept.proofs.AddedLosses.{IsAddDone, with-placed, stays-added, does-added, left-added}
 use Rattle.moving_kept.specs.kept_history_Recorded.{IsCallGoing, entry_of}
 use Rattle.moving_kept.specs.kept_history_Safe.{world_in, IsFilledRight}
+use Rattle.moving_kept.proofs.kept_history_Anew.{history-anew}
 use Rattle.moving_kept.proofs.kept_history_Seen.{now-more}
 use Rattle.moving_kept.proofs.history_calls_Behind.{AreLostOrMissing, IsAmong, early-losses, legal-losses}
 use Rattle.moving_kept.proofs.history_calls_Quiet.{IsQuiet, LeavesNumbers}
@@ -60,30 +64,16 @@ use Rattle.still_kept.proofs.Stood.{stood-moved}
 
 -- ---- the number
 
-set-there : (l : List Bool) (k : ℕ) → get_or (slice_set l k true) k true ≡ true
-set-there l k = elim (cases_lt k (length l)) [
-  | inl within ↦ get_or-set_same l k true true within
-  | inr past ↦ get_or_past (slice_set l k true) k true (let long = length-set l k true in omega (arith, past, long))
-]
-
 -- with the number no more is told than is by the work that knows it
-with-told : (number : ℕ) (work : Work) (was told : Ledger) → IsMoreTold was told → ((n : ℕ) → told.carried n ≡ is_carried (with_carried number work) n) → IsMoreTold (with_number number was) told
-with-told number work was told less knows = record {
+with-told : (slot number : ℕ) (work : Work) (was told : Ledger) → slot < 32 → IsMoreTold was told → ((s n : ℕ) → told.carried s n ≡ bears (bearing false slot number work) s n) → IsMoreTold (with_number slot number was) told
+with-told slot number work was told below less knows = record {
   size = less.size;
   values = less.values;
   gone = less.gone;
   unclean = less.unclean;
   reshaping = less.reshaping;
-  carried = λ n is. by n (was.carried n) (n == number) refl refl is;
+  carried = λ s n is. knows s n ∙ told-with slot number work s n (was.carried s n) below (λ before. sym (knows s n) ∙ less.carried s n before) is;
 }
-  where
-    same-as : (a b : ℕ) → (a == b) ≡ true → a ≡ b
-    same-as a b e = grind (arith, nat_tests, e)
-
-    by : (n : ℕ) (a b : Bool) → was.carried n ≡ a → (n == number) ≡ b → (a || b) ≡ true → told.carried n ≡ true
-    by n true b before here is = less.carried n before
-    by n false true before here is = knows n ∙ subst (λ (k : ℕ). get_or (slice_set work.carried number true) k true ≡ true) (sym (same-as n number here)) (set-there work.carried number)
-    by n false false before here is = absurd (cc)
 
 -- more is told of a stretch
 stretch-told : (sound : Type 0) (scope : Scope) (given : Given) (told more : Ledger) (members : Members) (before after : List Operation) → IsMoreTold told more
@@ -116,10 +106,13 @@ module _ (tells : Type 0) (given : Given) (tape mid_tape tape' : List Operation)
     (slot : ℕ) (sb : Sb) (lost : ℕ) (before after : ℕ → ℕ) (who : Who) (end roles spares : ℕ)
     (was : IsStill tells given tape scope first entries old work left) (live : HasLiveSlot old) (goes : IsCallGoing entries who) (caller : IsFalse (who.caller == 254)) (at_end : tells → end ≡ length tape')
     (looked : tells → OnlyFlushesAdded tape mid_tape) (did : IsAddDone tells given slot sb old new lost mid_tape tape' before after) (since : AreLostSince old new roles spares before after)
-    (of_scope : IsOfScope scope given slot sb) (unknown : is_carried work sb.dev_number ≡ false)
+    (of_scope : IsOfScope scope given slot sb) (unknown : (s : ℕ) → bears work s sb.dev_number ≡ false)
     (second : tells → (sector : Sector) → IsIn (disk given.start mid_tape slot 9) sector → IsSecondHalf sb sector) (safe : AddsSafe tells given slot sb old new mid_tape tape') where
+  below : slot < 32
+  below = let few = did.slots in let lt = did.there in omega (arith, few, lt)
+
   abbrev work' : Work
-  work' = with_carried sb.dev_number work
+  work' = bearing false slot sb.dev_number work
 
   grows : Grows tells tape tape'
   grows = grows-then (record { more = λ t. ((looked t).0, (looked t).2) }) did.grows
@@ -142,17 +135,17 @@ module _ (tells : Type 0) (given : Given) (tape mid_tape tape' : List Operation)
   ]
 
   -- each mark is safe, with the number
-  keeps : (t : tells) (before_told told : Ledger) → IsMoreTold before_told told → ((n : ℕ) → before_told.carried n ≡ is_carried work n) → ((n : ℕ) → told.carried n ≡ is_carried (with_carried sb.dev_number work) n)
+  keeps : (t : tells) (before_told told : Ledger) → IsMoreTold before_told told → ((s n : ℕ) → before_told.carried s n ≡ bears work s n) → ((s n : ℕ) → told.carried s n ≡ bears (bearing false slot sb.dev_number work) s n)
       → HasRoomLeft old tape tape' → AreGoneTold before_told new → IsUncleanTold before_told old
       → IsSafeOver (world_in given tape scope first) given before_told old tape → KeepsSafe (world_in given tape scope first) given told new tape tape'
   keeps t before_told told less knew knows room gone unclean began =
       let world = world_in given tape scope first in
       let flushed = flushed-safe (OpensFit world) scope given before_told old tape mid_tape (looked t) began in
       let longer = added-longer tape mid_tape (looked t) in
-      let done = safe t world before_told (λ some. let r = room some in omega (arith, r, longer)) gone unclean of_scope (knew sb.dev_number ∙ unknown) (second t) live flushed.next in
+      let done = safe t world before_told (λ some. let r = room some in omega (arith, r, longer)) gone unclean of_scope (λ s. knew s sb.dev_number ∙ unknown s) (second t) live flushed.next in
       safe-then (OpensFit world) scope given told old new tape mid_tape tape'
       (stretch-told (OpensFit world) scope given before_told told old tape mid_tape less flushed)
-      (stretch-told (OpensFit world) scope given (with_number sb.dev_number before_told) told new mid_tape tape' (with-told sb.dev_number work before_told told less knows) done)
+      (stretch-told (OpensFit world) scope given (with_number slot sb.dev_number before_told) told new mid_tape tape' (with-told slot sb.dev_number work before_told told below less knows) done)
 
   rise : tells → IsRisen ⊤ old new tape tape'
   rise t = record {
@@ -161,7 +154,7 @@ module _ (tells : Type 0) (given : Given) (tape mid_tape tape' : List Operation)
   }
 
   listed : tells → DoWithout new → IsFilledRight (world_in given tape scope first) entries
-      → HasListStood (OpensFit (world_in given tape scope first)) (with_carried sb.dev_number work) new (present given tape') (now (opening_list (world_in given tape scope first)) entries)
+      → HasListStood (OpensFit (world_in given tape scope first)) (bearing false slot sb.dev_number work) new (present given tape') (now (opening_list (world_in given tape scope first)) entries)
   listed t can fills =
       let l = stood-moved (OpensFit (world_in given tape scope first)) work given (with_spare slot sb old) new (present given tape) (present given tape') (now (opening_list (world_in given tape scope first)) entries) did.moved (with-placed did) (others t)
       (stood-with (OpensFit (world_in given tape scope first)) work old slot sb (present given tape) (now (opening_list (world_in given tape scope first)) entries) (λ role held. did.untaken role (inl held)) (was.listed t (does-added did can) fills)) in
@@ -170,16 +163,16 @@ module _ (tells : Type 0) (given : Given) (tape mid_tape tape' : List Operation)
   -- an event behind its losses that is legal wherever it stands
   spared : (event : Event) → IsQuiet event → IfSome (told_left (entries ++ entries_of who end (losses_of roles spares ++ event ∷ []))) (λ n. n ≡ left')
       → (tells → IsLegalEvent (world_in given tape' scope first) (entries ++ entries_of who end (losses_of roles spares)) (entry_of who end event) [] event)
-      → IsStill tells given tape' scope first (entries ++ entries_of who end (losses_of roles spares ++ event ∷ [])) new (with_carried sb.dev_number work) left'
+      → IsStill tells given tape' scope first (entries ++ entries_of who end (losses_of roles spares ++ event ∷ [])) new (bearing false slot sb.dev_number work) left'
   spared event quiet told legal =
-      placed-stands tells given tape tape' scope first entries old new work (with_carried sb.dev_number work) left left' who end (losses_of roles spares) (IsAmong roles) event was live goes caller at_end grows quiet rest
-      (stays-added did was.members_are.still).shape (stays-added did was.members_are.still).size (does-added did) (early-losses roles spares) missing did.clean (carries-number sb.dev_number work) refl (progress work.resync was.progress) told listed call
+      placed-stands tells given tape tape' scope first entries old new work (bearing false slot sb.dev_number work) left left' who end (losses_of roles spares) (IsAmong roles) event was live goes caller at_end grows quiet rest
+      (stays-added did was.members_are.still).shape (stays-added did was.members_are.still).size (does-added did) (early-losses roles spares) missing did.clean (bears-more slot sb.dev_number work) refl (progress work.resync was.progress) told listed call
     where
       progress : (o : Option ℕ) → IfSome o (λ mended. mended ≤ stripes_of old) → IfSome o (λ mended. mended ≤ stripes_of new)
       progress None is = tt
       progress (Some mended) is = subst (λ (n : ℕ). mended ≤ n) (λ i. sym ((stays-added did was.members_are.still).size) i / (sym ((stays-added did was.members_are.still).shape) i).chunk) is
 
-      call : tells → LeavesNumbers given tape scope first entries old new (is_carried work) (is_carried (with_carried sb.dev_number work)) false who (losses_of roles spares) (event ∷ []) tape' end
+      call : tells → LeavesNumbers given tape scope first entries old new (bears work) (bears (bearing false slot sb.dev_number work)) false who (losses_of roles spares) (event ∷ []) tape' end
       call t = record {
         rise = rise t;
         keeps = λ before_told told_so fills more less knew knows room gone unclean began. keeps t before_told told_so less knew knows room gone unclean began;
@@ -187,11 +180,36 @@ module _ (tells : Type 0) (given : Given) (tape mid_tape tape' : List Operation)
       }
 
   -- a new spare: any number of steps may be left then
-  pub added-stands : IsStill tells given tape' scope first (entries ++ entries_of who end (losses_of roles spares ++ Added slot ∷ [])) new (with_carried sb.dev_number work) left'
+  pub added-stands : IsStill tells given tape' scope first (entries ++ entries_of who end (losses_of roles spares ++ Added slot ∷ [])) new (bearing false slot sb.dev_number work) left'
   added-stands = spared (Added slot) (record { adds = refl; gives = refl; ends = refl; still = λ x values. refl; level = λ n. refl; other = refl }) (left-added left' entries who end slot (losses_of roles spares) (losses-are roles spares)) (λ t. tt)
 
   -- one that was lost in this
   pub lost-stands : (losses_of roles spares ≡ [] → left' ≡ left)
-      → IsStill tells given tape' scope first (entries ++ entries_of who end (losses_of roles spares ++ Refused (SlotFault slot) ∷ [])) new (with_carried sb.dev_number work) left'
+      → IsStill tells given tape' scope first (entries ++ entries_of who end (losses_of roles spares ++ Refused (SlotFault slot) ∷ [])) new (bearing false slot sb.dev_number work) left'
   lost-stands alike = spared (Refused (SlotFault slot)) (record { adds = refl; gives = refl; ends = refl; still = λ x values. refl; level = λ n. refl; other = refl })
       (left-lost left left' entries who end (losses_of roles spares) (Refused (SlotFault slot) ∷ []) (losses-are roles spares) alike was.left_told (λ told is. is)) (λ t. tt)
+
+-- ---- the number of a new spare
+
+-- the device numbers that slots may bear may be told anew
+pub stands-anew : (tells : Type 0) (given : Given) (tape : List Operation) (scope : Scope) (first : ℕ) (entries : List Entry) (m : Members) (work : Work) (carried : List ℕ) (left : ℕ)
+    → AreToldAnew m (bears work) (bears (record work { carried = carried })) → IsStill tells given tape scope first entries m work left → IsStill tells given tape scope first entries m (record work { carried = carried }) left
+stands-anew tells given tape scope first entries m work carried left anew was = record {
+  slots = was.slots;
+  members_are = was.members_are;
+  sizes_are = was.sizes_are;
+  left_told = was.left_told;
+  reshaping = was.reshaping;
+  over = was.over;
+  progress = was.progress;
+  pending = was.pending;
+  dirty = was.dirty;
+  levelled = was.levelled;
+  gone = was.gone;
+  full = was.full;
+  unclean = was.unclean;
+  recorded = was.recorded;
+  past = was.past;
+  listed = λ t can fills. let l = was.listed t can fills in record { stands = l.stands; whole = l.whole; rows = l.rows; rebuilt = l.rebuilt };
+  safe = λ t fills room. history-anew ⊤ (world_in given tape scope first) given m (bears work) (bears (record work { carried = carried })) was.reshaping entries anew (was.safe t fills room);
+}

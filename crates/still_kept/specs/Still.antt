@@ -9,7 +9,7 @@ use Rattle.moving_kept.specs.superblocks_the_Members.{Members}
 use Rattle.moving_kept.specs.superblocks_Reading.{Scope, is_reshaping, is_clean, shape_of, list_length, role_count}
 use Rattle.moving_kept.specs.row_io_Rows.{reading_of, present, is_missing}
 use Rattle.moving_kept.specs.flat_history_the_Entry.{Entry}
-use Rattle.moving_kept.specs.flat_history_Epochs.{HasRoomForEvents, OpensAlike}
+use Rattle.moving_kept.specs.flat_history_Epochs.{HasRoomForEvents}
 use Rattle.moving_kept.specs.flat_history_Flat.{now}
 use Rattle.moving_kept.specs.flat_history_Legal.{told_left, level_at}
 use Rattle.moving_kept.specs.flat_history_Losses.{is_unsynced}
@@ -21,7 +21,7 @@ use Rattle.moving_kept.specs.shape_changes_Safety.{HasLiveSlot}
 use Rattle.moving_kept.specs.shape_changes_Steady.{AreUnlost}
 use Rattle.moving_kept.specs.views_the_Work.{Work}
 use Rattle.moving_kept.specs.views_Lacking.{ListStands, RowsStandBelow, mended_rows}
-use Rattle.moving_kept.specs.views_Numbers.{is_carried}
+use Rattle.moving_kept.specs.views_Numbers.{bears}
 use Rattle.moving_kept.specs.views_Placed.{IsPlaced}
 use Rattle.moving_kept.specs.views_Rebuilding.{AreSparesFree, AreRebuilt}
 use Rattle.moving_kept.specs.views_Status.{stripes_of}
@@ -80,5 +80,5 @@ pub record IsStill (tells : Type 0) (given : Given) (tape : List Operation) (sco
   pub past : tells → IsNonePast (world_in given tape scope first) entries (list_length members.newest)
   pub listed : tells → DoWithout members → IsFilledRight (world_in given tape scope first) entries
       → HasListStood (OpensFit (world_in given tape scope first)) work members (present given tape) (now (opening_list (world_in given tape scope first)) entries)
-  pub safe : tells → IsFilledRight (world_in given tape scope first) entries → HasRoomForEvents (world_in given tape scope first) → OpensAlike (world_in given tape scope first)
-      → IsSafeHistory ⊤ (world_in given tape scope first) given members (is_carried work) reshaping entries
+  pub safe : tells → IsFilledRight (world_in given tape scope first) entries → HasRoomForEvents (world_in given tape scope first)
+      → IsSafeHistory ⊤ (world_in given tape scope first) given members (bears work) reshaping entries

@@ -1,6 +1,6 @@
 -- A slot that is made a spare, from what `add_member` leaves, or isn't; and a bank of which only counts of faults have risen.
 use Rattle.std.specs.Prelude.{⊤}
-use Rattle.std.proofs.Common.{◌≡◌, ◌≢◌, inl, ℕ, ◌+◌, ◌≤◌, true, false, Option, List, [], ◌∷◌, ◌++◌, length, refl, sym, ◌∙◌, ap₂, subst, arith}
+use Rattle.std.proofs.Common.{◌≡◌, ◌≢◌, inl, ℕ, ◌+◌, ◌<◌, ◌≤◌, true, false, Option, List, [], ◌∷◌, ◌++◌, length, refl, sym, ◌∙◌, ap₂, subst, arith}
 use Rattle.md_base.specs.Sectors.{Sector}
 use Rattle.md_base.specs.Shapes.{has_slot}
 use Rattle.md_base.specs.declared.answers.Refusal.{Refusal}
@@ -18,7 +18,7 @@ use Rattle.still_kept.proofs.superblocks_SlotSets.{none_there}
 use Rattle.still_kept.specs.flat_history_the_Entry.{Entry}
 use Rattle.still_kept.specs.flat_history_the_Event.{Event}
 use Rattle.still_kept.specs.flat_history_the_Event_TheVariants.{Added, Refused}
-use Rattle.still_kept.specs.flat_history_Epochs.{HasRoomForEvents, OpensAlike}
+use Rattle.still_kept.specs.flat_history_Epochs.{HasRoomForEvents}
 use Rattle.still_kept.specs.flat_history_Flat.{next_number}
 use Rattle.still_kept.specs.flat_history_Plain.{entries_of}
 use Rattle.still_kept.specs.flat_history_Sound.{OpensFit}
@@ -26,7 +26,8 @@ use Rattle.still_kept.specs.shape_changes_Safety.{HasLiveSlot}
 use Rattle.still_kept.specs.views_the_Work.{Work}
 use Rattle.still_kept.specs.views_Flushing.{OnlyFlushesAdded}
 use Rattle.still_kept.specs.views_Lacking.{AreLostSince}
-use Rattle.still_kept.specs.views_Numbers.{is_carried, IsOfScope}
+use Rattle.still_kept.specs.views_Numbers.{bears, bearing, IsOfScope}
+use Rattle.still_kept.specs.views_Rebuilding.{IfOwn}
 use Rattle.still_kept.proofs.views_Flushed.{contents-added}
 use Rattle.still_kept.proofs.views_MarkedSafe.{added-longer, flushed-safe}
 use Rattle.still_kept.proofs.views_MovedLaws.{moved-same}
@@ -34,14 +35,15 @@ use Rattle.still_kept.specs.call_entries_Losing.{losses_of}
 use Rattle.still_kept.proofs.call_entries_LosingLaws.{no-losses}
 use Rattle.still_kept.specs.array_kept_Kept.{scope_in}
 use Rattle.still_kept.specs.array_kept_Calls.{IsUnaddable}
-use Rattle.still_kept.proofs.calls_kept_AddedKept.{with_carried, AddsSafe}
-use Rattle.still_kept.proofs.calls_kept_AddedLosses.{IsAddDone, left-carried, left-refused}
+use Rattle.still_kept.proofs.calls_kept_AddedKept.{AddsSafe}
+use Rattle.still_kept.proofs.calls_kept_AddedNumbers.{told-anew}
+use Rattle.still_kept.proofs.calls_kept_AddedLosses.{IsAddDone, stays-added, left-carried, left-refused}
 use Rattle.still_kept.specs.grow_asked_the_PhasesLeft.{PhasesLeft}
 use Rattle.still_kept.specs.kept_history_Safe.{world_in, IsFilledRight, IsSafeHistory}
 use Rattle.still_kept.proofs.kept_history_Records.{begins-going}
 use Rattle.still_kept.specs.Still.{IsStill}
 use Rattle.still_kept.proofs.Refusals.{IsRefusedStill}
-use Rattle.still_kept.proofs.Sparing.{added-stands, lost-stands}
+use Rattle.still_kept.proofs.Sparing.{added-stands, lost-stands, stands-anew}
 use Rattle.still_kept.proofs.Staying.{IsNamedStill, refused-stands}
 use Rattle.running_words.specs.Parts.{still_left}
 use Rattle.running_words.specs.Plans.{KeepsShape}
@@ -75,6 +77,7 @@ module _ {tells : Type 0} {given : Given} {tape tape' : List Operation} {scope :
       gone = λ role has. absurd (none-lost role has);
       held = λ role has. absurd (none-lost role has);
       failed = λ spare has. absurd (none-lost spare has);
+      were = λ spare has. absurd (none-lost spare has);
       told = λ spare has. inl has;
     };
     grows = record { more = λ t. ((looked t).0, (looked t).2) };
@@ -96,21 +99,24 @@ module _ {tells : Type 0} {given : Given} {tape mid_tape tape' : List Operation}
     {slot : ℕ} {sb : Sb} {lost : ℕ} {before after : ℕ → ℕ} (who : Who) (end roles spares : ℕ) (was : IsStill tells given tape scope first entries old work (still_left work old ahead)) (live : HasLiveSlot old)
     (number : who.number ≡ next_number who.caller entries) (caller : who.caller ≢ 254) (at_end : tells → end ≡ length tape')
     (looked : tells → OnlyFlushesAdded tape mid_tape) (did : IsAddDone tells given slot sb old new lost mid_tape tape' before after) (since : AreLostSince old new roles spares before after)
-    (of_scope : IsOfScope scope given slot sb) (unknown : is_carried work sb.dev_number ≡ false)
+    (of_scope : IsOfScope scope given slot sb) (unknown : (s : ℕ) → bears work s sb.dev_number ≡ false)
     (second : tells → (sector : Sector) → IsIn (disk given.start mid_tape slot 9) sector → IsSecondHalf sb sector) (safe : AddsSafe tells given slot sb old new mid_tape tape') where
-  -- it is a spare
-  pub add-done : IsStill tells given tape' scope first (entries ++ entries_of who end (losses_of roles spares ++ Added slot ∷ [])) new (with_carried sb.dev_number work) (still_left (with_carried sb.dev_number work) new ahead)
-  add-done =
-      added-stands tells given tape mid_tape tape' scope first entries old new work (still_left work old ahead) (still_left (with_carried sb.dev_number work) new ahead) slot sb lost before after who end roles spares was live
-      (begins-going entries who number) (not_254 who.caller caller) at_end looked did since of_scope unknown second safe
+  -- it is a spare, whose superblock bears its new number alone
+  pub add-done : has_spare new.spares slot ≡ true → IfOwn new slot (λ own. (own.dev_number ≡ sb.dev_number) × (own.data_offset ≡ sb.data_offset))
+      → IsStill tells given tape' scope first (entries ++ entries_of who end (losses_of roles spares ++ Added slot ∷ [])) new (bearing true slot sb.dev_number work) (still_left (bearing true slot sb.dev_number work) new ahead)
+  add-done has stored =
+      stands-anew tells given tape' scope first (entries ++ entries_of who end (losses_of roles spares ++ Added slot ∷ [])) new (bearing false slot sb.dev_number work) (bearing true slot sb.dev_number work).carried
+      (still_left (bearing true slot sb.dev_number work) new ahead) (told-anew given new slot sb.dev_number sb work (let few = did.slots in let lt = did.there in omega (arith, few, lt)) (stays-added did was.members_are.still).free has stored refl)
+      (added-stands tells given tape mid_tape tape' scope first entries old new work (still_left work old ahead) (still_left (bearing true slot sb.dev_number work) new ahead) slot sb lost before after who end roles spares was live
+      (begins-going entries who number) (not_254 who.caller caller) at_end looked did since of_scope unknown second safe)
 
   -- it was lost in this
   pub add-lost : has_spare new.spares slot ≡ false
-      → IsStill tells given tape' scope first (entries ++ entries_of who end (losses_of roles spares ++ Refused (SlotFault slot) ∷ [])) new (with_carried sb.dev_number work) (still_left (with_carried sb.dev_number work) new ahead)
+      → IsStill tells given tape' scope first (entries ++ entries_of who end (losses_of roles spares ++ Refused (SlotFault slot) ∷ [])) new (bearing false slot sb.dev_number work) (still_left (bearing false slot sb.dev_number work) new ahead)
   add-lost none =
-      lost-stands tells given tape mid_tape tape' scope first entries old new work (still_left work old ahead) (still_left (with_carried sb.dev_number work) new ahead) slot sb lost before after who end roles spares was live
+      lost-stands tells given tape mid_tape tape' scope first entries old new work (still_left work old ahead) (still_left (bearing false slot sb.dev_number work) new ahead) slot sb lost before after who end roles spares was live
       (begins-going entries who number) (not_254 who.caller caller) at_end looked did since of_scope unknown second safe
-      (λ quiet. ap₂ (λ (a b : ℕ). a + b) (left-carried work (with_carried sb.dev_number work).carried new ∙ left-refused did roles spares since work none quiet) (planned-same ahead (shapes-moved did.moved)))
+      (λ quiet. ap₂ (λ (a b : ℕ). a + b) (left-carried work (bearing false slot sb.dev_number work).carried new ∙ left-refused did roles spares since work none quiet) (planned-same ahead (shapes-moved did.moved)))
 
 -- ---- nothing was written
 
@@ -133,8 +139,8 @@ still-same {tells = tells} {given = given} {tape' = tape'} {scope = scope} {firs
   recorded = λ t. (here t).recorded t;
   past = λ t. (here t).past t;
   listed = λ t. (here t).listed t;
-  safe = λ t. subst (λ (l : List Operation). IsFilledRight (world_in given l scope first) entries → HasRoomForEvents (world_in given l scope first) → OpensAlike (world_in given l scope first)
-      → IsSafeHistory ⊤ (world_in given l scope first) given m (is_carried work) was.reshaping entries) (sym (same t)) (was.safe t);
+  safe = λ t. subst (λ (l : List Operation). IsFilledRight (world_in given l scope first) entries → HasRoomForEvents (world_in given l scope first)
+      → IsSafeHistory ⊤ (world_in given l scope first) given m (bears work) was.reshaping entries) (sym (same t)) (was.safe t);
 }
   where
     here : tells → IsStill tells given tape' scope first entries m work left

@@ -86,7 +86,7 @@ reply-keeps work m ahead who end (Refused Nothing) reply = alone-keeps who end (
 reply-keeps work m ahead who end (Stepped done left ended) reply = alone-keeps who end (Stepped done left ended) (λ n. refl) (λ limit. refl)
 reply-keeps work m ahead who end event reply = absurd reply
 
-pub reply-lossless : (work : Work) (m : Members) (ahead : PhasesLeft) (Had : ℕ → ℕ → Type 0) (before after : ℕ → ℕ) (event : Event) → IsStepsReplyNow work m ahead event → IsLossBy Had before after event
-reply-lossless work m ahead Had before after (Refused Nothing) reply = tt
-reply-lossless work m ahead Had before after (Stepped done left ended) reply = tt
-reply-lossless work m ahead Had before after event reply = absurd reply
+pub reply-lossless : (work : Work) (m : Members) (ahead : PhasesLeft) (Had : ℕ → ℕ → Type 0) (Was : ℕ → Type 0) (before after : ℕ → ℕ) (event : Event) → IsStepsReplyNow work m ahead event → IsLossBy Had Was before after event
+reply-lossless work m ahead Had Was before after (Refused Nothing) reply = tt
+reply-lossless work m ahead Had Was before after (Stepped done left ended) reply = tt
+reply-lossless work m ahead Had Was before after event reply = absurd reply

@@ -79,7 +79,7 @@ pub epoch-kept : {tells : Type 0} {members : Members} {work : Work} {left : ℕ}
 epoch-kept given tape backup epoch was t last right =
     let recorded = was.recorded t in
     let world = world_of given tape backup epoch in
-    let safe = was.safe t right.fills right.room right.alike in
+    let safe = was.safe t right.fills right.room in
     record {
       begins = omega (arith, recorded.begun, last);
       ends = omega (arith, last);

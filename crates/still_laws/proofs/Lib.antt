@@ -44,6 +44,7 @@ pub use Rattle.still_kept.proofs.array_kept_ReplyLaws
 pub use Rattle.still_kept.proofs.array_kept_StepsLeft
 pub use Rattle.still_kept.proofs.calls_kept_AddLaws
 pub use Rattle.still_kept.proofs.calls_kept_AddedKept
+pub use Rattle.still_kept.proofs.calls_kept_AddedNumbers
 pub use Rattle.still_kept.proofs.calls_kept_AddedLosses
 pub use Rattle.still_kept.proofs.calls_kept_AdoptingLaws
 pub use Rattle.still_kept.proofs.calls_kept_FailedLaws

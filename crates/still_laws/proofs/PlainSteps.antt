@@ -191,6 +191,7 @@ module _ {tells : Type 0} {given : Given} {tape tape' : List Operation} {scope :
       gone = did.since.gone;
       held = λ r has. let h = did.since.held r has in (h.0, holder-before given old new was.kept.members_are.placed role slot keeper was.kept.members_are.free did.recovers did.moved r h.0 h.1, h.2);
       failed = did.since.failed;
+      were = λ s has. (spare-before given old was.kept.members_are.placed None role slot keeper s (did.since.were s has)).0;
       told = λ s has. did.since.told s (spare-still given old new was.kept.members_are.placed role slot keeper was.kept.members_are.free did.recovers did.moved s has);
     }
       where

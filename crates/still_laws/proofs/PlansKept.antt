@@ -34,7 +34,7 @@ use Rattle.still_kept.specs.array_kept_Calls.{IsEntered, StandsInside, IsReplied
 use Rattle.still_kept.specs.grow_asked_Left.{phases_of}
 use Rattle.still_kept.specs.kept_history_Recorded.{entry_of}
 use Rattle.still_kept.specs.kept_history_Safe.{world_in}
-use Rattle.still_kept.proofs.kept_history_Growing.{alike-before, room-before}
+use Rattle.still_kept.proofs.kept_history_Growing.{room-before}
 use Rattle.still_kept.proofs.kept_history_Turned.{filled-before}
 use Rattle.still_kept.proofs.kept_history_Tests.{neither}
 use Rattle.still_kept.specs.history_calls_Reliable.{IsReliable}
@@ -196,7 +196,6 @@ pub reliable-before : (world : World) (ops : List Operation) (entries added : Li
 reliable-before world ops entries added begun ends right = record {
   fills = filled-before world ops entries added begun ends right.fills;
   room = room-before world ops begun right.room;
-  alike = alike-before world ops begun right.alike;
 }
 
 -- ---- what is kept of an array's plans

@@ -46,7 +46,7 @@ use Rattle.still_kept.specs.grow_asked_the_PhasesLeft.{PhasesLeft}
 use Rattle.still_kept.specs.grow_asked_Left.{phases_of}
 use Rattle.still_kept.specs.kept_history_Recorded.{IsCallGoing, IsLengthKept, IsOpenBehind}
 use Rattle.still_kept.specs.kept_history_Safe.{world_in}
-use Rattle.still_kept.proofs.kept_history_Growing.{alike-before, room-before}
+use Rattle.still_kept.proofs.kept_history_Growing.{room-before}
 use Rattle.still_kept.proofs.kept_history_Lengths.{open-more}
 use Rattle.still_kept.proofs.kept_history_Turned.{filled-before}
 use Rattle.still_kept.specs.history_calls_Reliable.{IsReliable}
@@ -201,7 +201,6 @@ open-later tells given tape tape' scope first entries who added grows begun ends
     earlier ops later = record {
       fills = filled-before (world_in given tape scope first) ops entries added (begun t) (ends t) later.fills;
       room = room-before (world_in given tape scope first) ops (begun t) later.room;
-      alike = alike-before (world_in given tape scope first) ops (begun t) later.alike;
     }
 
 module _ {tells : Type 0} {given : Given} {tape tape' : List Operation} {scope : Scope} {first : ℕ} {entries : List Entry} {old new : Members} {work : Work} (ahead : PhasesLeft)

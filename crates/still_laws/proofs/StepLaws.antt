@@ -23,7 +23,7 @@ use Rattle.still_kept.specs.views_Placed.{IsPlaced}
 use Rattle.still_kept.specs.views_Status.{left_of}
 use Rattle.still_kept.specs.call_entries_Losing.{losses_of}
 use Rattle.still_kept.specs.array_kept_Kept.{scope_in}
-use Rattle.still_kept.specs.array_kept_Calls.{IsLossBy, AreLossesBy, AreStepsFewer, AreStepsKept, IsEndOf, IsUnmendable}
+use Rattle.still_kept.specs.array_kept_Calls.{IsLossBy, WasSpare, AreLossesBy, AreStepsFewer, AreStepsKept, IsEndOf, IsUnmendable}
 use Rattle.still_kept.proofs.array_kept_KeptLaws.{left-lost}
 use Rattle.still_kept.proofs.array_kept_ReadyLaws.{list-same}
 use Rattle.still_kept.proofs.array_kept_StepsLeft.{left-moved}
@@ -78,7 +78,7 @@ planned-same ahead same i = phases_steps (same.shape i) (same.size i) (phases_of
 
 pub stepped : {B : Type 0} {tells : Type 0} {given : Given} {tape tape' : List Operation} {Had : ℕ → ℕ → Type 0} {before after : ℕ → ℕ} {old new : RunningParts B}
     → Grows tells tape tape' → AreSameShapes old.parts.members.newest new.parts.members.newest → IsEndOf tells new.parts.first new.parts.entries tape'
-    → HaveRolesFailed old.parts.members new.parts.members before after → AreLossesBy Had before after old.parts.entries new.parts.entries → NeverFalls before after → IsSameEpoch old new
+    → HaveRolesFailed old.parts.members new.parts.members before after → AreLossesBy Had (WasSpare old.parts.members) before after old.parts.entries new.parts.entries → NeverFalls before after → IsSameEpoch old new
     → (tells → old.parts.first ≤ length tape) → IsStepped tells given tape tape' Had before after old new
 stepped {given = given} {old = old} {new = new} grows shapes ended failed losses rises epoch begun = record {
   grows = grows;
@@ -110,20 +110,20 @@ all-more : {P Q : Entry → Type 0} → ((e : Entry) → P e → Q e) → (xs : 
 all-more {Q = Q} more [] all = All-nil Q
 all-more {P = P} {Q = Q} more (x ∷ xs) all = All-cons Q x xs (more x (All-head P x xs all)) (all-more more xs (All-tail P x xs all))
 
-loss-more : {Had More : ℕ → ℕ → Type 0} → ((role slot : ℕ) → Had role slot → More role slot) → (before after : ℕ → ℕ) (event : Event) → IsLossBy Had before after event → IsLossBy More before after event
-loss-more more before after (Lost role Fault) is = (is.0, more role is.0 is.1, is.2)
-loss-more more before after (Lost role Command) is = (is.0, more role is.0 is.1)
-loss-more more before after (Lost role cause) is = absurd is
-loss-more more before after event is = is
+loss-more : {Had More : ℕ → ℕ → Type 0} (Was : ℕ → Type 0) → ((role slot : ℕ) → Had role slot → More role slot) → (before after : ℕ → ℕ) (event : Event) → IsLossBy Had Was before after event → IsLossBy More Was before after event
+loss-more Was more before after (Lost role Fault) is = (is.0, more role is.0 is.1, is.2)
+loss-more Was more before after (Lost role Command) is = (is.0, more role is.0 is.1)
+loss-more Was more before after (Lost role cause) is = absurd is
+loss-more Was more before after event is = is
 
 -- more slots may have had the roles that were lost
 pub stepped-more : {B : Type 0} {tells : Type 0} {given : Given} {tape tape' : List Operation} {Had More : ℕ → ℕ → Type 0} {before after : ℕ → ℕ} {old new : RunningParts B} → ((role slot : ℕ) → Had role slot → More role slot)
     → IsStepped tells given tape tape' Had before after old new → IsStepped tells given tape tape' More before after old new
-stepped-more {before = before} {after = after} more is = record {
+stepped-more {before = before} {after = after} {old = old} more is = record {
   grows = is.grows;
   ended = is.ended;
   failed = is.failed;
-  losses = record { more = is.losses.more; grown = is.losses.grown; failed = all-more (λ e. loss-more more before after e.event) is.losses.more is.losses.failed };
+  losses = record { more = is.losses.more; grown = is.losses.grown; failed = all-more (λ e. loss-more (WasSpare old.parts.members) more before after e.event) is.losses.more is.losses.failed };
   never_falls = is.never_falls;
   same = is.same;
 }

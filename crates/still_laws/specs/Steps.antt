@@ -16,7 +16,7 @@ use Rattle.still_kept.specs.views_Lacking.{AreTooMany, HaveRolesFailed}
 use Rattle.still_kept.specs.views_Moving.{Grows}
 use Rattle.still_kept.specs.grow_asked_the_PhasesLeft.{PhasesLeft}
 use Rattle.still_kept.specs.grow_asked_Left.{phases_of}
-use Rattle.still_kept.specs.array_kept_Calls.{AreLossesBy, IsEndOf, IsUnmendable}
+use Rattle.still_kept.specs.array_kept_Calls.{AreLossesBy, WasSpare, IsEndOf, IsUnmendable}
 use Rattle.still_kept.specs.kept_history_Recorded.{IsCallGoing, IsOpenBehind}
 use Rattle.still_kept.specs.history_calls_Reliable.{IsReliable}
 use Rattle.still_kept.specs.Still.{IsNamedOrClean}
@@ -24,12 +24,12 @@ use Rattle.running_words.specs.Parts.{RunningParts, still_left}
 use Rattle.running_words.specs.Calls.{moving_world, IsSameReshape}
 
 -- What a step leaves that is done or refused, by the slots that may have had the roles that it lost: more was done on the bank, and the entries end with that; each
--- role has the slot that held it, or that slot has failed since; each loss has its cause; and it is the same array.
+-- role has the slot that held it, or that slot has failed since; each loss has its cause, and only spares are told lost as such; and it is the same array.
 pub record IsStepped {B : Type 0} (tells : Type 0) (given : Given) (tape tape' : List Operation) (Had : ℕ → ℕ → Type 0) (before after : ℕ → ℕ) (old new : RunningParts B) : Type 0 where
   pub grows : Grows tells tape tape'
   pub ended : IsEndOf tells new.parts.first new.parts.entries tape'
   pub failed : HaveRolesFailed old.parts.members new.parts.members before after
-  pub losses : AreLossesBy Had before after old.parts.entries new.parts.entries
+  pub losses : AreLossesBy Had (WasSpare old.parts.members) before after old.parts.entries new.parts.entries
   pub never_falls : NeverFalls before after
   pub same : IsSameReshape tells old new (moving_world given tape old) (moving_world given tape' new)
 

@@ -1,4 +1,4 @@
-pub mod Lowest
+pub use Rattle.still.proofs.Lowest
 pub mod NextLaws
 pub mod RebuildLaws
 pub mod ResyncLaws

@@ -19,15 +19,15 @@ use Rattle.still.specs.views_the_Work.{Work}
 use Rattle.still.specs.views_Placed.{is_vacant}
 use Rattle.still.specs.views_Status.{stripes_of, rebuilt_of, vacant_count, spare_count, resync_left, role_left, recovery_left, left_of}
 use Rattle.still.specs.views_Lacking.{AreTooMany}
-use Rattle.still.specs.array_kept_Calls.{IsCausedBy, IsUnmendable}
+use Rattle.still.specs.array_kept_Calls.{WasSpare, IsCausedBy, IsUnmendable}
 use Rattle.still.specs.views_Rebuilding.{MayHold}
 use Rattle.still.specs.running_words_Parts.{RunningParts}
 use Rattle.still.specs.still_laws_Steps.{IsStepped}
 use Rattle.still_steps.specs.Resyncing.{is_at_end, IsUnmended}
 use Rattle.still_steps.specs.Resyncing as resync
-use Rattle.still_steps.specs.Rebuilding.{recovers, first_recovering, first_vacant, first_spare, IsRebuildNext, rebuild_kind, IsHeldOrNext}
+use Rattle.still.specs.Rebuilding.{recovers, first_recovering, first_vacant, first_spare, IsRebuildNext, rebuild_kind, IsHeldOrNext}
 use Rattle.still_steps.proofs.RebuildLaws.{losses-wider}
-use Rattle.still_steps.proofs.Lowest.{lowest-found, lowest-fails, none-counted}
+use Rattle.still.proofs.Lowest.{lowest-found, lowest-fails, none-counted}
 use Rattle.still_steps.specs.Stepping.{IsUndone, next_kind, IsEnd, IsHeldOrDue}
 
 -- ---- steps that are left
@@ -172,7 +172,7 @@ stepped-wider tells given tape tape' Had Has before after old new had was = reco
   grows = was.grows;
   ended = was.ended;
   failed = was.failed;
-  losses = losses-wider Had Has before after had old.parts.entries new.parts.entries was.losses;
+  losses = losses-wider Had Has (WasSpare old.parts.members) before after had old.parts.entries new.parts.entries was.losses;
   never_falls = was.never_falls;
   same = was.same;
 }

@@ -31,8 +31,8 @@ use Rattle.still.specs.views_Status.{stripes_of, rebuilt_of}
 use Rattle.still.specs.array_kept_Calls.{IsRecovered, IsRecoveredOrLost, IsRebuildStepped, AreValuesKept, IsRoleLossBy, IsLossBy, AreLossesBy}
 use Rattle.still.proofs.call_entries_CallLaws.{losses-are, values-losses}
 use Rattle.still.proofs.array_kept_NowLaws.{values-more}
-use Rattle.still_steps.specs.Rebuilding.{recovers, first_recovering, first_vacant, first_spare, IsRebuildNext, rebuilt_role, rebuild_kind, rebuild_events, IsGivenToSpare}
-use Rattle.still_steps.proofs.Lowest.{lowest-found}
+use Rattle.still.specs.Rebuilding.{recovers, first_recovering, first_vacant, first_spare, IsRebuildNext, rebuilt_role, rebuild_kind, rebuild_events, IsGivenToSpare}
+use Rattle.still.proofs.Lowest.{lowest-found}
 
 -- ---- what is next
 
@@ -176,21 +176,21 @@ given-to old new kind role slot (Err fault) next was = tt
 
 -- ---- losses
 
-module _ (Had Has : ℕ → ℕ → Type 0) (f g : ℕ → ℕ) (had : (role slot : ℕ) → Has role slot → Had role slot) where
+module _ (Had Has : ℕ → ℕ → Type 0) (Was : ℕ → Type 0) (f g : ℕ → ℕ) (had : (role slot : ℕ) → Has role slot → Had role slot) where
   wider-role : (role : ℕ) (cause : LostCause) → IsRoleLossBy Has f g role cause → IsRoleLossBy Had f g role cause
   wider-role role ByFault loss = (loss.0, had role loss.0 loss.1, loss.2)
   wider-role role Command loss = (loss.0, had role loss.0 loss.1)
   wider-role role cause loss = absurd loss
 
-  wider : (event : Event) → IsLossBy Has f g event → IsLossBy Had f g event
+  wider : (event : Event) → IsLossBy Has Was f g event → IsLossBy Had Was f g event
   wider (Lost role cause) loss = wider-role role cause loss
   wider (SpareLost slot) failed = failed
   wider event loss = tt
 
   -- losses of slots that had the roles, by a wider word of it
-  pub losses-wider : (old new : List Entry) → AreLossesBy Has f g old new → AreLossesBy Had f g old new
+  pub losses-wider : (old new : List Entry) → AreLossesBy Has Was f g old new → AreLossesBy Had Was f g old new
   losses-wider old new was = record {
     more = was.more;
     grown = was.grown;
-    failed = All-weaker (λ e. IsLossBy Has f g e.event) (λ e. IsLossBy Had f g e.event) (λ e loss. wider e.event loss) was.more was.failed;
+    failed = All-weaker (λ e. IsLossBy Has Was f g e.event) (λ e. IsLossBy Had Was f g e.event) (λ e loss. wider e.event loss) was.more was.failed;
   }

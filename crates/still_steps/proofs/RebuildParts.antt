@@ -8,7 +8,7 @@ use Rattle.still.specs.flat_history_the_StepKind.{StepKind}
 use Rattle.still.specs.flat_history_the_StepKind_TheVariants.{RebuildTaken, RebuildStripe, RebuildEnded}
 use Rattle.still.specs.views_the_Work.{Work}
 use Rattle.still.specs.array_kept_Calls.{IsWholeOrLost, by_answer}
-use Rattle.still_steps.specs.Rebuilding.{rebuilt_role, rebuild_kind, after_rebuild}
+use Rattle.still.specs.Rebuilding.{rebuilt_role, rebuild_kind, after_rebuild}
 
 -- ---- what is asked
 

@@ -15,7 +15,7 @@ use Rattle.still.specs.array_kept_Calls.{IsCausedBy, IsRebuildStepped, by_answer
 use Rattle.still.specs.running_words_Calls.{IsStepTaken}
 use Rattle.still_steps.specs.Resyncing.{is_at_end, IsUnmended}
 use Rattle.still_steps.specs.Resyncing as resync
-use Rattle.still_steps.specs.Rebuilding.{rebuilt_role, rebuild_kind, rebuild_events, after_rebuild}
+use Rattle.still.specs.Rebuilding.{rebuilt_role, rebuild_kind, rebuild_events, after_rebuild}
 use Rattle.still_steps.specs.Stepping.{IsUndone, IsStepEntered, next_kind, after_step}
 use Rattle.still_steps.proofs.NextLaws.{of-resync, not-resynced}
 

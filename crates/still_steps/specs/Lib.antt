@@ -1,4 +1,4 @@
-pub mod Rebuilding
+pub use Rattle.still.specs.Rebuilding
 pub mod Resyncing
 pub mod Stepping
 pub use Rattle.still.specs.still_laws_Plain

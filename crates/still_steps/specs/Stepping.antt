@@ -15,7 +15,7 @@ use Rattle.still.specs.array_kept_Calls.{IsRebuildStepped}
 use Rattle.still.specs.running_words_Calls.{IsStepTaken}
 use Rattle.still_steps.specs.Resyncing.{is_at_end, IsUnmended}
 use Rattle.still_steps.specs.Resyncing as resync
-use Rattle.still_steps.specs.Rebuilding.{first_spare, rebuilt_role, rebuild_kind, rebuild_events, after_rebuild}
+use Rattle.still.specs.Rebuilding.{first_spare, rebuilt_role, rebuild_kind, rebuild_events, after_rebuild}
 
 -- why the next step isn't done, by what was under way in the old members
 abbrev pub IsUndone : Work → Members → Members → Refusal → Type 0

@@ -1,11 +1,15 @@
 //! The background steps of an array without a reshape: which is the next one.
 #![tactic(auto)]
 
-mod choosing;
+mod filling;
+mod mending;
+mod naming;
 mod rebuilding;
+mod refusing;
 mod resyncing;
 mod stepping;
 
-pub use choosing::{first_recovering, first_spare};
 pub use stepping::still_step;
-pub use still::{Opened, Still, set_rebuilt, steps_left, vacant_roles};
+pub use still::{
+    Opened, Still, first_recovering, first_spare, set_rebuilt, steps_left, vacant_roles,
+};

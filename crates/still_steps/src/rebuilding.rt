@@ -16,12 +16,12 @@ ghost use Rattle.still.specs.running_words_Parts.{still_left};
 ghost use Rattle.still.specs.running_words_Calls.{moving_world};
 ghost use Rattle.still.specs.running_words_Plans.{ArePlansKept};
 ghost use Rattle.still.specs.still_laws_Steps.{IsStepped, IsClosable, IsCallUnbroken};
-ghost use Rattle.still_steps.specs.Rebuilding.{rebuilt_role, rebuild_kind, rebuild_events, after_rebuild, IsRebuildNext, IsGivenToSpare, IsHeldOrNext};
+ghost use Rattle.still.specs.Rebuilding.{rebuilt_role, rebuild_kind, rebuild_events, after_rebuild, IsRebuildNext, IsGivenToSpare, IsHeldOrNext};
 
-use crate::choosing::{first_recovering, first_spare, first_vacant};
+use crate::filling::{end_rebuild, fill_stripe, take_role};
 use bank::Bank;
 use md_base::{Fault, Who};
-use still::Still;
+use still::{Still, first_recovering, first_spare, first_vacant};
 
 // Does the next step of a rebuild: of the lowest role that a slot recovers, its next stripe, or, where all are rebuilt, its
 // end; or else gives the lowest role that no slot holds to the lowest spare. Where the slot that is rebuilt is lost, this
@@ -57,11 +57,11 @@ pub(crate) fn rebuild_step<B: Bank>(still: &mut Still<B>, who: Who) -> Result<()
     let disks = still.disks();
     if let Some(role) = first_recovering(still.members(), disks) {
         if still.rebuilt(role) < still.stripes() {
-            return still.fill_stripe(who, role);
+            return fill_stripe(still, who, role);
         }
-        return still.end_rebuild(who, role);
+        return end_rebuild(still, who, role);
     }
     let role = first_vacant(still.members(), disks).unwrap_or(0);
     let slot = first_spare(still.members()).unwrap_or(0);
-    still.take_role(who, role, slot)
+    take_role(still, who, role, slot)
 }

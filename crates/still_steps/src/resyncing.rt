@@ -18,6 +18,7 @@ ghost use Rattle.still.specs.running_words_Plans.{ArePlansKept};
 ghost use Rattle.still.specs.still_laws_Steps.{IsStepped, IsClosable};
 ghost use Rattle.still_steps.specs.Resyncing.{is_at_end, next_kind, after_step, IsUnmended};
 
+use crate::mending::{end_resync, mend_stripe};
 use bank::Bank;
 use md_base::{Fault, Who};
 use still::Still;
@@ -49,8 +50,8 @@ pub(crate) fn resync_step<B: Bank>(still: &mut Still<B>, who: Who) -> Result<(),
     ensures given { B.given still.new.parts.bank ≡ B.given still.old.parts.bank }
 {
     if still.resync() == Some(still.stripes()) {
-        still.end_resync(who)
+        end_resync(still, who)
     } else {
-        still.mend_stripe(who)
+        mend_stripe(still, who)
     }
 }

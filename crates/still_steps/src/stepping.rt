@@ -18,7 +18,7 @@ ghost use Rattle.still.specs.running_words_Calls.{moving_world};
 ghost use Rattle.still.specs.running_words_Plans.{ArePlansKept};
 ghost use Rattle.still.specs.still_laws_Steps.{IsStepped, IsClosable, IsCallUnbroken};
 ghost use Rattle.still_steps.specs.Resyncing.{is_at_end};
-ghost use Rattle.still_steps.specs.Rebuilding.{rebuilt_role, IsGivenToSpare};
+ghost use Rattle.still.specs.Rebuilding.{rebuilt_role, IsGivenToSpare};
 ghost use Rattle.still_steps.specs.Stepping.{IsUndone, IsEnd, IsStepEntered, next_kind, after_step, IsHeldOrDue};
 
 use crate::rebuilding::rebuild_step;

@@ -15,8 +15,8 @@ use Rattle.superblock_reads.specs.superblocks_Reading.{Scope, is_fresh}
 use Rattle.superblock_reads.specs.superblocks_Update.{planned, give_of, own_in, is_behind, is_recovery, planned_role}
 use Rattle.superblock_reads.specs.superblocks_Writing.{IsPlanned}
 use Rattle.superblock_reads.specs.superblocks_Updating.{planned_newest, IsLater}
-use Rattle.superblock_reads.specs.superblocks_Reads.{IsReadAs, IsSuited, held_in}
-use Rattle.superblock_reads.specs.superblocks_Held.{AreDrawn, MayRead, IsStamped, IsKnown, IsOther, Shows, AreHeld, AreLevel, said_by}
+use Rattle.superblock_reads.specs.superblocks_Reads.{IsReadAs, IsSuited, held_in, IsNewestLike}
+use Rattle.superblock_reads.specs.superblocks_Held.{AreDrawn, MayRead, IsStamped, IsKnown, IsOther, Shows, AreHeld, AreLevel, said_by, IsFirstAsNew}
 use Rattle.superblock_reads.specs.superblocks_Stages.{AreLeft, IsCatchingUp, IsTaking, AreTaken, IsFitPlan, AreKept, AreFirstKept}
 use Rattle.superblock_reads.specs.superblocks_Plans.{IsFitChange}
 use Rattle.superblock_reads.specs.superblocks_Rounds.{Round, first_newest, IsRewriting, IsRewritten, IsCatchingUpTo, IsCaughtUpTo, IsFirstRewriting}
@@ -26,9 +26,10 @@ use Rattle.superblock_reads.proofs.superblocks_Exact.{all_same}
 use Rattle.superblock_reads.proofs.superblocks_SlotSets.{with_here, with_other}
 use Rattle.superblock_reads.proofs.superblocks_PlannedSb.{planned-of}
 use Rattle.superblock_reads.proofs.PlanFits.{IsNext, IsPlanScope, length-any, wide-fits, plan-fits, shown-of, known-numbers, idle-number}
-use Rattle.superblock_reads.proofs.superblocks_UpdateReads.{fresh_less, new_suited}
+use Rattle.superblock_reads.proofs.superblocks_HeldReads.{stamped-like}
+use Rattle.superblock_reads.proofs.superblocks_UpdateReads.{fresh_less, new_suited, planned-like}
 use Rattle.superblock_reads.proofs.superblocks_ValidFields.{few-events}
-use Rattle.superblock_reads.proofs.StageReads.{caught_of, caught-held, catching-reads, other_read, new_of, taking-reads, taking-later, taken-held, taken-level, taken_read, shows-before}
+use Rattle.superblock_reads.proofs.StageReads.{caught_of, caught-held, catching-reads, other_read, new_of, taking-reads, taking-later, taken-held, taken-level, taken_read, shows-before, taken-like}
 use Rattle.superblock_reads.proofs.RoundReads.{IsAt, IsFit, left_set, left-are, and_first, and_second, planned_list, planned-in, kept-of}
 use Rattle.superblock_reads.proofs.RoundsRead.{more-held}
 
@@ -465,6 +466,17 @@ module _ (scope : Scope) (members : Members) (change : Change) (before live know
     unlost_first : (s : ℕ) → s ≢ slot → has_slot mid.lost s ≡ false → has_slot lost0 s ≡ false
     unlost_first s other none = none_of lost0 s (λ is. both_ways (caught.more s (ready.same s other ∙ is)) none)
 
+    -- the slot that is emptied shows nothing, so the first that is as new stands below it
+    emptied_first : (s : ℕ) (sb : Sb) → IsFirstAsNew scope members.newest Emptied s sb → IsNewestLike members.newest sb
+    emptied_first s sb f = held.first s sb (record {
+      there = f.there;
+      shown = f.shown;
+      may = λ t low. of_put scope slot [] mid.disk t (f.shown t) (λ same. none_read scope slot mid.disk t (f.shown t) same (f.may t low)) (f.may t low);
+      is = f.is;
+      events = f.events;
+      none = f.none;
+    })
+
     emptied_held : AreHeld scope Wide mid.lost members.newest members.own Emptied
     emptied_held = record {
       sound = held.sound;
@@ -486,6 +498,7 @@ module _ (scope : Scope) (members : Members) (change : Change) (before live know
           | inr other ↦ held.top.2 found (of_put scope slot [] mid.disk held.top.0 found other m)
         ],
       );
+      first = emptied_first;
       apart = λ s t a b differ is is' fresh fresh'. ⊎_elim
           (λ here. ⊎_elim
           (λ here'. absurd (differ (here.0 ∙ sym here'.0)))
@@ -779,6 +792,32 @@ module _ (scope : Scope) (members : Members) (change : Change) (before live know
             let b = shows_mid s a is fresh in
             apart s b.0 other b.1 b.2 (b.3 ∙ number)
 
+        -- what the slot is planned to have says the same as the newest
+        new_like : (csum : ℕ) → IsNewestLike N (record New { sb_csum = csum })
+        new_like csum =
+            let k = emptied_held.each slot (left_wide slot slot_left) in
+            let same : k.sb ≡ ready.sb = sym (own_new k.sb k.own) in
+            subst (λ (z : Sb). IsNewestLike N (record (planned N (give_of change.gives slot) z) { sb_csum = csum })) same
+            (stamped-like N csum (planned N (give_of change.gives slot) k.sb)
+            (planned-like scope members.newest (own_in members.own slot) slot Emptied k held.sound held.table N (give_of change.gives slot) (omega (arith, left_fit.table)) left_fit.sound.room))
+
+        first_like : (s : ℕ) (sb : Sb) → IsFirstAsNew scope N d' s sb → IsNewestLike N sb
+        first_like s sb at = elim (cases_eq s slot) [
+          | inl same ↦ of (slot_read (Some sb) (subst (λ (t : ℕ). MayRead scope d' t (Some sb)) same here)) same
+          | inr other ↦ like s (to_put scope slot (mid.disk slot 8) d' s (Some sb) other here) at.there
+        ]
+          where
+            here : MayRead scope d' s (Some sb)
+            here = subst (MayRead scope d' s) at.is (at.may s (omega arith))
+
+            like : (t : ℕ) → MayRead scope Former t (Some sb) → t < scope.sizes.slots → IsNewestLike N sb
+            like t m there_ =
+                taken-like scope known Gone members.newest members.own mid.disk heldG Rest rest_known level N change.gives fit Own kept_rest Former (rest_taking d' f) Taken l' whole4 some_taken taken_rest first4 more4 t sb there_ m at.events
+
+            of : MayRead scope Former slot (Some sb) ⊎ IsStamped New (Some sb) → s ≡ slot → IsNewestLike N sb
+            of (inl was) same = like slot was ready.new.there
+            of (inr (csum, new)) same = subst (IsNewestLike N) (let is : record New { sb_csum = csum } ≡ sb = (let both = new in cc) in is) (new_like csum)
+
         gone_held : AreHeld scope Rest l' N Own d'
         gone_held = record {
           sound = held4.sound;
@@ -800,6 +839,7 @@ module _ (scope : Scope) (members : Members) (change : Change) (before live know
             λ found m. taken-level scope known Gone members.newest members.own mid.disk heldG Rest rest_known level N change.gives fit Own kept_rest Former (rest_taking d' f) Taken l' whole4 some_taken taken_rest first4 more4
                 some.0 found (taken_is some.0 some.1 some.2) (to_put scope slot (mid.disk slot 8) d' some.0 found (apart_taken some.0 (taken_is some.0 some.1 some.2)) m),
           );
+          first = first_like;
           apart = λ s t a b differ is is' fresh fresh'. ⊎_elim
               (λ was. ⊎_elim
               (λ was'. held4.apart s t a b differ was was' fresh fresh')

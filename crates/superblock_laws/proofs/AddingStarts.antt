@@ -48,6 +48,7 @@ held-same scope known lost newest own own' d same held = record {
   each = λ s is. subst (λ (h : Option Sb). IsKnown scope newest h s d) (sym (same s is)) (held.each s is);
   others = held.others;
   top = held.top;
+  first = held.first;
   apart = λ s t a b differ p q fresh fresh'. held.apart s t a b differ (shows-same scope known own own' d same s a p) (shows-same scope known own own' d same t b q) fresh fresh';
 }
 

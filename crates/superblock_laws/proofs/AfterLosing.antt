@@ -9,14 +9,14 @@ use Rattle.superblock_reads.specs.superblocks_the_Give.{Give}
 use Rattle.superblock_reads.specs.superblocks_Reading.{Scope, Reading, is_fresh}
 use Rattle.superblock_reads.specs.superblocks_Update.{planned, give_of, own_in, is_recovery}
 use Rattle.superblock_reads.specs.superblocks_Writing.{IsPlanned}
-use Rattle.superblock_reads.specs.superblocks_Reads.{IsFitting, IsSuited, IsReadAs, held_in}
-use Rattle.superblock_reads.specs.superblocks_Held.{AreDrawn, own_at, MayRead, IsStamped, IsKnown, IsOther, Shows, AreHeld, AreLevel, said_by}
+use Rattle.superblock_reads.specs.superblocks_Reads.{IsSuited, IsReadAs, held_in, IsNewestLike}
+use Rattle.superblock_reads.specs.superblocks_Held.{AreDrawn, own_at, MayRead, IsStamped, IsKnown, IsOther, Shows, AreHeld, AreLevel, said_by, IsFirstAsNew}
 use Rattle.superblock_reads.specs.superblocks_Stages.{IsTaking, AreTaken, IsFitPlan}
 use Rattle.superblock_reads.specs.superblocks_Crash.{IsRoundEnd}
 use Rattle.superblock_reads.specs.superblocks_Losing.{IsLosing, IsLost, IsNamingAfter}
 use Rattle.superblock_reads.proofs.superblocks_ReadLists.{by_bool}
 use Rattle.superblock_reads.proofs.superblocks_PlannedSb.{planned-of}
-use Rattle.superblock_reads.proofs.StageReads.{new_of, taking-reads, taken-held, taken-level, shows-before}
+use Rattle.superblock_reads.proofs.StageReads.{new_of, taking-reads, taken-held, taken-level, shows-before, taken-like}
 use Rattle.superblock_laws.proofs.AddedReads.{put, put_is, put_here, put_slot, put_ninth, in_put, to_put}
 use Rattle.superblock_reads.proofs.MixedReads.{IsOutside, least-or-all, planned-fitting, old-less, mixed-reads}
 use Rattle.superblock_laws.proofs.LosingReads.{held, rest_apart, rest_left, rest_sub, rest_level, still, fit, narrow, new-reads}
@@ -97,7 +97,7 @@ module _ (scope : Scope) (known lost gone lost' left rest taken left' slot : ℕ
   half_of at plan ninth = new_of scope known gone former own d base left l.round.within l.round.level newest gives
       (fit scope known lost gone left rest slot former newest named gives own own' rest_own d l) own' l.round.kept slot l.is_left at plan ninth
 
-  half_fitting : (csum : ℕ) → IsFitting next (scope.sizes.sectors slot) (record Half { sb_csum = csum })
+  half_fitting : (csum : ℕ) → IsSuited next (scope.sizes.sectors slot) (record Half { sb_csum = csum })
   half_fitting csum = planned-fitting scope former (own_in own slot) slot d (base.each slot (l.round.within slot l.is_left)) newest next (give_of gives slot) csum
       (omega (arith, (fit scope known lost gone left rest slot former newest named gives own own' rest_own d l).table)) (omega (arith, l.events, fit'.later)) (fit'.size ∙ l.fit.size)
 
@@ -160,7 +160,7 @@ module _ (scope : Scope) (known lost gone lost' left rest taken left' slot : ℕ
           lost = over.more slot l.is_gone;
           fits = λ sb reads.
               let same : record Half { sb_csum = here.0 } ≡ sb = (let both : Some (record Half { sb_csum = here.0 }) ≡ Some sb = sym here.1 ∙ reads in cc) in
-              subst (λ (z : Sb). IsFitting next (scope.sizes.sectors slot) z) same (half_fitting here.0);
+              subst (λ (z : Sb). IsSuited next (scope.sizes.sectors slot) z) same (half_fitting here.0);
           role = λ role h. ap (held_in next role slot) here.1 ∙ half_idle role here.0 h;
           apart = λ sb reads t b differ shown fresh number.
               let same : record Half { sb_csum = here.0 } ≡ sb = (let both : Some (record Half { sb_csum = here.0 }) ≡ Some sb = sym here.1 ∙ reads in cc) in
@@ -232,7 +232,7 @@ module _ (scope : Scope) (known lost gone lost' left rest taken left' slot : ℕ
         let f = half_fitting csum in
         let k = base.each slot (l.round.within slot l.is_left) in
         let events : Half.events ≡ newest.events = (planned-of newest k.sb (give_of gives slot)).events in
-        record { events = f.events; as_new = λ same. absurd (omega (arith, same, events, l.events, fit'.later)); bits = f.bits; room = f.room; within = f.within; late = f.late }
+        record { events = f.events; bits = f.bits; room = f.room; within = f.within; late = f.late }
 
     module _ (lost'' taken' : ℕ) (whole : AreTaken next gives' rest_own taken' e) (some : (s : ℕ) × (has_slot taken' s ≡ true)) (within : (s : ℕ) → has_slot taken' s ≡ true → has_slot left' s ≡ true)
         (more : (s : ℕ) → has_slot lost' s ≡ true → has_slot lost'' s ≡ true) where
@@ -300,6 +300,27 @@ module _ (scope : Scope) (known lost gone lost' left rest taken left' slot : ℕ
             suited = k.suited;
           }
 
+      end_first : (s : ℕ) (sb : Sb) → IsFirstAsNew scope next e s sb → IsNewestLike next sb
+      end_first s sb at = elim (cases_eq s slot) [
+        | inl same ↦ of (slot_read (Some sb) (subst (λ (t : ℕ). MayRead scope e t (Some sb)) same here))
+        | inr other ↦ like s (to_put scope slot (d slot 8) e s (Some sb) other here) at.there
+      ]
+        where
+          here : MayRead scope e s (Some sb)
+          here = subst (MayRead scope e s) at.is (at.may s (omega arith))
+
+          like : (t : ℕ) → MayRead scope Now t (Some sb) → t < scope.sizes.slots → IsNewestLike next sb
+          like t m there = taken-like scope rest lost' named rest_own Mid mid_held left' sub' level' next gives' fit' next_own n.kept Now narrow' taken' lost'' whole' some within first' more t sb there m at.events
+
+          of : MayRead scope Now slot (Some sb) ⊎ IsStamped Half (Some sb) → IsNewestLike next sb
+          of (inl was) = like slot was (base.each slot (l.round.within slot l.is_left)).there
+          of (inr (csum, half)) =
+              let k = base.each slot (l.round.within slot l.is_left) in
+              let events : Half.events ≡ newest.events = (planned-of newest k.sb (give_of gives slot)).events in
+              let is : record Half { sb_csum = csum } ≡ sb = (let both = half in cc) in
+              let same : Half.events ≡ sb.events = ap (λ (z : Sb). z.events) is in
+              absurd (omega (arith, same, at.events, events, l.events, fit'.later))
+
       end_held : AreHeld scope left' lost'' next next_own e
       end_held = record {
         sound = now_held.sound;
@@ -316,6 +337,7 @@ module _ (scope : Scope) (known lost gone lost' left rest taken left' slot : ℕ
               }
         ];
         top = (some.0, (mid_held.each some.0 (sub' some.0 (within some.0 some.1))).there, λ found v. end_level some.0 found some.1 v);
+        first = end_first;
         apart = λ s t a b differ is is' fresh fresh'. ⊎_elim
             (λ was. ⊎_elim
             (λ was'. now_held.apart s t a b differ was was' fresh fresh')

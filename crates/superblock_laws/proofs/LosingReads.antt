@@ -9,7 +9,7 @@ use Rattle.superblock_reads.specs.superblocks_the_Give.{Give}
 use Rattle.superblock_reads.specs.superblocks_Reading.{Scope}
 use Rattle.superblock_reads.specs.superblocks_Update.{planned, give_of, own_in, is_recovery}
 use Rattle.superblock_reads.specs.superblocks_Writing.{IsPlanned}
-use Rattle.superblock_reads.specs.superblocks_Reads.{IsFitting, IsReadAs, held_in}
+use Rattle.superblock_reads.specs.superblocks_Reads.{IsSuited, IsReadAs, held_in}
 use Rattle.superblock_reads.specs.superblocks_Held.{AreDrawn, own_at, MayRead, IsStamped, AreHeld, AreLevel, said_by}
 use Rattle.superblock_reads.specs.superblocks_Stages.{IsTaking, IsFitPlan}
 use Rattle.superblock_reads.specs.superblocks_Losing.{IsLosing, IsTakingWithout}
@@ -135,7 +135,7 @@ module _ (scope : Scope) (known lost gone left rest slot : ℕ) (former newest n
             lost = l.is_gone;
             fits = λ sb reads.
                 let same : record p { sb_csum = new_here.0 } ≡ sb = (let both : Some (record p { sb_csum = new_here.0 }) ≡ Some sb = sym new_here.1 ∙ reads in cc) in
-                subst (λ (z : Sb). IsFitting named (scope.sizes.sectors slot) z) same
+                subst (λ (z : Sb). IsSuited named (scope.sizes.sectors slot) z) same
                 (planned-fitting scope former (own_in own slot) slot d k newest named (give_of gives slot) new_here.0 (omega (arith, fit.table)) (omega (arith, l.events)) l.fit.size);
             role = λ role h. ap (held_in named role slot) new_here.1 ∙ l.faulty k.sb role k.own h;
             apart = λ sb reads t b differ shown fresh number.

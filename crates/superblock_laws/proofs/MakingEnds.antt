@@ -16,7 +16,8 @@ use Rattle.superblock_reads.specs.superblocks_Reading.{Scope, is_fresh}
 use Rattle.superblock_reads.specs.superblocks_Update.{planned, give_of, own_in}
 use Rattle.superblock_reads.specs.superblocks_Updating.{planned_newest, IsLater, AreNamed}
 use Rattle.superblock_reads.specs.superblocks_Outcome.{IsStored, IsPlannedOwn, AreStored, is_left}
-use Rattle.superblock_reads.specs.superblocks_Held.{MayRead, IsKnown, IsOther, Shows}
+use Rattle.superblock_reads.specs.superblocks_Reads.{IsNewestLike}
+use Rattle.superblock_reads.specs.superblocks_Held.{MayRead, IsKnown, IsOther, Shows, IsFirstAsNew}
 use Rattle.superblock_reads.specs.superblocks_Stages.{AreLeft}
 use Rattle.superblock_reads.specs.superblocks_Rounds.{Round, AreNamings, IsPastFirst, members_at, IsReady}
 use Rattle.superblock_reads.specs.superblocks_Crash.{AreHeldAsPlanned}
@@ -55,6 +56,7 @@ alone-alike scope left lost newest own own' d same alone = record {
     each = λ s is. subst (λ (h : Option Sb). IsKnown scope newest h s d) (same s is) (alone.held.each s is);
     others = alone.held.others;
     top = alone.held.top;
+    first = alone.held.first;
     apart = λ s t a b differ p q fresh fresh'. alone.held.apart s t a b differ (shows s a p) (shows t b q) fresh fresh';
   };
   exact = λ s sb found is own_sb m. alone.exact s sb found is (same s is ∙ own_sb) m;
@@ -130,6 +132,31 @@ module _ (scope : Scope) (left lost : ℕ) (newest : Sb) (own : List (Option Sb)
   apart_slot a m t b apart q fresh fresh' =
       (by_value (m.at 8) m.eighth).held.apart slot t a b (λ same. apart (sym same)) (inr (out, read_alone (Some a) m)) (shows_put (m.at 8 ∷ []) t b apart q) fresh fresh'
 
+  joined-first : (s : ℕ) (sb : Sb) → IsFirstAsNew scope newest d s sb → IsNewestLike newest sb
+  joined-first s sb f = elim (cases_lt s slot) [
+    | inl below ↦ base.held.first s sb (record {
+      there = f.there;
+      shown = f.shown;
+      may = λ t low. to_put scope slot [] d t (f.shown t) (omega (arith, low, below)) (f.may t low);
+      is = f.is;
+      events = f.events;
+      none = f.none;
+    })
+    | inr past ↦
+        let m = f.may slot past in
+        (by_value (m.at 8) m.eighth).held.first s sb (record {
+          there = f.there;
+          shown = f.shown;
+          may = λ t low. elim (cases_eq t slot) [
+            | inl same ↦ subst (λ (u : ℕ). MayRead scope (put slot (m.at 8 ∷ []) d) u (f.shown u)) (sym same) (read_alone (f.shown slot) m)
+            | inr other ↦ to_put scope slot (m.at 8 ∷ []) d t (f.shown t) other (f.may t low)
+          ];
+          is = f.is;
+          events = f.events;
+          none = f.none;
+        })
+  ]
+
   pub joined-alone : AreHeldAlone scope left lost newest own d
   joined-alone = record {
     held = record {
@@ -144,6 +171,7 @@ module _ (scope : Scope) (left lost : ℕ) (newest : Sb) (own : List (Option Sb)
             let x = base.exact some.0 some.1 found some.2 some.3 (to_put scope slot [] d some.0 found (differs some.0 some.2) m) in
             (record some.1 { sb_csum = x.0 }, x.1, some.4),
       );
+      first = joined-first;
       apart = λ s t a b differ p q fresh fresh'. elim (cases_eq s slot) [
         | inl same ↦ apart_slot a (shown_slot s a same p) t b (λ e. differ (same ∙ sym e)) q fresh fresh'
         | inr other ↦ elim (cases_eq t slot) [

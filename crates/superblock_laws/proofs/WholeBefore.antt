@@ -194,7 +194,7 @@ known_planned scope newest held slot d k g sound table =
       number = omega (arith, k.number, of.number);
       late = (planned-new newest k.sb p of long sound.room (k.suited.room k.fresh) k.late).late;
       lies = (λ i. nat_le 10 (of.start i) && nat_le (of.start i + newest.size) (scope.sizes.sectors slot)) ∙ k.lies;
-      suited = planned-suited scope newest held slot d k sound table newest g refl long sound.room;
+      suited = planned-suited scope newest held slot d k sound table newest g refl long;
     }
 
 module _ (scope : Scope) (known left : ℕ) (members : Members) (change : Change) (live slot role : ℕ) (d : Disk) (making : IsMakingWhole members change slot role)
@@ -258,6 +258,14 @@ module _ (scope : Scope) (known left : ℕ) (members : Members) (change : Change
           spare = λ found free m. o.spare found free (less_read scope slot d s found m);
         };
     top = (ready.held.top.0, ready.held.top.1, λ found m. ready.held.top.2 found (less_read scope slot d ready.held.top.0 found m));
+    first = λ s sb f. ready.held.first s sb (record {
+      there = f.there;
+      shown = f.shown;
+      may = λ t low. less_read scope slot d t (f.shown t) (f.may t low);
+      is = f.is;
+      events = f.events;
+      none = f.none;
+    });
     apart = λ s t a b differ p q fresh fresh'.
         let x = shows s a p fresh in
         let y = shows t b q fresh' in

@@ -75,7 +75,6 @@ known-stamped scope newest held held' s d k y = record {
     before : (sb : Sb) → IsBefore newest k.sb sb → IsBefore newest (record k.sb { sb_csum = y.0 }) sb
     before sb b = record {
       events = b.events;
-      as_new = b.as_new;
       fresh = b.fresh;
       number = b.number;
       start = b.start;
@@ -213,6 +212,7 @@ module _ (scope : Scope) (members : Members) (change : Change) (before live know
           })
           (λ no. at.held.others s there no) (by_bool (has_slot at.known s));
       top = at.held.top;
+      first = at.held.first;
       apart = λ s t x y differ is is' fresh fresh'.
           let p = shows s x is fresh in
           let q = shows t y is' fresh' in

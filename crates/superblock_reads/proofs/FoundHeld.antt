@@ -22,10 +22,10 @@ use Rattle.superblocks.specs.Reading.{Scope, reading_by, superblocks, newest_of,
 use Rattle.superblocks.specs.Verdict.{is_role, is_bad_entry}
 use Rattle.superblocks.specs.Update.{own_in, is_live, is_held_by, role_from}
 use Rattle.superblocks.specs.Outcome.{set_of}
-use Rattle.superblocks.specs.Reads.{HasNoLateRoles, IsSuited, IsSound, held_in, spare_in, has_spare}
-use Rattle.superblocks.specs.Held.{own_at, MayRead, IsSecondHalf, ReadsBefore, IsKnown, Shows, AreHeld, AreExact, known_of}
+use Rattle.superblocks.specs.Reads.{IsNewestLike, HasNoLateRoles, IsSuited, IsSound, held_in, spare_in, has_spare}
+use Rattle.superblocks.specs.Held.{IsFirstAsNew, own_at, MayRead, IsSecondHalf, ReadsBefore, IsKnown, Shows, AreHeld, AreExact, known_of}
 use Rattle.superblock_reads.specs.Said.{AreSaid}
-use Rattle.superblocks.specs.Found.{AreLikeNewest, IsInSectors}
+use Rattle.superblocks.specs.Found.{IsInSectors}
 use Rattle.superblocks.proofs.ReadLists.{Own, by_bool, IsTop, HasNewest, found_newest, holder-same, spares-at, held-here}
 use Rattle.superblocks.proofs.ReadAlike.{tabulate-same}
 use Rattle.superblocks.proofs.HeldReads.{known_at}
@@ -128,7 +128,7 @@ module _ (scope : Scope) (c : Contents) (d : ℕ → ℕ → List Sector) (m : M
     (roles-are : m.roles ≡ (reading_by scope.sizes.sectors (superblocks scope c) m.newest).roles) (spares-are-these : m.spares ≡ (reading_by scope.sizes.sectors (superblocks scope c) m.newest).spares)
     (inside : (s : ℕ) → is_seen scope s ≡ true → s < scope.sizes.slots) (few : scope.sizes.slots ≤ 32)
     (flushed : (s : ℕ) → is_seen scope s ≡ true → (d s 8 ≡ c s 8 ∷ []) × (d s 9 ≡ c s 9 ∷ []))
-    (alike : AreLikeNewest scope m.newest c) (sectors : (s : ℕ) (sb : Sb) → own_at scope s (c s) ≡ Some sb → IsInSectors (c s)) where
+    (sectors : (s : ℕ) (sb : Sb) → own_at scope s (c s) ≡ Some sb → IsInSectors (c s)) where
   abbrev N : Sb
   N = m.newest
 
@@ -215,7 +215,6 @@ module _ (scope : Scope) (c : Contents) (d : ℕ → ℕ → List Sector) (m : M
   suited : (s : ℕ) (sb : Sb) → own_at scope s (c s) ≡ Some sb → IsSuited N (scope.sizes.sectors s) sb
   suited s sb is = record {
     events = top.most s sb (in-list s sb is);
-    as_new = alike s sb is;
     bits = accepted.bits s sb (in-list s sb is);
     room = accepted.room s sb (in-list s sb is);
     within = accepted.within s sb (in-list s sb is);
@@ -393,7 +392,6 @@ module _ (scope : Scope) (c : Contents) (d : ℕ → ℕ → List Sector) (m : M
     (sb.sb_csum, sym (read-is s found r) ∙ is),
     record {
       events = top.most s sb (in-list s sb is);
-      as_new = alike s sb is;
       fresh = fresh;
       number = refl;
       start = refl;
@@ -456,6 +454,25 @@ module _ (scope : Scope) (c : Contents) (d : ℕ → ℕ → List Sector) (m : M
 
   -- ---- all of them
 
+  -- the first that is as new is the newest one itself
+  first-is : (s : ℕ) (sb : Sb) → IsFirstAsNew scope N d s sb → IsNewestLike N sb
+  first-is s sb f =
+      let here : own_at scope s (c s) ≡ Some sb = read-is s (f.shown s) (f.may s (omega arith)) ∙ f.is in
+      let low : top.slot ≤ s = top.lowest s sb (in-list s sb here) f.events in
+      let same : top.slot ≡ s = elim (cases_eq top.slot s) [
+        | inl is ↦ is
+        | inr other ↦ absurd (f.none top.slot N (omega (arith, low, other)) (sym (read-is top.slot (f.shown top.slot) (f.may top.slot low)) ∙ top-at) refl)
+      ] in
+      let both : Some N ≡ Some sb = sym top-at ∙ ap (λ (t : ℕ). own_at scope t (c t)) same ∙ here in
+      subst (IsNewestLike N) (let is : N ≡ sb = cc in is) self-like
+    where
+      self-like : IsNewestLike m.newest m.newest
+      self-like = record {
+        array = record { level = refl; layout = refl; size = refl; chunksize = refl; raid_disks = refl; new_level = refl; reshape_position = refl; delta_disks = refl; new_layout = refl; new_chunk = refl; resync_offset = refl; reshaping = refl; backward = refl };
+        entries = λ dev lt. refl;
+        late = late-top;
+      }
+
   pub found-held : (lost : ℕ) → AreHeld scope (set_of 32 (is_live m.roles m.spares)) lost m.newest m.own d
   found-held lost = record {
     sound = sound;
@@ -467,6 +484,7 @@ module _ (scope : Scope) (c : Contents) (d : ℕ → ℕ → List Sector) (m : M
       spare = λ found left r. no-spare s found none (read-is s found r);
     };
     top = (top.slot, there top.slot N top-at, λ found r. (N, sym (read-is top.slot found r) ∙ top-at, refl));
+    first = first-is;
     apart = λ s t a b differ is is' fresh fresh'. accepted.apart s t a b differ (in-list s a (shown s a is)) (in-list t b (shown t b is')) fresh fresh';
   }
 

@@ -9,14 +9,14 @@ use Rattle.bank.specs.Tape.{Contents}
 use Rattle.superblocks.specs.declared.change.Give.{Give}
 use Rattle.superblocks.specs.Reading.{Scope, is_fresh}
 use Rattle.superblocks.specs.Update.{planned, give_of, own_in, is_recovery}
-use Rattle.superblocks.specs.Reads.{IsNewestLike, HaveSamePart, IsFitting, IsReadAs, held_in, spare_in}
+use Rattle.superblocks.specs.Reads.{IsNewestLike, HaveSamePart, IsSuited, IsReadAs, held_in, spare_in}
 use Rattle.superblocks.specs.Held.{own_at, MayRead, IsStamped, IsKnown, Shows, AreHeld, AreLevel, said_by}
 use Rattle.superblocks.specs.Stages.{IsDeviceKept, IsFitPlan, AreKept}
 use Rattle.superblocks.proofs.ReadLists.{by_bool}
-use Rattle.superblocks.proofs.HeldReads.{AreLike, read-like, fitting, stamped-suited, known_at, no-part}
+use Rattle.superblocks.proofs.HeldReads.{AreLike, read-like, stamped-suited, stamped-like, known_at, no-part}
 use Rattle.superblocks.proofs.PlannedSb.{planned-of, planned-late}
 use Rattle.superblock_reads.proofs.PlanFits.{shown-of}
-use Rattle.superblocks.proofs.UpdateReads.{part-of, fresh_less, fresh_back, before-later, before-planned, planned-suited, known_suited, other_suited}
+use Rattle.superblocks.proofs.UpdateReads.{part-of, fresh_less, fresh_back, before-later, before-planned, planned-like, known_suited, other_suited}
 
 abbrev Disk : Type 0
 Disk = ℕ → ℕ → List Sector
@@ -36,7 +36,7 @@ least-or-all (suc n) P Q each = of (least-or-all n P Q (λ s h. each s (omega (a
 
 -- what is planned by one newest superblock fits another one that isn't older
 pub planned-fitting : (scope : Scope) (former : Sb) (held : Option Sb) (slot : ℕ) (d : Disk) (k : IsKnown scope former held slot d) (other newest : Sb) (g : Give) (csum : ℕ)
-    → 128 ≤ length other.dev_roles → other.events ≤ newest.events → newest.size ≡ former.size → IsFitting newest (scope.sizes.sectors slot) (record (planned other g k.sb) { sb_csum = csum })
+    → 128 ≤ length other.dev_roles → other.events ≤ newest.events → newest.size ≡ former.size → IsSuited newest (scope.sizes.sectors slot) (record (planned other g k.sb) { sb_csum = csum })
 planned-fitting scope former held slot d k other newest g csum wide le size =
     let p = planned-of other k.sb g in
     let enough = k.suited.room k.fresh in
@@ -65,7 +65,7 @@ module _ (scope : Scope) (known gone : ℕ) (former : Sb) (own : List (Option Sb
   pub record IsOutside : Type 0 where
     pub out : has_slot left r ≡ false
     pub lost : has_slot gone r ≡ true
-    pub fits : (sb : Sb) → own_at scope r (c r) ≡ Some sb → IsFitting newest (scope.sizes.sectors r) sb
+    pub fits : (sb : Sb) → own_at scope r (c r) ≡ Some sb → IsSuited newest (scope.sizes.sectors r) sb
     pub role : (role : ℕ) → role < 16 → held_in newest role r (own_at scope r (c r)) ≡ None
     pub apart : (sb : Sb) → own_at scope r (c r) ≡ Some sb → (t : ℕ) (b : Sb) → t ≢ r → Shows scope known own d t b → is_fresh former b ≡ true → b.dev_number ≢ sb.dev_number
 
@@ -93,48 +93,52 @@ module _ (scope : Scope) (known gone : ℕ) (former : Sb) (own : List (Option Sb
     stamped_is : (z sb : Sb) (s : ℕ) (y : IsStamped z (own_at scope s (c s))) → own_at scope s (c s) ≡ Some sb → record z { sb_csum = y.0 } ≡ sb
     stamped_is z sb s y reads = let both : Some (record z { sb_csum = y.0 }) ≡ Some sb = sym y.1 ∙ reads in cc
 
-    old_suited : (s : ℕ) (sb : Sb) → s < scope.sizes.slots → own_at scope s (c s) ≡ Some sb → Old s → IsFitting newest (scope.sizes.sectors s) sb
+    old_suited : (s : ℕ) (sb : Sb) → s < scope.sizes.slots → own_at scope s (c s) ≡ Some sb → Old s → IsSuited newest (scope.sizes.sectors s) sb
     old_suited s sb there reads old = ⊎_elim
         (λ is.
         let k = held.each s (sub s is) in
         let z = k.reads (own_at scope s (c s)) old in
-        subst (IsFitting newest (scope.sizes.sectors s)) (stamped_is z.0 sb s z.1 reads)
-        (fitting newest (scope.sizes.sectors s) (record z.0 { sb_csum = z.1.0 }) (stamped-suited newest (scope.sizes.sectors s) z.1.0 z.0
-        (before-later scope former (own_in own s) s d k held.sound held.table newest z.0 fit.later fit.size z.2))))
-        (λ none. fitting newest (scope.sizes.sectors s) sb (other_suited scope known gone former own d held newest gives left fit sub own' kept s sb there none (subst (MayRead scope d s) reads old)))
+        subst (IsSuited newest (scope.sizes.sectors s)) (stamped_is z.0 sb s z.1 reads)
+        (stamped-suited newest (scope.sizes.sectors s) z.1.0 z.0
+        (before-later scope former (own_in own s) s d k held.sound held.table newest z.0 fit.later fit.size z.2)))
+        (λ none. other_suited scope known gone former own d held newest gives left fit sub own' kept s sb there none (subst (MayRead scope d s) reads old))
         (by_bool (has_slot left s))
 
-    by_suited : (by : Sb) (s : ℕ) (is : has_slot left s ≡ true) (sb : Sb) → 128 ≤ length by.dev_roles → by.events ≡ newest.events → own_at scope s (c s) ≡ Some sb → By by s is → IsFitting newest (scope.sizes.sectors s) sb
+    by_suited : (by : Sb) (s : ℕ) (is : has_slot left s ≡ true) (sb : Sb) → 128 ≤ length by.dev_roles → by.events ≡ newest.events → own_at scope s (c s) ≡ Some sb → By by s is → IsSuited newest (scope.sizes.sectors s) sb
     by_suited by s is sb wide_by late reads b =
         let k = held.each s (sub s is) in
-        subst (IsFitting newest (scope.sizes.sectors s)) (stamped_is (planned by (give_of gives s) k.sb) sb s b reads)
+        subst (IsSuited newest (scope.sizes.sectors s)) (stamped_is (planned by (give_of gives s) k.sb) sb s b reads)
         (planned-fitting scope former (own_in own s) s d k by newest (give_of gives s) b.0 wide_by (omega (arith, late)) fit.size)
 
-    suited : (s : ℕ) (sb : Sb) → s < scope.sizes.slots → own_at scope s (c s) ≡ Some sb → IsFitting newest (scope.sizes.sectors s) sb
+    suited : (s : ℕ) (sb : Sb) → s < scope.sizes.slots → own_at scope s (c s) ≡ Some sb → IsSuited newest (scope.sizes.sectors s) sb
     suited s sb there reads = elim (cases_eq s r) [
-      | inl same ↦ subst (λ (t : ℕ). IsFitting newest (scope.sizes.sectors t) sb) (sym same) (at_r (subst (λ (t : ℕ). own_at scope t (c t) ≡ Some sb) same reads))
+      | inl same ↦ subst (λ (t : ℕ). IsSuited newest (scope.sizes.sectors t) sb) (sym same) (at_r (subst (λ (t : ℕ). own_at scope t (c t) ≡ Some sb) same reads))
       | inr differ ↦ at_s (each s there differ)
     ]
       where
-        at_r : own_at scope r (c r) ≡ Some sb → IsFitting newest (scope.sizes.sectors r) sb
+        at_r : own_at scope r (c r) ≡ Some sb → IsSuited newest (scope.sizes.sectors r) sb
         at_r it = ⊎_elim (λ b. by_suited newest r b.0 sb table refl it b.1) (λ o. o.fits sb it) special
 
-        at_s : Old s ⊎ ((is : has_slot left s ≡ true) × By other s is) → IsFitting newest (scope.sizes.sectors s) sb
+        at_s : Old s ⊎ ((is : has_slot left s ≡ true) × By other s is) → IsSuited newest (scope.sizes.sectors s) sb
         at_s (inl old) = old_suited s sb there reads old
         at_s (inr (is, b)) = by_suited other s is sb wide as_late reads b
 
-    as_new : (s : ℕ) (sb : Sb) → s < scope.sizes.slots → s ≤ top.0 → own_at scope s (c s) ≡ Some sb → sb.events ≡ newest.events → IsNewestLike newest sb
-    as_new s sb there low reads same = elim (cases_lt s top.0) [
+    first-new : (s : ℕ) (sb : Sb) → s < scope.sizes.slots → own_at scope s (c s) ≡ Some sb → sb.events ≡ newest.events
+        → ((t : ℕ) (b : Sb) → t < s → own_at scope t (c t) ≡ Some b → b.events ≢ newest.events) → IsNewestLike newest sb
+    first-new s sb there reads same none = elim (cases_lt s top.0) [
       | inl before ↦ absurd (
           let less = below s sb before reads in
           omega (arith, less, same))
       | inr past ↦
-          let here : s ≡ top.0 = omega (arith, low, past) in
           let k = held.each top.0 (sub top.0 top.1) in
           let p : Sb = planned newest (give_of gives top.0) k.sb in
+          let here : s ≡ top.0 = elim (cases_eq s top.0) [
+            | inl is_top ↦ is_top
+            | inr other ↦ absurd (none top.0 (record p { sb_csum = top.2.0 }) (omega (arith, past, other)) top.2.1 (planned-of newest k.sb (give_of gives top.0)).events)
+          ] in
           let is : record p { sb_csum = top.2.0 } ≡ sb = stamped_is p sb top.0 top.2 (subst (λ (t : ℕ). own_at scope t (c t) ≡ Some sb) here reads) in
-          (subst (λ (z : Sb). z.events ≡ newest.events → IsNewestLike newest z) is
-          (stamped-suited newest (scope.sizes.sectors top.0) top.2.0 p (planned-suited scope former (own_in own top.0) top.0 d k held.sound held.table newest (give_of gives top.0) fit.size table fit.sound.room)).as_new) same
+          subst (IsNewestLike newest) is
+          (stamped-like newest top.2.0 p (planned-like scope former (own_in own top.0) top.0 d k held.sound held.table newest (give_of gives top.0) table fit.sound.room))
     ]
 
     -- ---- the part of each slot
@@ -244,7 +248,7 @@ module _ (scope : Scope) (known gone : ℕ) (former : Sb) (own : List (Option Sb
       top =
           let k = held.each top.0 (sub top.0 top.1) in
           (top.0, record (planned newest (give_of gives top.0) k.sb) { sb_csum = top.2.0 }, k.there, top.2.1, (planned-of newest k.sb (give_of gives top.0)).events);
-      as_new = as_new;
+      first = first-new;
       suited = suited;
       part = part;
       apart = λ s t a b there there' differ is is' fresh fresh'. elim (cases_eq s r) [

@@ -38,6 +38,7 @@ more-held scope known lost lost' newest own d more held = record {
       let o = held.others s there none in
       record { suited = o.suited; role = o.role; spare = λ found left m. o.spare found (unlost s left) m };
   top = held.top;
+  first = held.first;
   apart = held.apart;
 }
   where

@@ -1,6 +1,7 @@
 -- The stages of an update, by what an image reads.
 use Rattle.std.proofs.Common.{◌≡◌, ◌⊎◌, inl, inr, ⊎_elim, ℕ, ◌+◌, ◌≤◌, true, false, ◌&&◌, List, length, drop, Option, Some, refl, sym, ◌∙◌, ap, subst, arith}
-use Rattle.std.specs.Prelude.{nat_le, bytes_eq}
+use Rattle.std.specs.Prelude.{◌≢◌, ◌<◌, nat_le, bytes_eq}
+use Rattle.std.proofs.lemmas.Bool.{cases_lt}
 use Rattle.md_base.specs.Sectors.{Sector}
 use Rattle.md_base.specs.Shapes.{has_slot}
 use Rattle.sb1.specs.declared.sb.Sb.{Sb}
@@ -10,13 +11,13 @@ use Rattle.superblocks.specs.declared.change.Give.TheVariants.{Same}
 use Rattle.superblocks.specs.Reading.{Scope, is_fresh}
 use Rattle.superblocks.specs.Update.{planned, give_of, own_in, is_recovery}
 use Rattle.superblocks.specs.Writing.{IsFirstSector, IsPlanned}
-use Rattle.superblocks.specs.Reads.{IsReadAs}
-use Rattle.superblocks.specs.Held.{AreDrawn, own_at, MayRead, IsStamped, IsKnown, IsBefore, ReadsBefore, Shows, AreHeld, AreLevel, said_by}
+use Rattle.superblocks.specs.Reads.{IsNewestLike, IsReadAs}
+use Rattle.superblocks.specs.Held.{AreDrawn, own_at, MayRead, IsStamped, IsKnown, IsBefore, ReadsBefore, Shows, IsFirstAsNew, AreHeld, AreLevel, said_by}
 use Rattle.superblocks.specs.Stages.{IsCatchingUp, IsTaking, AreTaken, IsFitPlan, AreKept}
 use Rattle.superblocks.proofs.ReadLists.{by_bool}
-use Rattle.superblocks.proofs.HeldReads.{drawn-may_read, stamped-suited}
+use Rattle.superblocks.proofs.HeldReads.{drawn-may_read, stamped-suited, stamped-like}
 use Rattle.superblocks.proofs.PlannedSb.{planned-of, planned-new, planned-late, joined_drop}
-use Rattle.superblocks.proofs.UpdateReads.{ReadsLevel, caught-reads, new-reads, some-or-all, before-reads, later-reads, planned-suited, before-planned, fresh_less, other_suited, other_shows}
+use Rattle.superblocks.proofs.UpdateReads.{ReadsLevel, caught-reads, caught-like, new-reads, some-or-all, before-reads, later-reads, planned-like, planned-suited, before-planned, fresh_less, known_suited, other_suited, other_shows}
 
 abbrev Disk : Type 0
 Disk = ℕ → ℕ → List Sector
@@ -35,6 +36,18 @@ module _ (scope : Scope) (known lost : ℕ) (former : Sb) (own : List (Option Sb
       let k = held.each s is in
       caught-reads scope former (own_in own s) s d k held.sound held.table at (planned_here former Same (own_in own s) k.sb (at 8) k.own plan) ninth
 
+  -- brought to the newest count, and saying the same as the newest
+  abbrev pub IsCaught : (s : ℕ) → has_slot known s ≡ true → Option Sb → Type 0
+  IsCaught s is found = ReadsLevel former (held.each s is).sb found × ((sb : Sb) → found ≡ Some sb → IsNewestLike former sb)
+
+  is_caught : (s : ℕ) (is : has_slot known s ≡ true) (at : ℕ → Sector) → IsPlanned former Same (own_in own s) (at 8) → IsIn (d s 9) (at 9) → IsCaught s is (own_at scope s at)
+  is_caught s is at plan ninth = (
+    caught_of s is at plan ninth,
+    λ sb reads.
+        let k = held.each s is in
+        caught-like scope former (own_in own s) s d k held.sound held.table at sb (planned_here former Same (own_in own s) k.sb (at 8) k.own plan) ninth reads,
+  )
+
   same_sb : (s : ℕ) (is is' : has_slot known s ≡ true) → (held.each s is).sb ≡ (held.each s is').sb
   same_sb s is is' =
       let k = held.each s is in let k' = held.each s is' in
@@ -42,20 +55,33 @@ module _ (scope : Scope) (known lost : ℕ) (former : Sb) (own : List (Option Sb
 
   -- each slot has a former value, or was brought to the newest count
   module _ (c : Contents)
-      (each : (s : ℕ) → (MayRead scope d s (own_at scope s (c s))) ⊎ ((is : has_slot known s ≡ true) × ReadsLevel former (held.each s is).sb (own_at scope s (c s)))) where
+      (each : (s : ℕ) → (MayRead scope d s (own_at scope s (c s))) ⊎ ((is : has_slot known s ≡ true) × IsCaught s is (own_at scope s (c s)))) where
     knowns : (s : ℕ) (is : has_slot known s ≡ true) → ReadsBefore former (held.each s is).sb (own_at scope s (c s))
     knowns s is = ⊎_elim (λ m. (held.each s is).reads (own_at scope s (c s)) m)
-        (λ l. subst (λ (sb : Sb). ReadsBefore former sb (own_at scope s (c s))) (same_sb s l.0 is) (before_of l.1)) (each s)
+        (λ l. subst (λ (sb : Sb). ReadsBefore former sb (own_at scope s (c s))) (same_sb s l.0 is) (before_of l.1.0)) (each s)
 
     others : (s : ℕ) → has_slot known s ≡ false → MayRead scope d s (own_at scope s (c s))
     others s none = ⊎_elim (λ m. m) (λ l. absurd (let both = sym l.0 ∙ none in cc)) (each s)
 
     top : (sb : Sb) × (own_at scope held.top.0 (c held.top.0) ≡ Some sb) × (sb.events ≡ former.events)
     top = ⊎_elim (λ m. held.top.2 (own_at scope held.top.0 (c held.top.0)) m)
-        (λ l. let r = l.1 in (record r.0 { sb_csum = r.1.0 }, r.1.1, r.3)) (each held.top.0)
+        (λ l. let r = l.1.0 in (record r.0 { sb_csum = r.1.0 }, r.1.1, r.3)) (each held.top.0)
+
+    -- the slots below the first that is as new weren't brought to the newest count
+    first-new : (s : ℕ) (sb : Sb) → s < scope.sizes.slots → own_at scope s (c s) ≡ Some sb → sb.events ≡ former.events
+        → ((t : ℕ) (b : Sb) → t < s → own_at scope t (c t) ≡ Some b → b.events ≢ former.events) → IsNewestLike former sb
+    first-new s sb there reads same none = ⊎_elim
+        (λ m. held.first s sb (record { there = there; shown = λ t. own_at scope t (c t); may = λ t low. may_before t low m; is = reads; events = same; none = none }))
+        (λ l. l.1.1 sb reads) (each s)
+      where
+        may_before : (t : ℕ) → t ≤ s → MayRead scope d s (own_at scope s (c s)) → MayRead scope d t (own_at scope t (c t))
+        may_before t low m = elim (cases_lt t s) [
+          | inl before ↦ ⊎_elim (λ was. was) (λ l. absurd (let r = l.1.0 in none t (record r.0 { sb_csum = r.1.0 }) before r.1.1 r.3)) (each t)
+          | inr past ↦ subst (λ (u : ℕ). MayRead scope d u (own_at scope u (c u))) (let here : s ≡ t = omega (arith, low, past) in here) m
+        ]
 
     pub former-reads : IsReadAs scope lost (said_by scope known own former) c
-    former-reads = before-reads scope known lost former own d held c knowns others top
+    former-reads = before-reads scope known lost former own d held c knowns others top first-new
 
   pub held-reads : (c : Contents) → AreDrawn d c → IsReadAs scope lost (said_by scope known own former) c
   held-reads c drawn = former-reads c (λ s. inl (drawn-may_read scope d c s drawn))
@@ -63,15 +89,15 @@ module _ (scope : Scope) (known lost : ℕ) (former : Sb) (own : List (Option Sb
   pub catching-reads : (e : Disk) (c : Contents) → IsCatchingUp former own left d e → AreDrawn e c → IsReadAs scope lost (said_by scope known own former) c
   catching-reads e c stage drawn = former-reads c (λ s. ⊎_elim
       (λ kept. inl (record { at = c s; eighth = kept; ninth = stage.ninth s (c s 9) (drawn s).1; is = refl }))
-      (λ w. inr (sub s w.0, caught_of s (sub s w.0) (c s) w.1 (stage.ninth s (c s 9) (drawn s).1)))
+      (λ w. inr (sub s w.0, is_caught s (sub s w.0) (c s) w.1 (stage.ninth s (c s 9) (drawn s).1)))
       (stage.values s (c s 8) (drawn s).0))
 
   -- after it they are held as before
   module _ (e : Disk) (stage : IsCatchingUp former own left d e) where
-    either_read : (s : ℕ) (found : Option Sb) → MayRead scope e s found → (MayRead scope d s found) ⊎ ((is : has_slot left s ≡ true) × ReadsLevel former (held.each s (sub s is)).sb found)
+    either_read : (s : ℕ) (found : Option Sb) → MayRead scope e s found → (MayRead scope d s found) ⊎ ((is : has_slot left s ≡ true) × IsCaught s (sub s is) found)
     either_read s found m = ⊎_elim
         (λ kept. inl (record { at = m.at; eighth = kept; ninth = stage.ninth s (m.at 9) m.ninth; is = m.is }))
-        (λ w. inr (w.0, subst (ReadsLevel former (held.each s (sub s w.0)).sb) m.is (caught_of s (sub s w.0) m.at w.1 (stage.ninth s (m.at 9) m.ninth))))
+        (λ w. inr (w.0, subst (IsCaught s (sub s w.0)) m.is (is_caught s (sub s w.0) m.at w.1 (stage.ninth s (m.at 9) m.ninth))))
         (stage.values s (m.at 8) m.eighth)
 
     pub other_read : (s : ℕ) (found : Option Sb) → has_slot known s ≡ false → MayRead scope e s found → MayRead scope d s found
@@ -84,7 +110,7 @@ module _ (scope : Scope) (known lost : ℕ) (former : Sb) (own : List (Option Sb
           sb = k.sb;
           own = k.own;
           reads = λ found m. ⊎_elim (λ kept. k.reads found kept)
-              (λ w. subst (λ (sb : Sb). ReadsBefore former sb found) (same_sb s (sub s w.0) is) (before_of w.1)) (either_read s found m);
+              (λ w. subst (λ (sb : Sb). ReadsBefore former sb found) (same_sb s (sub s w.0) is) (before_of w.1.0)) (either_read s found m);
           second = λ sector is_in. k.second sector (stage.ninth s sector is_in);
           seen = k.seen;
           long = k.long;
@@ -100,6 +126,17 @@ module _ (scope : Scope) (known lost : ℕ) (former : Sb) (own : List (Option Sb
     shows_caught : (s : ℕ) (a : Sb) → Shows scope known own e s a → Shows scope known own d s a
     shows_caught s a (inl known_) = inl known_
     shows_caught s a (inr (none, m)) = inr (none, other_read s (Some a) none m)
+
+    caught-first : (s : ℕ) (sb : Sb) → IsFirstAsNew scope former e s sb → IsNewestLike former sb
+    caught-first s sb f = ⊎_elim
+        (λ m. held.first s sb (record { there = f.there; shown = f.shown; may = λ t low. may_before t low m; is = f.is; events = f.events; none = f.none }))
+        (λ w. w.1.1 sb f.is) (either_read s (f.shown s) (f.may s (omega arith)))
+      where
+        may_before : (t : ℕ) → t ≤ s → MayRead scope d s (f.shown s) → MayRead scope d t (f.shown t)
+        may_before t low m = elim (cases_lt t s) [
+          | inl before ↦ ⊎_elim (λ was. was) (λ w. absurd (let r = w.1.0 in f.none t (record r.0 { sb_csum = r.1.0 }) before r.1.1 r.3)) (either_read t (f.shown t) (f.may t low))
+          | inr past ↦ subst (λ (u : ℕ). MayRead scope d u (f.shown u)) (let here : s ≡ t = omega (arith, low, past) in here) m
+        ]
 
     pub caught-held : AreHeld scope known lost former own e
     caught-held = record {
@@ -117,8 +154,9 @@ module _ (scope : Scope) (known lost : ℕ) (former : Sb) (own : List (Option Sb
         held.top.0,
         held.top.1,
         λ found m. ⊎_elim (λ kept. held.top.2 found kept)
-            (λ w. let r = w.1 in (record r.0 { sb_csum = r.1.0 }, r.1.1, r.3)) (either_read held.top.0 found m),
+            (λ w. let r = w.1.0 in (record r.0 { sb_csum = r.1.0 }, r.1.1, r.3)) (either_read held.top.0 found m),
       );
+      first = caught-first;
       apart = λ s t a b differ p q fresh fresh'. held.apart s t a b differ (shows_caught s a p) (shows_caught t b q) fresh fresh';
     }
 
@@ -166,14 +204,14 @@ module _ (scope : Scope) (known lost : ℕ) (former : Sb) (own : List (Option Sb
       kept_other s none = round_other e stage s (own_at scope s (c s)) none (drawn-may_read scope e c s drawn)
 
       abbrev AllLevel : ℕ → Type 0
-      AllLevel s = (is : has_slot left s ≡ true) → ReadsLevel former (held.each s (sub s is)).sb (own_at scope s (c s))
+      AllLevel s = has_slot left s ≡ true → MayRead scope d s (own_at scope s (c s))
 
       abbrev SomeNew : ℕ → Type 0
       SomeNew s = (is : has_slot left s ≡ true) × New s is (own_at scope s (c s))
 
       level_or_new : (s : ℕ) → AllLevel s ⊎ SomeNew s
       level_or_new s = ⊎_elim
-          (λ is. ⊎_elim (λ l. inl (λ is'. subst (λ (sb : Sb). ReadsLevel former sb (own_at scope s (c s))) (same_sb s (sub s is) (sub s is')) l)) (λ new. inr (is, new)) (either s is))
+          (λ is. ⊎_elim (λ m. inl (λ is'. m)) (λ new. inr (is, new)) (round_read e stage s is (own_at scope s (c s)) (drawn-may_read scope e c s drawn)))
           (λ none. inl (λ is. absurd (let both = sym is ∙ none in cc))) (by_bool (has_slot left s))
 
       clash : (r : ℕ) (is : has_slot left r ≡ true) → New r is (own_at scope r (c r)) → ReadsLevel former (held.each r (sub r is)).sb (own_at scope r (c r)) → ⊥
@@ -209,7 +247,7 @@ module _ (scope : Scope) (known lost : ℕ) (former : Sb) (own : List (Option Sb
       taking-reads = ⊎_elim
           (λ found. inr (taking-later (found.0, found.2.0, found.2.1)))
           (λ all. inl (former-reads c (λ s. ⊎_elim
-          (λ is. inr (sub s is, all s (held.each s (sub s is)).there is))
+          (λ is. inl (all s (held.each s (sub s is)).there is))
           (λ none. inl (kept_other s none)) (by_bool (has_slot left s)))))
           (some-or-all scope.sizes.slots AllLevel SomeNew (λ s h. level_or_new s))
 
@@ -229,7 +267,6 @@ module _ (scope : Scope) (known lost : ℕ) (former : Sb) (own : List (Option Sb
           let of = planned-of newest k.sb (give_of gives s) in
           record {
             events = omega (arith, of.events);
-            as_new = λ same. planned-new newest k.sb p of (omega (arith, fit.table)) fit.sound.room (k.suited.room k.fresh) k.late;
             fresh = fresh_less newest.events p.events (omega (arith, of.events));
             number = refl;
             start = refl;
@@ -250,7 +287,6 @@ module _ (scope : Scope) (known lost : ℕ) (former : Sb) (own : List (Option Sb
             l.1,
             record {
               events = omega (arith, l.3, fit.later);
-              as_new = λ same. absurd (omega (arith, l.3, fit.later, same));
               fresh = one.fresh;
               number = one.number;
               start = one.start;
@@ -270,7 +306,7 @@ module _ (scope : Scope) (known lost : ℕ) (former : Sb) (own : List (Option Sb
           let of = planned-of newest k.sb (give_of gives s) in
           let y = kept s k.sb is k.own in
           let table : 128 ≤ length newest.dev_roles = omega (arith, fit.table) in
-          let suits = planned-suited scope former (own_in own s) s d k held.sound held.table newest (give_of gives s) fit.size table fit.sound.room in
+          let suits = planned-suited scope former (own_in own s) s d k held.sound held.table newest (give_of gives s) fit.size table in
           record {
             sb = record p { sb_csum = y.0 };
             own = y.1;
@@ -304,6 +340,27 @@ module _ (scope : Scope) (known lost : ℕ) (former : Sb) (own : List (Option Sb
       not_more : (s : ℕ) → has_slot lost' s ≡ false → has_slot lost s ≡ false
       not_more s none = ⊎_elim (λ is. absurd (let both = sym (more s is) ∙ none in cc)) (λ is. is) (by_bool (has_slot lost s))
 
+      -- what a slot may have that is as new as the planned newest is planned itself
+      pub taken-like : (s : ℕ) (sb : Sb) → s < scope.sizes.slots → MayRead scope e s (Some sb) → sb.events ≡ newest.events → IsNewestLike newest sb
+      taken-like s sb there m same = ⊎_elim
+          (λ is. ⊎_elim
+          (λ former_.
+          let l = level_of s is (Some sb) former_ in
+          let was : record l.0 { sb_csum = l.1.0 } ≡ sb = (let both = l.1.1 in cc) in
+          let events : l.0.events ≡ sb.events = ap (λ (z : Sb). z.events) was in
+          absurd (omega (arith, events, l.3, same, fit.later)))
+          (λ new.
+          let k = held.each s (sub s is) in
+          let p : Sb = planned newest (give_of gives s) k.sb in
+          let is_planned : record p { sb_csum = new.0 } ≡ sb = (let both = new.1 in cc) in
+          subst (IsNewestLike newest) is_planned
+          (stamped-like newest new.0 p (planned-like scope former (own_in own s) s d k held.sound held.table newest (give_of gives s) (omega (arith, fit.table)) fit.sound.room)))
+          (round_read e stage s is (Some sb) m))
+          (λ none.
+          let was = known_suited scope known lost former own d held newest gives left fit sub own' kept s sb there (round_other e stage s (Some sb) none m) in
+          absurd (omega (arith, was.events, same, fit.later)))
+          (by_bool (has_slot left s))
+
       pub taken-held : AreHeld scope left lost' newest own' e
       taken-held = record {
         sound = fit.sound;
@@ -323,6 +380,7 @@ module _ (scope : Scope) (known lost : ℕ) (former : Sb) (own : List (Option Sb
                   let new = taken_read some.0 is found some.1 m in
                   (record (planned newest (give_of gives some.0) k.sb) { sb_csum = new.0 }, new.1, (planned-of newest k.sb (give_of gives some.0)).events),
             );
+        first = λ s sb f. taken-like s sb f.there (subst (MayRead scope e s) f.is (f.may s (omega arith))) f.events;
         apart = λ s t a b differ is is' fresh fresh'.
             let p = shows-before s a is fresh in
             let q = shows-before t b is' fresh' in

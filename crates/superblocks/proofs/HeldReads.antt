@@ -9,15 +9,15 @@ use Rattle.sb1.specs.declared.sb.Sb.{Sb}
 use Rattle.bank.specs.Tape.{Contents}
 use Rattle.superblocks.specs.Reading.{Scope, reading, reading_by, is_fresh}
 use Rattle.superblocks.specs.Update.{own_in}
-use Rattle.superblocks.specs.Reads.{SaysSame, IsNewestLike, HaveSamePart, IsSuited, IsFitting, IsSound, AreReadLike, IsReadAs, held_in, spare_in}
+use Rattle.superblocks.specs.Reads.{SaysSame, IsNewestLike, HaveSamePart, IsSuited, IsSound, AreReadLike, IsReadAs, held_in, spare_in}
 use Rattle.superblocks.specs.Held.{AreDrawn, own_at, MayRead}
 use Rattle.superblocks.proofs.ReadAlike.{read-alike}
 
 -- the same of the superblocks by slot
 pub record AreLike (n : ℕ) (sectors : ℕ → ℕ) (lost : ℕ) (newest : Sb) (X Y : ℕ → Option Sb) : Type 0 where
   pub top : (slot : ℕ) × (sb : Sb) × (slot < n) × (X slot ≡ Some sb) × (sb.events ≡ newest.events)
-  pub as_new : (slot : ℕ) (sb : Sb) → slot < n → slot ≤ top.0 → X slot ≡ Some sb → sb.events ≡ newest.events → IsNewestLike newest sb
-  pub suited : (slot : ℕ) (sb : Sb) → slot < n → X slot ≡ Some sb → IsFitting newest (sectors slot) sb
+  pub first : (slot : ℕ) (sb : Sb) → slot < n → X slot ≡ Some sb → sb.events ≡ newest.events → ((s : ℕ) (b : Sb) → s < slot → X s ≡ Some b → b.events ≢ newest.events) → IsNewestLike newest sb
+  pub suited : (slot : ℕ) (sb : Sb) → slot < n → X slot ≡ Some sb → IsSuited newest (sectors slot) sb
   pub part : (slot : ℕ) → slot < n → HaveSamePart newest (sectors slot) lost slot (X slot) (Y slot)
   pub apart : (s t : ℕ) (a b : Sb) → s < n → t < n → s ≢ t → X s ≡ Some a → X t ≡ Some b → is_fresh newest a ≡ true → is_fresh newest b ≡ true → a.dev_number ≢ b.dev_number
 
@@ -38,7 +38,9 @@ pub like-listed : (n : ℕ) (sectors : ℕ → ℕ) (lost : ℕ) (newest : Sb) (
 like-listed n sectors lost newest X Y like = record {
   long = length-tabulate n X ∙ sym (length-tabulate n Y);
   top = (like.top.0, like.top.1, at n X like.top.0 like.top.2 ∙ like.top.3, like.top.4);
-  as_new = λ slot sb low is same. let h = there n X slot sb is in like.as_new slot sb h low (sym (at n X slot h) ∙ is) same;
+  first = λ slot sb is same none_before.
+      let h = there n X slot sb is in
+      like.first slot sb h (sym (at n X slot h) ∙ is) same (λ s b lt x. none_before s b lt (at n X s (omega (arith, lt, h)) ∙ x));
   suited = λ slot sb is. let h = there n X slot sb is in like.suited slot sb h (sym (at n X slot h) ∙ is);
   part = λ slot. elim (cases_lt slot n) [
     | inl below ↦ subst (λ (x : Option Sb). HaveSamePart newest (sectors slot) lost slot x (get_or (tabulate n Y) slot None)) (sym (at n X slot below))
@@ -79,18 +81,11 @@ stamped-part newest len lost slot csum sb = record {
   };
 }
 
-pub fitting : (newest : Sb) (len : ℕ) (sb : Sb) → IsSuited newest len sb → IsFitting newest len sb
-fitting newest len sb s = record { events = s.events; bits = s.bits; room = s.room; within = s.within; late = s.late }
-
 pub stamped-suited : (newest : Sb) (len csum : ℕ) (sb : Sb) → IsSuited newest len sb → IsSuited newest len (record sb { sb_csum = csum })
-stamped-suited newest len csum sb s = record {
-  events = s.events;
-  as_new = λ same. let l = s.as_new same in record { array = says l.array; entries = l.entries; late = l.late };
-  bits = s.bits;
-  room = s.room;
-  within = s.within;
-  late = s.late;
-}
+stamped-suited newest len csum sb s = record { events = s.events; bits = s.bits; room = s.room; within = s.within; late = s.late }
+
+pub stamped-like : (newest : Sb) (csum : ℕ) (sb : Sb) → IsNewestLike newest sb → IsNewestLike newest (record sb { sb_csum = csum })
+stamped-like newest csum sb l = record { array = says l.array; entries = l.entries; late = l.late }
   where
     says : SaysSame newest sb → SaysSame newest (record sb { sb_csum = csum })
     says a = record {

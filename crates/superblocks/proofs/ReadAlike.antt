@@ -247,7 +247,7 @@ module _ (sectors : ℕ → ℕ) (lost : ℕ) (M N : Sb) (X Y : Own) (sound : Is
       omega (arith, least, most, like.top.3)
 
   new : IsNewestLike M N
-  new = like.as_new top.slot N (top.lowest like.top.0 like.top.1 like.top.2 (like.top.3 ∙ sym events)) top.there events
+  new = like.first top.slot N top.there events (λ s b lt is as_new. absurd (let low = top.lowest s b is (as_new ∙ sym events) in omega (arith, low, lt)))
 
   fresh-by : (sb : Sb) → is_fresh N sb ≡ true → is_fresh M sb ≡ true
   fresh-by sb is = sym (fresh-same M N sound events new sb) ∙ is

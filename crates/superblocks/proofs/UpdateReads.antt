@@ -1,6 +1,6 @@
 -- At each mark of an update in which no slot is lost an image reads as before it or as planned.
 use Rattle.std.proofs.Common.{◌≡◌, ◌⊎◌, inl, inr, ⊎_elim, ℕ, zero, suc, ◌+◌, ◌<◌, ◌≤◌, ◌==◌, true, false, cond, not, ◌&&◌, nat_lt, List, [], length, Option, Some, None, refl, sym, ◌∙◌, ap, subst, arith}
-use Rattle.std.specs.Prelude.{nat_le}
+use Rattle.std.specs.Prelude.{◌≢◌, nat_le}
 use Rattle.std.proofs.lemmas.Bool.{cases_lt}
 use Rattle.std.proofs.lemmas.Bool.Decides.{nat_tests}
 use Rattle.md_base.specs.Sectors.{Sector}
@@ -13,11 +13,11 @@ use Rattle.superblocks.specs.declared.change.Give.TheVariants.{Same}
 use Rattle.superblocks.specs.Reading.{Scope, is_fresh, is_recovering, lies_within, entry_of, state_of, role_count}
 use Rattle.superblocks.specs.Update.{planned, give_of, own_in, is_recovery}
 use Rattle.superblocks.specs.Writing.{IsFirstSector}
-use Rattle.superblocks.specs.Reads.{HaveSamePart, IsSuited, IsSound, IsReadAs, held_in}
+use Rattle.superblocks.specs.Reads.{IsNewestLike, HaveSamePart, IsSuited, IsSound, IsReadAs, held_in}
 use Rattle.superblocks.specs.Held.{own_at, MayRead, IsStamped, IsKnown, IsBefore, ReadsBefore, Shows, AreHeld, said_by}
 use Rattle.superblocks.specs.Stages.{IsDeviceKept, IsFitPlan, AreKept}
 use Rattle.superblocks.proofs.ReadLists.{by_bool}
-use Rattle.superblocks.proofs.HeldReads.{AreLike, read-like, fitting, stamped-suited, known_at, no-part}
+use Rattle.superblocks.proofs.HeldReads.{AreLike, read-like, stamped-suited, stamped-like, known_at, no-part}
 use Rattle.superblocks.proofs.PlannedSb.{planned-of, planned-new, planned-late, recovering-same}
 use Rattle.superblocks.proofs.WrittenReads.{planned-stamped}
 use Rattle.superblocks.proofs.ValidFields.{valid-shapes, few-roles}
@@ -65,7 +65,6 @@ module _ (scope : Scope) (former : Sb) (held : Option Sb) (slot : ℕ) (d : Disk
       let p = planned-of former k.sb Same in
       record {
         events = omega (arith, p.events);
-        as_new = λ same. planned-new former k.sb (planned former Same k.sb) p (omega (arith, long)) sound.room (k.suited.room k.fresh) k.late;
         fresh = fresh_less former.events (planned former Same k.sb).events (omega (arith, p.events));
         number = p.number;
         start = p.start;
@@ -83,7 +82,6 @@ module _ (scope : Scope) (former : Sb) (held : Option Sb) (slot : ℕ) (d : Disk
   pub before-suited : (sb : Sb) → IsBefore former k.sb sb → IsSuited former (scope.sizes.sectors slot) sb
   before-suited sb b = record {
     events = b.events;
-    as_new = b.as_new;
     bits = λ fresh. b.refused ∙ k.suited.bits k.fresh;
     room = λ fresh. let h = k.suited.room k.fresh in omega (arith, h, b.table);
     within = λ fresh holds. lies-before former sb refl b.start;
@@ -93,20 +91,22 @@ module _ (scope : Scope) (former : Sb) (held : Option Sb) (slot : ℕ) (d : Disk
   pub before-later : (newest sb : Sb) → newest.events ≡ former.events + 1 → newest.size ≡ former.size → IsBefore former k.sb sb → IsSuited newest (scope.sizes.sectors slot) sb
   before-later newest sb later size b = record {
     events = omega (arith, b.events, later);
-    as_new = λ same. absurd (omega (arith, b.events, later, same));
     bits = λ fresh. b.refused ∙ k.suited.bits k.fresh;
     room = λ fresh. let h = k.suited.room k.fresh in omega (arith, h, b.table);
     within = λ fresh holds. lies-before newest sb size b.start;
     late = λ fresh. b.late;
   }
 
-  pub planned-suited : (newest : Sb) (g : Give) → newest.size ≡ former.size → 128 ≤ length newest.dev_roles → 128 ≤ newest.max_dev → IsSuited newest (scope.sizes.sectors slot) (planned newest g k.sb)
-  planned-suited newest g size table room =
+  -- what is planned of it says the same as the newest
+  pub planned-like : (newest : Sb) (g : Give) → 128 ≤ length newest.dev_roles → 128 ≤ newest.max_dev → IsNewestLike newest (planned newest g k.sb)
+  planned-like newest g table room = planned-new newest k.sb (planned newest g k.sb) (planned-of newest k.sb g) table room (k.suited.room k.fresh) k.late
+
+  pub planned-suited : (newest : Sb) (g : Give) → newest.size ≡ former.size → 128 ≤ length newest.dev_roles → IsSuited newest (scope.sizes.sectors slot) (planned newest g k.sb)
+  planned-suited newest g size table =
       let p = planned-of newest k.sb g in
       let enough = k.suited.room k.fresh in
       record {
         events = omega (arith, p.events);
-        as_new = λ same. planned-new newest k.sb (planned newest g k.sb) p table room enough k.late;
         bits = λ fresh. p.refused ∙ k.suited.bits k.fresh;
         room = λ fresh. omega (arith, enough, p.table);
         within = λ fresh holds. lies-before newest (planned newest g k.sb) size p.start;
@@ -133,7 +133,6 @@ pub other-later : (former newest : Sb) (len slot : ℕ) (sb : Sb) → IsSound ne
     → ((role : ℕ) → role < 16 → held_in newest role slot (Some sb) ≡ None) → IsSuited former len sb → IsSuited newest len sb
 other-later former newest len slot sb sound later idle s = record {
   events = omega (arith, s.events, later);
-  as_new = λ same. absurd (omega (arith, s.events, later, same));
   bits = λ fresh. s.bits (fresh_back newest.events former.events sb.events later fresh);
   room = λ fresh. s.room (fresh_back newest.events former.events sb.events later fresh);
   within = λ fresh holds.
@@ -163,6 +162,14 @@ module _ (scope : Scope) (former : Sb) (held : Option Sb) (slot : ℕ) (d : Disk
       let s = planned-stamped scope slot former k.sb Same at k.seen k.long k.array (omega (arith, long)) (k.second (at 9) ninth) first in
       (planned former Same k.sb, s, caught-before scope former held slot d k sound long, (planned-of former k.sb Same).events)
 
+  -- brought to the newest count it says the same as the newest
+  pub caught-like : (at : ℕ → Sector) (sb : Sb) → IsFirstSector (planned former Same k.sb) (at 8) → IsIn (d slot 9) (at 9) → own_at scope slot at ≡ Some sb → IsNewestLike former sb
+  caught-like at sb first ninth reads =
+      let p : Sb = planned former Same k.sb in
+      let r = planned-stamped scope slot former k.sb Same at k.seen k.long k.array (omega (arith, long)) (k.second (at 9) ninth) first in
+      let same : record p { sb_csum = r.0 } ≡ sb = (let both : Some (record p { sb_csum = r.0 }) ≡ Some sb = sym r.1 ∙ reads in cc) in
+      subst (IsNewestLike former) same (stamped-like former r.0 p (planned-like scope former held slot d k sound long former Same (omega (arith, long)) sound.room))
+
   pub new-reads : (newest : Sb) (g : Give) (at : ℕ → Sector) → 128 ≤ length newest.dev_roles → IsFirstSector (planned newest g k.sb) (at 8) → IsIn (d slot 9) (at 9)
       → IsStamped (planned newest g k.sb) (own_at scope slot at)
   new-reads newest g at table first ninth = planned-stamped scope slot newest k.sb g at k.seen k.long k.array table (k.second (at 9) ninth) first
@@ -185,7 +192,9 @@ some-or-all (suc n) P Q each = of (some-or-all n P Q (λ s h. each s (omega (ari
 module _ (scope : Scope) (known lost : ℕ) (former : Sb) (own : List (Option Sb)) (d : Disk) (held : AreHeld scope known lost former own d) (c : Contents)
     (knowns : (slot : ℕ) (is : has_slot known slot ≡ true) → ReadsBefore former (held.each slot is).sb (own_at scope slot (c slot)))
     (others : (slot : ℕ) → has_slot known slot ≡ false → MayRead scope d slot (own_at scope slot (c slot)))
-    (top : (sb : Sb) × (own_at scope held.top.0 (c held.top.0) ≡ Some sb) × (sb.events ≡ former.events)) where
+    (top : (sb : Sb) × (own_at scope held.top.0 (c held.top.0) ≡ Some sb) × (sb.events ≡ former.events))
+    (first : (slot : ℕ) (sb : Sb) → slot < scope.sizes.slots → own_at scope slot (c slot) ≡ Some sb → sb.events ≡ former.events
+    → ((s : ℕ) (b : Sb) → s < slot → own_at scope s (c s) ≡ Some b → b.events ≢ former.events) → IsNewestLike former sb) where
   suited-known : (slot : ℕ) (sb : Sb) → own_at scope slot (c slot) ≡ Some sb → has_slot known slot ≡ true → IsSuited former (scope.sizes.sectors slot) sb
   suited-known slot sb reads is =
       let k = held.each slot is in
@@ -228,8 +237,8 @@ module _ (scope : Scope) (known lost : ℕ) (former : Sb) (own : List (Option Sb
   before-like : AreLike scope.sizes.slots scope.sizes.sectors lost former (λ slot. own_at scope slot (c slot)) (known_at known own)
   before-like = record {
     top = (held.top.0, top.0, held.top.1, top.1, top.2);
-    as_new = λ slot sb there low reads same. (suited slot sb there reads).as_new same;
-    suited = λ slot sb there reads. fitting former (scope.sizes.sectors slot) sb (suited slot sb there reads);
+    first = first;
+    suited = suited;
     part = λ slot there. ⊎_elim (λ is. part-known slot is) (λ none. part-other slot there none) (by_bool (has_slot known slot));
     apart = λ s t a b there there' differ is is' fresh fresh'.
         let p = shows s a is fresh in
@@ -270,7 +279,7 @@ module _ (scope : Scope) (known lost : ℕ) (former : Sb) (own : List (Option Sb
   new_suited s is csum =
       let k = held.each s (sub s is) in
       stamped-suited newest (scope.sizes.sectors s) csum (planned newest (give_of gives s) k.sb)
-      (planned-suited scope former (own_in own s) s d k held.sound held.table newest (give_of gives s) fit.size table fit.sound.room)
+      (planned-suited scope former (own_in own s) s d k held.sound held.table newest (give_of gives s) fit.size table)
 
   pub other_suited : (s : ℕ) (sb : Sb) → s < scope.sizes.slots → has_slot left s ≡ false → MayRead scope d s (Some sb) → IsSuited newest (scope.sizes.sectors s) sb
   other_suited s sb there none m =
@@ -358,13 +367,33 @@ module _ (scope : Scope) (known lost : ℕ) (former : Sb) (own : List (Option Sb
     each_suited slot sb there reads = ⊎_elim (λ is. left_suited slot sb reads is)
         (λ none. other_suited slot sb there none (subst (MayRead scope d slot) reads (others slot none))) (by_bool (has_slot left slot))
 
+    -- what is as new as the planned newest is planned itself
+    each_like : (slot : ℕ) (sb : Sb) → slot < scope.sizes.slots → own_at scope slot (c slot) ≡ Some sb → sb.events ≡ newest.events → IsNewestLike newest sb
+    each_like slot sb there reads same = ⊎_elim
+        (λ is. ⊎_elim
+        (λ level.
+        let was : record level.0 { sb_csum = level.1.0 } ≡ sb = (let both : Some (record level.0 { sb_csum = level.1.0 }) ≡ Some sb = sym level.1.1 ∙ reads in cc) in
+        let events : level.0.events ≡ sb.events = ap (λ (z : Sb). z.events) was in
+        absurd (omega (arith, events, level.3, same, fit.later)))
+        (λ new.
+        let k = held.each slot (sub slot is) in
+        let p : Sb = planned newest (give_of gives slot) k.sb in
+        let is_planned : record p { sb_csum = new.0 } ≡ sb = (let both : Some (record p { sb_csum = new.0 }) ≡ Some sb = sym new.1 ∙ reads in cc) in
+        subst (IsNewestLike newest) is_planned
+        (stamped-like newest new.0 p (planned-like scope former (own_in own slot) slot d k held.sound held.table newest (give_of gives slot) table fit.sound.room)))
+        (each slot is))
+        (λ none.
+        let was = known_suited slot sb there (subst (MayRead scope d slot) reads (others slot none)) in
+        absurd (omega (arith, was.events, same, fit.later)))
+        (by_bool (has_slot left slot))
+
     later-like : AreLike scope.sizes.slots scope.sizes.sectors lost newest (λ slot. own_at scope slot (c slot)) (known_at left own')
     later-like = record {
       top =
           let k = held.each some.0 (sub some.0 some.1) in
           (some.0, record (planned newest (give_of gives some.0) k.sb) { sb_csum = some.2.0 }, k.there, some.2.1, (planned-of newest k.sb (give_of gives some.0)).events);
-      as_new = λ slot sb there low reads same. (each_suited slot sb there reads).as_new same;
-      suited = λ slot sb there reads. fitting newest (scope.sizes.sectors slot) sb (each_suited slot sb there reads);
+      first = λ slot sb there reads same none. each_like slot sb there reads same;
+      suited = each_suited;
       part = λ slot there. ⊎_elim (λ is. left_part slot is) (λ none. other_part slot (own_at scope slot (c slot)) there none (others slot none)) (by_bool (has_slot left slot));
       apart = λ s t a b there there' differ is is' fresh fresh'.
           let p = shows_later s a is fresh in

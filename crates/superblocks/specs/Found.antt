@@ -3,14 +3,7 @@ use Rattle.std.specs.Prelude.{List, Option, ◌≡◌, ℕ, ◌<◌, length, sli
 use Rattle.md_base.specs.Sectors.{Sector}
 use Rattle.sb1.specs.declared.sb.Sb.{Sb}
 use Rattle.bank.specs.Tape.{Contents}
-use Rattle.superblocks.specs.Reading.{Scope}
 use Rattle.superblocks.specs.Update.{own_in}
-use Rattle.superblocks.specs.Reads.{IsNewestLike}
-use Rattle.superblocks.specs.Held.{own_at}
-
--- Each that is as new as the newest says the same.
-abbrev pub AreLikeNewest : Scope → Sb → Contents → Type 0
-AreLikeNewest scope newest c = (s : ℕ) (sb : Sb) → own_at scope s (c s) ≡ Some sb → sb.events ≡ newest.events → IsNewestLike newest sb
 
 -- two sectors of bytes
 pub record IsInSectors (at : ℕ → Sector) : Type 0 where

@@ -30,11 +30,10 @@ pub record MayRead (scope : Scope) (d : ℕ → ℕ → List Sector) (slot : ℕ
 abbrev pub IsStamped : Sb → Option Sb → Type 0
 IsStamped sb found = (csum : ℕ) × (found ≡ Some (record sb { sb_csum = csum }))
 
--- A superblock beside the one that is kept of its slot: fresh, not newer than the newest and saying the same where it is as new, with the
--- same fields of the device, and no role for a device number from 128 on.
+-- A superblock beside the one that is kept of its slot: fresh, not newer than the newest, with the same fields of the device, and no role for
+-- a device number from 128 on.
 pub record IsBefore (newest own sb : Sb) : Type 0 where
   pub events : sb.events ≤ newest.events
-  pub as_new : sb.events ≡ newest.events → IsNewestLike newest sb
   pub fresh : is_fresh newest sb ≡ true
   pub number : sb.dev_number ≡ own.dev_number
   pub start : sb.data_offset ≡ own.data_offset
@@ -82,15 +81,25 @@ abbrev pub Shows : Scope → ℕ → List (Option Sb) → (ℕ → ℕ → List 
 Shows scope known own d slot sb =
     ((has_slot known slot ≡ true) × (own_in own slot ≡ Some sb)) ⊎ ((has_slot known slot ≡ false) × MayRead scope d slot (Some sb))
 
+-- the first slot whose superblock is as new as the newest, by what the slots up to it have in some image
+pub record IsFirstAsNew (scope : Scope) (newest : Sb) (d : ℕ → ℕ → List Sector) (slot : ℕ) (sb : Sb) : Type 0 where
+  pub there : slot < scope.sizes.slots
+  pub shown : ℕ → Option Sb
+  pub may : (s : ℕ) → s ≤ slot → MayRead scope d s (shown s)
+  pub is : shown slot ≡ Some sb
+  pub events : sb.events ≡ newest.events
+  pub none : (s : ℕ) (b : Sb) → s < slot → shown s ≡ Some b → b.events ≢ newest.events
+
 -- The slots of a running array, as a stop may leave them: the superblocks of these are known, of the others it is known that
--- they have no part in it. Some slot is as new as the newest in each image, and no two have fresh superblocks with one
--- device number.
+-- they have no part in it. Some slot is as new as the newest in each image, and the first that is says the same; no two have
+-- fresh superblocks with one device number.
 pub record AreHeld (scope : Scope) (known lost : ℕ) (newest : Sb) (own : List (Option Sb)) (d : ℕ → ℕ → List Sector) : Type 0 where
   pub sound : IsSound newest
   pub table : length newest.dev_roles ≡ 384
   pub each : (slot : ℕ) → has_slot known slot ≡ true → IsKnown scope newest (own_in own slot) slot d
   pub others : (slot : ℕ) → slot < scope.sizes.slots → has_slot known slot ≡ false → IsOther scope newest lost slot d
   pub top : (slot : ℕ) × (slot < scope.sizes.slots) × ((found : Option Sb) → MayRead scope d slot found → (sb : Sb) × (found ≡ Some sb) × (sb.events ≡ newest.events))
+  pub first : (slot : ℕ) (sb : Sb) → IsFirstAsNew scope newest d slot sb → IsNewestLike newest sb
   pub apart : (s t : ℕ) (a b : Sb) → s ≢ t → Shows scope known own d s a → Shows scope known own d t b
       → is_fresh newest a ≡ true → is_fresh newest b ≡ true → a.dev_number ≢ b.dev_number
 

@@ -74,18 +74,8 @@ abbrev pub spare_in : Sb → ℕ → Option Sb → Bool
 spare_in newest slot_length None = false
 spare_in newest slot_length (Some sb) = is_spare newest slot_length sb
 
--- A superblock beside this newest one: not newer, and where it is as new it says the same. Where it is fresh, nothing in
--- it is refused.
+-- A superblock beside this newest one: not newer, and where it is fresh, nothing in it is refused.
 pub record IsSuited (newest : Sb) (slot_length : ℕ) (sb : Sb) : Type 0 where
-  pub events : sb.events ≤ newest.events
-  pub as_new : sb.events ≡ newest.events → IsNewestLike newest sb
-  pub bits : is_fresh newest sb ≡ true → refused_bits sb.feature_map ≡ 0
-  pub room : is_fresh newest sb ≡ true → 128 ≤ sb.max_dev
-  pub within : is_fresh newest sb ≡ true → is_holder newest sb ≡ true → lies_within newest slot_length sb ≡ true
-  pub late : is_fresh newest sb ≡ true → HasNoLateRoles sb
-
--- Such a one, whatever it says where it is as new.
-pub record IsFitting (newest : Sb) (slot_length : ℕ) (sb : Sb) : Type 0 where
   pub events : sb.events ≤ newest.events
   pub bits : is_fresh newest sb ≡ true → refused_bits sb.feature_map ≡ 0
   pub room : is_fresh newest sb ≡ true → 128 ≤ sb.max_dev
@@ -104,13 +94,14 @@ pub record IsSound (newest : Sb) : Type 0 where
   pub room : 128 ≤ newest.max_dev
   pub late : HasNoLateRoles newest
 
--- These superblocks read like those: some is as new as the newest, and up to it each that is as new says the same. Each fits it, each
--- slot has the same part, and no two fresh slots have one device number.
+-- These superblocks read like those: some is as new as the newest, and the first that is says the same. Each fits it, each slot has the
+-- same part, and no two fresh slots have one device number.
 pub record AreReadLike (sectors : ℕ → ℕ) (lost : ℕ) (newest : Sb) (these those : List (Option Sb)) : Type 0 where
   pub long : length these ≡ length those
   pub top : (slot : ℕ) × (sb : Sb) × (slice_index_or these slot None ≡ Some sb) × (sb.events ≡ newest.events)
-  pub as_new : (slot : ℕ) (sb : Sb) → slot ≤ top.0 → slice_index_or these slot None ≡ Some sb → sb.events ≡ newest.events → IsNewestLike newest sb
-  pub suited : (slot : ℕ) (sb : Sb) → slice_index_or these slot None ≡ Some sb → IsFitting newest (sectors slot) sb
+  pub first : (slot : ℕ) (sb : Sb) → slice_index_or these slot None ≡ Some sb → sb.events ≡ newest.events
+      → ((s : ℕ) (b : Sb) → s < slot → slice_index_or these s None ≡ Some b → b.events ≢ newest.events) → IsNewestLike newest sb
+  pub suited : (slot : ℕ) (sb : Sb) → slice_index_or these slot None ≡ Some sb → IsSuited newest (sectors slot) sb
   pub part : (slot : ℕ) → HaveSamePart newest (sectors slot) lost slot (slice_index_or these slot None) (slice_index_or those slot None)
   pub apart : (s t : ℕ) (a b : Sb) → s ≢ t → slice_index_or these s None ≡ Some a → slice_index_or these t None ≡ Some b
       → is_fresh newest a ≡ true → is_fresh newest b ≡ true → a.dev_number ≢ b.dev_number

@@ -19,13 +19,13 @@ use Rattle.superblocks.specs.declared.members.Members.{Members}
 use Rattle.superblocks.specs.Outcome.{is_planned_holder, held_state, planned_state}
 use Rattle.superblocks.specs.Reading.{is_reshaping, is_whole, shape_of, role_count, role_state, holder}
 use Rattle.superblocks.specs.Update.{give_of, is_held_by, planned_role}
-use Rattle.still_steps.proofs.superblock_reads_SaidLists.{held-holder}
-use Rattle.still_steps.proofs.superblock_reads_SaidSlots.{below-length}
+use Rattle.still_calls.proofs.superblock_reads_SaidLists.{held-holder}
+use Rattle.still_calls.proofs.superblock_reads_SaidSlots.{below-length}
 use Rattle.superblocks.proofs.ValidFields.{few-roles}
 use Rattle.row_io.specs.Rows.{reading_of, is_missing}
-use Rattle.still_steps.specs.shape_changes_Safety.{HasLiveSlot}
-use Rattle.still_steps.specs.shape_changes_Steady.{AreUnlost}
-use Rattle.still_steps.proofs.shape_changes_PlannedRoles.{planned-held, held-planned}
+use Rattle.still_calls.specs.shape_changes_Safety.{HasLiveSlot}
+use Rattle.still_calls.specs.shape_changes_Steady.{AreUnlost}
+use Rattle.still_calls.proofs.shape_changes_PlannedRoles.{planned-held, held-planned}
 use Rattle.views.specs.Lacking.{AreLostSince, HaveFailedSince}
 use Rattle.views.specs.Moving.{IsMoved}
 use Rattle.views.specs.Placed.{is_vacant, IsPlaced}
@@ -34,10 +34,10 @@ use Rattle.views.proofs.Fit.{roles-still}
 use Rattle.views.proofs.LiveLeft.{holder-left}
 use Rattle.views.proofs.MarkLaws.{role_from-found}
 use Rattle.views.proofs.Still.{count-still}
-use Rattle.still_steps.proofs.history_calls_Behind.{IsAmong}
+use Rattle.still_calls.proofs.history_calls_Behind.{IsAmong}
 use Rattle.takeover_updates.specs.TakingOver.{CanTakeUp, CanTakeOver, taking_over, taken_plan}
 use Rattle.takeover_updates.proofs.TakenPlan.{count, gives-or, live, one-holder}
-use Rattle.still_steps.specs.still_kept_Still.{AreNoneMissing}
+use Rattle.still_calls.specs.still_kept_Still.{AreNoneMissing}
 use Rattle.takeover.proofs.Chosen.{whole-slot}
 
 same-slot : (a b : ℕ) → a ≡ b → (a == b) ≡ true
@@ -192,6 +192,7 @@ module _ (given : Given) (old : Members) (to : Shape) (slot : ℕ) (placed : IsP
       gone = λ role has. (and_parts (nat_lt role (length new.roles)) (is_vacant (reading_of new) role) (sym (lost role) ∙ has)).1;
       held = lost-held;
       failed = failed.spares_are;
+      were = failed.were;
       told = failed.told;
     }
 

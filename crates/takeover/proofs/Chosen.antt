@@ -12,7 +12,7 @@ use Rattle.superblocks.specs.declared.members.Members.{Members}
 use Rattle.superblocks.specs.Reading.{is_whole, shape_of}
 use Rattle.superblocks.specs.Reads.{has_spare}
 use Rattle.takeover_updates.specs.TakingOver.{CanTakeOver}
-use Rattle.still_steps.proofs.Lowest.{lowest-found}
+use Rattle.still_calls.proofs.still_Lowest.{lowest-found}
 use Rattle.takeover.specs.TakenOver.{IsTakeoverNext, IsTakenSlot}
 
 -- from level 5 to 6, or back

@@ -20,16 +20,16 @@ use Rattle.flat_history.specs.declared.events.Event.{Event}
 use Rattle.flat_history.specs.declared.events.Event.TheVariants.{Lost}
 use Rattle.flat_history.specs.declared.events.LostCause.TheVariants.{Fault}
 use Rattle.flat_history.specs.Plain.{entries_of}
-use Rattle.still_steps.specs.shape_views_Regions.{DoWithout}
-use Rattle.still_steps.proofs.shape_views_Stands.{final-still}
+use Rattle.still_calls.specs.shape_views_Regions.{DoWithout}
+use Rattle.still_calls.proofs.shape_views_Stands.{final-still}
 use Rattle.views.specs.declared.work.Work.{Work}
 use Rattle.views.specs.Placed.{is_vacant}
 use Rattle.views.specs.Status.{stripes_of, rebuilt_of, vacant_count, spare_count, resync_left, role_left, recovery_left, left_of}
 use Rattle.views.proofs.Still.{count-still}
 use Rattle.call_entries.specs.Losing.{role_loss, role_losses, spare_losses, losses_of}
-use Rattle.still_steps.proofs.array_kept_StepsLeft.{recovery-more}
-use Rattle.still_steps.specs.still_kept_Still.{AreNoneMissing}
-use Rattle.still_steps.proofs.Lowest.{none-counted}
+use Rattle.still_calls.proofs.array_kept_StepsLeft.{recovery-more}
+use Rattle.still_calls.specs.still_kept_Still.{AreNoneMissing}
+use Rattle.still_calls.proofs.still_Lowest.{none-counted}
 
 -- no role is missing, so none too many are
 pub whole-does : (m : Members) → is_reshaping m.newest ≡ false → AreNoneMissing m → DoWithout m

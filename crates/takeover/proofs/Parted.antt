@@ -6,7 +6,7 @@ use Rattle.md_base.specs.declared.places.Shape.{Shape}
 use Rattle.bank.specs.declared.bank.Operation.{Operation}
 use Rattle.bank.specs.Given.{Given}
 use Rattle.grow_asked.specs.declared.window.PhasesLeft.{PhasesLeft}
-use Rattle.still_steps.specs.running_words_Parts.{RunningParts}
+use Rattle.still_calls.specs.running_words_Parts.{RunningParts}
 use Rattle.takeover.specs.TakenOver.{IsUntaken, IsUntouched, IsLevelTaken}
 
 pub untaken-as : {B : Type 0} (to : Shape) (refusal : Refusal) (old old' : RunningParts B) → old ≡ old' → IsUntaken old'.parts.members to refusal → IsUntaken old.parts.members to refusal

@@ -16,15 +16,15 @@ use Rattle.superblocks.specs.Outcome.{planned_state}
 use Rattle.superblocks.specs.Reading.{role_count, holder}
 use Rattle.superblocks.specs.Reads.{has_spare}
 use Rattle.superblocks.specs.Update.{give_of, planned_role, is_planned_spare}
-use Rattle.still_steps.proofs.superblock_reads_SaidLists.{role-holder}
-use Rattle.still_steps.proofs.superblock_reads_SaidSlots.{has-slots_below}
-use Rattle.still_steps.proofs.shape_changes_Kept.{give_of-same}
-use Rattle.still_steps.proofs.shape_changes_PlannedRoles.{planned-holds}
+use Rattle.still_calls.proofs.superblock_reads_SaidLists.{role-holder}
+use Rattle.still_calls.proofs.superblock_reads_SaidSlots.{has-slots_below}
+use Rattle.still_calls.proofs.shape_changes_Kept.{give_of-same}
+use Rattle.still_calls.proofs.shape_changes_PlannedRoles.{planned-holds}
 use Rattle.takeover_updates.specs.TakingOver.{level_give, taking_over, taken_plan}
 use Rattle.views.specs.Placed.{AreStillHeld}
 use Rattle.views.specs.Rebuilding.{Held, MayHold}
-use Rattle.still_steps.specs.array_kept_Calls.{AreSparesFewer}
-use Rattle.still_steps.proofs.Lowest.{lowest-found}
+use Rattle.still_calls.specs.array_kept_Calls.{AreSparesFewer}
+use Rattle.still_calls.proofs.still_Lowest.{lowest-found}
 use Rattle.takeover.specs.TakenOver.{IsTakenSlot}
 
 none-role : {P : Type 0} (role : ℕ) → ◌≡◌ {A = Option ℕ} None (Some role) → P

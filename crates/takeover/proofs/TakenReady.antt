@@ -29,20 +29,20 @@ use Rattle.flat_history.specs.Plain.{entries_of}
 use Rattle.flat_history.specs.Reshaped.{open_plans}
 use Rattle.flat_history.specs.Sound.{OpensFit}
 use Rattle.flat_history.specs.World.{World}
-use Rattle.still_steps.specs.shape_views_Views.{Ledger}
-use Rattle.still_steps.specs.shape_changes_Changing.{IsSafeChange}
-use Rattle.still_steps.specs.shape_changes_Marking.{AreOthersPresent}
-use Rattle.still_steps.specs.shape_changes_Safety.{HasRoomLeft, IsRisen}
-use Rattle.still_steps.specs.shape_changes_Steady.{IsSafeOver, AreGoneTold}
-use Rattle.still_steps.specs.shape_ends_Ends.{IsToldWith}
-use Rattle.still_steps.specs.shape_ends_Takeovers.{IsTakenUp, IsTakenDown}
+use Rattle.still_calls.specs.shape_views_Views.{Ledger}
+use Rattle.still_calls.specs.shape_changes_Changing.{IsSafeChange}
+use Rattle.still_calls.specs.shape_changes_Marking.{AreOthersPresent}
+use Rattle.still_calls.specs.shape_changes_Safety.{HasRoomLeft, IsRisen}
+use Rattle.still_calls.specs.shape_changes_Steady.{IsSafeOver, AreGoneTold}
+use Rattle.still_calls.specs.shape_ends_Ends.{IsToldWith}
+use Rattle.still_calls.specs.shape_ends_Takeovers.{IsTakenUp, IsTakenDown}
 use Rattle.takeover_updates.specs.TakingOver.{IsTakenTo, CanTakeUp, CanTakeOver, taking_over, taken_plan}
 use Rattle.takeover_kept.proofs.TakenMembers.{taken-then, taken-long}
 use Rattle.takeover_kept.proofs.TakenStill.{IsTakenBy, taken-keeps}
 use Rattle.views.specs.declared.work.Work.{Work}
 use Rattle.views.specs.Lacking.{AreLostSince, HaveFailedSince}
 use Rattle.views.specs.Moving.{Grows, IsMoved}
-use Rattle.views.specs.Numbers.{is_carried}
+use Rattle.views.specs.Numbers.{bears}
 use Rattle.views.specs.Placed.{is_vacant}
 use Rattle.views.specs.Rebuilding.{AreSparesFree, Held}
 use Rattle.views.specs.Status.{left_of, resync_left, rebuilt_of, stripes_of}
@@ -51,23 +51,23 @@ use Rattle.views.proofs.MarkLaws.{few-planned}
 use Rattle.call_entries.specs.Losing.{losses_of}
 use Rattle.call_entries.proofs.CallLaws.{all-losses}
 use Rattle.call_entries.proofs.PlainLaws.{one}
-use Rattle.still_steps.specs.array_kept_Calls.{AreLossesOf, AreStepsFewer, IsLossBy, with_rebuilt}
-use Rattle.still_steps.proofs.array_kept_NowLaws.{length-more}
+use Rattle.still_calls.specs.array_kept_Calls.{AreLossesOf, AreStepsFewer, IsLossBy, WasSpare, with_rebuilt}
+use Rattle.still_calls.proofs.array_kept_NowLaws.{length-more}
 use Rattle.grow_asked.specs.declared.window.PhasesLeft.{PhasesLeft}
 use Rattle.grow_asked.specs.Left.{phases_of}
-use Rattle.still_steps.specs.kept_history_Recorded.{IsCallGoing}
-use Rattle.still_steps.specs.kept_history_Safe.{world_in}
-use Rattle.still_steps.specs.history_calls_Reliable.{IsReliable}
-use Rattle.still_steps.proofs.history_calls_Plans.{ArePlannedTo}
-use Rattle.still_steps.specs.running_words_Parts.{still_left}
-use Rattle.still_steps.specs.running_words_Plans.{GoTo, turns_shape}
-use Rattle.still_steps.proofs.running_words_Called.{not_254}
-use Rattle.still_steps.proofs.running_words_Lengths.{IsLengthKept, behind-keeps}
-use Rattle.still_steps.proofs.running_words_VisibleLaws.{limit-kept}
-use Rattle.still_steps.specs.still_kept_Still.{AreNoneMissing}
-use Rattle.still_steps.specs.still_laws_Ready.{IsReady}
-use Rattle.still_steps.proofs.still_laws_Closing.{LeadTo, plans-of, ahead-none}
-use Rattle.still_steps.proofs.still_laws_Plain.{IsLeftPlain, turned-plain, turns-behind}
+use Rattle.still_calls.specs.kept_history_Recorded.{IsCallGoing}
+use Rattle.still_calls.specs.kept_history_Safe.{world_in}
+use Rattle.still_calls.specs.history_calls_Reliable.{IsReliable}
+use Rattle.still_calls.proofs.history_calls_Plans.{ArePlannedTo}
+use Rattle.still_calls.specs.running_words_Parts.{still_left}
+use Rattle.still_calls.specs.running_words_Plans.{GoTo, turns_shape}
+use Rattle.still_calls.proofs.running_words_Called.{not_254}
+use Rattle.still_calls.proofs.running_words_Lengths.{IsLengthKept, behind-keeps}
+use Rattle.still_calls.proofs.running_words_VisibleLaws.{limit-kept}
+use Rattle.still_calls.specs.still_kept_Still.{AreNoneMissing}
+use Rattle.still_calls.specs.still_laws_Ready.{IsReady}
+use Rattle.still_calls.proofs.still_laws_Closing.{LeadTo, plans-of, ahead-none}
+use Rattle.still_calls.proofs.still_laws_Plain.{IsLeftPlain, turned-plain, turns-behind}
 use Rattle.takeover.specs.TakenOver.{IsTakeoverNext, IsTakenSlot, work_then}
 use Rattle.takeover.proofs.Chosen.{IsSoundNext, sound-next, can-take}
 use Rattle.takeover.proofs.Behind.{live-old, count-new, vacant-told, lost-since, lost-few, recovers-then, missing-then}
@@ -84,7 +84,7 @@ pub record IsUpdated (tells : Type 0) (given : Given) (tape tape' : List Operati
   pub grows : Grows tells tape tape'
   pub rise : IsRisen tells old new tape tape'
   pub safe : tells → (world : World) → (told more : Ledger) → HasRoomLeft old tape tape' → IsToldWith told more (taken_plan old to slot) → AreGoneTold told old → AreGoneTold more new
-      → ((number : ℕ) → told.carried number ≡ true → more.carried number ≡ true) → IsSafeOver world given told old tape → IsSafeChange (OpensFit world) world.scope given told more new tape tape'
+      → ((slot number : ℕ) → told.carried slot number ≡ true → more.carried slot number ≡ true) → IsSafeOver world given told old tape → IsSafeChange (OpensFit world) world.scope given told more new tape tape'
   pub counts : NeverFalls before after
 
 -- no resync is pending where nothing is left to do
@@ -105,10 +105,10 @@ resync-then to work = of (to.level == 6)
 pub synced-then : (to : Shape) (m : Members) (work : Work) → left_of work m ≡ 0 → (work_then to work).resync ≡ None
 synced-then to m work idle = resync-then to work ∙ none-pending m work.resync _ _ idle
 
-carried-then : (to : Shape) (work : Work) → is_carried (work_then to work) ≡ is_carried work
+carried-then : (to : Shape) (work : Work) → bears (work_then to work) ≡ bears work
 carried-then to work = of (to.level == 6)
   where
-    of : (b : Bool) → is_carried (if b then with_rebuilt (to.disks - 1) 0 work else work) ≡ is_carried work
+    of : (b : Bool) → bears (if b then with_rebuilt (to.disks - 1) 0 work else work) ≡ bears work
     of true = refl
     of false = refl
 
@@ -352,9 +352,9 @@ module _ {tells : Type 0} {given : Given} {tape tape' : List Operation} {scope :
   taken-losses {mid = mid} {later = later} mid_is is = record {
     more = added;
     grown = is ∙ ap (λ (l : List Entry). l ++ added) mid_is;
-    failed = All-cons (λ e. IsLossBy (Held (taken_plan old to slot)) before after e.event) (one who end (Step TakenOver (still_left (work_then to work) new behind))) (entries_of who end (losses_of roles spares)) tt
-        (subst (λ (l : List Event). All (λ e. IsLossBy (Held (taken_plan old to slot)) before after e.event) (entries_of who end l)) (append-nil (losses_of roles spares))
-        (all-losses (λ event. IsLossBy (Held (taken_plan old to slot)) before after event) who end roles spares [] since.held since.failed (All-nil (λ e. IsLossBy (Held (taken_plan old to slot)) before after e.event))));
+    failed = All-cons (λ e. IsLossBy (Held (taken_plan old to slot)) (WasSpare (taken_plan old to slot)) before after e.event) (one who end (Step TakenOver (still_left (work_then to work) new behind))) (entries_of who end (losses_of roles spares)) tt
+        (subst (λ (l : List Event). All (λ e. IsLossBy (Held (taken_plan old to slot)) (WasSpare (taken_plan old to slot)) before after e.event) (entries_of who end l)) (append-nil (losses_of roles spares))
+        (all-losses (λ event. IsLossBy (Held (taken_plan old to slot)) (WasSpare (taken_plan old to slot)) before after event) who end roles spares [] since.held (λ s has. (since.were s has, since.failed s has)) (All-nil (λ e. IsLossBy (Held (taken_plan old to slot)) (WasSpare (taken_plan old to slot)) before after e.event))));
   }
 
   pub taken-told : (role : ℕ) → role < role_count new.newest → is_vacant (reading_of new) role ≡ true → has_slot roles role ≡ true

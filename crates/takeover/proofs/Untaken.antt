@@ -11,13 +11,13 @@ use Rattle.flat_history.specs.declared.events.Entry.{Entry}
 use Rattle.flat_history.specs.declared.events.Event.TheVariants.{Refused}
 use Rattle.flat_history.specs.Plain.{entries_of}
 use Rattle.views.specs.declared.work.Work.{Work}
-use Rattle.still_steps.proofs.array_kept_KeptLaws.{left-lost}
-use Rattle.still_steps.specs.kept_history_Recorded.{IsCallGoing}
-use Rattle.still_steps.specs.kept_history_Safe.{world_in}
-use Rattle.still_steps.proofs.running_words_Called.{not_254}
-use Rattle.still_steps.specs.still_kept_Still.{IsStill}
-use Rattle.still_steps.proofs.still_kept_Refusals.{IsRefusedStill, refused-right}
-use Rattle.still_steps.proofs.still_kept_Resting.{resting-stands}
+use Rattle.still_calls.proofs.array_kept_KeptLaws.{left-lost}
+use Rattle.still_calls.specs.kept_history_Recorded.{IsCallGoing}
+use Rattle.still_calls.specs.kept_history_Safe.{world_in}
+use Rattle.still_calls.proofs.running_words_Called.{not_254}
+use Rattle.still_calls.specs.still_kept_Still.{IsStill}
+use Rattle.still_calls.proofs.still_kept_Refusals.{IsRefusedStill, refused-right}
+use Rattle.still_calls.proofs.still_kept_Resting.{resting-stands}
 use Rattle.takeover.specs.TakenOver.{IsUntaken}
 
 -- the refusal is right by any history

@@ -18,20 +18,20 @@ use Rattle.flat_history.specs.declared.events.Entry.{Entry}
 use Rattle.flat_history.specs.declared.events.Event.TheVariants.{Step, Refused}
 use Rattle.flat_history.specs.declared.events.StepKind.TheVariants.{TakenOver}
 use Rattle.flat_history.specs.Plain.{entries_of}
-use Rattle.still_steps.specs.shape_changes_Marking.{AreOthersPresent}
+use Rattle.still_calls.specs.shape_changes_Marking.{AreOthersPresent}
 use Rattle.takeover_updates.specs.TakingOver.{IsTakenTo, taken_plan}
 use Rattle.views.specs.declared.work.Work.{Work}
 use Rattle.views.specs.Lacking.{HaveRolesFailed}
 use Rattle.views.specs.Moving.{Grows}
 use Rattle.views.specs.Placed.{is_vacant, AreStillHeld}
 use Rattle.call_entries.specs.Losing.{losses_of}
-use Rattle.still_steps.specs.array_kept_Calls.{AreLossesOf, AreSparesFewer, AreStepsFewer, IsEndOf, with_rebuilt}
+use Rattle.still_calls.specs.array_kept_Calls.{AreLossesOf, AreSparesFewer, AreStepsFewer, IsEndOf, with_rebuilt}
 use Rattle.grow_asked.specs.declared.window.PhasesLeft.{PhasesLeft}
 use Rattle.grow_asked.specs.Asked.{lowest_missing}
-use Rattle.still_steps.specs.running_words_Parts.{RunningParts, still_left}
-use Rattle.still_steps.specs.still_kept_Still.{AreNoneMissing}
-use Rattle.still_steps.specs.still_kept_course_kept_Laws.{closed}
-use Rattle.still_steps.specs.Rebuilding.{first_spare}
+use Rattle.still_calls.specs.running_words_Parts.{RunningParts, still_left}
+use Rattle.still_calls.specs.still_kept_Still.{AreNoneMissing}
+use Rattle.still_calls.specs.still_kept_course_kept_Laws.{closed}
+use Rattle.still_calls.specs.still_Rebuilding.{first_spare}
 
 -- ---- when
 

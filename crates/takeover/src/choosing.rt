@@ -4,12 +4,12 @@ ghost use Rattle.std.specs.Prelude.{◌≡◌, ◌⊎◌, ◌<◌, ◌≤◌, le
 ghost use Rattle.superblocks.specs.Reading.{role_count, role_state};
 ghost use Rattle.row_io.specs.Rows.{reading_of};
 ghost use Rattle.grow_asked.specs.Asked.{lowest_missing};
-ghost use Rattle.still_steps.specs.still_kept_Still.{AreNoneMissing};
+ghost use Rattle.still_calls.specs.still_kept_Still.{AreNoneMissing};
 ghost use Rattle.takeover.specs.TakenOver.{IsTakenSlot, IsUntaken};
 
 use md_base::{Refusal, Role, Shape};
 use row_io::is_missing;
-use still_steps::first_spare;
+use still_calls::first_spare;
 use superblocks::Members;
 
 // The lowest role that isn't whole.

@@ -4,4 +4,5 @@
 mod choosing;
 mod taking;
 
+pub use still_calls::{add, read, write};
 pub use taking::take_over;

@@ -15,7 +15,7 @@ use Rattle.still_kept.specs.flat_history_the_Entry.{Entry}
 use Rattle.still_kept.specs.flat_history_the_Event.{Event}
 use Rattle.still_kept.specs.flat_history_the_Event_TheVariants.{Step}
 use Rattle.still_kept.specs.flat_history_the_StepKind_TheVariants.{TakenOver}
-use Rattle.still_kept.specs.flat_history_Epochs.{HasRoomForEvents, OpensAlike}
+use Rattle.still_kept.specs.flat_history_Epochs.{HasRoomForEvents}
 use Rattle.still_kept.specs.flat_history_Flat.{now}
 use Rattle.still_kept.specs.flat_history_Legal.{disturbs, left_after, told_left}
 use Rattle.still_kept.specs.flat_history_Losses.{is_unsynced}
@@ -33,7 +33,7 @@ use Rattle.still_kept.specs.shape_ends_Ends.{IsToldWith}
 use Rattle.still_kept.proofs.shape_ends_GrownLaws.{row-list}
 use Rattle.still_kept.specs.views_the_Work.{Work}
 use Rattle.still_kept.specs.views_Moving.{Grows, IsMoved}
-use Rattle.still_kept.specs.views_Numbers.{is_carried}
+use Rattle.still_kept.specs.views_Numbers.{bears}
 use Rattle.still_kept.specs.views_Rebuilding.{AreSparesFree}
 use Rattle.still_kept.specs.views_Status.{rebuilt_of, stripes_of}
 use Rattle.still_kept.proofs.views_Fit.{valid}
@@ -68,10 +68,10 @@ pub record IsTakenBy (tells : Type 0) (given : Given) (tape tape' : List Operati
   pub others : tells → AreOthersPresent (present given tape) (present given tape')
   pub grows : Grows tells tape tape'
   pub safe : tells → (world : World) → (told more : Ledger) → HasRoomLeft old tape tape' → IsToldWith told more plan → AreGoneTold told old → AreGoneTold more new
-      → ((number : ℕ) → told.carried number ≡ true → more.carried number ≡ true) → IsSafeOver world given told old tape → IsSafeChange (OpensFit world) world.scope given told more new tape tape'
+      → ((slot number : ℕ) → told.carried slot number ≡ true → more.carried slot number ≡ true) → IsSafeOver world given told old tape → IsSafeChange (OpensFit world) world.scope given told more new tape tape'
 
 module _ (tells : Type 0) (given : Given) (tape tape' : List Operation) (scope : Scope) (first : ℕ) (entries : List Entry) (old plan new : Members) (work work' : Work) (steps left : ℕ) (who : Who) (end roles spares : ℕ)
-    (was : IsStill tells given tape scope first entries old work steps) (synced : work.resync ≡ None) (synced' : work'.resync ≡ None) (carries : is_carried work' ≡ is_carried work)
+    (was : IsStill tells given tape scope first entries old work steps) (synced : work.resync ≡ None) (synced' : work'.resync ≡ None) (carries : bears work' ≡ bears work)
     (goes : IsCallGoing entries who) (caller : IsFalse (who.caller == 254)) (at_end : tells → end ≡ length tape') (did : IsTakenBy tells given tape tape' old plan new roles)
     (stepped : (steps ≡ left + 1) ⊎ (list_any disturbs (losses_of roles spares) ≡ true))
     (planned : tells → IsReliable (world_in given tape scope first) entries → left ≡ 0 → ArePlannedTo (world_in given tape scope first) (shape_of new.newest) (open_plans entries))
@@ -79,29 +79,29 @@ module _ (tells : Type 0) (given : Given) (tape tape' : List Operation) (scope :
   abbrev all : List Entry
   all = entries ++ entries_of who end (Step TakenOver left ∷ losses_of roles spares)
 
-  former : IsStillKept tells given tape scope first entries old (is_carried work)
+  former : IsStillKept tells given tape scope first entries old (bears work)
   former = stands-kept tells given tape scope first entries old work steps was synced
 
   -- what is kept over a bank that tells its contents
   abbrev Then : List Operation → ℕ → Type 0
-  Then l e = IsTakingCall given tape scope first old plan new roles l → IsStillKept tells given l scope first (entries ++ entries_of who e (Step TakenOver left ∷ losses_of roles spares)) new (is_carried work)
+  Then l e = IsTakingCall given tape scope first old plan new roles l → IsStillKept tells given l scope first (entries ++ entries_of who e (Step TakenOver left ∷ losses_of roles spares)) new (bears work)
 
   kept-by : (t : tells) (ops : List Operation) → Then (tape ++ ops) (length (tape ++ ops))
   kept-by t ops call = record {
     slots = was.slots;
     placed = did.moved.placed;
-    still = taken-still given tape scope first entries old plan new (is_carried work) who steps left roles spares ops tells former t was.left_told stepped (planned t) call;
+    still = taken-still given tape scope first entries old plan new (bears work) who steps left roles spares ops tells former t was.left_told stepped (planned t) call;
     reshaping = false;
     over = λ some. refl;
     sizes_are = was.sizes_are;
-    levelled = λ u. taken-levelled given tape scope first entries old plan new (is_carried work) who steps left roles spares ops tells former t was.left_told stepped (planned t) call;
-    gone = λ u. taken-gone given tape scope first entries old plan new (is_carried work) who steps left roles spares ops tells former t was.left_told stepped (planned t) call;
-    unclean = λ u dirty. taken-unclean given tape scope first entries old plan new (is_carried work) who steps left roles spares ops tells former t was.left_told stepped (planned t) call
+    levelled = λ u. taken-levelled given tape scope first entries old plan new (bears work) who steps left roles spares ops tells former t was.left_told stepped (planned t) call;
+    gone = λ u. taken-gone given tape scope first entries old plan new (bears work) who steps left roles spares ops tells former t was.left_told stepped (planned t) call;
+    unclean = λ u dirty. taken-unclean given tape scope first entries old plan new (bears work) who steps left roles spares ops tells former t was.left_told stepped (planned t) call
         (was.unclean t (sym (ap (λ (n : ℕ). is_clean (record new.newest { resync_offset = n })) did.clean) ∙ dirty));
-    recorded = λ u. taken-recorded given tape scope first entries old plan new (is_carried work) who steps left roles spares ops tells former t was.left_told stepped (planned t) call goes caller;
-    past = λ u. taken-past given tape scope first entries old plan new (is_carried work) who steps left roles spares ops tells former t was.left_told stepped (planned t) call;
-    listed = λ u does. taken-listed given tape scope first entries old plan new (is_carried work) who steps left roles spares ops tells former t was.left_told stepped (planned t) call;
-    safe = λ u. taken-safe given tape scope first entries old plan new (is_carried work) who steps left roles spares ops tells former t was.left_told stepped (planned t) call;
+    recorded = λ u. taken-recorded given tape scope first entries old plan new (bears work) who steps left roles spares ops tells former t was.left_told stepped (planned t) call goes caller;
+    past = λ u. taken-past given tape scope first entries old plan new (bears work) who steps left roles spares ops tells former t was.left_told stepped (planned t) call;
+    listed = λ u does. taken-listed given tape scope first entries old plan new (bears work) who steps left roles spares ops tells former t was.left_told stepped (planned t) call;
+    safe = λ u. taken-safe given tape scope first entries old plan new (bears work) who steps left roles spares ops tells former t was.left_told stepped (planned t) call;
   }
 
   call : tells → IsTakingCall given tape scope first old plan new roles tape'
@@ -120,7 +120,7 @@ module _ (tells : Type 0) (given : Given) (tape tape' : List Operation) (scope :
     safe = λ told more room with_plan gone_old gone_new carried before. did.safe t (world_in given tape scope first) told more room with_plan gone_old gone_new carried before;
   }
 
-  kept : tells → IsStillKept tells given tape' scope first (entries ++ entries_of who end (Step TakenOver left ∷ losses_of roles spares)) new (is_carried work)
+  kept : tells → IsStillKept tells given tape' scope first (entries ++ entries_of who end (Step TakenOver left ∷ losses_of roles spares)) new (bears work)
   kept t =
       let g = did.grows.more t in
       subst (λ (l : List Operation). Then l end) (sym g.1) (subst (Then (tape ++ g.0)) (sym (at_end t ∙ ap (λ (l : List Operation). length l) g.1)) (kept-by t g.0)) (call t)
@@ -132,7 +132,7 @@ module _ (tells : Type 0) (given : Given) (tape tape' : List Operation) (scope :
       (subst (λ (e : ℕ). IsTakingCall given tape scope first old plan new roles (tape ++ g.0)
       → is_unsynced (world_in given (tape ++ g.0) scope first) (entries ++ entries_of who e (Step TakenOver left ∷ losses_of roles spares)) ≡ is_unsynced (world_in given tape scope first) entries)
       (sym (at_end t ∙ ap (λ (l : List Operation). length l) g.1))
-      (λ by. taken-unsynced given tape scope first entries old plan new (is_carried work) who steps left roles spares g.0 tells former t was.left_told stepped (planned t) by)) (call t)
+      (λ by. taken-unsynced given tape scope first entries old plan new (bears work) who steps left roles spares g.0 tells former t was.left_told stepped (planned t) by)) (call t)
 
   -- the history tells the takeover
   any-behind : (before : List Entry) → list_any (λ e. is_taken_over e.event) (before ++ entries_of who end (Step TakenOver left ∷ losses_of roles spares)) ≡ true
@@ -174,17 +174,17 @@ module _ (tells : Type 0) (given : Given) (tape tape' : List Operation) (scope :
       none-built : (n chunk row : ℕ) → n ≡ 0 → row < n * chunk → ⊥
       none-built n chunk row none lt = absurd (let zero_is : n * chunk ≡ 0 * chunk = ap (λ (k : ℕ). k * chunk) none in let nothing : 0 * chunk ≡ 0 = omega arith in omega (arith, lt, zero_is, nothing))
 
-  safe-false : tells → IsFilledRight (world_in given tape' scope first) all → HasRoomForEvents (world_in given tape' scope first) → OpensAlike (world_in given tape' scope first)
-      → IsSafeHistory ⊤ (world_in given tape' scope first) given new (is_carried work) false all
+  safe-false : tells → IsFilledRight (world_in given tape' scope first) all → HasRoomForEvents (world_in given tape' scope first)
+      → IsSafeHistory ⊤ (world_in given tape' scope first) given new (bears work) false all
   safe-false t =
       let g = did.grows.more t in
       subst (λ (l : List Operation). IsTakingCall given tape scope first old plan new roles l → IsFilledRight (world_in given l scope first) all → HasRoomForEvents (world_in given l scope first)
-      → OpensAlike (world_in given l scope first) → IsSafeHistory ⊤ (world_in given l scope first) given new (is_carried work) false all) (sym g.1)
+      → IsSafeHistory ⊤ (world_in given l scope first) given new (bears work) false all) (sym g.1)
       (subst (λ (e : ℕ). IsTakingCall given tape scope first old plan new roles (tape ++ g.0) → IsFilledRight (world_in given (tape ++ g.0) scope first) (entries ++ entries_of who e (Step TakenOver left ∷ losses_of roles spares))
-      → HasRoomForEvents (world_in given (tape ++ g.0) scope first) → OpensAlike (world_in given (tape ++ g.0) scope first)
-      → IsSafeHistory ⊤ (world_in given (tape ++ g.0) scope first) given new (is_carried work) false (entries ++ entries_of who e (Step TakenOver left ∷ losses_of roles spares)))
+      → HasRoomForEvents (world_in given (tape ++ g.0) scope first)
+      → IsSafeHistory ⊤ (world_in given (tape ++ g.0) scope first) given new (bears work) false (entries ++ entries_of who e (Step TakenOver left ∷ losses_of roles spares)))
       (sym (at_end t ∙ ap (λ (l : List Operation). length l) g.1))
-      (λ by. taken-safe given tape scope first entries old plan new (is_carried work) who steps left roles spares g.0 tells former t was.left_told stepped (planned t) by)) (call t)
+      (λ by. taken-safe given tape scope first entries old plan new (bears work) who steps left roles spares g.0 tells former t was.left_told stepped (planned t) by)) (call t)
 
   -- So the array keeps its record.
   pub taken-keeps : IsStill tells given tape' scope first (entries ++ entries_of who end (Step TakenOver left ∷ losses_of roles spares)) new work' left
@@ -205,5 +205,5 @@ module _ (tells : Type 0) (given : Given) (tape tape' : List Operation) (scope :
     recorded = λ t. (kept t).recorded t;
     past = λ t. (kept t).past t;
     listed = listed;
-    safe = λ t fills room alike. subst (λ (c : ℕ → Bool). IsSafeHistory ⊤ (world_in given tape' scope first) given new c false all) (sym carries) (safe-false t fills room alike);
+    safe = λ t fills room. subst (λ (c : ℕ → ℕ → Bool). IsSafeHistory ⊤ (world_in given tape' scope first) given new c false all) (sym carries) (safe-false t fills room);
   }

@@ -24,7 +24,7 @@ use Rattle.still_kept.specs.flat_history_the_Event.{Event}
 use Rattle.still_kept.specs.flat_history_the_Event_TheVariants.{Lost, SpareLost, Step}
 use Rattle.still_kept.specs.flat_history_the_LostCause_TheVariants.{Fault}
 use Rattle.still_kept.specs.flat_history_the_StepKind_TheVariants.{TakenOver}
-use Rattle.still_kept.specs.flat_history_Epochs.{HasRoomForEvents, OpensAlike}
+use Rattle.still_kept.specs.flat_history_Epochs.{HasRoomForEvents}
 use Rattle.still_kept.specs.flat_history_Flat.{length_of, values_of, values_after, now}
 use Rattle.still_kept.specs.flat_history_Legal.{call_before, disturbs, level_after, level_at, told_left}
 use Rattle.still_kept.specs.flat_history_Losses.{is_gone_after, is_this, is_unsynced, last_of_six, loses, takes, unsettles}
@@ -56,7 +56,7 @@ use Rattle.still_kept.specs.kept_history_Safe.{world_in, IsFilledRight, IsSafeHi
 use Rattle.still_kept.specs.kept_history_Told.{told_now, told_by}
 use Rattle.still_kept.proofs.kept_history_Calls.{now-live}
 use Rattle.still_kept.proofs.kept_history_Entered.{AreAdding, told-adding, settle-none, values-more, values-adding, length-adding, gone-was, gone-lost}
-use Rattle.still_kept.proofs.kept_history_Growing.{reading-grown, opening-grown, gone-grown, unsynced-grown, now-grown, alike-before, room-before, room-now}
+use Rattle.still_kept.proofs.kept_history_Growing.{reading-grown, opening-grown, gone-grown, unsynced-grown, now-grown, room-before, room-now}
 use Rattle.still_kept.proofs.kept_history_KeptCalls.{kept-call}
 use Rattle.still_kept.proofs.kept_history_Ledgers.{any-gone, unclean-now, unsynced-still, none-ends}
 use Rattle.still_kept.proofs.kept_history_Lengths.{now-drawn}
@@ -88,7 +88,7 @@ pub record IsTakingCall (given : Given) (tape : List Operation) (scope : Scope) 
       → ((role < role_count old.newest) × (is_missing (reading_of old) role ≡ true)) ⊎ (IsAmong roles role ⊎ (((shape_of new.newest).level ≡ 6) × ((shape_of new.newest).disks - 1 ≡ role) × HasLiveSlot new))
   pub rise : IsRisen ⊤ old new tape tape'
   pub others : AreOthersPresent (present given tape) (present given tape')
-  pub safe : (told more : Ledger) → HasRoomLeft old tape tape' → IsToldWith told more plan → AreGoneTold told old → AreGoneTold more new → ((number : ℕ) → told.carried number ≡ true → more.carried number ≡ true)
+  pub safe : (told more : Ledger) → HasRoomLeft old tape tape' → IsToldWith told more plan → AreGoneTold told old → AreGoneTold more new → ((slot number : ℕ) → told.carried slot number ≡ true → more.carried slot number ≡ true)
       → IsSafeOver (world_in given tape scope first) given told old tape → IsSafeChange (OpensFit (world_in given tape scope first)) scope given told more new tape tape'
 
 -- losses come with a step
@@ -117,7 +117,7 @@ turned-down level is = of (level == 6) refl is
     of true e is = refl
     of false e is = absurd (omega (arith, is))
 
-module _ (given : Given) (tape : List Operation) (scope : Scope) (first : ℕ) (entries : List Entry) (old plan new : Members) (carried : ℕ → Bool) (who : Who) (steps left roles spares : ℕ) (ops : List Operation)
+module _ (given : Given) (tape : List Operation) (scope : Scope) (first : ℕ) (entries : List Entry) (old plan new : Members) (carried : ℕ → ℕ → Bool) (who : Who) (steps left roles spares : ℕ) (ops : List Operation)
     (tells : Type 0) (was : IsStillKept tells given tape scope first entries old carried) (t : tells) (steps_told : IfSome (told_left entries) (λ n. n ≡ steps))
     (stepped : (steps ≡ left + 1) ⊎ (list_any disturbs (losses_of roles spares) ≡ true))
     (planned : IsReliable (world_in given tape scope first) entries → left ≡ 0 → ArePlannedTo (world_in given tape scope first) (shape_of new.newest) (open_plans entries))
@@ -185,7 +185,6 @@ module _ (given : Given) (tape : List Operation) (scope : Scope) (first : ℕ) (
   taken-before right = record {
     fills = filled-before world ops entries added begun recorded.ends right.fills;
     room = room-before world ops begun right.room;
-    alike = alike-before world ops begun right.alike;
   }
 
   gone-behind : (role : ℕ) → (is_gone_after later entries role || list_any (loses later role) added) ≡ true → is_gone_after later all role ≡ true
@@ -201,9 +200,9 @@ module _ (given : Given) (tape : List Operation) (scope : Scope) (first : ℕ) (
   abbrev at_most : Ledger
   at_most = record (told_now later carried false all) { gone = λ role. true }
 
-  less : IsMoreTold told (told_by later (λ number. true) true entries added)
-  less = subst (λ (l : Ledger). IsMoreTold l (told_by later (λ number. true) true entries added)) (now-grown world ops begun carried false entries recorded.ends)
-      (told-adding later carried (λ number. true) false true entries added adds-all (λ number is. refl) (λ is. refl))
+  less : IsMoreTold told (told_by later (λ slot number. true) true entries added)
+  less = subst (λ (l : Ledger). IsMoreTold l (told_by later (λ slot number. true) true entries added)) (now-grown world ops begun carried false entries recorded.ends)
+      (told-adding later carried (λ slot number. true) false true entries added adds-all (λ slot number is. refl) (λ is. refl))
 
   length-all : length_of (length (opening_list later)) all ≡ length_of (length (opening_list world)) entries
   length-all = length-adding (length (opening_list later)) entries added adds-all ∙ ap (λ (l : List Sector). length_of (length l) entries) (opening-grown world ops begun)
@@ -227,7 +226,7 @@ module _ (given : Given) (tape : List Operation) (scope : Scope) (first : ℕ) (
     gone = λ role is. gone-behind role (gone-was later entries added role (gone-grown world ops entries role recorded.ends ∙ is));
     unclean = taken-unclean;
     reshaping = λ is. is;
-    carried = λ number is. is;
+    carried = λ slot number is. is;
   }
 
   plan-still : is_reshaping plan.newest ≡ false
@@ -238,14 +237,14 @@ module _ (given : Given) (tape : List Operation) (scope : Scope) (first : ℕ) (
 
   -- ---- what is read at its end
 
-  module _ (fills : IsFilledRight (world_in given tape scope first) entries) (room : HasRoomForEvents (world_in given (tape ++ ops) scope first)) (alike : OpensAlike (world_in given tape scope first)) where
+  module _ (fills : IsFilledRight (world_in given tape scope first) entries) (room : HasRoomForEvents (world_in given (tape ++ ops) scope first)) where
     abbrev before : IsReliable (world_in given tape scope first) entries
-    before = record { fills = fills; room = room-before (world_in given tape scope first) ops begun room; alike = alike }
+    before = record { fills = fills; room = room-before (world_in given tape scope first) ops begun room }
 
     pub safe-history : IsSafeHistory ⊤ (world_in given tape scope first) given old carried false entries
-    safe-history = safe-over was t call.live fills (room-before world ops begun room) alike
+    safe-history = safe-over was t call.live fills (room-before world ops begun room)
 
-    pub change-by : (more : Ledger) → IsToldWith (told_now (world_in given tape scope first) carried false entries) more plan → AreGoneTold more new → ((number : ℕ) → carried number ≡ true → more.carried number ≡ true)
+    pub change-by : (more : Ledger) → IsToldWith (told_now (world_in given tape scope first) carried false entries) more plan → AreGoneTold more new → ((slot number : ℕ) → carried slot number ≡ true → more.carried slot number ≡ true)
         → IsSafeChange (OpensFit (world_in given tape scope first)) scope given (told_now (world_in given tape scope first) carried false entries) more new tape (tape ++ ops)
     change-by more tells gone carries = call.safe told more (room-now world ops begun old safe-history.counted room) tells (gone-old before) gone carries (now-live world call.live safe-history.now)
 
@@ -257,7 +256,7 @@ module _ (given : Given) (tape : List Operation) (scope : Scope) (first : ℕ) (
       unclean = taken-unclean;
       reshaping = λ on. absurd (let clash = sym plan-still ∙ on in cc);
       values = λ x v lt lt' may. values-in x v may;
-    }) (λ role lt miss. refl) (λ number is. is)).next [
+    }) (λ role lt miss. refl) (λ slot number is. is)).next [
       | inl named ↦ by named
       | inr spent ↦ absurd (spent.none some)
     ]
@@ -303,10 +302,10 @@ module _ (given : Given) (tape : List Operation) (scope : Scope) (first : ℕ) (
     }
 
     pub change : IsSafeChange (OpensFit (world_in given tape scope first)) scope given (told_now (world_in given tape scope first) carried false entries) (told_now later carried false all) new tape (tape ++ ops)
-    change = change-by with_it told-with gone-by (λ number is. is)
+    change = change-by with_it told-with gone-by (λ slot number is. is)
 
   pub taken-gone : IsReliable later all → AreToldGone later all new
-  taken-gone right = let early = taken-before right in gone-by early.fills right.room early.alike
+  taken-gone right = let early = taken-before right in gone-by early.fills right.room
 
   -- ---- the level
 
@@ -391,7 +390,7 @@ module _ (given : Given) (tape : List Operation) (scope : Scope) (first : ℕ) (
   unfolding before-list taken-listed
   consistent right fit =
       let early = taken-before right in
-      consistent-at (OpensFit world) later given all told with_it new tape (tape ++ ops) (before-list right.fills).list call.moved.placed call.unlost taken-still refl (taken-gone right) (change early.fills right.room early.alike)
+      consistent-at (OpensFit world) later given all told with_it new tape (tape ++ ops) (before-list right.fills).list call.moved.placed call.unlost taken-still refl (taken-gone right) (change early.fills right.room)
       (λ does. (taken-listed right.fills).rows fit)
 
   step-right : IsReliable later all → OpensFit later → IsReshapedBy later entries entry more
@@ -423,10 +422,10 @@ module _ (given : Given) (tape : List Operation) (scope : Scope) (first : ℕ) (
 
   -- ---- each mark
 
-  pub taken-safe : IsFilledRight later all → HasRoomForEvents later → OpensAlike later → IsSafeHistory ⊤ later given new carried false all
-  taken-safe fills room alike =
-      let early = taken-before (record { fills = fills; room = room; alike = alike }) in
-      let safe = safe-history early.fills room early.alike in
-      let by = change early.fills room early.alike in
+  pub taken-safe : IsFilledRight later all → HasRoomForEvents later → IsSafeHistory ⊤ later given new carried false all
+  taken-safe fills room =
+      let early = taken-before (record { fills = fills; room = room }) in
+      let safe = safe-history early.fills room in
+      let by = change early.fills room in
       either-call ⊤ given tape scope first entries old new carried carried false false who (Step TakenOver left ∷ losses_of roles spares) ops told was.sizes_are begun recorded.ends fills safe call.rise
       (λ claimed opened mark low high. throughout-changed world given told with_it new ops refl begun by (safe.sound tt) opened mark (omega (arith, begun, low)) high) less by (λ none. most)

@@ -146,5 +146,15 @@ module _ (given : Given) (old : Members) (to : Shape) (slot : ℕ) (placed : IsP
             (none-held (list_any (is_held_by s) old.roles) refl (ap (λ (g : Give). planned_role old.roles g s) gets)))
       ]
 
+  -- a spare then is one by the plan
+  spares-fewer : (s : ℕ) → has_spare new.spares s ≡ true → has_spare Plan.spares s ≡ true
+  spares-fewer s has =
+      let was = spare-planned old ch new.lost s (ap (λ (l : List ℕ). has_spare l s) (sym done.spares) ∙ has) in
+      planned-spare old ch old.lost s was.0 (kept (has_slot old.lost s) refl was.1) was.2
+    where
+      kept : (b : Bool) → has_slot old.lost s ≡ b → has_slot new.lost s ≡ false → has_slot old.lost s ≡ false
+      kept true gone left = absurd (let stays = done.stay s gone in let clash = sym stays ∙ left in cc)
+      kept false is left = is
+
   pub taken-failed : HaveFailedSince (planned_view old (taking_over old to slot) old.lost) new told f g
-  taken-failed = record { roles = roles-failed; spares_are = spares-failed; told = spares-told }
+  taken-failed = record { roles = roles-failed; spares_are = spares-failed; were = spares-were; fewer = spares-fewer; told = spares-told }

@@ -126,7 +126,7 @@ pub fn take_over<B: Bank>(members: &mut Members, bank: &mut B, to: &Shape, slot:
     ensures rise { IsRisen B.tells members.old members.new (B.tape bank.old) (B.tape bank.new) }
     ensures safe { B.tells → (world : World) → (told more : Ledger) → HasRoomLeft members.old (B.tape bank.old) (B.tape bank.new)
         → IsToldWith told more (taken_plan members.old to.now slot) → AreGoneTold told members.old → AreGoneTold more members.new
-        → ((number : ℕ) → told.carried number ≡ true → more.carried number ≡ true) → IsSafeOver world (B.given bank.old) told members.old (B.tape bank.old)
+        → ((slot number : ℕ) → told.carried slot number ≡ true → more.carried slot number ≡ true) → IsSafeOver world (B.given bank.old) told members.old (B.tape bank.old)
         → IsSafeChange (OpensFit world) world.scope (B.given bank.old) told more members.new (B.tape bank.old) (B.tape bank.new) }
     ensures counts { NeverFalls (B.faults_of bank.old) (B.faults_of bank.new) }
     ensures given { B.given bank.new ≡ B.given bank.old }

@@ -48,7 +48,7 @@ use Rattle.moving_steps.specs.reshape_ends_Begun.{IsBackupOf, IsBegunBehind, beg
 use Rattle.views.specs.declared.work.Work.{Work}
 use Rattle.views.specs.Lacking.{AreLostSince, HaveFailedSince}
 use Rattle.views.specs.Moving.{Grows, IsMoved}
-use Rattle.views.specs.Numbers.{is_carried}
+use Rattle.views.specs.Numbers.{bears}
 use Rattle.views.specs.Placed.{is_vacant, AreWhole}
 use Rattle.views.specs.Rebuilding.{AreSparesFree, Held}
 use Rattle.views.specs.Status.{left_of, resync_left}
@@ -57,7 +57,7 @@ use Rattle.views.proofs.Still.{placed-two, backup-still}
 use Rattle.call_entries.specs.Losing.{losses_of}
 use Rattle.call_entries.proofs.CallLaws.{all-losses}
 use Rattle.call_entries.proofs.PlainLaws.{one}
-use Rattle.moving_steps.specs.array_kept_Calls.{AreLossesOf, IsLossBy}
+use Rattle.moving_steps.specs.array_kept_Calls.{AreLossesOf, IsLossBy, WasSpare}
 use Rattle.moving_steps.specs.array_kept_Kept.{scope_in}
 use Rattle.moving_steps.proofs.array_kept_NowLaws.{length-more}
 use Rattle.grow_asked.specs.declared.window.PhasesLeft.{PhasesLeft}
@@ -238,15 +238,15 @@ pub begun-losses : (plan new : Members) (before after : ℕ → ℕ) (entries mi
 begun-losses plan new before after entries mid later who end left n roles spares back since mid_is is = record {
   more = entries_of who end (Step Begun left ∷ begun_length back n ++ losses_of roles spares);
   grown = is ∙ ap (λ (l : List Entry). l ++ entries_of who end (Step Begun left ∷ begun_length back n ++ losses_of roles spares)) mid_is;
-  failed = All-cons (λ e. IsLossBy (Held plan) before after e.event) (one who end (Step Begun left)) (entries_of who end (begun_length back n ++ losses_of roles spares)) tt (of back);
+  failed = All-cons (λ e. IsLossBy (Held plan) (WasSpare plan) before after e.event) (one who end (Step Begun left)) (entries_of who end (begun_length back n ++ losses_of roles spares)) tt (of back);
 }
   where
-    lost : All (λ e. IsLossBy (Held plan) before after e.event) (entries_of who end (losses_of roles spares))
-    lost = subst (λ (l : List Event). All (λ e. IsLossBy (Held plan) before after e.event) (entries_of who end l)) (append-nil (losses_of roles spares))
-        (all-losses (λ event. IsLossBy (Held plan) before after event) who end roles spares [] since.held since.failed (All-nil (λ e. IsLossBy (Held plan) before after e.event)))
+    lost : All (λ e. IsLossBy (Held plan) (WasSpare plan) before after e.event) (entries_of who end (losses_of roles spares))
+    lost = subst (λ (l : List Event). All (λ e. IsLossBy (Held plan) (WasSpare plan) before after e.event) (entries_of who end l)) (append-nil (losses_of roles spares))
+        (all-losses (λ event. IsLossBy (Held plan) (WasSpare plan) before after event) who end roles spares [] since.held (λ s has. (since.were s has, since.failed s has)) (All-nil (λ e. IsLossBy (Held plan) (WasSpare plan) before after e.event)))
 
-    of : (b : Bool) → All (λ e. IsLossBy (Held plan) before after e.event) (entries_of who end (begun_length b n ++ losses_of roles spares))
-    of true = All-cons (λ e. IsLossBy (Held plan) before after e.event) (one who end (Resized n)) (entries_of who end (losses_of roles spares)) tt lost
+    of : (b : Bool) → All (λ e. IsLossBy (Held plan) (WasSpare plan) before after e.event) (entries_of who end (begun_length b n ++ losses_of roles spares))
+    of true = All-cons (λ e. IsLossBy (Held plan) (WasSpare plan) before after e.event) (one who end (Resized n)) (entries_of who end (losses_of roles spares)) tt lost
     of false = lost
 
 -- ---- the array in its reshape
@@ -263,7 +263,7 @@ pub record IsUpdated (tells : Type 0) (given : Given) (tape tape' : List Operati
   pub grows : Grows tells tape tape'
   pub rise : IsRisen tells old new tape tape'
   pub safe : tells → (world : World) → (told more : Ledger) → HasRoomLeft old tape tape' → HasLiveSlot old → IsBackupOf world.scope old to backup uuid → ArePlaced world.scope given old
-      → IsToldWith told more (begun_plan old to) → AreGoneTold told old → AreGoneTold more new → ((number : ℕ) → told.carried number ≡ true → more.carried number ≡ true)
+      → IsToldWith told more (begun_plan old to) → AreGoneTold told old → AreGoneTold more new → ((slot number : ℕ) → told.carried slot number ≡ true → more.carried slot number ≡ true)
       → IsSafeOver world given told old tape → IsSafeChange (OpensFit world) world.scope given told more new tape tape'
   pub counts : NeverFalls before after
 
@@ -331,16 +331,16 @@ module _ {tells : Type 0} {given : Given} {tape tape' : List Operation} {first :
 
   keeps : (b : Bool) → goes_back (shape_of old.newest) to ≡ b
       → IsMoving tells given tape' (scope_in given uuid slots (Some backup)) first (entries ++ entries_of who end (Step Begun (left_by None new (closed 0) behind) ∷ begun_length b (list_length new.newest) ++ losses_of roles spares)) new
-      (is_carried work) None (closed 0) [] (left_by None new (closed 0) behind)
+      (bears work) None (closed 0) [] (left_by None new (closed 0) behind)
   keeps false forward =
-      array-begins tells given tape tape' scope first entries backup uuid to old new (is_carried work) (is_carried work) roles (stands-kept tells given tape scope first entries old work (still_left work old ahead) was.kept synced)
+      array-begins tells given tape tape' scope first entries backup uuid to old new (bears work) (bears work) roles (stands-kept tells given tape scope first entries old work (still_left work old ahead) was.kept synced)
       begun-by (none-recovering given old was.kept.members_are.placed can.0) was.kept.members_are.free long did.free (did.moved.spares (few-planned old (beginning old to) old.lost)) [] left who end spares forward settled turned.goes
-      (not_254 who.caller caller) at_end did.grows (subst (λ (n : ℕ). IfSome (told_left entries) (λ m. m ≡ n)) (sym one-fewer) was.kept.left_told) (begun-some new behind did.newest.active) (λ number is. is)
+      (not_254 who.caller caller) at_end did.grows (subst (λ (n : ℕ). IfSome (told_left entries) (λ m. m ≡ n)) (sym one-fewer) was.kept.left_told) (begun-some new behind did.newest.active) (λ slot number is. is)
       (λ t. did.plain t scope refl refl) did.others (λ t. unturned-open (world_in given tape' scope first) entries who turned)
   keeps true backward =
-      array-shortens tells given scope first entries backup uuid to old new (is_carried work) (is_carried work) roles tape (stands-kept tells given tape scope first entries old work (still_left work old ahead) was.kept synced)
+      array-shortens tells given scope first entries backup uuid to old new (bears work) (bears work) roles tape (stands-kept tells given tape scope first entries old work (still_left work old ahead) was.kept synced)
       backward tape' begun-by (none-recovering given old was.kept.members_are.placed can.0) was.kept.members_are.free long did.free (did.moved.spares (few-planned old (beginning old to) old.lost)) [] left who end spares settled turned.goes
-      (not_254 who.caller caller) at_end did.grows (subst (λ (n : ℕ). IfSome (told_left entries) (λ m. m ≡ n)) (sym one-fewer) was.kept.left_told) (begun-some new behind did.newest.active) (λ number is. is)
+      (not_254 who.caller caller) at_end did.grows (subst (λ (n : ℕ). IfSome (told_left entries) (λ m. m ≡ n)) (sym one-fewer) was.kept.left_told) (begun-some new behind did.newest.active) (λ slot number is. is)
       (λ t. did.plain t scope refl refl) did.others (λ t. unturned-open (world_in given tape' scope first) entries who turned)
 
   -- the entries tell the length of its list
@@ -379,7 +379,7 @@ module _ {tells : Type 0} {given : Given} {tape tape' : List Operation} {first :
       (subst (λ (s : Scope). IsReadyMoving tells given' tape' s first (entries ++ added) new work (closed 0) behind limit window after steps' room' rows buffer far_rows far_buffer) (sym scope_is)
       (subst (λ (g : Given). IsReadyMoving tells g tape' scope first (entries ++ added) new work (closed 0) behind limit window after steps' room' rows buffer far_rows far_buffer) (sym same_given)
       (record {
-        kept = subst (λ (o : Option ℕ). IsMoving tells given tape' (scope_in given uuid slots (Some backup)) first (entries ++ added) new (is_carried work) o (closed 0) [] (left_by o new (closed 0) behind)) (sym synced) (keeps back way);
+        kept = subst (λ (o : Option ℕ). IsMoving tells given tape' (scope_in given uuid slots (Some backup)) first (entries ++ added) new (bears work) o (closed 0) [] (left_by o new (closed 0) behind)) (sym synced) (keeps back way);
         sized = tells-length back way;
         limited = limit-kept limit entries added was.limited (begun-free who end left roles spares (list_length new.newest) back limit);
         full = begun-whole;

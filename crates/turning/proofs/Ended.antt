@@ -2,7 +2,7 @@
 use Rattle.std.proofs.Common.{◌≡◌, ◌≢◌, inl, inr, ℕ, ◌*◌, ◌<◌, ◌≤◌, ◌&&◌, ◌||◌, nat_lt, Bool, true, false, not, Option, Some, None, List, [], ◌∷◌, ◌++◌, length, refl, sym, ◌∙◌, ap, subst, arith, append-nil}
 use Rattle.std.specs.Prelude.{if◌then◌else◌, is_some}
 use Rattle.std.specs.List.{list_any, All}
-use Rattle.std.proofs.lemmas.Bool.{and_parts}
+use Rattle.std.proofs.lemmas.Bool.{cases_lt, and_parts}
 use Rattle.std.proofs.lemmas.Bool.Decides.{nat_tests}
 use Rattle.std.proofs.lemmas.List.Elements.{All-nil, All-cons}
 use Rattle.md_base.specs.Shapes.{has_slot}
@@ -24,14 +24,14 @@ use Rattle.flat_history.specs.Reshaped.{open_plans}
 use Rattle.moving_steps.specs.shape_changes_Updates.{IsAtEnd}
 use Rattle.moving_steps.specs.reshape_ends_Finished.{AreLostInEnd}
 use Rattle.views.specs.declared.work.Work.{Work}
-use Rattle.views.specs.Numbers.{is_carried}
+use Rattle.views.specs.Numbers.{bears}
 use Rattle.views.specs.Placed.{is_vacant}
 use Rattle.views.specs.Rebuilding.{Held}
 use Rattle.call_entries.specs.Losing.{losses_of}
 use Rattle.call_entries.proofs.CallLaws.{all-losses}
 use Rattle.call_entries.proofs.LosingLaws.{entries-both}
 use Rattle.call_entries.proofs.PlainLaws.{one}
-use Rattle.moving_steps.specs.array_kept_Calls.{AreLossesOf, IsLossBy}
+use Rattle.moving_steps.specs.array_kept_Calls.{IsLossBy, AreLossesBy}
 use Rattle.grow_asked.specs.declared.window.PhasesLeft.{PhasesLeft}
 use Rattle.grow_asked.specs.Left.{phases_of, zeroed_by}
 use Rattle.moving_steps.specs.kept_history_Recorded.{IsCallGoing}
@@ -50,7 +50,7 @@ use Rattle.still_steps.specs.still_laws_Ready.{IsReady as IsReadyStill}
 use Rattle.still_steps.proofs.still_laws_Plain.{IsLeftPlain, turned-plain, turns-behind}
 use Rattle.moving_steps.specs.moving_laws_Ready.{IsReady as IsReadyMoving, bytes_in}
 use Rattle.moving_steps.proofs.moving_laws_Kept.{left_by, takes-before}
-use Rattle.turning.specs.Ended.{AreKeptOrFailed}
+use Rattle.turning.specs.Ended.{AreKeptOrFailed, WasSpareOrDropped}
 use Rattle.turning.proofs.EndedStill.{IsFinished, ended-still, ended-sized, ended-free}
 
 -- the new length is entered in the words of the law
@@ -61,11 +61,11 @@ length-same false n = refl
 -- an array in a reshape that has gone through the list has no window, and no resync is pending where its end is due
 pub closed-moving : {tells : Type 0} {given : Given} {tape : List Operation} {scope : Scope} {first : ℕ} {entries : List Entry} {members : Members} (work : Work) (window : List ℕ) (ahead : PhasesLeft) (course : Course) (count : ℕ)
     → course ≡ closed count → work.resync ≡ None
-    → IsMoving tells given tape scope first entries members (is_carried work) work.resync course (bytes_in course.window window) (left_in work members course ahead)
-    → IsMoving tells given tape scope first entries members (is_carried work) None (closed count) [] (left_by None members (closed count) ahead)
+    → IsMoving tells given tape scope first entries members (bears work) work.resync course (bytes_in course.window window) (left_in work members course ahead)
+    → IsMoving tells given tape scope first entries members (bears work) None (closed count) [] (left_by None members (closed count) ahead)
 closed-moving {tells = tells} {given = given} {tape = tape} {scope = scope} {first = first} {entries = entries} {members = members} work window ahead course count is synced was =
-    subst (λ (o : Option ℕ). IsMoving tells given tape scope first entries members (is_carried work) o (closed count) [] (left_by o members (closed count) ahead)) synced
-    (subst (λ (k : Course). IsMoving tells given tape scope first entries members (is_carried work) work.resync k (bytes_in k.window window) (left_by work.resync members k ahead)) is was)
+    subst (λ (o : Option ℕ). IsMoving tells given tape scope first entries members (bears work) o (closed count) [] (left_by o members (closed count) ahead)) synced
+    (subst (λ (k : Course). IsMoving tells given tape scope first entries members (bears work) work.resync k (bytes_in k.window window) (left_by work.resync members k ahead)) is was)
 
 -- ---- the plans
 
@@ -185,7 +185,7 @@ module _ {tells : Type 0} {given : Given} {tape tape' : List Operation} {scope :
       settled : tells → is_unsynced (world_in given tape scope first) entries ≡ false
       settled t = was.kept.pending t ∙ ap (λ (o : Option ℕ). is_some o) synced
 
-      moving : IsMoving tells given tape scope first entries old (is_carried work) None (closed (zeroed_by old.newest)) [] (left_by None old (closed (zeroed_by old.newest)) ahead)
+      moving : IsMoving tells given tape scope first entries old (bears work) None (closed (zeroed_by old.newest)) [] (left_by None old (closed (zeroed_by old.newest)) ahead)
       moving = closed-moving work window ahead course (zeroed_by old.newest) at synced was.kept
 
 -- ---- the losses of the end
@@ -193,20 +193,33 @@ module _ {tells : Type 0} {given : Given} {tape tape' : List Operation} {scope :
 -- each has its cause
 module _ (old new : Members) (roles spares lost : ℕ) (before after : ℕ → ℕ) (failed : AreLostInEnd old new roles spares lost before after) (late late_spares : ℕ)
     (held : (role : ℕ) → has_slot late role ≡ true → (slot : ℕ) × (holder (role_state (reading_of old) role) ≡ Some slot) × IsFaulted slot before after)
-    (among : (slot : ℕ) → has_slot late_spares slot ≡ true → has_slot lost slot ≡ true) where
+    (among : (slot : ℕ) → has_slot late_spares slot ≡ true → has_slot lost slot ≡ true) (kept : ℕ)
+    (idle : (slot : ℕ) → has_slot late_spares slot ≡ true → not (has_slot kept slot) ≡ true)
+    (all : (role slot : ℕ) → role < (final_shape old.newest).disks → holder (role_state (reading_of old) role) ≡ Some slot → has_slot kept slot ≡ true) where
+  -- a slot that the update lost, and that held no role of the new shape, was a spare, or its role was dropped
+  late-were : (slot : ℕ) → has_slot late_spares slot ≡ true → WasSpareOrDropped old slot
+  late-were slot has = elim (failed.lost_were slot (among slot has)) [
+    | inl spare ↦ inl spare
+    | inr (role, had) ↦ elim (cases_lt role (final_shape old.newest).disks) [
+      | inl below ↦ absurd (let there = all role slot below had in let clash : true ≡ false = sym (idle slot has) ∙ ap not there in cc)
+      | inr past ↦ inr (role, past, had)
+    ]
+  ]
+
   pub ended-losses : (entries mid later : List Entry) (who : Who) (end left size : ℕ) (longer : Bool) → mid ≡ entries
-      → later ≡ mid ++ entries_of who end (ending_events roles spares left (length_by longer size) late late_spares) → AreLossesOf old before after entries later
+      → later ≡ mid ++ entries_of who end (ending_events roles spares left (length_by longer size) late late_spares)
+      → AreLossesBy (Held old) (WasSpareOrDropped old) before after entries later
   ended-losses entries mid later who end left size longer mid_is is = record {
     more = entries_of who end (ending_events roles spares left (length_by longer size) late late_spares);
     grown = is ∙ ap (λ (l : List Entry). l ++ entries_of who end (ending_events roles spares left (length_by longer size) late late_spares)) mid_is;
-    failed = all-losses (λ event. IsLossBy (Held old) before after event) who end roles spares (Step Finished left ∷ (length_by longer size ++ losses_of late late_spares)) failed.gone failed.spares_are
-        (All-cons (λ e. IsLossBy (Held old) before after e.event) (one who end (Step Finished left)) (entries_of who end (length_by longer size ++ losses_of late late_spares)) tt (of longer));
+    failed = all-losses (λ event. IsLossBy (Held old) (WasSpareOrDropped old) before after event) who end roles spares (Step Finished left ∷ (length_by longer size ++ losses_of late late_spares)) failed.gone (λ slot has. (inl (failed.were slot has), failed.spares_are slot has))
+        (All-cons (λ e. IsLossBy (Held old) (WasSpareOrDropped old) before after e.event) (one who end (Step Finished left)) (entries_of who end (length_by longer size ++ losses_of late late_spares)) tt (of longer));
   }
     where
-      alone : All (λ e. IsLossBy (Held old) before after e.event) (entries_of who end (losses_of late late_spares))
-      alone = subst (λ (l : List Event). All (λ e. IsLossBy (Held old) before after e.event) (entries_of who end l)) (append-nil (losses_of late late_spares))
-          (all-losses (λ event. IsLossBy (Held old) before after event) who end late late_spares [] held (λ slot has. failed.lost_are slot (among slot has)) (All-nil (λ e. IsLossBy (Held old) before after e.event)))
+      alone : All (λ e. IsLossBy (Held old) (WasSpareOrDropped old) before after e.event) (entries_of who end (losses_of late late_spares))
+      alone = subst (λ (l : List Event). All (λ e. IsLossBy (Held old) (WasSpareOrDropped old) before after e.event) (entries_of who end l)) (append-nil (losses_of late late_spares))
+          (all-losses (λ event. IsLossBy (Held old) (WasSpareOrDropped old) before after event) who end late late_spares [] held (λ slot has. (late-were slot has, failed.lost_are slot (among slot has))) (All-nil (λ e. IsLossBy (Held old) (WasSpareOrDropped old) before after e.event)))
 
-      of : (b : Bool) → All (λ e. IsLossBy (Held old) before after e.event) (entries_of who end (length_by b size ++ losses_of late late_spares))
-      of true = All-cons (λ e. IsLossBy (Held old) before after e.event) (one who end (Resized size)) (entries_of who end (losses_of late late_spares)) tt alone
+      of : (b : Bool) → All (λ e. IsLossBy (Held old) (WasSpareOrDropped old) before after e.event) (entries_of who end (length_by b size ++ losses_of late late_spares))
+      of true = All-cons (λ e. IsLossBy (Held old) (WasSpareOrDropped old) before after e.event) (one who end (Resized size)) (entries_of who end (losses_of late late_spares)) tt alone
       of false = alone

@@ -41,7 +41,7 @@ use Rattle.moving_steps.specs.reshape_updates_Ending.{ending}
 use Rattle.moving_steps.specs.reshape_ends_Finished.{IsOver, IsEndedBehind, AreLostInEnd, IsFinishable}
 use Rattle.views.specs.declared.work.Work.{Work}
 use Rattle.views.specs.Moving.{Grows}
-use Rattle.views.specs.Numbers.{is_carried}
+use Rattle.views.specs.Numbers.{bears}
 use Rattle.views.specs.Placed.{is_vacant, AreWhole, IsPlaced}
 use Rattle.views.specs.Rebuilding.{AreSparesFree}
 use Rattle.views.proofs.MarkLaws.{few-planned}
@@ -148,13 +148,13 @@ pub record IsFinished (tells : Type 0) (given : Given) (tape tape' : List Operat
   pub failed : AreLostInEnd old new roles spares lost before after
   pub safe : tells → (world : World) → (told more : Ledger) → (list : ℕ → Sector) → HasRoomLeft old tape tape' → ArePlaced world.scope given old
       → IsFinishable (OpensFit world) more old (present given tape) list → AreGoneTold told old → ((role : ℕ) → has_slot roles role ≡ true → told.gone role ≡ true) → AreGoneTold more new
-      → IsUncleanTold told old → IsUncleanTold more old → ((number : ℕ) → told.carried number ≡ true → more.carried number ≡ true) → IsSafeOver world given told old tape
+      → IsUncleanTold told old → IsUncleanTold more old → ((slot number : ℕ) → told.carried slot number ≡ true → more.carried slot number ≡ true) → IsSafeOver world given told old tape
       → IsSafeChange (OpensFit world) world.scope given told more new tape tape'
   pub counts : NeverFalls before after
 
 module _ {tells : Type 0} {given : Given} {tape tape' : List Operation} {scope : Scope} {first : ℕ} {entries : List Entry} {old new : Members} {before after : ℕ → ℕ} (work : Work) (ahead : PhasesLeft)
     (who : Who) (end first_roles roles spares lost late late_spares : ℕ)
-    (was : IsMoving tells given tape scope first entries old (is_carried work) None (closed (zeroed_by old.newest)) [] (left_by None old (closed (zeroed_by old.newest)) ahead))
+    (was : IsMoving tells given tape scope first entries old (bears work) None (closed (zeroed_by old.newest)) [] (left_by None old (closed (zeroed_by old.newest)) ahead))
     (goes : IsCallGoing entries who) (caller : IsFalse (who.caller == 254)) (last : IsAtEnd old.newest) (did : IsFinished tells given tape tape' old new roles spares lost before after) (at_end : tells → end ≡ length tape')
     (first-is : (role : ℕ) → has_slot first_roles role ≡ (nat_lt role (length old.roles) && is_vacant (reading_of old) role))
     (late-is : (role : ℕ) → has_slot late role ≡ ((nat_lt role (shape_of new.newest).disks && is_vacant (reading_of new) role) && not (has_slot first_roles role || has_slot roles role)))
@@ -183,9 +183,9 @@ module _ {tells : Type 0} {given : Given} {tape tape' : List Operation} {scope :
     safe = did.safe;
   }
 
-  array : IsStillKept tells given tape' scope first (entries ++ entries_of who end (ending_events roles spares (still_left work new ahead) (grown_to (list_length old.newest) (list_length new.newest)) late late_spares)) new (is_carried work)
-  array = array-ends tells given tape tape' scope first entries old new (is_carried work) (is_carried work) [] (zeroed_by old.newest) (left_by None old (closed (zeroed_by old.newest)) ahead) (still_left work new ahead)
-      who end roles spares late late_spares was goes caller at_end did.grows refl stepped planned (λ number is. is) ended-by
+  array : IsStillKept tells given tape' scope first (entries ++ entries_of who end (ending_events roles spares (still_left work new ahead) (grown_to (list_length old.newest) (list_length new.newest)) late late_spares)) new (bears work)
+  array = array-ends tells given tape tape' scope first entries old new (bears work) (bears work) [] (zeroed_by old.newest) (left_by None old (closed (zeroed_by old.newest)) ahead) (still_left work new ahead)
+      who end roles spares late late_spares was goes caller at_end did.grows refl stepped planned (λ slot number is. is) ended-by
 
   few-spares : length new.spares ≤ 32
   few-spares = subst (λ l. length l ≤ 32) (sym did.ended.update.spares) (few-planned did.ended.flushed (ending did.ended.flushed) new.lost)
@@ -229,7 +229,7 @@ module _ {tells : Type 0} {given : Given} {tape tape' : List Operation} {scope :
   pub ended-still : (tells → TakesNone (world_in given tape' scope first) (entries ++ added) → AreWhole old)
       → IsStill tells given tape' scope first (entries ++ entries_of who end (ending_events roles spares (still_left work new ahead) (grown_to (list_length old.newest) (list_length new.newest)) late late_spares)) new work (still_left work new ahead)
   ended-still was_whole =
-      kept-again tells given tape' scope first (entries ++ added) new (is_carried work) work (still_left work new ahead) array did.unlost did.free few-spares whole synced refl
+      kept-again tells given tape' scope first (entries ++ added) new (bears work) work (still_left work new ahead) array did.unlost did.free few-spares whole synced refl
       (subst (λ (o : Option ℕ). IfSome o (λ n. n ≡ still_left work new ahead)) (sym (fold-append (λ left e. left_after left e.event) None entries added))
       (ended-left who end (still_left work new ahead) late late_spares (list_length new.newest) (nat_lt (list_length old.newest) (list_length new.newest)) (losses_of roles spares) (losses-are roles spares) (told_left entries)))
       (λ t. unsynced-later given scope first (entries ++ added) did.grows (λ u. (was.recorded u).begun) t

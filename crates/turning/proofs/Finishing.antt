@@ -101,6 +101,8 @@ flush-failed given old new roles spares lost before after none free moved failed
     | inr (inr (inr past)) ↦ absurd ((free slot (moved.fewer slot past.1)).none role held)
   ];
   spares_are = failed.spares_are;
+  were = failed.were;
+  fewer = moved.fewer;
   told = λ slot has. elim (failed.told slot has) [
     | inl still ↦ inl still
     | inr (inl told) ↦ inr told
@@ -109,7 +111,7 @@ flush-failed given old new roles spares lost before after none free moved failed
 }
 
 -- the reshape goes on
-pub refused-behind : {tells : Type 0} {given : Given} {tape tape' : List Operation} {scope : Scope} {first : ℕ} {entries : List Entry} {old new : Members} {carried : ℕ → Bool} {resync : Option ℕ} (course : Course) {buffer : List ℕ}
+pub refused-behind : {tells : Type 0} {given : Given} {tape tape' : List Operation} {scope : Scope} {first : ℕ} {entries : List Entry} {old new : Members} {carried : ℕ → ℕ → Bool} {resync : Option ℕ} (course : Course) {buffer : List ℕ}
     (ahead : PhasesLeft) (who : Who) (end roles spares : ℕ) (refusal : Refusal) {before after : ℕ → ℕ} → IsMoving tells given tape scope first entries old carried resync course buffer (left_by resync old course ahead) → DoWithout old
     → IsCallGoing entries who → who.caller ≢ 254 → (tells → end ≡ length tape') → Grows tells tape tape' → IsMoved given old new → AreLostSince old new roles spares before after → is_clean new.newest ≡ is_clean old.newest
     → AreTooMany new refusal → IsRisen tells old new tape tape' → (tells → IsUnusedKept old (disk given.start tape) (disk given.start tape')) → (tells → AreOthersPresent (present given tape) (present given tape'))

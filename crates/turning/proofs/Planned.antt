@@ -184,6 +184,7 @@ module _ (given : Given) (old : Members) (to : Shape) (placed : IsPlaced given o
       gone = λ role has. (and_parts (nat_lt role (length new.roles)) (is_vacant (reading_of new) role) (sym (lost role) ∙ has)).1;
       held = lost-held;
       failed = failed.spares_are;
+      were = failed.were;
       told = failed.told;
     }
 

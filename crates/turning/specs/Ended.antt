@@ -20,7 +20,8 @@ use Rattle.moving_steps.specs.reshape_ends_Finished.{IsOver}
 use Rattle.views.specs.Lacking.{AreTooMany}
 use Rattle.views.specs.Moving.{Grows}
 use Rattle.views.specs.Placed.{is_vacant, AreStillHeld, AreWhole}
-use Rattle.moving_steps.specs.array_kept_Calls.{AreLossesOf, IsEndOf, TellNoLoss}
+use Rattle.views.specs.Rebuilding.{Held}
+use Rattle.moving_steps.specs.array_kept_Calls.{AreLossesBy, IsEndOf, TellNoLoss}
 use Rattle.moving_steps.specs.course_kept_Laws.{closed}
 use Rattle.moving_steps.specs.running_words_Parts.{RunningParts, left_in, still_left}
 use Rattle.turning.specs.Begun.{StaysItself, AreSparesKeptOrFailed}
@@ -53,10 +54,13 @@ abbrev pub AreKeptOrFailed : Members → Members → (ℕ → ℕ) → (ℕ → 
 AreKeptOrFailed old new before after = (role slot : ℕ) → role + 1 ≤ (final_shape old.newest).disks → holder (role_state (reading_of old) role) ≡ Some slot
     → (holder (role_state (reading_of new) role) ≡ Some slot) ⊎ IsFaulted slot before after
 
--- each spare was one before, or held a role which the new shape hasn't
+-- the slot was a spare, or held a role which the new shape hasn't
+abbrev pub WasSpareOrDropped : Members → ℕ → Type 0
+WasSpareOrDropped old slot = (has_spare old.spares slot ≡ true) ⊎ ((role : ℕ) × ((final_shape old.newest).disks ≤ role) × (holder (role_state (reading_of old) role) ≡ Some slot))
+
+-- so it is of each spare
 abbrev pub AreSparesOrDropped : Members → Members → Type 0
-AreSparesOrDropped old new = (slot : ℕ) → has_spare new.spares slot ≡ true
-    → (has_spare old.spares slot ≡ true) ⊎ ((role : ℕ) × ((final_shape old.newest).disks ≤ role) × (holder (role_state (reading_of old) role) ≡ Some slot))
+AreSparesOrDropped old new = (slot : ℕ) → has_spare new.spares slot ≡ true → WasSpareOrDropped old slot
 
 -- The reshape has ended: no shape in force missed too many roles, and the superblocks say the new shape alone; the list is as long as it has room for, and the same phases are ahead. Each role
 -- that a slot holds is one that it held, and each slot of a dropped role is a spare, as are the former ones, but those slots that failed in it. Nothing is changed on the slots but superblocks.
@@ -73,7 +77,7 @@ pub record IsReshapeEnded {B : Type 0} (tells : Type 0) (given : Given) (tape ta
   pub dropped : AreDroppedSpares old.parts.members new.parts.members before after
   pub spares : AreSparesOrDropped old.parts.members new.parts.members
   pub spares_kept : AreSparesKeptOrFailed old.parts.members new.parts.members before after
-  pub losses : AreLossesOf old.parts.members before after old.parts.entries new.parts.entries
+  pub losses : AreLossesBy (Held old.parts.members) (WasSpareOrDropped old.parts.members) before after old.parts.entries new.parts.entries
   pub never_falls : NeverFalls before after
   pub others : tells → AreOthersPresent (present given tape) (present given tape')
   pub course : new.course ≡ closed 0

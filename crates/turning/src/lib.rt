@@ -9,6 +9,6 @@ pub use beginning::begin_reshape;
 pub use ending::finish_reshape;
 pub use moving_steps::{
     Course, Due, Moving, Room, answer, due_step, enter_all_absent, found_numbers, holds_role,
-    list_sectors, make_room, room_for, steps_left, zeros,
+    list_sectors, make_room, room_for, step, steps_left, write, zeros,
 };
 pub use still_steps::{Opened, Still, first_recovering, still_step};

@@ -47,13 +47,24 @@ holder-without lost slot state held kept =
 abbrev pub ArePassedOn : Members → Members → ℕ → Type 0
 ArePassedOn old new spares = (slot : ℕ) → has_spare old.spares slot ≡ true → (has_spare new.spares slot ≡ true) ⊎ (has_slot spares slot ≡ true)
 
+-- each of these slots was a spare
+abbrev pub WereSpares : Members → ℕ → Type 0
+WereSpares old spares = (slot : ℕ) → has_slot spares slot ≡ true → has_spare old.spares slot ≡ true
+
+-- no slot has become a spare
+abbrev pub AreNoMore : Members → Members → Type 0
+AreNoMore old new = (slot : ℕ) → has_spare new.spares slot ≡ true → has_spare old.spares slot ≡ true
+
 -- members that lost these slots, where each that held a role has failed
 pub since-less : (lost spares : ℕ) (old new : Members) (before after : ℕ → ℕ) → AreLess lost old new
     → ((role slot : ℕ) → holder (role_state (reading_of old) role) ≡ Some slot → has_slot lost slot ≡ true → IsFaulted slot before after)
-    → ((slot : ℕ) → has_slot spares slot ≡ true → IsFaulted slot before after) → ArePassedOn old new spares → HaveFailedSince old new spares before after
-since-less lost spares old new before after less failed spares_failed told = record {
+    → ((slot : ℕ) → has_slot spares slot ≡ true → IsFaulted slot before after) → WereSpares old spares → AreNoMore old new → ArePassedOn old new spares
+    → HaveFailedSince old new spares before after
+since-less lost spares old new before after less failed spares_failed were fewer told = record {
   roles = λ role slot held. by role slot held (has_slot lost slot) refl;
   spares_are = spares_failed;
+  were = were;
+  fewer = fewer;
   told = told;
 }
   where
@@ -65,8 +76,9 @@ since-less lost spares old new before after less failed spares_failed told = rec
     by role slot held true gone = inr (failed role slot held gone)
     by role slot held false kept = inl (ap holder (state-is role) ∙ holder-without lost slot (role_state (reading_of old) role) held kept)
 
-pub since-failed : (old new : Members) (spares : ℕ) (before after : ℕ → ℕ) → AreFailed old new spares before after → ArePassedOn old new spares → HaveFailedSince old new spares before after
-since-failed old new spares before after failed told = since-less new.lost spares old new before after failed.less failed.held failed.failed told
+pub since-failed : (old new : Members) (spares : ℕ) (before after : ℕ → ℕ) → AreFailed old new spares before after → WereSpares old spares → AreNoMore old new → ArePassedOn old new spares
+    → HaveFailedSince old new spares before after
+since-failed old new spares before after failed were fewer told = since-less new.lost spares old new before after failed.less failed.held failed.failed were fewer told
 
 -- a set of slots is made of these two
 pub record IsUnion (u s t : ℕ) : Type 0 where
@@ -79,6 +91,8 @@ pub since-then : (a b c : Members) (s t u : ℕ) (f g h : ℕ → ℕ) → Never
 since-then a b c s t u f g h early late one two either = record {
   roles = λ role slot held. by role slot (one.roles role slot held);
   spares_are = λ slot has. spare slot (either.parts slot has);
+  were = λ slot has. elim (either.parts slot has) [ inl early ↦ one.were slot early | inr late ↦ one.fewer slot (two.were slot late) ];
+  fewer = λ slot is. one.fewer slot (two.fewer slot is);
   told = λ slot has. elim (one.told slot has) [
     | inl still ↦ elim (two.told slot still) [ inl last ↦ inl last | inr late ↦ inr (either.second slot late) ]
     | inr early ↦ inr (either.first slot early)
@@ -120,6 +134,7 @@ lost-since given old new disks was roles spares before after placed moved failed
   gone = λ role has. (parts (nat_lt role disks) (is_vacant (reading_of new) role) (has_slot was role) (sym (newly role) ∙ has)).1;
   held = λ role has. at role (parts (nat_lt role disks) (is_vacant (reading_of new) role) (has_slot was role) (sym (newly role) ∙ has)) (holder (role_state (reading_of old) role)) refl;
   failed = failed.spares_are;
+  were = failed.were;
   told = failed.told;
 }
   where
@@ -199,7 +214,8 @@ holders-flushed given shape old new tape lost before after did flushed told role
 pub since-lost : (given : Given) (shape : Shape) (old new : Members) (lost : ℕ) (before after : ℕ → ℕ) → AreLost given shape old new lost before after → HaveFailedSince old new 0 before after
 since-lost given shape old new lost before after did =
     since-less lost 0 old new before after (subst (λ (m : Members). AreLess lost old m) (sym did.members) (less-without old lost)) (λ role slot held gone. (did.failed slot gone).0)
-    (λ slot has. absurd (let e = none_there slot in cc)) (λ slot has. inl (ap (λ (m : Members). has_spare m.spares slot) did.members ∙ has))
+    (λ slot has. absurd (let e = none_there slot in cc)) (λ slot has. absurd (let e = none_there slot in cc))
+    (λ slot is. ap (λ (m : Members). has_spare m.spares slot) (sym did.members) ∙ is) (λ slot has. inl (ap (λ (m : Members). has_spare m.spares slot) did.members ∙ has))
 
 -- ---- sets of spares
 
@@ -225,7 +241,13 @@ in-second t = record { parts = λ slot has. inr has; first = λ slot has. absurd
 -- ---- nothing was done
 
 pub since-same : (m : Members) (before after : ℕ → ℕ) → HaveFailedSince m m 0 before after
-since-same m before after = record { roles = λ role slot held. inl held; spares_are = λ slot has. absurd (let e = none_there slot in cc); told = λ slot has. inl has }
+since-same m before after = record {
+  roles = λ role slot held. inl held;
+  spares_are = λ slot has. absurd (let e = none_there slot in cc);
+  were = λ slot has. absurd (let e = none_there slot in cc);
+  fewer = λ slot is. is;
+  told = λ slot has. inl has;
+}
 
 -- ---- refusals
 

@@ -1,3 +1,4 @@
+pub mod BearerLaws
 pub mod Counts
 pub mod Fit
 pub mod WholeLaws

@@ -37,7 +37,7 @@ use Rattle.views.proofs.Fit.{valid, multiple}
 
 -- nothing more is told
 pub told-same : (told : Ledger) → IsMoreTold told told
-told-same told = record { size = refl; values = λ x lt v may. may; gone = λ role is. is; unclean = λ is. is; reshaping = λ is. is; carried = λ number is. is }
+told-same told = record { size = refl; values = λ x lt v may. may; gone = λ role is. is; unclean = λ is. is; reshaping = λ is. is; carried = λ slot number is. is }
 
 -- ---- what the newest superblock says
 

@@ -93,19 +93,22 @@ IsUnwritten shape synced members refusal = LacksTooMany shape members refusal �
 abbrev pub HaveRolesFailed : Members → Members → (ℕ → ℕ) → (ℕ → ℕ) → Type 0
 HaveRolesFailed old new before after = (role slot : ℕ) → holder (role_state (reading_of old) role) ≡ Some slot → (holder (role_state (reading_of new) role) ≡ Some slot) ⊎ IsFaulted slot before after
 
--- So it is, and these spares have failed since too; each other spare is one still.
+-- So it is, and these slots, which were spares, have failed since too; each other spare is one still, and no other slot is.
 pub record HaveFailedSince (old new : Members) (spares : ℕ) (before after : ℕ → ℕ) : Type 0 where
   pub roles : HaveRolesFailed old new before after
   pub spares_are : (slot : ℕ) → has_slot spares slot ≡ true → IsFaulted slot before after
+  pub were : (slot : ℕ) → has_slot spares slot ≡ true → has_spare old.spares slot ≡ true
+  pub fewer : (slot : ℕ) → has_spare new.spares slot ≡ true → has_spare old.spares slot ≡ true
   pub told : (slot : ℕ) → has_spare old.spares slot ≡ true → (has_spare new.spares slot ≡ true) ⊎ (has_slot spares slot ≡ true)
 
 -- Each role that no slot holds now had none before, or is one of these; no slot holds these now, and the slot of each has failed since, as have
--- these spares; each other spare is one still.
+-- these, which were spares; each other spare is one still.
 pub record AreLostSince (old new : Members) (roles spares : ℕ) (before after : ℕ → ℕ) : Type 0 where
   pub vacant : (role : ℕ) → role < role_count new.newest → is_vacant (reading_of new) role ≡ true → (is_vacant (reading_of old) role ≡ true) ⊎ (has_slot roles role ≡ true)
   pub gone : (role : ℕ) → has_slot roles role ≡ true → is_vacant (reading_of new) role ≡ true
   pub held : (role : ℕ) → has_slot roles role ≡ true → (slot : ℕ) × (holder (role_state (reading_of old) role) ≡ Some slot) × IsFaulted slot before after
   pub failed : (slot : ℕ) → has_slot spares slot ≡ true → IsFaulted slot before after
+  pub were : (slot : ℕ) → has_slot spares slot ≡ true → has_spare old.spares slot ≡ true
   pub told : (slot : ℕ) → has_spare old.spares slot ≡ true → (has_spare new.spares slot ≡ true) ⊎ (has_slot spares slot ≡ true)
 
 -- ---- the list on the members that are there

@@ -1,20 +1,34 @@
--- The device numbers that superblocks of an array bear.
-use Rattle.std.specs.Prelude.{◌≡◌, ℕ, ◌+◌, ◌-◌, ◌^◌, ◌<◌, ◌≤◌, Bool, true, not, ◌&&◌, nat_le, List, ◌++◌, length, take, replicate, slice_index, slice_index_or, bit_and, decimal, bytes_eq, Option, Some}
+-- The device numbers that superblocks of an array may bear.
+use Rattle.std.specs.Prelude.{◌≡◌, ℕ, ◌+◌, ◌-◌, ◌^◌, ◌<◌, ◌≤◌, Bool, true, not, ◌&&◌, ◌||◌, ◌==◌, if◌then◌else◌, nat_le, nat_lt, List, ◌++◌, length, take, replicate, slice_index, slice_index_or, bit_and, decimal, bytes_eq, Option, Some}
 use Rattle.sha1.specs.Sha1.{sha1}
 use Rattle.uuid.specs.Parts.{with_version, with_variant}
 use Rattle.uuid.specs.declared.Variant.TheVariants.{RFC4122}
 use Rattle.uuid.specs.declared.Version.TheVariants.{Sha1}
 use Rattle.md_base.specs.Sectors.{Sector}
-use Rattle.md_base.specs.Search.{least_below}
+use Rattle.md_base.specs.Search.{least_below, tabulate}
+use Rattle.md_base.specs.Shapes.{has_slot}
 use Rattle.sb1.specs.declared.sb.Sb.{Sb}
 use Rattle.sb1.specs.Superblock.{two_by_two}
 use Rattle.bank.specs.Given.{Given, sizes}
+use Rattle.shape_changes.specs.superblocks_Outcome.{set_of}
 use Rattle.shape_changes.specs.superblocks_Reading.{Scope, is_seen, entry_of}
 use Rattle.views.specs.declared.work.Work.{Work}
 
--- a superblock of the array bears the number; one from 128 on counts as such
+-- the slot's superblock may bear the number; one from 128 on counts as such
+abbrev pub bears : Work → ℕ → ℕ → Bool
+bears work slot number = nat_le 128 number || (nat_lt slot 32 && has_slot (slice_index work.carried number) slot)
+
+-- some slot's superblock may
 abbrev pub is_carried : Work → ℕ → Bool
-is_carried work number = slice_index_or work.carried number true
+is_carried work number = not (slice_index_or work.carried number 1 == 0)
+
+-- Of these slots, which may bear a number, those that may once this one bears a new number: it may bear that one too, or bears it only.
+abbrev pub bearers : Bool → ℕ → Bool → ℕ → ℕ
+bearers only slot is slots = set_of 32 (λ s. if s == slot then is || (not only && has_slot slots s) else has_slot slots s)
+
+-- the slots that may bear each number then
+abbrev pub bearing : Bool → ℕ → ℕ → Work → Work
+bearing only slot number work = record work { carried = tabulate 128 (λ n. bearers only slot (n == number) (slice_index work.carried n)) }
 
 -- the uuid of a device: version 5, of the array's uuid and the decimal digits of the device's number
 abbrev pub device_uuid : List ℕ → ℕ → List ℕ
@@ -73,6 +87,6 @@ pub record AreSecondEntries (entries : List ℕ) (sector : Sector) : Type 0 wher
   pub bytes : (k : ℕ) → slice_index sector k < 256
   pub entries_are : two_by_two sector ≡ entries
 
--- the smallest number that none bears and that has no role
+-- the smallest number that none may bear and that has no role
 abbrev pub free_number : Sb → Work → Option ℕ
 free_number newest work = least_below 128 (λ number. not (is_carried work number) && nat_le 0xfffe (entry_of newest number))

@@ -105,5 +105,6 @@ since-later old new roles spares a b c first second since = record {
   gone = since.gone;
   held = λ role has. let h = since.held role has in (h.0, h.1, faulted_longer h.0 a a b c (omega arith) (second h.0) (first h.0) h.2);
   failed = λ slot has. faulted_longer slot a a b c (omega arith) (second slot) (first slot) (since.failed slot has);
+  were = since.were;
   told = since.told;
 }

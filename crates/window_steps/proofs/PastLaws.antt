@@ -133,7 +133,7 @@ free-moved given old new span moved free = moved.free (past-free given old span 
 
 -- what has failed since is the same, wherever the position stands
 pub since-past : (m new : Members) (span : Span) (spares : ℕ) (before after : ℕ → ℕ) → HaveFailedSince (moved_past span m) new spares before after → HaveFailedSince m new spares before after
-since-past m new span spares before after since = record { roles = since.roles; spares_are = since.spares_are; told = since.told }
+since-past m new span spares before after since = record { roles = since.roles; spares_are = since.spares_are; were = since.were; fewer = since.fewer; told = since.told }
 
 -- what is told of the end is told of what was before
 pub gone-past : (given : Given) (old new : Members) (span : Span) → IsPlaced given old → next_window old.newest ≡ Some span → IsMoved given (moved_past span old) new → (told : Ledger) → AreGoneTold told new

@@ -35,10 +35,10 @@ use Rattle.window_steps.specs.Laws.{SectionsStaySteady, ClearingStaysSteady, Cop
 -- ---- the superblocks
 
 -- the device numbers that slots may show, which show one only where they are looked at
-carried-no-newer : (scope : Scope) (told : ℕ → Bool) (own : List (Option Sb)) (d e : Disk) → AreNoNewer scope d e → AreCarried scope told own d → AreCarried scope told own e
+carried-no-newer : (scope : Scope) (told : ℕ → ℕ → Bool) (own : List (Option Sb)) (d e : Disk) → AreNoNewer scope d e → AreCarried scope told own d → AreCarried scope told own e
 carried-no-newer scope told own d e fewer are = record { kept = are.kept; shown = λ slot sb may. by slot sb may (is_seen scope slot) refl }
   where
-    by : (slot : ℕ) (sb : Sb) → MayRead scope e slot (Some sb) → (b : Bool) → is_seen scope slot ≡ b → told sb.dev_number ≡ true
+    by : (slot : ℕ) (sb : Sb) → MayRead scope e slot (Some sb) → (b : Bool) → is_seen scope slot ≡ b → told slot sb.dev_number ≡ true
     by slot sb may true seen = are.shown slot sb (record { at = may.at; eighth = fewer.eighth slot (may.at 8) seen may.eighth; ninth = fewer.ninth slot (may.at 9) seen may.ninth; is = may.is })
     by slot sb may false unseen = absurd (
         let none : ◌≡◌ {A = Option Sb} None (Some sb) = sym (λ i. of_array scope.uuid (cond (unseen i) (superblock_in (scope.sizes.sectors slot) may.at) None)) ∙ may.is in cc)
@@ -152,7 +152,7 @@ record IsToZero (d e : Disk) (members : Members) : Type 0 where
 
 -- the same is told
 pub told-alike : (told : Ledger) → IsMoreTold told told
-told-alike told = record { size = refl; values = λ x lt v may. may; gone = λ role is. is; unclean = λ is. is; reshaping = λ is. is; carried = λ number is. is }
+told-alike told = record { size = refl; values = λ x lt v may. may; gone = λ role is. is; unclean = λ is. is; reshaping = λ is. is; carried = λ slot number is. is }
 
 module _ (sound : Type 0) (scope : Scope) (given : Given) (told : Ledger) (d e : Disk) (some : IsSomewhere d) where
   copied-steady : (span : Span) (members : Members) → IsCopyable scope members span d → IsCopying members span d e

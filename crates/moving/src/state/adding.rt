@@ -11,12 +11,12 @@ ghost use Rattle.flat_history.specs.declared.events.Request.TheVariants.{Add as 
 ghost use Rattle.moving_laws.specs.shape_changes_Marking.{AreOthersPresent};
 ghost use Rattle.views.specs.Lacking.{HaveRolesFailed, AreUnnamed};
 ghost use Rattle.views.specs.Numbers.{free_number};
-ghost use Rattle.moving_laws.specs.array_kept_Calls.{IsUnaddable, IsAddedFor, IsAddedAs, IsAnswered, OnNoMemory};
+ghost use Rattle.moving_laws.specs.array_kept_Calls.{IsUnaddable, IsAddedFor, IsAddedAs, AreNumbersBorne, IsAnswered, OnNoMemory};
 ghost use Rattle.moving_laws.specs.running_words_Adding.{IsAddCalled};
 
 use crate::state::Moving;
 use array_state::adding::{spare_for, unaddable};
-use array_state::{add_member, free_number, look_at};
+use array_state::{add_member, bear, free_number, look_at};
 use bank::Bank;
 use call_entries::calls::{check_number, enter, enter_behind};
 use flat_history::Event;
@@ -46,6 +46,7 @@ impl<B: Bank> Moving<B> {
         ensures unchanged { OnNoMemory result (self.new ≡ self.old) }
         ensures caused { IsAddedFor (B.given self.old.parts.bank) self.old.parts.backup slot self.old.parts.members self.new.parts.members (B.faults_of self.old.parts.bank) (B.faults_of self.new.parts.bank) result }
         ensures stored { OnOk result (IsAddedAs self.old.parts.members self.old.parts.work self.new.parts.members slot) }
+        ensures numbers { AreNumbersBorne self.old.parts.members.newest slot self.old.parts.work self.new.parts.work result }
         ensures called { IsAddCalled B.tells (B.given self.old.parts.bank) (B.tape self.old.parts.bank) (B.tape self.new.parts.bank) (B.faults_of self.old.parts.bank) (B.faults_of self.new.parts.bank) slot self.old self.new }
         ensures others { B.tells → AreOthersPresent (present (B.given self.old.parts.bank) (B.tape self.old.parts.bank)) (present (B.given self.old.parts.bank) (B.tape self.new.parts.bank)) }
         ensures clean { is_clean self.new.parts.members.newest ≡ is_clean self.old.parts.members.newest }
@@ -67,7 +68,6 @@ impl<B: Bank> Moving<B> {
         };
         let uuid = &self.epoch.uuid;
         let sb = spare_for(&self.members, &self.bank, uuid, slot, number, &second);
-        self.work.carried[number as usize] = true;
         let count = self.members.roles.len() as u32;
         let before = vacant_roles(&self.members, count);
         let lost = add_member(&mut self.members, &mut self.bank, slot, &sb);
@@ -75,17 +75,19 @@ impl<B: Bank> Moving<B> {
         let spares = without(lost, with(0, slot));
         let end = self.bank.ops();
         if contains(lost, slot) {
+            bear(&mut self.work, slot, number, false);
             let event = Event::Refused { refusal };
             enter_behind(&mut self.epoch, who, end, roles, spares, event);
             return Err(Fault::Refused(refusal));
         }
+        bear(&mut self.work, slot, number, true);
         let event = Event::Added { slot };
         enter_behind(&mut self.epoch, who, end, roles, spares, event);
         Ok(())
     }
 
     /// Makes a slot a spare, which gets no role until the reshape is over: flushes it, and writes its superblock, with the smallest
-    /// device number that has no role and that no superblock of the array bears, and with the data offset of the slot that holds the
+    /// device number that has no role and that no superblock of the array may bear, and with the data offset of the slot that holds the
     /// lowest role. Refusals, in this order: `NoSuchSlot`, `SlotTaken`, `TooManyMissing` (of either shape), `SlotTooSmall` and
     /// `SlotFault`. Where no number is left, or the slot was lost by command and the superblocks still name a role of another one that
     /// failed, as they may until the next call that goes on, it counts as want of memory.
@@ -96,6 +98,7 @@ impl<B: Bank> Moving<B> {
         ensures unchanged { OnNoMemory result (self.new ≡ self.old) }
         ensures caused { IsAddedFor (B.given self.old.parts.bank) self.old.parts.backup slot self.old.parts.members self.new.parts.members (B.faults_of self.old.parts.bank) (B.faults_of self.new.parts.bank) result }
         ensures stored { OnOk result (IsAddedAs self.old.parts.members self.old.parts.work self.new.parts.members slot) }
+        ensures numbers { AreNumbersBorne self.old.parts.members.newest slot self.old.parts.work self.new.parts.work result }
         ensures called { IsAddCalled B.tells (B.given self.old.parts.bank) (B.tape self.old.parts.bank) (B.tape self.new.parts.bank) (B.faults_of self.old.parts.bank) (B.faults_of self.new.parts.bank) slot self.old self.new }
         ensures others { B.tells → AreOthersPresent (present (B.given self.old.parts.bank) (B.tape self.old.parts.bank)) (present (B.given self.old.parts.bank) (B.tape self.new.parts.bank)) }
         ensures clean { is_clean self.new.parts.members.newest ≡ is_clean self.old.parts.members.newest }

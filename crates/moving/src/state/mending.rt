@@ -16,8 +16,8 @@ ghost use Rattle.moving_laws.specs.running_words_Parts.{left_in};
 ghost use Rattle.moving_laws.specs.running_words_Calls.{moving_world, IsStepTaken};
 ghost use Rattle.moving_laws.specs.Mending.{IsMendDue, IsResyncEndDue, IsMendCalled, AreRowsGood};
 
-use crate::state::moves::check_going;
-use crate::state::{Moving, steps_left};
+use crate::state::going::check_going;
+use crate::state::{Moving, all_left};
 use bank::Bank;
 use call_entries::calls::{enter, enter_behind};
 use flat_history::{Event, StepKind};
@@ -72,7 +72,7 @@ impl<B: Bank> Moving<B> {
         }
         self.work.resync = Some(stripes + 1);
         let kind = StepKind::ResyncStripe;
-        let left = steps_left(&self.members, &self.work, &self.course, &self.ahead);
+        let left = all_left(&self.members, &self.work, &self.course, &self.ahead);
         let event = Event::Step { kind, left };
         enter_behind(&mut self.epoch, who, end, roles, mended.spares, event);
         Ok(())
@@ -118,7 +118,7 @@ impl<B: Bank> Moving<B> {
         }
         self.work.resync = None;
         let kind = StepKind::ResyncEnded;
-        let left = steps_left(&self.members, &self.work, &self.course, &self.ahead);
+        let left = all_left(&self.members, &self.work, &self.course, &self.ahead);
         let event = Event::Step { kind, left };
         enter_behind(&mut self.epoch, who, end, lost, settled.spares, event);
         Ok(())

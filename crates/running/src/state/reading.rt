@@ -50,7 +50,7 @@ impl<B: Bank> Running<B> {
     {
         match &mut self.state {
             State::Still(still) => {
-                let done = still.read(who, at, into);
+                let done = takeover::read(still, who, at, into);
                 check_still(still);
                 done
             }

@@ -45,7 +45,7 @@ impl<B: Bank> Running<B> {
         let State::Moving(moving) = &mut self.state else {
             unreachable!()
         };
-        let done = moving.step(who);
+        let done = growing::step(moving, who);
         check_moving(moving);
         done
     }

@@ -61,12 +61,12 @@ impl<B: Bank> Running<B> {
     {
         match &mut self.state {
             State::Still(still) => {
-                let done = still.write(who, at, from);
+                let done = takeover::write(still, who, at, from);
                 check_still(still);
                 done
             }
             State::Moving(moving) => {
-                let done = moving.write(who, at, from);
+                let done = growing::write(moving, who, at, from);
                 check_moving(moving);
                 done
             }

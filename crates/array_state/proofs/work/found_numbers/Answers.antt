@@ -6,7 +6,7 @@ pub loop-number-init : goal.loop-number-init
 loop-number-init c = record { long = refl; each = λ number lt. absurd (omega (arith, lt)) }
 
 pub loop-number-preserved : goal.loop-number-preserved
-loop-number-preserved c = numbers-set c.args.members.now.own c.loop-number.number c.loop-number.carried c.is_number.result c.loop-number.invariant c.loop-number-test.true c.is_number.ensures
+loop-number-preserved c = numbers-set c.args.members.now.own c.loop-number.number c.loop-number.carried c.bearers.result c.loop-number.invariant c.loop-number-test.true c.bearers.ensures
 
 pub returns-clause-numbers : goal.returns-clause-numbers
 returns-clause-numbers c =

@@ -4,6 +4,7 @@ use Rattle.flat_history.specs.Plain.{entries_of}
 use Rattle.still_kept.proofs.array_kept_LossLaws.{ended-behind}
 use Rattle.still_kept.proofs.array_kept_ReadyLaws.{scope-same}
 use Rattle.moving.specs.views_Rebuilding.{Held}
+use Rattle.still_kept.specs.array_kept_Calls.{WasSpare}
 use Rattle.moving.specs.kept_history_Recorded.{IsCallGoing}
 use Rattle.moving.proofs.running_words_Called.{called, alone-lossless}
 use Rattle.moving.proofs.moving_laws_Kept.{ready, shapes-same}
@@ -43,7 +44,7 @@ returns-clause-called g c =
     let reply : IsReplyInReshape p.work p.members course p.ahead c.args.event = subst (λ s. IsReplyInReshape s.parts.work s.parts.members s.course s.ahead c.args.event) c.take_apart-pieces.ensures.same c.requires.reply in
     called-as g.B.Bank.given g.B.Bank.tape g.B.Bank.faults_of c.args.moving c.of_pieces.result _ _ c.take_apart-pieces.ensures.same c.of_pieces.ensures.same (called (grows-none (λ t. refl)) (moved-same given given p.members p.members refl refl was.kept.members_are.placed was.kept.members_are.unlost)
     (ended-behind (g.B.Bank.tape p.bank) c.enter.new.epoch.first p.epoch.entries.items c.args.who end [] c.args.event c.enter.ensures.items c.ops-end.ensures.count)
-    (alone-lossless p.members faults faults p.epoch.entries.items p.epoch.entries.items c.enter.new.epoch.entries.items c.args.who end c.args.event (reply-lossless p.work p.members course p.ahead (Held p.members) faults faults c.args.event reply) refl c.enter.ensures.items)
+    (alone-lossless p.members faults faults p.epoch.entries.items p.epoch.entries.items c.enter.new.epoch.entries.items c.args.who end c.args.event (reply-lossless p.work p.members course p.ahead (Held p.members) (WasSpare p.members) faults faults c.args.event reply) refl c.enter.ensures.items)
     (λ slot. omega arith)
     (record { uuid = c.enter.ensures.uuid; given = c.enter.ensures.given; first = c.enter.ensures.first; backup = refl; work = refl; ahead = refl; limit = refl })
     (λ t. (was.kept.recorded t).begun))

@@ -81,7 +81,7 @@ returns-then-count-eq0-clause-went g c =
     let new = c.answer.new.self in
     let a = c.answer.ensures in
     gone-answered g.B.Bank.tells g.B.Bank.given g.B.Bank.tape g.B.Bank.faults_of old mid new c.args.who (Refused Nothing) a.entered.end (gone-room g.B.Bank.tells g.B.Bank.given g.B.Bank.tape g.B.Bank.faults_of old mid c.in-Some.room c.in-Ok.ensures.room)
-    a.entered.is a.bank a.members a.called.same.ahead (epoch-of mid new a.called.same) (λ n. refl) (λ Had before now. tt) tt
+    a.entered.is a.bank a.members a.called.same.ahead (epoch-of mid new a.called.same) (λ n. refl) (λ Had Was before now. tt) tt
 
 pub returns-clause-went : goal.returns-clause-went
 returns-clause-went g c =
@@ -93,7 +93,7 @@ returns-clause-went g c =
     let a = c.answer-2.ensures in
     gone-answered g.B.Bank.tells g.B.Bank.given g.B.Bank.tape g.B.Bank.faults_of old mid new c.args.who (Stepped c.take_steps-done.result.done c.left-left.result c.take_steps-done.result.ended) a.entered.end
     (gone-behind g.B.Bank.tells g.B.Bank.given g.B.Bank.tape g.B.Bank.faults_of old begun mid c.in-Some.room c.in-Ok.ensures.room s.went)
-    a.entered.is a.bank a.members a.called.same.ahead (epoch-of mid new a.called.same) (λ n. refl) (λ Had before now. tt)
+    a.entered.is a.bank a.members a.called.same.ahead (epoch-of mid new a.called.same) (λ n. refl) (λ Had Was before now. tt)
     (subst (λ b. IfSome c.take_steps-done.result.ended (IsRefusalBy b.parts.backup (g.B.Bank.faults_of b.parts.bank) (g.B.Bank.faults_of mid.parts.bank))) c.in-Ok.ensures.room s.cause)
 
 pub returns-in_default-clause-kept : goal.returns-in_default-clause-kept

@@ -30,7 +30,7 @@ returns-then-left-eq0-clause-went g c =
     let new = c.answer.new.self in
     let a = c.answer.ensures in
     gone-answered g.B.Bank.tells g.B.Bank.given g.B.Bank.tape g.B.Bank.faults_of old mid new c.args.who (Refused Nothing) a.entered.end (gone-room g.B.Bank.tells g.B.Bank.given g.B.Bank.tape g.B.Bank.faults_of old mid 2 c.in-Ok.ensures.room)
-    a.entered.is a.bank a.members a.called.same.ahead (epoch-of mid new a.called.same) (λ n. refl) (λ Had before now. tt) tt
+    a.entered.is a.bank a.members a.called.same.ahead (epoch-of mid new a.called.same) (λ n. refl) (λ Had Was before now. tt) tt
 
 pub returns-in-Ok-take_step-clause-went : goal.returns-in-Ok-take_step-clause-went
 returns-in-Ok-take_step-clause-went g c =

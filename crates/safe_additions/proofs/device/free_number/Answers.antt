@@ -1,4 +1,4 @@
-use Rattle.std.proofs.Common.{◌≡◌, ◌<◌, ◌≤◌, ◌&&◌, ℕ, Bool, true, false, not, nat_le, length, sym, ◌∙◌, ap, ap₂, arith, below_more}
+use Rattle.std.proofs.Common.{◌≡◌, ◌<◌, ◌≤◌, ◌==◌, ◌&&◌, ℕ, Bool, true, false, not, nat_le, get_or, length, sym, ◌∙◌, ap, ap₂, arith, below_more}
 use Rattle.std.proofs.lemmas.Bool.Decides.{nat_tests}
 use Rattle.std.proofs.lemmas.List.{get_or_default}
 use Rattle.md_base.proofs.Least.{least_below-none}
@@ -6,7 +6,7 @@ use Rattle.superblocks.specs.Reading.{entry_of}
 use Rattle.superblocks.proofs.Searches.{least_below-first}
 use Rattle.views.specs.Numbers.{is_carried}
 use Rattle.safe_additions.proofs.device.free_number.Goals as goal
-use Rattle.safe_additions.proofs.device.free_number.Goals.{else-not-work-number-via-then-not-work-number+else-entry_of-ge65534, else-not-work-number-via-else-not-work-number}
+use Rattle.safe_additions.proofs.device.free_number.Goals.{else-work-number-eq0-via-then-work-number-eq0+else-entry_of-ge65534, else-work-number-eq0-via-else-work-number-eq0}
 
 at-most : (a b : ℕ) → a ≤ b → nat_le a b ≡ true
 at-most a b le = grind (arith, nat_tests)
@@ -17,6 +17,12 @@ above a b lt = grind (arith, nat_tests)
 not-last : (b : Bool) → (not b && false) ≡ false
 not-last b = grind (arith)
 
+some : (set : ℕ) → 0 < set → not (set == 0) ≡ true
+some set lt = grind (arith, nat_tests, lt)
+
+nothing : (set : ℕ) → set ≡ 0 → not (set == 0) ≡ false
+nothing set is = grind (arith, nat_tests, is)
+
 pub loop-number-preserved : goal.loop-number-preserved
 loop-number-preserved c = below_more _ _ c.loop-number.invariant here
   where
@@ -24,20 +30,20 @@ loop-number-preserved c = below_more _ _ c.loop-number.invariant here
     small = let lt = c.loop-number-test.true in omega (arith, lt)
 
     here : (not (is_carried c.args.work.now c.loop-number.number) && nat_le 0xfffe (entry_of c.args.newest.now c.loop-number.number)) ≡ false
-    here = elim c.else-not-work-number.branch [
-      | else-not-work-number-via-then-not-work-number+else-entry_of-ge65534 w ↦
+    here = elim c.else-work-number-eq0.branch [
+      | else-work-number-eq0-via-then-work-number-eq0+else-entry_of-ge65534 w ↦
           ap (λ (b : Bool). not (is_carried c.args.work.now c.loop-number.number) && b) (above 0xfffe (entry_of c.args.newest.now c.loop-number.number) (omega arith))
           ∙ not-last (is_carried c.args.work.now c.loop-number.number)
-      | else-not-work-number-via-else-not-work-number w ↦
+      | else-work-number-eq0-via-else-work-number-eq0 w ↦
           ap (λ (b : Bool). not b && nat_le 0xfffe (entry_of c.args.newest.now c.loop-number.number))
-          (get_or_default c.args.work.now.carried c.loop-number.number true false small ∙ w.if-not-work-number.false)
+          (some (get_or c.args.work.now.carried c.loop-number.number 1) (let set = get_or_default c.args.work.now.carried c.loop-number.number 1 0 small in let differ = w.if-work-number-eq0.false in omega (arith, set, differ)))
     ]
 
 pub returns-then-entry_of-ge65534-clause-number : goal.returns-then-entry_of-ge65534-clause-number
 returns-then-entry_of-ge65534-clause-number c =
     let small : c.loop-number.number < length c.args.work.now.carried = (let lt = c.loop-number-test.true in omega (arith, lt)) in
     sym (least_below-first 128 (λ number. not (is_carried c.args.work.now number) && nat_le 0xfffe (entry_of c.args.newest.now number)) c.loop-number.number c.loop-number-test.true
-    (ap₂ (λ (a b : Bool). not a && b) (get_or_default c.args.work.now.carried c.loop-number.number true false small ∙ c.if-not-work-number.true)
+    (ap₂ (λ (a b : Bool). not a && b) (nothing (get_or c.args.work.now.carried c.loop-number.number 1) (get_or_default c.args.work.now.carried c.loop-number.number 1 0 small ∙ c.if-work-number-eq0.true))
     (at-most 0xfffe (entry_of c.args.newest.now c.loop-number.number) (omega arith)))
     c.loop-number.invariant)
 

@@ -15,7 +15,7 @@ use Rattle.views.proofs.shape_changes_Kept.{give_of-same}
 use Rattle.views.proofs.MovedLaws.{moved-less}
 use Rattle.views.proofs.Fit.{few}
 use Rattle.safe_updates.proofs.Under.{rest-touched}
-use Rattle.safe_updates.proofs.SparesLaws.{spare-left, spare-stays, free-told}
+use Rattle.safe_updates.proofs.SparesLaws.{spare-left, spare-stays, free-told, told-were}
 use Rattle.views.proofs.MarkedLaws.{grows-marks, others-updated, failed-marked}
 use Rattle.views.proofs.LackingLaws.{since-failed, holders-updated}
 use Rattle.views.specs.flat_history_Sound.{OpensFit}
@@ -54,6 +54,13 @@ returns-clause-failed g c =
     let parts = both (has_slot c.mark-lost.result slot) (not (has_slot c.holders-held.result slot)) (sym (c.without.ensures slot below) ∙ has) in
     let lost = both (has_slot c.mark-lost.new.members.lost slot) (not (has_slot c.args.members.now.lost slot)) (sym (did.result slot) ∙ parts.0) in
     (lost.0, flip (has_slot c.args.members.now.lost slot) lost.1)))
+    (λ slot has.
+    let below : slot < 32 = small slot has in
+    let parts = both (has_slot c.mark-lost.result slot) (not (has_slot c.holders-held.result slot)) (sym (c.without.ensures slot below) ∙ has) in
+    let lost = both (has_slot c.mark-lost.new.members.lost slot) (not (has_slot c.args.members.now.lost slot)) (sym (did.result slot) ∙ parts.0) in
+    told-were c.args.members.now (marking c.args.members.now c.args.clean) c.holders-held.result slot refl c.holders-held.ensures
+    (did.losses.live slot lost.0 (flip (has_slot c.args.members.now.lost slot) lost.1)) (flip (has_slot c.holders-held.result slot) parts.1))
+    (λ slot has. (spare-left c.args.members.now c.args.clean c.mark-lost.new.members.lost c.mark-lost.new.members.spares did.marked.spares slot has).0)
     (λ slot has.
     let free = c.requires.free slot has in
     elim (free-told c.args.members.now c.holders-held.result c.mark-lost.new.members.lost c.mark-lost.result c.without.result slot free c.holders-held.ensures (did.result slot) (c.without.ensures slot free.room.small)) [

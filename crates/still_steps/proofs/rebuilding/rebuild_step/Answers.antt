@@ -5,7 +5,7 @@ use Rattle.still.specs.flat_history_the_StepKind_TheVariants.{RebuildTaken, Rebu
 use Rattle.still.specs.running_words_Parts.{still_left}
 use Rattle.still.specs.array_kept_Calls.{IsHeldOrGiven}
 use Rattle.still.specs.views_Rebuilding.{Held}
-use Rattle.still_steps.specs.Rebuilding.{first_recovering, first_vacant, first_spare, IsRebuildNext, IsHeldOrNext, rebuild_kind}
+use Rattle.still.specs.Rebuilding.{first_recovering, first_vacant, first_spare, IsRebuildNext, IsHeldOrNext, rebuild_kind}
 use Rattle.still_steps.proofs.RebuildParts.{disks-as, roles-as, role-below, less-as, most-as, stripe-no-end, stripe-not-taken, end-not-taken, taken-no-end, work-as, work-same, whole-at}
 use Rattle.still_steps.proofs.RebuildLaws.{not-taking, given-to, found-below, found-recovered, role-recovered, kind-filled, kind-ended, kind-taken, IsTaking, takes-next, entered-as, kept-stepped, not-end, at-end}
 use Rattle.still_steps.proofs.NextLaws.{stepped-wider}
@@ -35,14 +35,14 @@ pub returns-then-rebuilt-stripes-clause-entered : goal.returns-then-rebuilt-stri
 returns-then-rebuilt-stripes-clause-entered g c =
     let s = c.fill_stripe in
     let lowest = found c.first_recovering.ensures c.members.ensures c.in-Some.is in
-    entered-as c.args.who c.args.still.now.parts.entries s.new.self.parts.entries c.args.still.now.parts.members s.new.self.parts.members c.args.still.now.parts.work RebuildStripe c.in-Some.role (still_left s.new.self.parts.work s.new.self.parts.members s.new.self.ahead) s.result
+    entered-as c.args.who c.args.still.now.parts.entries s.new.still.parts.entries c.args.still.now.parts.members s.new.still.parts.members c.args.still.now.parts.work RebuildStripe c.in-Some.role (still_left s.new.still.parts.work s.new.still.parts.members s.new.still.ahead) s.result
     (kind-filled c.args.still.now.parts.work c.args.still.now.parts.members c.in-Some.role lowest (less-as c.if-rebuilt-stripes.true c.rebuilt.ensures c.stripes.ensures))
     (role-recovered c.args.still.now.parts.work c.args.still.now.parts.members c.in-Some.role lowest) s.ensures.entered
 
 pub returns-then-rebuilt-stripes-clause-list : goal.returns-then-rebuilt-stripes-clause-list
 returns-then-rebuilt-stripes-clause-list g c =
     let s = c.fill_stripe in
-    kept-stepped c.args.who c.args.still.now.parts.entries s.new.self.parts.entries s.new.self.parts.members c.in-Some.role RebuildStripe (still_left s.new.self.parts.work s.new.self.parts.members s.new.self.ahead) s.result s.ensures.entered
+    kept-stepped c.args.who c.args.still.now.parts.entries s.new.still.parts.entries s.new.still.parts.members c.in-Some.role RebuildStripe (still_left s.new.still.parts.work s.new.still.parts.members s.new.still.ahead) s.result s.ensures.entered
 
 pub returns-then-rebuilt-stripes-clause-good : goal.returns-then-rebuilt-stripes-clause-good
 returns-then-rebuilt-stripes-clause-good g c =
@@ -53,14 +53,14 @@ pub returns-in-Some-clause-entered : goal.returns-in-Some-clause-entered
 returns-in-Some-clause-entered g c =
     let s = c.end_rebuild in
     let lowest = found c.first_recovering.ensures c.members.ensures c.in-Some.is in
-    entered-as c.args.who c.args.still.now.parts.entries s.new.self.parts.entries c.args.still.now.parts.members s.new.self.parts.members c.args.still.now.parts.work RebuildEnded c.in-Some.role (still_left s.new.self.parts.work s.new.self.parts.members s.new.self.ahead) s.result
+    entered-as c.args.who c.args.still.now.parts.entries s.new.still.parts.entries c.args.still.now.parts.members s.new.still.parts.members c.args.still.now.parts.work RebuildEnded c.in-Some.role (still_left s.new.still.parts.work s.new.still.parts.members s.new.still.ahead) s.result
     (kind-ended c.args.still.now.parts.work c.args.still.now.parts.members c.in-Some.role lowest (most-as c.if-rebuilt-stripes.false c.rebuilt.ensures c.stripes.ensures))
     (role-recovered c.args.still.now.parts.work c.args.still.now.parts.members c.in-Some.role lowest) s.ensures.entered
 
 pub returns-in-Some-clause-list : goal.returns-in-Some-clause-list
 returns-in-Some-clause-list g c =
     let s = c.end_rebuild in
-    kept-stepped c.args.who c.args.still.now.parts.entries s.new.self.parts.entries s.new.self.parts.members c.in-Some.role RebuildEnded (still_left s.new.self.parts.work s.new.self.parts.members s.new.self.ahead) s.result s.ensures.entered
+    kept-stepped c.args.who c.args.still.now.parts.entries s.new.still.parts.entries s.new.still.parts.members c.in-Some.role RebuildEnded (still_left s.new.still.parts.work s.new.still.parts.members s.new.still.ahead) s.result s.ensures.entered
 
 pub returns-in-Some-clause-good : goal.returns-in-Some-clause-good
 returns-in-Some-clause-good g c = at-end _ (rebuild_kind c.args.still.now.parts.work c.args.still.now.parts.members) c.end_rebuild.result c.end_rebuild.ensures.good
@@ -92,13 +92,13 @@ returns-clause-entered g c =
     let s = c.take_role in
     let next = taken c.first_recovering.ensures c.members.ensures c.in_default.is c.requires.pending (c.first_vacant.ensures ∙ ap first_vacant c.members-2.ensures) c.unwrap_or-role.ensures
     (c.first_spare.ensures ∙ ap first_spare c.members-3.ensures) c.unwrap_or-slot.ensures in
-    entered-as c.args.who c.args.still.now.parts.entries s.new.self.parts.entries c.args.still.now.parts.members s.new.self.parts.members c.args.still.now.parts.work RebuildTaken c.unwrap_or-role.result (still_left s.new.self.parts.work s.new.self.parts.members s.new.self.ahead) s.result
+    entered-as c.args.who c.args.still.now.parts.entries s.new.still.parts.entries c.args.still.now.parts.members s.new.still.parts.members c.args.still.now.parts.work RebuildTaken c.unwrap_or-role.result (still_left s.new.still.parts.work s.new.still.parts.members s.new.still.ahead) s.result
     (kind-taken c.args.still.now.parts.work c.args.still.now.parts.members (ap first_recovering (sym c.members.ensures) ∙ sym c.first_recovering.ensures ∙ c.in_default.is)) next.role_is s.ensures.entered
 
 pub returns-clause-list : goal.returns-clause-list
 returns-clause-list g c =
     let s = c.take_role in
-    kept-stepped c.args.who c.args.still.now.parts.entries s.new.self.parts.entries s.new.self.parts.members c.unwrap_or-role.result RebuildTaken (still_left s.new.self.parts.work s.new.self.parts.members s.new.self.ahead) s.result s.ensures.entered
+    kept-stepped c.args.who c.args.still.now.parts.entries s.new.still.parts.entries s.new.still.parts.members c.unwrap_or-role.result RebuildTaken (still_left s.new.still.parts.work s.new.still.parts.members s.new.still.ahead) s.result s.ensures.entered
 
 -- ---- who had the roles, and who has one
 
@@ -106,8 +106,8 @@ pub returns-then-rebuilt-stripes-clause-stepped : goal.returns-then-rebuilt-stri
 returns-then-rebuilt-stripes-clause-stepped g c =
     let s = c.fill_stripe in
     let given = g.B.Bank.given c.args.still.now.parts.bank in
-    stepped-wider g.B.Bank.tells given (g.B.Bank.tape c.args.still.now.parts.bank) (g.B.Bank.tape s.new.self.parts.bank) (IsHeldOrNext c.args.still.now.parts.work c.args.still.now.parts.members) (Held c.args.still.now.parts.members)
-    (g.B.Bank.faults_of c.args.still.now.parts.bank) (g.B.Bank.faults_of s.new.self.parts.bank) c.args.still.now s.new.self (λ role slot held. inl held) s.ensures.stepped
+    stepped-wider g.B.Bank.tells given (g.B.Bank.tape c.args.still.now.parts.bank) (g.B.Bank.tape s.new.still.parts.bank) (IsHeldOrNext c.args.still.now.parts.work c.args.still.now.parts.members) (Held c.args.still.now.parts.members)
+    (g.B.Bank.faults_of c.args.still.now.parts.bank) (g.B.Bank.faults_of s.new.still.parts.bank) c.args.still.now s.new.still (λ role slot held. inl held) s.ensures.stepped
 
 pub returns-then-rebuilt-stripes-clause-held : goal.returns-then-rebuilt-stripes-clause-held
 returns-then-rebuilt-stripes-clause-held g c = record { roles = λ role slot held. inl (c.fill_stripe.ensures.held role slot held); spares = c.fill_stripe.ensures.spares }
@@ -116,8 +116,8 @@ pub returns-in-Some-clause-stepped : goal.returns-in-Some-clause-stepped
 returns-in-Some-clause-stepped g c =
     let s = c.end_rebuild in
     let given = g.B.Bank.given c.args.still.now.parts.bank in
-    stepped-wider g.B.Bank.tells given (g.B.Bank.tape c.args.still.now.parts.bank) (g.B.Bank.tape s.new.self.parts.bank) (IsHeldOrNext c.args.still.now.parts.work c.args.still.now.parts.members) (Held c.args.still.now.parts.members)
-    (g.B.Bank.faults_of c.args.still.now.parts.bank) (g.B.Bank.faults_of s.new.self.parts.bank) c.args.still.now s.new.self (λ role slot held. inl held) s.ensures.stepped
+    stepped-wider g.B.Bank.tells given (g.B.Bank.tape c.args.still.now.parts.bank) (g.B.Bank.tape s.new.still.parts.bank) (IsHeldOrNext c.args.still.now.parts.work c.args.still.now.parts.members) (Held c.args.still.now.parts.members)
+    (g.B.Bank.faults_of c.args.still.now.parts.bank) (g.B.Bank.faults_of s.new.still.parts.bank) c.args.still.now s.new.still (λ role slot held. inl held) s.ensures.stepped
 
 pub returns-clause-stepped : goal.returns-clause-stepped
 returns-clause-stepped g c =
@@ -126,9 +126,9 @@ returns-clause-stepped g c =
     let next = taken c.first_recovering.ensures c.members.ensures c.in_default.is c.requires.pending (c.first_vacant.ensures ∙ ap first_vacant c.members-2.ensures) c.unwrap_or-role.ensures
     (c.first_spare.ensures ∙ ap first_spare c.members-3.ensures) c.unwrap_or-slot.ensures in
     let kind = kind-taken c.args.still.now.parts.work c.args.still.now.parts.members (ap first_recovering (sym c.members.ensures) ∙ sym c.first_recovering.ensures ∙ c.in_default.is) in
-    stepped-wider g.B.Bank.tells given (g.B.Bank.tape c.args.still.now.parts.bank) (g.B.Bank.tape s.new.self.parts.bank) (IsHeldOrNext c.args.still.now.parts.work c.args.still.now.parts.members)
+    stepped-wider g.B.Bank.tells given (g.B.Bank.tape c.args.still.now.parts.bank) (g.B.Bank.tape s.new.still.parts.bank) (IsHeldOrNext c.args.still.now.parts.work c.args.still.now.parts.members)
     (IsHeldOrGiven c.args.still.now.parts.members c.unwrap_or-role.result c.unwrap_or-slot.result)
-    (g.B.Bank.faults_of c.args.still.now.parts.bank) (g.B.Bank.faults_of s.new.self.parts.bank) c.args.still.now s.new.self
+    (g.B.Bank.faults_of c.args.still.now.parts.bank) (g.B.Bank.faults_of s.new.still.parts.bank) c.args.still.now s.new.still
     (λ role slot held. elim held [
       | inl had ↦ inl had
       | inr here ↦ inr (kind, (here.0 ∙ sym next.role_is, next.lowest ∙ ap (λ (k : ℕ). Some k) (sym here.1)))
@@ -149,7 +149,7 @@ returns-clause-taken g c =
     let s = c.take_role in
     let next = taken c.first_recovering.ensures c.members.ensures c.in_default.is c.requires.pending (c.first_vacant.ensures ∙ ap first_vacant c.members-2.ensures) c.unwrap_or-role.ensures
     (c.first_spare.ensures ∙ ap first_spare c.members-3.ensures) c.unwrap_or-slot.ensures in
-    given-to c.args.still.now.parts.members s.new.self.parts.members (rebuild_kind c.args.still.now.parts.work c.args.still.now.parts.members) c.unwrap_or-role.result c.unwrap_or-slot.result s.result next s.ensures.taken
+    given-to c.args.still.now.parts.members s.new.still.parts.members (rebuild_kind c.args.still.now.parts.work c.args.still.now.parts.members) c.unwrap_or-role.result c.unwrap_or-slot.result s.result next s.ensures.taken
 
 -- ---- what is asked
 
@@ -169,7 +169,7 @@ first_vacant-requires-clause-roles g c = roles-as _ c.args.still.now.parts.membe
 
 pub returns-then-rebuilt-stripes-clause-work : goal.returns-then-rebuilt-stripes-clause-work
 returns-then-rebuilt-stripes-clause-work g c =
-    work-as c.args.still.now.parts.work c.fill_stripe.new.self.parts.work c.args.still.now.parts.members RebuildStripe c.in-Some.role c.fill_stripe.result
+    work-as c.args.still.now.parts.work c.fill_stripe.new.still.parts.work c.args.still.now.parts.members RebuildStripe c.in-Some.role c.fill_stripe.result
     (kind-filled c.args.still.now.parts.work c.args.still.now.parts.members c.in-Some.role (found c.first_recovering.ensures c.members.ensures c.in-Some.is) (less-as c.if-rebuilt-stripes.true c.rebuilt.ensures c.stripes.ensures))
     (role-recovered c.args.still.now.parts.work c.args.still.now.parts.members c.in-Some.role (found c.first_recovering.ensures c.members.ensures c.in-Some.is)) c.fill_stripe.ensures.work
 
@@ -180,20 +180,20 @@ returns-then-rebuilt-stripes-clause-whole g c =
 
 pub returns-in-Some-clause-work : goal.returns-in-Some-clause-work
 returns-in-Some-clause-work g c =
-    work-as c.args.still.now.parts.work c.end_rebuild.new.self.parts.work c.args.still.now.parts.members RebuildEnded c.in-Some.role c.end_rebuild.result
+    work-as c.args.still.now.parts.work c.end_rebuild.new.still.parts.work c.args.still.now.parts.members RebuildEnded c.in-Some.role c.end_rebuild.result
     (kind-ended c.args.still.now.parts.work c.args.still.now.parts.members c.in-Some.role (found c.first_recovering.ensures c.members.ensures c.in-Some.is) (most-as c.if-rebuilt-stripes.false c.rebuilt.ensures c.stripes.ensures))
-    (role-recovered c.args.still.now.parts.work c.args.still.now.parts.members c.in-Some.role (found c.first_recovering.ensures c.members.ensures c.in-Some.is)) (work-same c.args.still.now.parts.work c.end_rebuild.new.self.parts.work c.end_rebuild.result c.end_rebuild.ensures.work)
+    (role-recovered c.args.still.now.parts.work c.args.still.now.parts.members c.in-Some.role (found c.first_recovering.ensures c.members.ensures c.in-Some.is)) (work-same c.args.still.now.parts.work c.end_rebuild.new.still.parts.work c.end_rebuild.result c.end_rebuild.ensures.work)
 
 pub returns-in-Some-clause-whole : goal.returns-in-Some-clause-whole
 returns-in-Some-clause-whole g c =
-    whole-at c.args.still.now.parts.members c.end_rebuild.new.self.parts.members (rebuild_kind c.args.still.now.parts.work c.args.still.now.parts.members) c.in-Some.role c.end_rebuild.result (role-recovered c.args.still.now.parts.work c.args.still.now.parts.members c.in-Some.role (found c.first_recovering.ensures c.members.ensures c.in-Some.is)) c.end_rebuild.ensures.whole
+    whole-at c.args.still.now.parts.members c.end_rebuild.new.still.parts.members (rebuild_kind c.args.still.now.parts.work c.args.still.now.parts.members) c.in-Some.role c.end_rebuild.result (role-recovered c.args.still.now.parts.work c.args.still.now.parts.members c.in-Some.role (found c.first_recovering.ensures c.members.ensures c.in-Some.is)) c.end_rebuild.ensures.whole
 
 pub returns-in-Some-clause-held : goal.returns-in-Some-clause-held
 returns-in-Some-clause-held g c = record { roles = λ role slot held. inl (c.end_rebuild.ensures.held role slot held); spares = c.end_rebuild.ensures.spares }
 
 pub returns-clause-work : goal.returns-clause-work
 returns-clause-work g c =
-    work-as c.args.still.now.parts.work c.take_role.new.self.parts.work c.args.still.now.parts.members RebuildTaken c.unwrap_or-role.result c.take_role.result
+    work-as c.args.still.now.parts.work c.take_role.new.still.parts.work c.args.still.now.parts.members RebuildTaken c.unwrap_or-role.result c.take_role.result
     (kind-taken c.args.still.now.parts.work c.args.still.now.parts.members (ap first_recovering (sym c.members.ensures) ∙ sym c.first_recovering.ensures ∙ c.in_default.is))
     (taken c.first_recovering.ensures c.members.ensures c.in_default.is c.requires.pending (c.first_vacant.ensures ∙ ap first_vacant c.members-2.ensures) c.unwrap_or-role.ensures
     (c.first_spare.ensures ∙ ap first_spare c.members-3.ensures) c.unwrap_or-slot.ensures).role_is c.take_role.ensures.work

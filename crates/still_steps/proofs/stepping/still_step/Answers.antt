@@ -4,7 +4,7 @@ use Rattle.still.specs.views_Rebuilding.{Held}
 use Rattle.still.specs.running_words_Parts.{still_left}
 use Rattle.still_steps.specs.Resyncing.{is_at_end}
 use Rattle.still_steps.specs.Resyncing as resync
-use Rattle.still_steps.specs.Rebuilding.{IsHeldOrNext}
+use Rattle.still.specs.Rebuilding.{IsHeldOrNext}
 use Rattle.still_steps.specs.Stepping.{IsHeldOrDue}
 use Rattle.still_steps.proofs.ResyncLaws.{ok-so}
 use Rattle.still_steps.proofs.NextLaws.{next-rebuild, next-same, held-due, resync-end, rebuild-end, undone-caused, stepped-wider}

@@ -1,11 +1,11 @@
 use Rattle.std.proofs.Common.{[], ◌∷◌, refl, arith}
 use Rattle.flat_history.specs.declared.events.Event.TheVariants.{Refused}
 use Rattle.flat_history.specs.Plain.{entries_of}
-use Rattle.still_steps.specs.array_kept_Kept.{scope_in}
-use Rattle.still_steps.proofs.array_kept_ReadyLaws.{scope-same}
-use Rattle.still_steps.proofs.running_words_Lengths.{alone-keeps}
-use Rattle.still_steps.proofs.still_laws_Kept.{ready, rows-same}
-use Rattle.still_steps.proofs.still_laws_Plain.{turned-plain, turns-first}
+use Rattle.still_calls.specs.array_kept_Kept.{scope_in}
+use Rattle.still_calls.proofs.array_kept_ReadyLaws.{scope-same}
+use Rattle.still_calls.proofs.running_words_Lengths.{alone-keeps}
+use Rattle.still_calls.proofs.still_laws_Kept.{ready, rows-same}
+use Rattle.still_calls.proofs.still_laws_Plain.{turned-plain, turns-first}
 use Rattle.takeover.proofs.Untaken.{untaken-stands}
 use Rattle.takeover.proofs.taking.give_back.Goals as goal
 

@@ -14,17 +14,17 @@ use Rattle.views.specs.Status.{left_of, stripes_of}
 use Rattle.views.proofs.Fit.{fit-short}
 use Rattle.call_entries.specs.Losing.{losses_of}
 use Rattle.call_entries.proofs.PlainLaws.{last_end-call}
-use Rattle.still_steps.specs.array_kept_Calls.{AreStepsFewer}
-use Rattle.still_steps.specs.array_kept_Kept.{scope_in}
-use Rattle.still_steps.proofs.array_kept_ReadyLaws.{scope-same}
+use Rattle.still_calls.specs.array_kept_Calls.{AreStepsFewer}
+use Rattle.still_calls.specs.array_kept_Kept.{scope_in}
+use Rattle.still_calls.proofs.array_kept_ReadyLaws.{scope-same}
 use Rattle.grow_asked.specs.Left.{phases_of}
-use Rattle.still_steps.specs.kept_history_Recorded.{IsCallGoing}
-use Rattle.still_steps.specs.kept_history_Safe.{world_in}
-use Rattle.still_steps.specs.running_words_Calls.{moving_world}
-use Rattle.still_steps.specs.running_words_Parts.{still_left}
-use Rattle.still_steps.specs.running_words_Plans.{ArePlansKept}
-use Rattle.still_steps.specs.still_laws_Ready.{IsReady}
-use Rattle.still_steps.proofs.still_laws_Closing.{LeadTo}
+use Rattle.still_calls.specs.kept_history_Recorded.{IsCallGoing}
+use Rattle.still_calls.specs.kept_history_Safe.{world_in}
+use Rattle.still_calls.specs.running_words_Calls.{moving_world}
+use Rattle.still_calls.specs.running_words_Parts.{still_left}
+use Rattle.still_calls.specs.running_words_Plans.{ArePlansKept}
+use Rattle.still_calls.specs.still_laws_Ready.{IsReady}
+use Rattle.still_calls.proofs.still_laws_Closing.{LeadTo}
 use Rattle.takeover.specs.TakenOver.{IsTakeoverNext, work_then}
 use Rattle.takeover.proofs.Chosen.{sound-next, can-take, told-ahead}
 use Rattle.takeover.proofs.Parted.{untaken-as, untouched-as, both-given, taken-as, room-for}

@@ -2,7 +2,7 @@ use Rattle.std.proofs.Common.{ap, arith}
 use Rattle.layout.proofs.Limits.{limited}
 use Rattle.md_base.specs.declared.places.Shape.{Shape}
 use Rattle.superblocks.specs.Reading.{shape_of}
-use Rattle.still_steps.proofs.still_laws_Left.{left-few}
+use Rattle.still_calls.proofs.still_laws_Left.{left-few}
 use Rattle.takeover.proofs.taking.told_of.Goals as goal
 
 pub overflow_cast-count : goal.overflow_cast-count

@@ -15,7 +15,7 @@ use Rattle.flat_history.specs.Plain.{entries_of}
 use Rattle.flat_history.specs.Transfers.{last_end_from}
 use Rattle.moving_steps.specs.reshape_ends_Finished.{IsOver}
 use Rattle.views.specs.Lacking.{AreTooMany}
-use Rattle.views.specs.Numbers.{is_carried}
+use Rattle.views.specs.Numbers.{bears}
 use Rattle.views.specs.Placed.{is_vacant}
 use Rattle.views.specs.Status.{stripes_of}
 use Rattle.views.proofs.Fit.{count-alike, fit-short}
@@ -63,7 +63,7 @@ of_pieces-requires-clause-ready g c =
     let refusal = c.in-Some-too_many.refusal in
     let goes : IsCallGoing p.epoch.entries.items who = subst (λ s. IsCallGoing s.parts.entries who) c.take_apart-pieces.ensures.same c.requires.open in
     let some : 2 ≤ p.steps = subst (λ s. 2 ≤ s.parts.steps) c.take_apart-pieces.ensures.same c.requires.room in
-    let kept = resting-moves g.B.Bank.tells given (g.B.Bank.tape p.bank) scope p.epoch.first p.epoch.entries.items p.members (is_carried p.work) p.work.resync course (bytes_in course.window window.items) (left_in p.work p.members course p.ahead)
+    let kept = resting-moves g.B.Bank.tells given (g.B.Bank.tape p.bank) scope p.epoch.first p.epoch.entries.items p.members (bears p.work) p.work.resync course (bytes_in course.window window.items) (left_in p.work p.members course p.ahead)
     who end (Refused refusal) was.kept goes (not_254 who.caller c.requires.caller) c.ops-end.ensures.count (quiet-refusal refusal) (λ told is. is)
     (λ t right. refused-right (world_in given (g.B.Bank.tape p.bank) scope p.epoch.first) p.epoch.entries.items given p.members was.kept.members_are.placed (was.kept.gone t right) (was.kept.levelled t right) refusal c.in-Some-too_many.ensures) in
     ready (entries_of who end (Refused refusal ∷ [])) was (grows-none (λ t. refl)) (shapes-same p.members.newest) kept
@@ -332,7 +332,9 @@ returns-clause-ended g c =
       losses = ended-losses p.members m roles spares lost before after did.failed told.late told.late_spares
           (late-held p.members m roles spares lost before after did.failed vacant told.late c.before_end-was.ensures.vacant (final-few given p.members here.placed)
           (λ role. tell.late role ∙ ap (λ (s : Shape). (nat_lt role s.disks && is_vacant (reading_of m) role) && not (has_slot vacant role || has_slot roles role)) over.shape))
-          (λ slot has. (and_parts (has_slot lost slot) (not (has_slot c.before_end-was.result.held slot)) (sym (tell.late_spares slot) ∙ has)).0)
+          (λ slot has. (and_parts (has_slot lost slot) (not (has_slot c.before_end-was.result.held slot)) (sym (tell.late_spares slot) ∙ has)).0) c.before_end-was.result.held
+          (λ slot has. (and_parts (has_slot lost slot) (not (has_slot c.before_end-was.result.held slot)) (sym (tell.late_spares slot) ∙ has)).1)
+          c.before_end-was.ensures.held
           p.epoch.entries.items p.epoch.entries.items c.enter_ended.new.epoch.entries.items who end left long longer refl items;
       never_falls = did.counts;
       others = did.others;

@@ -22,7 +22,7 @@ use Rattle.safe_updates.proofs.views_MarkLaws.{few-planned}
 use Rattle.safe_updates.proofs.views_MarkedLaws.{grows-marks, others-updated, failed-marked}
 use Rattle.safe_updates.proofs.views_MovedLaws.{moved-less}
 use Rattle.safe_updates.proofs.views_PlacedLaws.{placed-less, less-unlost}
-use Rattle.safe_updates.proofs.SparesLaws.{spare-left, spare-stays, free-told}
+use Rattle.safe_updates.proofs.SparesLaws.{spare-left, spare-stays, free-told, told-were}
 use Rattle.window_steps.proofs.PastLaws.{past-placed, past-less, past-clean, since-past}
 use Rattle.window_steps.proofs.recording.put_position.Given.{Over}
 use Rattle.window_steps.proofs.recording.put_position.Goals.{After-without}
@@ -79,6 +79,13 @@ returns-clause-failed g c =
     let lost = both (has_slot (new g c).lost slot) (not (has_slot (old g c).lost slot)) (sym (did.result slot) ∙ parts.0) in
     (lost.0, flip (has_slot (old g c).lost slot) lost.1)))
     (λ slot has.
+    let below : slot < 32 = small slot has in
+    let parts = both (has_slot c.record_position-lost.result slot) (not (has_slot c.holders-held.result slot)) (sym (c.without.ensures slot below) ∙ has) in
+    let lost = both (has_slot (new g c).lost slot) (not (has_slot (old g c).lost slot)) (sym (did.result slot) ∙ parts.0) in
+    told-were (old g c) (recording c.args.span.now (old g c)) c.holders-held.result slot refl c.holders-held.ensures
+    (did.losses.live slot lost.0 (flip (has_slot (old g c).lost slot) lost.1)) (flip (has_slot c.holders-held.result slot) parts.1))
+    (λ slot has. (spare-left (old g c) false (new g c).lost (new g c).spares did.recorded.spares slot has).0)
+    (λ slot has.
     let free = c.requires.free slot has in
     elim (free-told (old g c) c.holders-held.result (new g c).lost c.record_position-lost.result c.without.result slot free c.holders-held.ensures (did.result slot) (c.without.ensures slot free.room.small)) [
       | inl kept ↦ inl (spare-stays (old g c) false (new g c).lost (new g c).spares did.recorded.spares slot free.room.small kept has)
@@ -133,4 +140,4 @@ returns-clause-safe g c = λ tell world told room gone right safe.
     let tape1 = g.B.Bank.tape c.record_position-lost.new.bank in
     one-stretch (OpensFit world) world.scope given told n tape0 tape1
     (kept-safe (OpensFit world) world.scope given told told (recording c.args.span.now m) m n tape0 tape1 (told-changed tell c.record_position-lost.ensures.recorded)
-    (record { none = refl; size = refl; count = refl; same = λ s. give_of-same 32 s }) room gone (λ number is. is) right safe)
+    (record { none = refl; size = refl; count = refl; same = λ s. give_of-same 32 s }) room gone (λ slot number is. is) right safe)

@@ -5,7 +5,7 @@ use Rattle.flat_history.specs.declared.events.Event.TheVariants.{Refused, Step}
 use Rattle.flat_history.specs.declared.events.StepKind.TheVariants.{ResyncEnded as EndsResync}
 use Rattle.flat_history.specs.Plain.{entries_of}
 use Rattle.views.specs.Lacking.{AreTooMany, AreHoldersFlushed}
-use Rattle.views.specs.Numbers.{is_carried}
+use Rattle.views.specs.Numbers.{bears}
 use Rattle.views.proofs.LackingLaws.{lost-since, never-both}
 use Rattle.views.proofs.MovedLaws.{grows-none, moved-same}
 use Rattle.call_entries.specs.Losing.{losses_of}
@@ -45,7 +45,7 @@ invariant_of-self g c =
     let tape = g.B.Bank.tape a.bank in
     let end = c.ops-end.result in
     let refusal = c.in-Some.refusal in
-    let kept = resting-moves g.B.Bank.tells given tape scope a.epoch.first a.epoch.entries.items a.members (is_carried a.work) a.work.resync a.course (bytes_in a.course.window a.window.items) (left_in a.work a.members a.course a.ahead)
+    let kept = resting-moves g.B.Bank.tells given tape scope a.epoch.first a.epoch.entries.items a.members (bears a.work) a.work.resync a.course (bytes_in a.course.window a.window.items) (left_in a.work a.members a.course a.ahead)
     c.args.who end (Refused refusal) was.kept goes (not_254 c.args.who.caller c.requires.caller) c.ops-end.ensures.count (quiet-refusal refusal) (λ told is. is)
     (λ t right. refused-right (world_in given tape scope a.epoch.first) a.epoch.entries.items given a.members was.kept.members_are.placed (was.kept.gone t right) (was.kept.levelled t right) refusal c.in-Some.ensures) in
     ready (entries_of c.args.who end (Refused refusal ∷ [])) was (grows-none (λ t. refl)) (shapes-same a.members.newest) kept
@@ -169,8 +169,8 @@ returns-in-Some-refusal-clause-caused g c =
 
 -- ---- it is done
 
-pub steps_left-left-requires-clause-open : goal.steps_left-left-requires-clause-open
-steps_left-left-requires-clause-open g c =
+pub all_left-left-requires-clause-open : goal.all_left-left-requires-clause-open
+all_left-left-requires-clause-open g c =
     let a = c.self.inside in
     let due = subst (λ p. IsResyncEndDue p) (sym c.self.view_is) c.requires.due in
     aside-right c.settle-settled.new.members.newest a.course.window due.aside
@@ -193,7 +193,7 @@ invariant_of-self-2 g c =
     let roles = c.newly_vacant-lost.result in
     let spares = c.settle-settled.result.spares in
     let end = c.ops-end-2.result in
-    let left = c.steps_left-left.result in
+    let left = c.all_left-left.result in
     let since = lost-since given a.members m c.len-count.result c.vacant_roles-before.result roles spares before after here.placed did.moved did.failed
     (c.len-count.ensures ∙ here.backed.roles) c.vacant_roles-before.ensures c.newly_vacant-lost.ensures in
     let flushed : AreFlushed g.B.Bank.tells given tape tape' a.members m roles false = record {
@@ -207,7 +207,7 @@ invariant_of-self-2 g c =
       safe = did.safe;
     } in
     let done : AreSettled g.B.Bank.tells given tape tape' a.members m false = record { clean = did.clean c.in_default-refusal.is; settled = did.settled c.in_default-refusal.is } in
-    let kept = end-done a.work a.course a.ahead c.args.who end roles spares due.is due.aside was.kept c.in_default.ensures goes c.requires.caller c.ops-end-2.ensures.count did.grows flushed left c.steps_left-left.ensures done in
+    let kept = end-done a.work a.course a.ahead c.args.who end roles spares due.is due.aside was.kept c.in_default.ensures goes c.requires.caller c.ops-end-2.ensures.count did.grows flushed left c.all_left-left.ensures done in
     ready-with (entries_of c.args.who end (losses_of roles spares ++ Step EndsResync left ∷ [])) was did.grows (shapes-moved given a.members m did.moved) kept
     refl did.counts (behind-keeps c.args.who end roles spares (Step EndsResync left) (λ n. refl) (λ limit. refl)) (behind-whole tape' (scope_in given a.epoch.uuid a.epoch.given (Some a.backup)) a.epoch.first a.epoch.entries.items c.args.who end roles spares (Step EndsResync left) did.moved (missing-since roles did.moved since.vacant)) did.given (scope-same given (Some a.backup) did.given c.enter_behind-2.ensures.uuid c.enter_behind-2.ensures.given) c.enter_behind-2.ensures.first refl c.enter_behind-2.ensures.items
     (room-after-49 a.steps a.epoch.entries.room c.enter_behind-2.new.epoch.entries.room was.room_left c.enter_behind-2.ensures.room some)
@@ -225,7 +225,7 @@ returns-clause-called g c =
     let roles = c.newly_vacant-lost.result in
     let spares = c.settle-settled.result.spares in
     let end = c.ops-end-2.result in
-    let event = Step EndsResync c.steps_left-left.result in
+    let event = Step EndsResync c.all_left-left.result in
     let since = lost-since given a.members m c.len-count.result c.vacant_roles-before.result roles spares before after here.placed did.moved did.failed
     (c.len-count.ensures ∙ here.backed.roles) c.vacant_roles-before.ensures c.newly_vacant-lost.ensures in
     rw (← c.self.view_is) (called did.grows did.moved
@@ -294,7 +294,7 @@ pub returns-in-Some-refusal-clause-entered : goal.returns-in-Some-refusal-clause
 returns-in-Some-refusal-clause-entered g c = rw (← c.self.view_is) (record { roles = c.newly_vacant-lost.result; spares = c.settle-settled.result.spares; end = c.ops-end-2.result; is = c.enter_behind.ensures.items })
 
 pub returns-clause-entered : goal.returns-clause-entered
-returns-clause-entered g c = step-entered c.newly_vacant-lost.result c.settle-settled.result.spares c.ops-end-2.result c.enter_behind-2.ensures.items c.steps_left-left.ensures (ap (λ p. p.parts.entries) c.self.view_is)
+returns-clause-entered g c = step-entered c.newly_vacant-lost.result c.settle-settled.result.spares c.ops-end-2.result c.enter_behind-2.ensures.items c.all_left-left.ensures (ap (λ p. p.parts.entries) c.self.view_is)
 
 pub settle-settled-requires-clause-placed : goal.settle-settled-requires-clause-placed
 settle-settled-requires-clause-placed g c = c.self.invariant.kept.members_are.placed
@@ -323,21 +323,21 @@ returns-in-Some-clause-course g c = ap (λ p. p.course) c.self.view_is
 pub returns-in-Some-refusal-clause-course : goal.returns-in-Some-refusal-clause-course
 returns-in-Some-refusal-clause-course g c = ap (λ p. p.course) c.self.view_is
 
-pub steps_left-left-requires-clause-reshape : goal.steps_left-left-requires-clause-reshape
-steps_left-left-requires-clause-reshape g c =
+pub all_left-left-requires-clause-reshape : goal.all_left-left-requires-clause-reshape
+all_left-left-requires-clause-reshape g c =
     let moved = c.settle-settled.ensures.moved in
     under-way-of c.settle-settled.new.members.newest moved.placed.fit (moved.reshape.reshaping ∙ c.self.invariant.kept.members_are.active)
 
-pub steps_left-left-requires-clause-fit : goal.steps_left-left-requires-clause-fit
-steps_left-left-requires-clause-fit g c =
+pub all_left-left-requires-clause-fit : goal.all_left-left-requires-clause-fit
+all_left-left-requires-clause-fit g c =
     let moved = c.settle-settled.ensures.moved in
     moved.placed.fit
 
-pub steps_left-left-requires-clause-sound : goal.steps_left-left-requires-clause-sound
-steps_left-left-requires-clause-sound g c = sound-same (phases_of c.self.inside.ahead) (shapes-moved (g.B.Bank.given c.self.inside.bank) c.self.inside.members c.settle-settled.new.members c.settle-settled.ensures.moved) c.self.invariant.planned
+pub all_left-left-requires-clause-sound : goal.all_left-left-requires-clause-sound
+all_left-left-requires-clause-sound g c = sound-same (phases_of c.self.inside.ahead) (shapes-moved (g.B.Bank.given c.self.inside.bank) c.self.inside.members c.settle-settled.new.members c.settle-settled.ensures.moved) c.self.invariant.planned
 
-pub steps_left-left-requires-clause-zeroed : goal.steps_left-left-requires-clause-zeroed
-steps_left-left-requires-clause-zeroed g c =
+pub all_left-left-requires-clause-zeroed : goal.all_left-left-requires-clause-zeroed
+all_left-left-requires-clause-zeroed g c =
     let moved = c.settle-settled.ensures.moved in
     zeroed-moved _ moved c.self.invariant.kept.course_is.few
 

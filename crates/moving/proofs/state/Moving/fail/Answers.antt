@@ -9,7 +9,7 @@ use Rattle.flat_history.specs.declared.events.Event.TheVariants.{Refused, Lost, 
 use Rattle.flat_history.specs.declared.events.LostCause.TheVariants.{Command}
 use Rattle.flat_history.specs.Flat.{next_number}
 use Rattle.flat_history.specs.Plain.{entries_of}
-use Rattle.views.specs.Numbers.{is_carried}
+use Rattle.views.specs.Numbers.{bears}
 use Rattle.views.proofs.LiveLeft.{holder-left}
 use Rattle.views.proofs.HeldRows.{vacant-moved}
 use Rattle.views.proofs.MovedLaws.{grows-none, moved-same}
@@ -35,7 +35,7 @@ use Rattle.std.proofs.lemmas.List.Elements.{All-nil}
 use Rattle.row_io.specs.Rows.{present}
 use Rattle.flat_history.specs.Transfers.{last_end_from}
 use Rattle.views.specs.Rebuilding.{Held}
-use Rattle.moving_laws.specs.array_kept_Calls.{IsLossBy}
+use Rattle.moving_laws.specs.array_kept_Calls.{IsLossBy, WasSpare}
 use Rattle.moving_laws.proofs.WriteLaws.{roomed}
 use Rattle.moving.proofs.Calls.{one-of-51, known-moved, fits-longer, never-falls, called-over}
 use Rattle.moving_laws.specs.shape_changes_Marking.{AreOthersPresent}
@@ -120,7 +120,7 @@ invariant_of-self-in_default g c =
     let number : c.args.who.number ≡ next_number c.args.who.caller a.epoch.entries.items = c.requires.next ∙ ap (λ p. next_number c.args.who.caller p.parts.entries) (sym c.self.view_is) in
     ready (entries_of c.args.who c.ops-end.result (Refused (NoSuchRole c.args.role) ∷ []))
     was (grows-none (λ t. refl)) (shapes-same a.members.newest)
-    (resting-moves g.B.Bank.tells given tape (scope_in given a.epoch.uuid a.epoch.given (Some a.backup)) a.epoch.first a.epoch.entries.items a.members (is_carried a.work) a.work.resync a.course
+    (resting-moves g.B.Bank.tells given tape (scope_in given a.epoch.uuid a.epoch.given (Some a.backup)) a.epoch.first a.epoch.entries.items a.members (bears a.work) a.work.resync a.course
     (bytes_in a.course.window a.window.items) (left_in a.work a.members a.course a.ahead) c.args.who c.ops-end.result (Refused (NoSuchRole c.args.role))
     was.kept (begins-going a.epoch.entries.items c.args.who number) (not_254 c.args.who.caller c.requires.caller) c.ops-end.ensures.count (quiet-refusal (NoSuchRole c.args.role)) (λ told is. is) (λ t fills. tt))
     refl (never-falls _) (alone-keeps c.args.who c.ops-end.result (Refused (NoSuchRole c.args.role)) (λ n. refl) (λ limit. refl)) (λ none whole. whole) refl (scope-same given (Some a.backup) refl c.enter.ensures.uuid c.enter.ensures.given) c.enter.ensures.first c.make_room.ensures.items c.enter.ensures.items
@@ -173,9 +173,9 @@ invariant_of-self-2 g c =
     let items = behind-loss c.make_room.new.self.items c.enter-2.new.epoch.entries.items c.enter_behind.new.epoch.entries.items c.args.who end (Lost role Command) (losses_of roles spares ++ Failed role ∷ []) c.enter-2.ensures.items c.enter_behind.ensures.items in
     ready (entries_of c.args.who end ((Lost role Command ∷ losses_of roles spares) ++ Failed role ∷ []))
     was did.grows (shapes-moved given a.members m moved)
-    (subst (λ (n : ℕ). IsMoving g.B.Bank.tells given tape' scope a.epoch.first (a.epoch.entries.items ++ entries_of c.args.who end ((Lost role Command ∷ losses_of roles spares) ++ Failed role ∷ [])) m (is_carried a.work) a.work.resync a.course buffer n)
+    (subst (λ (n : ℕ). IsMoving g.B.Bank.tells given tape' scope a.epoch.first (a.epoch.entries.items ++ entries_of c.args.who end ((Lost role Command ∷ losses_of roles spares) ++ Failed role ∷ [])) m (bears a.work) a.work.resync a.course buffer n)
     (sym (left-moved given a.members m a.work.resync a.course a.ahead moved))
-    (failed-moves g.B.Bank.tells given tape tape' scope a.epoch.first a.epoch.entries.items a.members m (is_carried a.work) a.work.resync a.course buffer (left_in a.work a.members a.course a.ahead) c.args.who end role roles spares
+    (failed-moves g.B.Bank.tells given tape tape' scope a.epoch.first a.epoch.entries.items a.members m (bears a.work) a.work.resync a.course buffer (left_in a.work a.members a.course a.ahead) c.args.who end role roles spares
     was.kept (holder-left given a.members role c.in-Some.slot here.placed here.unlost c.in-Some.ensures.held) (begins-going a.epoch.entries.items c.args.who number) (not_254 c.args.who.caller c.requires.caller) c.ops-end-2.ensures.count did.grows out))
     refl did.counts (record { long = (behind-keeps c.args.who end roles spares (Failed role) (λ n. refl) (λ limit. refl)).long; free = (behind-keeps c.args.who end roles spares (Failed role) (λ n. refl) (λ limit. refl)).free })
     (λ none whole. takes-lost (world_in given tape' scope a.epoch.first) role a.epoch.entries.items (entries_of c.args.who end ((Lost role Command ∷ losses_of roles spares) ++ Failed role ∷ [])) (lost-here role c.args.who end Command (losses_of roles spares ++ Failed role ∷ [])) none) did.given (scope-same given (Some a.backup) did.given (c.enter_behind.ensures.uuid ∙ c.enter-2.ensures.uuid) (c.enter_behind.ensures.given ∙ c.enter-2.ensures.given)) (c.enter_behind.ensures.first ∙ c.enter-2.ensures.first)
@@ -214,7 +214,7 @@ returns-clause-called g c =
     let items = behind-loss c.make_room.new.self.items c.enter-2.new.epoch.entries.items c.enter_behind.new.epoch.entries.items c.args.who end (Lost role Command) (losses_of roles spares ++ Failed role ∷ []) c.enter-2.ensures.items c.enter_behind.ensures.items in
     called-over g.B.Bank.given g.B.Bank.tape g.B.Bank.faults_of c.self.view_is (called did.grows moved
     (ended-behind (g.B.Bank.tape c.name_missing-spares.new.bank) c.enter_behind.new.epoch.first c.make_room.new.self.items c.args.who end (Lost role Command ∷ losses_of roles spares) (Failed role) items c.ops-end-2.ensures.count)
-    (losses-failed a.members mid m before after a.epoch.entries.items c.make_room.new.self.items c.enter_behind.new.epoch.entries.items c.args.who end role c.in-Some.slot roles spares first.held since c.in-Some.ensures.held c.make_room.ensures.items items)
+    (losses-failed a.members mid m before after a.epoch.entries.items c.make_room.new.self.items c.enter_behind.new.epoch.entries.items c.args.who end role c.in-Some.slot roles spares first.held first.fewer since c.in-Some.ensures.held c.make_room.ensures.items items)
     did.counts
     (record { uuid = c.enter_behind.ensures.uuid ∙ c.enter-2.ensures.uuid; given = c.enter_behind.ensures.given ∙ c.enter-2.ensures.given; first = c.enter_behind.ensures.first ∙ c.enter-2.ensures.first; backup = refl; work = refl; ahead = refl; limit = refl })
     (λ t. (was.kept.recorded t).begun))
@@ -258,7 +258,7 @@ returns-in-Err-clause-called g c =
     let faults = g.B.Bank.faults_of a.bank in
     called-over g.B.Bank.given g.B.Bank.tape g.B.Bank.faults_of c.self.view_is (called (grows-none (λ t. refl)) (moved-same given given a.members a.members refl refl was.kept.members_are.placed was.kept.members_are.unlost)
     (λ t. ap (λ (l : List Entry). last_end_from a.epoch.first l) c.make_room.ensures.items ∙ (was.kept.recorded t).ended)
-    (record { more = []; grown = c.make_room.ensures.items ∙ sym (append-nil a.epoch.entries.items); failed = All-nil (λ e. IsLossBy (Held a.members) faults faults e.event) })
+    (record { more = []; grown = c.make_room.ensures.items ∙ sym (append-nil a.epoch.entries.items); failed = All-nil (λ e. IsLossBy (Held a.members) (WasSpare a.members) faults faults e.event) })
     (never-falls _)
     (record { uuid = refl; given = refl; first = refl; backup = refl; work = refl; ahead = refl; limit = refl })
     (λ t. (was.kept.recorded t).begun))

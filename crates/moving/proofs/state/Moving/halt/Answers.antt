@@ -4,7 +4,7 @@ use Rattle.flat_history.specs.declared.events.Entry.{Entry}
 use Rattle.flat_history.specs.declared.events.Event.TheVariants.{Halted}
 use Rattle.flat_history.specs.Flat.{next_number}
 use Rattle.flat_history.specs.Plain.{entries_of}
-use Rattle.views.specs.Numbers.{is_carried}
+use Rattle.views.specs.Numbers.{bears}
 use Rattle.moving_laws.specs.array_kept_Kept.{scope_in}
 use Rattle.moving_laws.proofs.array_kept_ReadyLaws.{scope-same}
 use Rattle.moving_laws.specs.moving_kept_Moving.{IsMoving}
@@ -28,9 +28,9 @@ returns-clause-right g c =
     let number : c.args.who.number ≡ next_number c.args.who.caller a.epoch.entries.items = c.requires.next ∙ ap (λ p. next_number c.args.who.caller p.parts.entries) (sym c.self.view_is) in
     let kept = halted-moves c.args.who c.ops-end.result c.self.invariant.kept number c.requires.caller c.ops-end.ensures.count in
     let same =
-    subst (λ (l : List Entry). IsMoving g.B.Bank.tells given tape (scope_in given epoch.uuid epoch.given (Some a.backup)) epoch.first l a.members (is_carried a.work) a.work.resync a.course buffer left) (sym c.enter.ensures.items)
-    (subst (λ (n : ℕ). IsMoving g.B.Bank.tells given tape (scope_in given epoch.uuid epoch.given (Some a.backup)) n (a.epoch.entries.items ++ entries_of c.args.who c.ops-end.result (Halted ∷ [])) a.members (is_carried a.work) a.work.resync a.course buffer left) (sym c.enter.ensures.first)
-    (subst (λ (s : Scope). IsMoving g.B.Bank.tells given tape s a.epoch.first (a.epoch.entries.items ++ entries_of c.args.who c.ops-end.result (Halted ∷ [])) a.members (is_carried a.work) a.work.resync a.course buffer left)
+    subst (λ (l : List Entry). IsMoving g.B.Bank.tells given tape (scope_in given epoch.uuid epoch.given (Some a.backup)) epoch.first l a.members (bears a.work) a.work.resync a.course buffer left) (sym c.enter.ensures.items)
+    (subst (λ (n : ℕ). IsMoving g.B.Bank.tells given tape (scope_in given epoch.uuid epoch.given (Some a.backup)) n (a.epoch.entries.items ++ entries_of c.args.who c.ops-end.result (Halted ∷ [])) a.members (bears a.work) a.work.resync a.course buffer left) (sym c.enter.ensures.first)
+    (subst (λ (s : Scope). IsMoving g.B.Bank.tells given tape s a.epoch.first (a.epoch.entries.items ++ entries_of c.args.who c.ops-end.result (Halted ∷ [])) a.members (bears a.work) a.work.resync a.course buffer left)
     (sym (scope-same given (Some a.backup) refl c.enter.ensures.uuid c.enter.ensures.given)) kept)) in
     rw (← c.self.view_is) (λ t right. epoch-kept given tape (Some a.backup) epoch same t (c.enter.ensures.last ∙ c.ops-end.ensures.count t) right)
 

@@ -1,4 +1,5 @@
-use Rattle.std.proofs.Common.{◌≡◌, inr, ◌+◌, ◌≤◌, ℕ, true, List, [], ◌∷◌, ◌++◌, Some, refl, sym, ◌∙◌, ap, subst, arith, inl, le_of_eq}
+use Rattle.std.proofs.Common.{◌≡◌, inr, ◌+◌, ◌<◌, ◌≤◌, ◌==◌, ℕ, true, false, List, [], ◌∷◌, ◌++◌, Some, refl, sym, ◌∙◌, ap, subst, arith, inl, le_of_eq}
+use Rattle.std.specs.Prelude.{IfSome}
 use Rattle.md_base.specs.Shapes.{has_slot}
 use Rattle.md_base.specs.declared.answers.Refusal.{Refusal}
 use Rattle.md_base.specs.declared.answers.Refusal.TheVariants.{SlotFault}
@@ -11,10 +12,11 @@ use Rattle.flat_history.specs.declared.events.Event.TheVariants.{Refused, Added}
 use Rattle.flat_history.specs.Flat.{next_number}
 use Rattle.flat_history.specs.Plain.{entries_of}
 use Rattle.views.specs.Lacking.{AreUnnamed}
-use Rattle.views.specs.Numbers.{is_carried, free_number}
+use Rattle.views.specs.Numbers.{bears, bearing, free_number}
 use Rattle.views.specs.Placed.{IsPlaced}
 use Rattle.views.specs.Rebuilding.{AreSparesFree, with_spare}
 use Rattle.views.specs.Under.{IsRestKept}
+use Rattle.views.proofs.BearerLaws.{bears-more}
 use Rattle.views.proofs.Flushed.{contents-added}
 use Rattle.views.proofs.MovedLaws.{grows-then, moved-same}
 use Rattle.call_entries.specs.Losing.{losses_of}
@@ -24,11 +26,12 @@ use Rattle.moving_laws.specs.array_kept_Calls.{IsFirstOffset, IsUnaddable}
 use Rattle.moving_laws.proofs.array_kept_LossLaws.{losses-behind, ended-behind}
 use Rattle.moving_laws.proofs.array_kept_ReadyLaws.{scope-same}
 use Rattle.moving_laws.proofs.calls_kept_AddLaws.{slot-there, slot-free, slot-does, slot-unspare, slot-fits, slot-room, slot-of-scope, is-free, second-half, stored-as, added_reply, faulted_reply}
-use Rattle.moving_laws.proofs.calls_kept_AddedKept.{AddsSafe, with_carried}
-use Rattle.moving_laws.proofs.calls_kept_AddedLosses.{add-done, others-lost, since-added}
+use Rattle.moving_laws.proofs.calls_kept_AddedKept.{AddsSafe}
+use Rattle.moving_laws.proofs.calls_kept_AddedNumbers.{told-anew, bears-free}
+use Rattle.moving_laws.proofs.calls_kept_AddedLosses.{add-done, others-lost, since-added, free-added}
 use Rattle.moving_laws.proofs.kept_history_Records.{begins-going}
 use Rattle.moving_laws.specs.moving_kept_Moving.{IsMoving}
-use Rattle.moving_laws.proofs.moving_kept_AddedSpare.{looked-moves, added-moves, added-lost-moves}
+use Rattle.moving_laws.proofs.moving_kept_AddedSpare.{looked-moves, added-moves, added-lost-moves, moves-anew}
 use Rattle.moving_laws.specs.running_words_Parts.{left_in}
 use Rattle.moving_laws.specs.Ready.{bytes_in}
 use Rattle.moving_laws.proofs.AddLaws.{apart-from, looked-grows, spare-made, still-called, none-added, add-called}
@@ -62,7 +65,7 @@ invariant_of-self-in_default g c =
     let look = c.look_at.ensures in
     let end = c.ops-end.result in
     ready (entries_of c.args.who end (Refused (SlotFault c.args.slot) ∷ [])) was (looked-grows look.tape) (shapes-same a.members.newest)
-    (looked-moves g.B.Bank.tells given (g.B.Bank.tape a.bank) (g.B.Bank.tape c.look_at.new.bank) (scope_in given a.epoch.uuid a.epoch.given (Some a.backup)) a.epoch.first a.epoch.entries.items a.members (is_carried a.work) a.work.resync
+    (looked-moves g.B.Bank.tells given (g.B.Bank.tape a.bank) (g.B.Bank.tape c.look_at.new.bank) (scope_in given a.epoch.uuid a.epoch.given (Some a.backup)) a.epoch.first a.epoch.entries.items a.members (bears a.work) a.work.resync
     a.course (bytes_in a.course.window a.window.items) (left_in a.work a.members a.course a.ahead) c.args.who end c.args.slot
     was.kept (live-of was.kept (slot-does given (Some a.backup) c.args.slot a.members was.kept.members_are.placed addable)) (begins-going a.epoch.entries.items c.args.who number) (not_254 c.args.who.caller c.requires.caller) c.ops-end.ensures.count look.tape)
     refl look.counts (alone-keeps c.args.who end (Refused (SlotFault c.args.slot)) (λ n. refl) (λ limit. refl)) (λ none whole. whole) look.given (scope-same given (Some a.backup) look.given c.enter.ensures.uuid c.enter.ensures.given) c.enter.ensures.first c.make_room.ensures.items c.enter.ensures.items
@@ -84,6 +87,9 @@ returns-in_default-clause-caused g c =
       c.in_default.ensures.failed,
       slot-unspare (g.B.Bank.given a.bank) (Some a.backup) c.args.slot a.members c.self.invariant.kept.members_are.placed addable,
     )
+
+pub returns-in_default-clause-numbers : goal.returns-in_default-clause-numbers
+returns-in_default-clause-numbers g c = subst (λ p. (number : ℕ) → bears p.parts.work c.args.slot number ≡ true → bears c.self.inside.work c.args.slot number ≡ true) c.self.view_is (λ number is. is)
 
 pub returns-in_default-clause-called : goal.returns-in_default-clause-called
 returns-in_default-clause-called g c =
@@ -201,6 +207,20 @@ contains-requires g c =
     let lt = slot-there (g.B.Bank.given c.self.inside.bank) (Some c.self.inside.backup) c.args.slot c.self.inside.members c.self.invariant.kept.members_are.placed addable in
     omega (arith, few, lt)
 
+pub bear-requires : goal.bear-requires
+bear-requires g c =
+    let addable = subst (λ p. (refusal : Refusal) → IsUnaddable (g.B.Bank.given p.parts.bank) p.parts.backup c.args.slot p.parts.members refusal → ⊥) (sym c.self.view_is) c.requires.addable in
+    let few = c.self.invariant.kept.slots in
+    let lt = slot-there (g.B.Bank.given c.self.inside.bank) (Some c.self.inside.backup) c.args.slot c.self.inside.members c.self.invariant.kept.members_are.placed addable in
+    omega (arith, few, lt)
+
+pub bear-requires-2 : goal.bear-requires-2
+bear-requires-2 g c =
+    let addable = subst (λ p. (refusal : Refusal) → IsUnaddable (g.B.Bank.given p.parts.bank) p.parts.backup c.args.slot p.parts.members refusal → ⊥) (sym c.self.view_is) c.requires.addable in
+    let few = c.self.invariant.kept.slots in
+    let lt = slot-there (g.B.Bank.given c.self.inside.bank) (Some c.self.inside.backup) c.args.slot c.self.inside.members c.self.invariant.kept.members_are.placed addable in
+    omega (arith, few, lt)
+
 -- ---- where it was lost in the update
 
 pub invariant_of-self-then-contains : goal.invariant_of-self-then-contains
@@ -226,7 +246,7 @@ invariant_of-self-then-contains g c =
     let free = is-free a.members.newest a.work c.args.number first in
     let sb = c.spare_for-sb.result in
     let scope = scope_in given a.epoch.uuid a.epoch.given (Some a.backup) in
-    let work = with_carried c.args.number a.work in
+    let work = bearing false slot c.args.number a.work in
     let tape = g.B.Bank.tape a.bank in
     let mid = g.B.Bank.tape c.look_at.new.bank in
     let tape' = g.B.Bank.tape c.add_member-lost.new.bank in
@@ -238,14 +258,14 @@ invariant_of-self-then-contains g c =
     (subst (λ (b : Given). AddsSafe g.B.Bank.tells b slot sb a.members m mid tape') look.given e.safe) since in
     let given_is = e.given ∙ look.given in
     let events = losses_of roles spares ++ Refused (SlotFault slot) ∷ [] in
-    ready-with (entries_of c.args.who end events) was (grows-then (looked-grows look.tape) did.grows) (shapes-moved given (with_spare slot sb a.members) m did.moved)
-    (subst (λ (n : ℕ). IsMoving g.B.Bank.tells given tape' scope a.epoch.first (a.epoch.entries.items ++ entries_of c.args.who end events) m (is_carried work) a.work.resync a.course (bytes_in a.course.window a.window.items) n)
+    rw (c.bear.ensures) (ready-with (entries_of c.args.who end events) was (grows-then (looked-grows look.tape) did.grows) (shapes-moved given (with_spare slot sb a.members) m did.moved)
+    (subst (λ (n : ℕ). IsMoving g.B.Bank.tells given tape' scope a.epoch.first (a.epoch.entries.items ++ entries_of c.args.who end events) m (bears work) a.work.resync a.course (bytes_in a.course.window a.window.items) n)
     (sym (left-moved given (with_spare slot sb a.members) m a.work.resync a.course a.ahead did.moved))
-    (added-lost-moves g.B.Bank.tells given tape mid tape' scope a.epoch.first a.epoch.entries.items a.members m (is_carried a.work) (is_carried work) a.work.resync a.course (bytes_in a.course.window a.window.items)
+    (added-lost-moves g.B.Bank.tells given tape mid tape' scope a.epoch.first a.epoch.entries.items a.members m (bears a.work) (bears work) a.work.resync a.course (bytes_in a.course.window a.window.items)
     (left_in a.work a.members a.course a.ahead) c.args.who end slot sb roles spares was.kept (begins-going a.epoch.entries.items c.args.who number) (not_254 c.args.who.caller c.requires.caller) c.ops-end-2.ensures.count made))
     refl did.counts (behind-keeps c.args.who end roles spares (Refused (SlotFault slot)) (λ n. refl) (λ limit. refl))
     (behind-whole tape' scope a.epoch.first a.epoch.entries.items c.args.who end roles spares (Refused (SlotFault slot)) did.moved made.since) given_is (scope-same given (Some a.backup) given_is c.enter_behind.ensures.uuid c.enter_behind.ensures.given) c.enter_behind.ensures.first c.make_room.ensures.items c.enter_behind.ensures.items
-    (omega (arith, c.enter_behind.ensures.room, c.in-Ok.ensures.ok))
+    (omega (arith, c.enter_behind.ensures.room, c.in-Ok.ensures.ok)))
 
 pub returns-then-contains-clause-answered : goal.returns-then-contains-clause-answered
 returns-then-contains-clause-answered g c =
@@ -271,6 +291,12 @@ returns-then-contains-clause-caused g c =
     let gone = sym c.contains.ensures ∙ c.if-contains.true in
     rw (← c.self.view_is) (refl, addable, did.failed.spares_are slot gone, e.lost gone)
 
+pub returns-then-contains-clause-numbers : goal.returns-then-contains-clause-numbers
+returns-then-contains-clause-numbers g c =
+    let was = c.args.self.now.parts in
+    subst (λ w. (number : ℕ) → bears was.work c.args.slot number ≡ true → bears w c.args.slot number ≡ true) (sym (c.bear.ensures ∙ ap (λ p. bearing false c.args.slot c.args.number p.parts.work) c.self.view_is))
+    (bears-more c.args.slot c.args.number was.work c.args.slot)
+
 pub returns-then-contains-clause-called : goal.returns-then-contains-clause-called
 returns-then-contains-clause-called g c =
     let addable = subst (λ p. (refusal : Refusal) → IsUnaddable (g.B.Bank.given p.parts.bank) p.parts.backup c.args.slot p.parts.members refusal → ⊥) (sym c.self.view_is) c.requires.addable in
@@ -292,12 +318,12 @@ returns-then-contains-clause-called g c =
     let first = subst (λ p. free_number p.parts.members.newest p.parts.work ≡ Some c.args.number) (sym c.self.view_is) c.requires.number in
     let end = c.ops-end-2.result in
     let event = Refused (SlotFault slot) in
-    rw (← c.self.view_is) (add-called c.args.number look.tape did
+    rw (← c.self.view_is) (add-called false c.args.number look.tape did
     (ended-behind (g.B.Bank.tape c.add_member-lost.new.bank) c.enter_behind.new.epoch.first c.make_room.new.self.items c.args.who end (losses_of roles spares) event c.enter_behind.ensures.items c.ops-end-2.ensures.count)
     (losses-behind a.members m (g.B.Bank.faults_of a.bank) (g.B.Bank.faults_of c.add_member-lost.new.bank) a.epoch.entries.items c.make_room.new.self.items c.enter_behind.new.epoch.entries.items c.args.who end roles spares
     event since tt c.make_room.ensures.items c.enter_behind.ensures.items)
     first
-    (record { uuid = c.enter_behind.ensures.uuid; given = c.enter_behind.ensures.given; first = c.enter_behind.ensures.first; backup = refl; work = refl; ahead = refl; limit = refl })
+    (record { uuid = c.enter_behind.ensures.uuid; given = c.enter_behind.ensures.given; first = c.enter_behind.ensures.first; backup = refl; work = c.bear.ensures; ahead = refl; limit = refl })
     (λ t. (was.kept.recorded t).begun))
 
 pub returns-then-contains-clause-others : goal.returns-then-contains-clause-others
@@ -355,7 +381,11 @@ invariant_of-self-2 g c =
     let free = is-free a.members.newest a.work c.args.number first in
     let sb = c.spare_for-sb.result in
     let scope = scope_in given a.epoch.uuid a.epoch.given (Some a.backup) in
-    let work = with_carried c.args.number a.work in
+    let more = bearing false slot c.args.number a.work in
+    let work = bearing true slot c.args.number a.work in
+    let few = was.kept.slots in
+    let done = sym c.contains.ensures ∙ c.if-contains.false in
+    let anew = told-anew given m slot c.args.number sb a.work (omega (arith, few, there)) (free-added did) (e.spare done) (e.stored done) c.spare_for-sb.ensures.number in
     let tape = g.B.Bank.tape a.bank in
     let mid = g.B.Bank.tape c.look_at.new.bank in
     let tape' = g.B.Bank.tape c.add_member-lost.new.bank in
@@ -367,14 +397,16 @@ invariant_of-self-2 g c =
     (subst (λ (b : Given). AddsSafe g.B.Bank.tells b slot sb a.members m mid tape') look.given e.safe) since in
     let given_is = e.given ∙ look.given in
     let events = losses_of roles spares ++ Added slot ∷ [] in
-    ready-with (entries_of c.args.who end events) was (grows-then (looked-grows look.tape) did.grows) (shapes-moved given (with_spare slot sb a.members) m did.moved)
-    (subst (λ (n : ℕ). IsMoving g.B.Bank.tells given tape' scope a.epoch.first (a.epoch.entries.items ++ entries_of c.args.who end events) m (is_carried work) a.work.resync a.course (bytes_in a.course.window a.window.items) n)
+    rw (c.bear-2.ensures) (ready-with (entries_of c.args.who end events) was (grows-then (looked-grows look.tape) did.grows) (shapes-moved given (with_spare slot sb a.members) m did.moved)
+    (subst (λ (n : ℕ). IsMoving g.B.Bank.tells given tape' scope a.epoch.first (a.epoch.entries.items ++ entries_of c.args.who end events) m (bears work) a.work.resync a.course (bytes_in a.course.window a.window.items) n)
     (sym (left-moved given (with_spare slot sb a.members) m a.work.resync a.course a.ahead did.moved))
-    (added-moves g.B.Bank.tells given tape mid tape' scope a.epoch.first a.epoch.entries.items a.members m (is_carried a.work) (is_carried work) a.work.resync a.course (bytes_in a.course.window a.window.items)
-    (left_in a.work a.members a.course a.ahead) c.args.who end slot sb roles spares was.kept (begins-going a.epoch.entries.items c.args.who number) (not_254 c.args.who.caller c.requires.caller) c.ops-end-2.ensures.count made))
+    (moves-anew g.B.Bank.tells given tape' scope a.epoch.first (a.epoch.entries.items ++ entries_of c.args.who end events) m (bears more) (bears work) a.work.resync a.course (bytes_in a.course.window a.window.items)
+    (left_in a.work a.members a.course a.ahead) anew
+    (added-moves g.B.Bank.tells given tape mid tape' scope a.epoch.first a.epoch.entries.items a.members m (bears a.work) (bears more) a.work.resync a.course (bytes_in a.course.window a.window.items)
+    (left_in a.work a.members a.course a.ahead) c.args.who end slot sb roles spares was.kept (begins-going a.epoch.entries.items c.args.who number) (not_254 c.args.who.caller c.requires.caller) c.ops-end-2.ensures.count made)))
     refl did.counts (behind-keeps c.args.who end roles spares (Added slot) (λ n. refl) (λ limit. refl))
     (behind-whole tape' scope a.epoch.first a.epoch.entries.items c.args.who end roles spares (Added slot) did.moved made.since) given_is (scope-same given (Some a.backup) given_is c.enter_behind-2.ensures.uuid c.enter_behind-2.ensures.given) c.enter_behind-2.ensures.first c.make_room.ensures.items c.enter_behind-2.ensures.items
-    (omega (arith, c.enter_behind-2.ensures.room, c.in-Ok.ensures.ok))
+    (omega (arith, c.enter_behind-2.ensures.room, c.in-Ok.ensures.ok)))
 
 pub returns-clause-answered : goal.returns-clause-answered
 returns-clause-answered g c =
@@ -395,6 +427,16 @@ returns-clause-stored g c =
     rw (← c.self.view_is) (stored-as c.add_member-lost.new.members c.self.inside.members c.self.inside.work c.args.slot c.args.number c.spare_for-sb.result
     (subst (λ p. free_number p.parts.members.newest p.parts.work ≡ Some c.args.number) (sym c.self.view_is) c.requires.number) c.spare_for-sb.ensures.number c.spare_for-sb.ensures.offset
     (e.stored (sym c.contains.ensures ∙ c.if-contains.false)))
+
+pub returns-clause-numbers : goal.returns-clause-numbers
+returns-clause-numbers g c =
+    let was = c.args.self.now.parts in
+    let addable = subst (λ p. (refusal : Refusal) → IsUnaddable (g.B.Bank.given p.parts.bank) p.parts.backup c.args.slot p.parts.members refusal → ⊥) (sym c.self.view_is) c.requires.addable in
+    let few = c.self.invariant.kept.slots in
+    let there = slot-there (g.B.Bank.given c.self.inside.bank) (Some c.self.inside.backup) c.args.slot c.self.inside.members c.self.invariant.kept.members_are.placed addable in
+    subst (λ w. IfSome (free_number was.members.newest was.work) (λ free. (number : ℕ) → number < 128 → bears w c.args.slot number ≡ (number == free)))
+    (sym (c.bear-2.ensures ∙ ap (λ p. bearing true c.args.slot c.args.number p.parts.work) c.self.view_is))
+    (bears-free was.members.newest c.args.slot c.args.number was.work c.requires.number (omega (arith, few, there)))
 
 pub returns-clause-called : goal.returns-clause-called
 returns-clause-called g c =
@@ -417,12 +459,12 @@ returns-clause-called g c =
     let first = subst (λ p. free_number p.parts.members.newest p.parts.work ≡ Some c.args.number) (sym c.self.view_is) c.requires.number in
     let end = c.ops-end-2.result in
     let event = Added slot in
-    rw (← c.self.view_is) (add-called c.args.number look.tape did
+    rw (← c.self.view_is) (add-called true c.args.number look.tape did
     (ended-behind (g.B.Bank.tape c.add_member-lost.new.bank) c.enter_behind-2.new.epoch.first c.make_room.new.self.items c.args.who end (losses_of roles spares) event c.enter_behind-2.ensures.items c.ops-end-2.ensures.count)
     (losses-behind a.members m (g.B.Bank.faults_of a.bank) (g.B.Bank.faults_of c.add_member-lost.new.bank) a.epoch.entries.items c.make_room.new.self.items c.enter_behind-2.new.epoch.entries.items c.args.who end roles spares
     event since tt c.make_room.ensures.items c.enter_behind-2.ensures.items)
     first
-    (record { uuid = c.enter_behind-2.ensures.uuid; given = c.enter_behind-2.ensures.given; first = c.enter_behind-2.ensures.first; backup = refl; work = refl; ahead = refl; limit = refl })
+    (record { uuid = c.enter_behind-2.ensures.uuid; given = c.enter_behind-2.ensures.given; first = c.enter_behind-2.ensures.first; backup = refl; work = c.bear-2.ensures; ahead = refl; limit = refl })
     (λ t. (was.kept.recorded t).begun))
 
 pub returns-clause-others : goal.returns-clause-others
@@ -465,6 +507,9 @@ returns-in-Err-clause-answered g c = c.make_room.ensures.items ∙ ap (λ p. p.p
 
 pub returns-in-Err-clause-unchanged : goal.returns-in-Err-clause-unchanged
 returns-in-Err-clause-unchanged g c = unchanged-roomed _ _ c.make_room.new.self.items c.make_room.ensures.items c.self.view_is
+
+pub returns-in-Err-clause-numbers : goal.returns-in-Err-clause-numbers
+returns-in-Err-clause-numbers g c = subst (λ p. (number : ℕ) → bears p.parts.work c.args.slot number ≡ true → bears c.self.inside.work c.args.slot number ≡ true) c.self.view_is (λ number is. is)
 
 pub returns-in-Err-clause-caused : goal.returns-in-Err-clause-caused
 returns-in-Err-clause-caused g c = ap (λ p. p.parts.members) c.self.view_is

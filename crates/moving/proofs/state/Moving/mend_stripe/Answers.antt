@@ -7,7 +7,7 @@ use Rattle.flat_history.specs.Plain.{entries_of}
 use Rattle.moving_laws.specs.shape_views_Regions.{DoWithout}
 use Rattle.views.proofs.LackingLaws.{lost-since}
 use Rattle.views.proofs.MovedLaws.{grows-none, moved-same}
-use Rattle.views.specs.Numbers.{is_carried}
+use Rattle.views.specs.Numbers.{bears}
 use Rattle.call_entries.specs.Losing.{losses_of}
 use Rattle.moving_laws.specs.array_kept_Kept.{scope_in}
 use Rattle.moving_laws.proofs.array_kept_LossLaws.{losses-behind, ended-behind, behind-alone}
@@ -46,7 +46,7 @@ invariant_of-self g c =
     let next = next-of _ c.unwrap_or-stripes.result (subst (λ p. IsMendDue p) (sym c.self.view_is) c.requires.due) c.unwrap_or-stripes.ensures in
     let end = c.ops-end.result in
     let refusal = c.in-Some.refusal in
-    let kept = untried-moves g.B.Bank.tells given (g.B.Bank.tape a.bank) scope a.epoch.first a.epoch.entries.items a.members (is_carried a.work) a.work.resync a.course (bytes_in a.course.window a.window.items) (left_in a.work a.members a.course a.ahead)
+    let kept = untried-moves g.B.Bank.tells given (g.B.Bank.tape a.bank) scope a.epoch.first a.epoch.entries.items a.members (bears a.work) a.work.resync a.course (bytes_in a.course.window a.window.items) (left_in a.work a.members a.course a.ahead)
     c.args.who end c.unwrap_or-stripes.result refusal was.kept goes (not_254 c.args.who.caller c.requires.caller) c.ops-end.ensures.count next.0 next.1 c.in-Some.ensures.why in
     ready (entries_of c.args.who end (Refused refusal ∷ [])) was (grows-none (λ t. refl)) (shapes-same a.members.newest) kept
     refl (λ slot. omega arith) (alone-keeps c.args.who end (Refused refusal) (λ n. refl) (λ limit. refl)) (λ none whole. whole) refl (scope-same given (Some a.backup) refl c.enter.ensures.uuid c.enter.ensures.given) c.enter.ensures.first refl c.enter.ensures.items
@@ -209,8 +209,8 @@ overflow_add-self g c =
     let below = next.1 in
     omega (arith, below, short)
 
-pub steps_left-left-requires-clause-open : goal.steps_left-left-requires-clause-open
-steps_left-left-requires-clause-open g c =
+pub all_left-left-requires-clause-open : goal.all_left-left-requires-clause-open
+all_left-left-requires-clause-open g c =
     let a = c.self.inside in
     let due = subst (λ p. IsMendDue p) (sym c.self.view_is) c.requires.due in
     aside-right c.mend_list-mended.new.members.newest a.course.window due.aside
@@ -235,12 +235,12 @@ invariant_of-self-2 g c =
     let roles = c.newly_vacant-roles.result in
     let spares = c.mend_list-mended.result.spares in
     let end = c.ops-end-2.result in
-    let left = c.steps_left-left.result in
+    let left = c.all_left-left.result in
     let since = lost-since given a.members m c.len-count.result c.vacant_roles-before.result roles spares before after here.placed did.moved did.failed
     (c.len-count.ensures ∙ here.backed.roles) c.vacant_roles-before.ensures c.newly_vacant-roles.ensures in
     let step = mend-step given a.members m tape tape' stripes roles spares before after did.moved did.grows since did.dirty did.rise did.unused did.others did.kept did.stands did.tail did.ends did.safe in
     let kept = mend-done a.work a.course a.ahead c.args.who end roles spares stripes next.0 next.1 due.aside was.kept c.in_default.ensures.why goes c.requires.caller c.ops-end-2.ensures.count step
-    left c.steps_left-left.ensures
+    left c.all_left-left.ensures
     (done-why (IsNotMended (mend_shape a.members.newest stripes) m) (DoWithout m) c.mend_list-mended.result.refusal c.in_default-refusal.is did.refused) (did.mended c.in_default-refusal.is) in
     with-buffers (omega (arith, was.rows_fit, did.rows)) (rw did.buffer was.buffer_fits)
     (ready-with (entries_of c.args.who end (losses_of roles spares ++ Step MendsStripe left ∷ [])) was did.grows (shapes-moved given a.members m did.moved) kept
@@ -260,7 +260,7 @@ returns-clause-called g c =
     let roles = c.newly_vacant-roles.result in
     let spares = c.mend_list-mended.result.spares in
     let end = c.ops-end-2.result in
-    let event = Step MendsStripe c.steps_left-left.result in
+    let event = Step MendsStripe c.all_left-left.result in
     let since = lost-since given a.members m c.len-count.result c.vacant_roles-before.result roles spares before after here.placed did.moved did.failed
     (c.len-count.ensures ∙ here.backed.roles) c.vacant_roles-before.ensures c.newly_vacant-roles.ensures in
     rw (← c.self.view_is) (called did.grows did.moved
@@ -358,19 +358,19 @@ returns-in-Some-refusal-clause-room g c = one-fewer c.self.inside.steps c.args.s
 pub returns-in-Some-refusal-clause-given : goal.returns-in-Some-refusal-clause-given
 returns-in-Some-refusal-clause-given g c = c.mend_list-mended.ensures.given ∙ ap (λ p. g.B.Bank.given p.parts.bank) c.self.view_is
 
-pub steps_left-left-requires-clause-fit : goal.steps_left-left-requires-clause-fit
-steps_left-left-requires-clause-fit g c = c.mend_list-mended.ensures.moved.placed.fit
+pub all_left-left-requires-clause-fit : goal.all_left-left-requires-clause-fit
+all_left-left-requires-clause-fit g c = c.mend_list-mended.ensures.moved.placed.fit
 
-pub steps_left-left-requires-clause-reshape : goal.steps_left-left-requires-clause-reshape
-steps_left-left-requires-clause-reshape g c =
+pub all_left-left-requires-clause-reshape : goal.all_left-left-requires-clause-reshape
+all_left-left-requires-clause-reshape g c =
     under-way-moved (g.B.Bank.given c.self.inside.bank) c.self.inside.members c.mend_list-mended.new.members c.mend_list-mended.ensures.moved c.self.invariant.kept.members_are.active
 
-pub steps_left-left-requires-clause-zeroed : goal.steps_left-left-requires-clause-zeroed
-steps_left-left-requires-clause-zeroed g c =
+pub all_left-left-requires-clause-zeroed : goal.all_left-left-requires-clause-zeroed
+all_left-left-requires-clause-zeroed g c =
     zeroed-moved (g.B.Bank.given c.self.inside.bank) c.self.inside.members c.mend_list-mended.new.members c.mend_list-mended.ensures.moved c.self.inside.course.zeroed c.self.invariant.kept.course_is.few
 
-pub steps_left-left-requires-clause-sound : goal.steps_left-left-requires-clause-sound
-steps_left-left-requires-clause-sound g c =
+pub all_left-left-requires-clause-sound : goal.all_left-left-requires-clause-sound
+all_left-left-requires-clause-sound g c =
     sound-moved (g.B.Bank.given c.self.inside.bank) c.self.inside.members c.mend_list-mended.new.members c.mend_list-mended.ensures.moved (phases_of c.self.inside.ahead) c.self.invariant.planned
 
 pub enter_behind-requires-2-clause-room : goal.enter_behind-requires-2-clause-room
@@ -381,7 +381,7 @@ enter_behind-requires-2-clause-number g c = c.check_going.ensures
 
 pub returns-clause-entered : goal.returns-clause-entered
 returns-clause-entered g c =
-    rw (← c.self.view_is) (taken-behind c.args.who c.ops-end-2.result c.newly_vacant-roles.result c.mend_list-mended.result.spares MendsStripe c.steps_left-left.result _ c.steps_left-left.ensures c.enter_behind-2.ensures.items)
+    rw (← c.self.view_is) (taken-behind c.args.who c.ops-end-2.result c.newly_vacant-roles.result c.mend_list-mended.result.spares MendsStripe c.all_left-left.result _ c.all_left-left.ensures c.enter_behind-2.ensures.items)
 
 pub returns-clause-course : goal.returns-clause-course
 returns-clause-course g c = ap (λ p. p.course) c.self.view_is

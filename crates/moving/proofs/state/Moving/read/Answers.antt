@@ -13,11 +13,11 @@ use Rattle.flat_history.specs.Flat.{next_number, now}
 use Rattle.flat_history.specs.Plain.{entries_of}
 use Rattle.flat_history.specs.Transfers.{last_end_from}
 use Rattle.views.specs.Rebuilding.{Held}
-use Rattle.views.specs.Numbers.{is_carried}
+use Rattle.views.specs.Numbers.{bears}
 use Rattle.views.proofs.MovedLaws.{grows-none, moved-same}
 use Rattle.call_entries.proofs.CallLaws.{torn-losses}
 use Rattle.moving_laws.specs.array_kept_Kept.{scope_in}
-use Rattle.moving_laws.specs.array_kept_Calls.{IsLossBy, IsRefusedFor}
+use Rattle.moving_laws.specs.array_kept_Calls.{IsLossBy, WasSpare, IsRefusedFor}
 use Rattle.moving_laws.proofs.array_kept_LossLaws.{ended-behind}
 use Rattle.moving_laws.proofs.array_kept_ReadyLaws.{scope-same, list-same}
 use Rattle.moving_laws.proofs.array_kept_ReplyLaws.{inside-losses, replied}
@@ -71,7 +71,7 @@ invariant_of-self-in-Some g c =
     let hidden = c.hidden_span-hidden.result in
     let relied = c.relied_sector-relied.result in
     let why = subst (λ (n : ℕ). IsRefusedFor n (c.args.at + count) (IsUnreadAround hidden relied c.args.at (c.args.at + count)) a.members a.members refusal) c.visible-sectors.ensures.value c.in-Some.ensures.why in
-    let kept = resting-moves g.B.Bank.tells given tape scope a.epoch.first a.epoch.entries.items a.members (is_carried a.work) a.work.resync a.course (bytes_in a.course.window a.window.items) (left_in a.work a.members a.course a.ahead)
+    let kept = resting-moves g.B.Bank.tells given tape scope a.epoch.first a.epoch.entries.items a.members (bears a.work) a.work.resync a.course (bytes_in a.course.window a.window.items) (left_in a.work a.members a.course a.ahead)
     c.args.who end (Refused refusal) was.kept (begins-going a.epoch.entries.items c.args.who number) (not_254 c.args.who.caller c.requires.caller) c.ops-end.ensures.count (quiet-refusal refusal) (λ told is. is)
     (first-right was.kept was.limited hidden relied c.args.at (c.args.at + count) refusal c.relied_sector-relied.ensures.value why) in
     ready (entries_of c.args.who end (Refused refusal ∷ [])) was (grows-none (λ t. refl)) (shapes-same a.members.newest) kept
@@ -151,7 +151,7 @@ invariant_of-self-then-asked-eq0 g c =
     let zero = c.if-asked-eq0.true in
     let none : length body ≡ 0 = ap (λ (l : List Sector). length l) (c.from_bytes-body.ensures ∙ no-sectors c.in-Ok.bytes.items (ap (λ (n : ℕ). n / 512) c.in-Ok.ensures.len ∙ zero)) in
     let within : c.args.at ≤ visible_size a.members a.limit = let below = c.in_default.ensures.why.0 in let sectors = c.visible-sectors.ensures.value in omega (arith, below, sectors) in
-    let kept = resting-moves g.B.Bank.tells given tape scope a.epoch.first a.epoch.entries.items a.members (is_carried a.work) a.work.resync a.course (bytes_in a.course.window a.window.items) (left_in a.work a.members a.course a.ahead)
+    let kept = resting-moves g.B.Bank.tells given tape scope a.epoch.first a.epoch.entries.items a.members (bears a.work) a.work.resync a.course (bytes_in a.course.window a.window.items) (left_in a.work a.members a.course a.ahead)
     c.args.who end (Read c.args.at body) was.kept (begins-going a.epoch.entries.items c.args.who number) (not_254 c.args.who.caller c.requires.caller) c.ops-end-then-asked-eq0.ensures.count (read-quiet c.args.at body) (λ told is. is)
     (none-read was.kept was.limited c.args.at body none within) in
     ready (entries_of c.args.who end (Read c.args.at body ∷ [])) was (grows-none (λ t. refl)) (shapes-same a.members.newest) kept
@@ -231,7 +231,7 @@ returns-in-Err-make_room-clause-called g c =
     let faults = g.B.Bank.faults_of a.bank in
     called-over g.B.Bank.given g.B.Bank.tape g.B.Bank.faults_of c.self.view_is (called (grows-none (λ t. refl)) (moved-same given given a.members a.members refl refl was.kept.members_are.placed was.kept.members_are.unlost)
     (λ t. ap (λ (l : List Entry). last_end_from a.epoch.first l) c.make_room.ensures.items ∙ (was.kept.recorded t).ended)
-    (record { more = []; grown = c.make_room.ensures.items ∙ sym (append-nil a.epoch.entries.items); failed = All-nil (λ e. IsLossBy (Held a.members) faults faults e.event) })
+    (record { more = []; grown = c.make_room.ensures.items ∙ sym (append-nil a.epoch.entries.items); failed = All-nil (λ e. IsLossBy (Held a.members) (WasSpare a.members) faults faults e.event) })
     (never-falls _)
     (record { uuid = refl; given = refl; first = refl; backup = refl; work = refl; ahead = refl; limit = refl })
     (λ t. (was.kept.recorded t).begun))

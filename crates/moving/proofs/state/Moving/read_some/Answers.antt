@@ -14,7 +14,7 @@ use Rattle.flat_history.specs.World.{World, opening_list}
 use Rattle.flat_history.specs.Flat.{next_number, now}
 use Rattle.flat_history.specs.Plain.{entries_of}
 use Rattle.flat_history.specs.Stands.{shape_for}
-use Rattle.views.specs.Numbers.{is_carried}
+use Rattle.views.specs.Numbers.{bears}
 use Rattle.views.specs.Lacking.{AreLostSince, DoesWithout, HaveRolesFailed}
 use Rattle.views.proofs.LackingLaws.{lost-since}
 use Rattle.views.proofs.LackingLists.{row-sector}
@@ -136,7 +136,7 @@ invariant_of-self g c =
     (some-of (IsUnreadBeside hidden relied c.args.at (c.args.at + asked) m) c.fetch_beside-fetched.result.refusal refusal c.in-Some.is did.refused)) in
     with-buffer (let len = (with_items a.buffer c.fetch_beside-fetched.new.scratch).ok.0 in let ok = a.buffer.ok.0 in let fits = was.buffer_fits in omega (arith, len, ok, fits))
     (ready (entries_of c.args.who end (losses_of roles spares ++ Refused refusal ∷ [])) was did.grows (shapes-moved given a.members m did.moved)
-    (subst (λ (left : ℕ). IsMoving g.B.Bank.tells given tape' scope a.epoch.first (a.epoch.entries.items ++ entries_of c.args.who end (losses_of roles spares ++ Refused refusal ∷ [])) m (is_carried a.work) a.work.resync a.course (bytes_in a.course.window a.window.items) left)
+    (subst (λ (left : ℕ). IsMoving g.B.Bank.tells given tape' scope a.epoch.first (a.epoch.entries.items ++ entries_of c.args.who end (losses_of roles spares ++ Refused refusal ∷ [])) m (bears a.work) a.work.resync a.course (bytes_in a.course.window a.window.items) left)
     (sym (left-moved given a.members m a.work.resync a.course a.ahead did.moved)) (unread-moves was.kept was.limited (read-live c.hidden_span-hidden.result c.relied_sector-relied.result c.args.at (c.args.at + count) was.kept fine.1 (read-some count c.args.at (λ zero. let some = c.requires.some in omega (arith, some, zero)))) c.args.who end roles spares (begins-going a.epoch.entries.items c.args.who number) (not_254 c.args.who.caller c.requires.caller) c.ops-end.ensures.count did.grows named hidden relied c.args.at (c.args.at + count) refusal c.relied_sector-relied.ensures.value within why))
     refl did.counts (behind-keeps c.args.who end roles spares (Refused refusal) (λ n. refl) (λ limit. refl))
     (behind-whole tape' scope a.epoch.first a.epoch.entries.items c.args.who end roles spares (Refused refusal) did.moved (missing-since roles did.moved since.vacant)) did.given (scope-same given (Some a.backup) did.given c.enter_behind.ensures.uuid c.enter_behind.ensures.given) c.enter_behind.ensures.first refl
@@ -308,7 +308,7 @@ invariant_of-self-2 g c =
     c.hidden_span-hidden.ensures (ap (λ (l : List ℕ). take c.bytes_of-wide.result l) c.as_slice.ensures.value) c.bytes_of-wide.ensures.long (did.holds c.in_default.is) in
     with-buffer (let len = (with_items a.buffer c.fetch_beside-fetched.new.scratch).ok.0 in let ok = a.buffer.ok.0 in let fits = was.buffer_fits in omega (arith, len, ok, fits))
     (ready (entries_of c.args.who end (losses_of roles spares ++ Read c.args.at (sectors_of bytes) ∷ [])) was did.grows (shapes-moved given a.members m did.moved)
-    (subst (λ (left : ℕ). IsMoving g.B.Bank.tells given tape' scope a.epoch.first (a.epoch.entries.items ++ entries_of c.args.who end (losses_of roles spares ++ Read c.args.at (sectors_of bytes) ∷ [])) m (is_carried a.work) a.work.resync a.course (bytes_in a.course.window a.window.items) left)
+    (subst (λ (left : ℕ). IsMoving g.B.Bank.tells given tape' scope a.epoch.first (a.epoch.entries.items ++ entries_of c.args.who end (losses_of roles spares ++ Read c.args.at (sectors_of bytes) ∷ [])) m (bears a.work) a.work.resync a.course (bytes_in a.course.window a.window.items) left)
     (sym (left-moved given a.members m a.work.resync a.course a.ahead did.moved)) (read-moves was.kept was.limited (read-live c.hidden_span-hidden.result c.relied_sector-relied.result c.args.at (c.args.at + count) was.kept fine.1 (read-some count c.args.at (λ zero. let some = c.requires.some in omega (arith, some, zero)))) c.args.who end roles spares (begins-going a.epoch.entries.items c.args.who number) (not_254 c.args.who.caller c.requires.caller) c.ops-end.ensures.count did.grows named c.relied_sector-relied.result c.args.at bytes c.relied_sector-relied.ensures.value does within holds))
     refl did.counts (behind-keeps c.args.who end roles spares (Read c.args.at (sectors_of bytes)) (λ n. refl) (λ limit. refl))
     (behind-whole tape' scope a.epoch.first a.epoch.entries.items c.args.who end roles spares (Read c.args.at (sectors_of bytes)) did.moved (missing-since roles did.moved since.vacant)) did.given (scope-same given (Some a.backup) did.given c.enter_behind-2.ensures.uuid c.enter_behind-2.ensures.given) c.enter_behind-2.ensures.first refl

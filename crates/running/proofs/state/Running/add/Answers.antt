@@ -42,7 +42,7 @@ invariant_of-self g c = elim c.match-self.branch [
   | in-Still w ↦
       let was = rw w.in-Still.is at c.self.invariant in
       let old = w.in-Still.still in
-      let new = w.add-done.new.self in
+      let new = w.add-done.new.still in
       let did = w.add-done.ensures in
       let added = add-answered c.args.who (list_length old.parts.members.newest) (AsksAdd c.args.slot) (Added c.args.slot) w.add-done.result did.answered refl in
       let called : IsAddCalled g.B.Bank.tells (g.B.Bank.given old.parts.bank) (g.B.Bank.tape old.parts.bank) (g.B.Bank.tape new.parts.bank) (g.B.Bank.faults_of old.parts.bank) (g.B.Bank.faults_of new.parts.bank) c.args.slot old new = record {
@@ -93,6 +93,12 @@ pub returns-clause-stored : goal.returns-clause-stored
 returns-clause-stored g c = elim c.match-self.branch [
   | in-Still w ↦ rw (← c.self.view_is, w.in-Still.is, w.self-inside-is, w.check_still.ensures.same, w.result-is) w.add-done.ensures.stored
   | in-Moving w ↦ rw (← c.self.view_is, w.in-Moving.is, w.self-inside-is, w.check_moving.ensures.same, w.result-is) w.add-done-in-Moving.ensures.stored
+]
+
+pub returns-clause-numbers : goal.returns-clause-numbers
+returns-clause-numbers g c = elim c.match-self.branch [
+  | in-Still w ↦ rw (← c.self.view_is, w.in-Still.is, w.self-inside-is, w.check_still.ensures.same, w.result-is) w.add-done.ensures.numbers
+  | in-Moving w ↦ rw (← c.self.view_is, w.in-Moving.is, w.self-inside-is, w.check_moving.ensures.same, w.result-is) w.add-done-in-Moving.ensures.numbers
 ]
 
 pub returns-clause-others : goal.returns-clause-others

@@ -12,7 +12,7 @@ pub invariant_of-self : goal.invariant_of-self
 invariant_of-self g c =
     let was = rw c.in-Moving.is at c.self.invariant in
     let old = c.in-Moving.moving in
-    let new = c.step-done.new.self in
+    let new = c.step-done.new.moving in
     let did = c.step-done.ensures in
     let added = add-step c.args.who (kind_of (due_of old.parts.members.newest old.course old.parts.work.resync)) _ c.step-done.result did.entered in
     rw c.check_moving.ensures.same (reshape-stepped g.B.Bank.given g.B.Bank.tape (length c.self.inside.window.items) old new did.given added did.called c.check_moving.ensures.active c.check_moving.ensures.within was)
@@ -21,7 +21,7 @@ pub returns-clause-ends : goal.returns-clause-ends
 returns-clause-ends g c =
     let did = c.step-done.ensures in
     rw (c.check_moving.ensures.same)
-    (moved-refused _ _ _ c.in-Moving.moving c.step-done.new.self c.args.who _ c.step-done.result c.check_moving.ensures.active did.called.same.array.shape did.called.same.final did.work did.entered did.caused)
+    (moved-refused _ _ _ c.in-Moving.moving c.step-done.new.moving c.args.who _ c.step-done.result c.check_moving.ensures.active did.called.same.array.shape did.called.same.final did.work did.entered did.caused)
 
 pub step-done-requires-clause-open : goal.step-done-requires-clause-open
 step-done-requires-clause-open g c = subst (λ p. IsCallGoing p.parts.entries c.args.who) (sym c.self.view_is ∙ ap (λ s. parts_in s) c.in-Moving.is) c.requires.open

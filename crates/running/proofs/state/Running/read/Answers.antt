@@ -32,7 +32,7 @@ pub returns-clause-caused : goal.returns-clause-caused
 returns-clause-caused g c = elim c.match-self.branch [
   | in-Still w ↦
       let rest = rw w.in-Still.is at c.self.invariant in
-      rw (← c.self.view_is, w.in-Still.is, w.self-inside-is, w.check_still.ensures.same, w.result-is) (read-still w.in-Still.still c.args.at (length c.args.into.now / 512) w.in-Still.still.parts.members w.read-done.new.self.parts.members w.read-done.result rest.now.still w.read-done.ensures.caused)
+      rw (← c.self.view_is, w.in-Still.is, w.self-inside-is, w.check_still.ensures.same, w.result-is) (read-still w.in-Still.still c.args.at (length c.args.into.now / 512) w.in-Still.still.parts.members w.read-done.new.still.parts.members w.read-done.result rest.now.still w.read-done.ensures.caused)
   | in-Moving w ↦
       let active = rw w.in-Moving.is at c.self.invariant in
       rw (← c.self.view_is, w.in-Moving.is, w.self-inside-is, w.check_moving.ensures.same, w.result-is) (read-moving w.in-Moving.moving c.args.at (length c.args.into.now / 512) w.in-Moving.moving.parts.members w.read-done-in-Moving.new.self.parts.members w.read-done-in-Moving.result active.active w.read-done-in-Moving.ensures.caused)
@@ -53,7 +53,7 @@ invariant_of-self g c = elim c.match-self.branch [
   | in-Still w ↦
       let was = rw w.in-Still.is at c.self.invariant in
       let old = w.in-Still.still in
-      let new = w.read-done.new.self in
+      let new = w.read-done.new.still in
       let did = w.read-done.ensures in
       let added = add-answered c.args.who (list_length old.parts.members.newest) (AsksRead c.args.at (length c.args.into.now / 512)) (Read c.args.at (sectors_of w.read-done.new.into)) w.read-done.result did.answered refl in
       rw (w.self-inside-is, w.check_still.ensures.same) (rest-called g.B.Bank.given g.B.Bank.tape (length c.self.inside.window.items) old new did.given added did.called did.whole w.check_still.ensures.rest w.check_still.ensures.within was)

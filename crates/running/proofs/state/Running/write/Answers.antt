@@ -18,7 +18,7 @@ pub returns-clause-answered : goal.returns-clause-answered
 returns-clause-answered g c = elim c.match-self.branch [
   | in-Still w ↦
       rw (← c.self.view_is, w.in-Still.is, w.self-inside-is, w.check_still.ensures.same, w.result-is)
-      (write-replied _ _ _ _ w.in-Still.still.parts.members w.write-done.new.self.parts.members _ c.args.at (sectors_of c.args.from.now) c.args.who _ _ w.write-done.result w.write-done.ensures.answered w.write-done.ensures.caused)
+      (write-replied _ _ _ _ w.in-Still.still.parts.members w.write-done.new.still.parts.members _ c.args.at (sectors_of c.args.from.now) c.args.who _ _ w.write-done.result w.write-done.ensures.answered w.write-done.ensures.caused)
   | in-Moving w ↦ rw (← c.self.view_is, w.in-Moving.is, w.self-inside-is, w.check_moving.ensures.same, w.result-is) w.write-done-in-Moving.ensures.answered
 ]
 
@@ -40,10 +40,10 @@ pub returns-clause-caused : goal.returns-clause-caused
 returns-clause-caused g c = elim c.match-self.branch [
   | in-Still w ↦
       let rest = rw w.in-Still.is at c.self.invariant in
-      rw (← c.self.view_is, w.in-Still.is, w.self-inside-is, w.check_still.ensures.same, w.result-is) (write-still w.in-Still.still c.args.at (length c.args.from.now / 512) w.in-Still.still.parts.members w.write-done.new.self.parts.members w.write-done.result rest.now.still w.write-done.ensures.caused)
+      rw (← c.self.view_is, w.in-Still.is, w.self-inside-is, w.check_still.ensures.same, w.result-is) (write-still w.in-Still.still c.args.at (length c.args.from.now / 512) w.in-Still.still.parts.members w.write-done.new.still.parts.members w.write-done.result rest.now.still w.write-done.ensures.caused)
   | in-Moving w ↦
       let active = rw w.in-Moving.is at c.self.invariant in
-      rw (← c.self.view_is, w.in-Moving.is, w.self-inside-is, w.check_moving.ensures.same, w.result-is) (write-moving w.in-Moving.moving c.args.at (length c.args.from.now / 512) w.in-Moving.moving.parts.members w.write-done-in-Moving.new.self.parts.members w.write-done-in-Moving.result active.active w.write-done-in-Moving.ensures.caused)
+      rw (← c.self.view_is, w.in-Moving.is, w.self-inside-is, w.check_moving.ensures.same, w.result-is) (write-moving w.in-Moving.moving c.args.at (length c.args.from.now / 512) w.in-Moving.moving.parts.members w.write-done-in-Moving.new.moving.parts.members w.write-done-in-Moving.result active.active w.write-done-in-Moving.ensures.caused)
 ]
 
 pub returns-clause-backed : goal.returns-clause-backed
@@ -57,14 +57,14 @@ returns-clause-backed g c = elim c.match-self.branch [
 pub returns-clause-backup : goal.returns-clause-backup
 returns-clause-backup g c = elim c.match-self.branch [
   | in-Still w ↦
-      rw (← c.self.view_is, w.in-Still.is, w.result-is) (λ fault. no-backup_fault _ _ _ _ w.in-Still.still.parts.members w.write-done.new.self.parts.members w.write-done.result fault w.write-done.ensures.caused)
+      rw (← c.self.view_is, w.in-Still.is, w.result-is) (λ fault. no-backup_fault _ _ _ _ w.in-Still.still.parts.members w.write-done.new.still.parts.members w.write-done.result fault w.write-done.ensures.caused)
   | in-Moving w ↦ rw (← c.self.view_is, w.in-Moving.is, w.self-inside-is, w.check_moving.ensures.same, w.result-is) w.write-done-in-Moving.ensures.backup
 ]
 
 pub returns-clause-barred : goal.returns-clause-barred
 returns-clause-barred g c = elim c.match-self.branch [
   | in-Still w ↦
-      rw (w.result-is) (λ fault. no-backup_fault _ _ _ _ w.in-Still.still.parts.members w.write-done.new.self.parts.members w.write-done.result fault w.write-done.ensures.caused)
+      rw (w.result-is) (λ fault. no-backup_fault _ _ _ _ w.in-Still.still.parts.members w.write-done.new.still.parts.members w.write-done.result fault w.write-done.ensures.caused)
   | in-Moving w ↦
       let was = rw w.in-Moving.is at c.self.invariant in
       rw (← c.self.view_is, w.in-Moving.is) (λ fault. was.active)
@@ -103,14 +103,14 @@ invariant_of-self g c = elim c.match-self.branch [
   | in-Still w ↦
       let was = rw w.in-Still.is at c.self.invariant in
       let old = w.in-Still.still in
-      let new = w.write-done.new.self in
+      let new = w.write-done.new.still in
       let did = w.write-done.ensures in
       let added = add-answered c.args.who (list_length old.parts.members.newest) (AsksWrite c.args.at (sectors_of c.args.from.now)) (Wrote c.args.at (sectors_of c.args.from.now)) w.write-done.result did.answered refl in
       rw (w.self-inside-is, w.check_still.ensures.same) (rest-called g.B.Bank.given g.B.Bank.tape (length c.self.inside.window.items) old new did.given added did.called did.whole w.check_still.ensures.rest w.check_still.ensures.within was)
   | in-Moving w ↦
       let was = rw w.in-Moving.is at c.self.invariant in
       let old = w.in-Moving.moving in
-      let new = w.write-done-in-Moving.new.self in
+      let new = w.write-done-in-Moving.new.moving in
       let did = w.write-done-in-Moving.ensures in
       let added = add-written c.args.who (list_length old.parts.members.newest) c.args.at (sectors_of c.args.from.now) w.write-done-in-Moving.result did.answered in
       rw (w.self-inside-is, w.check_moving.ensures.same) (reshape-called g.B.Bank.given g.B.Bank.tape (length c.self.inside.window.items) old new did.given added did.called w.check_moving.ensures.active w.check_moving.ensures.within was)

@@ -2,6 +2,7 @@ use Rattle.std.proofs.Common.{◌≤◌, [], ◌∷◌, inl, refl, sym, subst, a
 use Rattle.flat_history.specs.Plain.{entries_of}
 use Rattle.views.specs.Rebuilding.{Held}
 use Rattle.views.proofs.MovedLaws.{grows-none}
+use Rattle.still_laws.specs.array_kept_Calls.{WasSpare}
 use Rattle.still_laws.proofs.array_kept_LossLaws.{ended-behind}
 use Rattle.still_laws.proofs.array_kept_ReadyLaws.{scope-same}
 use Rattle.still_laws.specs.kept_history_Recorded.{IsCallGoing}
@@ -39,7 +40,7 @@ returns-clause-stepped g c =
     let a = c.self.inside in
     let faults = g.B.Bank.faults_of a.bank in
     let end = c.ops-end.result in
-    let lossless = reply-lossless c.args.self.now.parts.work c.args.self.now.parts.members c.args.self.now.ahead (Held a.members) faults faults c.args.event c.requires.reply in
+    let lossless = reply-lossless c.args.self.now.parts.work c.args.self.now.parts.members c.args.self.now.ahead (Held a.members) (WasSpare a.members) faults faults c.args.event c.requires.reply in
     rw (← c.self.view_is) (stepped (grows-none (λ t. refl)) (shapes-same a.members.newest)
     (ended-behind (g.B.Bank.tape a.bank) c.enter.new.epoch.first a.epoch.entries.items c.args.who end [] c.args.event c.enter.ensures.items c.ops-end.ensures.count)
     (λ role slot held. inl held)

@@ -1,0 +1,22 @@
+pub use Rattle.still.proofs.superblock_reads_SaidLists
+pub use Rattle.still.proofs.superblock_reads_SaidSlots
+pub use Rattle.still.proofs.shape_changes_PlannedRoles
+pub use Rattle.still.proofs.history_calls_Behind
+pub use Rattle.still.proofs.Lowest as still_Lowest
+pub use Rattle.still.proofs.shape_views_Stands
+pub use Rattle.still.proofs.array_kept_StepsLeft
+pub use Rattle.still.proofs.shape_changes_Kept
+pub use Rattle.still.proofs.array_kept_NowLaws
+pub use Rattle.still.proofs.history_calls_Plans
+pub use Rattle.still.proofs.running_words_Called
+pub use Rattle.still.proofs.running_words_Lengths
+pub use Rattle.still.proofs.running_words_VisibleLaws
+pub use Rattle.still.proofs.still_laws_Closing
+pub use Rattle.still.proofs.still_laws_Plain
+pub use Rattle.still.proofs.array_kept_KeptLaws
+pub use Rattle.still.proofs.still_kept_Refusals
+pub use Rattle.still.proofs.still_kept_Resting
+pub use Rattle.still.proofs.still_laws_Left
+pub use Rattle.still.proofs.array_kept_ReadyLaws
+pub use Rattle.still.proofs.still_laws_Kept
+pub use Rattle.still.proofs.still_laws_Going

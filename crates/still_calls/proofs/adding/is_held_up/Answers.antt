@@ -1,0 +1,17 @@
+use Rattle.std.proofs.Common.{◌<◌, length, subst, arith}
+use Rattle.std.specs.Prelude.{◌^◌}
+use Rattle.bank.specs.Given.{Given}
+use Rattle.superblocks.specs.declared.members.Members.{Members}
+use Rattle.views.specs.Lacking.{AreUnnamed}
+use Rattle.views.specs.Placed.{IsPlaced}
+use Rattle.views.proofs.Fit.{few}
+use Rattle.still_calls.proofs.adding.is_held_up.Goals as goal
+
+few-roles : (given : Given) (m : Members) → IsPlaced given m → length m.roles < 2 ^ 32
+few-roles given m placed = let most = few given m placed in omega (arith, most)
+
+pub has_unnamed-requires-clause-few : goal.has_unnamed-requires-clause-few
+has_unnamed-requires-clause-few g c = few-roles (g.B.Bank.given c.still.inside.bank) c.still.inside.members c.still.invariant.kept.members_are.placed
+
+pub returns-then-faults-eq0 : goal.returns-then-faults-eq0
+returns-then-faults-eq0 g c = record { fresh = λ out lost none. subst (λ p. AreUnnamed p.parts.members) c.still.view_is (c.has_unnamed.ensures.none out) }

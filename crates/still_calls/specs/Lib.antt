@@ -1,0 +1,20 @@
+pub use Rattle.still.specs.still_kept_Still
+pub use Rattle.still.specs.shape_views_Regions
+pub use Rattle.still.specs.array_kept_Kept
+pub use Rattle.still.specs.kept_history_Recorded
+pub use Rattle.still.specs.running_words_Calls
+pub use Rattle.still.specs.running_words_Parts
+pub use Rattle.still.specs.running_words_Plans
+pub use Rattle.still.specs.still_laws_Ready
+pub use Rattle.still.specs.still_kept_course_kept_Laws
+pub use Rattle.still.specs.shape_changes_Marking
+pub use Rattle.still.specs.array_kept_Calls
+pub use Rattle.still.specs.Rebuilding as still_Rebuilding
+pub use Rattle.still.specs.shape_changes_Safety
+pub use Rattle.still.specs.shape_changes_Steady
+pub use Rattle.still.specs.shape_views_Views
+pub use Rattle.still.specs.shape_changes_Changing
+pub use Rattle.still.specs.shape_ends_Ends
+pub use Rattle.still.specs.shape_ends_Takeovers
+pub use Rattle.still.specs.kept_history_Safe
+pub use Rattle.still.specs.history_calls_Reliable

@@ -1,0 +1,11 @@
+//! Calls of an array without an active reshape: reads, writes, and slots that are made spares.
+#![tactic(auto)]
+
+mod adding;
+mod reading;
+mod writing;
+
+pub use adding::add;
+pub use reading::read;
+pub use still::{Still, first_spare, set_rebuilt, steps_left, vacant_roles};
+pub use writing::write;

@@ -1,7 +1,0 @@
-use Rattle.std.proofs.Common.{◌≡◌, ◌<◌, ℕ, false}
-use Rattle.superblocks.specs.Reads.{has_spare}
-use Rattle.still_steps.proofs.choosing.first_spare.Given as goal
-
--- no lower one passes
-abbrev pub invariant-loop-slot : goal.invariant-loop-slot
-invariant-loop-slot l = (slot : ℕ) → slot < l.slot → has_spare l.members.spares slot ≡ false
