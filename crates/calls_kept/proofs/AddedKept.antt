@@ -1,9 +1,7 @@
 -- What an array keeps after a slot was made a spare.
-use Rattle.std.proofs.Common.{◌≡◌, ◌≢◌, ◌⊎◌, inl, inr, ℕ, ◌<◌, ◌==◌, ◌||◌, Bool, true, false, List, [], ◌∷◌, ◌++◌, length, slice_set, get_or, Option, Some, refl, sym, ◌∙◌, ap, subst, arith, None, cond, eqb-true, nat_lt, ◌≤◌}
+use Rattle.std.proofs.Common.{◌≡◌, ◌≢◌, ◌⊎◌, inl, inr, ℕ, ◌<◌, ◌==◌, ◌||◌, Bool, true, false, List, [], ◌∷◌, ◌++◌, length, Option, Some, refl, sym, ◌∙◌, ap, subst, arith, None, cond, eqb-true, nat_lt, ◌≤◌}
 use Rattle.std.specs.Prelude.{IfSome, is_some, IsTrue}
-use Rattle.std.proofs.lemmas.Bool.{cases_eq, cases_lt}
 use Rattle.std.proofs.lemmas.Bool.Decides.{nat_tests}
-use Rattle.std.proofs.lemmas.List.{get_or-set_same, get_or-set_other, get_or_past, length-set}
 use Rattle.md_base.specs.Sectors.{Sector}
 use Rattle.md_base.specs.declared.answers.Who.{Who}
 use Rattle.md_base.specs.declared.answers.Refusal.{Refusal}
@@ -54,7 +52,7 @@ use Rattle.array_kept.proofs.DegradedLaws.{degraded-quiet, rebuilt-moved, leaves
 use Rattle.array_kept.proofs.views_Flushed.{contents-added}
 use Rattle.array_kept.proofs.KeptLaws.{LeavesSafe, LeavesWork, StayPlaced, rebuilds-before, left-lost, safe-old, safe-adding, work-kept, mended-are, same-now, whole-still, kept-after}
 use Rattle.array_kept.proofs.views_LackingLists.{list-moved, among-moved}
-use Rattle.array_kept.proofs.LedgerLaws.{told_by, CarriesMore, OnlyAdd, add-none, add-one, add-losses, more-safe, told-more as more-told, told-unclean, unsettled-still}
+use Rattle.array_kept.proofs.LedgerLaws.{told_by, OnlyAdd, add-none, add-one, add-losses, more-safe, told-more as more-told, told-unclean, unsettled-still}
 use Rattle.array_kept.proofs.call_entries_LeftLaws.{left-more}
 use Rattle.array_kept.proofs.views_MarkedSafe.{added-longer, flushed-safe}
 use Rattle.array_kept.proofs.views_MovedLaws.{grows-then, moved-same}

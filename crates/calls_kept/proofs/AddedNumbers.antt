@@ -8,7 +8,7 @@ use Rattle.bank.specs.Given.{Given}
 use Rattle.sb1.specs.declared.sb.Sb.{Sb}
 use Rattle.array_kept.specs.superblocks_the_Members.{Members}
 use Rattle.array_kept.specs.superblocks_Reads.{has_spare}
-use Rattle.array_kept.specs.superblocks_Update.{own_in, is_held_by}
+use Rattle.array_kept.specs.superblocks_Update.{is_held_by}
 use Rattle.array_kept.specs.shape_changes_Carried.{BearsOwn, AreToldAnew}
 use Rattle.array_kept.proofs.shape_changes_Without.{live-is}
 use Rattle.array_kept.specs.views_the_Work.{Work}

@@ -1,5 +1,5 @@
 -- An array that is the same in fewer slots stands for the same list there.
-use Rattle.std.proofs.Common.{◌≡◌, ◌≢◌, ◌⊎◌, inl, inr, ℕ, ◌+◌, ◌*◌, ◌<◌, ◌≤◌, Bool, true, false, not, ◌&&◌, ◌||◌, ◌==◌, cond, nat_lt, List, [], ◌∷◌, length, get_or, Option, Some, None, unwrap_or, option_map, find, refl, sym, ◌∙◌, ap, subst, arith}
+use Rattle.std.proofs.Common.{◌≡◌, ◌≢◌, inl, inr, ℕ, ◌+◌, ◌*◌, true, not, ◌&&◌, ◌||◌, ◌==◌, cond, nat_lt, List, [], ◌∷◌, get_or, Option, Some, None, unwrap_or, option_map, find, refl, sym, ◌∙◌, ap, arith}
 use Rattle.std.specs.Option.{option_map_or, option_or}
 use Rattle.std.proofs.lemmas.Bool.{cases_lt}
 use Rattle.std.proofs.lemmas.List.{get_or_past}
@@ -11,7 +11,7 @@ use Rattle.md_base.specs.declared.answers.Refusal.{Refusal}
 use Rattle.md_base.specs.declared.answers.Refusal.TheVariants.{NoSuperblock, Unsupported, BadField, TwoHolders, MembersMissing, DirtyDegraded, PositionNotOnUnit, BackupAbsent}
 use Rattle.md_base.specs.Sectors.{Sector}
 use Rattle.md_base.specs.Shapes.{has_slot, is_multiple}
-use Rattle.md_base.specs.Search.{tabulate, least_below}
+use Rattle.md_base.specs.Search.{tabulate}
 use Rattle.md_base.proofs.Tabulated.{length-tabulate, get_or-tabulate}
 use Rattle.sb1.specs.declared.sb.Sb.{Sb}
 use Rattle.sb1.specs.Features.{refused_bits}
@@ -19,7 +19,7 @@ use Rattle.sb1.specs.Superblock.{superblock_in}
 use Rattle.bank.specs.Tape.{Contents}
 use Rattle.layout.specs.Layout.{place, row_roles}
 use Rattle.parity.specs.Parity.{fill}
-use Rattle.superblock_reads.specs.superblocks_Reading.{Scope, Reading, reading, superblocks, seen_superblock, of_array, is_backup, role_state, rows_held, holder, own_of, data_offset_of, next_window, list_length, is_reshaping, role_count, is_clean}
+use Rattle.superblock_reads.specs.superblocks_Reading.{Scope, Reading, reading, superblocks, seen_superblock, of_array, is_backup, role_state, rows_held, holder, own_of, data_offset_of, next_window, list_length, is_reshaping}
 use Rattle.superblock_reads.specs.superblocks_Verdict.{first_of_all, members_missing, unsupported, bad_field, first_bad_entry, fresh_from, two_holders, shared_dev, dirty_degraded, off_unit, judged_fields, unit_of, members_refusal}
 use Rattle.superblock_reads.proofs.SaidSlots.{read-parts}
 use Rattle.backup.specs.Section.{has_section, section_sector}

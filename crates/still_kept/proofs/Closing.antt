@@ -14,7 +14,7 @@ use Rattle.bank.specs.Tape.{disk}
 use Rattle.parity.proofs.Columns.{tabulate-same}
 use Rattle.moving_kept.specs.superblocks_the_Members.{Members}
 use Rattle.moving_kept.specs.superblocks_Reading.{Scope, Reading, reading, is_reshaping, is_clean, is_whole, holder, role_state, shape_of, target_of}
-use Rattle.moving_kept.specs.row_io_Rows.{reading_of, present, is_missing, missing_count, role_without, members_without, IsTolerated}
+use Rattle.moving_kept.specs.row_io_Rows.{reading_of, present, is_missing, missing_count, members_without, IsTolerated}
 use Rattle.moving_kept.specs.row_io_Rows as rows
 use Rattle.moving_kept.specs.list_io_Full.{RowStands}
 use Rattle.moving_kept.specs.flat_history_the_Entry.{Entry}

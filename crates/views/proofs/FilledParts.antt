@@ -12,19 +12,17 @@ use Rattle.bank.specs.Given.{Given}
 use Rattle.bank.specs.declared.bank.Operation.{Operation}
 use Rattle.bank.specs.Tape.{Contents, EachMark, disk}
 use Rattle.shape_changes.specs.superblocks_the_Members.{Members}
-use Rattle.shape_changes.specs.superblocks_Reading.{Scope, shape_of, role_state, rows_held, holder, data_offset_of}
-use Rattle.layout.specs.Layout.{row_roles}
+use Rattle.shape_changes.specs.superblocks_Reading.{Scope, role_state, rows_held, holder, data_offset_of}
 use Rattle.shape_changes.specs.row_io_Rows.{reading_of, held_slot}
-use Rattle.shape_changes.specs.row_io_Writes.{is_parity}
 use Rattle.shape_changes.proofs.row_io_Losses.{holder-of}
-use Rattle.shape_changes.specs.list_io_Full.{full_sector, AreWholeIn, RowStands}
+use Rattle.shape_changes.specs.list_io_Full.{RowStands}
 use Rattle.shape_changes.specs.list_io_Buffers.{AreTouched, IsTouched}
 use Rattle.shape_changes.specs.list_io_Writing.{HasFull}
 use Rattle.views.specs.Placed.{IsPlaced}
 use Rattle.shape_changes.specs.Steady.{AreUnlost, IsSafeNow, IsSafeStretch}
 use Rattle.shape_changes.specs.Marking.{AreOthersPresent}
 use Rattle.views.specs.Moving.{IsMoved}
-use Rattle.views.specs.Lacking.{IsOfStripe, ListStands, DataStandsAmong}
+use Rattle.views.specs.Lacking.{IsOfStripe, DataStandsAmong}
 use Rattle.views.specs.Rebuilding.{IsUnheld, IsFilling, IsFilledAmong}
 use Rattle.shape_changes.specs.shape_views_Views.{Ledger}
 use Rattle.shape_changes.proofs.Steady.{safe-is-seen}

@@ -5,7 +5,6 @@ use Rattle.std.proofs.lemmas.Bool.Decides.{nat_tests}
 use Rattle.md_base.specs.declared.status.Role.{Role}
 use Rattle.md_base.specs.declared.status.Role.TheVariants.{Whole, Recovering, Missing}
 use Rattle.md_base.specs.Sectors.{Sector}
-use Rattle.md_base.specs.Shapes.{tolerance}
 use Rattle.md_base.specs.declared.places.Shape.{Shape}
 use Rattle.bank.specs.Given.{Given}
 use Rattle.bank.specs.Tape.{Contents}
@@ -14,7 +13,7 @@ use Rattle.shape_changes.specs.superblocks_Reading.{Reading, shape_of, is_reshap
 use Rattle.shape_changes.specs.row_io_Rows.{reading_of, is_held, is_missing, held_slot, held_sector, role_without, missing_count}
 use Rattle.shape_changes.proofs.row_io_Losses.{holder-of, state_kept}
 use Rattle.shape_changes.proofs.row_io_Tables.{get_or-map}
-use Rattle.views.specs.Placed.{IsPlaced, is_vacant, AreLess}
+use Rattle.views.specs.Placed.{is_vacant, AreLess}
 use Rattle.views.specs.Moving.{IsMoved}
 use Rattle.views.specs.Lacking.{DoesWithout}
 use Rattle.views.proofs.Counts.{count-implied}

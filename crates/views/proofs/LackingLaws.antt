@@ -17,7 +17,7 @@ use Rattle.shape_changes.specs.superblocks_Updating.{IsUpdate}
 use Rattle.shape_changes.specs.superblocks_Reading.{Reading, shape_of, role_state, holder, final_shape, is_reshaping, role_count}
 use Rattle.shape_changes.specs.superblocks_Reads.{has_spare}
 use Rattle.shape_changes.proofs.superblocks_SlotSets.{none_there}
-use Rattle.shape_changes.specs.row_io_Rows.{reading_of, present, is_missing, role_without, missing_count}
+use Rattle.shape_changes.specs.row_io_Rows.{reading_of, present, is_missing, role_without}
 use Rattle.views.specs.Placed.{is_vacant, AreStillHeld, AreWhole, IsPlaced, AreLost, AreLess, IsInForce}
 use Rattle.views.specs.Flushing.{AreMembersFlushed}
 use Rattle.views.specs.Moving.{IsMoved, AreFailed}

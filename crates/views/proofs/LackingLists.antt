@@ -10,12 +10,11 @@ use Rattle.md_base.specs.declared.status.Role.TheVariants.{Recovering}
 use Rattle.md_base.specs.declared.places.Place.{Place}
 use Rattle.bank.specs.Given.{Given}
 use Rattle.bank.specs.Tape.{Contents}
-use Rattle.layout.specs.Layout.{place, row_roles}
+use Rattle.layout.specs.Layout.{place}
 use Rattle.parity.specs.Rows.{IsSector, sector_of}
 use Rattle.shape_changes.specs.superblocks_the_Members.{Members}
 use Rattle.shape_changes.specs.superblocks_Reading.{shape_of, role_count, role_state, holder, data_offset_of}
 use Rattle.shape_changes.specs.row_io_Rows.{reading_of, held_slot}
-use Rattle.shape_changes.specs.row_io_Writes.{is_parity}
 use Rattle.shape_changes.proofs.row_io_Losses.{holder-of}
 use Rattle.shape_changes.proofs.row_io_NewRow.{whole_sector}
 use Rattle.shape_changes.specs.list_io_Full.{full_sector, AreWholeIn, DataStands, RowStands}

@@ -12,15 +12,14 @@ use Rattle.bank.specs.declared.bank.Operation.{Operation}
 use Rattle.bank.specs.Tape.{Contents, EachMark, disk}
 use Rattle.layout.specs.Layout.{place}
 use Rattle.layout.proofs.Places.{place-role_below}
-use Rattle.layout.proofs.Limits.{limited}
 use Rattle.md_base.specs.Shapes.{is_valid_shape}
 use Rattle.std.specs.Prelude.{IsTrue, Result, Ok, Err, OnOk, is_some}
 use Rattle.parity.specs.Rows.{sector_of}
 use Rattle.shape_changes.specs.superblocks_the_Members.{Members}
-use Rattle.shape_changes.specs.superblocks_Reading.{shape_of, role_state, holder, data_offset_of}
+use Rattle.shape_changes.specs.superblocks_Reading.{role_state, holder, data_offset_of}
 use Rattle.shape_changes.specs.row_io_Rows.{reading_of}
 use Rattle.shape_changes.proofs.row_io_Losses.{holder-of}
-use Rattle.shape_changes.specs.list_io_Calls.{HasRows, AreLost as IsListLost}
+use Rattle.shape_changes.specs.list_io_Calls.{AreLost as IsListLost}
 use Rattle.shape_changes.specs.list_io_Buffers.{buffered, AreDistinct, AreStanding}
 use Rattle.shape_changes.specs.list_io_Full.{full_sector}
 use Rattle.shape_changes.specs.list_io_Writing.{IsWritten, AreDataFrom, HasFull}

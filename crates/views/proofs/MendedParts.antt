@@ -1,5 +1,5 @@
 -- The parts of a stripe that are mended one after another: where they are, what stands after each, and why the array stays safe.
-use Rattle.std.proofs.Common.{◌≡◌, ◌⊎◌, inl, inr, ℕ, ◌+◌, ◌*◌, ◌/◌, ◌^◌, ◌<◌, ◌≤◌, Bool, true, false, List, [], Option, Some, None, refl, sym, ◌∙◌, ap, subst, arith}
+use Rattle.std.proofs.Common.{◌≡◌, ◌⊎◌, inl, inr, ℕ, ◌+◌, ◌*◌, ◌/◌, ◌^◌, ◌<◌, ◌≤◌, Bool, true, false, List, [], Option, Some, None, refl, sym, ap, subst, arith}
 use Rattle.std.specs.Prelude.{MatchOption, ⊤, is_some}
 use Rattle.std.proofs.lemmas.Bool.{cases_lt}
 use Rattle.std.proofs.lemmas.Nat.{mul-le}
@@ -13,23 +13,21 @@ use Rattle.bank.specs.declared.bank.Operation.{Operation}
 use Rattle.layout.proofs.Limits.{limited}
 use Rattle.layout.proofs.Places.{data_some}
 use Rattle.shape_changes.specs.superblocks_the_Members.{Members}
-use Rattle.shape_changes.specs.superblocks_Reading.{shape_of, role_state, holder}
+use Rattle.shape_changes.specs.superblocks_Reading.{role_state, holder}
 use Rattle.shape_changes.specs.row_io_Rows.{reading_of, present}
 use Rattle.shape_changes.specs.list_io_Buffers.{IsTouched}
 use Rattle.shape_changes.specs.list_io_Full.{AreWholeIn, RowStands}
 use Rattle.shape_changes.specs.list_io_Writing.{IsWritten, HasFull}
 use Rattle.shape_changes.specs.flat_history_World.{World}
 use Rattle.shape_changes.specs.flat_history_Sound.{OpensFit}
-use Rattle.views.specs.Whole.{list_size}
-use Rattle.views.specs.Placed.{places_of, IsPlaced, IsInForce}
+use Rattle.views.specs.Placed.{IsPlaced, IsInForce}
 use Rattle.shape_changes.specs.Marking.{AreOthersPresent}
 use Rattle.views.specs.Moving.{Grows, IsMoved}
 use Rattle.shape_changes.specs.Safety.{HasRoomLeft, IsRisen}
-use Rattle.views.specs.Status.{stripes_of}
-use Rattle.views.specs.Lacking.{AreBytes, AreTooMany, DoesWithout, ListStands, DataStandsAmong, LacksTooMany, AreOtherRowsKept}
+use Rattle.views.specs.Lacking.{AreBytes, DoesWithout, DataStandsAmong, LacksTooMany, AreOtherRowsKept}
 use Rattle.shape_changes.specs.shape_views_Views.{Ledger}
 use Rattle.shape_changes.specs.Steady.{IsSafeOver, KeepsSafe, AreGoneTold}
-use Rattle.views.proofs.LackingLists.{list-moved, row-moved, data-among-moved}
+use Rattle.views.proofs.LackingLists.{row-moved, data-among-moved}
 use Rattle.views.proofs.LackingWrites.{recovering-before, full-later, others-then, others-same}
 use Rattle.shape_changes.proofs.Risen.{room-first, room-then}
 use Rattle.views.proofs.SafeStretch.{gone-before, safe-then, grows-longer, over-at, keeps-from}

@@ -9,9 +9,9 @@ use Rattle.md_base.specs.declared.status.Role.TheVariants.{Whole, Recovering, Mi
 use Rattle.bank.specs.Given.{Given}
 use Rattle.bank.specs.declared.bank.Operation.{Operation}
 use Rattle.shape_changes.specs.superblocks_the_Members.{Members}
-use Rattle.shape_changes.specs.superblocks_Reading.{Reading, shape_of, role_state, rows_held, holder, is_whole, role_count}
+use Rattle.shape_changes.specs.superblocks_Reading.{Reading, role_state, rows_held, holder, is_whole, role_count}
 use Rattle.shape_changes.specs.superblocks_Reads.{has_spare}
-use Rattle.shape_changes.specs.row_io_Rows.{reading_of, missing_count, role_without, members_without}
+use Rattle.shape_changes.specs.row_io_Rows.{reading_of, role_without, members_without}
 use Rattle.shape_changes.proofs.row_io_Losses.{state_kept}
 use Rattle.views.specs.Whole.{list_size}
 use Rattle.views.specs.Placed.{places_of, AreWhole, IsPlaced, AreLost, AreStillHeld, AreLess, IsInForce}

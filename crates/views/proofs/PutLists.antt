@@ -9,7 +9,7 @@ use Rattle.bank.specs.Tape.{Contents}
 use Rattle.layout.specs.Layout.{place}
 use Rattle.shape_changes.specs.superblocks_the_Members.{Members}
 use Rattle.shape_changes.specs.superblocks_Reading.{shape_of, role_state, holder, data_offset_of}
-use Rattle.shape_changes.specs.row_io_Rows.{reading_of, held_slot}
+use Rattle.shape_changes.specs.row_io_Rows.{reading_of}
 use Rattle.shape_changes.proofs.row_io_Losses.{holder-of}
 use Rattle.shape_changes.specs.list_io_Full.{full_sector, DataStands, RowStands}
 use Rattle.shape_changes.specs.list_io_Buffers.{IsTouched}

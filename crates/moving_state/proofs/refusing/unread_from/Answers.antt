@@ -1,4 +1,4 @@
-use Rattle.std.proofs.Common.{◌≤◌, ℕ, ◌+◌, refl, sym, ◌∙◌, arith}
+use Rattle.std.proofs.Common.{◌≤◌, ◌+◌, refl, sym, ◌∙◌, arith}
 use Rattle.moving_state.specs.First.{list_refusal}
 use Rattle.moving_state.proofs.FirstLaws.{past-first, told-here, none-here, torn-read, fine-all, read-judged}
 use Rattle.moving_state.proofs.refusing.unread_from.Goals as goal
