@@ -42,7 +42,7 @@ use Rattle.line_answers.specs.run_laws_Making.{Setting}
 use Rattle.line_answers.specs.run_laws_Records.{IsLeftByBlock, IsRecordedIn}
 use Rattle.line_answers.specs.run_laws_Replies.{Course, at_rest, calls_behind, longer_of, gone_on, course_behind, entries_to, course_after, leaves_more, leaves_more_at, most_turns, IsWorkedAt, IsWorked, IsRepliedBeside, IsAnswerBeside}
 use Rattle.line_answers.specs.run_laws_States.{running_history, histories_in, course_with, record_in, RunsOwn, IsBlockTurn, AreAnswersBeside, course_beside, AreRecordedBeside, EndsFrom, IsBlockAnswered}
-use Rattle.line_answers.proofs.Called.{calls_in}
+use Rattle.line_answers.proofs.line_asks_Called.{calls_in}
 use Rattle.line_answers.proofs.Turns.{get_last, grown_kept}
 use Rattle.line_answers.proofs.run_laws_Losses.{losses-kept}
 use Rattle.block_answers.specs.Answers.{insides, block_places, refusals}

@@ -34,15 +34,15 @@ use Rattle.line_answers.specs.run_laws_Making.{Setting, setting_of, world_at, hi
 use Rattle.line_answers.specs.run_laws_Records.{IsLeftTold, IsLeftByBlock}
 use Rattle.line_answers.specs.running_steps_Steps.{is_turn}
 use Rattle.line_answers.specs.run_laws_Written.{IsWritten}
-use Rattle.line_answers.proofs.run_laws_Writing.{written-inside}
+use Rattle.line_answers.proofs.line_asks_Writing.{written-inside}
 use Rattle.line_answers.specs.run_laws_States.{running_history, histories_in, IsCaller, IsGrown, AreLossesBehind, AreLossesSince, RunsOwn, IsBlockTurn}
 use Rattle.line_answers.specs.Turning.{IsTurningTold}
-use Rattle.line_answers.proofs.run_laws_Apart.{apart-all, own-all}
-use Rattle.line_answers.proofs.run_laws_Legal.{grows_longer, former_grown, accepted-grown}
+use Rattle.line_answers.proofs.line_asks_Apart.{apart-all, own-all}
+use Rattle.line_answers.proofs.line_asks_Legal.{grows_longer, former_grown, accepted-grown}
 use Rattle.line_answers.proofs.run_laws_Losses.{IsHistoryLater, told-behind, held-more, held-before, may-held, loss-since, losses-last}
-use Rattle.line_answers.proofs.run_laws_Sizes.{sized-now}
+use Rattle.line_answers.proofs.line_asks_Sizes.{sized-now}
 use Rattle.line_answers.proofs.run_laws_Told.{IsRefusalTold, HasTold, told_more}
-use Rattle.line_answers.proofs.Called.{epoch-opening, told-backup}
+use Rattle.line_answers.proofs.line_asks_Called.{epoch-opening, told-backup}
 use Rattle.line_answers.proofs.Turns.{grown_last}
 
 -- ---- what may have held a role
@@ -97,7 +97,7 @@ module _ (setting : Setting) (old : List Entry) (history : History) (members : M
   losses-behind done [] was told = tt
   losses-behind done (e ∷ more) (one, was) told = (
     loss-since setting (old ++ done) history (MayHoldSince members done) (WasMemberSince members done) (λ t role slot had. held-since (history_world setting history) old done members (since t) role slot had)
-    (λ t slot was. was-since (history_world setting history) old done members (since t) slot was) e.event one (All-head (λ e. IsRefusalTold setting e.event) e more told),
+        (λ t slot was. was-since (history_world setting history) old done members (since t) slot was) e.event one (All-head (λ e. IsRefusalTold setting e.event) e more told),
     subst (λ (l : List Entry). AreLossesBehind setting history l more) (sym (append_assoc old done (e ∷ [])))
         (losses-behind (done ++ e ∷ []) more was (All-tail (λ e. IsRefusalTold setting e.event) e more told)),
   )

@@ -1,3 +1,4 @@
+pub mod Shown
 pub mod Answers
 pub use Rattle.lanes.specs.Pace as lanes_Pace
 pub use Rattle.line_answers.specs.run_laws_Ended

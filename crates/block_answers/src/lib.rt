@@ -2,9 +2,11 @@
 #![tactic(auto)]
 
 mod answering;
+mod replies;
 mod together;
 
 pub use answering::answer_block;
 pub use lanes::Pace;
-pub use line_answers::{Answered, LineReply, Outside, State, answer, entry_of, script_call};
+pub use line_answers::{Answered, LineReply, Outside, State, answer, entry_of, halt, script_call};
+pub use replies::{is_answer_refused, put_text};
 pub use together::{Together, ask_together};

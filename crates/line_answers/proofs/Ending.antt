@@ -7,9 +7,9 @@ use Rattle.flat_history.specs.declared.events.Event.{Event}
 use Rattle.flat_history.specs.declared.events.Event.TheVariants.{Stopped, Halted}
 use Rattle.flat_history.specs.Legal.{MayBeInner}
 use Rattle.script.specs.declared.lines.Line.{Line}
-use Rattle.run_laws.specs.Asked.{script_who, IsAskedAt}
-use Rattle.run_laws.specs.Histories.{is_end, AreGoing, EndsOnce}
-use Rattle.run_laws.proofs.AskLaws.{one, with_reply}
+use Rattle.line_asks.specs.run_laws_Asked.{script_who, IsAskedAt}
+use Rattle.line_asks.specs.run_laws_Histories.{is_end, AreGoing, EndsOnce}
+use Rattle.line_asks.proofs.run_laws_AskLaws.{one, with_reply}
 
 inside_goes : (event : Event) → MayBeInner event → is_end event ≡ false
 inside_goes Stopped is = absurd is

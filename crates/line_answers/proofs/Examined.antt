@@ -12,20 +12,20 @@ use Rattle.sb1.specs.declared.sb.Sb.{Sb}
 use Rattle.sb1.specs.Superblock.{superblock_in}
 use Rattle.flat_history.specs.declared.events.Epoch.{Epoch}
 use Rattle.flat_history.specs.Reopened.{OpensAccepted}
-use Rattle.run_laws.specs.views_Moving.{Grows}
-use Rattle.run_laws.specs.running_words_Parts.{RunningParts}
-use Rattle.run_laws.specs.views_Parts.{Parts}
+use Rattle.line_asks.specs.views_Moving.{Grows}
+use Rattle.line_asks.specs.running_words_Parts.{RunningParts}
+use Rattle.line_asks.specs.views_Parts.{Parts}
 use Rattle.script.specs.declared.lines.Line.TheVariants.{Examine}
-use Rattle.run_laws.specs.declared.report.Answered.TheVariants.{Outside as IsOutside}
-use Rattle.run_laws.specs.declared.report.Outside.TheVariants.{Refused}
-use Rattle.run_laws.specs.declared.states.State.TheVariants.{Idle, Running}
-use Rattle.run_laws.specs.Ended.{AreFormer, IsGoing}
-use Rattle.run_laws.specs.Examining.{IsExamined, IsUnexamined, told_of}
-use Rattle.run_laws.specs.Histories.{histories_of}
-use Rattle.run_laws.specs.Making.{Setting, world_at, AreHeldSince}
-use Rattle.run_laws.specs.States.{IsTurn, RunsOwn, running_history}
+use Rattle.line_asks.specs.run_laws_the_Answered_TheVariants.{Outside as IsOutside}
+use Rattle.line_asks.specs.run_laws_the_Outside_TheVariants.{Refused}
+use Rattle.line_asks.specs.run_laws_the_State_TheVariants.{Idle, Running}
+use Rattle.line_asks.specs.run_laws_Ended.{AreFormer, IsGoing}
+use Rattle.line_asks.specs.run_laws_Examining.{IsExamined, IsUnexamined, told_of}
+use Rattle.line_asks.specs.run_laws_Histories.{histories_of}
+use Rattle.line_asks.specs.run_laws_Making.{Setting, world_at, AreHeldSince}
+use Rattle.line_asks.specs.run_laws_States.{IsTurn, RunsOwn, running_history}
 use Rattle.line_answers.proofs.Turns.{grown_kept}
-use Rattle.run_laws.proofs.Losses.{losses-kept}
+use Rattle.line_asks.proofs.run_laws_Losses.{losses-kept}
 
 -- the same tape only grows
 pub grows_same : {tells : Type 0} {before after : List Operation} → (tells → after ≡ before) → Grows tells before after

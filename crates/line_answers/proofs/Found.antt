@@ -13,42 +13,42 @@ use Rattle.sb1.specs.declared.sb.Sb.{Sb}
 use Rattle.bank.specs.declared.bank.Operation.{Operation}
 use Rattle.bank.specs.Given.{Given, sizes}
 use Rattle.bank.specs.Tape.{contents}
-use Rattle.run_laws.specs.superblocks_the_Members.{Members}
-use Rattle.run_laws.specs.superblocks_Reading.{Reading, shape_of, final_shape, target_of, role_count, list_length, is_reshaping, is_clean, is_whole, role_state, rows_held, holder, reading}
-use Rattle.run_laws.specs.superblocks_Election.{reading_in}
-use Rattle.run_laws.specs.row_io_Rows.{reading_of, is_missing}
+use Rattle.line_asks.specs.superblocks_the_Members.{Members}
+use Rattle.line_asks.specs.superblocks_Reading.{Reading, shape_of, final_shape, target_of, role_count, list_length, is_reshaping, is_clean, is_whole, role_state, rows_held, holder, reading}
+use Rattle.line_asks.specs.superblocks_Election.{reading_in}
+use Rattle.line_asks.specs.row_io_Rows.{reading_of, is_missing}
 use Rattle.flat_history.specs.declared.events.Event.{Event}
 use Rattle.flat_history.specs.World.{World, reading_at, opening_list}
 use Rattle.flat_history.specs.Stands.{stands, standing_sector}
 use Rattle.flat_history.specs.Fits.{whole_slot}
 use Rattle.flat_history.specs.Reopened.{OpensAccepted}
-use Rattle.run_laws.specs.array_kept_Adopting.{opener, found_loss, absent_loss, absent_losses, found_losses, stripes_held, found_stripes, found_work}
-use Rattle.run_laws.specs.views_the_Work.{Work}
-use Rattle.run_laws.specs.views_Parts.{Parts}
-use Rattle.run_laws.proofs.views_Still.{count-still}
-use Rattle.run_laws.specs.assemble_the_CreateSpec.{CreateSpec}
-use Rattle.run_laws.specs.assemble_Opening.{scope_of, array_of, AreGiven, IsOpened}
-use Rattle.run_laws.specs.assemble_Running.{opened_of, IsBegun, IsCreated, IsAssembled}
-use Rattle.run_laws.specs.views_Status.{stripes_of, rebuilt_of, vacant_count, spare_count, resync_left, role_left, recovery_left, left_of}
-use Rattle.run_laws.specs.running_words_Parts.{RunningParts, visible_in, visible_size}
-use Rattle.run_laws.specs.running_words_Calls.{IsStatusFor}
-use Rattle.run_laws.specs.running_words_Still.{IsStillStatus}
-use Rattle.run_laws.specs.running_Calls.{IsShownAs}
-use Rattle.run_laws.specs.grow_asked_Left.{phases_of, grow_left}
-use Rattle.run_laws.specs.region_mends_Left.{resync_left as region_left}
-use Rattle.run_laws.specs.grow_asked_the_Window.{Window}
-use Rattle.run_laws.specs.course_kept_the_Course.{Course}
-use Rattle.run_laws.specs.reshape_openings_Finding.{window_for}
-use Rattle.run_laws.specs.shape_views_Regions.{header_in, open_by}
+use Rattle.line_asks.specs.array_kept_Adopting.{opener, found_loss, absent_loss, absent_losses, found_losses, stripes_held, found_stripes, found_work}
+use Rattle.line_asks.specs.views_the_Work.{Work}
+use Rattle.line_asks.specs.views_Parts.{Parts}
+use Rattle.line_asks.proofs.views_Still.{count-still}
+use Rattle.line_asks.specs.assemble_the_CreateSpec.{CreateSpec}
+use Rattle.line_asks.specs.assemble_Opening.{scope_of, array_of, AreGiven, IsOpened}
+use Rattle.line_asks.specs.assemble_Running.{opened_of, IsBegun, IsCreated, IsAssembled}
+use Rattle.line_asks.specs.views_Status.{stripes_of, rebuilt_of, vacant_count, spare_count, resync_left, role_left, recovery_left, left_of}
+use Rattle.line_asks.specs.running_words_Parts.{RunningParts, visible_in, visible_size}
+use Rattle.line_asks.specs.running_words_Calls.{IsStatusFor}
+use Rattle.line_asks.specs.running_words_Still.{IsStillStatus}
+use Rattle.line_asks.specs.running_Calls.{IsShownAs}
+use Rattle.line_asks.specs.grow_asked_Left.{phases_of, grow_left}
+use Rattle.line_asks.specs.region_mends_Left.{resync_left as region_left}
+use Rattle.line_asks.specs.grow_asked_the_Window.{Window}
+use Rattle.line_asks.specs.course_kept_the_Course.{Course}
+use Rattle.line_asks.specs.reshape_openings_Finding.{window_for}
+use Rattle.line_asks.specs.shape_views_Regions.{header_in, open_by}
 use Rattle.grow_plan.specs.Plans.{phases_steps}
 use Rattle.md_base.specs.declared.wishes.Phase.{Phase}
 use Rattle.flat_history.specs.Left.{opened_role, opened_roles}
 use Rattle.flat_history.specs.Plain.{entries_of}
-use Rattle.run_laws.specs.openings_Found.{IsStillFound, IsMovingFound, IsRunningFound}
-use Rattle.run_laws.specs.superblocks_Reads.{has_spare}
-use Rattle.run_laws.specs.Histories.{History}
-use Rattle.run_laws.specs.Making.{Setting, world_at, history_world, MissingAtFirst, AreHeldSince, found_members, found_window, found_left, IsStored, IsStoredNew, IsStoredAs}
-use Rattle.run_laws.specs.States.{running_history}
+use Rattle.line_asks.specs.openings_Found.{IsStillFound, IsMovingFound, IsRunningFound}
+use Rattle.line_asks.specs.superblocks_Reads.{has_spare}
+use Rattle.line_asks.specs.run_laws_Histories.{History}
+use Rattle.line_asks.specs.run_laws_Making.{Setting, world_at, history_world, MissingAtFirst, AreHeldSince, found_members, found_window, found_left, IsStored, IsStoredNew, IsStoredAs}
+use Rattle.line_asks.specs.run_laws_States.{running_history}
 
 -- the world of an array that begins where the tape ends
 abbrev pub found_world : {B : Type 0} → Given → List Operation → Option ℕ → Parts B → World

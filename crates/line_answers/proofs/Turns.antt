@@ -14,16 +14,16 @@ use Rattle.md_base.specs.declared.answers.Refusal.TheVariants.{Running as IsRunn
 use Rattle.md_base.specs.declared.status.Status.{Status}
 use Rattle.md_base.specs.declared.wishes.Wish.{Wish}
 use Rattle.md_base.specs.Shapes.{data_disks}
-use Rattle.run_laws.specs.superblocks_Reading.{is_reshaping, list_length}
-use Rattle.run_laws.specs.grow_asked_Left.{phases_of}
-use Rattle.run_laws.specs.grow_asked_the_PhasesLeft.{PhasesLeft}
-use Rattle.run_laws.specs.running_words_Parts.{RunningParts}
-use Rattle.run_laws.specs.running_replies_Replies.{RunningAnswers}
-use Rattle.run_laws.specs.running_Calls.{IsShownAs}
-use Rattle.run_laws.proofs.Sizes.{leaves-all, sized-now}
-use Rattle.run_laws.proofs.CausedLaws.{shown-record, judged-asked}
-use Rattle.run_laws.proofs.RecordLaws.{left-asked}
-use Rattle.run_laws.proofs.Turned.{found-told}
+use Rattle.line_asks.specs.superblocks_Reading.{is_reshaping, list_length}
+use Rattle.line_asks.specs.grow_asked_Left.{phases_of}
+use Rattle.line_asks.specs.grow_asked_the_PhasesLeft.{PhasesLeft}
+use Rattle.line_asks.specs.running_words_Parts.{RunningParts}
+use Rattle.line_asks.specs.running_replies_Replies.{RunningAnswers}
+use Rattle.line_asks.specs.running_Calls.{IsShownAs}
+use Rattle.line_asks.proofs.Sizes.{leaves-all, sized-now}
+use Rattle.line_asks.proofs.CausedLaws.{shown-record, judged-asked}
+use Rattle.line_asks.proofs.RecordLaws.{left-asked}
+use Rattle.line_asks.proofs.run_laws_Turned.{found-told}
 use Rattle.flat_history.specs.declared.events.Entry.{Entry}
 use Rattle.flat_history.specs.declared.events.Epoch.{Epoch}
 use Rattle.flat_history.specs.declared.events.Event.{Event}
@@ -35,41 +35,41 @@ use Rattle.flat_history.specs.Plain.{entries_of}
 use Rattle.flat_history.specs.OneShape.{OneShapeAnswers}
 use Rattle.flat_history.specs.Transfers.{last_end_from}
 use Rattle.flat_history.proofs.OneShapeLegal.{last-snoc}
-use Rattle.run_laws.proofs.history_laws_OneShapeGrowing.{call-ends}
+use Rattle.line_asks.proofs.history_laws_OneShapeGrowing.{call-ends}
 use Rattle.flat_history.specs.World.{World, opening_list}
 use Rattle.flat_history.specs.Opened.{OpensSound}
 use Rattle.bank.specs.Given.{sizes}
-use Rattle.run_laws.specs.superblocks_the_Members.{Members}
-use Rattle.run_laws.specs.views_the_Work.{Work}
-use Rattle.run_laws.specs.array_kept_Adopting.{opener, absent_losses}
-use Rattle.run_laws.specs.array_kept_Calls.{IsEndOf, IsEntered, world_for}
-use Rattle.run_laws.specs.assemble_Creating.{create_refusal}
-use Rattle.run_laws.specs.assemble_Opening.{AreGiven, array_of, scope_of}
-use Rattle.run_laws.specs.assemble_Made.{used_slot}
-use Rattle.run_laws.specs.assemble_Running.{IsCreated, OpensWithZeros}
+use Rattle.line_asks.specs.superblocks_the_Members.{Members}
+use Rattle.line_asks.specs.views_the_Work.{Work}
+use Rattle.line_asks.specs.array_kept_Adopting.{opener, absent_losses}
+use Rattle.line_asks.specs.array_kept_Calls.{IsEndOf, IsEntered, world_for}
+use Rattle.line_asks.specs.assemble_Creating.{create_refusal}
+use Rattle.line_asks.specs.assemble_Opening.{AreGiven, array_of, scope_of}
+use Rattle.line_asks.specs.assemble_Made.{used_slot}
+use Rattle.line_asks.specs.assemble_Running.{IsCreated, OpensWithZeros}
 use Rattle.script.specs.declared.lines.CreateLine.{CreateLine}
 use Rattle.script.specs.declared.lines.Line.{Line}
 use Rattle.script.specs.declared.lines.Line.TheVariants.{Create, Read, Write, Flush, Fail, Add, ArraySize, Grow, Step, Wait, Assemble}
-use Rattle.run_laws.specs.declared.report.Outside.TheVariants.{Created, Assembled, Refused}
-use Rattle.run_laws.specs.declared.report.Answered.TheVariants.{Inside, Outside as IsOutside}
-use Rattle.run_laws.specs.declared.states.State.TheVariants.{Idle, Running}
-use Rattle.run_laws.specs.Asked.{script_who, IsAskedAt, IsAsked, IsStillWaiting, IsWaited, IsSizedBy}
-use Rattle.run_laws.specs.Caused.{Record, record_of, IsJudgedBy, IsJudgedAt}
-use Rattle.run_laws.specs.Records.{IsLeftTold, AreAllAnswered, IsLeftBy, IsLeftAt, IsRecordFound, IsRecordedBy}
-use Rattle.run_laws.specs.Turning.{IsTellable, IsTurningTold}
-use Rattle.run_laws.specs.Histories.{History, history_of, histories_of, entry_at, is_end, AreGoing}
-use Rattle.run_laws.specs.Making.{Setting, held_at, history_world, MissingAtFirst, IsStoredNew, IsStoredAs}
-use Rattle.run_laws.specs.Blocks.{caller_of}
-use Rattle.run_laws.specs.Replies.{Course, with_script, at_rest, begun, gone_on, calls_behind, course_behind, entries_to, course_after, steps_at_once, IsRepliedAt, IsAnsweredInside, IsRefusedOutside, spec_of}
+use Rattle.line_asks.specs.run_laws_the_Outside_TheVariants.{Created, Assembled, Refused}
+use Rattle.line_asks.specs.run_laws_the_Answered_TheVariants.{Inside, Outside as IsOutside}
+use Rattle.line_asks.specs.run_laws_the_State_TheVariants.{Idle, Running}
+use Rattle.line_asks.specs.run_laws_Asked.{script_who, IsAskedAt, IsAsked, IsStillWaiting, IsWaited, IsSizedBy}
+use Rattle.line_asks.specs.run_laws_Caused.{Record, record_of, IsJudgedBy, IsJudgedAt}
+use Rattle.line_asks.specs.run_laws_Records.{IsLeftTold, AreAllAnswered, IsLeftBy, IsLeftAt, IsRecordFound, IsRecordedBy}
+use Rattle.line_asks.specs.Turning.{IsTellable, IsTurningTold}
+use Rattle.line_asks.specs.run_laws_Histories.{History, history_of, histories_of, entry_at, is_end, AreGoing}
+use Rattle.line_asks.specs.run_laws_Making.{Setting, held_at, history_world, MissingAtFirst, IsStoredNew, IsStoredAs}
+use Rattle.line_asks.specs.run_laws_Blocks.{caller_of}
+use Rattle.line_asks.specs.run_laws_Replies.{Course, with_script, at_rest, begun, gone_on, calls_behind, course_behind, entries_to, course_after, steps_at_once, IsRepliedAt, IsAnsweredInside, IsRefusedOutside, spec_of}
 use Rattle.script.specs.declared.reply.Lane.{Lane}
 use Rattle.script.specs.declared.reply.Lane.TheVariants.{Script as InScript, A as InA, B as InB, Worker as InWorker}
 use Rattle.script.specs.Seeds.{seeded}
-use Rattle.run_laws.specs.States.{EndsBetween, AreLossesBehind, AreLossesFrom, running_history, course_with, answer_at, IsGrown, AreGrown, AreLossesSince, IsTurn, IsNoTurn, IsTurnOrNone, RunsOwn, IsOwnEntry, AreByScript, IsByScript, IsOfScript, AreOfScript}
-use Rattle.run_laws.proofs.AskLaws.{one, with_reply, entry_there, replied_at}
+use Rattle.line_asks.specs.run_laws_States.{EndsBetween, AreLossesBehind, AreLossesFrom, running_history, course_with, answer_at, IsGrown, AreGrown, AreLossesSince, IsTurn, IsNoTurn, IsTurnOrNone, RunsOwn, IsOwnEntry, AreByScript, IsByScript, IsOfScript, AreOfScript}
+use Rattle.line_asks.proofs.run_laws_AskLaws.{one, with_reply, entry_there, replied_at}
 use Rattle.line_answers.proofs.Ending.{gone_once, ended_once}
-use Rattle.line_answers.proofs.Called.{HasCalled, called_none, called_once, called_own, called_grown, calls_in, calls_more, calls_cut}
-use Rattle.line_answers.proofs.Waits.{waiting_at, waiting_called, waited_called, waited_reply}
-use Rattle.run_laws.proofs.Losses.{losses-kept, losses-last, losses-same, losses-came, losses-found, each-absent}
+use Rattle.line_asks.proofs.Called.{HasCalled, called_none, called_once, called_own, called_grown, calls_in, calls_more, calls_cut}
+use Rattle.line_asks.proofs.Waits.{waiting_at, waiting_called, waited_called, waited_reply}
+use Rattle.line_asks.proofs.run_laws_Losses.{losses-kept, losses-last, losses-same, losses-came, losses-found, each-absent}
 use Rattle.line_answers.proofs.Found.{IsFoundHere, found_world, found_history, still-length, stored_made}
 
 -- its entries end where it began

@@ -2,32 +2,29 @@
 
 ghost use Rattle.std.specs.Prelude.{◌≡◌, ◌<◌, ◌≤◌, ◌^◌, ℕ, List, length, vec_capacity, Some, Ok, IfOk, IsTrue, IsSome};
 ghost use Rattle.bank.specs.Given.{NeverFalls};
-ghost use Rattle.run_laws.specs.views_Moving.{Grows};
+ghost use Rattle.line_asks.specs.views_Moving.{Grows};
 ghost use Rattle.script.specs.Script.{is_within_limits};
 ghost use Rattle.script.specs.declared.lines.Line.TheVariants.{Create as AsksCreate, Stop as AsksStop, Halt as AsksHalt, Assemble as AsksAssemble};
-ghost use Rattle.run_laws.specs.Caused.{record_of};
-ghost use Rattle.run_laws.specs.Ended.{IsRunKept};
-ghost use Rattle.run_laws.specs.Histories.{entry_at};
-ghost use Rattle.run_laws.specs.Making.{setting_of};
-ghost use Rattle.run_laws.specs.Records.{IsLeftTold};
-ghost use Rattle.run_laws.specs.States.{answer_at, histories_in, bank_in, RunsOwn, IsFitBank, IsTurnOrNone, IsNamed};
-ghost use Rattle.run_laws.specs.Written.{IsWrittenBy};
-ghost use Rattle.run_laws.specs.declared.report.Answered.TheVariants.{Inside as AnsweredInside, Outside as AnsweredOutside};
-ghost use Rattle.run_laws.specs.declared.report.Outside.TheVariants.{Refused as IsRefused};
-ghost use Rattle.run_laws.specs.declared.states.State.TheVariants.{Idle as IsIdle, Running as IsRunning};
+ghost use Rattle.line_asks.specs.run_laws_Caused.{record_of};
+ghost use Rattle.line_asks.specs.run_laws_Ended.{IsRunKept};
+ghost use Rattle.line_asks.specs.run_laws_Histories.{entry_at};
+ghost use Rattle.line_asks.specs.run_laws_Making.{setting_of};
+ghost use Rattle.line_asks.specs.run_laws_Records.{IsLeftTold};
+ghost use Rattle.line_asks.specs.run_laws_States.{answer_at, histories_in, bank_in, RunsOwn, IsFitBank, IsTurnOrNone, IsNamed};
+ghost use Rattle.line_asks.specs.run_laws_Written.{IsWrittenBy};
+ghost use Rattle.line_asks.specs.run_laws_the_Answered_TheVariants.{Inside as AnsweredInside, Outside as AnsweredOutside};
+ghost use Rattle.line_asks.specs.run_laws_the_Outside_TheVariants.{Refused as IsRefused};
+ghost use Rattle.line_asks.specs.run_laws_the_State_TheVariants.{Idle as IsIdle, Running as IsRunning};
 
-use crate::asks::{
-    ask_add, ask_fail, ask_flush, ask_grow, ask_read, ask_steps, ask_visible, ask_wait, ask_write,
-    last_place, script_call,
-};
 use crate::examines::{examine_idle, examine_running};
-use crate::shows::ask_show;
 use bank::Bank;
 use flat_history::{Entry, Epoch};
-use md_base::{Fault, NoMemory, Refusal};
-use run_laws::{
-    Answered, CreateSpec, Outside, Running, State, create_array as create_running, open_running,
+use line_asks::{
+    Answered, CreateSpec, Outside, Running, State, ask_add, ask_fail, ask_flush, ask_grow,
+    ask_read, ask_show, ask_steps, ask_visible, ask_wait, ask_write,
+    create_array as create_running, last_place, open_running, script_call,
 };
+use md_base::{Fault, NoMemory, Refusal};
 use script::{CreateLine, Line};
 use std::alloc::Global;
 
@@ -94,7 +91,7 @@ fn stop_array<B: Bank>(
 {
     let _ = backup;
     let who = script_call(&array);
-    let left = match array.stop(who) {
+    let left = match line_asks::stop(array, who) {
         Ok(ended) => {
             let (bank, epoch) = ended;
             let what = inside(&epochs, epoch.entries.len() as u64 - 1);
@@ -130,7 +127,7 @@ fn halt_array<B: Bank>(
 {
     let _ = backup;
     let who = script_call(&array);
-    let (bank, epoch) = array.halt(who);
+    let (bank, epoch) = line_asks::halt(array, who);
     let what = inside(&epochs, epoch.entries.len() as u64 - 1);
     epochs.push_reserved(epoch);
     (State::Idle(bank, epochs), Ok(what))
@@ -261,13 +258,13 @@ fn assemble_array<B: Bank>(
             let mut array = array;
             let epoch = next_epoch(&epochs);
             let who = script_call(&array);
-            return match array.status(who) {
+            return match line_asks::status(&mut array, who) {
                 Ok(status) => (
                     State::Running(array, epochs),
                     Ok(Answered::Outside(Outside::Assembled { epoch, status })),
                 ),
                 Err(fault) => {
-                    let (bank, _) = array.halt(who);
+                    let (bank, _) = line_asks::halt(array, who);
                     (State::Idle(bank, epochs), Err(fault))
                 }
             };

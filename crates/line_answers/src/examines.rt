@@ -2,23 +2,23 @@
 
 ghost use Rattle.std.specs.Prelude.{◌≡◌};
 ghost use Rattle.bank.specs.Given.{NeverFalls};
-ghost use Rattle.run_laws.specs.views_Moving.{Grows};
+ghost use Rattle.line_asks.specs.views_Moving.{Grows};
 ghost use Rattle.md_base.specs.declared.answers.Refusal.TheVariants.{NoSuchSlot};
 ghost use Rattle.script.specs.declared.lines.Line.TheVariants.{Examine as AsksExamine};
-ghost use Rattle.run_laws.specs.Ended.{IsRunKept};
-ghost use Rattle.run_laws.specs.Examining.{told_of};
-ghost use Rattle.run_laws.specs.Making.{setting_of};
-ghost use Rattle.run_laws.specs.States.{histories_in, bank_in, RunsOwn, IsTurnOrNone};
-ghost use Rattle.run_laws.specs.Written.{IsWrittenBy};
-ghost use Rattle.run_laws.specs.declared.report.Answered.TheVariants.{Outside as AnsweredOutside};
-ghost use Rattle.run_laws.specs.declared.report.Outside.TheVariants.{Refused as IsRefused};
-ghost use Rattle.run_laws.specs.declared.states.State.TheVariants.{Idle as IsIdle, Running as IsRunning};
+ghost use Rattle.line_asks.specs.run_laws_Ended.{IsRunKept};
+ghost use Rattle.line_asks.specs.run_laws_Examining.{told_of};
+ghost use Rattle.line_asks.specs.run_laws_Making.{setting_of};
+ghost use Rattle.line_asks.specs.run_laws_States.{histories_in, bank_in, RunsOwn, IsTurnOrNone};
+ghost use Rattle.line_asks.specs.run_laws_Written.{IsWrittenBy};
+ghost use Rattle.line_asks.specs.run_laws_the_Answered_TheVariants.{Outside as AnsweredOutside};
+ghost use Rattle.line_asks.specs.run_laws_the_Outside_TheVariants.{Refused as IsRefused};
+ghost use Rattle.line_asks.specs.run_laws_the_State_TheVariants.{Idle as IsIdle, Running as IsRunning};
 
 use bank::{Bank, BankFault};
 use election::reads::read_superblock;
 use flat_history::Epoch;
+use line_asks::{Answered, Outside, Running, State};
 use md_base::{NoMemory, Refusal};
-use run_laws::{Answered, Outside, Running, State};
 use sb1::Sb;
 
 // What is answered where the slot was looked at.
@@ -87,6 +87,6 @@ pub fn examine_running<B: Bank>(
     if slot >= array.slots() {
         return (State::Running(array, epochs), Ok(absent(slot)));
     }
-    let found = array.examine(slot);
+    let found = line_asks::examine(&mut array, slot);
     (State::Running(array, epochs), Ok(told(slot, found)))
 }

@@ -19,3 +19,13 @@ pub use Rattle.running_steps.proofs.history_laws_OneShapeGrowing
 pub use Rattle.running_steps.proofs.history_laws_ReshapedLaws
 pub use Rattle.running_steps.proofs.history_laws_GrowingLaws
 mod Handed
+pub use Rattle.running_steps.proofs.still_laws_PlansKept
+pub use Rattle.running_steps.proofs.running_Closed
+pub use Rattle.running_steps.proofs.running_Kept
+pub use Rattle.running_steps.proofs.views_MovedLaws
+pub use Rattle.running_steps.proofs.growing_Idle
+pub use Rattle.running_steps.proofs.growing_PlanLaws
+pub use Rattle.running_steps.proofs.growing_Replied
+pub use Rattle.running_steps.proofs.growing_Windows
+pub use Rattle.running_steps.proofs.running_Chosen
+pub use Rattle.running_steps.proofs.running_Entered

@@ -48,3 +48,9 @@ pub use Rattle.grow_asked.specs.declared.window.Window as grow_asked_the_Window
 pub use Rattle.running_steps.specs.row_io_Rows
 pub use Rattle.superblocks.specs.Found as superblocks_Found
 pub use Rattle.superblocks.specs.Election as superblocks_Election
+pub use Rattle.running_steps.specs.shape_changes_Marking
+pub use Rattle.running_steps.specs.growing_Plans
+pub use Rattle.running_steps.specs.growing_Replied
+pub use Rattle.running_steps.specs.safe_updates_First
+pub use Rattle.running_steps.specs.course_kept_Laws
+pub use Rattle.running_steps.specs.running_State

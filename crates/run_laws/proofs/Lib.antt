@@ -1,22 +1,20 @@
-pub mod Apart
 pub mod AskLaws
-pub mod CausedLaws
 pub mod Causes
 pub mod Growth
-pub mod Legal
 pub mod Losses
 pub mod Plain
 pub mod PlainReplies
-pub mod RecordLaws
 pub mod RuledLaws
 pub mod Told
 pub mod Turned
 pub mod Worlds
-pub mod Writing
-pub mod Sizes
 pub use Rattle.running_calls.proofs.running_replies_Fitting
 pub use Rattle.running_calls.proofs.running_replies_GoneOn
 pub use Rattle.running_calls.proofs.array_kept_ReplyLaws
 pub use Rattle.running_calls.proofs.GoneOn as running_calls_GoneOn
 pub use Rattle.running_calls.proofs.views_Still
 pub use Rattle.running_calls.proofs.history_laws_OneShapeGrowing
+pub use Rattle.running_calls.proofs.Entered as running_calls_Entered
+pub use Rattle.running_calls.proofs.history_laws_ReshapedLaws
+pub use Rattle.running_calls.proofs.kept_history_Turned
+pub use Rattle.running_calls.proofs.call_entries_CallLaws

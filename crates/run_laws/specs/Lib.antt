@@ -58,3 +58,9 @@ pub use Rattle.running_calls.specs.superblocks_Reads
 pub use Rattle.running_calls.specs.superblocks_Reading
 pub use Rattle.running_calls.specs.superblocks_the_Members
 pub use Rattle.running_calls.specs.superblocks_Election
+pub use Rattle.running_calls.specs.running_replies_Limits
+pub use Rattle.running_calls.specs.kept_history_Safe
+pub use Rattle.running_calls.specs.call_entries_Losing
+pub use Rattle.running_calls.specs.kept_history_Recorded
+pub use Rattle.running_calls.specs.views_Flushing
+pub use Rattle.running_calls.specs.assemble_Filling

@@ -7,5 +7,8 @@ mod report;
 mod states;
 
 pub use report::{Answered, LineReply, Outside};
-pub use running_calls::{CreateSpec, Running, create_array, open_running, steps};
+pub use running_calls::{
+    CreateSpec, Running, add, create_array, examine, fail, flush, halt, open_running, plan_grow,
+    read, set_visible, status, steps, stop, write,
+};
 pub use states::State;

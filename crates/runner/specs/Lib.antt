@@ -1,6 +1,0 @@
-pub mod Kept
-pub mod Runs
-pub mod Sessions
-pub mod Shown
-pub mod Source
-pub mod Writes

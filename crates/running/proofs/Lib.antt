@@ -5,8 +5,6 @@ pub mod Closed
 pub mod Ended
 pub mod Entered
 pub mod Kept
-pub mod Limiting
-pub mod Planning
 pub use Rattle.growing.proofs.running_replies_Fitting
 pub use Rattle.growing.proofs.running_replies_GoneOn
 pub use Rattle.growing.proofs.still_kept_Whole
@@ -34,3 +32,7 @@ pub use Rattle.growing.proofs.row_io_Losses
 pub use Rattle.growing.proofs.history_laws_OneShapeGrowing
 pub use Rattle.growing.proofs.history_laws_ReshapedLaws
 pub use Rattle.growing.proofs.history_laws_GrowingLaws
+pub use Rattle.growing.proofs.Idle as growing_Idle
+pub use Rattle.growing.proofs.PlanLaws as growing_PlanLaws
+pub use Rattle.growing.proofs.Replied as growing_Replied
+pub use Rattle.growing.proofs.Windows as growing_Windows

@@ -58,3 +58,9 @@ pub use Rattle.superblocks.specs.Outcome as superblocks_Outcome
 pub use Rattle.superblocks.specs.Reads as superblocks_Reads
 pub use Rattle.superblocks.specs.Update as superblocks_Update
 pub use Rattle.growing.specs.row_io_Rows
+pub use Rattle.growing.specs.shape_changes_Marking
+pub use Rattle.growing.specs.Plans as growing_Plans
+pub use Rattle.growing.specs.Replied as growing_Replied
+pub use Rattle.growing.specs.safe_updates_First
+pub use Rattle.growing.specs.course_kept_Laws
+pub use Rattle.growing.specs.still_kept_Still

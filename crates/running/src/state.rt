@@ -10,24 +10,15 @@ ghost use Rattle.growing.specs.running_words_Calls.{moving_world};
 ghost use Rattle.growing.specs.running_words_Plans.{KeepsShape};
 ghost use Rattle.running.specs.State.{IsStillNow, IsWithin, IsBackupAside};
 
-mod adding;
 mod answering;
 mod asking;
 mod beginning;
 mod choosing;
-mod ending;
-mod examining;
-mod failing;
 mod finishing;
-mod limiting;
 mod mending;
-mod planning;
-mod reading;
 mod rooms;
-mod settling;
 mod stepping;
 mod taking;
-mod writing;
 
 use bank::Bank;
 pub use choosing::Next;
@@ -36,9 +27,9 @@ use growing::{Moving, Still};
 use std::alloc::Global;
 use std::marker::Model;
 
-// Whether a reshape is active in it.
+/// Whether a reshape is active in it.
 #[derive(Drop)]
-enum State<B: Bank> {
+pub enum State<B: Bank> {
     Still(Still<B>),
     Moving(Moving<B>),
 }
@@ -47,9 +38,9 @@ enum State<B: Bank> {
 /// plan that is a reshape and hasn't begun, and `alloc` makes the next one.
 #[derive(Drop)]
 pub struct Running<B: Bank> {
-    alloc: Global,
-    state: State<B>,
-    window: Vec<u8>,
+    pub alloc: Global,
+    pub state: State<B>,
+    pub window: Vec<u8>,
 }
 
 impl<B: Bank> Model for Running<B> {
@@ -91,8 +82,8 @@ fn moving_again<B: Bank>(moving: Moving<B>, _none: ()) -> (Moving<B>, ())
     (Moving::of_pieces(pieces, backup, course, window), ())
 }
 
-// An array without a reshape is at rest.
-fn check_still<B: Bank>(still: &mut Still<B>)
+/// It does nothing: an array without a reshape is at rest.
+pub fn check_still<B: Bank>(still: &mut Still<B>)
     ensures same { still.new ≡ still.old }
     ensures rest { IsStillNow still.old }
     ensures within { IsWithin B.tells (B.tape still.old.parts.bank) still.old }
@@ -101,8 +92,8 @@ fn check_still<B: Bank>(still: &mut Still<B>)
     replace_with(still, (), still_again)
 }
 
-// An array in a reshape tells one.
-fn check_moving<B: Bank>(moving: &mut Moving<B>)
+/// It does nothing: an array in a reshape tells one.
+pub fn check_moving<B: Bank>(moving: &mut Moving<B>)
     ensures same { moving.new ≡ moving.old }
     ensures active { is_reshaping moving.old.parts.members.newest ≡ true }
     ensures backed { IsSome moving.old.parts.backup }

@@ -1,3 +1,5 @@
+mod LimitLaws
+mod PlanLaws
 pub mod Leaving
 pub mod Sizes
 mod Plain

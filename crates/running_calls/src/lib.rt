@@ -1,9 +1,25 @@
 //! The requests of a caller to a running array.
 #![tactic(auto)]
 
+mod adding;
+mod failing;
+mod limiting;
 mod performing;
+mod planning;
+mod reading;
 mod reply;
+mod settling;
+mod showing;
+mod writing;
 
-pub use openings::{CreateSpec, Running, create_array, open_running, steps};
+pub use adding::add;
+pub use failing::fail;
+pub use limiting::set_visible;
+pub use openings::{CreateSpec, Running, create_array, examine, halt, open_running, steps, stop};
 pub use performing::{perform, tells_sizes};
+pub use planning::plan_grow;
+pub use reading::read;
 pub use reply::Reply;
+pub use settling::flush;
+pub use showing::status;
+pub use writing::write;

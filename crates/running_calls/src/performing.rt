@@ -54,7 +54,7 @@ fn read<B: Bank>(
         Ok(into) => into,
         Err(_) => return Err(NoMemory {}),
     };
-    let answer = array.read(who, at, into.as_mut_slice());
+    let answer = crate::reading::read(array, who, at, into.as_mut_slice());
     let body = Sectors::from_bytes(into);
     told(answer, Event::Read { at, body })
 }
@@ -74,7 +74,7 @@ fn write<B: Bank>(
     ensures went { HasGoneOn B.tells B.given B.tape B.faults_of array.old array.new }
 {
     tells_sizes(array);
-    let answer = array.write(who, at, body.as_bytes());
+    let answer = crate::writing::write(array, who, at, body.as_bytes());
     told(answer, Event::Wrote { at, body })
 }
 
@@ -86,7 +86,7 @@ fn flush<B: Bank>(array: &mut Running<B>, who: Who) -> Result<Event, NoMemory>
     ensures ended { IfOk result (λ event. IsEndOf B.tells array.new.parts.first array.new.parts.entries (B.tape array.new.parts.bank)) }
     ensures went { HasGoneOn B.tells B.given B.tape B.faults_of array.old array.new }
 {
-    let answer = array.flush(who);
+    let answer = crate::settling::flush(array, who);
     told(answer, Event::Flushed)
 }
 
@@ -98,7 +98,7 @@ fn fail<B: Bank>(array: &mut Running<B>, who: Who, role: u32) -> Result<Event, N
     ensures ended { IfOk result (λ event. IsEndOf B.tells array.new.parts.first array.new.parts.entries (B.tape array.new.parts.bank)) }
     ensures went { HasGoneOn B.tells B.given B.tape B.faults_of array.old array.new }
 {
-    let answer = array.fail(who, role);
+    let answer = crate::failing::fail(array, who, role);
     told(answer, Event::Failed { role })
 }
 
@@ -110,7 +110,7 @@ fn add<B: Bank>(array: &mut Running<B>, who: Who, slot: u32) -> Result<Event, No
     ensures ended { IfOk result (λ event. IsEndOf B.tells array.new.parts.first array.new.parts.entries (B.tape array.new.parts.bank)) }
     ensures went { HasGoneOn B.tells B.given B.tape B.faults_of array.old array.new }
 {
-    let answer = array.add(who, slot);
+    let answer = crate::adding::add(array, who, slot);
     told(answer, Event::Added { slot })
 }
 
@@ -126,7 +126,7 @@ fn set_limit<B: Bank>(
     ensures ended { IfOk result (λ event. IsEndOf B.tells array.new.parts.first array.new.parts.entries (B.tape array.new.parts.bank)) }
     ensures went { HasGoneOn B.tells B.given B.tape B.faults_of array.old array.new }
 {
-    match array.set_visible(who, limit) {
+    match crate::limiting::set_visible(array, who, limit) {
         Ok(count) => Ok(Event::Visible { limit, count }),
         Err(Fault::Refused(refusal)) => Ok(Event::Refused { refusal }),
         Err(Fault::NoMemory) => Err(NoMemory {}),
@@ -141,7 +141,7 @@ fn grow<B: Bank>(array: &mut Running<B>, who: Who, wish: Wish) -> Result<Event, 
     ensures ended { IfOk result (λ event. IsEndOf B.tells array.new.parts.first array.new.parts.entries (B.tape array.new.parts.bank)) }
     ensures went { HasGoneOn B.tells B.given B.tape B.faults_of array.old array.new }
 {
-    match array.plan_grow(who, wish) {
+    match crate::planning::plan_grow(array, who, wish) {
         Ok(left) => Ok(Event::Planned { left, wish }),
         Err(Fault::Refused(refusal)) => Ok(Event::Refused { refusal }),
         Err(Fault::NoMemory) => Err(NoMemory {}),
@@ -156,7 +156,7 @@ fn show<B: Bank>(array: &mut Running<B>, who: Who) -> Result<Event, NoMemory>
     ensures ended { IfOk result (λ event. IsEndOf B.tells array.new.parts.first array.new.parts.entries (B.tape array.new.parts.bank)) }
     ensures went { HasGoneOn B.tells B.given B.tape B.faults_of array.old array.new }
 {
-    match array.status(who) {
+    match crate::showing::status(array, who) {
         Ok(status) => Ok(Event::Shown { status }),
         Err(none) => Err(none),
     }

@@ -27,3 +27,13 @@ pub use Rattle.running.proofs.row_io_Losses
 pub use Rattle.running.proofs.history_laws_OneShapeGrowing
 pub use Rattle.running.proofs.history_laws_ReshapedLaws
 pub use Rattle.running.proofs.history_laws_GrowingLaws
+pub use Rattle.running.proofs.still_laws_PlansKept
+pub use Rattle.running.proofs.Closed as running_Closed
+pub use Rattle.running.proofs.Kept as running_Kept
+pub use Rattle.running.proofs.views_MovedLaws
+pub use Rattle.running.proofs.growing_Idle
+pub use Rattle.running.proofs.growing_PlanLaws
+pub use Rattle.running.proofs.growing_Replied
+pub use Rattle.running.proofs.growing_Windows
+pub use Rattle.running.proofs.Chosen as running_Chosen
+pub use Rattle.running.proofs.Entered as running_Entered

@@ -1,19 +1,15 @@
 //! What a running array tells of itself.
 
-ghost use Rattle.std.specs.Prelude.{◌≡◌, ◌≢◌, ◌≤◌, [], ◌∷◌, length, IfOk, IfErr, IfSome};
+ghost use Rattle.std.specs.Prelude.{◌≡◌, length, IfSome};
 ghost use Rattle.superblocks.specs.Reading.{is_reshaping, list_length};
 ghost use Rattle.flat_history.specs.Flat.{next_number, length_of, limit_of};
 ghost use Rattle.flat_history.specs.Legal.{told_left};
-ghost use Rattle.flat_history.specs.declared.events.Event.TheVariants.{Shown};
-ghost use Rattle.growing.specs.array_kept_Calls.{IsEntered, IsEndOf};
 ghost use Rattle.growing.specs.running_words_Parts.{visible_in};
-ghost use Rattle.growing.specs.running_words_Calls.{moving_world, IsSameReshape};
-ghost use Rattle.running.specs.Calls.{running_left, IsShownAs};
+ghost use Rattle.running.specs.Calls.{running_left};
 
-use crate::state::{Running, State, check_moving, check_still};
+use crate::state::{Running, State};
 use bank::Bank;
 use flat_history::Epoch;
-use md_base::{NoMemory, Status, Who};
 use superblocks::Members;
 
 impl<B: Bank> Running<B> {
@@ -112,35 +108,6 @@ impl<B: Bank> Running<B> {
         match &self.state {
             State::Still(still) => still.slots(),
             State::Moving(moving) => moving.slots(),
-        }
-    }
-
-    /// What the array tells of itself, entered in its history. It makes no device call.
-    pub fn status(&mut self, who: Who) -> Result<Status, NoMemory>
-        requires next { who.number ≡ next_number who.caller self.old.parts.entries }
-        requires caller { who.caller ≢ 254 }
-        ensures entered { IfOk result (λ status. IsEntered B.tells (B.tape self.old.parts.bank) who self.old.parts.entries self.new.parts.entries (Shown status ∷ [])) }
-        ensures told { IfOk result (λ status. IsShownAs self.old status) }
-        ensures few { IfOk result (λ status. (length status.roles ≤ 16) × (length status.spares ≤ 32)) }
-        ensures unchanged { IfErr result (λ none. self.new ≡ self.old) }
-        ensures bank { self.new.parts.bank ≡ self.old.parts.bank }
-        ensures members { self.new.parts.members ≡ self.old.parts.members }
-        ensures work { self.new.parts.work ≡ self.old.parts.work }
-        ensures course { self.new.course ≡ self.old.course }
-        ensures ended { IsEndOf B.tells self.new.parts.first self.new.parts.entries (B.tape self.new.parts.bank) }
-        ensures same { IsSameReshape B.tells self.old self.new (moving_world (B.given self.old.parts.bank) (B.tape self.old.parts.bank) self.old) (moving_world (B.given self.new.parts.bank) (B.tape self.new.parts.bank) self.new) }
-    {
-        match &mut self.state {
-            State::Still(still) => {
-                let status = still.status(who);
-                check_still(still);
-                status
-            }
-            State::Moving(moving) => {
-                let status = moving.status(who);
-                check_moving(moving);
-                status
-            }
         }
     }
 }

@@ -8,7 +8,7 @@ use Rattle.line_answers.specs.run_laws_the_State_TheVariants.{Idle}
 use Rattle.line_answers.specs.run_laws_Making.{setting_of}
 use Rattle.line_answers.specs.run_laws_States.{histories_in, bank_in, RunsOwn, IsBlockAnswered}
 use Rattle.line_answers.specs.run_laws_Written.{IsWritten}
-use Rattle.line_answers.proofs.run_laws_Writing.{written-nothing}
+use Rattle.line_answers.proofs.line_asks_Writing.{written-nothing}
 use Rattle.block_answers.proofs.BlockAnswers.{block-unanswered, block-still, block-idle, some-lines, refusals-all}
 use Rattle.block_answers.proofs.answering.answer_block.Goals as goal
 

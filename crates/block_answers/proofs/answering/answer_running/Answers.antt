@@ -18,7 +18,7 @@ use Rattle.line_answers.specs.run_laws_Asked.{IsSizedBy}
 use Rattle.line_answers.specs.run_laws_Blocks.{request_of, requests_in, AreCallersReplies, HasRunLane}
 use Rattle.line_answers.specs.run_laws_Making.{Setting, setting_of}
 use Rattle.line_answers.specs.run_laws_States.{IsBlockAnswered}
-use Rattle.line_answers.proofs.run_laws_Sizes.{sized-now}
+use Rattle.line_answers.proofs.line_asks_Sizes.{sized-now}
 use Rattle.block_answers.specs.declared.together.Together.{Together}
 use Rattle.block_answers.specs.Answers.{insides, block_places}
 use Rattle.block_answers.proofs.BlockTurns.{block-going, block-written, block-left, block-turn}

@@ -1,7 +1,7 @@
 use Rattle.std.proofs.Common.{subst, sym}
 use Rattle.bank.specs.Given.{NeverFalls}
-use Rattle.run_laws.specs.States.{bank_in}
-use Rattle.run_laws.specs.declared.states.State.{State}
+use Rattle.line_asks.specs.run_laws_States.{bank_in}
+use Rattle.line_asks.specs.run_laws_the_State.{State}
 use Rattle.line_answers.proofs.answers.answer.Goals as goal
 
 pub returns-in-Running-clause-never_falls : goal.returns-in-Running-clause-never_falls

@@ -2,14 +2,14 @@ use Rattle.std.proofs.Common.{refl, sym, subst, arith, length}
 use Rattle.std.specs.Prelude.{false}
 use Rattle.md_base.specs.declared.answers.Refusal.TheVariants.{NotRunning}
 use Rattle.script.specs.declared.lines.Line.{Line}
-use Rattle.run_laws.specs.Making.{setting_of}
-use Rattle.run_laws.specs.Replies.{IsRefusedOutside}
-use Rattle.run_laws.specs.States.{IsTurn}
-use Rattle.run_laws.specs.declared.report.Answered.{Answered}
-use Rattle.run_laws.specs.declared.states.State.TheVariants.{Idle as IsIdle}
+use Rattle.line_asks.specs.run_laws_Making.{setting_of}
+use Rattle.line_asks.specs.run_laws_Replies.{IsRefusedOutside}
+use Rattle.line_asks.specs.run_laws_States.{IsTurn}
+use Rattle.line_asks.specs.run_laws_the_Answered.{Answered}
+use Rattle.line_asks.specs.run_laws_the_State_TheVariants.{Idle as IsIdle}
 use Rattle.line_answers.proofs.Turns.{turn_idle}
-use Rattle.run_laws.specs.Written.{HasWritten}
-use Rattle.run_laws.proofs.Writing.{written_idle}
+use Rattle.line_asks.specs.run_laws_Written.{HasWritten}
+use Rattle.line_asks.proofs.Writing.{written_idle}
 use Rattle.line_answers.proofs.answers.answer_idle.Goals as goal
 
 pub returns-in-Read-clause-answered : goal.returns-in-Read-clause-answered

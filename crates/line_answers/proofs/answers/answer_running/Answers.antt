@@ -4,24 +4,24 @@ use Rattle.md_base.specs.declared.answers.NoMemory.{NoMemory}
 use Rattle.script.specs.declared.lines.Line.{Line}
 use Rattle.script.specs.declared.lines.Line.TheVariants.{Read, Write, Flush, Fail, Add, ArraySize, Grow, Step, Wait, Detail, Mdstat}
 use Rattle.md_base.specs.declared.answers.Refusal.TheVariants.{Running as RefusedRunning}
-use Rattle.run_laws.specs.Making.{setting_of}
-use Rattle.run_laws.specs.Replies.{IsRefusedOutside}
-use Rattle.run_laws.specs.States.{running_history, histories_in, bank_in, IsTurnOrNone, IsTurn}
-use Rattle.run_laws.specs.declared.report.Answered.{Answered}
-use Rattle.run_laws.specs.declared.states.State.{State}
-use Rattle.run_laws.specs.declared.states.State.TheVariants.{Running as IsRunning}
-use Rattle.run_laws.specs.Ended.{IsRunKept}
-use Rattle.run_laws.proofs.Legal.{grows_longer, going_grown, going_asked}
-use Rattle.run_laws.proofs.Losses.{losses-of, losses-steps, held-before, on-lost, on-added}
-use Rattle.line_answers.proofs.Called.{epoch-opening, epoch-later, ran-sized, ran-later, ran-on, parts-unchanged, told-backup}
-use Rattle.run_laws.specs.superblocks_Reading.{list_length}
-use Rattle.run_laws.specs.Caused.{record_of}
-use Rattle.run_laws.proofs.CausedLaws.{unjudged-asked, detail-judged, mdstat-judged}
-use Rattle.run_laws.proofs.RecordLaws.{untouched-asked, stepped-asked}
+use Rattle.line_asks.specs.run_laws_Making.{setting_of}
+use Rattle.line_asks.specs.run_laws_Replies.{IsRefusedOutside}
+use Rattle.line_asks.specs.run_laws_States.{running_history, histories_in, bank_in, IsTurnOrNone, IsTurn}
+use Rattle.line_asks.specs.run_laws_the_Answered.{Answered}
+use Rattle.line_asks.specs.run_laws_the_State.{State}
+use Rattle.line_asks.specs.run_laws_the_State_TheVariants.{Running as IsRunning}
+use Rattle.line_asks.specs.run_laws_Ended.{IsRunKept}
+use Rattle.line_asks.proofs.Legal.{grows_longer, going_grown, going_asked}
+use Rattle.line_asks.proofs.run_laws_Losses.{losses-of, losses-steps, held-before, on-lost, on-added}
+use Rattle.line_asks.proofs.Called.{epoch-opening, epoch-later, ran-sized, ran-later, ran-on, parts-unchanged, told-backup}
+use Rattle.line_asks.specs.superblocks_Reading.{list_length}
+use Rattle.line_asks.specs.run_laws_Caused.{record_of}
+use Rattle.line_asks.proofs.CausedLaws.{unjudged-asked, detail-judged, mdstat-judged}
+use Rattle.line_asks.proofs.RecordLaws.{untouched-asked, stepped-asked}
 use Rattle.line_answers.proofs.Turns.{turn_of_ask, turn_of_wait, turn_refused, going_read, going_write, going_flush, going_fail, going_add, going_visible, going_grow, going_steps}
-use Rattle.line_answers.proofs.Statuses.{going_detail, going_mdstat}
-use Rattle.run_laws.specs.Written.{HasWritten}
-use Rattle.run_laws.proofs.Writing.{written-nothing, written_going}
+use Rattle.line_asks.proofs.Statuses.{going_detail, going_mdstat}
+use Rattle.line_asks.specs.run_laws_Written.{HasWritten}
+use Rattle.line_asks.proofs.Writing.{written-nothing, written_going}
 use Rattle.line_answers.proofs.answers.answer_running.Goals as goal
 
 pub ask_write-requires-clause-turning : goal.ask_write-requires-clause-turning

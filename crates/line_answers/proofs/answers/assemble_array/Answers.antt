@@ -2,33 +2,33 @@ use Rattle.std.proofs.Common.{◌≡◌, rules, refl, ℕ, [], ◌∷◌, ◌++�
 use Rattle.std.specs.Prelude.{IsTrue}
 use Rattle.bank.specs.Given.{NeverFalls}
 use Rattle.bank.specs.Tape.{contents}
-use Rattle.run_laws.specs.views_Moving.{Grows}
+use Rattle.line_asks.specs.views_Moving.{Grows}
 use Rattle.md_base.specs.declared.answers.Fault.{Fault}
 use Rattle.md_base.specs.declared.answers.Who.{Who}
 use Rattle.flat_history.specs.declared.events.Event.TheVariants.{Shown}
 use Rattle.flat_history.specs.Flat.{next_number}
 use Rattle.flat_history.specs.Plain.{entries_of}
-use Rattle.run_laws.specs.array_kept_Calls.{IsEntered, IsEndOf}
-use Rattle.run_laws.specs.running_words_Parts.{RunningParts}
-use Rattle.run_laws.specs.assemble_Opening.{HasFoundNone}
+use Rattle.line_asks.specs.array_kept_Calls.{IsEntered, IsEndOf}
+use Rattle.line_asks.specs.running_words_Parts.{RunningParts}
+use Rattle.line_asks.specs.assemble_Opening.{HasFoundNone}
 use Rattle.script.specs.declared.lines.Line.TheVariants.{Assemble as AsksAssemble}
-use Rattle.run_laws.specs.Ended.{IsGoing, IsRunKept}
-use Rattle.run_laws.specs.Making.{setting_of, world_at, AreHeldSince}
-use Rattle.run_laws.specs.States.{running_history, IsTurn, IsNoTurn}
-use Rattle.run_laws.specs.declared.report.Answered.{Answered}
-use Rattle.run_laws.specs.declared.report.Answered.TheVariants.{Outside as AnsweredOutside}
-use Rattle.run_laws.specs.declared.report.Outside.TheVariants.{Assembled}
-use Rattle.run_laws.specs.declared.states.State.TheVariants.{Idle as IsIdle, Running as IsRunning}
-use Rattle.run_laws.proofs.Causes.{flushes-grow, grows-none, assemble-refused, backup-known}
-use Rattle.run_laws.proofs.Legal.{grows_longer, idle_grown, accepted-grown, going_begun}
-use Rattle.run_laws.specs.superblocks_the_Members.{Members}
-use Rattle.run_laws.proofs.CausedLaws.{shown-later}
+use Rattle.line_asks.specs.run_laws_Ended.{IsGoing, IsRunKept}
+use Rattle.line_asks.specs.run_laws_Making.{setting_of, world_at, AreHeldSince}
+use Rattle.line_asks.specs.run_laws_States.{running_history, IsTurn, IsNoTurn}
+use Rattle.line_asks.specs.run_laws_the_Answered.{Answered}
+use Rattle.line_asks.specs.run_laws_the_Answered_TheVariants.{Outside as AnsweredOutside}
+use Rattle.line_asks.specs.run_laws_the_Outside_TheVariants.{Assembled}
+use Rattle.line_asks.specs.run_laws_the_State_TheVariants.{Idle as IsIdle, Running as IsRunning}
+use Rattle.line_asks.proofs.run_laws_Causes.{flushes-grow, grows-none, assemble-refused, backup-known}
+use Rattle.line_asks.proofs.Legal.{grows_longer, idle_grown, accepted-grown, going_begun}
+use Rattle.line_asks.specs.superblocks_the_Members.{Members}
+use Rattle.line_asks.proofs.CausedLaws.{shown-later}
 use Rattle.line_answers.proofs.Found.{found_here}
-use Rattle.run_laws.proofs.Losses.{held-later}
+use Rattle.line_asks.proofs.run_laws_Losses.{held-later}
 use Rattle.line_answers.proofs.Turns.{turn_found, turn_idle, no_turn_idle}
-use Rattle.run_laws.specs.Histories.{histories_of}
-use Rattle.run_laws.specs.Written.{MayWrite, HasWritten, IsWritten}
-use Rattle.run_laws.proofs.Writing.{written_idle, idle_flushes, opened_flushes}
+use Rattle.line_asks.specs.run_laws_Histories.{histories_of}
+use Rattle.line_asks.specs.run_laws_Written.{MayWrite, HasWritten, IsWritten}
+use Rattle.line_asks.proofs.Writing.{written_idle, idle_flushes, opened_flushes}
 use Rattle.line_answers.proofs.answers.assemble_array.Goals as goal
 
 pub open_running-requires-clause-backup : goal.open_running-requires-clause-backup
@@ -43,7 +43,7 @@ returns-in-Ok-status-clause-answered g c =
     let yes : IsTrue c.has_room.result = search rules in
     let found = c.in-Ok.array in
     let did = c.in-Ok.ensures in
-    let array = c.status.new.self in
+    let array = c.status.new.array in
     let told = c.in-Ok-status.ensures in
     let setting = setting_of g.B.Bank.tells (g.B.Bank.given c.args.bank) (g.B.Bank.tape c.args.bank) (g.B.Bank.tape found.parts.bank) c.args.backup (g.B.Bank.faults_of c.args.bank) (g.B.Bank.faults_of found.parts.bank) in
     subst (λ (b : g.row.B.Denot). IsTurn (setting_of g.B.Bank.tells (g.B.Bank.given c.args.bank) (g.B.Bank.tape c.args.bank) (g.B.Bank.tape b) c.args.backup (g.B.Bank.faults_of c.args.bank) (g.B.Bank.faults_of b)) (IsIdle c.args.bank c.args.epochs) (IsRunning array c.has_room.new.epochs) (AsksAssemble c.args.uuid) (AnsweredOutside (Assembled c.next_epoch-epoch.result c.in-Ok-status.status))) (sym told.bank)
@@ -83,7 +83,7 @@ returns-in-Ok-status-clause-former g c =
     let did = c.in-Ok.ensures in
     let here = found_here (g.B.Bank.given c.args.bank) (g.B.Bank.tape c.in-Ok.array.parts.bank) c.args.backup c.args.uuid c.in-Ok.array did.found in
     let told = c.in-Ok-status.ensures in
-    let array = c.status.new.self in
+    let array = c.status.new.array in
     subst (λ (b : g.row.B.Denot). IsGoing g.B.Bank.tells (g.B.Bank.given c.args.bank) (g.B.Bank.tape b) c.args.backup array.parts c.has_room.new.epochs.items) (sym told.bank)
     (going_begun (g.B.Bank.given c.args.bank) c.args.backup c.args.epochs.items c.has_room.new.epochs.items array.parts c.has_room.ensures.same (flushes-grow did.tape) (told.same.array.backup ∙ here.backup_is) (λ t. told.same.array.first ∙ here.first t)
     (accepted-grown (g.B.Bank.given c.args.bank) c.args.backup (running_history c.in-Ok.array.parts) (running_history array.parts) (grows-none (g.B.Bank.tape c.in-Ok.array.parts.bank)) (record { uuid = told.same.array.uuid; given = told.same.array.given; first = told.same.array.first })
@@ -142,7 +142,7 @@ pub returns-in-Ok-status-clause-written : goal.returns-in-Ok-status-clause-writt
 returns-in-Ok-status-clause-written g c told =
     let found = c.in-Ok.array in
     let did = c.in-Ok.ensures in
-    let array = c.status.new.self in
+    let array = c.status.new.array in
     let shown = c.in-Ok-status.ensures in
     let given = g.B.Bank.given c.args.bank in
     let what = AnsweredOutside (Assembled c.next_epoch-epoch.result c.in-Ok-status.status) in
@@ -181,6 +181,6 @@ returns-in-Err-status-clause-given g c =
 pub halt-bank-requires : goal.halt-bank-requires
 halt-bank-requires g c =
     record {
-      next = ap (λ (w : Who). w.number) c.script_call-who.ensures ∙ ap (λ (a : RunningParts g.row.B.Denot). next_number 0 a.parts.entries) (sym c.in-Err-status.ensures.unchanged) ∙ ap (λ (w : Who). next_number w.caller c.status.new.self.parts.entries) (sym c.script_call-who.ensures);
+      next = ap (λ (w : Who). w.number) c.script_call-who.ensures ∙ ap (λ (a : RunningParts g.row.B.Denot). next_number 0 a.parts.entries) (sym c.in-Err-status.ensures.unchanged) ∙ ap (λ (w : Who). next_number w.caller c.status.new.array.parts.entries) (sym c.script_call-who.ensures);
       caller = λ is. omega (arith, is, ap (λ (w : Who). w.caller) c.script_call-who.ensures);
     }

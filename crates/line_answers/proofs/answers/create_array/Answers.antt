@@ -4,25 +4,25 @@ use Rattle.bank.specs.Tape.{contents}
 use Rattle.md_base.specs.declared.answers.Fault.{Fault}
 use Rattle.flat_history.specs.declared.events.Entry.{Entry}
 use Rattle.flat_history.specs.Transfers.{last_end_from}
-use Rattle.run_laws.specs.assemble_Made.{HasCreateCause}
-use Rattle.run_laws.specs.assemble_Opening.{scope_of}
+use Rattle.line_asks.specs.assemble_Made.{HasCreateCause}
+use Rattle.line_asks.specs.assemble_Opening.{scope_of}
 use Rattle.script.specs.declared.lines.Line.TheVariants.{Create as AsksCreate}
-use Rattle.run_laws.specs.Making.{setting_of}
-use Rattle.run_laws.specs.Replies.{spec_of}
-use Rattle.run_laws.specs.States.{IsTurn, running_history}
-use Rattle.run_laws.specs.declared.report.Answered.{Answered}
-use Rattle.run_laws.specs.declared.states.State.TheVariants.{Idle as IsIdle}
-use Rattle.run_laws.proofs.Causes.{below-grows, below-present, grows-none, create-refused, used-same}
-use Rattle.run_laws.proofs.Legal.{grows_longer, idle_grown, going_begun}
+use Rattle.line_asks.specs.run_laws_Making.{setting_of}
+use Rattle.line_asks.specs.run_laws_Replies.{spec_of}
+use Rattle.line_asks.specs.run_laws_States.{IsTurn, running_history}
+use Rattle.line_asks.specs.run_laws_the_Answered.{Answered}
+use Rattle.line_asks.specs.run_laws_the_State_TheVariants.{Idle as IsIdle}
+use Rattle.line_asks.proofs.run_laws_Causes.{below-grows, below-present, grows-none, create-refused, used-same}
+use Rattle.line_asks.proofs.Legal.{grows_longer, idle_grown, going_begun}
 use Rattle.line_answers.proofs.Found.{opened_accepted, opened_held}
 use Rattle.line_answers.proofs.Turns.{turn_created, turn_idle, no_turn_idle}
-use Rattle.run_laws.specs.declared.report.Answered.TheVariants.{Outside as IsOutside}
-use Rattle.run_laws.specs.declared.report.Outside.TheVariants.{Created}
+use Rattle.line_asks.specs.run_laws_the_Answered_TheVariants.{Outside as IsOutside}
+use Rattle.line_asks.specs.run_laws_the_Outside_TheVariants.{Created}
 use Rattle.md_base.specs.declared.answers.Refusal.{Refusal}
 use Rattle.md_base.specs.declared.answers.Fault.TheVariants.{Refused as IsRefusedWith}
-use Rattle.run_laws.specs.Histories.{histories_of}
-use Rattle.run_laws.specs.Written.{MayWrite, HasWritten, IsWritten}
-use Rattle.run_laws.proofs.Writing.{written_idle, opened_below, create_refused, create_short}
+use Rattle.line_asks.specs.run_laws_Histories.{histories_of}
+use Rattle.line_asks.specs.run_laws_Written.{MayWrite, HasWritten, IsWritten}
+use Rattle.line_asks.proofs.Writing.{written_idle, opened_below, create_refused, create_short}
 use Rattle.line_answers.proofs.answers.create_array.Goals as goal
 
 pub returns-then-not-has_room-clause-answered : goal.returns-then-not-has_room-clause-answered

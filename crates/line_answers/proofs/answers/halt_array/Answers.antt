@@ -1,21 +1,21 @@
 use Rattle.std.proofs.Common.{◌≡◌, ℕ, ◌+◌, ◌-◌, ◌≤◌, [], ◌∷◌, ◌++◌, length, sym, ap, ◌∙◌, subst, le_of_eq, arith}
 use Rattle.flat_history.specs.declared.events.Epoch.{Epoch}
 use Rattle.flat_history.specs.declared.events.Event.{Event}
-use Rattle.run_laws.specs.Histories.{history_of, is_end}
-use Rattle.run_laws.specs.superblocks_Reading.{list_length}
+use Rattle.line_asks.specs.run_laws_Histories.{history_of, is_end}
+use Rattle.line_asks.specs.superblocks_Reading.{list_length}
 use Rattle.script.specs.declared.lines.Line.TheVariants.{Halt as AsksHalt}
-use Rattle.run_laws.specs.Making.{setting_of}
-use Rattle.run_laws.specs.States.{IsTurn}
-use Rattle.run_laws.specs.declared.report.Answered.{Answered}
-use Rattle.run_laws.specs.declared.states.State.TheVariants.{Idle as IsIdle, Running as IsRunning}
-use Rattle.run_laws.proofs.AskLaws.{asked_halt, halt_grew}
-use Rattle.run_laws.proofs.Legal.{former_halted}
-use Rattle.run_laws.proofs.Losses.{losses-halted}
-use Rattle.run_laws.proofs.Turned.{asked-tellable, halt-told}
+use Rattle.line_asks.specs.run_laws_Making.{setting_of}
+use Rattle.line_asks.specs.run_laws_States.{IsTurn}
+use Rattle.line_asks.specs.run_laws_the_Answered.{Answered}
+use Rattle.line_asks.specs.run_laws_the_State_TheVariants.{Idle as IsIdle, Running as IsRunning}
+use Rattle.line_asks.proofs.run_laws_AskLaws.{asked_halt, halt_grew}
+use Rattle.line_asks.proofs.Legal.{former_halted}
+use Rattle.line_asks.proofs.run_laws_Losses.{losses-halted}
+use Rattle.line_asks.proofs.run_laws_Turned.{asked-tellable, halt-told}
 use Rattle.line_answers.proofs.Turns.{turn_ended}
 use Rattle.flat_history.specs.declared.events.Event.TheVariants.{Halted}
-use Rattle.run_laws.specs.Written.{HasWritten}
-use Rattle.run_laws.proofs.Writing.{entered_end, written_ended}
+use Rattle.line_asks.specs.run_laws_Written.{HasWritten}
+use Rattle.line_asks.proofs.Writing.{entered_end, written_ended}
 use Rattle.line_answers.proofs.answers.halt_array.Goals as goal
 
 place : (n k : ℕ) → 1 ≤ n → k ≡ n → (k - 1) + 1 ≡ n

@@ -2,35 +2,35 @@ use Rattle.std.proofs.Common.{◌≡◌, ◌+◌, ◌-◌, ◌≤◌, [], ◌∷
 use Rattle.md_base.specs.declared.answers.Fault.{Fault}
 use Rattle.flat_history.specs.declared.events.Epoch.{Epoch}
 use Rattle.flat_history.specs.declared.events.Event.{Event}
-use Rattle.run_laws.specs.Histories.{history_of, is_end}
-use Rattle.run_laws.specs.superblocks_Reading.{list_length}
-use Rattle.run_laws.specs.views_Lacking.{AreTooMany}
-use Rattle.run_laws.specs.array_kept_Calls.{IsUnsettled, IsFaultFor}
+use Rattle.line_asks.specs.run_laws_Histories.{history_of, is_end}
+use Rattle.line_asks.specs.superblocks_Reading.{list_length}
+use Rattle.line_asks.specs.views_Lacking.{AreTooMany}
+use Rattle.line_asks.specs.array_kept_Calls.{IsUnsettled, IsFaultFor}
 use Rattle.script.specs.declared.lines.Line.TheVariants.{Stop as AsksStop}
-use Rattle.run_laws.specs.Making.{setting_of}
-use Rattle.run_laws.specs.States.{running_history, IsTurn}
-use Rattle.run_laws.specs.declared.report.Answered.{Answered}
-use Rattle.run_laws.specs.declared.states.State.TheVariants.{Idle as IsIdle, Running as IsRunning}
-use Rattle.run_laws.proofs.AskLaws.{asked_stop, asked_unstopped, behind_grew}
-use Rattle.run_laws.specs.running_words_Calls.{IsEpochKept}
-use Rattle.run_laws.specs.running_replies_Replies.{IsRefusalToldBy}
+use Rattle.line_asks.specs.run_laws_Making.{setting_of}
+use Rattle.line_asks.specs.run_laws_States.{running_history, IsTurn}
+use Rattle.line_asks.specs.run_laws_the_Answered.{Answered}
+use Rattle.line_asks.specs.run_laws_the_State_TheVariants.{Idle as IsIdle, Running as IsRunning}
+use Rattle.line_asks.proofs.run_laws_AskLaws.{asked_stop, asked_unstopped, behind_grew}
+use Rattle.line_asks.specs.running_words_Calls.{IsEpochKept}
+use Rattle.line_asks.specs.running_replies_Replies.{IsRefusalToldBy}
 use Rattle.bank.specs.Given.{Given}
-use Rattle.run_laws.specs.Ended.{IfReliable, IfShapeKept}
-use Rattle.run_laws.specs.still_laws_Plain.{IsPlainEpoch}
-use Rattle.run_laws.proofs.Legal.{grows_longer, going_grown, former_more, legal_epoch}
-use Rattle.run_laws.proofs.Sizes.{sized-none, sized-behind}
-use Rattle.run_laws.proofs.Told.{told_none, told_behind, stop_told}
-use Rattle.run_laws.proofs.Losses.{losses-of, held-before, on-lost}
-use Rattle.run_laws.specs.grow_asked_Left.{phases_of}
-use Rattle.run_laws.specs.grow_asked_the_PhasesLeft.{PhasesLeft}
-use Rattle.run_laws.specs.Caused.{record_of}
-use Rattle.run_laws.proofs.CausedLaws.{unjudged-asked}
-use Rattle.run_laws.proofs.Turned.{told-same, told-alike, asked-tellable, stop-unstepped, stop-told}
-use Rattle.line_answers.proofs.Called.{called-length, same-epoch, epoch-opening, epoch-later}
-use Rattle.line_answers.proofs.Lefts.{left-called, left-unstopped}
+use Rattle.line_asks.specs.run_laws_Ended.{IfReliable, IfShapeKept}
+use Rattle.line_asks.specs.still_laws_Plain.{IsPlainEpoch}
+use Rattle.line_asks.proofs.Legal.{grows_longer, going_grown, former_more, legal_epoch}
+use Rattle.line_asks.proofs.Sizes.{sized-none, sized-behind}
+use Rattle.line_asks.proofs.run_laws_Told.{told_none, told_behind, stop_told}
+use Rattle.line_asks.proofs.run_laws_Losses.{losses-of, held-before, on-lost}
+use Rattle.line_asks.specs.grow_asked_Left.{phases_of}
+use Rattle.line_asks.specs.grow_asked_the_PhasesLeft.{PhasesLeft}
+use Rattle.line_asks.specs.run_laws_Caused.{record_of}
+use Rattle.line_asks.proofs.CausedLaws.{unjudged-asked}
+use Rattle.line_asks.proofs.run_laws_Turned.{told-same, told-alike, asked-tellable, stop-unstepped, stop-told}
+use Rattle.line_asks.proofs.Called.{called-length, same-epoch, epoch-opening, epoch-later}
+use Rattle.line_asks.proofs.Lefts.{left-called, left-unstopped}
 use Rattle.line_answers.proofs.Turns.{turn_ended, turn_asked, no_turn, at_the_end}
-use Rattle.run_laws.specs.Written.{HasWritten}
-use Rattle.run_laws.proofs.Writing.{written_ended, written_going}
+use Rattle.line_asks.specs.run_laws_Written.{HasWritten}
+use Rattle.line_asks.proofs.Writing.{written_ended, written_going}
 use Rattle.line_answers.proofs.answers.stop_array.Goals as goal
 
 pub overflow_sub-len : goal.overflow_sub-len

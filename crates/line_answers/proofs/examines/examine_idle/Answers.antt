@@ -2,13 +2,13 @@ use Rattle.std.proofs.Common.{length, refl, sym, ap, subst, arith, List}
 use Rattle.bank.specs.declared.bank.Operation.{Operation}
 use Rattle.md_base.specs.declared.answers.Refusal.TheVariants.{NoSuchSlot}
 use Rattle.script.specs.declared.lines.Line.TheVariants.{Examine}
-use Rattle.run_laws.specs.Making.{setting_of}
-use Rattle.run_laws.specs.States.{IsTurn}
-use Rattle.run_laws.specs.Written.{HasWritten}
-use Rattle.run_laws.specs.declared.report.Answered.{Answered}
-use Rattle.run_laws.specs.declared.states.State.TheVariants.{Idle as IsIdle}
+use Rattle.line_asks.specs.run_laws_Making.{setting_of}
+use Rattle.line_asks.specs.run_laws_States.{IsTurn}
+use Rattle.line_asks.specs.run_laws_Written.{HasWritten}
+use Rattle.line_asks.specs.run_laws_the_Answered.{Answered}
+use Rattle.line_asks.specs.run_laws_the_State_TheVariants.{Idle as IsIdle}
 use Rattle.line_answers.proofs.Examined.{looked_at, failed_at, unexamined_idle, examined_idle}
-use Rattle.run_laws.proofs.Writing.{written_idle}
+use Rattle.line_asks.proofs.Writing.{written_idle}
 use Rattle.line_answers.proofs.examines.examine_idle.Goals as goal
 
 pub returns-then-slot-slots-clause-answered : goal.returns-then-slot-slots-clause-answered

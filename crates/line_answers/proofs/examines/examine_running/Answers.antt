@@ -1,16 +1,16 @@
 use Rattle.std.proofs.Common.{length, refl, sym, ap, subst, arith, List}
 use Rattle.bank.specs.declared.bank.Operation.{Operation}
 use Rattle.md_base.specs.declared.answers.Refusal.TheVariants.{NoSuchSlot}
-use Rattle.run_laws.specs.running_words_Parts.{RunningParts}
+use Rattle.line_asks.specs.running_words_Parts.{RunningParts}
 use Rattle.script.specs.declared.lines.Line.TheVariants.{Examine}
-use Rattle.run_laws.specs.Examining.{told_of}
-use Rattle.run_laws.specs.Making.{setting_of}
-use Rattle.run_laws.specs.States.{IsTurn, histories_in}
-use Rattle.run_laws.specs.Written.{IsWritten, HasWritten}
-use Rattle.run_laws.specs.declared.report.Answered.{Answered}
-use Rattle.run_laws.specs.declared.states.State.TheVariants.{Running as IsRunning}
+use Rattle.line_asks.specs.run_laws_Examining.{told_of}
+use Rattle.line_asks.specs.run_laws_Making.{setting_of}
+use Rattle.line_asks.specs.run_laws_States.{IsTurn, histories_in}
+use Rattle.line_asks.specs.run_laws_Written.{IsWritten, HasWritten}
+use Rattle.line_asks.specs.run_laws_the_Answered.{Answered}
+use Rattle.line_asks.specs.run_laws_the_State_TheVariants.{Running as IsRunning}
 use Rattle.line_answers.proofs.Examined.{grows_same, looked_at, failed_at, unexamined_running, examined_running}
-use Rattle.run_laws.proofs.Writing.{written-nothing}
+use Rattle.line_asks.proofs.Writing.{written-nothing}
 use Rattle.line_answers.proofs.examines.examine_running.Goals as goal
 
 pub returns-then-slot-slots-clause-answered : goal.returns-then-slot-slots-clause-answered
@@ -29,7 +29,7 @@ returns-then-slot-slots-clause-written g c told =
 pub returns-clause-answered : goal.returns-clause-answered
 returns-clause-answered g c =
     let array = c.args.array in
-    let new = c.examine-found.new.self in
+    let new = c.examine-found.new.array in
     let did = c.examine-found.ensures in
     let setting = setting_of g.B.Bank.tells (g.B.Bank.given array.parts.bank) (g.B.Bank.tape array.parts.bank) (g.B.Bank.tape new.parts.bank) c.args.backup (g.B.Bank.faults_of array.parts.bank) (g.B.Bank.faults_of new.parts.bank) in
     subst (λ (what : Answered). IsTurn setting (IsRunning array c.args.epochs) (IsRunning new c.args.epochs) (Examine c.args.slot) what) (sym c.told.ensures)
@@ -41,7 +41,7 @@ returns-clause-answered g c =
 pub returns-clause-written : goal.returns-clause-written
 returns-clause-written g c told =
     let array = c.args.array in
-    let new = c.examine-found.new.self in
+    let new = c.examine-found.new.array in
     let did = c.examine-found.ensures in
     let setting = setting_of g.B.Bank.tells (g.B.Bank.given array.parts.bank) (g.B.Bank.tape array.parts.bank) (g.B.Bank.tape new.parts.bank) c.args.backup (g.B.Bank.faults_of array.parts.bank) (g.B.Bank.faults_of new.parts.bank) in
     subst (λ (a : RunningParts g.row.B.Denot). IsWritten setting (histories_in (IsRunning array c.args.epochs)) (histories_in (IsRunning a c.args.epochs)) (HasWritten (g.B.Bank.given array.parts.bank) c.args.backup (Examine c.args.slot) c.told.result)) (sym did.else_same)

@@ -12,19 +12,19 @@ use Rattle.running_calls.proofs.performing.add.Given.{Over}
 use Rattle.running_calls.proofs.performing.add.Goals as goal
 
 entered : (g : Over) (c : goal.After-told g)
-    → IsCallAnswered (list_length c.args.array.now.parts.members.newest) (AsksAdd c.args.slot) c.args.who c.args.array.now.parts.entries c.add-answer.new.self.parts.entries (Added c.args.slot) c.add-answer.result
+    → IsCallAnswered (list_length c.args.array.now.parts.members.newest) (AsksAdd c.args.slot) c.args.who c.args.array.now.parts.entries c.add-answer.new.array.parts.entries (Added c.args.slot) c.add-answer.result
 entered g c =
-    answered-so (list_length c.args.array.now.parts.members.newest) (AsksAdd c.args.slot) c.args.who c.args.array.now.parts.entries c.add-answer.new.self.parts.entries (Added c.args.slot) c.add-answer.result
+    answered-so (list_length c.args.array.now.parts.members.newest) (AsksAdd c.args.slot) c.args.who c.args.array.now.parts.entries c.add-answer.new.array.parts.entries (Added c.args.slot) c.add-answer.result
     (λ before e fits. fits-add (list_length c.args.array.now.parts.members.newest) before e c.args.slot fits) c.add-answer.ensures.answered
 
 pub returns-clause-replied : goal.returns-clause-replied
 returns-clause-replied g c =
-    told-answer (list_length c.args.array.now.parts.members.newest) (AsksAdd c.args.slot) c.args.who c.args.array.now.parts.entries c.add-answer.new.self.parts.entries (Added c.args.slot) c.add-answer.result c.told.result c.told.ensures (entered g c)
+    told-answer (list_length c.args.array.now.parts.members.newest) (AsksAdd c.args.slot) c.args.who c.args.array.now.parts.entries c.add-answer.new.array.parts.entries (Added c.args.slot) c.add-answer.result c.told.result c.told.ensures (entered g c)
 
 pub returns-clause-went : goal.returns-clause-went
 returns-clause-went g c =
     let old = c.args.array.now in
-    let new = c.add-answer.new.self in
+    let new = c.add-answer.new.array in
     let size = list_length old.parts.members.newest in
     let did = c.add-answer.ensures in
     let bank = g.B.Bank.given old.parts.bank in
@@ -34,7 +34,7 @@ returns-clause-went g c =
     (add-told old.parts.backup (g.B.Bank.faults_of old.parts.bank) (g.B.Bank.faults_of new.parts.bank) size c.args.slot bank old.parts.backup old.parts.members new.parts.members c.add-answer.result did.caused) (entered g c))
 
 pub returns-clause-unchanged : goal.returns-clause-unchanged
-returns-clause-unchanged g c = told-unchanged (c.add-answer.new.self ≡ c.args.array.now) (Added c.args.slot) c.add-answer.result c.told.result c.told.ensures c.add-answer.ensures.unchanged
+returns-clause-unchanged g c = told-unchanged (c.add-answer.new.array ≡ c.args.array.now) (Added c.args.slot) c.add-answer.result c.told.result c.told.ensures c.add-answer.ensures.unchanged
 
 pub returns-clause-ended : goal.returns-clause-ended
-returns-clause-ended g c = ok-any c.told.result (IsEndOf g.B.Bank.tells c.add-answer.new.self.parts.first c.add-answer.new.self.parts.entries (g.B.Bank.tape c.add-answer.new.self.parts.bank)) c.add-answer.ensures.called.ended
+returns-clause-ended g c = ok-any c.told.result (IsEndOf g.B.Bank.tells c.add-answer.new.array.parts.first c.add-answer.new.array.parts.entries (g.B.Bank.tape c.add-answer.new.array.parts.bank)) c.add-answer.ensures.called.ended

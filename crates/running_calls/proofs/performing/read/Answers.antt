@@ -17,26 +17,26 @@ sectors_in : (n len : ℕ) → len ≡ n * 512 → len / 512 ≡ n
 sectors_in n len is = omega (arith, is)
 
 entered : (g : Over) (c : goal.After-told g)
-    → IsCallAnswered (list_length c.args.array.now.parts.members.newest) (AsksRead c.args.at c.args.count) c.args.who c.args.array.now.parts.entries c.read-answer.new.self.parts.entries (Read c.args.at c.from_bytes-body.result) c.read-answer.result
+    → IsCallAnswered (list_length c.args.array.now.parts.members.newest) (AsksRead c.args.at c.args.count) c.args.who c.args.array.now.parts.entries c.read-answer.new.array.parts.entries (Read c.args.at c.from_bytes-body.result) c.read-answer.result
 entered g c =
     let size = list_length c.args.array.now.parts.members.newest in
     let body : c.from_bytes-body.result ≡ sectors_of c.read-answer.new.into =
     c.from_bytes-body.ensures
     ∙ ap (λ (l : List ℕ). sectors_of l) (take_at c.read-answer.new.into (drop (length c.read-answer.new.into) c.in-Ok.into.items) c.in-Ok.into.len (c.read-answer.auto.into ∙ c.as_mut_slice.ensures.len)) in
     let count : length c.as_mut_slice.result.now / 512 ≡ c.args.count = sectors_in c.args.count (length c.as_mut_slice.result.now) (c.as_mut_slice.ensures.len ∙ c.in-Ok.ensures.len) in
-    answered-so size (AsksRead c.args.at c.args.count) c.args.who c.args.array.now.parts.entries c.read-answer.new.self.parts.entries (Read c.args.at c.from_bytes-body.result) c.read-answer.result
+    answered-so size (AsksRead c.args.at c.args.count) c.args.who c.args.array.now.parts.entries c.read-answer.new.array.parts.entries (Read c.args.at c.from_bytes-body.result) c.read-answer.result
     (λ before e fits. fits-read size before e c.args.at c.args.count fits)
-    (subst₂ (λ (n : ℕ) (b : List Sector). IsAnswered size (AsksRead c.args.at n) c.args.who c.args.array.now.parts.entries c.read-answer.new.self.parts.entries (Read c.args.at b) c.read-answer.result)
+    (subst₂ (λ (n : ℕ) (b : List Sector). IsAnswered size (AsksRead c.args.at n) c.args.who c.args.array.now.parts.entries c.read-answer.new.array.parts.entries (Read c.args.at b) c.read-answer.result)
     count (sym body) c.read-answer.ensures.answered)
 
 pub returns-clause-replied : goal.returns-clause-replied
 returns-clause-replied g c =
-    told-answer (list_length c.args.array.now.parts.members.newest) (AsksRead c.args.at c.args.count) c.args.who c.args.array.now.parts.entries c.read-answer.new.self.parts.entries (Read c.args.at c.from_bytes-body.result) c.read-answer.result c.told.result c.told.ensures (entered g c)
+    told-answer (list_length c.args.array.now.parts.members.newest) (AsksRead c.args.at c.args.count) c.args.who c.args.array.now.parts.entries c.read-answer.new.array.parts.entries (Read c.args.at c.from_bytes-body.result) c.read-answer.result c.told.result c.told.ensures (entered g c)
 
 pub returns-clause-went : goal.returns-clause-went
 returns-clause-went g c =
     let old = c.args.array.now in
-    let new = c.read-answer.new.self in
+    let new = c.read-answer.new.array in
     let size = list_length old.parts.members.newest in
     let did = c.read-answer.ensures in
     let event = Read c.args.at c.from_bytes-body.result in
@@ -49,10 +49,10 @@ pub returns-in-Err-clause-went : goal.returns-in-Err-clause-went
 returns-in-Err-clause-went g c = gone-none g.B.Bank.tells g.B.Bank.given g.B.Bank.tape g.B.Bank.faults_of c.args.array.now
 
 pub returns-clause-unchanged : goal.returns-clause-unchanged
-returns-clause-unchanged g c = told-unchanged (c.read-answer.new.self ≡ c.args.array.now) (Read c.args.at c.from_bytes-body.result) c.read-answer.result c.told.result c.told.ensures c.read-answer.ensures.unchanged
+returns-clause-unchanged g c = told-unchanged (c.read-answer.new.array ≡ c.args.array.now) (Read c.args.at c.from_bytes-body.result) c.read-answer.result c.told.result c.told.ensures c.read-answer.ensures.unchanged
 
 pub returns-clause-ended : goal.returns-clause-ended
-returns-clause-ended g c = ok-any c.told.result (IsEndOf g.B.Bank.tells c.read-answer.new.self.parts.first c.read-answer.new.self.parts.entries (g.B.Bank.tape c.read-answer.new.self.parts.bank)) c.read-answer.ensures.called.ended
+returns-clause-ended g c = ok-any c.told.result (IsEndOf g.B.Bank.tells c.read-answer.new.array.parts.first c.read-answer.new.array.parts.entries (g.B.Bank.tape c.read-answer.new.array.parts.bank)) c.read-answer.ensures.called.ended
 
 -- what was read is whole sectors
 whole-of : (n : ℕ) (bytes into : List ℕ) → bytes ≡ into → length into ≡ n * 512 → IsWhole bytes

@@ -10,7 +10,7 @@ returns-in-Ok-clause-shown g c =
 pub returns-in-Ok-clause-went : goal.returns-in-Ok-clause-went
 returns-in-Ok-clause-went g c =
     let did = c.in-Ok.ensures in
-    gone-shown g.B.Bank.tells g.B.Bank.given g.B.Bank.tape g.B.Bank.faults_of c.args.array.now c.status.new.self did.entered did.bank did.members (epoch-of c.args.array.now c.status.new.self did.same) did.same.ahead
+    gone-shown g.B.Bank.tells g.B.Bank.given g.B.Bank.tape g.B.Bank.faults_of c.args.array.now c.status.new.array did.entered did.bank did.members (epoch-of c.args.array.now c.status.new.array did.same) did.same.ahead
 
 pub returns-in-Err-clause-went : goal.returns-in-Err-clause-went
-returns-in-Err-clause-went g c = gone-same g.B.Bank.tells g.B.Bank.given g.B.Bank.tape g.B.Bank.faults_of c.args.array.now c.status.new.self c.in-Err.ensures.unchanged
+returns-in-Err-clause-went g c = gone-same g.B.Bank.tells g.B.Bank.given g.B.Bank.tape g.B.Bank.faults_of c.args.array.now c.status.new.array c.in-Err.ensures.unchanged

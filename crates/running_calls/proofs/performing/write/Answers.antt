@@ -45,26 +45,26 @@ pub write-answer-requires-clause-short : goal.write-answer-requires-clause-short
 write-answer-requires-clause-short g c = let count = count_in c.as_bytes.result.now c.args.body c.as_bytes.ensures.sectors in omega (arith, count, c.requires.askable.2)
 
 entered : (g : Over) (c : goal.After-told g)
-    → IsCallAnswered (list_length c.args.array.now.parts.members.newest) (AsksWrite c.args.at c.args.body) c.args.who c.args.array.now.parts.entries c.write-answer.new.self.parts.entries (Wrote c.args.at c.args.body) c.write-answer.result
+    → IsCallAnswered (list_length c.args.array.now.parts.members.newest) (AsksWrite c.args.at c.args.body) c.args.who c.args.array.now.parts.entries c.write-answer.new.array.parts.entries (Wrote c.args.at c.args.body) c.write-answer.result
 entered g c =
     let old = c.args.array.now in
     let size = list_length old.parts.members.newest in
     let tells = c.tells_sizes.ensures in
     let count = count_in c.as_bytes.result.now c.args.body c.as_bytes.ensures.sectors in
-    answered-written size c.args.at c.args.body c.args.who old.parts.entries c.write-answer.new.self.parts.entries c.write-answer.result c.requires.next
-    (λ is. let upto = within (visible_in old) (c.args.at + length c.as_bytes.result.now / 512) (IsWriteLackedIn old c.args.at (length c.as_bytes.result.now / 512)) old.parts.members c.write-answer.new.self.parts.members c.write-answer.result c.write-answer.ensures.caused is in
+    answered-written size c.args.at c.args.body c.args.who old.parts.entries c.write-answer.new.array.parts.entries c.write-answer.result c.requires.next
+    (λ is. let upto = within (visible_in old) (c.args.at + length c.as_bytes.result.now / 512) (IsWriteLackedIn old c.args.at (length c.as_bytes.result.now / 512)) old.parts.members c.write-answer.new.array.parts.members c.write-answer.result c.write-answer.ensures.caused is in
     let all = all-visible size old.limit old.parts.entries tells.sized tells.limited in
     omega (arith, upto, count, all))
-    (subst (λ (b : List Sector). IsWriteReplied size c.args.at b c.args.who old.parts.entries c.write-answer.new.self.parts.entries c.write-answer.result) c.as_bytes.ensures.sectors c.write-answer.ensures.answered)
+    (subst (λ (b : List Sector). IsWriteReplied size c.args.at b c.args.who old.parts.entries c.write-answer.new.array.parts.entries c.write-answer.result) c.as_bytes.ensures.sectors c.write-answer.ensures.answered)
 
 pub returns-clause-replied : goal.returns-clause-replied
 returns-clause-replied g c =
-    told-answer (list_length c.args.array.now.parts.members.newest) (AsksWrite c.args.at c.args.body) c.args.who c.args.array.now.parts.entries c.write-answer.new.self.parts.entries (Wrote c.args.at c.args.body) c.write-answer.result c.told.result c.told.ensures (entered g c)
+    told-answer (list_length c.args.array.now.parts.members.newest) (AsksWrite c.args.at c.args.body) c.args.who c.args.array.now.parts.entries c.write-answer.new.array.parts.entries (Wrote c.args.at c.args.body) c.write-answer.result c.told.result c.told.ensures (entered g c)
 
 pub returns-clause-went : goal.returns-clause-went
 returns-clause-went g c =
     let old = c.args.array.now in
-    let new = c.write-answer.new.self in
+    let new = c.write-answer.new.array in
     let size = list_length old.parts.members.newest in
     let did = c.write-answer.ensures in
     let before = g.B.Bank.faults_of old.parts.bank in
@@ -77,7 +77,7 @@ returns-clause-went g c =
     (entered g c))
 
 pub returns-clause-unchanged : goal.returns-clause-unchanged
-returns-clause-unchanged g c = told-unchanged (c.write-answer.new.self ≡ c.args.array.now) (Wrote c.args.at c.args.body) c.write-answer.result c.told.result c.told.ensures c.write-answer.ensures.unchanged
+returns-clause-unchanged g c = told-unchanged (c.write-answer.new.array ≡ c.args.array.now) (Wrote c.args.at c.args.body) c.write-answer.result c.told.result c.told.ensures c.write-answer.ensures.unchanged
 
 pub returns-clause-ended : goal.returns-clause-ended
-returns-clause-ended g c = ok-any c.told.result (IsEndOf g.B.Bank.tells c.write-answer.new.self.parts.first c.write-answer.new.self.parts.entries (g.B.Bank.tape c.write-answer.new.self.parts.bank)) c.write-answer.ensures.called.ended
+returns-clause-ended g c = ok-any c.told.result (IsEndOf g.B.Bank.tells c.write-answer.new.array.parts.first c.write-answer.new.array.parts.entries (g.B.Bank.tape c.write-answer.new.array.parts.bank)) c.write-answer.ensures.called.ended

@@ -1,0 +1,74 @@
+//! How much of a running array's list can be read and written.
+
+ghost use Rattle.std.specs.Prelude.{◌≡◌, ◌≢◌, Some, length, IsErr};
+ghost use Rattle.md_base.specs.declared.answers.Refusal.TheVariants.{Busy};
+ghost use Rattle.md_base.specs.declared.answers.BusyKind.TheVariants.{Reshape};
+ghost use Rattle.openings.specs.superblocks_Reading.{list_length};
+ghost use Rattle.flat_history.specs.Flat.{next_number};
+ghost use Rattle.flat_history.specs.declared.events.Event.TheVariants.{Visible, Refused};
+ghost use Rattle.flat_history.specs.declared.events.Request.TheVariants.{Visible as AsksVisible};
+ghost use Rattle.openings.specs.array_kept_Calls.{OnNoMemory, IsEndOf, by_answer};
+ghost use Rattle.openings.specs.grow_asked_Left.{phases_of};
+ghost use Rattle.openings.specs.running_words_Parts.{visible_in};
+ghost use Rattle.openings.specs.running_words_Calls.{moving_world};
+ghost use Rattle.openings.specs.running_words_Visible.{IsVisibleJudged, IsLimitedAs};
+ghost use Rattle.openings.specs.running_replies_Going.{HasRunOn};
+ghost use Rattle.openings.specs.running_replies_Replies.{IsRepliedWith};
+ghost use Rattle.openings.specs.running_replies_Limits.{limit_refusal};
+ghost use Rattle.openings.specs.growing_Planned.{IsJudged, IsReplied};
+
+use bank::Bank;
+use core::mem::replace_with;
+use md_base::{Fault, Who};
+use openings::{Moving, Running, State, check_moving, check_still, refuse_limit};
+
+// Refuses the limit of a caller, in a reshape.
+fn refuse_moving<B: Bank>(
+    moving: Moving<B>,
+    asked: (Who, Option<u64>),
+) -> (Moving<B>, Result<u64, Fault>)
+    requires next { asked.0.number ≡ next_number asked.0.caller moving.parts.entries }
+    requires caller { asked.0.caller ≢ 254 }
+    ensures answered { IsReplied B.tells (moving_world (B.given moving.parts.bank) (B.tape moving.parts.bank) moving) (length (phases_of moving.ahead)) moving.parts.members (AsksVisible asked.1) asked.0 moving.parts.entries result.0.parts.entries
+        (Refused (Busy Reshape)) result.1 }
+    ensures refused { IsErr result.1 }
+    ensures judged { IsJudged (Some (Busy Reshape)) result.1 }
+    ensures unchanged { OnNoMemory result.1 (result.0 ≡ moving) }
+    ensures limited { IsLimitedAs moving.limit moving result.0 }
+    ensures ended { IsEndOf B.tells result.0.parts.first result.0.parts.entries (B.tape result.0.parts.bank) }
+{
+    refuse_limit(moving, asked)
+}
+
+/// Limits how many sectors of the list can be read and written, or takes the limit away; the answer is how many can be then. It makes
+/// no device call. Refusals, in this order: `Busy` with a reshape, `Busy` with a plan, and `PastSize` where the list has fewer
+/// sectors than the limit. Want of memory changes nothing.
+pub fn set_visible<B: Bank>(
+    array: &mut Running<B>,
+    who: Who,
+    limit: Option<u64>,
+) -> Result<u64, Fault>
+    requires next { who.number ≡ next_number who.caller array.old.parts.entries }
+    requires caller { who.caller ≢ 254 }
+    ensures answered { IsRepliedWith (list_length array.old.parts.members.newest) (AsksVisible limit) who array.old.parts.entries array.new.parts.entries (Visible limit (visible_in array.new)) result }
+    ensures fits { IsReplied B.tells (moving_world (B.given array.old.parts.bank) (B.tape array.old.parts.bank) array.old) (length (phases_of array.old.ahead)) array.old.parts.members (AsksVisible limit) who array.old.parts.entries array.new.parts.entries
+        (Visible limit (visible_in array.new)) result }
+    ensures judged { IsVisibleJudged (limit_refusal array.old limit) (visible_in array.new) result }
+    ensures unchanged { OnNoMemory result (array.new ≡ array.old) }
+    ensures limited { IsLimitedAs (by_answer result limit array.old.limit) array.old array.new }
+    ensures ended { IsEndOf B.tells array.new.parts.first array.new.parts.entries (B.tape array.new.parts.bank) }
+    ensures went { HasRunOn B.tells B.given B.tape B.faults_of array.old array.new }
+{
+    match &mut array.state {
+        State::Still(still) => {
+            let done = still.set_visible(who, limit);
+            check_still(still);
+            done
+        }
+        State::Moving(moving) => {
+            let done = replace_with(moving, (who, limit), refuse_moving);
+            check_moving(moving);
+            done
+        }
+    }
+}

@@ -1,0 +1,41 @@
+//! What a running array tells of itself, entered in its history.
+
+ghost use Rattle.std.specs.Prelude.{◌≡◌, ◌≢◌, ◌≤◌, [], ◌∷◌, length, IfOk, IfErr};
+ghost use Rattle.flat_history.specs.Flat.{next_number};
+ghost use Rattle.flat_history.specs.declared.events.Event.TheVariants.{Shown};
+ghost use Rattle.openings.specs.array_kept_Calls.{IsEntered, IsEndOf};
+ghost use Rattle.openings.specs.running_words_Calls.{moving_world, IsSameReshape};
+ghost use Rattle.openings.specs.running_Calls.{IsShownAs};
+
+use bank::Bank;
+use md_base::{NoMemory, Status, Who};
+use openings::{Running, State, check_moving, check_still};
+
+/// What the array tells of itself, entered in its history. It makes no device call.
+pub fn status<B: Bank>(array: &mut Running<B>, who: Who) -> Result<Status, NoMemory>
+    requires next { who.number ≡ next_number who.caller array.old.parts.entries }
+    requires caller { who.caller ≢ 254 }
+    ensures entered { IfOk result (λ status. IsEntered B.tells (B.tape array.old.parts.bank) who array.old.parts.entries array.new.parts.entries (Shown status ∷ [])) }
+    ensures told { IfOk result (λ status. IsShownAs array.old status) }
+    ensures few { IfOk result (λ status. (length status.roles ≤ 16) × (length status.spares ≤ 32)) }
+    ensures unchanged { IfErr result (λ none. array.new ≡ array.old) }
+    ensures bank { array.new.parts.bank ≡ array.old.parts.bank }
+    ensures members { array.new.parts.members ≡ array.old.parts.members }
+    ensures work { array.new.parts.work ≡ array.old.parts.work }
+    ensures course { array.new.course ≡ array.old.course }
+    ensures ended { IsEndOf B.tells array.new.parts.first array.new.parts.entries (B.tape array.new.parts.bank) }
+    ensures same { IsSameReshape B.tells array.old array.new (moving_world (B.given array.old.parts.bank) (B.tape array.old.parts.bank) array.old) (moving_world (B.given array.new.parts.bank) (B.tape array.new.parts.bank) array.new) }
+{
+    match &mut array.state {
+        State::Still(still) => {
+            let status = still.status(who);
+            check_still(still);
+            status
+        }
+        State::Moving(moving) => {
+            let status = moving.status(who);
+            check_moving(moving);
+            status
+        }
+    }
+}
