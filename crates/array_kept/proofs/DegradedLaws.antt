@@ -13,11 +13,11 @@ use Rattle.md_base.specs.declared.answers.Who.{Who}
 use Rattle.md_base.specs.declared.status.Status.{Status}
 use Rattle.md_base.specs.declared.answers.Refusal.{Refusal}
 use Rattle.md_base.specs.declared.answers.Refusal.TheVariants.{PastEnd, TooManyMissing, NotResynced, NoSuchRole}
-use Rattle.bank.specs.Given.{Given}
-use Rattle.bank.specs.declared.bank.Operation.{Operation}
-use Rattle.layout.proofs.Limits.{limited}
-use Rattle.layout.proofs.Places.{place-role_below, place-row_below}
-use Rattle.parity.specs.Rows.{IsSector, sector_of}
+use Rattle.call_entries.specs.bank_Given.{Given}
+use Rattle.call_entries.specs.bank_the_Operation.{Operation}
+use Rattle.call_entries.proofs.layout_Limits.{limited}
+use Rattle.call_entries.proofs.layout_Places.{place-role_below, place-row_below}
+use Rattle.call_entries.specs.parity_Rows.{IsSector, sector_of}
 use Rattle.call_entries.specs.superblocks_the_Members.{Members}
 use Rattle.md_base.specs.declared.status.Role.{Role}
 use Rattle.md_base.specs.declared.status.Role.TheVariants.{Recovering}
@@ -58,10 +58,10 @@ use Rattle.call_entries.proofs.shape_changes_Steady.{safe-is-seen}
 use Rattle.call_entries.specs.shape_changes_Safety.{IsRisen}
 use Rattle.call_entries.specs.shape_views_Views.{Ledger}
 use Rattle.call_entries.specs.shape_changes_Steady.{AreViewsRight, IsSafeOver, KeepsSafe}
-use Rattle.bank.proofs.Marks.{each_mark-along}
+use Rattle.call_entries.proofs.bank_Marks.{each_mark-along}
 use Rattle.call_entries.specs.flat_history_Losses.{was_dirty, is_resync_end, is_unsynced, settles}
 use Rattle.call_entries.specs.flat_history_Sound.{OpensFit, LosesNoRole}
-use Rattle.bank.specs.Tape.{Contents, IsIn, EachMark}
+use Rattle.call_entries.specs.bank_Tape.{Contents, IsIn, EachMark}
 use Rattle.array_kept.proofs.ReadyLaws.{Settles, AreStill, silent-behind, still-behind}
 use Rattle.call_entries.proofs.views_MovedLaws.{grows-none, moved-same}
 use Rattle.call_entries.proofs.LeftLaws.{TellLeft, fold-left, left-more, left-behind, keeps-left}

@@ -6,7 +6,7 @@ use Rattle.std.proofs.lemmas.Bool.Decides.{nat_tests}
 use Rattle.std.proofs.lemmas.List.{get_or-set_same, get_or-set_other, ext_get_or}
 use Rattle.md_base.specs.Search.{tabulate}
 use Rattle.md_base.proofs.Tabulated.{length-tabulate, get_or-tabulate}
-use Rattle.sb1.specs.declared.sb.Sb.{Sb}
+use Rattle.call_entries.specs.sb1_the_Sb.{Sb}
 use Rattle.call_entries.specs.superblocks_Reading.{Reading, role_state}
 use Rattle.array_kept.specs.Adopting.{stripes_held, found_stripes, bearers_of}
 

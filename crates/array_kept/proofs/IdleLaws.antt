@@ -5,8 +5,8 @@ use Rattle.std.proofs.lemmas.Bool.{cases_lt}
 use Rattle.md_base.specs.Search.{count_below}
 use Rattle.md_base.specs.declared.status.Role.{Role}
 use Rattle.md_base.specs.declared.status.Role.TheVariants.{Whole, Recovering, Missing}
-use Rattle.bank.specs.Given.{Given}
-use Rattle.bank.specs.declared.bank.Operation.{Operation}
+use Rattle.call_entries.specs.bank_Given.{Given}
+use Rattle.call_entries.specs.bank_the_Operation.{Operation}
 use Rattle.call_entries.specs.superblocks_the_Members.{Members}
 use Rattle.call_entries.specs.superblocks_Reading.{Scope, shape_of, role_state, is_whole, holder}
 use Rattle.call_entries.specs.superblocks_Reads.{has_spare}

@@ -8,9 +8,9 @@ use Rattle.md_base.specs.Sectors.{Sector}
 use Rattle.md_base.specs.Shapes.{tolerance, data_disks}
 use Rattle.md_base.specs.declared.places.Shape.{Shape}
 use Rattle.md_base.specs.declared.answers.Who.{Who}
-use Rattle.bank.specs.Given.{Given}
-use Rattle.bank.specs.declared.bank.Operation.{Operation}
-use Rattle.bank.specs.Tape.{IsIn, disk}
+use Rattle.call_entries.specs.bank_Given.{Given}
+use Rattle.call_entries.specs.bank_the_Operation.{Operation}
+use Rattle.call_entries.specs.bank_Tape.{IsIn, disk}
 use Rattle.call_entries.specs.superblocks_the_Members.{Members}
 use Rattle.call_entries.specs.superblocks_Reading.{Scope, is_reshaping, shape_of, role_count, is_clean}
 use Rattle.call_entries.specs.row_io_Rows.{present}

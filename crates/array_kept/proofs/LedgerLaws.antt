@@ -10,8 +10,8 @@ use Rattle.std.proofs.lemmas.List.Sums.{fold-append}
 use Rattle.md_base.specs.Sectors.{Sector, sectors_of}
 use Rattle.md_base.proofs.SectorLaws.{length-sectors_of}
 use Rattle.md_base.specs.declared.answers.Who.{Who}
-use Rattle.bank.specs.Given.{Given}
-use Rattle.bank.specs.Tape.{IsIn}
+use Rattle.call_entries.specs.bank_Given.{Given}
+use Rattle.call_entries.specs.bank_Tape.{IsIn}
 use Rattle.call_entries.specs.superblocks_the_Members.{Members}
 use Rattle.call_entries.specs.superblocks_Reading.{Scope, is_reshaping}
 use Rattle.call_entries.specs.list_io_Writing.{IsWritten}

@@ -59,3 +59,27 @@ pub use Rattle.call_entries.proofs.superblock_reads_SaidSlots
 pub use Rattle.call_entries.proofs.superblock_reads_FoundHeld
 pub use Rattle.call_entries.proofs.superblock_reads_StageReads
 pub use Rattle.call_entries.proofs.flat_history_OneShapeLegal
+pub use Rattle.call_entries.proofs.bank_Images
+pub use Rattle.call_entries.proofs.bank_Laws
+pub use Rattle.call_entries.proofs.bank_Marks
+pub use Rattle.call_entries.proofs.flat_history_GoneCounts
+pub use Rattle.call_entries.proofs.flat_history_LegalLaws
+pub use Rattle.call_entries.proofs.flat_history_SoundLaws
+pub use Rattle.call_entries.proofs.gf256_FieldLaws
+pub use Rattle.call_entries.proofs.history_laws_GrowingLaws
+pub use Rattle.call_entries.proofs.history_laws_NumberLaws
+pub use Rattle.call_entries.proofs.history_laws_ReshapedLaws
+pub use Rattle.call_entries.proofs.layout_Limits
+pub use Rattle.call_entries.proofs.layout_Places
+pub use Rattle.call_entries.proofs.parity_Columns
+pub use Rattle.call_entries.proofs.parity_Contents
+pub use Rattle.call_entries.proofs.parity_Lacking
+pub use Rattle.call_entries.proofs.parity_OwnFills
+pub use Rattle.call_entries.proofs.parity_Refilled
+pub use Rattle.call_entries.proofs.region_laws_RegionLaws
+pub use Rattle.call_entries.proofs.shape_views_Standing
+pub use Rattle.call_entries.proofs.shape_views_WindowLaws
+pub use Rattle.md_base.proofs.Counted as md_base_Counted
+pub use Rattle.md_base.proofs.Least as md_base_Least
+pub use Rattle.md_base.proofs.SectorLaws as md_base_SectorLaws
+pub use Rattle.md_base.proofs.Tabulated as md_base_Tabulated

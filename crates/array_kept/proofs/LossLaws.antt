@@ -8,7 +8,7 @@ use Rattle.std.specs.List.{All, list_any}
 use Rattle.md_base.specs.Sectors.{Sector}
 use Rattle.md_base.specs.declared.answers.Who.{Who}
 use Rattle.md_base.specs.declared.answers.Refusal.{Refusal}
-use Rattle.bank.specs.declared.bank.Operation.{Operation}
+use Rattle.call_entries.specs.bank_the_Operation.{Operation}
 use Rattle.call_entries.specs.superblocks_the_Members.{Members}
 use Rattle.call_entries.specs.superblocks_Reading.{role_state, holder}
 use Rattle.call_entries.specs.row_io_Rows.{reading_of}

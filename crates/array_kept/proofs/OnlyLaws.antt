@@ -8,7 +8,7 @@ use Rattle.std.specs.List.{list_any, All}
 use Rattle.std.specs.Prelude.{fold, IsTrue}
 use Rattle.md_base.specs.Shapes.{has_slot}
 use Rattle.md_base.specs.declared.answers.Who.{Who}
-use Rattle.bank.specs.Given.{Given}
+use Rattle.call_entries.specs.bank_Given.{Given}
 use Rattle.call_entries.specs.superblocks_the_Members.{Members}
 use Rattle.call_entries.specs.superblocks_Reads.{has_spare}
 use Rattle.call_entries.specs.row_io_Rows.{reading_of, is_missing}

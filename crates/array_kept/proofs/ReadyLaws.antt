@@ -5,9 +5,9 @@ use Rattle.md_base.specs.Sectors.{Sector, sectors_of}
 use Rattle.md_base.specs.declared.answers.Who.{Who}
 use Rattle.md_base.proofs.SectorLaws.{length-sectors_of}
 use Rattle.md_base.specs.Shapes.{has_slot}
-use Rattle.bank.specs.Given.{Given, NeverFalls}
-use Rattle.bank.specs.Tape.{IsIn}
-use Rattle.bank.specs.declared.bank.Operation.{Operation}
+use Rattle.call_entries.specs.bank_Given.{Given, NeverFalls}
+use Rattle.call_entries.specs.bank_Tape.{IsIn}
+use Rattle.call_entries.specs.bank_the_Operation.{Operation}
 use Rattle.call_entries.specs.superblocks_the_Members.{Members}
 use Rattle.call_entries.specs.superblocks_Reading.{Scope}
 use Rattle.call_entries.specs.flat_history_the_Entry.{Entry}

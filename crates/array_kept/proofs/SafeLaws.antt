@@ -6,10 +6,10 @@ use Rattle.std.proofs.lemmas.Bool.{cases_lt}
 use Rattle.std.specs.List.{list_any}
 use Rattle.md_base.specs.Sectors.{Sector}
 use Rattle.md_base.specs.declared.answers.Who.{Who}
-use Rattle.bank.specs.declared.bank.Operation.{Operation}
-use Rattle.bank.specs.Given.{Given, sizes}
-use Rattle.bank.specs.Tape.{Contents, IsIn, disk}
-use Rattle.bank.proofs.Laws.{contents-earlier}
+use Rattle.call_entries.specs.bank_the_Operation.{Operation}
+use Rattle.call_entries.specs.bank_Given.{Given, sizes}
+use Rattle.call_entries.specs.bank_Tape.{Contents, IsIn, disk}
+use Rattle.call_entries.proofs.bank_Laws.{contents-earlier}
 use Rattle.call_entries.specs.superblocks_the_Members.{Members}
 use Rattle.call_entries.specs.superblocks_Reading.{Scope, Reading, reading}
 use Rattle.call_entries.specs.flat_history_the_Entry.{Entry}

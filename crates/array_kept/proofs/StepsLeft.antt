@@ -13,8 +13,8 @@ use Rattle.md_base.specs.Shapes.{has_slot}
 use Rattle.md_base.specs.declared.places.Shape.{Shape}
 use Rattle.md_base.specs.declared.status.Role.{Role}
 use Rattle.md_base.specs.declared.status.Role.TheVariants.{Whole, Recovering, Missing}
-use Rattle.layout.proofs.Limits.{limited}
-use Rattle.bank.specs.Given.{Given}
+use Rattle.call_entries.proofs.layout_Limits.{limited}
+use Rattle.call_entries.specs.bank_Given.{Given}
 use Rattle.call_entries.specs.superblocks_the_Members.{Members}
 use Rattle.call_entries.proofs.views_Fit.{fit-valid, force-disks}
 use Rattle.call_entries.specs.superblocks_Reading.{shape_of, role_state, holder}

@@ -2,17 +2,17 @@
 use Rattle.std.specs.Prelude.{◌≡◌, ℕ, zero, suc, ◌/◌, ◌<◌, ◌≤◌, ◌==◌, nat_lt, true, false, not, List, [], ◌∷◌, ◌++◌, length, if◌then◌else◌, Option, Some, None, IsTrue}
 use Rattle.md_base.specs.Shapes.{tolerance}
 use Rattle.md_base.specs.declared.answers.Who.{Who}
-use Rattle.bank.specs.declared.bank.Operation.{Operation}
-use Rattle.bank.specs.Given.{Given, sizes}
-use Rattle.bank.specs.Tape.{disk}
-use Rattle.bank.specs.Whole.{HasWholeSectors}
+use Rattle.call_entries.specs.bank_the_Operation.{Operation}
+use Rattle.call_entries.specs.bank_Given.{Given, sizes}
+use Rattle.call_entries.specs.bank_Tape.{disk}
+use Rattle.call_entries.specs.bank_Whole.{HasWholeSectors}
 use Rattle.call_entries.specs.superblocks_the_Members.{Members}
 use Rattle.md_base.specs.declared.status.Role.{Role}
 use Rattle.md_base.specs.declared.status.Role.TheVariants.{Whole, Recovering, Missing}
 use Rattle.std.specs.Option.{option_map_or}
 use Rattle.md_base.specs.Sectors.{Sector}
 use Rattle.md_base.specs.Search.{tabulate}
-use Rattle.sb1.specs.declared.sb.Sb.{Sb}
+use Rattle.call_entries.specs.sb1_the_Sb.{Sb}
 use Rattle.call_entries.specs.superblocks_Outcome.{set_of}
 use Rattle.call_entries.specs.superblocks_Update.{own_in}
 use Rattle.call_entries.specs.superblocks_Held.{MayRead}

@@ -6,10 +6,10 @@ use Rattle.md_base.specs.declared.answers.Fault.{Fault}
 use Rattle.md_base.specs.declared.answers.Fault.TheVariants.{Refused as IsRefusedWith, NoMemory}
 use Rattle.md_base.specs.declared.answers.Refusal.{Refusal}
 use Rattle.md_base.specs.declared.answers.Refusal.TheVariants.{PastEnd, TooManyMissing, NotResynced, NoSuchRole, NoSuchSlot, SlotTaken, SlotTooSmall, SlotFault, Nothing}
-use Rattle.bank.specs.declared.bank.Operation.{Operation}
-use Rattle.bank.specs.Given.{Given, IsFaulted}
-use Rattle.bank.specs.Tape.{disk}
-use Rattle.sb1.specs.declared.sb.Sb.{Sb}
+use Rattle.call_entries.specs.bank_the_Operation.{Operation}
+use Rattle.call_entries.specs.bank_Given.{Given, IsFaulted}
+use Rattle.call_entries.specs.bank_Tape.{disk}
+use Rattle.call_entries.specs.sb1_the_Sb.{Sb}
 use Rattle.call_entries.specs.superblocks_the_Members.{Members}
 use Rattle.md_base.specs.declared.status.Role.TheVariants.{Whole, Recovering}
 use Rattle.call_entries.specs.superblocks_Reading.{shape_of, role_count, is_backup, role_state, holder, data_offset_of}

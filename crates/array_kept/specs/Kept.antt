@@ -2,9 +2,9 @@
 use Rattle.std.specs.Prelude.{◌≡◌, ◌⊎◌, ℕ, ◌+◌, ◌*◌, ◌<◌, ◌≤◌, ◌||◌, true, false, List, length, Option, Some, None, is_some, IsTrue, IsSome, IfSome}
 use Rattle.md_base.specs.Shapes.{tolerance, has_slot}
 use Rattle.md_base.specs.Sectors.{Sector}
-use Rattle.parity.specs.Rows.{IsSector}
-use Rattle.bank.specs.declared.bank.Operation.{Operation}
-use Rattle.bank.specs.Given.{Given, sizes}
+use Rattle.call_entries.specs.parity_Rows.{IsSector}
+use Rattle.call_entries.specs.bank_the_Operation.{Operation}
+use Rattle.call_entries.specs.bank_Given.{Given, sizes}
 use Rattle.call_entries.specs.superblocks_the_Members.{Members}
 use Rattle.call_entries.specs.superblocks_Reading.{Scope, Reading, is_reshaping, is_clean, shape_of, role_count}
 use Rattle.call_entries.specs.superblocks_Reads.{has_spare}

@@ -55,3 +55,44 @@ pub use Rattle.call_entries.specs.superblocks_Found
 pub use Rattle.call_entries.specs.superblocks_Writing
 pub use Rattle.call_entries.specs.superblocks_Outcome
 pub use Rattle.call_entries.specs.superblocks_Stages
+pub use Rattle.call_entries.specs.bank_Given
+pub use Rattle.call_entries.specs.bank_Tape
+pub use Rattle.call_entries.specs.bank_Whole
+pub use Rattle.call_entries.specs.bank_the_Operation
+pub use Rattle.call_entries.specs.flat_history_Left
+pub use Rattle.call_entries.specs.flat_history_Opened
+pub use Rattle.call_entries.specs.flat_history_Reshaped
+pub use Rattle.call_entries.specs.geometry_Geometry
+pub use Rattle.call_entries.specs.gf256_Field
+pub use Rattle.call_entries.specs.grow_plan_Plans
+pub use Rattle.call_entries.specs.layout_Layout
+pub use Rattle.call_entries.specs.parity_Exponents
+pub use Rattle.call_entries.specs.parity_Fills
+pub use Rattle.call_entries.specs.parity_Parity
+pub use Rattle.call_entries.specs.parity_Rows
+pub use Rattle.call_entries.specs.sb1_Features
+pub use Rattle.call_entries.specs.sb1_Superblock
+pub use Rattle.call_entries.specs.sb1_the_Sb
+pub use Rattle.call_entries.specs.shape_changes_Changing
+pub use Rattle.md_base.specs.Search as md_base_Search
+pub use Rattle.md_base.specs.Sectors as md_base_Sectors
+pub use Rattle.md_base.specs.Shapes as md_base_Shapes
+pub use Rattle.md_base.specs.declared.answers.BusyKind.TheVariants as md_base_the_BusyKind_TheVariants
+pub use Rattle.md_base.specs.declared.answers.Fault as md_base_the_Fault
+pub use Rattle.md_base.specs.declared.answers.Fault.TheVariants as md_base_the_Fault_TheVariants
+pub use Rattle.md_base.specs.declared.answers.Refusal as md_base_the_Refusal
+pub use Rattle.md_base.specs.declared.answers.Refusal.TheVariants as md_base_the_Refusal_TheVariants
+pub use Rattle.md_base.specs.declared.answers.ShapeField as md_base_the_ShapeField
+pub use Rattle.md_base.specs.declared.answers.ShapeField.TheVariants as md_base_the_ShapeField_TheVariants
+pub use Rattle.md_base.specs.declared.answers.Who as md_base_the_Who
+pub use Rattle.md_base.specs.declared.places.Place as md_base_the_Place
+pub use Rattle.md_base.specs.declared.places.RowRoles as md_base_the_RowRoles
+pub use Rattle.md_base.specs.declared.places.Shape as md_base_the_Shape
+pub use Rattle.md_base.specs.declared.places.Side as md_base_the_Side
+pub use Rattle.md_base.specs.declared.places.Side.TheVariants as md_base_the_Side_TheVariants
+pub use Rattle.md_base.specs.declared.places.Span as md_base_the_Span
+pub use Rattle.md_base.specs.declared.status.Role as md_base_the_Role
+pub use Rattle.md_base.specs.declared.status.Role.TheVariants as md_base_the_Role_TheVariants
+pub use Rattle.md_base.specs.declared.status.Status as md_base_the_Status
+pub use Rattle.md_base.specs.declared.wishes.Phase as md_base_the_Phase
+pub use Rattle.md_base.specs.declared.wishes.Phase.TheVariants as md_base_the_Phase_TheVariants

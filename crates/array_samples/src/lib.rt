@@ -2,10 +2,7 @@
 #![tactic(auto)]
 
 pub use assemble::{CreateSpec, Opened, refusal_of_create};
-use assemble::{find, make};
-use bank::{Bank, MemoryBank};
-use md_base::{Fault, Shape};
-use sb1::{Sb, sectors_of};
+use assemble::{Bank, Fault, MemoryBank, Sb, Shape, find, make, sectors_of};
 use std::alloc::Global;
 use std::test::Fail;
 

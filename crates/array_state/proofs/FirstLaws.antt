@@ -3,13 +3,13 @@ use Rattle.std.proofs.Common.{◌≡◌, inl, inr, ℕ, ◌*◌, ◌^◌, ◌<�
 use Rattle.std.specs.Prelude.{MatchOption}
 use Rattle.std.proofs.lemmas.Bool.Decides.{nat_tests}
 use Rattle.std.proofs.lemmas.Nat.{mul-le}
-use Rattle.md_base.specs.declared.places.Shape.{Shape}
-use Rattle.md_base.specs.Shapes.{data_disks, is_valid_shape}
-use Rattle.layout.proofs.Limits.{limited}
-use Rattle.md_base.specs.declared.answers.Refusal.{Refusal}
-use Rattle.md_base.specs.declared.answers.Refusal.TheVariants.{PastEnd}
-use Rattle.superblocks.specs.declared.members.Members.{Members}
-use Rattle.views.specs.Lacking.{IsUnread, IsUnwritten}
+use Rattle.safe_rows.specs.md_base_the_Shape.{Shape}
+use Rattle.safe_rows.specs.md_base_Shapes.{data_disks, is_valid_shape}
+use Rattle.safe_rows.proofs.layout_Limits.{limited}
+use Rattle.safe_rows.specs.md_base_the_Refusal.{Refusal}
+use Rattle.safe_rows.specs.md_base_the_Refusal_TheVariants.{PastEnd}
+use Rattle.safe_rows.specs.superblocks_the_Members.{Members}
+use Rattle.safe_additions.specs.views_Lacking.{IsUnread, IsUnwritten}
 use Rattle.safe_additions.specs.safe_updates_First.{read_refusal, write_refusal, call_refusal}
 use Rattle.safe_additions.proofs.safe_updates_RefusingLaws.{read-none, write-none, read-cause, write-cause}
 use Rattle.calls_kept.specs.array_kept_Calls.{IsRefusalOf}

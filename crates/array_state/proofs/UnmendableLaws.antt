@@ -1,12 +1,12 @@
 -- Why a stripe of a resync isn't mended, of an array of one shape: as the rows of that shape aren't written.
 use Rattle.std.proofs.Common.{◌≡◌, inl, inr, false, Option, Some, None, refl, subst}
 use Rattle.std.specs.Prelude.{MatchOption}
-use Rattle.md_base.specs.declared.answers.Refusal.{Refusal}
-use Rattle.md_base.specs.declared.places.Shape.{Shape}
-use Rattle.superblocks.specs.declared.members.Members.{Members}
-use Rattle.superblocks.specs.Reading.{is_reshaping, shape_of}
-use Rattle.views.specs.Lacking.{IsUnwritten}
-use Rattle.views.proofs.LackingLaws.{too-many-still}
+use Rattle.safe_rows.specs.md_base_the_Refusal.{Refusal}
+use Rattle.safe_rows.specs.md_base_the_Shape.{Shape}
+use Rattle.safe_rows.specs.superblocks_the_Members.{Members}
+use Rattle.safe_rows.specs.superblocks_Reading.{is_reshaping, shape_of}
+use Rattle.safe_additions.specs.views_Lacking.{IsUnwritten}
+use Rattle.safe_rows.proofs.views_LackingLaws.{too-many-still}
 use Rattle.calls_kept.specs.array_kept_Calls.{IsUnmendable}
 
 pub unmendable-of : (shape : Shape) (m : Members) (refusal : Refusal) → shape ≡ shape_of m.newest → IsUnwritten shape false m refusal → IsUnmendable m refusal

@@ -1,15 +1,13 @@
 //! The roles that aren't whole where an array begins.
 
 ghost use Rattle.std.specs.Prelude.{◌≡◌, ◌<◌, ◌≤◌, ◌+◌, ◌++◌, length};
-ghost use Rattle.row_io.specs.Rows.{reading_of};
-ghost use Rattle.flat_history.specs.Plain.{entries_of};
-ghost use Rattle.call_entries.specs.Losing.{IsSameEpoch};
+ghost use Rattle.safe_additions.specs.row_io_Rows.{reading_of};
+ghost use Rattle.safe_additions.specs.flat_history_Plain.{entries_of};
+ghost use Rattle.calls_kept.specs.call_entries_Losing.{IsSameEpoch};
 ghost use Rattle.calls_kept.specs.array_kept_Adopting.{opener, absent_loss, absent_losses};
 
-use call_entries::calls::enter;
-use flat_history::{Epoch, Event, LostCause};
-use md_base::{Role, Who};
-use superblocks::Members;
+use calls_kept::{Epoch, Event, LostCause, Who, enter};
+use safe_rows::{Members, Role};
 
 // The loss of this role, if it isn't whole.
 fn enter_absent(epoch: &mut Epoch, members: &Members, end: u64, role: u32)

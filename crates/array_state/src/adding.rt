@@ -1,21 +1,18 @@
 //! Slots that may be made spares.
 
 ghost use Rattle.std.specs.Prelude.{◌≡◌, ◌+◌, ◌<◌, ◌≤◌, ℕ, true, false, drop, length, MatchOption};
-ghost use Rattle.md_base.specs.declared.answers.Refusal.{Refusal};
-ghost use Rattle.superblocks.specs.Reading.{entry_of};
-ghost use Rattle.views.specs.Placed.{IsPlaced};
+ghost use Rattle.safe_rows.specs.md_base_the_Refusal.{Refusal};
+ghost use Rattle.safe_rows.specs.superblocks_Reading.{entry_of};
+ghost use Rattle.safe_additions.specs.views_Placed.{IsPlaced};
 ghost use Rattle.safe_additions.specs.shape_views_Regions.{DoWithout};
-ghost use Rattle.views.specs.Numbers.{IsSpareSb};
+ghost use Rattle.safe_additions.specs.views_Numbers.{IsSpareSb};
 ghost use Rattle.calls_kept.specs.array_kept_Calls.{IsTaken, IsFirstOffset, IsUnaddable};
 
 use crate::holders::{first_offset, holds_role};
 use crate::refusing::refusal_of;
-use bank::Bank;
-use md_base::Refusal;
 use safe_additions::device::spare_sb;
 use safe_additions::is_spare;
-use sb1::Sb;
-use superblocks::Members;
+use safe_rows::{Bank, Members, Refusal, Sb};
 
 // Whether the slot is the backup, holds a role or is a spare.
 fn is_taken(members: &Members, backup: Option<u32>, slot: u32) -> bool

@@ -1,20 +1,19 @@
 //! What an array tells of itself.
 
 ghost use Rattle.std.specs.Prelude.{◌≡◌, ◌+◌, ◌*◌, ◌^◌, ◌≤◌, length, IfOk, IfSome, IsTrue};
-ghost use Rattle.md_base.specs.Shapes.{is_valid_shape};
-ghost use Rattle.md_base.specs.Search.{count_below};
-ghost use Rattle.superblocks.specs.Reading.{shape_of};
-ghost use Rattle.row_io.specs.Rows.{reading_of};
-ghost use Rattle.views.specs.Whole.{list_size};
-ghost use Rattle.views.specs.Placed.{places_of, is_vacant};
-ghost use Rattle.views.specs.Status.{stripes_of, spare_count, recovery_left, left_of};
+ghost use Rattle.safe_rows.specs.md_base_Shapes.{is_valid_shape};
+ghost use Rattle.safe_rows.specs.md_base_Search.{count_below};
+ghost use Rattle.safe_rows.specs.superblocks_Reading.{shape_of};
+ghost use Rattle.safe_additions.specs.row_io_Rows.{reading_of};
+ghost use Rattle.safe_additions.specs.views_Whole.{list_size};
+ghost use Rattle.safe_additions.specs.views_Placed.{places_of, is_vacant};
+ghost use Rattle.safe_additions.specs.views_Status.{stripes_of, spare_count, recovery_left, left_of};
 
-use md_base::{NoMemory, Role, RoleList, SlotList};
-use safe_additions::{is_spare, is_vacant, list_length, shape_in};
+use calls_kept::{NoMemory, RoleList, SlotList};
+use safe_additions::{Work, is_spare, is_vacant, list_length, shape_in};
 use safe_rows::mending::stripes;
+use safe_rows::{Members, Role};
 use std::alloc::Global;
-use superblocks::Members;
-use views::Work;
 
 /// How many sectors of the list can be read and written.
 pub fn visible(members: &Members) -> u64

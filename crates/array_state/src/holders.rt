@@ -1,16 +1,15 @@
 //! Which slots hold roles.
 
 ghost use Rattle.std.specs.Prelude.{◌≡◌, ◌<◌, ◌≤◌, ℕ, true, false, length, Some, IfSome, IfNone, IsTrue};
-ghost use Rattle.md_base.specs.Shapes.{is_valid_shape};
-ghost use Rattle.superblocks.specs.Reading.{shape_of, role_state, holder};
-ghost use Rattle.row_io.specs.Rows.{reading_of};
-ghost use Rattle.views.specs.Rebuilding.{Held};
+ghost use Rattle.safe_rows.specs.md_base_Shapes.{is_valid_shape};
+ghost use Rattle.safe_rows.specs.superblocks_Reading.{shape_of, role_state, holder};
+ghost use Rattle.safe_additions.specs.row_io_Rows.{reading_of};
+ghost use Rattle.safe_additions.specs.views_Rebuilding.{Held};
 ghost use Rattle.calls_kept.specs.array_kept_Calls.{HasRole, IsFirstOffset};
 
-use md_base::Role;
 use safe_additions::adding::data_offset;
 use safe_additions::shape_in;
-use superblocks::Members;
+use safe_rows::{Members, Role};
 
 /// Whether the slot holds a role.
 pub fn holds_role(members: &Members, slot: u32) -> bool

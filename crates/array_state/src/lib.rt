@@ -9,6 +9,11 @@ pub mod refusing;
 pub mod room;
 pub mod work;
 
+pub use calls_kept::{
+    BusyKind, Fault, NoMemory, Sectors, Status, Who, check_number, enter, enter_behind,
+    enter_failure, enter_lost,
+};
 pub use safe_additions::adding::{add_member, look_at};
 pub use safe_additions::device::{bear, free_number};
 pub use safe_rows::mending::stripes;
+pub use safe_rows::{Refusal, Role, Shape, Span};

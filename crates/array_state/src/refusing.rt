@@ -1,22 +1,21 @@
 //! Why a call isn't done, before any device is touched.
 
 ghost use Rattle.std.specs.Prelude.{◌≡◌, ◌+◌, ◌^◌, ◌<◌, ◌≤◌, false, length, IfSome, IsTrue, MatchOption};
-ghost use Rattle.md_base.specs.Shapes.{is_valid_shape, is_multiple};
-ghost use Rattle.md_base.specs.declared.answers.Refusal.{Refusal};
-ghost use Rattle.superblocks.specs.Reading.{is_reshaping, role_count, shape_of};
-ghost use Rattle.superblocks.specs.Verdict.{AreValidShapes};
-ghost use Rattle.views.specs.Whole.{list_size};
-ghost use Rattle.views.specs.Placed.{places_of};
-ghost use Rattle.views.specs.Status.{stripes_of};
-ghost use Rattle.views.specs.Lacking.{AreTooMany, IsUnread, IsUnwritten, are_mended, mended_rows};
+ghost use Rattle.safe_rows.specs.md_base_Shapes.{is_valid_shape, is_multiple};
+ghost use Rattle.safe_rows.specs.md_base_the_Refusal.{Refusal};
+ghost use Rattle.safe_rows.specs.superblocks_Reading.{is_reshaping, role_count, shape_of};
+ghost use Rattle.safe_additions.specs.superblocks_Verdict.{AreValidShapes};
+ghost use Rattle.safe_additions.specs.views_Whole.{list_size};
+ghost use Rattle.safe_additions.specs.views_Placed.{places_of};
+ghost use Rattle.safe_additions.specs.views_Status.{stripes_of};
+ghost use Rattle.safe_additions.specs.views_Lacking.{AreTooMany, IsUnread, IsUnwritten, are_mended, mended_rows};
 ghost use Rattle.safe_additions.specs.safe_updates_First.{read_refusal, write_refusal, call_refusal};
 ghost use Rattle.calls_kept.specs.array_kept_Calls.{IsRefusalOf, IsUnmendable};
 
 use crate::asking::visible;
-use md_base::{Refusal, Shape};
 use safe_additions::{list_length, shape_in, too_many, unread, unwritten};
 use safe_rows::mending::mended_rows;
-use superblocks::Members;
+use safe_rows::{Members, Refusal, Shape};
 
 /// The refusal of a call that ends at the sector `to`, by the visible size and how many roles are missing: `PastEnd`, or else
 /// `TooManyMissing`.

@@ -2,21 +2,17 @@
 
 ghost use Rattle.std.specs.Prelude.{◌≡◌, ◌<◌, ◌≤◌, ◌==◌, ℕ, false, length, Some, IsTrue};
 ghost use Rattle.std.specs.Option.{option_map_or};
-ghost use Rattle.md_base.specs.Shapes.{is_valid_shape};
-ghost use Rattle.md_base.specs.Search.{tabulate};
-ghost use Rattle.md_base.specs.declared.status.Role.TheVariants.{Recovering as IsRecovering};
-ghost use Rattle.superblocks.specs.Reading.{is_reshaping, shape_of, role_state, rows_held, holder};
-ghost use Rattle.superblocks.specs.Update.{own_in};
-ghost use Rattle.row_io.specs.Rows.{reading_of};
+ghost use Rattle.safe_rows.specs.md_base_Shapes.{is_valid_shape};
+ghost use Rattle.safe_rows.specs.md_base_Search.{tabulate};
+ghost use Rattle.safe_rows.specs.md_base_the_Role_TheVariants.{Recovering as IsRecovering};
+ghost use Rattle.safe_rows.specs.superblocks_Reading.{is_reshaping, shape_of, role_state, rows_held, holder};
+ghost use Rattle.safe_additions.specs.superblocks_Update.{own_in};
+ghost use Rattle.safe_additions.specs.row_io_Rows.{reading_of};
 ghost use Rattle.calls_kept.specs.array_kept_Adopting.{found_stripes, bearers_of, found_work};
 ghost use Rattle.calls_kept.specs.array_kept_Calls.{with_rebuilt};
 
-use md_base::Role;
-use safe_additions::shape_in;
-use superblocks::Members;
-use superblocks::says::is_clean;
-use superblocks::sets::with;
-use views::Work;
+use safe_additions::{Work, is_clean, shape_in, with};
+use safe_rows::{Members, Role};
 
 // The rows that a recovering slot holds, by its superblock.
 fn rows_held(members: &Members, slot: u32) -> u64

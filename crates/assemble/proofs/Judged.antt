@@ -6,22 +6,22 @@ use Rattle.std.proofs.lemmas.List.{length-map, length-take-le, get_or-take, get_
 use Rattle.std.proofs.lemmas.Bool.{cases_lt}
 use Rattle.std.proofs.lemmas.Bool.Decides.{nat_tests}
 use Rattle.std.proofs.lemmas.Slice.Eq.{bytes_eq-Decides}
-use Rattle.md_base.specs.declared.answers.Fault.{Fault}
-use Rattle.md_base.specs.declared.answers.Fault.TheVariants.{Refused, NoMemory}
-use Rattle.md_base.specs.declared.answers.Refusal.{Refusal}
-use Rattle.md_base.specs.declared.answers.Refusal.TheVariants.{NoSuperblock, BackupAbsent, MembersMissing}
-use Rattle.md_base.specs.declared.places.Shape.{Shape}
-use Rattle.md_base.specs.Shapes.{has_slot, tolerance}
-use Rattle.sb1.specs.declared.sb.Sb.{Sb}
+use Rattle.bank.specs.md_base_the_Fault.{Fault}
+use Rattle.bank.specs.md_base_the_Fault_TheVariants.{Refused, NoMemory}
+use Rattle.array_kept.specs.md_base_the_Refusal.{Refusal}
+use Rattle.array_kept.specs.md_base_the_Refusal_TheVariants.{NoSuperblock, BackupAbsent, MembersMissing}
+use Rattle.array_kept.specs.md_base_the_Shape.{Shape}
+use Rattle.array_kept.specs.md_base_Shapes.{has_slot, tolerance}
+use Rattle.array_kept.specs.sb1_the_Sb.{Sb}
 use Rattle.bank.specs.Given.{Given, sizes}
 use Rattle.bank.specs.Tape.{Contents}
-use Rattle.superblocks.specs.declared.members.Members.{Members}
-use Rattle.superblocks.specs.Reading.{Scope, Reading, reading, reading_of, reading_by, newest_of, newer, of_array, superblocks, seen_superblock, is_backup, is_reshaping, shape_of, final_shape, target_of, shapes_in_force}
-use Rattle.superblocks.specs.Verdict.{members_refusal, members_verdict, first_of_all, fresh_from, unsupported, bad_field, two_holders, members_missing, missing_count, too_many, dirty_degraded, off_unit, AreValidShapes}
-use Rattle.superblocks.specs.Election.{seen_superblocks, uuid_for, reading_in, IsElected}
-use Rattle.superblocks.specs.Writing.{AreWritable}
-use Rattle.superblocks.specs.Found.{AreInSectors}
-use Rattle.superblocks.proofs.ValidFields.{valid-shapes}
+use Rattle.array_kept.specs.superblocks_the_Members.{Members}
+use Rattle.array_kept.specs.superblocks_Reading.{Scope, Reading, reading, reading_of, reading_by, newest_of, newer, of_array, superblocks, seen_superblock, is_backup, is_reshaping, shape_of, final_shape, target_of, shapes_in_force}
+use Rattle.array_kept.specs.superblocks_Verdict.{members_refusal, members_verdict, first_of_all, fresh_from, unsupported, bad_field, two_holders, members_missing, missing_count, too_many, dirty_degraded, off_unit, AreValidShapes}
+use Rattle.array_kept.specs.superblocks_Election.{seen_superblocks, uuid_for, reading_in, IsElected}
+use Rattle.array_kept.specs.superblocks_Writing.{AreWritable}
+use Rattle.array_kept.specs.superblocks_Found.{AreInSectors}
+use Rattle.array_kept.proofs.superblocks_ValidFields.{valid-shapes}
 use Rattle.election.proofs.Elected.{map-tabulate}
 use Rattle.safe_additions.specs.shape_views_Regions.{DoWithout}
 use Rattle.safe_additions.specs.flat_history_Stands.{verdict, refusal_of, backup_absent, has_room, reach_of}

@@ -1,20 +1,20 @@
 -- What runs was made, or found, as it is answered.
 use Rattle.std.proofs.Common.{◌≡◌, inl, inr, ℕ, zero, suc, ◌*◌, ◌<◌, ◌≤◌, true, false, not, nat_lt, max, List, [], ◌++◌, length, take, get_or, Option, Some, IfSome, Result, Ok, Err, IfOk, refl, sym, ◌∙◌, ap, ap₂, subst, arith}
 use Rattle.std.proofs.lemmas.Bool.Decides.{nat_tests}
-use Rattle.md_base.specs.declared.status.Role.{Role}
-use Rattle.md_base.specs.declared.status.Role.TheVariants.{Whole, Recovering, Missing}
-use Rattle.md_base.specs.declared.places.Shape.{Shape}
-use Rattle.md_base.specs.Shapes.{has_slot, data_disks}
-use Rattle.md_base.proofs.Tabulated.{get_or-tabulate}
+use Rattle.array_kept.specs.md_base_the_Role.{Role}
+use Rattle.array_kept.specs.md_base_the_Role_TheVariants.{Whole, Recovering, Missing}
+use Rattle.array_kept.specs.md_base_the_Shape.{Shape}
+use Rattle.array_kept.specs.md_base_Shapes.{has_slot, data_disks}
+use Rattle.array_kept.proofs.md_base_Tabulated.{get_or-tabulate}
 use Rattle.bank.specs.declared.bank.Operation.{Operation}
 use Rattle.bank.specs.Given.{Given, sizes, IsFaulted, NeverFalls}
 use Rattle.bank.specs.Tape.{Contents, contents}
-use Rattle.superblocks.specs.declared.members.Members.{Members}
-use Rattle.superblocks.specs.Reading.{Reading, shape_of, final_shape, is_whole, role_state}
-use Rattle.superblocks.specs.Election.{reading_in}
-use Rattle.superblocks.specs.Reads.{has_spare}
-use Rattle.superblocks.specs.Found.{AreInSectors}
-use Rattle.superblocks.proofs.SlotSets.{none_there}
+use Rattle.array_kept.specs.superblocks_the_Members.{Members}
+use Rattle.array_kept.specs.superblocks_Reading.{Reading, shape_of, final_shape, is_whole, role_state}
+use Rattle.array_kept.specs.superblocks_Election.{reading_in}
+use Rattle.array_kept.specs.superblocks_Reads.{has_spare}
+use Rattle.array_kept.specs.superblocks_Found.{AreInSectors}
+use Rattle.array_kept.proofs.superblocks_SlotSets.{none_there}
 use Rattle.safe_additions.specs.row_io_Rows.{reading_of, is_missing}
 use Rattle.safe_additions.specs.flat_history_the_Event.{Event}
 use Rattle.safe_additions.specs.flat_history_Plain.{entries_of}

@@ -1,12 +1,12 @@
 -- The shapes in force fit where no reshape is active.
 use Rattle.std.proofs.Common.{◌≡◌, ◌==◌, ◌||◌, true, false, not, cond, Bool, None, Some, sym, ap, subst}
-use Rattle.md_base.specs.declared.places.Shape.{Shape}
-use Rattle.md_base.specs.declared.answers.Refusal.TheVariants.{PositionNotOnUnit}
-use Rattle.md_base.specs.Shapes.{is_valid_shape, is_multiple}
-use Rattle.sb1.specs.declared.sb.Sb.{Sb}
-use Rattle.geometry.specs.Geometry.{is_size}
-use Rattle.superblocks.specs.Reading.{is_reshaping, shape_of, final_shape, list_length}
-use Rattle.superblocks.specs.Verdict.{unit_of}
+use Rattle.array_kept.specs.md_base_the_Shape.{Shape}
+use Rattle.array_kept.specs.md_base_the_Refusal_TheVariants.{PositionNotOnUnit}
+use Rattle.array_kept.specs.md_base_Shapes.{is_valid_shape, is_multiple}
+use Rattle.array_kept.specs.sb1_the_Sb.{Sb}
+use Rattle.array_kept.specs.geometry_Geometry.{is_size}
+use Rattle.array_kept.specs.superblocks_Reading.{is_reshaping, shape_of, final_shape, list_length}
+use Rattle.array_kept.specs.superblocks_Verdict.{unit_of}
 use Rattle.safe_additions.specs.shape_views_Regions.{AreShapesFit}
 use Rattle.safe_additions.proofs.shape_views_Stands.{final-still}
 

@@ -7,3 +7,46 @@ pub mod Filling
 pub mod Made
 pub mod NewList
 pub mod Running
+pub use Rattle.array_kept.specs.flat_history_Epochs
+pub use Rattle.array_kept.specs.flat_history_Flat
+pub use Rattle.array_kept.specs.flat_history_Growing
+pub use Rattle.array_kept.specs.flat_history_Left
+pub use Rattle.array_kept.specs.flat_history_Plain
+pub use Rattle.array_kept.specs.flat_history_Reshaped
+pub use Rattle.array_kept.specs.flat_history_Sound
+pub use Rattle.array_kept.specs.flat_history_Stands
+pub use Rattle.array_kept.specs.flat_history_World
+pub use Rattle.array_kept.specs.flat_history_the_Entry
+pub use Rattle.array_kept.specs.flat_history_the_Event
+pub use Rattle.array_kept.specs.flat_history_the_Event_TheVariants
+pub use Rattle.array_kept.specs.flat_history_the_LostCause
+pub use Rattle.array_kept.specs.md_base_Search
+pub use Rattle.array_kept.specs.md_base_Shapes
+pub use Rattle.array_kept.specs.md_base_the_Fault
+pub use Rattle.array_kept.specs.md_base_the_Fault_TheVariants
+pub use Rattle.array_kept.specs.md_base_the_Refusal
+pub use Rattle.array_kept.specs.md_base_the_Refusal_TheVariants
+pub use Rattle.array_kept.specs.md_base_the_Role
+pub use Rattle.array_kept.specs.md_base_the_Role_TheVariants
+pub use Rattle.array_kept.specs.md_base_the_ShapeField
+pub use Rattle.array_kept.specs.md_base_the_Who
+pub use Rattle.array_kept.specs.superblocks_Found
+pub use Rattle.array_kept.specs.superblocks_Writing
+pub use Rattle.array_kept.specs.views_Flushing
+pub use Rattle.array_kept.specs.views_Numbers
+pub use Rattle.array_kept.specs.views_Placed
+pub use Rattle.array_kept.specs.views_Rebuilding
+pub use Rattle.array_kept.specs.views_Status
+pub use Rattle.array_kept.specs.views_the_Work
+pub use Rattle.bank.specs.Given as bank_Given
+pub use Rattle.bank.specs.Tape as bank_Tape
+pub use Rattle.bank.specs.Whole as bank_Whole
+pub use Rattle.bank.specs.declared.bank.Operation as bank_the_Operation
+pub use Rattle.election.specs.sb1_Superblock
+pub use Rattle.election.specs.superblocks_Election
+pub use Rattle.election.specs.superblocks_Outcome
+pub use Rattle.election.specs.superblocks_Reading
+pub use Rattle.election.specs.superblocks_Reads
+pub use Rattle.election.specs.superblocks_Update
+pub use Rattle.election.specs.superblocks_the_Members
+pub use Rattle.safe_additions.specs.views_Parts

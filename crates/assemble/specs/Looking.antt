@@ -1,12 +1,12 @@
 -- What is known while the slots of a bank are read and flushed.
 use Rattle.std.specs.Prelude.{◌≡◌, ◌⊎◌, ℕ, List, [], length, slice_index, Option, Some, None, Result, Ok, Err}
-use Rattle.md_base.specs.declared.answers.Fault.{Fault}
-use Rattle.md_base.specs.declared.answers.Fault.TheVariants.{Refused, NoMemory}
-use Rattle.md_base.specs.declared.answers.Refusal.{Refusal}
-use Rattle.sb1.specs.declared.sb.Sb.{Sb}
-use Rattle.superblocks.specs.Reading.{Scope, Reading, reading_of}
-use Rattle.superblocks.specs.Verdict.{members_verdict}
-use Rattle.superblocks.specs.Election.{IsElected}
+use Rattle.bank.specs.md_base_the_Fault.{Fault}
+use Rattle.bank.specs.md_base_the_Fault_TheVariants.{Refused, NoMemory}
+use Rattle.array_kept.specs.md_base_the_Refusal.{Refusal}
+use Rattle.array_kept.specs.sb1_the_Sb.{Sb}
+use Rattle.array_kept.specs.superblocks_Reading.{Scope, Reading, reading_of}
+use Rattle.array_kept.specs.superblocks_Verdict.{members_verdict}
+use Rattle.array_kept.specs.superblocks_Election.{IsElected}
 use Rattle.safe_additions.specs.flat_history_Stands.{backup_absent}
 use Rattle.assemble.specs.declared.opening.Opened.{Opened}
 

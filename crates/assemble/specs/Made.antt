@@ -1,14 +1,14 @@
 -- What is made of an array that is created, and what its creation is refused for.
 use Rattle.std.specs.Prelude.{◌≡◌, ◌⊎◌, ℕ, ◌<◌, Bool, ◌&&◌, nat_le, nat_lt, is_some, Option, Some, None, IsTrue}
-use Rattle.md_base.specs.declared.answers.Fault.{Fault}
-use Rattle.md_base.specs.declared.answers.Fault.TheVariants.{Refused, NoMemory}
-use Rattle.md_base.specs.declared.answers.Refusal.{Refusal}
-use Rattle.md_base.specs.declared.answers.Refusal.TheVariants.{SlotFault, UuidInUse}
-use Rattle.md_base.specs.Search.{least_below}
-use Rattle.md_base.specs.Shapes.{has_slot}
+use Rattle.bank.specs.md_base_the_Fault.{Fault}
+use Rattle.bank.specs.md_base_the_Fault_TheVariants.{Refused, NoMemory}
+use Rattle.array_kept.specs.md_base_the_Refusal.{Refusal}
+use Rattle.array_kept.specs.md_base_the_Refusal_TheVariants.{SlotFault, UuidInUse}
+use Rattle.array_kept.specs.md_base_Search.{least_below}
+use Rattle.array_kept.specs.md_base_Shapes.{has_slot}
 use Rattle.bank.specs.Given.{Given, IsFaulted}
 use Rattle.bank.specs.Tape.{Contents}
-use Rattle.superblocks.specs.Reading.{Scope, seen_superblock, of_array, shape_of, is_clean}
+use Rattle.array_kept.specs.superblocks_Reading.{Scope, seen_superblock, of_array, shape_of, is_clean}
 use Rattle.assemble.specs.declared.spec.CreateSpec.{CreateSpec}
 use Rattle.safe_additions.specs.views_Placed.{IsPlaced}
 use Rattle.assemble.specs.declared.opening.Opened.{Opened}

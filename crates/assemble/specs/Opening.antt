@@ -1,16 +1,16 @@
 -- What an opening finds in the slots of a bank, and what it answers.
 use Rattle.std.specs.Prelude.{◌≡◌, ℕ, ◌^◌, ◌<◌, not, ◌&&◌, nat_lt, IsTrue, IsFalse, List, [], ◌∷◌, length, take, Option, Some, None}
-use Rattle.md_base.specs.declared.answers.Fault.{Fault}
-use Rattle.md_base.specs.declared.answers.Fault.TheVariants.{Refused, NoMemory}
-use Rattle.md_base.specs.declared.answers.Refusal.{Refusal}
-use Rattle.md_base.specs.Shapes.{has_slot}
-use Rattle.sb1.specs.declared.sb.Sb.{Sb}
+use Rattle.bank.specs.md_base_the_Fault.{Fault}
+use Rattle.bank.specs.md_base_the_Fault_TheVariants.{Refused, NoMemory}
+use Rattle.array_kept.specs.md_base_the_Refusal.{Refusal}
+use Rattle.array_kept.specs.md_base_Shapes.{has_slot}
+use Rattle.array_kept.specs.sb1_the_Sb.{Sb}
 use Rattle.bank.specs.declared.bank.Operation.{Operation}
 use Rattle.bank.specs.Given.{Given, sizes, IsFaulted}
 use Rattle.bank.specs.Tape.{Contents, contents, disk}
-use Rattle.superblocks.specs.Reading.{Scope, reading, is_reshaping, is_backup}
-use Rattle.superblocks.specs.Update.{own_in}
-use Rattle.superblocks.specs.Election.{seen_superblocks, uuid_for, reading_in, IsElected}
+use Rattle.array_kept.specs.superblocks_Reading.{Scope, reading, is_reshaping, is_backup}
+use Rattle.array_kept.specs.superblocks_Update.{own_in}
+use Rattle.array_kept.specs.superblocks_Election.{seen_superblocks, uuid_for, reading_in, IsElected}
 use Rattle.safe_additions.specs.flat_history_Stands.{verdict, backup_absent}
 use Rattle.assemble.specs.declared.opening.Opened.{Opened}
 

@@ -1,7 +1,7 @@
 -- An array that runs once it was made, or found.
 use Rattle.std.specs.Prelude.{◌≡◌, ℕ, ◌*◌, ◌<◌, List, [], length, slice_index_or, Option, Some, IfSome}
-use Rattle.md_base.specs.Sectors.{zero_sector}
-use Rattle.md_base.specs.Shapes.{data_disks}
+use Rattle.array_kept.specs.md_base_Sectors.{zero_sector}
+use Rattle.array_kept.specs.md_base_Shapes.{data_disks}
 use Rattle.bank.specs.declared.bank.Operation.{Operation}
 use Rattle.bank.specs.Given.{Given}
 use Rattle.bank.specs.Tape.{contents}

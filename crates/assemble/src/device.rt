@@ -5,8 +5,8 @@ ghost use Rattle.safe_additions.specs.flat_history_Created.{first_entries};
 ghost use Rattle.assemble.specs.Making.{created_sb};
 
 use crate::spec::CreateSpec;
+use election::Sb;
 use safe_additions::device_uuid;
-use sb1::Sb;
 
 // The role entries: device n has role n, no other one below 128 has a role, and the last 256 entries are given.
 fn role_entries(disks: u32, second: &[u16]) -> [u16; 384]

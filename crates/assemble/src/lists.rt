@@ -1,12 +1,12 @@
 //! The lists of an array's members, made before anything is written.
 
 ghost use Rattle.std.specs.Prelude.{◌≡◌, ◌≤◌, [], None, IfOk, replicate};
-ghost use Rattle.md_base.specs.Search.{tabulate};
-ghost use Rattle.md_base.specs.declared.status.Role.TheVariants.{Whole};
+ghost use Rattle.array_kept.specs.md_base_Search.{tabulate};
+ghost use Rattle.array_kept.specs.md_base_the_Role_TheVariants.{Whole};
 
-use md_base::{Role, RoleList, SlotList};
+use bank::{Role, RoleList, SlotList};
+use election::SbList;
 use std::alloc::{AllocError, Global};
-use superblocks::SbList;
 
 /// No superblock yet, each role whole on the slot of its number, and no spare.
 #[derive(Drop)]

@@ -1,16 +1,16 @@
 //! An array is made in the first slots of a bank.
 
 ghost use Rattle.std.specs.Prelude.{◌≡◌, ◌≢◌, ◌+◌, ◌<◌, ◌≤◌, ◌^◌, [], ℕ, length, nat_lt, replicate, Some, None, Ok, Err, IfOk, OnOk, IfErr};
-ghost use Rattle.md_base.specs.Shapes.{has_slot};
-ghost use Rattle.md_base.specs.Search.{tabulate};
-ghost use Rattle.md_base.specs.declared.answers.Fault.TheVariants.{Refused as IsRefused, NoMemory as WantsMemory};
-ghost use Rattle.md_base.specs.declared.answers.Refusal.TheVariants.{UuidInUse as IsInUse};
-ghost use Rattle.md_base.specs.declared.status.Role.TheVariants.{Whole};
-ghost use Rattle.md_base.specs.declared.answers.Refusal.{Refusal as AnyRefusal};
+ghost use Rattle.array_kept.specs.md_base_Shapes.{has_slot};
+ghost use Rattle.array_kept.specs.md_base_Search.{tabulate};
+ghost use Rattle.bank.specs.md_base_the_Fault_TheVariants.{Refused as IsRefused, NoMemory as WantsMemory};
+ghost use Rattle.array_kept.specs.md_base_the_Refusal_TheVariants.{UuidInUse as IsInUse};
+ghost use Rattle.array_kept.specs.md_base_the_Role_TheVariants.{Whole};
+ghost use Rattle.array_kept.specs.md_base_the_Refusal.{Refusal as AnyRefusal};
 ghost use Rattle.bank.specs.Given.{IsFaulted};
 ghost use Rattle.bank.specs.Tape.{contents};
-ghost use Rattle.superblocks.specs.Writing.{AreWritable};
-ghost use Rattle.superblocks.specs.Found.{AreInSectors};
+ghost use Rattle.array_kept.specs.superblocks_Writing.{AreWritable};
+ghost use Rattle.array_kept.specs.superblocks_Found.{AreInSectors};
 ghost use Rattle.safe_additions.specs.views_Flushing.{OnlyFlushesAdded, OnlyItsSlotsFail};
 ghost use Rattle.safe_additions.specs.row_io_Rows.{present};
 ghost use Rattle.assemble.specs.Opening.{scope_of, AreGiven, AreFlushed, IsOpened};
@@ -26,10 +26,10 @@ use crate::spec::CreateSpec;
 use crate::storing::store_members;
 use crate::used::{first_slot, used_slot};
 use crate::zeros::zero_members;
-use bank::Bank;
-use md_base::{Fault, Refusal};
+use array_kept::Refusal;
+use bank::{Bank, Fault};
+use election::Members;
 use std::alloc::Global;
-use superblocks::Members;
 
 // The lists, and a bit for each slot of the bank.
 #[derive(Drop)]

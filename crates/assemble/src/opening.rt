@@ -2,22 +2,20 @@
 
 ghost use Rattle.std.specs.Prelude.{◌≡◌, ◌≤◌, ◌<◌, ◌-◌, ◌^◌, ℕ, IfOk, IfErr, IfSome, None, length, map, take, drop, replicate, slice_index};
 ghost use Rattle.bank.specs.Tape.{contents};
-ghost use Rattle.superblocks.specs.Reading.{of_array};
-ghost use Rattle.superblocks.specs.Election.{uuid_for};
-ghost use Rattle.superblocks.specs.Writing.{AreWritable};
-ghost use Rattle.superblocks.specs.Found.{AreInSectors};
+ghost use Rattle.array_kept.specs.superblocks_Reading.{of_array};
+ghost use Rattle.array_kept.specs.superblocks_Election.{uuid_for};
+ghost use Rattle.array_kept.specs.superblocks_Writing.{AreWritable};
+ghost use Rattle.array_kept.specs.superblocks_Found.{AreInSectors};
 ghost use Rattle.assemble.specs.Looking.{lengths_scope, IsJudged};
 ghost use Rattle.assemble.specs.Opening.{IsFound, IsAside, HasFoundNone, AreGiven, AreOfGiven, AreCounted, AreFlushed};
 ghost use Rattle.safe_additions.specs.views_Flushing.{OnlyFlushesAdded, OnlyItsSlotsFail};
 
 use crate::reshape::backup_refusal;
 use crate::slots::{Found, look};
-use bank::Bank;
-use election::elect_seen;
+use bank::{Bank, Fault};
 use election::reads::lengths;
-use md_base::Fault;
+use election::{Members, elect_seen};
 use std::alloc::Global;
-use superblocks::Members;
 
 /// What an array's superblocks say, and a bit for each slot of the bank that hasn't failed in the opening.
 #[derive(Drop)]

@@ -2,17 +2,14 @@
 
 ghost use Rattle.std.specs.Prelude.{◌≡◌, ◌+◌, ◌<◌, ◌≤◌, ◌&&◌, length, nat_le, slice_index, false, Some, None, IfSome};
 ghost use Rattle.std.specs.Option.{option_map_or};
-ghost use Rattle.md_base.specs.Shapes.{has_slot};
-ghost use Rattle.superblocks.specs.Reading.{target_of};
-ghost use Rattle.superblocks.specs.Verdict.{AreValidShapes};
+ghost use Rattle.array_kept.specs.md_base_Shapes.{has_slot};
+ghost use Rattle.array_kept.specs.superblocks_Reading.{target_of};
+ghost use Rattle.array_kept.specs.superblocks_Verdict.{AreValidShapes};
 ghost use Rattle.safe_additions.specs.flat_history_Stands.{reach_of, backup_absent};
 ghost use Rattle.assemble.specs.Looking.{lengths_scope};
 
-use geometry::unit;
-use md_base::{Refusal, Shape};
-use sb1::Sb;
-use superblocks::says::{list_length, shape_of, target_of};
-use superblocks::sets::contains;
+use array_kept::{Refusal, Shape};
+use election::{Sb, contains, list_length, shape_of, target_of, unit};
 
 // Whether the backup is there, and has room behind its header for so many sectors.
 fn has_room(backup: Option<u32>, given: u32, lengths: &[u64], sectors: u128) -> bool

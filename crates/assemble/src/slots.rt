@@ -1,21 +1,20 @@
 //! The slots of a bank are looked at: their superblocks are read, and they are flushed.
 
 ghost use Rattle.std.specs.Prelude.{◌≡◌, ◌<◌, ◌≤◌, ◌-◌, ℕ, true, [], None, IfOk, nat_lt, not, ◌&&◌, take, drop, replicate, length, slice_index_or, IsTrue, if◌then◌else◌};
-ghost use Rattle.md_base.specs.Shapes.{has_slot};
+ghost use Rattle.array_kept.specs.md_base_Shapes.{has_slot};
 ghost use Rattle.bank.specs.Tape.{contents};
-ghost use Rattle.superblocks.specs.Reading.{is_backup};
-ghost use Rattle.superblocks.specs.Election.{seen_superblocks};
-ghost use Rattle.superblocks.specs.Writing.{AreWritable};
-ghost use Rattle.superblocks.specs.Found.{AreInSectors};
+ghost use Rattle.array_kept.specs.superblocks_Reading.{is_backup};
+ghost use Rattle.array_kept.specs.superblocks_Election.{seen_superblocks};
+ghost use Rattle.array_kept.specs.superblocks_Writing.{AreWritable};
+ghost use Rattle.array_kept.specs.superblocks_Found.{AreInSectors};
 ghost use Rattle.assemble.specs.Opening.{scope_of, AreGiven, AreFlushed};
 ghost use Rattle.safe_additions.specs.views_Flushing.{OnlyFlushesAdded, OnlyItsSlotsFail};
 
 use bank::Bank;
 use election::reads::read_superblocks;
+use election::{SbList, contains, with};
 use safe_additions::flush_slots;
 use std::alloc::{AllocError, Global};
-use superblocks::SbList;
-use superblocks::sets::{contains, with};
 
 /// The superblocks that were found, whichever array's they are, and a bit for each slot of the bank: which ones failed,
 /// and which ones didn't.

@@ -4,7 +4,7 @@ ghost use Rattle.std.specs.Prelude.{◌≡◌, ◌≢◌, ◌∷◌, [], ◌+◌
 ghost use Rattle.bank.specs.declared.bank.Operation.TheVariants.{Write, Flush};
 ghost use Rattle.bank.specs.Given.{IsPlace, HasCause, IsFaulted};
 ghost use Rattle.bank.specs.Tape.{Did};
-ghost use Rattle.sb1.specs.Superblock.{is_valid, sb_of};
+ghost use Rattle.array_kept.specs.sb1_Superblock.{is_valid, sb_of};
 ghost use Rattle.safe_additions.specs.row_io_Rows.{present};
 ghost use Rattle.assemble.specs.Creating.{rows_end};
 ghost use Rattle.assemble.specs.Filling.{OnlyBelow, IsSlotDone, IsMade, IsStored, AreFirst, AreStored, AreSlotsDone, OnlyFirstFail};
@@ -12,8 +12,7 @@ ghost use Rattle.assemble.specs.Filling.{OnlyBelow, IsSlotDone, IsMade, IsStored
 use crate::device::created_sb;
 use crate::spec::CreateSpec;
 use bank::{Bank, BankFault, write_sector};
-use sb1::{Sb, encode, fields_of};
-use superblocks::SbList;
+use election::{Sb, SbList, encode, fields_of};
 
 /// The first sector of a superblock.
 const SUPERBLOCK: u64 = 8;

@@ -2,13 +2,11 @@
 
 ghost use Rattle.std.specs.Prelude.{◌≡◌, ◌≤◌, ◌<◌, ◌&&◌, ℕ, true, false, None, nat_le, is_some, slice_index_or, IfSome, IfNone};
 ghost use Rattle.std.specs.Option.{option_copied};
-ghost use Rattle.md_base.specs.Search.{least_below};
-ghost use Rattle.md_base.specs.Shapes.{has_slot};
-ghost use Rattle.superblocks.specs.Reading.{of_array};
+ghost use Rattle.array_kept.specs.md_base_Search.{least_below};
+ghost use Rattle.array_kept.specs.md_base_Shapes.{has_slot};
+ghost use Rattle.array_kept.specs.superblocks_Reading.{of_array};
 
-use sb1::Sb;
-use superblocks::SbList;
-use superblocks::sets::contains;
+use election::{Sb, SbList, contains};
 
 // Whether it is a superblock of the array.
 fn is_of_array(uuid: &[u8; 16], found: Option<&Sb>) -> bool

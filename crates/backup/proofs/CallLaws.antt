@@ -3,9 +3,9 @@ use Rattle.std.proofs.Common.{◌≡◌, ℕ, ◌+◌, ◌-◌, ◌<◌, ◌≤�
 use Rattle.std.proofs.lemmas.Bool.{le-ltb}
 use Rattle.std.proofs.lemmas.Bool.Decides.{nat_tests}
 use Rattle.std.proofs.lemmas.List.{take_all}
-use Rattle.md_base.specs.Sectors.{Sector}
-use Rattle.md_base.specs.Bytes.{field}
-use Rattle.md_base.specs.declared.places.Span.{Span}
+use Rattle.bank.specs.md_base_Sectors.{Sector}
+use Rattle.bank.specs.md_base_Bytes.{field}
+use Rattle.bank.specs.md_base_the_Span.{Span}
 use Rattle.bank.specs.Tape.{AreSectors}
 use Rattle.backup.specs.Section.{is_header_of, names_span, has_section}
 

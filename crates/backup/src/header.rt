@@ -1,13 +1,13 @@
 //! The header's bytes, in sector 0 of the backup slot.
 
 ghost use Rattle.std.specs.Prelude.{◌≡◌, ◌+◌, ◌≤◌, ◌++◌, ◌&&◌, length, take, drop, ◌↔◌, IsTrue, IsSome, IfSome, slice_range};
-ghost use Rattle.md_base.specs.Bytes.{field};
+ghost use Rattle.bank.specs.md_base_Bytes.{field};
 ghost use Rattle.backup.specs.Header.{has_magic, fields_in};
 ghost use Rattle.backup.specs.Section.{is_header_of, names_span};
 ghost use Rattle.backup.specs.Written.{header_with};
 
+use bank::Span;
 use byteorder::{ByteOrder, LittleEndian};
-use md_base::Span;
 
 const MAGIC: &[u8; 16] = b"md_backup_data-1";
 

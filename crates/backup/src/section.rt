@@ -10,8 +10,7 @@ ghost use Rattle.backup.specs.Written.{header_of, cleared_header};
 ghost use Rattle.backup.specs.Storing.{section_writes, section_operations, header_operations, HasSomeOf, IsHeading, IsHeaded, IsStoring, IsNaming, IsStoringOrNaming, IsNamed};
 
 use crate::header::{SECTION_START, encode, names};
-use bank::{Bank, BankFault, write_sector};
-use md_base::Span;
+use bank::{Bank, BankFault, Span, write_sector};
 
 /// How far `write_section` came before a call on the slot failed: not yet at the write of the header, so that the slot
 /// names what it named before; or that write was attempted, so that it may name either section.

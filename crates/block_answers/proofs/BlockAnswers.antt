@@ -10,18 +10,18 @@ use Rattle.std.specs.Global.{Vec}
 use Rattle.std.specs.List.{All}
 use Rattle.std.specs.Option.{option_and_then, option_map_or}
 use Rattle.line_answers.specs.superblocks_Reading.{list_length}
-use Rattle.flat_history.specs.declared.events.Entry.{Entry}
-use Rattle.flat_history.specs.declared.events.Epoch.{Epoch}
-use Rattle.flat_history.specs.declared.events.Event.{Event}
-use Rattle.flat_history.specs.declared.events.Event.TheVariants.{Stepped}
-use Rattle.flat_history.specs.declared.events.Request.{Request}
-use Rattle.flat_history.specs.declared.events.Request.TheVariants.{Steps as AsksSteps}
-use Rattle.flat_history.specs.Flat.{next_number, number_after, length_of}
-use Rattle.flat_history.specs.Seen.{ends_call, reply_places}
-use Rattle.script.specs.declared.lines.Line.{Line}
-use Rattle.script.specs.declared.lines.Numbered.{Numbered}
-use Rattle.script.specs.declared.reply.Lane.{Lane}
-use Rattle.script.specs.declared.reply.Lane.TheVariants.{Script as InScript, A as InA, B as InB, Worker as InWorker}
+use Rattle.status_text.specs.flat_history_the_Entry.{Entry}
+use Rattle.status_text.specs.flat_history_the_Epoch.{Epoch}
+use Rattle.status_text.specs.flat_history_the_Event.{Event}
+use Rattle.status_text.specs.flat_history_the_Event_TheVariants.{Stepped}
+use Rattle.status_text.specs.flat_history_the_Request.{Request}
+use Rattle.status_text.specs.flat_history_the_Request_TheVariants.{Steps as AsksSteps}
+use Rattle.status_text.specs.flat_history_Flat.{next_number, number_after, length_of}
+use Rattle.status_text.specs.flat_history_Seen.{ends_call, reply_places}
+use Rattle.status_text.specs.script_the_Line.{Line}
+use Rattle.status_text.specs.script_the_Numbered.{Numbered}
+use Rattle.status_text.specs.script_the_Lane.{Lane}
+use Rattle.status_text.specs.script_the_Lane_TheVariants.{Script as InScript, A as InA, B as InB, Worker as InWorker}
 use Rattle.lanes.specs.Blocks.{HasWorkedBy}
 use Rattle.lanes.specs.Worker.{left_behind, AreTurns}
 use Rattle.lanes.specs.declared.worker.Worked.{Worked}
@@ -34,7 +34,7 @@ use Rattle.line_answers.specs.run_laws_the_Answered_TheVariants.{Inside, Outside
 use Rattle.line_answers.specs.run_laws_the_Outside_TheVariants.{Refused}
 use Rattle.line_answers.specs.run_laws_the_State.{State}
 use Rattle.line_answers.specs.run_laws_the_State_TheVariants.{Idle, Running}
-use Rattle.md_base.specs.declared.answers.Refusal.TheVariants.{NotRunning}
+use Rattle.lanes.specs.md_base_the_Refusal_TheVariants.{NotRunning}
 use Rattle.line_answers.specs.run_laws_Blocks.{caller_of, request_of, requests_in, IsCallersReply, AreCallersReplies, places_told, HasRunLane, IsOfBlock, IsBlockEntered}
 use Rattle.line_answers.specs.run_laws_Caused.{Record, record_of}
 use Rattle.line_answers.specs.run_laws_Histories.{History, histories_of, history_of, entry_at}

@@ -6,21 +6,21 @@ use Rattle.std.proofs.lemmas.List.{length-map}
 use Rattle.std.proofs.lemmas.List.Elements.{All-nil, All-cons, All-head, All-tail, All-weaker}
 use Rattle.std.specs.Prelude.{IsFalse, ⊤, nat_le, nat_lt, ◌&&◌}
 use Rattle.std.specs.List.{All, AllPass}
-use Rattle.bank.specs.declared.bank.Operation.{Operation}
-use Rattle.bank.specs.Given.{Given}
-use Rattle.flat_history.specs.declared.events.Entry.{Entry}
-use Rattle.flat_history.specs.declared.events.Event.{Event}
-use Rattle.flat_history.specs.declared.events.Event.TheVariants.{Stopped, Halted}
-use Rattle.flat_history.specs.declared.events.Request.{Request}
-use Rattle.flat_history.specs.declared.events.Request.TheVariants.{Read as AsksRead, Write as AsksWrite, Flush as AsksFlush, Fail as AsksFail, Add as AsksAdd, Visible as AsksVisible, Grow as AsksGrow, Steps as AsksSteps, Show as AsksShow}
-use Rattle.flat_history.specs.Flat.{next_number}
-use Rattle.md_base.proofs.Tabulated.{length-tabulate}
-use Rattle.script.specs.declared.lines.Line.{Line}
-use Rattle.script.specs.declared.lines.Numbered.{Numbered}
-use Rattle.script.specs.declared.lines.Line.TheVariants.{Read, Write, Flush, Fail}
-use Rattle.script.specs.Grammar.{is_span, is_for_lanes}
-use Rattle.script.specs.Script.{is_within_limits}
-use Rattle.script.specs.Seeds.{seed_sector}
+use Rattle.lanes.specs.bank_the_Operation.{Operation}
+use Rattle.lanes.specs.bank_Given.{Given}
+use Rattle.status_text.specs.flat_history_the_Entry.{Entry}
+use Rattle.status_text.specs.flat_history_the_Event.{Event}
+use Rattle.status_text.specs.flat_history_the_Event_TheVariants.{Stopped, Halted}
+use Rattle.status_text.specs.flat_history_the_Request.{Request}
+use Rattle.status_text.specs.flat_history_the_Request_TheVariants.{Read as AsksRead, Write as AsksWrite, Flush as AsksFlush, Fail as AsksFail, Add as AsksAdd, Visible as AsksVisible, Grow as AsksGrow, Steps as AsksSteps, Show as AsksShow}
+use Rattle.status_text.specs.flat_history_Flat.{next_number}
+use Rattle.lanes.proofs.md_base_Tabulated.{length-tabulate}
+use Rattle.status_text.specs.script_the_Line.{Line}
+use Rattle.status_text.specs.script_the_Numbered.{Numbered}
+use Rattle.status_text.specs.script_the_Line_TheVariants.{Read, Write, Flush, Fail}
+use Rattle.status_text.specs.script_Grammar.{is_span, is_for_lanes}
+use Rattle.status_text.specs.script_Script.{is_within_limits}
+use Rattle.status_text.specs.script_Seeds.{seed_sector}
 use Rattle.lanes.specs.Blocks.{HasRun, HasWorkedBy}
 use Rattle.lanes.specs.Lane.{AreOneEach, StandsIn, done_of}
 use Rattle.lanes.specs.declared.worker.Worked.{Worked}

@@ -7,18 +7,18 @@ use Rattle.std.proofs.lemmas.List.Elements.{All-append, All-head, All-tail, All-
 use Rattle.std.specs.Prelude.{IsTrue, IsFalse, if◌then◌else◌}
 use Rattle.std.specs.Global.{Vec}
 use Rattle.std.specs.List.{All, list_any}
-use Rattle.bank.specs.declared.bank.Operation.{Operation}
-use Rattle.bank.specs.Given.{Given}
+use Rattle.lanes.specs.bank_the_Operation.{Operation}
+use Rattle.lanes.specs.bank_Given.{Given}
 use Rattle.line_answers.specs.superblocks_the_Members.{Members}
 use Rattle.line_answers.specs.superblocks_Reading.{is_reshaping, list_length}
 use Rattle.line_answers.specs.superblocks_Reads.{has_spare}
-use Rattle.flat_history.specs.declared.events.Entry.{Entry}
-use Rattle.flat_history.specs.declared.events.Epoch.{Epoch}
-use Rattle.flat_history.specs.declared.events.Event.{Event}
-use Rattle.flat_history.specs.declared.events.Event.TheVariants.{Added}
-use Rattle.flat_history.specs.Flat.{next_number, number_after, length_of, limit_of}
-use Rattle.flat_history.specs.Reshaped.{is_planned}
-use Rattle.flat_history.specs.World.{World}
+use Rattle.status_text.specs.flat_history_the_Entry.{Entry}
+use Rattle.status_text.specs.flat_history_the_Epoch.{Epoch}
+use Rattle.status_text.specs.flat_history_the_Event.{Event}
+use Rattle.status_text.specs.flat_history_the_Event_TheVariants.{Added}
+use Rattle.status_text.specs.flat_history_Flat.{next_number, number_after, length_of, limit_of}
+use Rattle.status_text.specs.flat_history_Reshaped.{is_planned}
+use Rattle.status_text.specs.flat_history_World.{World}
 use Rattle.line_answers.specs.grow_asked_Left.{phases_of}
 use Rattle.line_answers.specs.array_kept_Calls.{IsEndOf}
 use Rattle.line_answers.specs.run_laws_the_State_TheVariants.{Running}

@@ -3,22 +3,22 @@ use Rattle.std.proofs.Common.{ℕ, ◌+◌, ◌≤◌, Option, List, [], ◌∷�
 use Rattle.std.proofs.lemmas.Bool.Decides.{nat_tests}
 use Rattle.std.specs.Prelude.{slice_get, MatchOption, IsTrue}
 use Rattle.std.specs.Option.{option_and_then}
-use Rattle.flat_history.specs.declared.events.Entry.{Entry}
-use Rattle.flat_history.specs.declared.events.Event.{Event}
-use Rattle.flat_history.specs.declared.events.Event.TheVariants.{Read as IsRead, Shown}
-use Rattle.flat_history.specs.declared.events.Request.TheVariants.{Read as AsksRead, Write as AsksWrite, Flush as AsksFlush, Fail as AsksFail, Add as AsksAdd, Visible as AsksVisible, Grow as AsksGrow, Steps as AsksSteps}
-use Rattle.flat_history.specs.Fits.{FitsStop, FitsHalt}
-use Rattle.flat_history.specs.Legal.{call_before}
-use Rattle.flat_history.specs.OneShape.{OneShapeAnswers}
+use Rattle.status_text.specs.flat_history_the_Entry.{Entry}
+use Rattle.status_text.specs.flat_history_the_Event.{Event}
+use Rattle.status_text.specs.flat_history_the_Event_TheVariants.{Read as IsRead, Shown}
+use Rattle.status_text.specs.flat_history_the_Request_TheVariants.{Read as AsksRead, Write as AsksWrite, Flush as AsksFlush, Fail as AsksFail, Add as AsksAdd, Visible as AsksVisible, Grow as AsksGrow, Steps as AsksSteps}
+use Rattle.status_text.specs.flat_history_Fits.{FitsStop, FitsHalt}
+use Rattle.status_text.specs.flat_history_Legal.{call_before}
+use Rattle.status_text.specs.flat_history_OneShape.{OneShapeAnswers}
 use Rattle.line_answers.specs.running_replies_Replies.{RunningAnswers, RunningFits}
 use Rattle.line_answers.specs.run_laws_Blocks.{request_of, IsCallersReply}
-use Rattle.md_base.specs.declared.wishes.Wish.{Wish}
-use Rattle.script.specs.Script.{is_within_limits}
-use Rattle.script.specs.Seeds.{seeded}
-use Rattle.script.specs.declared.lines.Line.{Line}
-use Rattle.script.specs.declared.reply.Lane.{Lane}
-use Rattle.script.specs.declared.reply.Lane.TheVariants.{Script as InScript, A as InA, B as InB, Worker as InWorker}
-use Rattle.script.specs.declared.lines.Line.TheVariants.{Create, Read, Write, Flush, Fail, Add, ArraySize, Grow, Step, Wait, Stop, Halt, Detail, Mdstat, Examine, Assemble}
+use Rattle.lanes.specs.md_base_the_Wish.{Wish}
+use Rattle.status_text.specs.script_Script.{is_within_limits}
+use Rattle.status_text.specs.script_Seeds.{seeded}
+use Rattle.status_text.specs.script_the_Line.{Line}
+use Rattle.status_text.specs.script_the_Lane.{Lane}
+use Rattle.status_text.specs.script_the_Lane_TheVariants.{Script as InScript, A as InA, B as InB, Worker as InWorker}
+use Rattle.status_text.specs.script_the_Line_TheVariants.{Create, Read, Write, Flush, Fail, Add, ArraySize, Grow, Step, Wait, Stop, Halt, Detail, Mdstat, Examine, Assemble}
 use Rattle.line_answers.specs.run_laws_the_Answered.{Answered}
 use Rattle.line_answers.specs.run_laws_the_Answered_TheVariants.{Inside, Outside as IsOutside}
 use Rattle.line_answers.specs.run_laws_Histories.{History}

@@ -2,11 +2,11 @@
 use Rattle.std.proofs.Common.{◌≡◌, ℕ, zero, suc, ◌<◌, ◌||◌, Bool, true, false, Option, List, [], ◌∷◌, ◌++◌, length, take, drop, ◌≤◌, refl, sym, ◌∙◌, ap, arith, append_assoc, append-nil}
 use Rattle.std.proofs.Math.ListN.{get_or}
 use Rattle.std.specs.Option.{option_map_or}
-use Rattle.flat_history.specs.declared.events.Entry.{Entry}
-use Rattle.script.specs.Texts.{lane_text}
-use Rattle.script.specs.declared.lines.Line.{Line}
-use Rattle.script.specs.declared.lines.Numbered.{Numbered}
-use Rattle.script.specs.declared.reply.Lane.{Lane}
+use Rattle.status_text.specs.flat_history_the_Entry.{Entry}
+use Rattle.status_text.specs.script_Texts.{lane_text}
+use Rattle.status_text.specs.script_the_Line.{Line}
+use Rattle.status_text.specs.script_the_Numbered.{Numbered}
+use Rattle.status_text.specs.script_the_Lane.{Lane}
 use Rattle.line_answers.specs.run_laws_the_Answered.{Answered}
 use Rattle.line_answers.specs.run_laws_the_Answered_TheVariants.{Inside, Outside as IsOutside}
 use Rattle.line_answers.specs.run_laws_the_LineReply.{LineReply}

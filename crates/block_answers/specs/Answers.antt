@@ -5,8 +5,8 @@ use Rattle.line_answers.specs.run_laws_the_Answered.{Answered}
 use Rattle.line_answers.specs.run_laws_the_Answered_TheVariants.{Inside, Outside}
 use Rattle.line_answers.specs.run_laws_the_Outside_TheVariants.{Refused}
 use Rattle.line_answers.specs.run_laws_Blocks.{places_told}
-use Rattle.md_base.specs.declared.answers.Refusal.TheVariants.{NotRunning}
-use Rattle.script.specs.declared.lines.Numbered.{Numbered}
+use Rattle.lanes.specs.md_base_the_Refusal_TheVariants.{NotRunning}
+use Rattle.status_text.specs.script_the_Numbered.{Numbered}
 
 -- the answers by the entries at these places
 abbrev pub insides : ℕ → List ℕ → List Answered

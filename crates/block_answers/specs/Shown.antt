@@ -1,15 +1,15 @@
 -- The text of the replies, and whether one of them is a refusal.
 use Rattle.std.specs.Prelude.{ℕ, ◌≤◌, Bool, true, false, ◌||◌, if◌then◌else◌, List, [], ◌∷◌, ◌++◌, length, Some, MatchOption, codes, ⊤}
 use Rattle.std.specs.Option.{option_map_or}
-use Rattle.md_base.specs.declared.answers.Refusal.TheVariants.{Nothing}
-use Rattle.flat_history.specs.declared.events.Event.{Event}
-use Rattle.flat_history.specs.declared.events.Event.TheVariants.{Read as IsRead, Refused as IsRefused, Shown, Stepped}
-use Rattle.script.specs.declared.lines.Line.{Line}
-use Rattle.script.specs.declared.lines.Line.TheVariants.{Wait, Detail, Mdstat}
-use Rattle.script.specs.declared.lines.Numbered.{Numbered}
-use Rattle.script.specs.declared.reply.Lane.{Lane}
-use Rattle.script.specs.Script.{is_of_worker}
-use Rattle.script.specs.Texts.{created_text, assembled_text, refusal_text, event_text, waited_text, worker_text, worker_refusal_text, lane_text}
+use Rattle.lanes.specs.md_base_the_Refusal_TheVariants.{Nothing}
+use Rattle.status_text.specs.flat_history_the_Event.{Event}
+use Rattle.status_text.specs.flat_history_the_Event_TheVariants.{Read as IsRead, Refused as IsRefused, Shown, Stepped}
+use Rattle.status_text.specs.script_the_Line.{Line}
+use Rattle.status_text.specs.script_the_Line_TheVariants.{Wait, Detail, Mdstat}
+use Rattle.status_text.specs.script_the_Numbered.{Numbered}
+use Rattle.status_text.specs.script_the_Lane.{Lane}
+use Rattle.status_text.specs.script_Script.{is_of_worker}
+use Rattle.status_text.specs.script_Texts.{created_text, assembled_text, refusal_text, event_text, waited_text, worker_text, worker_refusal_text, lane_text}
 use Rattle.status_text.specs.Texts.{detail_text, mdstat_text, examined_text}
 use Rattle.line_answers.specs.run_laws_the_Outside.{Outside}
 use Rattle.line_answers.specs.run_laws_the_Outside_TheVariants.{Created, Assembled, Examined, Refused}

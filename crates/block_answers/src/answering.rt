@@ -2,9 +2,9 @@
 
 ghost use Rattle.std.specs.Prelude.{◌≡◌, ◌+◌, ◌<◌, ◌≤◌, ◌^◌, [], ◌∷◌, ◌++◌, length, map, vec_capacity};
 ghost use Rattle.std.specs.List.{All, AllPass};
-ghost use Rattle.bank.specs.Given.{NeverFalls};
+ghost use Rattle.lanes.specs.bank_Given.{NeverFalls};
 ghost use Rattle.lanes.specs.views_Moving.{Grows};
-ghost use Rattle.script.specs.declared.reply.Lane.TheVariants.{A as InA, B as InB, Worker as InWorker};
+ghost use Rattle.status_text.specs.script_the_Lane_TheVariants.{A as InA, B as InB, Worker as InWorker};
 ghost use Rattle.line_answers.specs.run_laws_Blocks.{is_allowed, is_in_lane, places_told};
 ghost use Rattle.line_answers.specs.run_laws_Ended.{IsRunKept};
 ghost use Rattle.line_answers.specs.run_laws_Making.{setting_of};
@@ -15,12 +15,9 @@ ghost use Rattle.lanes.specs.Pace.{AnswersSteps, asked_by};
 ghost use Rattle.block_answers.specs.Answers.{insides, block_places, refusals};
 
 use crate::together::{Together, ask_together};
-use bank::Bank;
-use flat_history::Epoch;
-use lanes::{Pace, Reply};
+use lanes::{Bank, Pace, Refusal, Reply};
 use line_answers::{Answered, Outside, Running, State};
-use md_base::Refusal;
-use script::Numbered;
+use status_text::{Epoch, Numbered};
 use std::alloc::Global;
 use std::sync::Wait;
 use std::thread::Threads;

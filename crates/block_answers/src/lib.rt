@@ -6,7 +6,8 @@ mod replies;
 mod together;
 
 pub use answering::answer_block;
-pub use lanes::Pace;
+pub use lanes::{Bank, NoMemory, Pace};
 pub use line_answers::{Answered, LineReply, Outside, State, answer, entry_of, halt, script_call};
 pub use replies::{is_answer_refused, put_text};
+pub use status_text::{Lane, Numbered};
 pub use together::{Together, ask_together};

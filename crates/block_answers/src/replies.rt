@@ -1,21 +1,18 @@
 //! The texts of replies.
 
 ghost use Rattle.std.specs.Prelude.{◌≡◌, ◌≤◌, if◌then◌else◌, vec_capacity};
-ghost use Rattle.script.specs.Script.{is_of_worker};
-ghost use Rattle.script.specs.Texts.{refusal_text, waited_text, worker_text, worker_refusal_text};
-ghost use Rattle.script.specs.Appends.{Appends, AppendsFew};
+ghost use Rattle.status_text.specs.script_Script.{is_of_worker};
+ghost use Rattle.status_text.specs.script_Texts.{refusal_text, waited_text, worker_text, worker_refusal_text};
+ghost use Rattle.status_text.specs.script_Appends.{Appends, AppendsFew};
 ghost use Rattle.block_answers.specs.Shown.{longest_answer, longest_reply, IsShort, IsAnswerShort, outside_text, entry_text, answer_text, reply_text, is_refusal, tells_refusal};
 ghost use Rattle.line_answers.specs.run_laws_States.{histories_in, IsNamed};
 
-use bank::Bank;
-use flat_history::Event;
+use lanes::{Bank, Refusal};
 use line_answers::{Answered, LineReply, Outside, State, entry_of};
-use md_base::Refusal;
-use script::{
-    Lane, Line, push_assembled, push_created, push_event, push_lane, push_refusal, push_waited,
-    push_worker, push_worker_refusal,
+use status_text::{
+    Event, Lane, Line, push_assembled, push_created, push_detail, push_event, push_examined,
+    push_lane, push_mdstat, push_refusal, push_waited, push_worker, push_worker_refusal,
 };
-use status_text::{push_detail, push_examined, push_mdstat};
 use std::alloc::AllocError;
 
 // Whether an event tells a refusal in the reply to a line. A wait with nothing to do isn't refused.

@@ -7,21 +7,21 @@ use Rattle.std.proofs.lemmas.List.Folds.{list_any-append}
 use Rattle.std.specs.Prelude.{fold, reverse, IsTrue, ⊤}
 use Rattle.std.specs.List.{list_any, All}
 use Rattle.std.proofs.lemmas.List.Elements.{All-nil, All-append, All-cons}
-use Rattle.md_base.specs.Sectors.{Sector}
-use Rattle.md_base.specs.Shapes.{has_slot}
-use Rattle.md_base.specs.declared.answers.Who.{Who}
-use Rattle.flat_history.specs.declared.events.Entry.{Entry}
-use Rattle.flat_history.specs.declared.events.Event.{Event}
-use Rattle.flat_history.specs.declared.events.Event.TheVariants.{Lost, SpareLost}
-use Rattle.flat_history.specs.declared.events.LostCause.TheVariants.{Fault}
-use Rattle.flat_history.specs.declared.events.Request.{Request}
-use Rattle.flat_history.specs.declared.events.Request.TheVariants.{Write as AsksWrite}
-use Rattle.flat_history.specs.Flat.{length_after, limit_after, values_after}
-use Rattle.flat_history.specs.Transfers.{last_end_from}
-use Rattle.flat_history.specs.Losses.{is_resync_end}
-use Rattle.flat_history.specs.Fits.{IsTornOf, AreTornOf}
-use Rattle.flat_history.specs.Plain.{loses_role, entries_of}
-use Rattle.flat_history.specs.OneShape.{gives_role, is_lost}
+use Rattle.history_laws.specs.md_base_Sectors.{Sector}
+use Rattle.history_laws.specs.md_base_Shapes.{has_slot}
+use Rattle.history_laws.specs.md_base_the_Who.{Who}
+use Rattle.views.specs.flat_history_the_Entry.{Entry}
+use Rattle.views.specs.flat_history_the_Event.{Event}
+use Rattle.views.specs.flat_history_the_Event_TheVariants.{Lost, SpareLost}
+use Rattle.views.specs.flat_history_the_LostCause_TheVariants.{Fault}
+use Rattle.views.specs.flat_history_the_Request.{Request}
+use Rattle.views.specs.flat_history_the_Request_TheVariants.{Write as AsksWrite}
+use Rattle.views.specs.flat_history_Flat.{length_after, limit_after, values_after}
+use Rattle.views.specs.flat_history_Transfers.{last_end_from}
+use Rattle.views.specs.flat_history_Losses.{is_resync_end}
+use Rattle.views.specs.flat_history_Fits.{IsTornOf, AreTornOf}
+use Rattle.views.specs.flat_history_Plain.{loses_role, entries_of}
+use Rattle.views.specs.flat_history_OneShape.{gives_role, is_lost}
 use Rattle.views.specs.Rebuilding.{HasNoRebuilt}
 use Rattle.call_entries.specs.Losing.{role_loss, role_losses, spare_loss, spare_losses, losses_of}
 use Rattle.call_entries.proofs.PlainLaws.{one, last_end-call}

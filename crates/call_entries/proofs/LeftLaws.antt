@@ -2,13 +2,13 @@
 use Rattle.std.proofs.Common.{◌≡◌, ℕ, Bool, true, false, cond, Option, Some, None, List, [], ◌∷◌, ◌++◌, refl, sym, ◌∙◌, subst}
 use Rattle.std.specs.Prelude.{fold, IfSome}
 use Rattle.std.specs.List.{list_any}
-use Rattle.md_base.specs.declared.answers.Who.{Who}
-use Rattle.flat_history.specs.declared.events.Entry.{Entry}
-use Rattle.flat_history.specs.declared.events.Event.{Event}
-use Rattle.flat_history.specs.declared.events.Event.TheVariants.{Lost, SpareLost}
-use Rattle.flat_history.specs.declared.events.LostCause.TheVariants.{Fault}
-use Rattle.flat_history.specs.Legal.{left_after, told_left, KeepsLeft, disturbs, call_before}
-use Rattle.flat_history.specs.Plain.{entries_of}
+use Rattle.history_laws.specs.md_base_the_Who.{Who}
+use Rattle.views.specs.flat_history_the_Entry.{Entry}
+use Rattle.views.specs.flat_history_the_Event.{Event}
+use Rattle.views.specs.flat_history_the_Event_TheVariants.{Lost, SpareLost}
+use Rattle.views.specs.flat_history_the_LostCause_TheVariants.{Fault}
+use Rattle.views.specs.flat_history_Legal.{left_after, told_left, KeepsLeft, disturbs, call_before}
+use Rattle.views.specs.flat_history_Plain.{entries_of}
 use Rattle.call_entries.proofs.CallLaws.{AreLossEvents}
 
 -- these events tell this number of steps left, or none

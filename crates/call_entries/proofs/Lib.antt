@@ -35,18 +35,33 @@ pub use Rattle.views.proofs.shape_views_Alike
 pub use Rattle.history_laws.proofs.OneShapeGrowing as history_laws_OneShapeGrowing
 pub use Rattle.history_laws.proofs.NumberLaws as history_laws_NumberLaws
 pub use Rattle.history_laws.proofs.GrowingLaws as history_laws_GrowingLaws
-pub use Rattle.flat_history.proofs.OneShapeLegal as flat_history_OneShapeLegal
-pub use Rattle.flat_history.proofs.OneShapeGone as flat_history_OneShapeGone
-pub use Rattle.flat_history.proofs.SoundLaws as flat_history_SoundLaws
+pub use Rattle.views.proofs.flat_history_OneShapeLegal
+pub use Rattle.views.proofs.flat_history_OneShapeGone
+pub use Rattle.views.proofs.flat_history_SoundLaws
 pub use Rattle.views.proofs.superblock_reads_SaidSlots
-pub use Rattle.superblocks.proofs.ValidFields as superblocks_ValidFields
-pub use Rattle.flat_history.proofs.LegalLaws as flat_history_LegalLaws
+pub use Rattle.history_laws.proofs.superblocks_ValidFields
+pub use Rattle.views.proofs.flat_history_LegalLaws
 pub use Rattle.views.proofs.list_io_FullLaws
 pub use Rattle.views.proofs.row_io_Losses
-pub use Rattle.superblocks.proofs.SlotSets as superblocks_SlotSets
-pub use Rattle.superblocks.proofs.Searches as superblocks_Searches
+pub use Rattle.history_laws.proofs.superblocks_SlotSets
+pub use Rattle.history_laws.proofs.superblocks_Searches
 pub use Rattle.views.proofs.row_io_Apart
 pub use Rattle.views.proofs.superblock_reads_Accepted
 pub use Rattle.views.proofs.superblock_reads_FoundHeld
 pub use Rattle.views.proofs.superblock_reads_StageReads
 pub use Rattle.history_laws.proofs.ReshapedLaws as history_laws_ReshapedLaws
+pub use Rattle.history_laws.proofs.bank_Images
+pub use Rattle.history_laws.proofs.bank_Laws
+pub use Rattle.history_laws.proofs.bank_Marks
+pub use Rattle.history_laws.proofs.gf256_FieldLaws
+pub use Rattle.history_laws.proofs.layout_Limits
+pub use Rattle.history_laws.proofs.layout_Places
+pub use Rattle.history_laws.proofs.parity_Columns
+pub use Rattle.history_laws.proofs.parity_Contents
+pub use Rattle.history_laws.proofs.parity_Lacking
+pub use Rattle.history_laws.proofs.parity_OwnFills
+pub use Rattle.history_laws.proofs.parity_Refilled
+pub use Rattle.views.proofs.flat_history_GoneCounts
+pub use Rattle.views.proofs.region_laws_RegionLaws
+pub use Rattle.views.proofs.shape_views_Standing
+pub use Rattle.views.proofs.shape_views_WindowLaws

@@ -1,9 +1,9 @@
 -- The entries of losses, one after another.
 use Rattle.std.proofs.Common.{◌≡◌, ℕ, suc, ◌+◌, List, [], ◌∷◌, ◌++◌, refl, sym, ap, ◌∙◌, append_assoc, append-nil, arith}
-use Rattle.md_base.specs.declared.answers.Who.{Who}
-use Rattle.flat_history.specs.declared.events.Entry.{Entry}
-use Rattle.flat_history.specs.declared.events.Event.{Event}
-use Rattle.flat_history.specs.Plain.{entries_of}
+use Rattle.history_laws.specs.md_base_the_Who.{Who}
+use Rattle.views.specs.flat_history_the_Entry.{Entry}
+use Rattle.views.specs.flat_history_the_Event.{Event}
+use Rattle.views.specs.flat_history_Plain.{entries_of}
 use Rattle.call_entries.specs.Losing.{role_loss, role_losses, spare_loss, spare_losses, losses_of}
 
 pub entries-both : (who : Who) (end : ℕ) (xs ys : List Event) → entries_of who end (xs ++ ys) ≡ entries_of who end xs ++ entries_of who end ys

@@ -3,13 +3,13 @@ use Rattle.std.proofs.Common.{◌≡◌, ℕ, ◌+◌, ◌==◌, ◌&&◌, Bool,
 use Rattle.std.proofs.lemmas.Bool.Decides.{nat_tests}
 use Rattle.std.specs.Prelude.{fold}
 use Rattle.std.specs.Option.{option_map_or}
-use Rattle.md_base.specs.declared.answers.Who.{Who}
-use Rattle.flat_history.specs.declared.events.Entry.{Entry}
-use Rattle.flat_history.specs.declared.events.Event.{Event}
-use Rattle.flat_history.specs.Flat.{is_same_call, rest_of_call, last_of, number_after}
-use Rattle.flat_history.specs.Transfers.{last_end_from}
-use Rattle.flat_history.specs.Growing.{BeginAnother}
-use Rattle.flat_history.specs.Plain.{entries_of}
+use Rattle.history_laws.specs.md_base_the_Who.{Who}
+use Rattle.views.specs.flat_history_the_Entry.{Entry}
+use Rattle.views.specs.flat_history_the_Event.{Event}
+use Rattle.views.specs.flat_history_Flat.{is_same_call, rest_of_call, last_of, number_after}
+use Rattle.views.specs.flat_history_Transfers.{last_end_from}
+use Rattle.views.specs.flat_history_Growing.{BeginAnother}
+use Rattle.views.specs.flat_history_Plain.{entries_of}
 
 -- one entry of a call
 abbrev pub one : Who → ℕ → Event → Entry

@@ -7,25 +7,25 @@ use Rattle.std.proofs.lemmas.Bool.Decides.{nat_tests}
 use Rattle.std.proofs.lemmas.List.Elements.{All-nil, All-cons, All-head, All-tail}
 use Rattle.std.proofs.lemmas.List.Folds.{list_any-append}
 use Rattle.std.proofs.lemmas.List.Sums.{fold-append}
-use Rattle.md_base.specs.declared.answers.Who.{Who}
-use Rattle.md_base.specs.declared.answers.Refusal.{Refusal}
-use Rattle.md_base.specs.declared.answers.Refusal.TheVariants.{PastEnd, TooManyMissing, NotResynced, NoSuchRole, NoSuchSlot, SlotTaken, SlotTooSmall, Nothing}
-use Rattle.bank.specs.declared.bank.Operation.{Operation}
-use Rattle.flat_history.specs.declared.events.Entry.{Entry}
-use Rattle.flat_history.specs.declared.events.Event.{Event}
-use Rattle.flat_history.specs.declared.events.Event.TheVariants.{Lost, SpareLost, Step, Refused}
-use Rattle.flat_history.specs.declared.events.LostCause.TheVariants.{Fault}
-use Rattle.flat_history.specs.declared.events.StepKind.{StepKind}
-use Rattle.flat_history.specs.declared.events.StepKind.TheVariants.{ResyncEnded}
-use Rattle.flat_history.specs.Flat.{next_number, number_after, last_of, length_of, length_after, limit_of, limit_after}
-use Rattle.flat_history.specs.Transfers.{last_end_from}
-use Rattle.flat_history.specs.World.{World}
-use Rattle.flat_history.specs.Growing.{grown}
-use Rattle.flat_history.specs.Legal.{told_left, call_before, disturbs}
-use Rattle.flat_history.specs.Losses.{was_dirty, is_resync_end, is_unsynced}
-use Rattle.flat_history.specs.Plain.{loses_role, entries_of}
-use Rattle.flat_history.specs.OneShape.{ShapeOpening, opening_in, gives_role, is_gone_with, is_gone_now, is_spare_after, is_spare_now, is_resyncing, gone_count_now, IsOneShapeEvent, AreOneShape, IsOneShapeLegal, IsOneShapeRefusal, IsOneShapeStep, IsIdleStep, GoesOnBehind, IsOfCall, IsCallOpen, adds_slot, is_used_now}
-use Rattle.flat_history.proofs.OneShapeLegal.{opening-grown}
+use Rattle.history_laws.specs.md_base_the_Who.{Who}
+use Rattle.history_laws.specs.md_base_the_Refusal.{Refusal}
+use Rattle.history_laws.specs.md_base_the_Refusal_TheVariants.{PastEnd, TooManyMissing, NotResynced, NoSuchRole, NoSuchSlot, SlotTaken, SlotTooSmall, Nothing}
+use Rattle.history_laws.specs.bank_the_Operation.{Operation}
+use Rattle.views.specs.flat_history_the_Entry.{Entry}
+use Rattle.views.specs.flat_history_the_Event.{Event}
+use Rattle.views.specs.flat_history_the_Event_TheVariants.{Lost, SpareLost, Step, Refused}
+use Rattle.views.specs.flat_history_the_LostCause_TheVariants.{Fault}
+use Rattle.views.specs.flat_history_the_StepKind.{StepKind}
+use Rattle.views.specs.flat_history_the_StepKind_TheVariants.{ResyncEnded}
+use Rattle.views.specs.flat_history_Flat.{next_number, number_after, last_of, length_of, length_after, limit_of, limit_after}
+use Rattle.views.specs.flat_history_Transfers.{last_end_from}
+use Rattle.views.specs.flat_history_World.{World}
+use Rattle.views.specs.flat_history_Growing.{grown}
+use Rattle.views.specs.flat_history_Legal.{told_left, call_before, disturbs}
+use Rattle.views.specs.flat_history_Losses.{was_dirty, is_resync_end, is_unsynced}
+use Rattle.views.specs.flat_history_Plain.{loses_role, entries_of}
+use Rattle.views.specs.flat_history_OneShape.{ShapeOpening, opening_in, gives_role, is_gone_with, is_gone_now, is_spare_after, is_spare_now, is_resyncing, gone_count_now, IsOneShapeEvent, AreOneShape, IsOneShapeLegal, IsOneShapeRefusal, IsOneShapeStep, IsIdleStep, GoesOnBehind, IsOfCall, IsCallOpen, adds_slot, is_used_now}
+use Rattle.views.proofs.flat_history_OneShapeLegal.{opening-grown}
 use Rattle.history_laws.proofs.OneShapeGrowing.{one, IsOneShapeCall, AreFaults, others-enter, call-one_shape, call-faults, gone-more}
 use Rattle.history_laws.proofs.OneShapeGoing.{open-more, open-numbered, going-on}
 use Rattle.call_entries.proofs.CallLaws.{AreLossEvents, GivesNone, ends-losses}

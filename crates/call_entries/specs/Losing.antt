@@ -1,12 +1,12 @@
 -- The entries of the members that a call loses.
 use Rattle.std.specs.Prelude.{◌≡◌, ℕ, zero, suc, Bool, true, false, List, [], ◌∷◌, ◌++◌, if◌then◌else◌}
-use Rattle.md_base.specs.Shapes.{has_slot}
-use Rattle.flat_history.specs.declared.events.Epoch.{Epoch}
-use Rattle.flat_history.specs.declared.events.Event.{Event}
-use Rattle.flat_history.specs.declared.events.Event.TheVariants.{Torn, Lost, SpareLost, Refused}
-use Rattle.md_base.specs.Sectors.{Sector}
-use Rattle.md_base.specs.declared.answers.Refusal.{Refusal}
-use Rattle.flat_history.specs.declared.events.LostCause.TheVariants.{Fault}
+use Rattle.history_laws.specs.md_base_Shapes.{has_slot}
+use Rattle.views.specs.flat_history_the_Epoch.{Epoch}
+use Rattle.views.specs.flat_history_the_Event.{Event}
+use Rattle.views.specs.flat_history_the_Event_TheVariants.{Torn, Lost, SpareLost, Refused}
+use Rattle.history_laws.specs.md_base_Sectors.{Sector}
+use Rattle.history_laws.specs.md_base_the_Refusal.{Refusal}
+use Rattle.views.specs.flat_history_the_LostCause_TheVariants.{Fault}
 
 abbrev pub role_loss : ℕ → ℕ → List Event
 role_loss roles role = if has_slot roles role then Lost role Fault ∷ [] else []

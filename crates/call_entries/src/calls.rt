@@ -1,15 +1,14 @@
 //! The entries of a call.
 
 ghost use Rattle.std.specs.Prelude.{◌≡◌, ◌++◌, [], ◌∷◌, ◌+◌, ◌<◌, ◌≤◌, ℕ, length};
-ghost use Rattle.flat_history.specs.Flat.{next_number};
-ghost use Rattle.flat_history.specs.OneShape.{IsCallOpen};
-ghost use Rattle.flat_history.specs.Plain.{entries_of};
+ghost use Rattle.views.specs.flat_history_Flat.{next_number};
+ghost use Rattle.views.specs.flat_history_OneShape.{IsCallOpen};
+ghost use Rattle.views.specs.flat_history_Plain.{entries_of};
 ghost use Rattle.call_entries.specs.Losing.{losses_of, failure_events};
-ghost use Rattle.flat_history.specs.declared.events.Event.TheVariants.{Refused as Refuses};
+ghost use Rattle.views.specs.flat_history_the_Event_TheVariants.{Refused as Refuses};
 
 use crate::losses::enter_losses;
-use flat_history::{Entries, Entry, Epoch, Event};
-use md_base::{Refusal, Sectors, Who};
+use history_laws::{Entries, Entry, Epoch, Event, Refusal, Sectors, Who};
 
 /// The caller's next number, which is at most the number of entries.
 pub fn check_number(entries: &Entries, who: Who)

@@ -5,4 +5,5 @@ pub mod calls;
 pub mod losses;
 
 pub use calls::{check_number, enter};
+pub use history_laws::{Entries, Epoch, Event, LostCause, Request};
 pub use losses::enter_losses;

@@ -2,12 +2,10 @@
 
 ghost use Rattle.std.specs.Prelude.{◌≡◌, ◌++◌, ◌+◌, ◌<◌, ◌≤◌, length};
 ghost use Rattle.call_entries.specs.Losing.{role_loss, role_losses, spare_loss, spare_losses, losses_of, IsSameEpoch};
-ghost use Rattle.flat_history.specs.Plain.{entries_of};
+ghost use Rattle.views.specs.flat_history_Plain.{entries_of};
 
 use crate::calls::enter;
-use flat_history::{Epoch, Event, LostCause};
-use md_base::Who;
-use superblocks::sets::contains;
+use history_laws::{Epoch, Event, LostCause, Who, contains};
 
 // A loss of this role, if it is in the set.
 fn enter_role(epoch: &mut Epoch, who: Who, end: u64, roles: u32, role: u32)

@@ -5,10 +5,10 @@ use Rattle.std.proofs.lemmas.Bool.{cases_lt}
 use Rattle.std.proofs.lemmas.List.Folds.{list_any-append}
 use Rattle.std.specs.Prelude.{fold, slice_index_or, IsTrue}
 use Rattle.std.specs.List.{list_any}
-use Rattle.md_base.specs.Sectors.{Sector}
-use Rattle.md_base.specs.declared.answers.Who.{Who}
-use Rattle.md_base.specs.declared.status.Role.{Role}
-use Rattle.md_base.specs.declared.status.Role.TheVariants.{Whole, Recovering, Missing}
+use Rattle.array_kept.specs.md_base_Sectors.{Sector}
+use Rattle.array_kept.specs.md_base_the_Who.{Who}
+use Rattle.array_kept.specs.md_base_the_Role.{Role}
+use Rattle.array_kept.specs.md_base_the_Role_TheVariants.{Whole, Recovering, Missing}
 use Rattle.array_kept.specs.superblocks_Reading.{Reading, is_whole, role_state}
 use Rattle.array_kept.specs.row_io_Rows.{is_missing}
 use Rattle.array_kept.specs.flat_history_the_Entry.{Entry}

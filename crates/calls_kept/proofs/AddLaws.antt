@@ -4,16 +4,16 @@ use Rattle.std.specs.Prelude.{IsTrue, MatchOption}
 use Rattle.std.proofs.lemmas.Bool.{cases_lt}
 use Rattle.std.proofs.lemmas.Bool.Decides.{nat_tests}
 use Rattle.std.proofs.lemmas.Slice.Eq.{bytes_eq-Decides}
-use Rattle.sb1.specs.declared.sb.Sb.{Sb}
-use Rattle.md_base.specs.Shapes.{is_valid_shape}
-use Rattle.md_base.specs.Sectors.{Sector}
-use Rattle.md_base.specs.declared.answers.Who.{Who}
+use Rattle.array_kept.specs.sb1_the_Sb.{Sb}
+use Rattle.array_kept.specs.md_base_Shapes.{is_valid_shape}
+use Rattle.array_kept.specs.md_base_Sectors.{Sector}
+use Rattle.array_kept.specs.md_base_the_Who.{Who}
 use Rattle.array_kept.specs.superblocks_Held.{IsSecondHalf}
-use Rattle.md_base.specs.declared.answers.Refusal.{Refusal}
-use Rattle.md_base.specs.declared.answers.Refusal.TheVariants.{PastEnd, TooManyMissing, NoSuchSlot, SlotTaken, SlotTooSmall, SlotFault}
-use Rattle.bank.specs.Given.{Given}
+use Rattle.array_kept.specs.md_base_the_Refusal.{Refusal}
+use Rattle.array_kept.specs.md_base_the_Refusal_TheVariants.{PastEnd, TooManyMissing, NoSuchSlot, SlotTaken, SlotTooSmall, SlotFault}
+use Rattle.array_kept.specs.bank_Given.{Given}
 use Rattle.array_kept.specs.superblocks_the_Members.{Members}
-use Rattle.md_base.specs.Shapes.{has_slot}
+use Rattle.array_kept.specs.md_base_Shapes.{has_slot}
 use Rattle.array_kept.specs.superblocks_Reads.{has_spare}
 use Rattle.array_kept.specs.superblocks_Update.{own_in}
 use Rattle.array_kept.specs.superblocks_Reading.{Scope, is_seen, is_backup, shape_of, role_state, holder, data_offset_of, entry_of}

@@ -2,15 +2,15 @@
 use Rattle.std.proofs.Common.{◌≡◌, ◌≢◌, ◌⊎◌, inl, inr, ℕ, ◌<◌, ◌==◌, ◌||◌, Bool, true, false, List, [], ◌∷◌, ◌++◌, length, Option, Some, refl, sym, ◌∙◌, ap, subst, arith, None, cond, eqb-true, nat_lt, ◌≤◌}
 use Rattle.std.specs.Prelude.{IfSome, is_some, IsTrue}
 use Rattle.std.proofs.lemmas.Bool.Decides.{nat_tests}
-use Rattle.md_base.specs.Sectors.{Sector}
-use Rattle.md_base.specs.declared.answers.Who.{Who}
-use Rattle.md_base.specs.declared.answers.Refusal.{Refusal}
-use Rattle.md_base.specs.declared.answers.Refusal.TheVariants.{NoSuchSlot, SlotTaken, SlotTooSmall, TooManyMissing, SlotFault}
-use Rattle.bank.specs.declared.bank.Operation.{Operation}
-use Rattle.bank.specs.Given.{Given, Sizes}
-use Rattle.bank.specs.Tape.{IsIn, disk}
-use Rattle.bank.proofs.Marks.{each_mark-map}
-use Rattle.sb1.specs.declared.sb.Sb.{Sb}
+use Rattle.array_kept.specs.md_base_Sectors.{Sector}
+use Rattle.array_kept.specs.md_base_the_Who.{Who}
+use Rattle.array_kept.specs.md_base_the_Refusal.{Refusal}
+use Rattle.array_kept.specs.md_base_the_Refusal_TheVariants.{NoSuchSlot, SlotTaken, SlotTooSmall, TooManyMissing, SlotFault}
+use Rattle.array_kept.specs.bank_the_Operation.{Operation}
+use Rattle.array_kept.specs.bank_Given.{Given, Sizes}
+use Rattle.array_kept.specs.bank_Tape.{IsIn, disk}
+use Rattle.array_kept.proofs.bank_Marks.{each_mark-map}
+use Rattle.array_kept.specs.sb1_the_Sb.{Sb}
 use Rattle.array_kept.specs.superblocks_the_Members.{Members}
 use Rattle.array_kept.specs.superblocks_Reading.{Scope, role_state, holder, is_backup, shape_of}
 use Rattle.array_kept.specs.superblocks_Reads.{has_spare}
@@ -68,7 +68,7 @@ use Rattle.array_kept.proofs.call_entries_LosingLaws.{entries-both}
 use Rattle.std.proofs.lemmas.List.Folds.{list_any-append}
 use Rattle.std.specs.List.{list_any}
 use Rattle.array_kept.proofs.views_Fit.{valid}
-use Rattle.md_base.specs.declared.places.Shape.{Shape}
+use Rattle.array_kept.specs.md_base_the_Shape.{Shape}
 
 -- a ledger with the number tells no more than one with the work's numbers
 with-number : (slot number : ℕ) (world : World) (work : Work) (entries added : List Entry) → slot < 32

@@ -3,11 +3,11 @@ use Rattle.std.proofs.Common.{IsTrue, ◌≡◌, ◌≢◌, ◌⊎◌, inl, inr,
 use Rattle.std.specs.Prelude.{IfSome, fold}
 use Rattle.std.proofs.lemmas.Bool.{cases_lt}
 use Rattle.std.proofs.lemmas.Bool.Decides.{nat_tests}
-use Rattle.md_base.specs.Shapes.{has_slot}
-use Rattle.md_base.specs.declared.answers.Who.{Who}
-use Rattle.bank.specs.declared.bank.Operation.{Operation}
-use Rattle.bank.specs.Given.{Given, NeverFalls, IsFaulted}
-use Rattle.sb1.specs.declared.sb.Sb.{Sb}
+use Rattle.array_kept.specs.md_base_Shapes.{has_slot}
+use Rattle.array_kept.specs.md_base_the_Who.{Who}
+use Rattle.array_kept.specs.bank_the_Operation.{Operation}
+use Rattle.array_kept.specs.bank_Given.{Given, NeverFalls, IsFaulted}
+use Rattle.array_kept.specs.sb1_the_Sb.{Sb}
 use Rattle.array_kept.specs.superblocks_the_Members.{Members}
 use Rattle.array_kept.specs.superblocks_Reading.{shape_of, role_count, role_state, holder, is_clean, is_reshaping}
 use Rattle.array_kept.specs.superblocks_Reads.{has_spare}

@@ -4,8 +4,8 @@ use Rattle.std.specs.Prelude.{MatchOption, IfSome}
 use Rattle.std.specs.List.{list_any}
 use Rattle.std.proofs.lemmas.Bool.{cases_eq}
 use Rattle.std.proofs.lemmas.Bool.Decides.{nat_tests}
-use Rattle.bank.specs.Given.{Given}
-use Rattle.sb1.specs.declared.sb.Sb.{Sb}
+use Rattle.array_kept.specs.bank_Given.{Given}
+use Rattle.array_kept.specs.sb1_the_Sb.{Sb}
 use Rattle.array_kept.specs.superblocks_the_Members.{Members}
 use Rattle.array_kept.specs.superblocks_Reads.{has_spare}
 use Rattle.array_kept.specs.superblocks_Update.{is_held_by}

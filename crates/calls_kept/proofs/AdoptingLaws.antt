@@ -6,23 +6,23 @@ use Rattle.std.proofs.Math.Nat.{div-mul-le_self}
 use Rattle.std.proofs.lemmas.Bool.{cases_lt}
 use Rattle.std.proofs.lemmas.Bool.Decides.{nat_tests}
 use Rattle.std.proofs.lemmas.List.{get_or_past}
-use Rattle.md_base.specs.Search.{tabulate}
-use Rattle.md_base.specs.Shapes.{has_slot}
-use Rattle.md_base.proofs.Tabulated.{get_or-tabulate}
-use Rattle.md_base.specs.declared.status.Role.TheVariants.{Recovering}
-use Rattle.sb1.specs.declared.sb.Sb.{Sb}
+use Rattle.array_kept.specs.md_base_Search.{tabulate}
+use Rattle.array_kept.specs.md_base_Shapes.{has_slot}
+use Rattle.array_kept.proofs.md_base_Tabulated.{get_or-tabulate}
+use Rattle.array_kept.specs.md_base_the_Role_TheVariants.{Recovering}
+use Rattle.array_kept.specs.sb1_the_Sb.{Sb}
 use Rattle.array_kept.specs.superblocks_Update.{own_in}
 use Rattle.array_kept.proofs.superblocks_SlotSets.{in-set_of}
-use Rattle.layout.proofs.Limits.{limited}
+use Rattle.array_kept.proofs.layout_Limits.{limited}
 use Rattle.array_kept.specs.views_the_Work.{Work}
 use Rattle.array_kept.specs.views_Numbers.{bears}
 use Rattle.array_kept.specs.shape_changes_Carried.{AreCarried}
 use Rattle.array_kept.specs.views_Rebuilding.{AreRebuilt, HasNoRebuilt}
-use Rattle.md_base.specs.Sectors.{Sector}
-use Rattle.bank.specs.Given.{Given}
-use Rattle.bank.specs.Tape.{Contents, IsIn, disk}
-use Rattle.bank.specs.Whole.{HasWholeSectors}
-use Rattle.bank.specs.declared.bank.Operation.{Operation}
+use Rattle.array_kept.specs.md_base_Sectors.{Sector}
+use Rattle.array_kept.specs.bank_Given.{Given}
+use Rattle.array_kept.specs.bank_Tape.{Contents, IsIn, disk}
+use Rattle.array_kept.specs.bank_Whole.{HasWholeSectors}
+use Rattle.array_kept.specs.bank_the_Operation.{Operation}
 use Rattle.array_kept.specs.superblocks_the_Members.{Members}
 use Rattle.array_kept.specs.superblocks_Reading.{Scope, shape_of, is_clean, role_state, rows_held}
 use Rattle.array_kept.specs.row_io_Rows.{reading_of, present}

@@ -1,11 +1,11 @@
 -- What is kept of an array after a reply to a request for steps.
 use Rattle.std.proofs.Common.{◌≡◌, ◌≢◌, inl, inr, ℕ, Option, Some, None, List, length, [], ◌∷◌, ◌++◌, refl, sym, ◌∙◌}
 use Rattle.std.specs.Prelude.{IfSome, MatchOption, ⊤}
-use Rattle.md_base.specs.declared.answers.Who.{Who}
-use Rattle.md_base.specs.declared.answers.Refusal.{Refusal}
-use Rattle.md_base.specs.declared.answers.Refusal.TheVariants.{Nothing}
-use Rattle.bank.specs.Given.{Given}
-use Rattle.bank.specs.declared.bank.Operation.{Operation}
+use Rattle.array_kept.specs.md_base_the_Who.{Who}
+use Rattle.array_kept.specs.md_base_the_Refusal.{Refusal}
+use Rattle.array_kept.specs.md_base_the_Refusal_TheVariants.{Nothing}
+use Rattle.array_kept.specs.bank_Given.{Given}
+use Rattle.array_kept.specs.bank_the_Operation.{Operation}
 use Rattle.array_kept.specs.superblocks_the_Members.{Members}
 use Rattle.array_kept.specs.superblocks_Reading.{Scope}
 use Rattle.array_kept.specs.flat_history_the_Entry.{Entry}

@@ -3,10 +3,10 @@ use Rattle.std.proofs.Common.{◌≡◌, ◌⊎◌, inl, inr, ℕ, ◌+◌, ◌<
 use Rattle.std.proofs.lemmas.Bool.Decides.{nat_tests}
 use Rattle.std.proofs.lemmas.Bool.{eqb-true}
 use Rattle.std.specs.Option.{option_map_or}
-use Rattle.md_base.specs.Shapes.{has_slot}
-use Rattle.md_base.specs.declared.status.Role.{Role}
-use Rattle.md_base.specs.declared.status.Role.TheVariants.{Missing}
-use Rattle.bank.specs.Given.{Given}
+use Rattle.array_kept.specs.md_base_Shapes.{has_slot}
+use Rattle.array_kept.specs.md_base_the_Role.{Role}
+use Rattle.array_kept.specs.md_base_the_Role_TheVariants.{Missing}
+use Rattle.array_kept.specs.bank_Given.{Given}
 use Rattle.array_kept.specs.superblocks_the_Members.{Members}
 use Rattle.array_kept.specs.superblocks_Reading.{is_clean, role_state, holder}
 use Rattle.array_kept.specs.row_io_Rows.{reading_of, role_without, members_without}
@@ -16,8 +16,8 @@ use Rattle.array_kept.specs.shape_changes_Steady.{AreUnlost, IsSafeOver}
 use Rattle.array_kept.specs.views_Moving.{IsMoved}
 use Rattle.array_kept.proofs.views_MemberLaws.{placed-without, unlost-without}
 use Rattle.array_kept.proofs.views_MovedLaws.{moved-without}
-use Rattle.bank.specs.Tape.{disk}
-use Rattle.bank.specs.declared.bank.Operation.{Operation}
+use Rattle.array_kept.specs.bank_Tape.{disk}
+use Rattle.array_kept.specs.bank_the_Operation.{Operation}
 use Rattle.array_kept.specs.flat_history_Sound.{OpensFit}
 use Rattle.array_kept.specs.shape_changes_Safety.{HasLiveSlot, IsRisen}
 use Rattle.array_kept.proofs.KeptLaws.{NamesSafe}

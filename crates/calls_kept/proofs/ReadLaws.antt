@@ -1,13 +1,13 @@
 -- What an array keeps after a read.
 use Rattle.std.proofs.Common.{◌≡◌, ◌≢◌, ◌⊎◌, inl, inr, ℕ, zero, suc, ◌+◌, ◌*◌, ◌/◌, ◌<◌, ◌≤◌, Option, Some, None, List, [], ◌∷◌, ◌++◌, length, refl, sym, ◌∙◌, ap, subst, arith, MatchOption}
 use Rattle.std.specs.Prelude.{IsSome, ⊤}
-use Rattle.md_base.specs.Sectors.{Sector, sectors_of}
-use Rattle.md_base.specs.declared.answers.Who.{Who}
-use Rattle.md_base.specs.declared.answers.Refusal.{Refusal}
-use Rattle.bank.specs.Given.{Given}
-use Rattle.bank.specs.Tape.{Contents}
-use Rattle.bank.specs.declared.bank.Operation.{Operation}
-use Rattle.parity.specs.Rows.{sector_of}
+use Rattle.array_kept.specs.md_base_Sectors.{Sector, sectors_of}
+use Rattle.array_kept.specs.md_base_the_Who.{Who}
+use Rattle.array_kept.specs.md_base_the_Refusal.{Refusal}
+use Rattle.array_kept.specs.bank_Given.{Given}
+use Rattle.array_kept.specs.bank_Tape.{Contents}
+use Rattle.array_kept.specs.bank_the_Operation.{Operation}
+use Rattle.array_kept.specs.parity_Rows.{sector_of}
 use Rattle.array_kept.specs.superblocks_the_Members.{Members}
 use Rattle.array_kept.specs.superblocks_Reading.{Scope, shape_of, is_clean}
 use Rattle.array_kept.specs.row_io_Rows.{present}
@@ -34,7 +34,7 @@ use Rattle.array_kept.proofs.ReadyLaws.{read_is}
 use Rattle.array_kept.proofs.KeptLaws.{NamesSafe, rebuilds-of}
 use Rattle.array_kept.proofs.DegradedLaws.{unread-here, leaves-behind, degraded-refused, degraded-read}
 use Rattle.array_kept.specs.shape_views_Regions.{DoWithout}
-use Rattle.md_base.specs.declared.places.Shape.{Shape}
+use Rattle.array_kept.specs.md_base_the_Shape.{Shape}
 
 -- what stands behind an answer that was given
 pub some-of : (P : Refusal → Type 0) (answer : Option Refusal) (refusal : Refusal) → answer ≡ Some refusal → MatchOption answer ⊤ P → P refusal

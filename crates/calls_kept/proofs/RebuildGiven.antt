@@ -3,11 +3,11 @@ use Rattle.std.proofs.Common.{◌≡◌, ◌≢◌, inl, inr, ⊎_elim, ℕ, ◌
 use Rattle.std.specs.List.{list_any}
 use Rattle.std.proofs.lemmas.Bool.{cases_lt, cases_eq}
 use Rattle.std.proofs.lemmas.Bool.Decides.{nat_tests}
-use Rattle.md_base.specs.Sectors.{Sector}
-use Rattle.md_base.specs.declared.status.Role.{Role}
-use Rattle.md_base.specs.declared.status.Role.TheVariants.{Whole, Recovering, Missing}
-use Rattle.bank.specs.Given.{Given}
-use Rattle.bank.specs.Tape.{Contents}
+use Rattle.array_kept.specs.md_base_Sectors.{Sector}
+use Rattle.array_kept.specs.md_base_the_Role.{Role}
+use Rattle.array_kept.specs.md_base_the_Role_TheVariants.{Whole, Recovering, Missing}
+use Rattle.array_kept.specs.bank_Given.{Given}
+use Rattle.array_kept.specs.bank_Tape.{Contents}
 use Rattle.array_kept.specs.superblocks_the_Members.{Members}
 use Rattle.array_kept.specs.superblocks_Reading.{Reading, is_reshaping, is_whole, shape_of, role_state, rows_held, holder, data_offset_of}
 use Rattle.array_kept.specs.superblocks_Reads.{has_spare}
@@ -27,7 +27,7 @@ use Rattle.array_kept.proofs.views_MarkLaws.{few-below}
 use Rattle.array_kept.proofs.shape_changes_Without.{any-held}
 use Rattle.array_kept.specs.views_Moving.{IsMoved}
 use Rattle.array_kept.specs.Calls.{IsHeldOrGiven, IsRecoveredOrLost}
-use Rattle.md_base.specs.Shapes.{has_slot}
+use Rattle.array_kept.specs.md_base_Shapes.{has_slot}
 use Rattle.array_kept.proofs.superblocks_SlotSets.{none_there, none_above}
 use Rattle.array_kept.proofs.views_Fit.{disks-within}
 

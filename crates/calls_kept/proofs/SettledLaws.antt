@@ -2,13 +2,13 @@
 use Rattle.std.proofs.Common.{◌≡◌, ◌≢◌, inl, inr, ℕ, ◌<◌, ◌≤◌, ◌||◌, Bool, true, false, not, Option, Some, None, get_or, List, length, [], ◌∷◌, ◌++◌, refl, sym, ◌∙◌, ap, subst, arith, append-nil}
 use Rattle.std.proofs.lemmas.Bool.{cases_lt}
 use Rattle.std.proofs.lemmas.List.{get_or_past}
-use Rattle.md_base.specs.Sectors.{Sector}
-use Rattle.md_base.specs.declared.status.Role.{Role}
-use Rattle.md_base.specs.declared.status.Role.TheVariants.{Whole, Recovering, Missing}
-use Rattle.md_base.specs.declared.answers.Refusal.{Refusal}
-use Rattle.md_base.specs.declared.answers.Who.{Who}
-use Rattle.bank.specs.Given.{Given}
-use Rattle.bank.specs.declared.bank.Operation.{Operation}
+use Rattle.array_kept.specs.md_base_Sectors.{Sector}
+use Rattle.array_kept.specs.md_base_the_Role.{Role}
+use Rattle.array_kept.specs.md_base_the_Role_TheVariants.{Whole, Recovering, Missing}
+use Rattle.array_kept.specs.md_base_the_Refusal.{Refusal}
+use Rattle.array_kept.specs.md_base_the_Who.{Who}
+use Rattle.array_kept.specs.bank_Given.{Given}
+use Rattle.array_kept.specs.bank_the_Operation.{Operation}
 use Rattle.array_kept.specs.superblocks_the_Members.{Members}
 use Rattle.array_kept.specs.superblocks_Reading.{Scope, is_clean, role_state, holder, is_whole, role_count}
 use Rattle.array_kept.specs.row_io_Rows.{reading_of, present}
@@ -19,7 +19,7 @@ use Rattle.array_kept.specs.flat_history_Losses.{was_dirty, is_resync_end, is_un
 use Rattle.array_kept.specs.flat_history_OneShape.{is_unsettled, KeepShape, IsCallOpen}
 use Rattle.array_kept.specs.flat_history_Sound.{OpensFit, FillsRight}
 use Rattle.array_kept.specs.flat_history_the_Event_TheVariants.{Refused}
-use Rattle.bank.specs.Tape.{IsIn, disk}
+use Rattle.array_kept.specs.bank_Tape.{IsIn, disk}
 use Rattle.std.specs.List.{list_any}
 use Rattle.std.specs.Prelude.{IsSome, is_some}
 use Rattle.array_kept.specs.views_the_Work.{Work}

@@ -1,8 +1,8 @@
 -- A step that is told behind the losses of its call.
 use Rattle.std.proofs.Common.{◌≡◌, ℕ, ◌+◌, List, [], ◌∷◌, ◌++◌, sym, ap, subst, arith, append-nil}
 use Rattle.std.specs.Prelude.{IfSome}
-use Rattle.md_base.specs.declared.answers.Who.{Who}
-use Rattle.bank.specs.Given.{Given}
+use Rattle.array_kept.specs.md_base_the_Who.{Who}
+use Rattle.array_kept.specs.bank_Given.{Given}
 use Rattle.array_kept.specs.superblocks_the_Members.{Members}
 use Rattle.array_kept.specs.flat_history_the_Entry.{Entry}
 use Rattle.array_kept.specs.flat_history_the_Event.{Event}

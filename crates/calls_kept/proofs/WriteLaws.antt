@@ -1,17 +1,17 @@
 -- What an array keeps after a write.
 use Rattle.std.proofs.Common.{◌≡◌, ◌≢◌, ◌⊎◌, inl, inr, ℕ, ◌+◌, ◌*◌, ◌/◌, ◌<◌, ◌≤◌, ◌||◌, Bool, true, false, Option, Some, None, List, [], ◌∷◌, ◌++◌, length, refl, sym, ◌∙◌, ap, ap₂, subst, arith, append_assoc}
 use Rattle.std.proofs.lemmas.Bool.Decides.{nat_tests}
-use Rattle.md_base.specs.Sectors.{Sector, IsWhole, sectors_of}
-use Rattle.md_base.specs.Shapes.{tolerance, is_multiple, data_disks}
-use Rattle.md_base.specs.declared.places.Shape.{Shape}
-use Rattle.md_base.specs.declared.answers.Who.{Who}
-use Rattle.md_base.specs.declared.answers.Refusal.{Refusal}
-use Rattle.bank.specs.Given.{Given}
-use Rattle.bank.specs.Tape.{Contents, IsIn}
-use Rattle.bank.specs.declared.bank.Operation.{Operation}
-use Rattle.layout.proofs.Places.{chunk_some, place-row_below}
+use Rattle.array_kept.specs.md_base_Sectors.{Sector, IsWhole, sectors_of}
+use Rattle.array_kept.specs.md_base_Shapes.{tolerance, is_multiple, data_disks}
+use Rattle.array_kept.specs.md_base_the_Shape.{Shape}
+use Rattle.array_kept.specs.md_base_the_Who.{Who}
+use Rattle.array_kept.specs.md_base_the_Refusal.{Refusal}
+use Rattle.array_kept.specs.bank_Given.{Given}
+use Rattle.array_kept.specs.bank_Tape.{Contents, IsIn}
+use Rattle.array_kept.specs.bank_the_Operation.{Operation}
+use Rattle.array_kept.proofs.layout_Places.{chunk_some, place-row_below}
 use Rattle.array_kept.specs.superblocks_the_Members.{Members}
-use Rattle.md_base.specs.declared.status.Role.TheVariants.{Recovering}
+use Rattle.array_kept.specs.md_base_the_Role_TheVariants.{Recovering}
 use Rattle.array_kept.specs.superblocks_Reading.{Scope, shape_of, role_state, is_clean, list_length}
 use Rattle.array_kept.specs.row_io_Rows.{reading_of, present}
 use Rattle.array_kept.specs.list_io_Buffers.{IsTouched}
@@ -25,7 +25,7 @@ use Rattle.array_kept.specs.flat_history_Flat.{now, values_of, values_after, cov
 use Rattle.array_kept.specs.flat_history_Losses.{is_unsynced, unsettles}
 use Rattle.array_kept.specs.flat_history_OneShape.{IsCallOpen, is_unsettled}
 use Rattle.array_kept.specs.flat_history_Sound.{FillsRight}
-use Rattle.md_base.proofs.SectorLaws.{length-sectors_of}
+use Rattle.array_kept.proofs.md_base_SectorLaws.{length-sectors_of}
 use Rattle.std.specs.List.{list_any}
 use Rattle.std.specs.Prelude.{fold, IsSome, is_some}
 use Rattle.array_kept.specs.flat_history_Plain.{entries_of}

@@ -5,7 +5,7 @@ ghost use Rattle.command_words.specs.Words.{asked_by, command_in, is_memory, is_
 
 use crate::paths::{Paths, paths_of};
 use crate::sizes::demo_size;
-use md_base::NoMemory;
+use line_words::NoMemory;
 use std::alloc::Global;
 
 /// What the words ask the program to do.

@@ -6,7 +6,7 @@ ghost use Rattle.command_words.specs.Words.{run_app, demo_app, IsParsedAs};
 
 use clap::error::ErrorKind;
 use clap::{Arg, ArgAction, ArgMatches, Command, Error};
-use md_base::NoMemory;
+use line_words::NoMemory;
 use std::alloc::{AllocError, Global};
 
 // The form of the words: an option with a value, a positional, and a last positional with several values.

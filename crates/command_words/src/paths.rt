@@ -6,7 +6,7 @@ ghost use Rattle.command_words.specs.Words.{told_by, is_few, listed, paths_from,
 
 use crate::parsing::parse_run;
 use clap::ArgMatches;
-use md_base::NoMemory;
+use line_words::NoMemory;
 use std::alloc::Global;
 
 /// The paths of a script and of the files that it is performed on, one for each slot. The backup is the last, where there is

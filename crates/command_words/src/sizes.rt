@@ -6,8 +6,7 @@ ghost use Rattle.command_words.specs.Words.{size_of, size_found, size_in, IsDemo
 
 use crate::parsing::parse_demo;
 use clap::ArgMatches;
-use line_words::number;
-use md_base::NoMemory;
+use line_words::{NoMemory, number};
 use std::alloc::Global;
 
 /// The largest demo.

@@ -5,27 +5,27 @@ use Rattle.std.proofs.lemmas.Bool.{and_parts, eqb-true, cases_lt}
 use Rattle.std.proofs.lemmas.Bool.Decides.{nat_tests}
 use Rattle.std.proofs.Math.Nat.{mul-le-mul_right}
 use Rattle.std.specs.Option.{option_map_or}
-use Rattle.md_base.specs.declared.places.Shape.{Shape}
-use Rattle.md_base.specs.declared.places.Span.{Span}
-use Rattle.md_base.specs.declared.status.Role.{Role}
-use Rattle.md_base.specs.declared.status.Role.TheVariants.{Whole, Recovering, Missing}
-use Rattle.md_base.specs.Sectors.{Sector, zero_sector}
-use Rattle.md_base.specs.Shapes.{stripe_sectors, data_disks, is_multiple, has_slot}
-use Rattle.bank.specs.Given.{Given}
-use Rattle.bank.specs.Tape.{Contents, IsIn}
-use Rattle.sb1.specs.declared.sb.Sb.{Sb}
-use Rattle.layout.specs.Layout.{place}
-use Rattle.geometry.specs.Geometry.{ceiling, stripes, rows, zeroed_stripes, is_critical}
-use Rattle.geometry.specs.Geometry as geometry
+use Rattle.grow_asked.specs.md_base_the_Shape.{Shape}
+use Rattle.grow_asked.specs.md_base_the_Span.{Span}
+use Rattle.grow_asked.specs.md_base_the_Role.{Role}
+use Rattle.grow_asked.specs.md_base_the_Role_TheVariants.{Whole, Recovering, Missing}
+use Rattle.grow_asked.specs.md_base_Sectors.{Sector, zero_sector}
+use Rattle.grow_asked.specs.md_base_Shapes.{stripe_sectors, data_disks, is_multiple, has_slot}
+use Rattle.grow_asked.specs.bank_Given.{Given}
+use Rattle.grow_asked.specs.bank_Tape.{Contents, IsIn}
+use Rattle.grow_asked.specs.sb1_the_Sb.{Sb}
+use Rattle.grow_asked.specs.layout_Layout.{place}
+use Rattle.grow_asked.specs.geometry_Geometry.{ceiling, stripes, rows, zeroed_stripes, is_critical}
+use Rattle.grow_asked.specs.geometry_Geometry as geometry
 use Rattle.window_steps.specs.superblocks_the_Members.{Members}
 use Rattle.window_steps.specs.superblocks_Reading.{Scope, is_reshaping, is_backward, shape_of, final_shape, list_length, next_window, role_state, rows_held, holder}
 use Rattle.window_steps.specs.superblocks_Update.{own_in}
 use Rattle.window_steps.specs.row_io_Rows.{reading_of, held_slot}
 use Rattle.window_steps.specs.list_io_Full.{RowStands}
-use Rattle.backup.specs.Section.{names_span, has_section}
+use Rattle.grow_asked.specs.backup_Section.{names_span, has_section}
 use Rattle.window_steps.specs.flat_history_ActiveSection.{section_for}
 use Rattle.window_steps.specs.flat_history_Stands.{shape_for}
-use Rattle.region_laws.specs.Regions.{IsDirected}
+use Rattle.window_steps.specs.region_laws_Regions.{IsDirected}
 use Rattle.window_steps.specs.shape_views_Regions.{open_by, place_by}
 use Rattle.window_steps.specs.shape_views_Windows.{IsShown, ListStands, RowsStand, moved_past}
 use Rattle.window_steps.proofs.shape_views_Headers.{backup-is, names-one, span-same}
@@ -35,7 +35,7 @@ use Rattle.window_steps.proofs.shape_views_UnderWay.{row-apart, row-apart-uncrit
 use Rattle.window_steps.proofs.shape_changes_LessViews.{ends-place}
 use Rattle.window_steps.proofs.shape_ends_EndLaws.{places-alike-stand, begun-alike}
 use Rattle.window_steps.proofs.shape_ends_GrownLaws.{zero-is-sector}
-use Rattle.geometry.proofs.Rows.{rows_hold}
+use Rattle.grow_asked.proofs.geometry_Rows.{rows_hold}
 use Rattle.window_steps.specs.views_Placed.{IsPlaced}
 use Rattle.window_steps.specs.views_Lacking.{IsOfStripe}
 use Rattle.window_steps.proofs.views_LackingWrites.{others-same}

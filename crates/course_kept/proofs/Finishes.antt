@@ -1,17 +1,17 @@
 -- What is left of a window is copied, and its position moves, in one call: the members of the end, with the position where it was, stand for those on which the copies ended.
 use Rattle.std.proofs.Common.{◌≡◌, ℕ, ◌+◌, ◌*◌, ◌/◌, ◌<◌, ◌≤◌, ◌==◌, ◌||◌, nat_lt, if◌then◌else◌, not, cond, Option, Some, None, refl, sym, ◌∙◌, ap, subst, arith}
 use Rattle.std.proofs.Math.Nat.{mul-le-mul_right}
-use Rattle.md_base.specs.declared.answers.Refusal.TheVariants.{PositionNotOnUnit}
-use Rattle.md_base.specs.declared.places.Shape.{Shape}
-use Rattle.md_base.specs.declared.places.Span.{Span}
-use Rattle.md_base.specs.declared.status.Role.{Role}
-use Rattle.md_base.specs.declared.status.Role.TheVariants.{Whole, Recovering, Missing}
-use Rattle.md_base.specs.Sectors.{Sector}
-use Rattle.md_base.specs.Shapes.{stripe_sectors, is_multiple}
-use Rattle.bank.specs.Given.{Given}
-use Rattle.bank.specs.Tape.{Contents}
-use Rattle.geometry.specs.Geometry.{stripes, rows, unit, beyond}
-use Rattle.geometry.specs.Geometry as geometry
+use Rattle.grow_asked.specs.md_base_the_Refusal_TheVariants.{PositionNotOnUnit}
+use Rattle.grow_asked.specs.md_base_the_Shape.{Shape}
+use Rattle.grow_asked.specs.md_base_the_Span.{Span}
+use Rattle.grow_asked.specs.md_base_the_Role.{Role}
+use Rattle.grow_asked.specs.md_base_the_Role_TheVariants.{Whole, Recovering, Missing}
+use Rattle.grow_asked.specs.md_base_Sectors.{Sector}
+use Rattle.grow_asked.specs.md_base_Shapes.{stripe_sectors, is_multiple}
+use Rattle.grow_asked.specs.bank_Given.{Given}
+use Rattle.grow_asked.specs.bank_Tape.{Contents}
+use Rattle.grow_asked.specs.geometry_Geometry.{stripes, rows, unit, beyond}
+use Rattle.grow_asked.specs.geometry_Geometry as geometry
 use Rattle.window_steps.specs.superblocks_the_Members.{Members}
 use Rattle.window_steps.specs.superblocks_Reading.{is_backward, final_shape, list_length, next_window, role_state, rows_held, holder}
 use Rattle.window_steps.specs.superblocks_Verdict.{off_unit}

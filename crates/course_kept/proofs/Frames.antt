@@ -1,16 +1,16 @@
 -- What stands in a course stands on where other rows are written, on members that may have lost slots.
 use Rattle.std.proofs.Common.{◌≡◌, ◌⊎◌, inl, inr, ℕ, ◌+◌, ◌/◌, ◌≤◌, ◌<◌, ◌-◌, Bool, true, false, if◌then◌else◌, Some, List, sym, ◌∙◌, ap, subst, arith}
 use Rattle.std.proofs.lemmas.Bool.{cases_lt}
-use Rattle.md_base.specs.declared.places.Shape.{Shape}
-use Rattle.md_base.specs.declared.places.Side.{Side}
-use Rattle.md_base.specs.declared.places.Side.TheVariants.{Old, New}
-use Rattle.md_base.specs.Sectors.{Sector, zero_sector}
-use Rattle.md_base.specs.Shapes.{stripe_sectors, tolerance}
-use Rattle.bank.specs.Given.{Given}
-use Rattle.bank.specs.Tape.{Contents}
-use Rattle.sb1.specs.declared.sb.Sb.{Sb}
-use Rattle.layout.specs.Layout.{place, stripe_of}
-use Rattle.geometry.specs.Geometry.{ceiling, side}
+use Rattle.grow_asked.specs.md_base_the_Shape.{Shape}
+use Rattle.grow_asked.specs.md_base_the_Side.{Side}
+use Rattle.grow_asked.specs.md_base_the_Side_TheVariants.{Old, New}
+use Rattle.grow_asked.specs.md_base_Sectors.{Sector, zero_sector}
+use Rattle.grow_asked.specs.md_base_Shapes.{stripe_sectors, tolerance}
+use Rattle.grow_asked.specs.bank_Given.{Given}
+use Rattle.grow_asked.specs.bank_Tape.{Contents}
+use Rattle.grow_asked.specs.sb1_the_Sb.{Sb}
+use Rattle.grow_asked.specs.layout_Layout.{place, stripe_of}
+use Rattle.grow_asked.specs.geometry_Geometry.{ceiling, side}
 use Rattle.window_steps.specs.superblocks_the_Members.{Members}
 use Rattle.window_steps.specs.superblocks_Reading.{is_reshaping, is_backward, shape_of, final_shape, data_offset_of}
 use Rattle.window_steps.specs.row_io_Rows.{reading_of, held_slot}

@@ -8,10 +8,10 @@ pub use Rattle.window_steps.proofs.CopyLaws as window_steps_CopyLaws
 pub use Rattle.window_steps.proofs.PastLaws as window_steps_PastLaws
 pub use Rattle.window_steps.proofs.SteadyLaws as window_steps_SteadyLaws
 pub use Rattle.window_steps.proofs.ZeroLaws as window_steps_ZeroLaws
-pub use Rattle.reshape_ends.proofs.BeginLaws as reshape_ends_BeginLaws
-pub use Rattle.reshape_ends.proofs.Cleared as reshape_ends_Cleared
-pub use Rattle.reshape_ends.proofs.FinishLaws as reshape_ends_FinishLaws
-pub use Rattle.reshape_ends.proofs.Made as reshape_ends_Made
+pub use Rattle.window_steps.proofs.reshape_ends_BeginLaws
+pub use Rattle.window_steps.proofs.reshape_ends_Cleared
+pub use Rattle.window_steps.proofs.reshape_ends_FinishLaws
+pub use Rattle.window_steps.proofs.reshape_ends_Made
 pub use Rattle.window_steps.proofs.reshape_updates_BegunNewest
 pub use Rattle.window_steps.proofs.reshape_updates_BegunPlan
 pub use Rattle.window_steps.proofs.reshape_updates_EndedPlan
@@ -87,3 +87,18 @@ pub use Rattle.window_steps.proofs.row_io_Lacks
 pub use Rattle.window_steps.proofs.row_io_Tables
 pub use Rattle.window_steps.proofs.superblocks_SlotSets
 pub use Rattle.window_steps.proofs.superblock_reads_SaidLists
+pub use Rattle.grow_asked.proofs.FirstLaws as grow_asked_FirstLaws
+pub use Rattle.grow_asked.proofs.backup_StoringLaws
+pub use Rattle.grow_asked.proofs.bank_Causes
+pub use Rattle.grow_asked.proofs.bank_Laws
+pub use Rattle.grow_asked.proofs.bank_Marks
+pub use Rattle.grow_asked.proofs.bank_Whole
+pub use Rattle.grow_asked.proofs.geometry_ClosedForms
+pub use Rattle.grow_asked.proofs.geometry_Divisions
+pub use Rattle.grow_asked.proofs.geometry_GoingOn
+pub use Rattle.grow_asked.proofs.geometry_Rows
+pub use Rattle.grow_asked.proofs.geometry_Valid
+pub use Rattle.grow_asked.proofs.layout_Places
+pub use Rattle.grow_asked.proofs.parity_Columns
+pub use Rattle.grow_asked.proofs.parity_OwnFills
+pub use Rattle.grow_asked.proofs.parity_Refilled

@@ -1,13 +1,13 @@
 -- Members that differ in spares alone stand in the same course.
 use Rattle.std.proofs.Common.{◌≡◌, ℕ, ◌+◌, nat_lt, cond, if◌then◌else◌, true, false, List, Option, Some, None, refl, sym, ◌∙◌, ap, subst}
 use Rattle.std.specs.Option.{option_map_or}
-use Rattle.md_base.specs.Sectors.{Sector, zero_sector}
-use Rattle.md_base.specs.declared.places.Shape.{Shape}
-use Rattle.md_base.specs.declared.status.Role.{Role}
-use Rattle.md_base.specs.declared.status.Role.TheVariants.{Whole, Recovering, Missing}
-use Rattle.bank.specs.Tape.{Contents}
-use Rattle.sb1.specs.declared.sb.Sb.{Sb}
-use Rattle.layout.specs.Layout.{place}
+use Rattle.grow_asked.specs.md_base_Sectors.{Sector, zero_sector}
+use Rattle.grow_asked.specs.md_base_the_Shape.{Shape}
+use Rattle.grow_asked.specs.md_base_the_Role.{Role}
+use Rattle.grow_asked.specs.md_base_the_Role_TheVariants.{Whole, Recovering, Missing}
+use Rattle.grow_asked.specs.bank_Tape.{Contents}
+use Rattle.grow_asked.specs.sb1_the_Sb.{Sb}
+use Rattle.grow_asked.specs.layout_Layout.{place}
 use Rattle.window_steps.specs.superblocks_the_Members.{Members}
 use Rattle.window_steps.specs.superblocks_Reading.{Scope, is_reshaping, final_shape, role_state, rows_held, holder, data_offset_of}
 use Rattle.window_steps.specs.superblocks_Update.{own_in}

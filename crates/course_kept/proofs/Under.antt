@@ -1,12 +1,12 @@
 -- The list that stands in a course stands whichever header a stop leaves in the backup.
 use Rattle.std.proofs.Common.{◌≡◌, inl, inr, ℕ, ◌+◌, ◌-◌, ◌<◌, ◌≤◌, true, false, Option, Some, None, List, [], ◌∷◌, refl, sym, ◌∙◌, subst, arith}
-use Rattle.md_base.specs.declared.places.Span.{Span}
-use Rattle.md_base.specs.Sectors.{Sector}
-use Rattle.bank.specs.Tape.{IsIn}
+use Rattle.grow_asked.specs.md_base_the_Span.{Span}
+use Rattle.grow_asked.specs.md_base_Sectors.{Sector}
+use Rattle.grow_asked.specs.bank_Tape.{IsIn}
 use Rattle.window_steps.specs.superblocks_the_Members.{Members}
 use Rattle.window_steps.specs.superblocks_Reading.{Scope}
 use Rattle.window_steps.specs.shape_views_Regions.{backup_of, open_by}
-use Rattle.parity.specs.Rows.{sector_of}
+use Rattle.grow_asked.specs.parity_Rows.{sector_of}
 use Rattle.window_steps.specs.shape_views_Views.{AreSectionsAllowed, Disk}
 use Rattle.window_steps.specs.shape_views_Windows.{IsShown, ListStands, RowsStand}
 use Rattle.grow_asked.specs.declared.window.Window.{Window}

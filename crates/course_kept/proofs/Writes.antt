@@ -3,18 +3,18 @@ use Rattle.std.proofs.Common.{◌≡◌, inl, inr, ℕ, ◌+◌, ◌*◌, ◌/�
 use Rattle.std.proofs.lemmas.Bool.{cases_lt}
 use Rattle.std.proofs.lemmas.Bool.Decides.{nat_tests}
 use Rattle.std.proofs.Math.Nat.{mul-le-mul_right}
-use Rattle.md_base.specs.declared.places.Shape.{Shape}
-use Rattle.md_base.specs.declared.places.Span.{Span}
-use Rattle.md_base.specs.Sectors.{Sector, zero_sector}
-use Rattle.md_base.specs.Shapes.{is_valid_shape, stripe_sectors}
-use Rattle.bank.specs.Given.{Given}
-use Rattle.bank.specs.Tape.{Contents}
-use Rattle.layout.specs.Layout.{place}
-use Rattle.parity.specs.Rows.{IsSector}
-use Rattle.geometry.specs.Geometry.{ceiling, stripes, rows}
-use Rattle.geometry.specs.Geometry as geometry
-use Rattle.geometry.proofs.Rows.{rows_hold}
-use Rattle.sb1.specs.declared.sb.Sb.{Sb}
+use Rattle.grow_asked.specs.md_base_the_Shape.{Shape}
+use Rattle.grow_asked.specs.md_base_the_Span.{Span}
+use Rattle.grow_asked.specs.md_base_Sectors.{Sector, zero_sector}
+use Rattle.grow_asked.specs.md_base_Shapes.{is_valid_shape, stripe_sectors}
+use Rattle.grow_asked.specs.bank_Given.{Given}
+use Rattle.grow_asked.specs.bank_Tape.{Contents}
+use Rattle.grow_asked.specs.layout_Layout.{place}
+use Rattle.grow_asked.specs.parity_Rows.{IsSector}
+use Rattle.grow_asked.specs.geometry_Geometry.{ceiling, stripes, rows}
+use Rattle.grow_asked.specs.geometry_Geometry as geometry
+use Rattle.grow_asked.proofs.geometry_Rows.{rows_hold}
+use Rattle.grow_asked.specs.sb1_the_Sb.{Sb}
 use Rattle.window_steps.specs.superblocks_the_Members.{Members}
 use Rattle.window_steps.specs.superblocks_Reading.{final_shape, list_length, next_window}
 use Rattle.window_steps.specs.row_io_Rows.{reading_of}

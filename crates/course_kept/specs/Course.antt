@@ -1,13 +1,13 @@
 -- How far a reshape has come: its window, what headers a stop leaves of it in the backup, and the rows that stand by the new shape already.
 use Rattle.std.specs.Prelude.{◌≡◌, ℕ, ◌+◌, ◌-◌, ◌*◌, ◌/◌, ◌<◌, ◌≤◌, true, false, List, Option, Some, None, ⊤}
-use Rattle.md_base.specs.declared.places.Shape.{Shape}
-use Rattle.md_base.specs.declared.places.Span.{Span}
-use Rattle.md_base.specs.Sectors.{Sector, zero_sector}
-use Rattle.md_base.specs.Shapes.{stripe_sectors}
-use Rattle.bank.specs.Tape.{Contents, IsIn}
-use Rattle.sb1.specs.declared.sb.Sb.{Sb}
-use Rattle.parity.specs.Rows.{sector_of}
-use Rattle.geometry.specs.Geometry.{ceiling, stripes, is_critical, zeroed_stripes}
+use Rattle.grow_asked.specs.md_base_the_Shape.{Shape}
+use Rattle.grow_asked.specs.md_base_the_Span.{Span}
+use Rattle.grow_asked.specs.md_base_Sectors.{Sector, zero_sector}
+use Rattle.grow_asked.specs.md_base_Shapes.{stripe_sectors}
+use Rattle.grow_asked.specs.bank_Tape.{Contents, IsIn}
+use Rattle.grow_asked.specs.sb1_the_Sb.{Sb}
+use Rattle.grow_asked.specs.parity_Rows.{sector_of}
+use Rattle.grow_asked.specs.geometry_Geometry.{ceiling, stripes, is_critical, zeroed_stripes}
 use Rattle.window_steps.specs.superblocks_the_Members.{Members}
 use Rattle.window_steps.specs.superblocks_Reading.{Scope, is_backward, shape_of, final_shape, list_length, next_window, data_offset_of}
 use Rattle.window_steps.specs.row_io_Rows.{reading_of, held_slot}

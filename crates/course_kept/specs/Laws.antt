@@ -1,14 +1,14 @@
 -- What a step makes of the course of a reshape, by what its call leaves: on members that lost slots, with a stripe copied, recorded or zeroed.
 use Rattle.std.specs.Prelude.{◌≡◌, ℕ, ◌+◌, ◌*◌, ◌/◌, ◌<◌, ◌≤◌, Bool, true, false, List, Some, None, length}
-use Rattle.md_base.specs.declared.places.Shape.{Shape}
-use Rattle.md_base.specs.declared.places.Span.{Span}
-use Rattle.md_base.specs.Sectors.{Sector, zero_sector}
-use Rattle.md_base.specs.Shapes.{stripe_sectors}
-use Rattle.bank.specs.Given.{Given}
-use Rattle.bank.specs.Tape.{Contents}
-use Rattle.sb1.specs.declared.sb.Sb.{Sb}
-use Rattle.geometry.specs.Geometry.{stripes, rows, zeroed_stripes, is_critical}
-use Rattle.geometry.specs.Geometry as geometry
+use Rattle.grow_asked.specs.md_base_the_Shape.{Shape}
+use Rattle.grow_asked.specs.md_base_the_Span.{Span}
+use Rattle.grow_asked.specs.md_base_Sectors.{Sector, zero_sector}
+use Rattle.grow_asked.specs.md_base_Shapes.{stripe_sectors}
+use Rattle.grow_asked.specs.bank_Given.{Given}
+use Rattle.grow_asked.specs.bank_Tape.{Contents}
+use Rattle.grow_asked.specs.sb1_the_Sb.{Sb}
+use Rattle.grow_asked.specs.geometry_Geometry.{stripes, rows, zeroed_stripes, is_critical}
+use Rattle.grow_asked.specs.geometry_Geometry as geometry
 use Rattle.window_steps.specs.superblocks_the_Members.{Members}
 use Rattle.window_steps.specs.superblocks_Reading.{Scope, is_reshaping, is_backward, shape_of, final_shape, list_length, next_window, role_state, holder, data_offset_of}
 use Rattle.window_steps.specs.superblocks_Update.{own_in}
@@ -23,7 +23,7 @@ use Rattle.window_steps.specs.shape_views_Backups.{IsOpenUnderAll}
 use Rattle.window_steps.specs.shape_changes_Marking.{AreOthersPresent}
 use Rattle.window_steps.specs.shape_ends_Ends.{IsBegun}
 use Rattle.window_steps.specs.shape_ends_Grown.{IsZeroPast}
-use Rattle.reshape_ends.specs.Finished.{IsZeroBehind}
+use Rattle.window_steps.specs.reshape_ends_Finished.{IsZeroBehind}
 use Rattle.window_steps.specs.views_Placed.{IsPlaced}
 use Rattle.window_steps.specs.views_Moving.{IsMoved}
 use Rattle.window_steps.specs.views_Lacking.{DoesWithout, IsOfStripe, AreOtherRowsKept}

@@ -2,8 +2,8 @@ pub mod Course
 pub mod Laws
 pub use Rattle.window_steps.specs.Recording as window_steps_Recording
 pub use Rattle.window_steps.specs.Zeroing as window_steps_Zeroing
-pub use Rattle.reshape_ends.specs.Begun as reshape_ends_Begun
-pub use Rattle.reshape_ends.specs.Finished as reshape_ends_Finished
+pub use Rattle.window_steps.specs.reshape_ends_Begun
+pub use Rattle.window_steps.specs.reshape_ends_Finished
 pub use Rattle.window_steps.specs.reshape_updates_Beginning
 pub use Rattle.window_steps.specs.reshape_updates_Ending
 pub use Rattle.window_steps.specs.safe_updates_First
@@ -85,3 +85,28 @@ pub use Rattle.window_steps.specs.superblocks_Found
 pub use Rattle.grow_asked.specs.declared.window.PhasesLeft as grow_asked_the_PhasesLeft
 pub use Rattle.grow_asked.specs.Left as grow_asked_Left
 pub use Rattle.window_steps.specs.list_io_Buffers
+pub use Rattle.grow_asked.specs.Asked as grow_asked_Asked
+pub use Rattle.grow_asked.specs.backup_Section
+pub use Rattle.grow_asked.specs.backup_Storing
+pub use Rattle.grow_asked.specs.backup_Written
+pub use Rattle.grow_asked.specs.backup_the_SectionFault
+pub use Rattle.grow_asked.specs.backup_the_SectionFault_TheVariants
+pub use Rattle.grow_asked.specs.bank_Given
+pub use Rattle.grow_asked.specs.bank_Tape
+pub use Rattle.grow_asked.specs.bank_Whole
+pub use Rattle.grow_asked.specs.bank_the_Operation
+pub use Rattle.grow_asked.specs.geometry_Geometry
+pub use Rattle.grow_asked.specs.grow_plan_Plans
+pub use Rattle.grow_asked.specs.layout_Layout
+pub use Rattle.grow_asked.specs.md_base_Sectors
+pub use Rattle.grow_asked.specs.md_base_Shapes
+pub use Rattle.grow_asked.specs.md_base_the_Refusal_TheVariants
+pub use Rattle.grow_asked.specs.md_base_the_Role
+pub use Rattle.grow_asked.specs.md_base_the_Role_TheVariants
+pub use Rattle.grow_asked.specs.md_base_the_Shape
+pub use Rattle.grow_asked.specs.md_base_the_Side_TheVariants
+pub use Rattle.grow_asked.specs.md_base_the_Span
+pub use Rattle.grow_asked.specs.parity_Fills
+pub use Rattle.grow_asked.specs.parity_Parity
+pub use Rattle.grow_asked.specs.parity_Rows
+pub use Rattle.grow_asked.specs.sb1_the_Sb

@@ -5,8 +5,14 @@ pub mod course;
 pub mod laws;
 
 pub use course::Course;
-pub use reshape_ends::{Finished, begin, finish};
+pub use grow_asked::left::{next_window, stripes_in};
+pub use grow_asked::shapes::is_backward;
+pub use grow_asked::{
+    Bank, BankFault, Members, PhasesLeft, SectionFault, Window, clear_section, find_section,
+    is_critical, list_end, lose_slots, reshape_left, stripe_sectors, with, write_section,
+};
 pub use window_steps::{
-    copy, flush_and_record, give_role, has_unnamed, is_spare, is_vacant, list_length, name_missing,
-    newly_vacant, record, settle, too_many, unread, unwritten, vacant_roles, zero,
+    Finished, begin, copy, finish, flush_and_record, give_role, has_unnamed, is_spare, is_vacant,
+    list_length, name_missing, newly_vacant, record, settle, too_many, unread, unwritten,
+    vacant_roles, zero,
 };

@@ -1,14 +1,14 @@
 -- What stands behind the list's end in the last stripe below the position: where the list doesn't end there it is nothing, and forward it is the tail.
 use Rattle.std.proofs.Common.{◌≡◌, inl, inr, ℕ, zero, suc, ◌+◌, ◌-◌, ◌*◌, ◌<◌, ◌≤◌, nat_lt, Bool, true, false, if◌then◌else◌, Some, sym, ◌∙◌, ap, subst, arith}
 use Rattle.std.proofs.lemmas.Bool.Decides.{nat_tests}
-use Rattle.md_base.specs.declared.places.Shape.{Shape}
-use Rattle.md_base.specs.declared.places.Side.TheVariants.{Old, New}
-use Rattle.md_base.specs.Shapes.{is_valid_shape, data_disks, stripe_sectors}
-use Rattle.sb1.specs.declared.sb.Sb.{Sb}
-use Rattle.layout.specs.Layout.{place, stripe_of}
-use Rattle.layout.proofs.Places.{chunk_some, stripe_of-row}
-use Rattle.geometry.specs.Geometry.{side}
-use Rattle.geometry.proofs.Divisions.{quotient_is}
+use Rattle.course_kept.specs.md_base_the_Shape.{Shape}
+use Rattle.course_kept.specs.md_base_the_Side_TheVariants.{Old, New}
+use Rattle.course_kept.specs.md_base_Shapes.{is_valid_shape, data_disks, stripe_sectors}
+use Rattle.course_kept.specs.sb1_the_Sb.{Sb}
+use Rattle.course_kept.specs.layout_Layout.{place, stripe_of}
+use Rattle.course_kept.proofs.layout_Places.{chunk_some, stripe_of-row}
+use Rattle.course_kept.specs.geometry_Geometry.{side}
+use Rattle.course_kept.proofs.geometry_Divisions.{quotient_is}
 use Rattle.course_kept.specs.superblocks_Reading.{is_reshaping, is_backward, final_shape, list_length, data_offset_of}
 use Rattle.course_kept.specs.row_io_Rows.{reading_of, held_slot}
 use Rattle.course_kept.specs.shape_views_Regions.{AreShapesFit}

@@ -91,3 +91,12 @@ pub use Rattle.course_kept.proofs.row_io_Lacks
 pub use Rattle.course_kept.proofs.row_io_Tables
 pub use Rattle.course_kept.proofs.superblocks_SlotSets
 pub use Rattle.course_kept.proofs.superblock_reads_SaidLists
+pub use Rattle.course_kept.proofs.backup_StoringLaws
+pub use Rattle.course_kept.proofs.bank_Marks
+pub use Rattle.course_kept.proofs.bank_Whole
+pub use Rattle.course_kept.proofs.geometry_Divisions
+pub use Rattle.course_kept.proofs.geometry_Rows
+pub use Rattle.course_kept.proofs.grow_asked_FirstLaws
+pub use Rattle.course_kept.proofs.parity_Columns
+pub use Rattle.course_kept.proofs.parity_OwnFills
+pub use Rattle.course_kept.proofs.parity_Refilled

@@ -2,13 +2,13 @@
 use Rattle.std.proofs.Common.{◌≡◌, inl, inr, ℕ, ◌+◌, ◌*◌, ◌<◌, ◌≤◌, List, Option, Some, refl, sym, ◌∙◌, ap, subst, arith}
 use Rattle.std.proofs.lemmas.Bool.{cases_lt}
 use Rattle.std.proofs.lemmas.Nat.{mul-le}
-use Rattle.md_base.specs.declared.places.Shape.{Shape}
-use Rattle.md_base.specs.Sectors.{Sector, IsSector, zero_sector}
-use Rattle.bank.specs.Given.{Given}
-use Rattle.bank.specs.Tape.{Contents}
-use Rattle.sb1.specs.declared.sb.Sb.{Sb}
-use Rattle.layout.specs.Layout.{place}
-use Rattle.geometry.proofs.Rows.{rows_hold}
+use Rattle.course_kept.specs.md_base_the_Shape.{Shape}
+use Rattle.course_kept.specs.md_base_Sectors.{Sector, IsSector, zero_sector}
+use Rattle.course_kept.specs.bank_Given.{Given}
+use Rattle.course_kept.specs.bank_Tape.{Contents}
+use Rattle.course_kept.specs.sb1_the_Sb.{Sb}
+use Rattle.course_kept.specs.layout_Layout.{place}
+use Rattle.course_kept.proofs.geometry_Rows.{rows_hold}
 use Rattle.course_kept.specs.superblocks_the_Members.{Members}
 use Rattle.course_kept.specs.superblocks_Reading.{final_shape, list_length, data_offset_of}
 use Rattle.course_kept.specs.row_io_Rows.{reading_of, held_slot}

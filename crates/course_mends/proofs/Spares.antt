@@ -1,13 +1,13 @@
 -- Members that differ in spares alone stand in the same course, a resync pending or not.
 use Rattle.std.proofs.Common.{◌≡◌, ℕ, ◌+◌, nat_lt, cond, if◌then◌else◌, List, Option, Some, None, refl, sym, ◌∙◌, ap, subst}
 use Rattle.std.specs.Option.{option_map_or}
-use Rattle.md_base.specs.Sectors.{Sector}
-use Rattle.md_base.specs.declared.places.Shape.{Shape}
-use Rattle.md_base.specs.declared.status.Role.{Role}
-use Rattle.md_base.specs.declared.status.Role.TheVariants.{Whole, Recovering, Missing}
-use Rattle.bank.specs.Tape.{Contents}
-use Rattle.sb1.specs.declared.sb.Sb.{Sb}
-use Rattle.layout.specs.Layout.{place}
+use Rattle.course_kept.specs.md_base_Sectors.{Sector}
+use Rattle.course_kept.specs.md_base_the_Shape.{Shape}
+use Rattle.course_kept.specs.md_base_the_Role.{Role}
+use Rattle.course_kept.specs.md_base_the_Role_TheVariants.{Whole, Recovering, Missing}
+use Rattle.course_kept.specs.bank_Tape.{Contents}
+use Rattle.course_kept.specs.sb1_the_Sb.{Sb}
+use Rattle.course_kept.specs.layout_Layout.{place}
 use Rattle.course_kept.specs.superblocks_the_Members.{Members}
 use Rattle.course_kept.specs.superblocks_Reading.{is_reshaping, role_state, rows_held, holder, data_offset_of}
 use Rattle.course_kept.specs.superblocks_Update.{own_in}

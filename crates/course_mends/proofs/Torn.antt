@@ -1,7 +1,7 @@
 -- A write that is cut leaves what stands by the shapes that place none of its sectors.
 use Rattle.std.proofs.Common.{◌≡◌, ℕ, ◌+◌, ◌*◌, ◌<◌, ◌≤◌, Some, sym, ◌∙◌, ap, subst, arith}
-use Rattle.md_base.specs.declared.places.Shape.{Shape}
-use Rattle.layout.specs.Layout.{place}
+use Rattle.course_kept.specs.md_base_the_Shape.{Shape}
+use Rattle.course_kept.specs.layout_Layout.{place}
 use Rattle.course_kept.specs.superblocks_Reading.{list_length, data_offset_of}
 use Rattle.course_kept.specs.row_io_Rows.{reading_of, held_slot}
 use Rattle.course_kept.proofs.row_io_Losses.{holder-of}

@@ -1,13 +1,13 @@
 -- The steps of a window that an opening found, while a resync is pending that has mended nothing: its stripes are copied, and it is recorded.
 use Rattle.std.proofs.Common.{◌≡◌, ◌⊎◌, inl, inr, ℕ, ◌+◌, ◌<◌, Bool, true, false, List, Some, None, refl, sym, ◌∙◌, ap, subst, arith}
 use Rattle.std.proofs.lemmas.Bool.{cases_lt}
-use Rattle.md_base.specs.declared.places.Shape.{Shape}
-use Rattle.md_base.specs.declared.places.Span.{Span}
-use Rattle.md_base.specs.Sectors.{Sector, IsSector}
-use Rattle.bank.specs.Given.{Given}
-use Rattle.bank.specs.Tape.{Contents}
-use Rattle.sb1.specs.declared.sb.Sb.{Sb}
-use Rattle.geometry.specs.Geometry.{stripes, beyond}
+use Rattle.course_kept.specs.md_base_the_Shape.{Shape}
+use Rattle.course_kept.specs.md_base_the_Span.{Span}
+use Rattle.course_kept.specs.md_base_Sectors.{Sector, IsSector}
+use Rattle.course_kept.specs.bank_Given.{Given}
+use Rattle.course_kept.specs.bank_Tape.{Contents}
+use Rattle.course_kept.specs.sb1_the_Sb.{Sb}
+use Rattle.course_kept.specs.geometry_Geometry.{stripes, beyond}
 use Rattle.course_kept.specs.superblocks_the_Members.{Members}
 use Rattle.course_kept.specs.superblocks_Reading.{is_reshaping, is_backward, final_shape, list_length, next_window}
 use Rattle.course_kept.specs.shape_views_Regions.{AreShapesFit}

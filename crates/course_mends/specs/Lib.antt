@@ -86,3 +86,17 @@ pub use Rattle.course_kept.specs.flat_history_the_Request_TheVariants
 pub use Rattle.course_kept.specs.flat_history_the_Epoch
 pub use Rattle.course_kept.specs.flat_history_Fits
 pub use Rattle.course_kept.specs.list_io_Buffers
+pub use Rattle.course_kept.specs.backup_Section
+pub use Rattle.course_kept.specs.backup_Storing
+pub use Rattle.course_kept.specs.backup_Written
+pub use Rattle.course_kept.specs.bank_Given
+pub use Rattle.course_kept.specs.bank_Tape
+pub use Rattle.course_kept.specs.bank_Whole
+pub use Rattle.course_kept.specs.bank_the_Operation
+pub use Rattle.course_kept.specs.geometry_Geometry
+pub use Rattle.course_kept.specs.grow_asked_Asked
+pub use Rattle.course_kept.specs.grow_plan_Plans
+pub use Rattle.course_kept.specs.parity_Fills
+pub use Rattle.course_kept.specs.parity_Parity
+pub use Rattle.course_kept.specs.parity_Rows
+pub use Rattle.course_kept.specs.sb1_the_Sb

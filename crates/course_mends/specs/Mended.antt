@@ -1,13 +1,13 @@
 -- The list in the course of a reshape while a resync of the array is pending: how far its rows stand, and what its steps and those of a window make of it.
 use Rattle.std.specs.Prelude.{◌≡◌, ◌⊎◌, ◌↔◌, ℕ, ◌+◌, ◌*◌, ◌/◌, ◌<◌, ◌≤◌, Bool, true, false, List, length, Option, Some, None, IsSome, IfSome, ⊤}
-use Rattle.md_base.specs.declared.places.Shape.{Shape}
-use Rattle.md_base.specs.declared.places.Span.{Span}
-use Rattle.md_base.specs.Sectors.{Sector, IsSector}
-use Rattle.bank.specs.Given.{Given}
-use Rattle.bank.specs.Tape.{Contents}
-use Rattle.sb1.specs.declared.sb.Sb.{Sb}
-use Rattle.layout.specs.Layout.{place}
-use Rattle.geometry.specs.Geometry.{stripes, is_critical}
+use Rattle.course_kept.specs.md_base_the_Shape.{Shape}
+use Rattle.course_kept.specs.md_base_the_Span.{Span}
+use Rattle.course_kept.specs.md_base_Sectors.{Sector, IsSector}
+use Rattle.course_kept.specs.bank_Given.{Given}
+use Rattle.course_kept.specs.bank_Tape.{Contents}
+use Rattle.course_kept.specs.sb1_the_Sb.{Sb}
+use Rattle.course_kept.specs.layout_Layout.{place}
+use Rattle.course_kept.specs.geometry_Geometry.{stripes, is_critical}
 use Rattle.course_kept.specs.superblocks_the_Members.{Members}
 use Rattle.course_kept.specs.superblocks_Reading.{Scope, is_reshaping, is_backward, shape_of, final_shape, list_length, next_window}
 use Rattle.course_kept.specs.row_io_Rows.{reading_of}

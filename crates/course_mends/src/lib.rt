@@ -4,9 +4,9 @@
 pub mod laws;
 
 pub use course_kept::{
-    Course, Finished, begin, copy, finish, flush_and_record, give_role, has_unnamed, is_spare,
-    is_vacant, list_length, name_missing, newly_vacant, record, settle, too_many, unread,
-    unwritten, vacant_roles, zero,
+    Course, Finished, PhasesLeft, Window, begin, copy, finish, flush_and_record, give_role,
+    has_unnamed, is_spare, is_vacant, list_length, name_missing, newly_vacant, record, settle,
+    too_many, unread, unwritten, vacant_roles, zero,
 };
 pub use region_mends::counting::resync_left;
 pub use region_mends::mending::{mend_list, unmended};

@@ -3,4 +3,5 @@
 
 mod text;
 
+pub use script::{Numbered, ScriptFault, read_script_with_blocks};
 pub use text::demo_text;

@@ -3,12 +3,12 @@ use Rattle.std.proofs.Common.{◌≡◌, ℕ, ◌+◌, ◌<◌, ◌≤◌, lit�
 use Rattle.std.specs.Prelude.{◌↔◌}
 use Rattle.std.proofs.lemmas.Bool.{le-leb}
 use Rattle.std.proofs.lemmas.List.{length-take-le, get_or-drop}
-use Rattle.md_base.specs.Sectors.{Sector}
-use Rattle.sb1.specs.declared.sb.Sb.{Sb}
-use Rattle.sb1.specs.Superblock.{superblock_in, is_valid, sb_of}
-use Rattle.sb1.proofs.SuperblockLaws.{writable-valid}
-use Rattle.bank.specs.Given.{Given}
-use Rattle.bank.specs.Tape.{AreSectors}
+use Rattle.superblocks.specs.md_base_Sectors.{Sector}
+use Rattle.superblocks.specs.sb1_the_Sb.{Sb}
+use Rattle.superblocks.specs.sb1_Superblock.{superblock_in, is_valid, sb_of}
+use Rattle.superblocks.proofs.sb1_SuperblockLaws.{writable-valid}
+use Rattle.superblocks.specs.bank_Given.{Given}
+use Rattle.superblocks.specs.bank_Tape.{AreSectors}
 use Rattle.superblocks.specs.Found.{IsInSectors}
 use Rattle.superblocks.specs.Writing.{IsMember}
 

@@ -4,12 +4,12 @@ use Rattle.std.specs.Option.{option_or, option_map_or}
 use Rattle.std.proofs.lemmas.List.{get_or-take, get_or_past, length-take-le, map-append, take-map, drop-map}
 use Rattle.std.proofs.lemmas.Bool.{cases_lt}
 use Rattle.std.proofs.lemmas.Bool.Decides.{nat_tests}
-use Rattle.md_base.specs.declared.answers.Fault.{Fault}
-use Rattle.md_base.specs.declared.answers.Refusal.TheVariants.{NoSuperblock}
-use Rattle.md_base.specs.Search.{tabulate}
-use Rattle.sb1.specs.declared.sb.Sb.{Sb}
-use Rattle.bank.specs.Given.{Given, sizes}
-use Rattle.bank.specs.Tape.{Contents}
+use Rattle.superblocks.specs.md_base_the_Fault.{Fault}
+use Rattle.superblocks.specs.md_base_the_Refusal_TheVariants.{NoSuperblock}
+use Rattle.superblocks.specs.md_base_Search.{tabulate}
+use Rattle.superblocks.specs.sb1_the_Sb.{Sb}
+use Rattle.superblocks.specs.bank_Given.{Given, sizes}
+use Rattle.superblocks.specs.bank_Tape.{Contents}
 use Rattle.superblocks.specs.declared.members.Members.{Members}
 use Rattle.superblocks.specs.Reading.{of_array, uuid_of_first, newest_of, reading_by, seen_superblock, superblocks}
 use Rattle.superblocks.specs.Verdict.{members_refusal, members_verdict}

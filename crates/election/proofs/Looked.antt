@@ -5,13 +5,13 @@ use Rattle.std.proofs.lemmas.List.{ext_get_or, get_or-take, get_or-drop, get_or-
 use Rattle.std.proofs.lemmas.Bool.{cases_eq, cases_lt}
 use Rattle.std.proofs.lemmas.Bool.Decides.{nat_tests}
 use Rattle.std.proofs.lemmas.Nat.Bits.{bit_at-zero}
-use Rattle.md_base.specs.Shapes.{has_slot}
-use Rattle.md_base.specs.Search.{tabulate}
-use Rattle.md_base.proofs.Tabulated.{length-tabulate, get_or-tabulate}
-use Rattle.sb1.specs.declared.sb.Sb.{Sb}
-use Rattle.sb1.specs.Superblock.{superblock_in}
-use Rattle.bank.specs.Given.{Given, IsFaulted}
-use Rattle.bank.specs.Tape.{Contents}
+use Rattle.superblocks.specs.md_base_Shapes.{has_slot}
+use Rattle.superblocks.specs.md_base_Search.{tabulate}
+use Rattle.superblocks.proofs.md_base_Tabulated.{length-tabulate, get_or-tabulate}
+use Rattle.superblocks.specs.sb1_the_Sb.{Sb}
+use Rattle.superblocks.specs.sb1_Superblock.{superblock_in}
+use Rattle.superblocks.specs.bank_Given.{Given, IsFaulted}
+use Rattle.superblocks.specs.bank_Tape.{Contents}
 use Rattle.superblocks.specs.Reading.{seen_superblock, is_backup}
 use Rattle.superblocks.specs.Found.{IsInSectors, AreInSectors}
 use Rattle.superblocks.specs.Writing.{IsMember, AreWritable}

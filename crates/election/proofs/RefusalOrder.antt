@@ -1,7 +1,7 @@
 -- Refusals one after another.
 use Rattle.std.proofs.Common.{◌≡◌, [], ◌∷◌, Option, Some, None, refl}
 use Rattle.std.specs.Option.{option_or}
-use Rattle.md_base.specs.declared.answers.Refusal.{Refusal}
+use Rattle.superblocks.specs.md_base_the_Refusal.{Refusal}
 use Rattle.superblocks.specs.Verdict.{first_of_all}
 
 pub three_by_three : (a b c d e f : Option Refusal)

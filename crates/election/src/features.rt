@@ -3,8 +3,7 @@
 ghost use Rattle.std.specs.Prelude.{◌≡◌};
 ghost use Rattle.superblocks.specs.Verdict.{unsupported};
 
-use md_base::Refusal;
-use sb1::{Features, Sb};
+use superblocks::{Features, Refusal, Sb};
 
 /// The refused bits of the first fresh slot that has some.
 pub fn unsupported(fresh: &[(Sb, u64)]) -> Option<Refusal>

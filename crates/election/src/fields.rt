@@ -2,16 +2,14 @@
 
 ghost use Rattle.std.specs.Prelude.{◌≡◌, ◌==◌, ◌&&◌, ◌||◌, ◌^◌, not, nat_le, nat_lt, find, option_map};
 ghost use Rattle.std.specs.List.{list_any};
-ghost use Rattle.md_base.specs.Search.{any_below};
-ghost use Rattle.md_base.specs.Shapes.{is_layout, is_chunk, is_disk_count};
+ghost use Rattle.superblocks.specs.md_base_Search.{any_below};
+ghost use Rattle.superblocks.specs.md_base_Shapes.{is_layout, is_chunk, is_disk_count};
 ghost use Rattle.superblocks.specs.Reading.{entry_of, is_reshaping, lies_within, list_length, shape_of};
 ghost use Rattle.superblocks.specs.Verdict.{is_bad_size, is_bad_entry, is_late_entry, first_bad_entry, is_holder, is_role, judged_fields, bad_field};
 
 use crate::fresh::lies_within;
-use geometry::limits::{is_chunk, is_disk_count, is_layout, is_level, is_size};
-use md_base::Refusal;
-use sb1::Sb;
 use superblocks::says::{entry_of, is_reshaping, list_length, old_disks, role_count};
+use superblocks::{Refusal, Sb, is_chunk, is_disk_count, is_layout, is_level, is_size};
 
 /// The lowest offset of a field that is outside its limits, and behind the fields that of a role entry.
 pub fn bad_field(newest: &Sb, fresh: &[(Sb, u64)]) -> Option<Refusal>

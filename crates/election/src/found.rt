@@ -4,8 +4,7 @@ ghost use Rattle.std.specs.Prelude.{◌≡◌, map};
 ghost use Rattle.std.specs.Option.{option_copied, option_or};
 ghost use Rattle.superblocks.specs.Reading.{uuid_of_first, of_array, newer, newest_of};
 
-use sb1::Sb;
-use superblocks::SbList;
+use superblocks::{Sb, SbList};
 
 // The uuid of the first superblock.
 fn first_uuid(seen: &[Option<Sb>]) -> Option<[u8; 16]>

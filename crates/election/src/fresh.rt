@@ -4,10 +4,9 @@ ghost use Rattle.std.specs.Prelude.{◌≡◌, ◌≤◌, length, slice_index, I
 ghost use Rattle.superblocks.specs.Reading.{is_spare, lies_within, spares_from};
 ghost use Rattle.superblocks.specs.Verdict.{fresh_from};
 
-use md_base::SlotList;
-use sb1::Sb;
 use std::alloc::{AllocError, Global};
 use superblocks::says::{entry_of, is_fresh, is_recovering};
+use superblocks::{Sb, SlotList};
 
 /// The fresh superblocks, each with its slot's length in sectors.
 pub fn fresh(

@@ -1,13 +1,12 @@
 //! The holders of the roles.
 
 ghost use Rattle.std.specs.Prelude.{◌≡◌, ◌≤◌, ◌<◌, length, IfOk};
-ghost use Rattle.md_base.specs.Search.{tabulate};
+ghost use Rattle.superblocks.specs.md_base_Search.{tabulate};
 ghost use Rattle.superblocks.specs.Reading.{holds_role, holder_from, state_of, role_count};
 
-use md_base::{Role, RoleList};
-use sb1::Sb;
 use std::alloc::{AllocError, Global};
 use superblocks::says::{entry_of, is_fresh, is_recovering, role_count};
+use superblocks::{Role, RoleList, Sb};
 
 /// The state of each role.
 pub fn roles(alloc: Global, newest: &Sb, own: &[Option<Sb>]) -> Result<RoleList, AllocError>

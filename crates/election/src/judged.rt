@@ -21,9 +21,8 @@ use crate::holders::roles;
 use crate::missing::{dirty_degraded, members_missing};
 use crate::numbers::two_holders;
 use crate::position::off_unit;
-use md_base::{Fault, Refusal, Role, RoleList, SlotList};
-use sb1::Sb;
 use std::alloc::Global;
+use superblocks::{Fault, Refusal, Role, RoleList, Sb, SlotList};
 
 /// The roles and the spares of the superblocks whose newest this is, or their first refusal. Each slot has a length in
 /// sectors.

@@ -2,7 +2,7 @@
 #![tactic(auto)]
 
 ghost use Rattle.std.specs.Prelude.{◌≡◌, ◌≤◌, ◌-◌, None, length, map, take, drop, replicate, slice_index};
-ghost use Rattle.bank.specs.Tape.{contents};
+ghost use Rattle.superblocks.specs.bank_Tape.{contents};
 ghost use Rattle.superblocks.specs.Reading.{of_array};
 ghost use Rattle.superblocks.specs.Election.{uuid_for, IsAnswer, HasElected, OnlyMembersFail};
 
@@ -17,13 +17,17 @@ pub mod numbers;
 pub mod position;
 pub mod reads;
 
-use bank::Bank;
 use found::{chosen_uuid, keep_array, newest};
 use judged::judge;
-use md_base::{Fault, Refusal};
 use reads::{lengths, read_superblocks};
 use std::alloc::Global;
-use superblocks::{Members, SbList};
+pub use superblocks::says::{is_clean, is_reshaping, list_length, shape_of, target_of};
+pub use superblocks::sets::{contains, with, without};
+use superblocks::{Fault, Refusal};
+pub use superblocks::{
+    Bank, BankFault, MOST_ROWS, Members, Sb, SbList, encode, fields_of, is_chunk, is_disk_count,
+    is_layout, is_level, is_multiple, list_end, sectors_of, unit,
+};
 
 /// What the superblocks of a bank's member slots, which are all slots but the backup, say of the array with this uuid;
 /// without one, of the array of the first superblock. A slot that fails counts as one without a superblock, and is named

@@ -1,10 +1,10 @@
 //! Too many missing members.
 
 ghost use Rattle.std.specs.Prelude.{◌≡◌, ◌≤◌, ◌<◌, ◌&&◌, IsTrue, length, if◌then◌else◌, Some, None};
-ghost use Rattle.md_base.specs.declared.answers.Refusal.TheVariants.{MembersMissing};
-ghost use Rattle.md_base.specs.Shapes.{is_valid_shape, tolerance};
-ghost use Rattle.md_base.specs.Search.{count_below};
-ghost use Rattle.layout.specs.Layout.{has_data};
+ghost use Rattle.superblocks.specs.md_base_the_Refusal_TheVariants.{MembersMissing};
+ghost use Rattle.superblocks.specs.md_base_Shapes.{is_valid_shape, tolerance};
+ghost use Rattle.superblocks.specs.md_base_Search.{count_below};
+ghost use Rattle.superblocks.specs.layout_Layout.{has_data};
 ghost use Rattle.superblocks.specs.Reading.{shape_of, is_whole, role_count};
 ghost use Rattle.superblocks.specs.Verdict.{
   is_missing,
@@ -16,10 +16,8 @@ ghost use Rattle.superblocks.specs.Verdict.{
   AreValidShapes,
 };
 
-use layout::parity_only;
-use md_base::{Refusal, Role, Shape};
-use sb1::Sb;
 use superblocks::says::{is_clean, shape_of, target_of, tolerance};
+use superblocks::{Refusal, Role, Sb, Shape, parity_only};
 
 /// Whether a shape in force has more missing roles than its tolerance, the old one first.
 pub fn members_missing(newest: &Sb, roles: &[Role]) -> Option<Refusal>

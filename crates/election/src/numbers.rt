@@ -3,8 +3,7 @@
 ghost use Rattle.std.specs.Prelude.{◌≡◌};
 ghost use Rattle.superblocks.specs.Verdict.{has_dev, lower, shared_dev, two_holders};
 
-use md_base::Refusal;
-use sb1::Sb;
+use superblocks::{Refusal, Sb};
 
 /// The lowest device number that two fresh slots have.
 pub fn two_holders(fresh: &[(Sb, u64)]) -> Option<Refusal>

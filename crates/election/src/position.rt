@@ -3,11 +3,8 @@
 ghost use Rattle.std.specs.Prelude.{◌≡◌};
 ghost use Rattle.superblocks.specs.Verdict.{off_unit, AreValidShapes};
 
-use geometry::limits::is_multiple;
-use geometry::unit;
-use md_base::Refusal;
-use sb1::Sb;
 use superblocks::says::{list_length, shape_of, target_of};
+use superblocks::{Refusal, Sb, is_multiple, unit};
 
 /// Whether a reshape stands neither on its unit nor at the end of the list.
 pub fn off_unit(newest: &Sb) -> Option<Refusal>

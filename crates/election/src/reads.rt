@@ -1,19 +1,17 @@
 //! The superblocks as they are read.
 
 ghost use Rattle.std.specs.Prelude.{◌≡◌, ◌↔◌, ◌<◌, ◌≤◌, ◌-◌, [], ℕ, Some, None, IfOk, IfSome, IsSome, OnErr, IsTrue, IsFalse, take, drop, replicate, length, slice_index, slice_index_or, if◌then◌else◌};
-ghost use Rattle.sb1.specs.Superblock.{superblock_in, sb_of, is_valid};
-ghost use Rattle.bank.specs.Given.{sizes};
-ghost use Rattle.bank.specs.Tape.{contents};
-ghost use Rattle.sb1.specs.declared.sb.Sb.{Sb};
+ghost use Rattle.superblocks.specs.sb1_Superblock.{superblock_in, sb_of, is_valid};
+ghost use Rattle.superblocks.specs.bank_Given.{sizes};
+ghost use Rattle.superblocks.specs.bank_Tape.{contents};
+ghost use Rattle.superblocks.specs.sb1_the_Sb.{Sb};
 ghost use Rattle.superblocks.specs.Reading.{is_backup};
 ghost use Rattle.superblocks.specs.Writing.{IsMember, AreWritable};
 ghost use Rattle.superblocks.specs.Found.{IsInSectors, AreInSectors};
 ghost use Rattle.superblocks.specs.Election.{members_scope, seen_superblocks, IsCausedBy, OnlyMembersFail, AreLost};
 
-use bank::{Bank, BankFault};
-use sb1::{Sb, decode};
 use std::alloc::{AllocError, Global};
-use superblocks::SbList;
+use superblocks::{Bank, BankFault, Sb, SbList, decode};
 
 // The superblock in two sectors.
 fn decoded(sectors: &[u8; 1024]) -> Option<Sb>

@@ -13,11 +13,11 @@ use Rattle.md_base.specs.Sectors.{Sector}
 use Rattle.md_base.specs.Shapes.{has_slot, is_multiple}
 use Rattle.md_base.specs.Search.{tabulate}
 use Rattle.md_base.proofs.Tabulated.{length-tabulate, get_or-tabulate}
-use Rattle.sb1.specs.declared.sb.Sb.{Sb}
-use Rattle.sb1.specs.Features.{refused_bits}
-use Rattle.sb1.specs.Superblock.{superblock_in}
+use Rattle.superblock_reads.specs.sb1_the_Sb.{Sb}
+use Rattle.superblock_reads.specs.sb1_Features.{refused_bits}
+use Rattle.superblock_reads.specs.sb1_Superblock.{superblock_in}
 use Rattle.bank.specs.Tape.{Contents}
-use Rattle.layout.specs.Layout.{place, row_roles}
+use Rattle.superblock_reads.specs.layout_Layout.{place, row_roles}
 use Rattle.parity.specs.Parity.{fill}
 use Rattle.superblock_reads.specs.superblocks_Reading.{Scope, Reading, reading, superblocks, seen_superblock, of_array, is_backup, role_state, rows_held, holder, own_of, data_offset_of, next_window, list_length, is_reshaping}
 use Rattle.superblock_reads.specs.superblocks_Verdict.{first_of_all, members_missing, unsupported, bad_field, first_bad_entry, fresh_from, two_holders, shared_dev, dirty_degraded, off_unit, judged_fields, unit_of, members_refusal}

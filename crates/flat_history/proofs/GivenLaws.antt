@@ -8,8 +8,8 @@ use Rattle.md_base.specs.declared.status.Role.TheVariants.{Whole, Recovering, Mi
 use Rattle.md_base.specs.Search.{tabulate}
 use Rattle.md_base.specs.Shapes.{has_slot}
 use Rattle.md_base.proofs.Tabulated.{length-tabulate, get_or-tabulate}
-use Rattle.sb1.specs.declared.sb.Sb.{Sb}
-use Rattle.sb1.specs.Superblock.{superblock_in}
+use Rattle.superblock_reads.specs.sb1_the_Sb.{Sb}
+use Rattle.superblock_reads.specs.sb1_Superblock.{superblock_in}
 use Rattle.bank.specs.Tape.{Contents}
 use Rattle.superblock_reads.specs.superblocks_Reading.{Scope, Reading, reading, reading_by, newest_of, superblocks, of_array, seen_superblock, is_seen, is_recovering, holds_role, holder_from, state_of, role_state, role_count, holder, next_window, list_length}
 use Rattle.backup.specs.Section.{has_section, section_sector}

@@ -6,17 +6,17 @@ use Rattle.std.specs.Option.{option_or, option_map_or}
 use Rattle.std.proofs.lemmas.Bool.{eqb-true}
 use Rattle.std.proofs.lemmas.Bool.Decides.{nat_tests}
 use Rattle.std.proofs.Math.Nat.{div-mul_cancel, dvd-mul_left}
-use Rattle.md_base.specs.declared.answers.Refusal.{Refusal}
-use Rattle.md_base.specs.declared.answers.Refusal.TheVariants.{NoSuperblock, Unsupported, BadField, TwoHolders, MembersMissing, DirtyDegraded, PositionNotOnUnit, BackupAbsent}
-use Rattle.md_base.specs.declared.places.Shape.{Shape}
-use Rattle.md_base.specs.declared.status.Role.{Role}
-use Rattle.md_base.specs.Search.{tabulate, least_below}
-use Rattle.md_base.specs.Shapes.{has_slot, tolerance, is_multiple}
-use Rattle.sb1.specs.declared.sb.Sb.{Sb}
-use Rattle.sb1.specs.Features.{refused_bits}
-use Rattle.sb1.specs.Superblock.{superblock_in}
-use Rattle.bank.specs.Given.{Sizes}
-use Rattle.bank.specs.Tape.{Contents}
+use Rattle.array_kept.specs.md_base_the_Refusal.{Refusal}
+use Rattle.array_kept.specs.md_base_the_Refusal_TheVariants.{NoSuperblock, Unsupported, BadField, TwoHolders, MembersMissing, DirtyDegraded, PositionNotOnUnit, BackupAbsent}
+use Rattle.array_kept.specs.md_base_the_Shape.{Shape}
+use Rattle.array_kept.specs.md_base_the_Role.{Role}
+use Rattle.array_kept.specs.md_base_Search.{tabulate, least_below}
+use Rattle.array_kept.specs.md_base_Shapes.{has_slot, tolerance, is_multiple}
+use Rattle.array_kept.specs.sb1_the_Sb.{Sb}
+use Rattle.array_kept.specs.sb1_Features.{refused_bits}
+use Rattle.array_kept.specs.sb1_Superblock.{superblock_in}
+use Rattle.array_kept.specs.bank_Given.{Sizes}
+use Rattle.array_kept.specs.bank_Tape.{Contents}
 use Rattle.array_kept.specs.superblocks_Election.{seen_superblocks}
 use Rattle.array_kept.specs.superblocks_Reading.{Scope, Reading, reading, reading_of, of_array, superblocks, seen_superblock, is_seen, is_backup, is_reshaping, is_clean, list_length, shapes_in_force, role_count}
 use Rattle.array_kept.specs.superblocks_Verdict.{unit_of, members_refusal, first_of_all, fresh_from, unsupported, bad_field, judged_fields, first_bad_entry, two_holders, shared_dev, members_missing, missing_count, too_many, dirty_degraded, holds_data, off_unit}

@@ -4,11 +4,11 @@ use Rattle.std.specs.Prelude.{◌^◌, find}
 use Rattle.std.specs.Int.{bit_at}
 use Rattle.std.proofs.lemmas.Bool.{leb-true, eqb-true}
 use Rattle.std.proofs.lemmas.Bool.Decides.{nat_tests}
-use Rattle.md_base.specs.declared.places.Shape.{Shape}
-use Rattle.md_base.specs.Shapes.{is_multiple}
-use Rattle.sb1.specs.declared.sb.Sb.{Sb}
-use Rattle.bank.specs.Given.{sizes}
-use Rattle.geometry.specs.Geometry.{is_size}
+use Rattle.array_kept.specs.md_base_the_Shape.{Shape}
+use Rattle.array_kept.specs.md_base_Shapes.{is_multiple}
+use Rattle.array_kept.specs.sb1_the_Sb.{Sb}
+use Rattle.array_kept.specs.bank_Given.{sizes}
+use Rattle.array_kept.specs.geometry_Geometry.{is_size}
 use Rattle.array_kept.specs.superblocks_Reading.{is_reshaping, is_negative, is_zero, count_of, shape_of, final_shape, list_length}
 use Rattle.array_kept.specs.superblocks_Election.{reading_in}
 use Rattle.array_kept.specs.superblocks_Verdict.{fresh_from, bad_field, judged_fields, is_bad_size, off_unit, AreValidShapes}

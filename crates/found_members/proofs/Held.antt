@@ -2,15 +2,15 @@
 use Rattle.std.proofs.Common.{◌≡◌, ℕ, ◌<◌, Bool, true, false, cond, not, ◌||◌, ◌&&◌, nat_lt, nat_le, List, [], ◌∷◌, ◌++◌, get_or, Option, Some, None, refl, sym, ◌∙◌, ap, ap₂, subst, inl, inr}
 use Rattle.std.specs.Option.{option_or, option_map_or}
 use Rattle.std.proofs.lemmas.List.{get_or-take}
-use Rattle.md_base.specs.declared.answers.Refusal.{Refusal}
-use Rattle.md_base.specs.declared.answers.Refusal.TheVariants.{NoSuperblock}
-use Rattle.md_base.specs.Sectors.{Sector}
-use Rattle.md_base.specs.Shapes.{has_slot}
-use Rattle.md_base.proofs.Tabulated.{get_or-tabulate}
-use Rattle.sb1.specs.declared.sb.Sb.{Sb}
-use Rattle.sb1.specs.Superblock.{is_valid, sb_of}
-use Rattle.bank.specs.Given.{Given}
-use Rattle.bank.specs.Tape.{Contents, IsIn}
+use Rattle.array_kept.specs.md_base_the_Refusal.{Refusal}
+use Rattle.array_kept.specs.md_base_the_Refusal_TheVariants.{NoSuperblock}
+use Rattle.array_kept.specs.md_base_Sectors.{Sector}
+use Rattle.array_kept.specs.md_base_Shapes.{has_slot}
+use Rattle.array_kept.proofs.md_base_Tabulated.{get_or-tabulate}
+use Rattle.array_kept.specs.sb1_the_Sb.{Sb}
+use Rattle.array_kept.specs.sb1_Superblock.{is_valid, sb_of}
+use Rattle.array_kept.specs.bank_Given.{Given}
+use Rattle.array_kept.specs.bank_Tape.{Contents, IsIn}
 use Rattle.array_kept.specs.superblocks_the_Members.{Members}
 use Rattle.array_kept.specs.superblocks_Reading.{Scope, Reading, reading, reading_by, superblocks, newest_of, is_seen, is_backup, of_array}
 use Rattle.array_kept.specs.superblocks_Verdict.{members_refusal}

@@ -6,14 +6,14 @@ use Rattle.std.proofs.lemmas.Bool.{cases_lt}
 use Rattle.std.proofs.lemmas.Bool.Decides.{nat_tests}
 use Rattle.std.proofs.lemmas.List.{get_or-take, get_or_past, length-take}
 use Rattle.std.proofs.lemmas.List.Folds.{list_any-append}
-use Rattle.md_base.specs.declared.status.Role.{Role}
-use Rattle.md_base.specs.declared.status.Role.TheVariants.{Whole, Recovering, Missing}
-use Rattle.md_base.specs.declared.answers.Refusal.TheVariants.{NoSuperblock}
-use Rattle.md_base.specs.Shapes.{has_slot}
-use Rattle.md_base.specs.Search.{tabulate}
-use Rattle.md_base.proofs.Tabulated.{length-tabulate, get_or-tabulate}
-use Rattle.sb1.specs.declared.sb.Sb.{Sb}
-use Rattle.bank.specs.Given.{Given, sizes}
+use Rattle.array_kept.specs.md_base_the_Role.{Role}
+use Rattle.array_kept.specs.md_base_the_Role_TheVariants.{Whole, Recovering, Missing}
+use Rattle.array_kept.specs.md_base_the_Refusal_TheVariants.{NoSuperblock}
+use Rattle.array_kept.specs.md_base_Shapes.{has_slot}
+use Rattle.array_kept.specs.md_base_Search.{tabulate}
+use Rattle.array_kept.proofs.md_base_Tabulated.{length-tabulate, get_or-tabulate}
+use Rattle.array_kept.specs.sb1_the_Sb.{Sb}
+use Rattle.array_kept.specs.bank_Given.{Given, sizes}
 use Rattle.array_kept.specs.superblocks_the_Members.{Members}
 use Rattle.array_kept.specs.superblocks_Reading.{Reading, reading_by, newest_of, holder_from, spares_from, holds_role, state_of, is_fresh, is_spare, is_recovering, lies_within, entry_of, role_count, role_state, holder, data_offset_of}
 use Rattle.array_kept.specs.superblocks_Verdict.{members_refusal}

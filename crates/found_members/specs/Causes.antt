@@ -1,10 +1,10 @@
 -- Why a stored reshape is refused: its position isn't on the unit, or its backup isn't there.
 use Rattle.std.specs.Prelude.{◌≡◌, ◌≢◌, ℕ, ◌+◌, ◌<◌, true, false, Some, None}
 use Rattle.std.specs.Int.{◌∣◌}
-use Rattle.md_base.specs.declared.answers.Refusal.TheVariants.{PositionNotOnUnit, BackupAbsent}
-use Rattle.md_base.specs.Shapes.{has_slot}
-use Rattle.sb1.specs.declared.sb.Sb.{Sb}
-use Rattle.bank.specs.Tape.{Contents}
+use Rattle.array_kept.specs.md_base_the_Refusal_TheVariants.{PositionNotOnUnit, BackupAbsent}
+use Rattle.array_kept.specs.md_base_Shapes.{has_slot}
+use Rattle.array_kept.specs.sb1_the_Sb.{Sb}
+use Rattle.array_kept.specs.bank_Tape.{Contents}
 use Rattle.array_kept.specs.superblocks_Election.{seen_superblocks}
 use Rattle.array_kept.specs.superblocks_Reading.{Scope, Reading, reading, is_backup, is_reshaping, list_length}
 use Rattle.array_kept.specs.superblocks_Verdict.{unit_of, members_refusal}

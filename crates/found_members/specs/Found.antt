@@ -1,9 +1,9 @@
 -- Members that an election found in the slots of a bank, where nothing was refused.
 use Rattle.std.specs.Prelude.{◌≡◌, ℕ, ◌^◌, ◌<◌, ◌≤◌, nat_lt, not, ◌&&◌, true, [], ◌∷◌, take, Some, None}
-use Rattle.md_base.specs.Shapes.{has_slot}
-use Rattle.sb1.specs.declared.sb.Sb.{Sb}
-use Rattle.bank.specs.Given.{Given, sizes}
-use Rattle.bank.specs.Tape.{Contents}
+use Rattle.array_kept.specs.md_base_Shapes.{has_slot}
+use Rattle.array_kept.specs.sb1_the_Sb.{Sb}
+use Rattle.array_kept.specs.bank_Given.{Given, sizes}
+use Rattle.array_kept.specs.bank_Tape.{Contents}
 use Rattle.array_kept.specs.superblocks_the_Members.{Members}
 use Rattle.array_kept.specs.superblocks_Reading.{Scope, reading}
 use Rattle.array_kept.specs.superblocks_Election.{reading_in, IsElected}

@@ -1,7 +1,7 @@
 -- What an election that refuses nothing says of members, in a reshape or not.
 use Rattle.std.specs.Prelude.{◌≡◌, ℕ, true, List, Option}
-use Rattle.bank.specs.Given.{Given, sizes}
-use Rattle.bank.specs.Tape.{Contents}
+use Rattle.array_kept.specs.bank_Given.{Given, sizes}
+use Rattle.array_kept.specs.bank_Tape.{Contents}
 use Rattle.array_kept.specs.superblocks_the_Members.{Members}
 use Rattle.array_kept.specs.superblocks_Election.{reading_in}
 use Rattle.array_kept.specs.superblocks_Reading.{Scope, is_reshaping}

@@ -4,16 +4,16 @@ use Rattle.std.specs.Prelude.{MatchOption, ◌↔◌, ⊤}
 use Rattle.std.specs.Option.{option_or}
 use Rattle.std.proofs.lemmas.Bool.{cases_lt}
 use Rattle.std.proofs.lemmas.Bool.Decides.{nat_tests}
-use Rattle.md_base.specs.declared.wishes.Wish.{Wish}
-use Rattle.md_base.specs.declared.answers.ShapeField.{ShapeField}
-use Rattle.md_base.specs.declared.answers.Refusal.{Refusal}
-use Rattle.md_base.specs.declared.answers.Refusal.TheVariants.{Busy, Degraded, SameShape, BadShape, SizeNotMultiple, NeedSpares, NeedBackup, BackupTooSmall, ArraySizeFirst, Nothing}
-use Rattle.md_base.specs.declared.answers.BusyKind.{BusyKind}
-use Rattle.md_base.specs.declared.answers.BusyKind.TheVariants.{Reshape, Resync, Rebuild, Plan}
-use Rattle.superblocks.specs.Reading.{is_reshaping, shape_of}
+use Rattle.flat_history.specs.md_base_the_Wish.{Wish}
+use Rattle.flat_history.specs.md_base_the_ShapeField.{ShapeField}
+use Rattle.flat_history.specs.md_base_the_Refusal.{Refusal}
+use Rattle.flat_history.specs.md_base_the_Refusal_TheVariants.{Busy, Degraded, SameShape, BadShape, SizeNotMultiple, NeedSpares, NeedBackup, BackupTooSmall, ArraySizeFirst, Nothing}
+use Rattle.flat_history.specs.md_base_the_BusyKind.{BusyKind}
+use Rattle.flat_history.specs.md_base_the_BusyKind_TheVariants.{Reshape, Resync, Rebuild, Plan}
+use Rattle.row_io.specs.superblocks_Reading.{is_reshaping, shape_of}
 use Rattle.row_io.specs.Rows.{reading_of}
-use Rattle.grow_plan.specs.Plans.{is_same, bad_shape, target}
-use Rattle.md_base.specs.Shapes.{is_multiple}
+use Rattle.flat_history.specs.grow_plan_Plans.{is_same, bad_shape, target}
+use Rattle.flat_history.specs.md_base_Shapes.{is_multiple}
 use Rattle.flat_history.specs.Fits.{is_rebuildable}
 use Rattle.grow_asked.specs.Asked.{Asked, lowest_missing, refusal_for, roles_for, window_for, least_for, IsUngrowable, order, IsFirst, busy_kind, backup_refusal, lacking_refusal, grow_refusal}
 

@@ -3,17 +3,17 @@ use Rattle.std.proofs.Common.{◌≡◌, ◌⊎◌, inl, inr, ℕ, zero, suc, �
 use Rattle.std.specs.Prelude.{IfSome, IsSome, MatchBool, ⊤}
 use Rattle.std.specs.Option.{option_or, option_map_or}
 use Rattle.std.specs.List.{list_any}
-use Rattle.md_base.specs.Search.{least_below}
-use Rattle.md_base.specs.declared.places.Shape.{Shape}
-use Rattle.md_base.specs.declared.status.Role.{Role}
-use Rattle.md_base.specs.declared.wishes.Wish.{Wish}
-use Rattle.md_base.specs.declared.answers.Refusal.{Refusal}
-use Rattle.md_base.specs.declared.answers.Refusal.TheVariants.{Busy, Degraded, SameShape, BadShape, SizeNotMultiple, NeedSpares, NeedBackup, BackupTooSmall, ArraySizeFirst}
-use Rattle.md_base.specs.declared.answers.BusyKind.TheVariants.{Reshape, Resync, Rebuild, Plan}
-use Rattle.superblocks.specs.declared.members.Members.{Members}
-use Rattle.superblocks.specs.Reading.{Reading, is_reshaping, role_count, shape_of}
+use Rattle.flat_history.specs.md_base_Search.{least_below}
+use Rattle.flat_history.specs.md_base_the_Shape.{Shape}
+use Rattle.flat_history.specs.md_base_the_Role.{Role}
+use Rattle.flat_history.specs.md_base_the_Wish.{Wish}
+use Rattle.flat_history.specs.md_base_the_Refusal.{Refusal}
+use Rattle.flat_history.specs.md_base_the_Refusal_TheVariants.{Busy, Degraded, SameShape, BadShape, SizeNotMultiple, NeedSpares, NeedBackup, BackupTooSmall, ArraySizeFirst}
+use Rattle.flat_history.specs.md_base_the_BusyKind_TheVariants.{Reshape, Resync, Rebuild, Plan}
+use Rattle.row_io.specs.superblocks_the_Members.{Members}
+use Rattle.row_io.specs.superblocks_Reading.{Reading, is_reshaping, role_count, shape_of}
 use Rattle.row_io.specs.Rows.{reading_of, is_missing}
-use Rattle.grow_plan.specs.Plans.{phases, plan_refusal, largest_window, least_data, new_roles, phases_steps}
+use Rattle.flat_history.specs.grow_plan_Plans.{phases, plan_refusal, largest_window, least_data, new_roles, phases_steps}
 use Rattle.flat_history.specs.World.{World, reading_at}
 use Rattle.flat_history.specs.Legal.{known_left, is_free_step}
 use Rattle.flat_history.specs.Fits.{slot_length, is_rebuildable, is_missing_role, is_recovering_role, IfShape}

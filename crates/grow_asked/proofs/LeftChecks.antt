@@ -1,8 +1,8 @@
 -- What is left at the steps of two reshapes, computed: four disks of level 5 to five, chunk 8, over 128 rows and over 40.
 use Rattle.std.proofs.Common.{true, ◌≡◌, ℕ, [], refl}
 use Rattle.std.specs.Prelude.{pos}
-use Rattle.md_base.specs.Search.{least_below}
-use Rattle.sb1.specs.declared.sb.Sb.{Sb}
+use Rattle.flat_history.specs.md_base_Search.{least_below}
+use Rattle.flat_history.specs.sb1_the_Sb.{Sb}
 use Rattle.grow_asked.specs.declared.window.Window.TheVariants.{Closed, Entered, Unsure}
 use Rattle.grow_asked.specs.Left.{grow_left}
 

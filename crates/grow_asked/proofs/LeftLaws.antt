@@ -2,17 +2,17 @@
 use Rattle.std.proofs.Common.{◌≡◌, ℕ, ◌+◌, ◌-◌, ◌*◌, ◌/◌, ◌^◌, ◌==◌, ◌<◌, ◌≤◌, Bool, true, false, cond, nat_lt, nat_le, min, List, ◌∷◌, Option, Some, None, unwrap_or, sym, ap, subst, ◌∙◌, zero-add, arith}
 use Rattle.std.specs.Prelude.{MatchOption}
 use Rattle.std.proofs.lemmas.Bool.{cond-true, cond-false}
-use Rattle.md_base.specs.declared.places.Shape.{Shape}
-use Rattle.md_base.specs.declared.places.Span.{Span}
-use Rattle.md_base.specs.declared.wishes.Phase.{Phase}
-use Rattle.md_base.specs.declared.wishes.Phase.TheVariants.{Reshape, UpTo6, DownTo5}
-use Rattle.md_base.specs.Shapes.{data_disks}
-use Rattle.sb1.specs.declared.sb.Sb.{Sb}
-use Rattle.geometry.specs.Geometry.{list_end, unit, window, window_steps, steps_of, beyond}
-use Rattle.geometry.proofs.GoingOn.{steps_fall}
-use Rattle.geometry.proofs.Valid.{bounded_pair}
-use Rattle.grow_plan.specs.Plans.{phases_steps}
-use Rattle.superblocks.specs.Reading.{is_reshaping, is_backward, shape_of, final_shape, next_window}
+use Rattle.flat_history.specs.md_base_the_Shape.{Shape}
+use Rattle.flat_history.specs.md_base_the_Span.{Span}
+use Rattle.flat_history.specs.md_base_the_Phase.{Phase}
+use Rattle.flat_history.specs.md_base_the_Phase_TheVariants.{Reshape, UpTo6, DownTo5}
+use Rattle.flat_history.specs.md_base_Shapes.{data_disks}
+use Rattle.flat_history.specs.sb1_the_Sb.{Sb}
+use Rattle.flat_history.specs.geometry_Geometry.{list_end, unit, window, window_steps, steps_of, beyond}
+use Rattle.flat_history.proofs.geometry_GoingOn.{steps_fall}
+use Rattle.flat_history.proofs.geometry_Valid.{bounded_pair}
+use Rattle.flat_history.specs.grow_plan_Plans.{phases_steps}
+use Rattle.row_io.specs.superblocks_Reading.{is_reshaping, is_backward, shape_of, final_shape, next_window}
 use Rattle.grow_asked.specs.declared.window.Window.{Window}
 use Rattle.grow_asked.specs.declared.window.Window.TheVariants.{Closed, Entered}
 use Rattle.grow_asked.specs.Left.{steps_from, stripes_in, zeroed_by, reshape_left, grow_left, IsReshapeUnderWay, IsPast, BeginningTakesOne, EnteringTakesOne, CopyingTakesOne, RecordingTakesOne, FinishingTakesTheRest, ZeroingTakesOne, EndingTakesOne, TakingUpTakesOne, TakingDownTakesOne, BoundariesAreCounted}

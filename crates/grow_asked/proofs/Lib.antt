@@ -3,3 +3,19 @@ pub mod FitLaws
 pub mod LeftChecks
 pub mod LeftLaws
 pub mod PlanLaws
+pub use Rattle.flat_history.proofs.OneShapeReplies as flat_history_OneShapeReplies
+pub use Rattle.flat_history.proofs.backup_StoringLaws
+pub use Rattle.flat_history.proofs.bank_Causes
+pub use Rattle.flat_history.proofs.bank_Laws
+pub use Rattle.flat_history.proofs.bank_Marks
+pub use Rattle.flat_history.proofs.bank_Whole
+pub use Rattle.flat_history.proofs.geometry_ClosedForms
+pub use Rattle.flat_history.proofs.geometry_Divisions
+pub use Rattle.flat_history.proofs.geometry_GoingOn
+pub use Rattle.flat_history.proofs.geometry_Rows
+pub use Rattle.flat_history.proofs.geometry_Valid
+pub use Rattle.flat_history.proofs.grow_plan_Sound
+pub use Rattle.flat_history.proofs.layout_Places
+pub use Rattle.flat_history.proofs.parity_Columns
+pub use Rattle.flat_history.proofs.parity_OwnFills
+pub use Rattle.flat_history.proofs.parity_Refilled

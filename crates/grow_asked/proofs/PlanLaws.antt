@@ -3,16 +3,16 @@ use Rattle.std.proofs.Common.{◌≡◌, ℕ, ◌^◌, ◌≤◌, true, List, []
 use Rattle.std.specs.Prelude.{IsTrue}
 use Rattle.std.proofs.lemmas.Bool.{and_parts}
 use Rattle.std.proofs.lemmas.Bool.Decides.{nat_tests}
-use Rattle.md_base.specs.declared.places.Shape.{Shape}
-use Rattle.md_base.specs.declared.wishes.Phase.{Phase}
-use Rattle.md_base.specs.declared.wishes.Phase.TheVariants.{Reshape, UpTo6, DownTo5}
-use Rattle.md_base.specs.Shapes.{is_valid_shape, is_disk_count}
-use Rattle.sb1.specs.declared.sb.Sb.{Sb}
-use Rattle.geometry.specs.Geometry.{AreInForce}
-use Rattle.geometry.proofs.Valid.{bounded_pair}
-use Rattle.superblocks.specs.Reading.{role_count, shape_of, final_shape}
-use Rattle.superblocks.specs.Verdict.{AreValidShapes}
-use Rattle.grow_plan.specs.Plans.{AreSound, phase_shape, phase_window, largest_window}
+use Rattle.flat_history.specs.md_base_the_Shape.{Shape}
+use Rattle.flat_history.specs.md_base_the_Phase.{Phase}
+use Rattle.flat_history.specs.md_base_the_Phase_TheVariants.{Reshape, UpTo6, DownTo5}
+use Rattle.flat_history.specs.md_base_Shapes.{is_valid_shape, is_disk_count}
+use Rattle.flat_history.specs.sb1_the_Sb.{Sb}
+use Rattle.flat_history.specs.geometry_Geometry.{AreInForce}
+use Rattle.flat_history.proofs.geometry_Valid.{bounded_pair}
+use Rattle.row_io.specs.superblocks_Reading.{role_count, shape_of, final_shape}
+use Rattle.flat_history.specs.superblocks_Verdict.{AreValidShapes}
+use Rattle.flat_history.specs.grow_plan_Plans.{AreSound, phase_shape, phase_window, largest_window}
 
 window-short : (now : Shape) (size : ℕ) (phase : Phase) → AreInForce now (phase_shape phase) size → phase_window now size phase ≤ 2 ^ 53
 window-short now size (Reshape to) force = let b = (bounded_pair now to size force).short_list in omega (arith, b)

@@ -1,16 +1,16 @@
 -- Why an array doesn't grow as it is wished: what its members and its work say against it, in order.
 use Rattle.std.specs.Prelude.{◌≡◌, ℕ, ◌+◌, ◌*◌, ◌<◌, nat_lt, if◌then◌else◌, [], ◌∷◌, length, Option, Some, None, option_map, is_some, IsTrue, IsSome}
-use Rattle.md_base.specs.Search.{least_below}
-use Rattle.md_base.specs.declared.wishes.Wish.{Wish}
-use Rattle.md_base.specs.declared.answers.Refusal.{Refusal}
-use Rattle.md_base.specs.declared.answers.Refusal.TheVariants.{Busy, Degraded, SameShape, BadShape, SizeNotMultiple, NeedSpares, NeedBackup, BackupTooSmall, ArraySizeFirst}
-use Rattle.md_base.specs.declared.answers.BusyKind.{BusyKind}
-use Rattle.md_base.specs.declared.answers.BusyKind.TheVariants.{Reshape, Resync, Rebuild, Plan}
-use Rattle.superblocks.specs.declared.members.Members.{Members}
-use Rattle.superblocks.specs.Reading.{is_reshaping, role_count, shape_of}
-use Rattle.superblocks.specs.Verdict.{first_of_all}
+use Rattle.flat_history.specs.md_base_Search.{least_below}
+use Rattle.flat_history.specs.md_base_the_Wish.{Wish}
+use Rattle.flat_history.specs.md_base_the_Refusal.{Refusal}
+use Rattle.flat_history.specs.md_base_the_Refusal_TheVariants.{Busy, Degraded, SameShape, BadShape, SizeNotMultiple, NeedSpares, NeedBackup, BackupTooSmall, ArraySizeFirst}
+use Rattle.flat_history.specs.md_base_the_BusyKind.{BusyKind}
+use Rattle.flat_history.specs.md_base_the_BusyKind_TheVariants.{Reshape, Resync, Rebuild, Plan}
+use Rattle.row_io.specs.superblocks_the_Members.{Members}
+use Rattle.row_io.specs.superblocks_Reading.{is_reshaping, role_count, shape_of}
+use Rattle.flat_history.specs.superblocks_Verdict.{first_of_all}
 use Rattle.row_io.specs.Rows.{reading_of, is_missing}
-use Rattle.grow_plan.specs.Plans.{phases, plan_refusal, largest_window, least_data, new_roles}
+use Rattle.flat_history.specs.grow_plan_Plans.{phases, plan_refusal, largest_window, least_data, new_roles}
 use Rattle.flat_history.specs.Fits.{is_rebuildable}
 
 -- What is asked to grow: the members of an array, the stripes that a pending resync has mended, how many phases of a plan haven't ended, how many sectors can

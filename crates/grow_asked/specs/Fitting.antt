@@ -1,12 +1,12 @@
 -- Why the answer to a request to grow fits it, over a bank that tells its contents.
 use Rattle.std.specs.Prelude.{◌≡◌, ℕ, ◌<◌, true, false, List, Some, None, option_map, is_some, IsTrue, ◌+◌, IfSome}
-use Rattle.md_base.specs.declared.wishes.Wish.{Wish}
-use Rattle.md_base.specs.declared.answers.Refusal.{Refusal}
-use Rattle.sb1.specs.declared.sb.Sb.{Sb}
-use Rattle.superblocks.specs.declared.members.Members.{Members}
-use Rattle.superblocks.specs.Reading.{Reading, is_reshaping, role_count, shape_of}
+use Rattle.flat_history.specs.md_base_the_Wish.{Wish}
+use Rattle.flat_history.specs.md_base_the_Refusal.{Refusal}
+use Rattle.flat_history.specs.sb1_the_Sb.{Sb}
+use Rattle.row_io.specs.superblocks_the_Members.{Members}
+use Rattle.row_io.specs.superblocks_Reading.{Reading, is_reshaping, role_count, shape_of}
 use Rattle.row_io.specs.Rows.{reading_of, is_missing}
-use Rattle.grow_plan.specs.Plans.{phases, phases_steps}
+use Rattle.flat_history.specs.grow_plan_Plans.{phases, phases_steps}
 use Rattle.flat_history.specs.declared.events.Entry.{Entry}
 use Rattle.flat_history.specs.declared.events.Event.TheVariants.{Planned}
 use Rattle.flat_history.specs.declared.events.Request.TheVariants.{Grow as AsksGrow}

@@ -2,20 +2,17 @@
 
 ghost use Rattle.std.specs.Prelude.{◌≡◌, ◌≤◌, ◌^◌, ◌↔◌, length, IsTrue};
 ghost use Rattle.std.specs.List.{list_any};
-ghost use Rattle.md_base.specs.declared.answers.Refusal.{Refusal};
-ghost use Rattle.superblocks.specs.Reading.{shape_of, role_count};
-ghost use Rattle.superblocks.specs.Verdict.{AreValidShapes};
-ghost use Rattle.geometry.specs.Geometry.{is_size};
+ghost use Rattle.flat_history.specs.md_base_the_Refusal.{Refusal};
+ghost use Rattle.row_io.specs.superblocks_Reading.{shape_of, role_count};
+ghost use Rattle.flat_history.specs.superblocks_Verdict.{AreValidShapes};
+ghost use Rattle.flat_history.specs.geometry_Geometry.{is_size};
 ghost use Rattle.row_io.specs.Rows.{reading_of};
 ghost use Rattle.flat_history.specs.Fits.{is_missing_role, is_recovering_role, is_rebuildable};
 ghost use Rattle.grow_asked.specs.Asked.{asked_of, refusal_for, busy_kind, lowest_missing, backup_refusal, lacking_refusal, grow_refusal, IsFirst, IsUngrowable};
 
 use crate::shapes::shape_in;
-use grow_plan::plan;
-use md_base::{BusyKind, Plan, Refusal, Role, Wish};
-use row_io::is_missing;
-use superblocks::Members;
-use superblocks::says::is_reshaping;
+use flat_history::{BusyKind, Plan, Refusal, Role, Wish, plan};
+use row_io::{Members, is_missing, is_reshaping};
 
 fn is_recovering_role(role: Role) -> bool
     ensures { result ≡ is_recovering_role role }

@@ -1,18 +1,16 @@
 //! The steps that are left of a reshape and of the phases behind it.
 
 ghost use Rattle.std.specs.Prelude.{◌≡◌, ◌≤◌, ◌^◌, IsTrue};
-ghost use Rattle.md_base.specs.Shapes.{is_valid_shape};
-ghost use Rattle.geometry.specs.Geometry.{stripes};
-ghost use Rattle.grow_plan.specs.Plans.{AreSound, phases_steps};
-ghost use Rattle.superblocks.specs.Reading.{next_window};
+ghost use Rattle.flat_history.specs.md_base_Shapes.{is_valid_shape};
+ghost use Rattle.flat_history.specs.geometry_Geometry.{stripes};
+ghost use Rattle.flat_history.specs.grow_plan_Plans.{AreSound, phases_steps};
+ghost use Rattle.row_io.specs.superblocks_Reading.{next_window};
 ghost use Rattle.grow_asked.specs.Left.{reshape_left, stripes_in, phases_of, zeroed_by, IsReshapeUnderWay, IsWindowRight};
 
 use crate::shapes::{final_in, is_backward, shape_in};
 use crate::window::{PhasesLeft, Window};
-use geometry::{steps_of, stripe_sectors, window};
-use grow_plan::{phase_shape, phase_steps};
-use md_base::{Shape, Span};
-use superblocks::Members;
+use flat_history::{Shape, Span, phase_shape, phase_steps, steps_of, stripe_sectors, window};
+use row_io::Members;
 
 // The stripes of a shape that a span touches.
 fn stripes(shape: &Shape, span: &Span) -> u64

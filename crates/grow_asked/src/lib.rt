@@ -9,7 +9,12 @@ pub mod planning;
 pub mod shapes;
 pub mod window;
 
+pub use flat_history::{
+    Entries, Epoch, Event, LostCause, Refusal, SectionFault, Shape, StepKind, clear_section,
+    find_section, is_critical, list_end, stripe_sectors, write_section,
+};
 pub use judging::judge_grow;
 pub use left::{planned_left, reshape_left};
 pub use planning::{GrowPlan, plan_of};
+pub use row_io::{Bank, BankFault, Members, is_reshaping, lose_slots, with};
 pub use window::{PhasesLeft, Window};

@@ -2,18 +2,17 @@
 
 ghost use Rattle.std.specs.Prelude.{◌≡◌, ◌∷◌, IsTrue};
 ghost use Rattle.std.specs.Option.{option_to_list};
-ghost use Rattle.md_base.specs.declared.wishes.Phase.{Phase};
-ghost use Rattle.md_base.specs.Shapes.{is_valid_shape};
-ghost use Rattle.superblocks.specs.Reading.{shape_of};
-ghost use Rattle.geometry.specs.Geometry.{is_size};
-ghost use Rattle.grow_plan.specs.Plans.{phases, plan_refusal, largest_window, phases_steps, AreSound};
+ghost use Rattle.flat_history.specs.md_base_the_Phase.{Phase};
+ghost use Rattle.flat_history.specs.md_base_Shapes.{is_valid_shape};
+ghost use Rattle.row_io.specs.superblocks_Reading.{shape_of};
+ghost use Rattle.flat_history.specs.geometry_Geometry.{is_size};
+ghost use Rattle.flat_history.specs.grow_plan_Plans.{phases, plan_refusal, largest_window, phases_steps, AreSound};
 ghost use Rattle.grow_asked.specs.Left.{phases_of};
 
 use crate::shapes::shape_in;
 use crate::window::PhasesLeft;
-use grow_plan::{plan, plan_steps};
-use md_base::{Phase, Wish};
-use superblocks::Members;
+use flat_history::{Phase, Wish, plan, plan_steps};
+use row_io::Members;
 
 /// One phase or two, the largest window of them in sectors, and their steps.
 #[derive(Clone, Copy, Debug, PartialEq, Eq)]

@@ -2,12 +2,11 @@
 
 ghost use Rattle.std.specs.Prelude.{◌≡◌, ◌==◌, IsTrue};
 ghost use Rattle.std.specs.Int.{bit_at};
-ghost use Rattle.md_base.specs.Shapes.{is_valid_shape};
-ghost use Rattle.superblocks.specs.Reading.{shape_of, final_shape, is_negative, is_zero, is_backward};
+ghost use Rattle.flat_history.specs.md_base_Shapes.{is_valid_shape};
+ghost use Rattle.row_io.specs.superblocks_Reading.{shape_of, final_shape, is_negative, is_zero, is_backward};
 
-use md_base::Shape;
-use sb1::{Features, Sb};
-use superblocks::says::{shape_of, target_of};
+use flat_history::Shape;
+use row_io::{Features, Sb, shape_of, target_of};
 
 /// The shape of the array.
 pub fn shape_in(newest: &Sb) -> Shape

@@ -1,6 +1,6 @@
 //! How far a plan has come, beside what the superblocks say of it.
 
-use md_base::{Phase, Span};
+use flat_history::{Phase, Span};
 
 /// The window of a reshape: none is open; or one is entered, so that its sectors are in the buffer, with so many of its stripes
 /// copied, and perhaps with its section stored in the backup; or the backup failed when that was to be named, so that a stop may

@@ -3,10 +3,10 @@ use Rattle.std.proofs.Common.{◌≡◌, ℕ, Bool, true, false, not, ◌||◌, 
 use Rattle.std.specs.Prelude.{IsTrue, ◌==◌}
 use Rattle.std.proofs.lemmas.Bool.{cases_Bool, and_parts, eqb-true, cond-true, cond-false, not_from_true, not_from_false}
 use Rattle.std.proofs.lemmas.Bool.Decides.{nat_tests}
-use Rattle.md_base.specs.declared.places.Shape.{Shape}
-use Rattle.md_base.specs.declared.wishes.Phase.TheVariants.{Reshape, UpTo6, DownTo5}
-use Rattle.md_base.specs.declared.answers.ShapeField.TheVariants.{Level, Layout, Chunk, Disks}
-use Rattle.md_base.specs.Shapes.{is_level, is_layout, is_chunk, is_disk_count, is_valid_shape}
+use Rattle.geometry.specs.md_base_the_Shape.{Shape}
+use Rattle.geometry.specs.md_base_the_Phase_TheVariants.{Reshape, UpTo6, DownTo5}
+use Rattle.geometry.specs.md_base_the_ShapeField_TheVariants.{Level, Layout, Chunk, Disks}
+use Rattle.geometry.specs.md_base_Shapes.{is_level, is_layout, is_chunk, is_disk_count, is_valid_shape}
 use Rattle.grow_plan.specs.Plans.{is_same_shape, as_six, taken_up, before_down, reshape_unless_same, phases_to, some_shape, bad_field, has_bad_disks}
 
 pub same_shape : (a b : Shape) → is_same_shape a b ≡ true → a ≡ b

@@ -3,11 +3,11 @@ use Rattle.std.proofs.Common.{◌≡◌, ℕ, ◌<◌, ◌^◌, Bool, true, fals
 use Rattle.std.specs.Prelude.{IsTrue, ◌==◌}
 use Rattle.std.proofs.lemmas.Bool.{cases_Bool, and_parts, and_from, or_parts, eqb-true, cond-true, cond-false}
 use Rattle.std.proofs.lemmas.Bool.Decides.{nat_tests}
-use Rattle.md_base.specs.declared.places.Shape.{Shape}
-use Rattle.md_base.specs.declared.wishes.Wish.{Wish}
-use Rattle.md_base.specs.declared.wishes.Phase.{Phase}
-use Rattle.md_base.specs.declared.wishes.Phase.TheVariants.{Reshape, DownTo5}
-use Rattle.md_base.specs.Shapes.{is_level, is_layout, is_chunk, is_disk_count, is_valid_shape, is_multiple}
+use Rattle.geometry.specs.md_base_the_Shape.{Shape}
+use Rattle.geometry.specs.md_base_the_Wish.{Wish}
+use Rattle.geometry.specs.md_base_the_Phase.{Phase}
+use Rattle.geometry.specs.md_base_the_Phase_TheVariants.{Reshape, DownTo5}
+use Rattle.geometry.specs.md_base_Shapes.{is_level, is_layout, is_chunk, is_disk_count, is_valid_shape, is_multiple}
 use Rattle.geometry.specs.Geometry.{AreInForce, is_size}
 use Rattle.grow_plan.specs.Plans.{is_same_shape, taken_up, before_down, phases_to, some_shape, target, wished_level, bad_field, phases, last_shape, AreSound}
 use Rattle.grow_plan.proofs.Judged.{IsGood, good_from, same_shape, phases_same, phases_up, phases_down, valid_parts, six_layout, five_of, now_five, not_not}

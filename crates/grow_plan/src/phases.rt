@@ -6,8 +6,7 @@ ghost use Rattle.geometry.specs.Geometry.{AreInForce};
 ghost use Rattle.grow_plan.specs.Plans.{phase_shape, phase_window, phase_steps, phases_steps, plan_phases, AreSound, most_disks, largest_window, least_data};
 
 use geometry::steps::reshape_steps;
-use geometry::{list_end, unit};
-use md_base::{Phase, Plan, Shape};
+use geometry::{Phase, Plan, Shape, list_end, unit};
 
 /// The shape that a phase leads to.
 pub fn phase_shape(phase: &Phase) -> Shape

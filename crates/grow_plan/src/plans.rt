@@ -2,14 +2,14 @@
 
 ghost use Rattle.std.specs.Prelude.{◌≡◌, ◌∷◌, ◌<◌, ◌^◌, IsTrue, IfOk};
 ghost use Rattle.std.specs.Option.{option_to_list};
-ghost use Rattle.md_base.specs.Shapes.{is_valid_shape, is_level};
+ghost use Rattle.geometry.specs.md_base_Shapes.{is_valid_shape, is_level};
 ghost use Rattle.geometry.specs.Geometry.{is_size};
 ghost use Rattle.grow_plan.specs.Plans.{IsPlan, IsPlanOf, AreSound, plan_phases, phases_to, bad_field, has_bad_disks};
 
 use crate::phases::{largest_window, least_length, most_disks};
 use crate::targets::{before_down, is_same_shape, taken_up, target, wished_level};
 use geometry::limits::{is_chunk, is_disk_count, is_layout, is_level, is_multiple};
-use md_base::{Phase, Plan, Refusal, Shape, ShapeField, Wish};
+use geometry::{Phase, Plan, Refusal, Shape, ShapeField, Wish};
 
 /// The plan of a wish on an array of this shape, with `size` rows on each member.
 ///

@@ -1,10 +1,10 @@
 //! The shape that a wish asks for in the end, and the shapes on both sides of a takeover.
 
 ghost use Rattle.std.specs.Prelude.{◌≡◌, ◌<◌, ◌^◌, IsTrue};
-ghost use Rattle.md_base.specs.Shapes.{is_valid_shape};
+ghost use Rattle.geometry.specs.md_base_Shapes.{is_valid_shape};
 ghost use Rattle.grow_plan.specs.Plans.{as_six, as_five, wished_layout, wished_level, taken_up, before_down, target, is_same_shape};
 
-use md_base::{Shape, Wish, WishedLayout};
+use geometry::{Shape, Wish, WishedLayout};
 
 /// A level 5 layout as a level 6 layout with Q on the last disk.
 pub fn as_six(layout: u32) -> u32

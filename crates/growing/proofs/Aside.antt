@@ -1,7 +1,7 @@
 -- A slot that can be the backup can be it behind each call, unless it is made a spare.
 use Rattle.std.proofs.Common.{◌≡◌, ◌≢◌, ◌⊎◌, inl, inr, ℕ, Bool, true, false, refl, sym, ◌∙◌}
-use Rattle.superblocks.specs.declared.members.Members.{Members}
-use Rattle.superblocks.specs.Reads.{has_spare}
+use Rattle.turning.specs.superblocks_the_Members.{Members}
+use Rattle.turning.specs.superblocks_Reads.{has_spare}
 use Rattle.turning.specs.views_Placed.{AreStillHeld}
 use Rattle.turning.specs.views_Rebuilding.{MayHold}
 use Rattle.running_replies.specs.array_kept_Calls.{AreSparesFewer, AreHeldOrSpare}

@@ -1,26 +1,26 @@
 -- A request to an array in a reshape is refused for that.
 use Rattle.std.proofs.Common.{◌≡◌, ◌≢◌, ℕ, Bool, true, Option, Some, List, [], ◌∷◌, ◌++◌, length, ◌∙◌, arith}
 use Rattle.std.specs.Prelude.{IsTrue}
-use Rattle.md_base.specs.declared.answers.Refusal.TheVariants.{Busy}
-use Rattle.md_base.specs.declared.answers.BusyKind.TheVariants.{Reshape}
-use Rattle.md_base.specs.declared.answers.Who.{Who}
-use Rattle.md_base.specs.declared.wishes.Wish.{Wish}
-use Rattle.bank.specs.declared.bank.Operation.{Operation}
-use Rattle.bank.specs.Given.{Given}
-use Rattle.superblocks.specs.declared.members.Members.{Members}
-use Rattle.superblocks.specs.Reading.{Scope, is_reshaping}
-use Rattle.flat_history.specs.declared.events.Entry.{Entry}
-use Rattle.flat_history.specs.declared.events.Event.TheVariants.{Refused}
-use Rattle.flat_history.specs.declared.events.Request.{Request}
-use Rattle.flat_history.specs.declared.events.Request.TheVariants.{Visible as AsksVisible, Grow as AsksGrow}
-use Rattle.flat_history.specs.Fits.{IsBusy, Fits}
-use Rattle.flat_history.specs.Flat.{next_number}
-use Rattle.flat_history.specs.Plain.{entries_of}
-use Rattle.flat_history.specs.World.{World}
-use Rattle.flat_history.proofs.OneShapeReplies.{where-asked}
-use Rattle.grow_asked.specs.Asked.{Asked, grow_refusal}
-use Rattle.grow_asked.specs.Fitting.{IsReadLike}
-use Rattle.grow_asked.proofs.FirstLaws.{judged, exactly}
+use Rattle.running_replies.specs.md_base_the_Refusal_TheVariants.{Busy}
+use Rattle.running_replies.specs.md_base_the_BusyKind_TheVariants.{Reshape}
+use Rattle.running_replies.specs.md_base_the_Who.{Who}
+use Rattle.running_replies.specs.md_base_the_Wish.{Wish}
+use Rattle.running_replies.specs.bank_the_Operation.{Operation}
+use Rattle.running_replies.specs.bank_Given.{Given}
+use Rattle.turning.specs.superblocks_the_Members.{Members}
+use Rattle.turning.specs.superblocks_Reading.{Scope, is_reshaping}
+use Rattle.running_replies.specs.flat_history_the_Entry.{Entry}
+use Rattle.running_replies.specs.flat_history_the_Event_TheVariants.{Refused}
+use Rattle.running_replies.specs.flat_history_the_Request.{Request}
+use Rattle.running_replies.specs.flat_history_the_Request_TheVariants.{Visible as AsksVisible, Grow as AsksGrow}
+use Rattle.turning.specs.flat_history_Fits.{IsBusy, Fits}
+use Rattle.running_replies.specs.flat_history_Flat.{next_number}
+use Rattle.turning.specs.flat_history_Plain.{entries_of}
+use Rattle.turning.specs.flat_history_World.{World}
+use Rattle.turning.proofs.flat_history_OneShapeReplies.{where-asked}
+use Rattle.turning.specs.grow_asked_Asked.{Asked, grow_refusal}
+use Rattle.turning.specs.grow_asked_Fitting.{IsReadLike}
+use Rattle.turning.proofs.grow_asked_FirstLaws.{judged, exactly}
 use Rattle.turning.specs.kept_history_Recorded.{entry_of}
 use Rattle.turning.proofs.kept_history_Records.{begins-going}
 use Rattle.turning.specs.course_kept_the_Course.{Course}

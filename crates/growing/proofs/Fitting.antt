@@ -3,31 +3,31 @@ use Rattle.std.proofs.Common.{◌≤◌, append-nil, ◌≡◌, ℕ, Bool, true,
 use Rattle.std.specs.Prelude.{IfSome, MatchBool, MatchOption, option_map, ⊤}
 use Rattle.std.specs.Option.{option_map_or}
 use Rattle.std.proofs.lemmas.List.Sums.{fold-append}
-use Rattle.md_base.specs.declared.answers.Refusal.{Refusal}
-use Rattle.md_base.specs.declared.answers.Who.{Who}
-use Rattle.md_base.specs.declared.places.Shape.{Shape}
-use Rattle.md_base.specs.declared.wishes.Wish.{Wish}
-use Rattle.bank.specs.declared.bank.Operation.{Operation}
-use Rattle.bank.specs.Given.{Given, Sizes, sizes}
-use Rattle.grow_plan.specs.Plans.{phases, phases_steps}
-use Rattle.superblocks.specs.declared.members.Members.{Members}
-use Rattle.superblocks.specs.Reading.{Scope, Reading, shape_of, list_length}
-use Rattle.flat_history.specs.declared.events.Entry.{Entry}
-use Rattle.flat_history.specs.declared.events.Event.{Event}
-use Rattle.flat_history.specs.declared.events.Event.TheVariants.{Planned, Refused}
-use Rattle.flat_history.specs.declared.events.Request.{Request}
-use Rattle.flat_history.specs.declared.events.Request.TheVariants.{Grow as AsksGrow}
-use Rattle.flat_history.specs.Fits.{Fits, Answers, AreTornOf, WhereAsked, is_asked, phases_after, phases_left}
-use Rattle.flat_history.specs.Growing.{EndBy}
-use Rattle.flat_history.specs.Flat.{limit_of, next_number}
-use Rattle.flat_history.specs.Plain.{entries_of}
-use Rattle.flat_history.specs.World.{World, until, reading_at, opening_list}
+use Rattle.running_replies.specs.md_base_the_Refusal.{Refusal}
+use Rattle.running_replies.specs.md_base_the_Who.{Who}
+use Rattle.running_replies.specs.md_base_the_Shape.{Shape}
+use Rattle.running_replies.specs.md_base_the_Wish.{Wish}
+use Rattle.running_replies.specs.bank_the_Operation.{Operation}
+use Rattle.running_replies.specs.bank_Given.{Given, Sizes, sizes}
+use Rattle.turning.specs.grow_plan_Plans.{phases, phases_steps}
+use Rattle.turning.specs.superblocks_the_Members.{Members}
+use Rattle.turning.specs.superblocks_Reading.{Scope, Reading, shape_of, list_length}
+use Rattle.running_replies.specs.flat_history_the_Entry.{Entry}
+use Rattle.running_replies.specs.flat_history_the_Event.{Event}
+use Rattle.running_replies.specs.flat_history_the_Event_TheVariants.{Planned, Refused}
+use Rattle.running_replies.specs.flat_history_the_Request.{Request}
+use Rattle.running_replies.specs.flat_history_the_Request_TheVariants.{Grow as AsksGrow}
+use Rattle.turning.specs.flat_history_Fits.{Fits, Answers, AreTornOf, WhereAsked, is_asked, phases_after, phases_left}
+use Rattle.running_replies.specs.flat_history_Growing.{EndBy}
+use Rattle.running_replies.specs.flat_history_Flat.{limit_of, next_number}
+use Rattle.turning.specs.flat_history_Plain.{entries_of}
+use Rattle.turning.specs.flat_history_World.{World, until, reading_at, opening_list}
 use Rattle.turning.specs.views_the_Work.{Work}
 use Rattle.running_replies.proofs.array_kept_ReplyLaws.{none_before}
-use Rattle.grow_asked.specs.Asked.{Asked, asked_of, IsFirst, IsUngrowable, grow_refusal}
-use Rattle.grow_asked.specs.Fitting.{IsToldBy, IsReadLike, SaysSameShape}
-use Rattle.grow_asked.proofs.FirstLaws.{judged}
-use Rattle.grow_asked.proofs.FitLaws.{refusals-fit, plans-fit}
+use Rattle.turning.specs.grow_asked_Asked.{Asked, asked_of, IsFirst, IsUngrowable, grow_refusal}
+use Rattle.turning.specs.grow_asked_Fitting.{IsToldBy, IsReadLike, SaysSameShape}
+use Rattle.turning.proofs.grow_asked_FirstLaws.{judged}
+use Rattle.turning.proofs.grow_asked_FitLaws.{refusals-fit, plans-fit}
 use Rattle.turning.specs.kept_history_Recorded.{entry_of}
 use Rattle.turning.specs.kept_history_Safe.{world_in, IsFilledRight}
 use Rattle.turning.proofs.kept_history_Turned.{filled-before}

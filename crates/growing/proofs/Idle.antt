@@ -3,28 +3,28 @@ use Rattle.std.proofs.Common.{◌≡◌, inl, inr, ℕ, zero, suc, ◌+◌, ◌*
 use Rattle.std.specs.Prelude.{◌⊎◌, is_some}
 use Rattle.std.specs.Option.{option_or}
 use Rattle.std.proofs.Math.Nat.{min-le_left}
-use Rattle.md_base.specs.Search.{least_below, count_below}
-use Rattle.md_base.specs.declared.answers.Refusal.{Refusal}
-use Rattle.md_base.specs.declared.answers.Refusal.TheVariants.{Busy, Degraded, PastEnd, TooManyMissing, NotResynced, NoSuchRole, NoSuchSlot, SlotTaken, SlotTooSmall, BackupFault, Nothing}
-use Rattle.md_base.specs.declared.answers.BusyKind.TheVariants.{Resync, Plan}
-use Rattle.md_base.specs.declared.places.Shape.{Shape}
-use Rattle.md_base.specs.declared.status.Role.{Role}
-use Rattle.md_base.specs.declared.status.Role.TheVariants.{Whole, Recovering, Missing}
-use Rattle.md_base.specs.declared.wishes.Phase.{Phase}
-use Rattle.md_base.specs.declared.wishes.Phase.TheVariants.{Reshape, UpTo6, DownTo5}
-use Rattle.md_base.specs.declared.wishes.Wish.{Wish}
-use Rattle.grow_plan.specs.Plans.{phases_steps, phase_steps}
-use Rattle.superblocks.specs.declared.members.Members.{Members}
-use Rattle.superblocks.specs.Reading.{is_whole, shape_of, role_count, role_state, holder}
+use Rattle.running_replies.specs.md_base_Search.{least_below, count_below}
+use Rattle.running_replies.specs.md_base_the_Refusal.{Refusal}
+use Rattle.running_replies.specs.md_base_the_Refusal_TheVariants.{Busy, Degraded, PastEnd, TooManyMissing, NotResynced, NoSuchRole, NoSuchSlot, SlotTaken, SlotTooSmall, BackupFault, Nothing}
+use Rattle.running_replies.specs.md_base_the_BusyKind_TheVariants.{Resync, Plan}
+use Rattle.running_replies.specs.md_base_the_Shape.{Shape}
+use Rattle.running_replies.specs.md_base_the_Role.{Role}
+use Rattle.running_replies.specs.md_base_the_Role_TheVariants.{Whole, Recovering, Missing}
+use Rattle.running_replies.specs.md_base_the_Phase.{Phase}
+use Rattle.running_replies.specs.md_base_the_Phase_TheVariants.{Reshape, UpTo6, DownTo5}
+use Rattle.running_replies.specs.md_base_the_Wish.{Wish}
+use Rattle.turning.specs.grow_plan_Plans.{phases_steps, phase_steps}
+use Rattle.turning.specs.superblocks_the_Members.{Members}
+use Rattle.turning.specs.superblocks_Reading.{is_whole, shape_of, role_count, role_state, holder}
 use Rattle.turning.specs.row_io_Rows.{reading_of, is_missing}
-use Rattle.flat_history.specs.declared.events.Entry.{Entry}
-use Rattle.flat_history.specs.declared.events.Event.TheVariants.{Refused}
-use Rattle.flat_history.specs.OneShape.{ShapeOpening, IsOneShapeRefusal}
+use Rattle.running_replies.specs.flat_history_the_Entry.{Entry}
+use Rattle.running_replies.specs.flat_history_the_Event_TheVariants.{Refused}
+use Rattle.running_replies.specs.flat_history_OneShape.{ShapeOpening, IsOneShapeRefusal}
 use Rattle.turning.specs.views_the_Work.{Work}
 use Rattle.turning.specs.views_Placed.{is_vacant}
 use Rattle.turning.specs.views_Status.{stripes_of, rebuilt_of, vacant_count, spare_count, resync_left, role_left, recovery_left, left_of}
-use Rattle.grow_asked.specs.Asked.{Asked, lowest_missing, IsUngrowable, grow_refusal}
-use Rattle.grow_asked.proofs.FirstLaws.{judged, none-exactly}
+use Rattle.turning.specs.grow_asked_Asked.{Asked, lowest_missing, IsUngrowable, grow_refusal}
+use Rattle.turning.proofs.grow_asked_FirstLaws.{judged, none-exactly}
 use Rattle.turning.specs.still_kept_Still.{AreNoneMissing}
 use Rattle.turning.specs.still_laws_Plain.{MayTellPlainly}
 use Rattle.turning.proofs.still_kept_Refusals.{IsRefusedStill}

@@ -3,24 +3,24 @@ use Rattle.std.proofs.Common.{◌≡◌, ◌≢◌, inl, inr, ℕ, ◌+◌, ◌*
 use Rattle.std.specs.Prelude.{Bool, true, false, nat_lt, if◌then◌else◌, IfSome, IfOk, Result, Ok, Err, option_map}
 use Rattle.std.proofs.lemmas.Bool.{cases_lt}
 use Rattle.std.proofs.lemmas.Bool.Decides.{nat_tests}
-use Rattle.md_base.specs.declared.answers.Refusal.TheVariants.{NeedBackup, BackupTooSmall}
-use Rattle.md_base.specs.declared.answers.Who.{Who}
-use Rattle.md_base.specs.declared.wishes.Wish.{Wish}
-use Rattle.bank.specs.declared.bank.Operation.{Operation}
-use Rattle.bank.specs.Given.{Given, sizes}
-use Rattle.grow_plan.specs.Plans.{AreSound}
-use Rattle.superblocks.specs.declared.members.Members.{Members}
-use Rattle.superblocks.specs.Reading.{Scope, shape_of, list_length}
-use Rattle.flat_history.specs.declared.events.Entry.{Entry}
-use Rattle.flat_history.specs.declared.events.Event.TheVariants.{Planned}
-use Rattle.flat_history.specs.Flat.{next_number}
-use Rattle.flat_history.specs.Plain.{entries_of}
+use Rattle.running_replies.specs.md_base_the_Refusal_TheVariants.{NeedBackup, BackupTooSmall}
+use Rattle.running_replies.specs.md_base_the_Who.{Who}
+use Rattle.running_replies.specs.md_base_the_Wish.{Wish}
+use Rattle.running_replies.specs.bank_the_Operation.{Operation}
+use Rattle.running_replies.specs.bank_Given.{Given, sizes}
+use Rattle.turning.specs.grow_plan_Plans.{AreSound}
+use Rattle.turning.specs.superblocks_the_Members.{Members}
+use Rattle.turning.specs.superblocks_Reading.{Scope, shape_of, list_length}
+use Rattle.running_replies.specs.flat_history_the_Entry.{Entry}
+use Rattle.running_replies.specs.flat_history_the_Event_TheVariants.{Planned}
+use Rattle.running_replies.specs.flat_history_Flat.{next_number}
+use Rattle.turning.specs.flat_history_Plain.{entries_of}
 use Rattle.turning.specs.views_the_Work.{Work}
-use Rattle.call_entries.proofs.LeftLaws.{fold-left}
+use Rattle.running_replies.proofs.call_entries_LeftLaws.{fold-left}
 use Rattle.running_replies.proofs.array_kept_NowLaws.{length-more}
-use Rattle.grow_asked.specs.declared.window.PhasesLeft.{PhasesLeft}
-use Rattle.grow_asked.specs.Asked.{Asked, window_for, grow_refusal}
-use Rattle.grow_asked.specs.Left.{phases_of}
+use Rattle.turning.specs.grow_asked_the_PhasesLeft.{PhasesLeft}
+use Rattle.turning.specs.grow_asked_Asked.{Asked, window_for, grow_refusal}
+use Rattle.turning.specs.grow_asked_Left.{phases_of}
 use Rattle.turning.proofs.kept_history_Records.{begins-going}
 use Rattle.turning.specs.still_kept_Still.{IsStill}
 use Rattle.turning.proofs.still_kept_Resting.{resting-stands}

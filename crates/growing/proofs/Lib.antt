@@ -22,7 +22,7 @@ pub use Rattle.running_replies.proofs.array_kept_ReadyLaws
 pub use Rattle.running_replies.proofs.array_kept_ReplyLaws
 pub use Rattle.running_replies.proofs.calls_kept_AdoptingLaws
 pub use Rattle.running_replies.proofs.reshape_updates_NewRoles
-pub use Rattle.call_entries.proofs.LosingLaws as call_entries_LosingLaws
+pub use Rattle.running_replies.proofs.call_entries_LosingLaws
 pub use Rattle.turning.proofs.views_Fit
 pub use Rattle.turning.proofs.views_LackingLaws
 pub use Rattle.turning.proofs.views_MovedLaws
@@ -32,8 +32,8 @@ pub use Rattle.turning.proofs.kept_history_Growing
 pub use Rattle.turning.proofs.shape_changes_Without
 pub use Rattle.turning.proofs.shape_views_Headers
 pub use Rattle.turning.proofs.shape_views_Alike
-pub use Rattle.call_entries.proofs.PlainLaws as call_entries_PlainLaws
-pub use Rattle.call_entries.proofs.CallLaws as call_entries_CallLaws
+pub use Rattle.running_replies.proofs.call_entries_PlainLaws
+pub use Rattle.running_replies.proofs.call_entries_CallLaws
 pub use Rattle.turning.proofs.shape_changes_PlannedRoles
 pub use Rattle.turning.proofs.shape_views_Stands
 pub use Rattle.turning.proofs.kept_history_Opened
@@ -45,3 +45,5 @@ pub use Rattle.turning.proofs.history_laws_OneShapeGrowing
 pub use Rattle.turning.proofs.history_laws_ReshapedLaws
 pub use Rattle.turning.proofs.history_laws_GrowingLaws
 mod Parted
+pub use Rattle.running_replies.proofs.bank_Causes
+pub use Rattle.running_replies.proofs.md_base_Tabulated

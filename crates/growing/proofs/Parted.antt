@@ -1,12 +1,12 @@
 -- What is told of an array by its parts is told of the array, and of one that is as it was.
 use Rattle.std.proofs.Common.{◌≡◌, true, false, Bool, ℕ, ◌*◌, ◌<◌, ◌≤◌, Some, List, refl, sym, ◌∙◌, ap, subst, arith}
 use Rattle.std.specs.Prelude.{IfSome}
-use Rattle.md_base.specs.declared.answers.Who.{Who}
-use Rattle.md_base.specs.declared.wishes.Wish.{Wish}
-use Rattle.bank.specs.declared.bank.Operation.{Operation}
-use Rattle.bank.specs.Given.{Given}
-use Rattle.flat_history.specs.declared.events.Event.{Event}
-use Rattle.flat_history.specs.Flat.{next_number}
+use Rattle.running_replies.specs.md_base_the_Who.{Who}
+use Rattle.running_replies.specs.md_base_the_Wish.{Wish}
+use Rattle.running_replies.specs.bank_the_Operation.{Operation}
+use Rattle.running_replies.specs.bank_Given.{Given}
+use Rattle.running_replies.specs.flat_history_the_Event.{Event}
+use Rattle.running_replies.specs.flat_history_Flat.{next_number}
 use Rattle.turning.specs.running_words_Parts.{RunningParts}
 use Rattle.turning.specs.running_words_Calls.{moving_world}
 use Rattle.growing.specs.Planned.{asked_in, IsAsBefore, IsGrowReply}

@@ -4,22 +4,22 @@ use Rattle.std.specs.Prelude.{option_map}
 use Rattle.std.specs.List.{All}
 use Rattle.std.proofs.lemmas.List.Elements.{All-nil, All-cons}
 use Rattle.std.proofs.lemmas.List.Sums.{fold-append}
-use Rattle.md_base.specs.declared.answers.Who.{Who}
-use Rattle.md_base.specs.declared.places.Shape.{Shape}
-use Rattle.md_base.specs.declared.wishes.Phase.{Phase}
-use Rattle.md_base.specs.declared.wishes.Phase.TheVariants.{Reshape}
-use Rattle.md_base.specs.declared.wishes.Wish.{Wish}
-use Rattle.bank.specs.declared.bank.Operation.{Operation}
-use Rattle.bank.specs.Given.{Given}
-use Rattle.grow_plan.specs.Plans.{phases, phase_window, largest_window, last_shape, target}
-use Rattle.grow_plan.proofs.Sound.{phases_lead}
-use Rattle.superblocks.specs.declared.members.Members.{Members}
-use Rattle.superblocks.specs.Reading.{Scope, Reading, shape_of}
-use Rattle.flat_history.specs.declared.events.Entry.{Entry}
-use Rattle.flat_history.specs.declared.events.Event.TheVariants.{Planned}
-use Rattle.flat_history.specs.Plain.{entries_of}
-use Rattle.flat_history.specs.Reshaped.{plans_after, open_plans, planned_shape}
-use Rattle.flat_history.specs.World.{reading_at}
+use Rattle.running_replies.specs.md_base_the_Who.{Who}
+use Rattle.running_replies.specs.md_base_the_Shape.{Shape}
+use Rattle.running_replies.specs.md_base_the_Phase.{Phase}
+use Rattle.running_replies.specs.md_base_the_Phase_TheVariants.{Reshape}
+use Rattle.running_replies.specs.md_base_the_Wish.{Wish}
+use Rattle.running_replies.specs.bank_the_Operation.{Operation}
+use Rattle.running_replies.specs.bank_Given.{Given}
+use Rattle.turning.specs.grow_plan_Plans.{phases, phase_window, largest_window, last_shape, target}
+use Rattle.turning.proofs.grow_plan_Sound.{phases_lead}
+use Rattle.turning.specs.superblocks_the_Members.{Members}
+use Rattle.turning.specs.superblocks_Reading.{Scope, Reading, shape_of}
+use Rattle.running_replies.specs.flat_history_the_Entry.{Entry}
+use Rattle.running_replies.specs.flat_history_the_Event_TheVariants.{Planned}
+use Rattle.turning.specs.flat_history_Plain.{entries_of}
+use Rattle.turning.specs.flat_history_Reshaped.{plans_after, open_plans, planned_shape}
+use Rattle.turning.specs.flat_history_World.{reading_at}
 use Rattle.turning.specs.views_the_Work.{Work}
 use Rattle.turning.specs.kept_history_Recorded.{entry_of}
 use Rattle.turning.specs.kept_history_Safe.{world_in}

@@ -1,21 +1,21 @@
 -- What stored superblocks say of an array without a reshape, none of whose roles is missing: its shape and its size.
 use Rattle.std.proofs.Common.{◌≡◌, ℕ, Some, List, length, sym, ◌∙◌, ap, arith}
-use Rattle.layout.proofs.Limits.{limited}
-use Rattle.bank.specs.declared.bank.Operation.{Operation}
-use Rattle.bank.specs.Given.{Given}
-use Rattle.sb1.specs.declared.sb.Sb.{Sb}
-use Rattle.superblocks.specs.declared.members.Members.{Members}
-use Rattle.superblocks.specs.Reading.{Scope, Reading, is_reshaping, shape_of}
+use Rattle.turning.proofs.layout_Limits.{limited}
+use Rattle.running_replies.specs.bank_the_Operation.{Operation}
+use Rattle.running_replies.specs.bank_Given.{Given}
+use Rattle.turning.specs.sb1_the_Sb.{Sb}
+use Rattle.turning.specs.superblocks_the_Members.{Members}
+use Rattle.turning.specs.superblocks_Reading.{Scope, Reading, is_reshaping, shape_of}
 use Rattle.turning.specs.row_io_Rows.{present}
-use Rattle.flat_history.specs.declared.events.Entry.{Entry}
-use Rattle.flat_history.specs.World.{reading_at}
+use Rattle.running_replies.specs.flat_history_the_Entry.{Entry}
+use Rattle.turning.specs.flat_history_World.{reading_at}
 use Rattle.turning.proofs.shape_views_Alike.{shape-alike}
 use Rattle.turning.specs.shape_changes_Safety.{HasLiveSlot}
 use Rattle.turning.proofs.shape_changes_Steady.{held-read}
 use Rattle.turning.specs.views_the_Work.{Work}
 use Rattle.turning.proofs.views_LiveLeft.{holder-left, left-steady}
 use Rattle.turning.proofs.views_MemberLaws.{holder-is}
-use Rattle.grow_asked.specs.Fitting.{SaysSameShape}
+use Rattle.turning.specs.grow_asked_Fitting.{SaysSameShape}
 use Rattle.turning.specs.kept_history_Safe.{world_in}
 use Rattle.turning.proofs.kept_history_Lengths.{now-drawn}
 use Rattle.running_replies.specs.history_calls_Reliable.{IsReliable}

@@ -3,36 +3,36 @@ use Rattle.std.proofs.Common.{◌≡◌, inl, ℕ, ◌||◌, nat_lt, Bool, true,
 use Rattle.std.proofs.lemmas.List.Elements.{All-nil, All-cons}
 use Rattle.std.specs.Prelude.{if◌then◌else◌}
 use Rattle.std.specs.Option.{option_map_or}
-use Rattle.md_base.specs.declared.answers.BusyKind.TheVariants.{Reshape, Plan}
-use Rattle.md_base.specs.declared.answers.Fault.{Fault}
-use Rattle.md_base.specs.declared.answers.Fault.TheVariants.{Refused as IsRefusedWith, NoMemory}
-use Rattle.md_base.specs.declared.answers.Refusal.{Refusal}
-use Rattle.md_base.specs.declared.answers.Refusal.TheVariants.{Busy, Degraded, SameShape, BadShape, SizeNotMultiple, NeedSpares, NeedBackup, BackupTooSmall, ArraySizeFirst, BackupFault, SlotFault, PastSize}
-use Rattle.md_base.specs.declared.answers.Who.{Who}
-use Rattle.md_base.specs.declared.wishes.Wish.{Wish}
-use Rattle.bank.specs.declared.bank.Operation.{Operation}
-use Rattle.bank.specs.Given.{Given}
-use Rattle.superblocks.specs.declared.members.Members.{Members}
-use Rattle.superblocks.specs.Reading.{is_reshaping, list_length}
-use Rattle.superblocks.specs.Reads.{has_spare}
-use Rattle.flat_history.specs.declared.events.Entry.{Entry}
-use Rattle.flat_history.specs.declared.events.Event.{Event}
-use Rattle.flat_history.specs.declared.events.Event.TheVariants.{Visible, Planned, Refused}
-use Rattle.flat_history.specs.declared.events.Request.{Request}
-use Rattle.flat_history.specs.declared.events.Request.TheVariants.{Visible as AsksVisible, Grow as AsksGrow}
-use Rattle.flat_history.specs.Fits.{AreTornOf}
-use Rattle.flat_history.specs.Flat.{next_number, length_of, visible_of, length_after}
-use Rattle.flat_history.specs.Legal.{MayBeInner}
-use Rattle.flat_history.specs.OneShape.{IsOfCall}
-use Rattle.flat_history.specs.Plain.{entries_of}
-use Rattle.flat_history.specs.Reshaped.{is_planned}
-use Rattle.flat_history.specs.World.{World}
+use Rattle.running_replies.specs.md_base_the_BusyKind_TheVariants.{Reshape, Plan}
+use Rattle.running_replies.specs.md_base_the_Fault.{Fault}
+use Rattle.running_replies.specs.md_base_the_Fault_TheVariants.{Refused as IsRefusedWith, NoMemory}
+use Rattle.running_replies.specs.md_base_the_Refusal.{Refusal}
+use Rattle.running_replies.specs.md_base_the_Refusal_TheVariants.{Busy, Degraded, SameShape, BadShape, SizeNotMultiple, NeedSpares, NeedBackup, BackupTooSmall, ArraySizeFirst, BackupFault, SlotFault, PastSize}
+use Rattle.running_replies.specs.md_base_the_Who.{Who}
+use Rattle.running_replies.specs.md_base_the_Wish.{Wish}
+use Rattle.running_replies.specs.bank_the_Operation.{Operation}
+use Rattle.running_replies.specs.bank_Given.{Given}
+use Rattle.turning.specs.superblocks_the_Members.{Members}
+use Rattle.turning.specs.superblocks_Reading.{is_reshaping, list_length}
+use Rattle.turning.specs.superblocks_Reads.{has_spare}
+use Rattle.running_replies.specs.flat_history_the_Entry.{Entry}
+use Rattle.running_replies.specs.flat_history_the_Event.{Event}
+use Rattle.running_replies.specs.flat_history_the_Event_TheVariants.{Visible, Planned, Refused}
+use Rattle.running_replies.specs.flat_history_the_Request.{Request}
+use Rattle.running_replies.specs.flat_history_the_Request_TheVariants.{Visible as AsksVisible, Grow as AsksGrow}
+use Rattle.turning.specs.flat_history_Fits.{AreTornOf}
+use Rattle.running_replies.specs.flat_history_Flat.{next_number, length_of, visible_of, length_after}
+use Rattle.running_replies.specs.flat_history_Legal.{MayBeInner}
+use Rattle.running_replies.specs.flat_history_OneShape.{IsOfCall}
+use Rattle.turning.specs.flat_history_Plain.{entries_of}
+use Rattle.turning.specs.flat_history_Reshaped.{is_planned}
+use Rattle.turning.specs.flat_history_World.{World}
 use Rattle.turning.specs.views_Rebuilding.{Held}
 use Rattle.running_replies.specs.array_kept_Calls.{IsLossBy}
 use Rattle.running_replies.proofs.array_kept_ReplyLaws.{none_before}
-use Rattle.grow_asked.specs.Asked.{Asked, IsUngrowable}
-use Rattle.grow_asked.specs.Left.{phases_of}
-use Rattle.grow_asked.specs.declared.window.PhasesLeft.{PhasesLeft}
+use Rattle.turning.specs.grow_asked_Asked.{Asked, IsUngrowable}
+use Rattle.turning.specs.grow_asked_Left.{phases_of}
+use Rattle.turning.specs.grow_asked_the_PhasesLeft.{PhasesLeft}
 use Rattle.turning.specs.kept_history_Recorded.{entry_of}
 use Rattle.turning.specs.running_words_Parts.{RunningParts}
 use Rattle.running_replies.specs.running_words_Visible.{visible_refusal, IsVisibleJudged}

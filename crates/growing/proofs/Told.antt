@@ -1,18 +1,18 @@
 -- What is told of arrays that are known by their parts.
 use Rattle.std.proofs.Common.{◌≡◌, ℕ, Option, List, [], length, sym, subst}
-use Rattle.md_base.specs.declared.answers.Refusal.{Refusal}
-use Rattle.md_base.specs.declared.answers.Who.{Who}
-use Rattle.md_base.specs.declared.wishes.Wish.{Wish}
-use Rattle.bank.specs.declared.bank.Operation.{Operation}
-use Rattle.bank.specs.Given.{Given}
-use Rattle.superblocks.specs.Reading.{list_length}
-use Rattle.flat_history.specs.declared.events.Event.{Event}
-use Rattle.flat_history.specs.declared.events.Request.{Request}
-use Rattle.flat_history.specs.Flat.{visible_of}
-use Rattle.flat_history.specs.Reshaped.{open_plans}
+use Rattle.running_replies.specs.md_base_the_Refusal.{Refusal}
+use Rattle.running_replies.specs.md_base_the_Who.{Who}
+use Rattle.running_replies.specs.md_base_the_Wish.{Wish}
+use Rattle.running_replies.specs.bank_the_Operation.{Operation}
+use Rattle.running_replies.specs.bank_Given.{Given}
+use Rattle.turning.specs.superblocks_Reading.{list_length}
+use Rattle.running_replies.specs.flat_history_the_Event.{Event}
+use Rattle.running_replies.specs.flat_history_the_Request.{Request}
+use Rattle.running_replies.specs.flat_history_Flat.{visible_of}
+use Rattle.turning.specs.flat_history_Reshaped.{open_plans}
 use Rattle.running_replies.specs.array_kept_Calls.{IsEndOf}
-use Rattle.grow_asked.specs.Asked.{grow_refusal}
-use Rattle.grow_asked.specs.Left.{phases_of}
+use Rattle.turning.specs.grow_asked_Asked.{grow_refusal}
+use Rattle.turning.specs.grow_asked_Left.{phases_of}
 use Rattle.turning.specs.running_words_Parts.{RunningParts, visible_in, still_left}
 use Rattle.turning.specs.running_words_Calls.{moving_world}
 use Rattle.growing.specs.Planned.{asked_in, IsReplyTo, IsGrowReply, IsGrowPlanned}

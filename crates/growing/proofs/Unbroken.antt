@@ -5,23 +5,23 @@ use Rattle.std.specs.List.{list_any, All}
 use Rattle.std.proofs.lemmas.Bool.Decides.{nat_tests}
 use Rattle.std.proofs.lemmas.List.Elements.{All-nil, All-cons, All-head, All-tail, All-append}
 use Rattle.std.proofs.lemmas.List.Folds.{list_any-append}
-use Rattle.md_base.specs.declared.answers.Who.{Who}
-use Rattle.bank.specs.declared.bank.Operation.{Operation}
-use Rattle.bank.specs.Tape.{Contents}
-use Rattle.flat_history.specs.declared.events.Entry.{Entry}
-use Rattle.flat_history.specs.declared.events.Event.{Event}
-use Rattle.flat_history.specs.declared.events.Event.TheVariants.{Lost, SpareLost, Rebuilt, Resized, Step}
-use Rattle.flat_history.specs.declared.events.LostCause.TheVariants.{Fault}
-use Rattle.flat_history.specs.declared.events.StepKind.{StepKind}
-use Rattle.flat_history.specs.declared.events.StepKind.TheVariants.{RebuildEnded}
-use Rattle.flat_history.specs.Growing.{grown, EndBy}
-use Rattle.flat_history.specs.OneShape.{IsOfCall}
-use Rattle.flat_history.specs.Plain.{entries_of}
-use Rattle.flat_history.specs.Reshaped.{is_done}
-use Rattle.flat_history.specs.Stands.{stands}
-use Rattle.flat_history.specs.World.{World}
-use Rattle.call_entries.specs.Losing.{losses_of}
-use Rattle.call_entries.proofs.CallLaws.{AreLossEvents, losses-are}
+use Rattle.running_replies.specs.md_base_the_Who.{Who}
+use Rattle.running_replies.specs.bank_the_Operation.{Operation}
+use Rattle.running_replies.specs.bank_Tape.{Contents}
+use Rattle.running_replies.specs.flat_history_the_Entry.{Entry}
+use Rattle.running_replies.specs.flat_history_the_Event.{Event}
+use Rattle.running_replies.specs.flat_history_the_Event_TheVariants.{Lost, SpareLost, Rebuilt, Resized, Step}
+use Rattle.turning.specs.flat_history_the_LostCause_TheVariants.{Fault}
+use Rattle.turning.specs.flat_history_the_StepKind.{StepKind}
+use Rattle.turning.specs.flat_history_the_StepKind_TheVariants.{RebuildEnded}
+use Rattle.running_replies.specs.flat_history_Growing.{grown, EndBy}
+use Rattle.running_replies.specs.flat_history_OneShape.{IsOfCall}
+use Rattle.turning.specs.flat_history_Plain.{entries_of}
+use Rattle.turning.specs.flat_history_Reshaped.{is_done}
+use Rattle.turning.specs.flat_history_Stands.{stands}
+use Rattle.turning.specs.flat_history_World.{World}
+use Rattle.running_replies.specs.call_entries_Losing.{losses_of}
+use Rattle.running_replies.proofs.call_entries_CallLaws.{AreLossEvents, losses-are}
 use Rattle.turning.specs.kept_history_Recorded.{entry_of, IsCallGoing, MayGoOn, IsLengthKept, IsOpenBehind}
 use Rattle.turning.proofs.kept_history_Growing.{contents-grown}
 use Rattle.running_replies.specs.history_calls_Reliable.{IsReliable}

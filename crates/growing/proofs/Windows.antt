@@ -2,12 +2,12 @@
 use Rattle.std.proofs.Common.{◌≡◌, ℕ, ◌*◌, ◌<◌, ◌≤◌, true, min, arith}
 use Rattle.std.proofs.lemmas.Bool.{and_parts, leb-true}
 use Rattle.std.proofs.lemmas.Nat.{mul-le}
-use Rattle.md_base.specs.Shapes.{data_disks}
-use Rattle.md_base.specs.declared.places.Shape.{Shape}
-use Rattle.md_base.specs.declared.wishes.Phase.TheVariants.{Reshape}
-use Rattle.geometry.specs.Geometry.{AreInForce, is_size}
-use Rattle.geometry.proofs.Valid.{bounded, bounded_pair}
-use Rattle.grow_plan.specs.Plans.{phase_window}
+use Rattle.running_replies.specs.md_base_Shapes.{data_disks}
+use Rattle.running_replies.specs.md_base_the_Shape.{Shape}
+use Rattle.running_replies.specs.md_base_the_Phase_TheVariants.{Reshape}
+use Rattle.turning.specs.geometry_Geometry.{AreInForce, is_size}
+use Rattle.turning.proofs.geometry_Valid.{bounded, bounded_pair}
+use Rattle.turning.specs.grow_plan_Plans.{phase_window}
 
 some-size : (size chunk : ℕ) → is_size size chunk ≡ true → 1 ≤ size
 some-size size chunk is = leb-true 1 size (and_parts _ _ (and_parts _ _ is).0).0

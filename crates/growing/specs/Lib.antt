@@ -42,7 +42,7 @@ pub use Rattle.running_replies.specs.reshape_ends_Begun
 pub use Rattle.running_replies.specs.reshape_updates_Beginning
 pub use Rattle.running_replies.specs.safe_updates_First
 pub use Rattle.running_replies.specs.safe_updates_Unused
-pub use Rattle.call_entries.specs.Losing as call_entries_Losing
+pub use Rattle.running_replies.specs.call_entries_Losing
 pub use Rattle.turning.specs.views_Placed
 pub use Rattle.turning.specs.views_Lacking
 pub use Rattle.turning.specs.views_Moving
@@ -54,3 +54,20 @@ pub use Rattle.turning.specs.kept_history_Safe
 pub use Rattle.turning.specs.shape_changes_Marking
 pub use Rattle.turning.specs.shape_views_Regions
 pub use Rattle.turning.specs.row_io_Rows
+pub use Rattle.running_replies.specs.bank_Given
+pub use Rattle.running_replies.specs.bank_the_Operation
+pub use Rattle.running_replies.specs.md_base_Search
+pub use Rattle.running_replies.specs.md_base_Sectors
+pub use Rattle.running_replies.specs.md_base_Shapes
+pub use Rattle.running_replies.specs.md_base_the_Fault
+pub use Rattle.running_replies.specs.md_base_the_Fault_TheVariants
+pub use Rattle.running_replies.specs.md_base_the_NoMemory
+pub use Rattle.running_replies.specs.md_base_the_Phase
+pub use Rattle.running_replies.specs.md_base_the_Phase_TheVariants
+pub use Rattle.running_replies.specs.md_base_the_Refusal
+pub use Rattle.running_replies.specs.md_base_the_Refusal_TheVariants
+pub use Rattle.running_replies.specs.md_base_the_Role
+pub use Rattle.running_replies.specs.md_base_the_Role_TheVariants
+pub use Rattle.running_replies.specs.md_base_the_Shape
+pub use Rattle.running_replies.specs.md_base_the_Status
+pub use Rattle.running_replies.specs.md_base_the_Who

@@ -1,26 +1,26 @@
 -- A request to grow an array: what is asked, what is answered, and what a plan leaves.
 use Rattle.std.specs.Prelude.{◌≡◌, ℕ, ◌+◌, ◌<◌, ◌≤◌, ◌++◌, List, [], ◌∷◌, length, Option, Some, None, option_map, Result, Ok, Err, ⊤}
-use Rattle.md_base.specs.declared.answers.Fault.{Fault}
-use Rattle.md_base.specs.declared.answers.Fault.TheVariants.{Refused as IsRefusedWith, NoMemory}
-use Rattle.md_base.specs.declared.answers.Refusal.{Refusal}
-use Rattle.md_base.specs.declared.answers.Who.{Who}
-use Rattle.md_base.specs.declared.wishes.Wish.{Wish}
-use Rattle.bank.specs.Given.{Given, sizes}
-use Rattle.grow_plan.specs.Plans.{phases, phases_steps, largest_window, AreSound}
-use Rattle.superblocks.specs.declared.members.Members.{Members}
-use Rattle.superblocks.specs.Reading.{shape_of}
-use Rattle.flat_history.specs.declared.events.Entry.{Entry}
-use Rattle.flat_history.specs.declared.events.Event.{Event}
-use Rattle.flat_history.specs.declared.events.Event.TheVariants.{Refused}
-use Rattle.flat_history.specs.declared.events.Request.{Request}
-use Rattle.flat_history.specs.declared.events.Request.TheVariants.{Visible as AsksVisible, Grow as AsksGrow}
-use Rattle.flat_history.specs.Fits.{Fits, WhereAsked, phases_left}
-use Rattle.flat_history.specs.Plain.{entries_of}
-use Rattle.flat_history.specs.World.{World}
+use Rattle.running_replies.specs.md_base_the_Fault.{Fault}
+use Rattle.running_replies.specs.md_base_the_Fault_TheVariants.{Refused as IsRefusedWith, NoMemory}
+use Rattle.running_replies.specs.md_base_the_Refusal.{Refusal}
+use Rattle.running_replies.specs.md_base_the_Who.{Who}
+use Rattle.running_replies.specs.md_base_the_Wish.{Wish}
+use Rattle.running_replies.specs.bank_Given.{Given, sizes}
+use Rattle.turning.specs.grow_plan_Plans.{phases, phases_steps, largest_window, AreSound}
+use Rattle.turning.specs.superblocks_the_Members.{Members}
+use Rattle.turning.specs.superblocks_Reading.{shape_of}
+use Rattle.running_replies.specs.flat_history_the_Entry.{Entry}
+use Rattle.running_replies.specs.flat_history_the_Event.{Event}
+use Rattle.running_replies.specs.flat_history_the_Event_TheVariants.{Refused}
+use Rattle.running_replies.specs.flat_history_the_Request.{Request}
+use Rattle.running_replies.specs.flat_history_the_Request_TheVariants.{Visible as AsksVisible, Grow as AsksGrow}
+use Rattle.turning.specs.flat_history_Fits.{Fits, WhereAsked, phases_left}
+use Rattle.turning.specs.flat_history_Plain.{entries_of}
+use Rattle.turning.specs.flat_history_World.{World}
 use Rattle.turning.specs.views_Status.{left_of}
-use Rattle.grow_asked.specs.Asked.{Asked, asked_of, grow_refusal}
-use Rattle.grow_asked.specs.Fitting.{IsReadLike}
-use Rattle.grow_asked.specs.Left.{phases_of}
+use Rattle.turning.specs.grow_asked_Asked.{Asked, asked_of, grow_refusal}
+use Rattle.turning.specs.grow_asked_Fitting.{IsReadLike}
+use Rattle.turning.specs.grow_asked_Left.{phases_of}
 use Rattle.turning.specs.kept_history_Recorded.{entry_of}
 use Rattle.running_replies.specs.history_calls_Reliable.{IsReliable}
 use Rattle.turning.specs.still_kept_Still.{AreNoneMissing}

@@ -1,10 +1,10 @@
 -- Where the plans of an array go behind a request to grow, and which slot can be the backup.
 use Rattle.std.specs.Prelude.{◌≡◌, true, false, ℕ, []}
-use Rattle.md_base.specs.Shapes.{has_slot}
-use Rattle.superblocks.specs.declared.members.Members.{Members}
-use Rattle.superblocks.specs.Reads.{has_spare}
-use Rattle.flat_history.specs.Reshaped.{open_plans}
-use Rattle.flat_history.specs.World.{World}
+use Rattle.running_replies.specs.md_base_Shapes.{has_slot}
+use Rattle.turning.specs.superblocks_the_Members.{Members}
+use Rattle.turning.specs.superblocks_Reads.{has_spare}
+use Rattle.turning.specs.flat_history_Reshaped.{open_plans}
+use Rattle.turning.specs.flat_history_World.{World}
 use Rattle.turning.specs.views_Rebuilding.{Held}
 use Rattle.turning.specs.running_words_Parts.{RunningParts}
 use Rattle.turning.specs.running_words_Plans.{ArePlansKept}

@@ -1,11 +1,11 @@
 -- A reply to a request to grow, as one to a running array.
 use Rattle.std.specs.Prelude.{ℕ, List, Result}
-use Rattle.md_base.specs.declared.answers.Fault.{Fault}
-use Rattle.md_base.specs.declared.answers.Who.{Who}
-use Rattle.md_base.specs.declared.wishes.Wish.{Wish}
-use Rattle.flat_history.specs.declared.events.Entry.{Entry}
-use Rattle.flat_history.specs.declared.events.Event.TheVariants.{Planned}
-use Rattle.flat_history.specs.declared.events.Request.TheVariants.{Grow as AsksGrow}
+use Rattle.running_replies.specs.md_base_the_Fault.{Fault}
+use Rattle.running_replies.specs.md_base_the_Who.{Who}
+use Rattle.running_replies.specs.md_base_the_Wish.{Wish}
+use Rattle.running_replies.specs.flat_history_the_Entry.{Entry}
+use Rattle.running_replies.specs.flat_history_the_Event_TheVariants.{Planned}
+use Rattle.running_replies.specs.flat_history_the_Request_TheVariants.{Grow as AsksGrow}
 use Rattle.running_replies.specs.Replies.{IsRepliedWith}
 
 -- the reply by the answer, with so many steps left; where memory was short, nothing was entered

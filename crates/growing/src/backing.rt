@@ -3,11 +3,8 @@
 ghost use Rattle.std.specs.Prelude.{◌≡◌, ◌<◌, ◌≤◌, ℕ, true, false, length, Some, IfSome};
 ghost use Rattle.growing.specs.Plans.{IsAside};
 
-use bank::Bank;
-use running_replies::is_spare;
-use superblocks::Members;
-use superblocks::sets::contains;
-use turning::{Still, holds_role};
+use running_replies::{Bank, is_spare};
+use turning::{Members, Still, contains, holds_role};
 
 // Whether the slot was found sound, holds no role and is no spare.
 fn is_aside(members: &Members, given: u32, slot: u32) -> bool

@@ -1,21 +1,18 @@
 //! Whether an array is planned to grow as it is wished.
 
 ghost use Rattle.std.specs.Prelude.{◌≡◌, false, length, option_map, IsTrue};
-ghost use Rattle.bank.specs.Given.{sizes};
-ghost use Rattle.geometry.specs.Geometry.{is_size};
-ghost use Rattle.superblocks.specs.Reading.{is_reshaping, shape_of, list_length, role_count};
-ghost use Rattle.superblocks.specs.Verdict.{AreValidShapes};
-ghost use Rattle.flat_history.specs.Flat.{visible_of};
-ghost use Rattle.grow_asked.specs.Asked.{asked_of, grow_refusal};
-ghost use Rattle.grow_asked.specs.Left.{phases_of};
+ghost use Rattle.running_replies.specs.bank_Given.{sizes};
+ghost use Rattle.turning.specs.geometry_Geometry.{is_size};
+ghost use Rattle.turning.specs.superblocks_Reading.{is_reshaping, shape_of, list_length, role_count};
+ghost use Rattle.turning.specs.superblocks_Verdict.{AreValidShapes};
+ghost use Rattle.running_replies.specs.flat_history_Flat.{visible_of};
+ghost use Rattle.turning.specs.grow_asked_Asked.{asked_of, grow_refusal};
+ghost use Rattle.turning.specs.grow_asked_Left.{phases_of};
 ghost use Rattle.turning.specs.running_words_Parts.{visible_in};
 ghost use Rattle.growing.specs.Planned.{asked_in};
 
-use bank::Bank;
-use grow_asked::{PhasesLeft, judge_grow};
-use md_base::{Refusal, Wish};
-use superblocks::Members;
-use turning::Still;
+use running_replies::{Bank, Refusal, Wish};
+use turning::{Members, PhasesLeft, Still, judge_grow};
 
 // How many sectors the backup slot has; none where the bank has no such slot.
 fn backup_sectors<B: Bank>(bank: &B, backup: Option<u32>) -> Option<u64>

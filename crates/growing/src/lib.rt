@@ -10,7 +10,7 @@ mod refusing;
 pub use backing::can_back;
 pub use planning::{PlannedGrow, plan_grow};
 pub use refusing::{refuse_grow, refuse_limit};
-pub use running_replies::{final_in, shape_in};
+pub use running_replies::{Bank, Fault, NoMemory, Phase, Refusal, Shape, Who, final_in, shape_in};
 pub use turning::{
     Course, Due, Moving, Opened, Room, Still, answer, begin_reshape, due_step, enter_all_absent,
     finish_reshape, first_recovering, found_numbers, list_sectors, make_room, room_for, step,

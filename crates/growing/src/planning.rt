@@ -1,27 +1,22 @@
 //! A request to grow is planned, or refused.
 
 ghost use Rattle.std.specs.Prelude.{◌≡◌, ◌≢◌, ◌*◌, ◌≤◌, None, Some, length, OnOk, OnErr, IfOk, IfErr};
-ghost use Rattle.md_base.specs.declared.answers.Fault.TheVariants.{NoMemory as WantsMemory};
-ghost use Rattle.grow_plan.specs.Plans.{largest_window, phases};
-ghost use Rattle.superblocks.specs.Reading.{shape_of, list_length};
-ghost use Rattle.flat_history.specs.Flat.{next_number, visible_of};
-ghost use Rattle.flat_history.specs.declared.events.Event.TheVariants.{Planned, Refused};
+ghost use Rattle.running_replies.specs.md_base_the_Fault_TheVariants.{NoMemory as WantsMemory};
+ghost use Rattle.turning.specs.grow_plan_Plans.{largest_window, phases};
+ghost use Rattle.turning.specs.superblocks_Reading.{shape_of, list_length};
+ghost use Rattle.running_replies.specs.flat_history_Flat.{next_number, visible_of};
+ghost use Rattle.running_replies.specs.flat_history_the_Event_TheVariants.{Planned, Refused};
 ghost use Rattle.running_replies.specs.array_kept_Calls.{OnNoMemory, IsEndOf};
-ghost use Rattle.grow_asked.specs.Asked.{grow_refusal};
-ghost use Rattle.grow_asked.specs.Left.{phases_of};
+ghost use Rattle.turning.specs.grow_asked_Asked.{grow_refusal};
+ghost use Rattle.turning.specs.grow_asked_Left.{phases_of};
 ghost use Rattle.turning.specs.running_words_Parts.{visible_in, still_left};
 ghost use Rattle.turning.specs.running_words_Calls.{moving_world};
 ghost use Rattle.growing.specs.Planned.{asked_in, IsGrowJudged, IsGrowReply, IsGrowAnswered, IsAsBefore, IsGrowPlanned};
 ghost use Rattle.growing.specs.Plans.{GoesTo};
 
 use crate::judging::judge;
-use bank::Bank;
-use call_entries::calls::{check_number, enter};
-use flat_history::Event;
-use grow_asked::plan_of;
-use grow_asked::planning::all_left;
-use md_base::{Fault, Refusal, Who, Wish};
-use turning::{Still, zeros};
+use running_replies::{Bank, Fault, Refusal, Who, Wish, check_number, enter};
+use turning::{Event, Still, all_left, plan_of, zeros};
 
 /// What a plan answers: how many steps are left, and a buffer for each of its windows.
 #[derive(Drop)]

@@ -1,26 +1,23 @@
 //! Requests to an array in a reshape that are refused for that: to grow, and to limit its list.
 
 ghost use Rattle.std.specs.Prelude.{◌≡◌, ◌≢◌, Some, length, true, IsErr, OnOk, OnErr};
-ghost use Rattle.md_base.specs.declared.answers.Refusal.TheVariants.{Busy};
-ghost use Rattle.md_base.specs.declared.answers.BusyKind.TheVariants.{Reshape};
-ghost use Rattle.superblocks.specs.Reading.{is_reshaping, list_length};
-ghost use Rattle.flat_history.specs.Flat.{next_number, visible_of};
-ghost use Rattle.flat_history.specs.declared.events.Event.TheVariants.{Refused};
-ghost use Rattle.flat_history.specs.declared.events.Request.{Request};
-ghost use Rattle.flat_history.specs.declared.events.Request.TheVariants.{Visible as AsksVisible};
+ghost use Rattle.running_replies.specs.md_base_the_Refusal_TheVariants.{Busy};
+ghost use Rattle.running_replies.specs.md_base_the_BusyKind_TheVariants.{Reshape};
+ghost use Rattle.turning.specs.superblocks_Reading.{is_reshaping, list_length};
+ghost use Rattle.running_replies.specs.flat_history_Flat.{next_number, visible_of};
+ghost use Rattle.running_replies.specs.flat_history_the_Event_TheVariants.{Refused};
+ghost use Rattle.running_replies.specs.flat_history_the_Request.{Request};
+ghost use Rattle.running_replies.specs.flat_history_the_Request_TheVariants.{Visible as AsksVisible};
 ghost use Rattle.running_replies.specs.array_kept_Calls.{OnNoMemory, IsEndOf};
-ghost use Rattle.grow_asked.specs.Left.{phases_of};
+ghost use Rattle.turning.specs.grow_asked_Left.{phases_of};
 ghost use Rattle.turning.specs.running_words_Parts.{visible_in};
 ghost use Rattle.turning.specs.running_words_Calls.{moving_world};
 ghost use Rattle.running_replies.specs.running_words_Visible.{IsLimitedAs};
 ghost use Rattle.growing.specs.Planned.{asked_in, IsJudged, IsGrowJudged, IsReplyTo, IsReplied, IsRefusedInReshape, IsGrowAnswered, IsAsBefore};
 
 use crate::planning::PlannedGrow;
-use bank::Bank;
-use call_entries::calls::{check_number, enter};
-use flat_history::Event;
-use md_base::{BusyKind, Fault, NoMemory, Refusal, Who, Wish};
-use turning::Moving;
+use running_replies::{Bank, BusyKind, Fault, NoMemory, Refusal, Who, Wish, check_number, enter};
+use turning::{Event, Moving};
 
 // Enters that a request is refused for the reshape. Want of memory changes nothing.
 fn enter_busy<B: Bank>(moving: Moving<B>, who: Who) -> (Moving<B>, Result<(), NoMemory>)

@@ -3,30 +3,30 @@ use Rattle.std.proofs.Common.{◌≡◌, ◌⊎◌, inl, inr, ℕ, ◌<◌, ◌�
 use Rattle.std.specs.Prelude.{IsFalse, fold, ⊤}
 use Rattle.std.specs.List.{list_any}
 use Rattle.std.proofs.lemmas.List.Folds.{list_any-append}
-use Rattle.md_base.specs.Sectors.{Sector}
-use Rattle.md_base.specs.declared.answers.Who.{Who}
-use Rattle.bank.specs.declared.bank.Operation.{Operation}
-use Rattle.bank.specs.Given.{Given, sizes}
-use Rattle.bank.specs.Tape.{IsIn, disk}
-use Rattle.call_entries.specs.superblocks_the_Members.{Members}
-use Rattle.call_entries.specs.superblocks_Reading.{Scope, is_clean, list_length, role_count}
-use Rattle.call_entries.specs.flat_history_the_Entry.{Entry}
-use Rattle.call_entries.specs.flat_history_the_Event.{Event}
-use Rattle.call_entries.specs.flat_history_Epochs.{HasRoomForEvents}
-use Rattle.call_entries.specs.flat_history_Flat.{now, values_of, values_after}
-use Rattle.call_entries.specs.flat_history_Legal.{is_loss, level_at, level_after, IsLegalEvent}
-use Rattle.call_entries.specs.flat_history_Losses.{is_unsynced, unsettles}
-use Rattle.call_entries.specs.flat_history_OneShape.{is_unsettled}
-use Rattle.call_entries.specs.flat_history_Plain.{entries_of}
-use Rattle.call_entries.specs.flat_history_Sound.{OpensFit}
-use Rattle.call_entries.specs.flat_history_World.{World, opening_list}
-use Rattle.call_entries.specs.shape_views_Views.{Ledger}
-use Rattle.call_entries.specs.shape_changes_Safety.{HasRoomLeft, IsRisen}
-use Rattle.call_entries.specs.shape_changes_Steady.{IsMoreTold, IsSafeOver, KeepsSafe, AreGoneTold, IsUncleanTold}
-use Rattle.call_entries.proofs.views_SoundViews.{throughout-kept}
-use Rattle.call_entries.specs.Losing.{losses_of}
-use Rattle.call_entries.proofs.CallLaws.{losses-are, last_end-behind}
-use Rattle.call_entries.proofs.LosingLaws.{entries-both}
+use Rattle.kept_history.specs.md_base_Sectors.{Sector}
+use Rattle.kept_history.specs.md_base_the_Who.{Who}
+use Rattle.kept_history.specs.bank_the_Operation.{Operation}
+use Rattle.kept_history.specs.bank_Given.{Given, sizes}
+use Rattle.kept_history.specs.bank_Tape.{IsIn, disk}
+use Rattle.kept_history.specs.superblocks_the_Members.{Members}
+use Rattle.kept_history.specs.superblocks_Reading.{Scope, is_clean, list_length, role_count}
+use Rattle.kept_history.specs.flat_history_the_Entry.{Entry}
+use Rattle.kept_history.specs.flat_history_the_Event.{Event}
+use Rattle.kept_history.specs.flat_history_Epochs.{HasRoomForEvents}
+use Rattle.kept_history.specs.flat_history_Flat.{now, values_of, values_after}
+use Rattle.kept_history.specs.flat_history_Legal.{is_loss, level_at, level_after, IsLegalEvent}
+use Rattle.kept_history.specs.flat_history_Losses.{is_unsynced, unsettles}
+use Rattle.kept_history.specs.flat_history_OneShape.{is_unsettled}
+use Rattle.kept_history.specs.flat_history_Plain.{entries_of}
+use Rattle.kept_history.specs.flat_history_Sound.{OpensFit}
+use Rattle.kept_history.specs.flat_history_World.{World, opening_list}
+use Rattle.kept_history.specs.shape_views_Views.{Ledger}
+use Rattle.kept_history.specs.shape_changes_Safety.{HasRoomLeft, IsRisen}
+use Rattle.kept_history.specs.shape_changes_Steady.{IsMoreTold, IsSafeOver, KeepsSafe, AreGoneTold, IsUncleanTold}
+use Rattle.kept_history.proofs.views_SoundViews.{throughout-kept}
+use Rattle.kept_history.specs.call_entries_Losing.{losses_of}
+use Rattle.kept_history.proofs.call_entries_CallLaws.{losses-are, last_end-behind}
+use Rattle.kept_history.proofs.call_entries_LosingLaws.{entries-both}
 use Rattle.kept_history.specs.Recorded.{IsHistoryKept, IsLegalCall, IsCallGoing, entry_of, ends_reshape, gives_some}
 use Rattle.kept_history.specs.Safe.{world_in, IsFilledRight, IsSafeHistory}
 use Rattle.kept_history.specs.Told.{told_now, told_by}

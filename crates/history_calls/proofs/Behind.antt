@@ -4,27 +4,27 @@ use Rattle.std.specs.Prelude.{fold}
 use Rattle.std.specs.List.{list_any, list_all}
 use Rattle.std.specs.Option.{option_map_or}
 use Rattle.std.proofs.lemmas.List.Sums.{fold-append}
-use Rattle.md_base.specs.Sectors.{Sector}
-use Rattle.md_base.specs.Shapes.{has_slot}
-use Rattle.md_base.specs.declared.answers.Who.{Who}
-use Rattle.bank.specs.declared.bank.Operation.{Operation}
-use Rattle.bank.specs.Given.{Given}
-use Rattle.call_entries.specs.superblocks_the_Members.{Members}
-use Rattle.call_entries.specs.superblocks_Reading.{Scope, Reading, list_length, role_count}
-use Rattle.call_entries.specs.row_io_Rows.{reading_of, is_missing}
-use Rattle.call_entries.specs.flat_history_the_Entry.{Entry}
-use Rattle.call_entries.specs.flat_history_the_Event.{Event}
-use Rattle.call_entries.specs.flat_history_the_Event_TheVariants.{Lost, SpareLost}
-use Rattle.call_entries.specs.flat_history_the_LostCause_TheVariants.{Fault}
-use Rattle.call_entries.specs.flat_history_Flat.{values_after}
-use Rattle.call_entries.specs.flat_history_Legal.{level_at, level_after, MayBeInner, IsInnerOrLast}
-use Rattle.call_entries.specs.flat_history_Losses.{is_gone_after, loses}
-use Rattle.call_entries.specs.flat_history_OneShape.{is_lost}
-use Rattle.call_entries.specs.flat_history_Plain.{entries_of}
-use Rattle.call_entries.specs.flat_history_World.{World, reading_at, opening_list}
-use Rattle.call_entries.specs.Losing.{losses_of}
-use Rattle.call_entries.proofs.CallLaws.{AreLossEvents, losses-are, told-losses, values-losses}
-use Rattle.call_entries.proofs.StepLaws.{faults-are}
+use Rattle.kept_history.specs.md_base_Sectors.{Sector}
+use Rattle.kept_history.specs.md_base_Shapes.{has_slot}
+use Rattle.kept_history.specs.md_base_the_Who.{Who}
+use Rattle.kept_history.specs.bank_the_Operation.{Operation}
+use Rattle.kept_history.specs.bank_Given.{Given}
+use Rattle.kept_history.specs.superblocks_the_Members.{Members}
+use Rattle.kept_history.specs.superblocks_Reading.{Scope, Reading, list_length, role_count}
+use Rattle.kept_history.specs.row_io_Rows.{reading_of, is_missing}
+use Rattle.kept_history.specs.flat_history_the_Entry.{Entry}
+use Rattle.kept_history.specs.flat_history_the_Event.{Event}
+use Rattle.kept_history.specs.flat_history_the_Event_TheVariants.{Lost, SpareLost}
+use Rattle.kept_history.specs.flat_history_the_LostCause_TheVariants.{Fault}
+use Rattle.kept_history.specs.flat_history_Flat.{values_after}
+use Rattle.kept_history.specs.flat_history_Legal.{level_at, level_after, MayBeInner, IsInnerOrLast}
+use Rattle.kept_history.specs.flat_history_Losses.{is_gone_after, loses}
+use Rattle.kept_history.specs.flat_history_OneShape.{is_lost}
+use Rattle.kept_history.specs.flat_history_Plain.{entries_of}
+use Rattle.kept_history.specs.flat_history_World.{World, reading_at, opening_list}
+use Rattle.kept_history.specs.call_entries_Losing.{losses_of}
+use Rattle.kept_history.proofs.call_entries_CallLaws.{AreLossEvents, losses-are, told-losses, values-losses}
+use Rattle.kept_history.proofs.call_entries_StepLaws.{faults-are}
 use Rattle.kept_history.specs.Recorded.{IsHistoryKept, IsLegalCall, entry_of, ends_reshape, gives_some}
 use Rattle.kept_history.specs.Safe.{world_in, is_taken_over, IsFilledRight}
 use Rattle.kept_history.proofs.Growing.{reading-grown, opening-grown, fit-grown, course-before, gone-grown, takes-grown, room-before}

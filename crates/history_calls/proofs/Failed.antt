@@ -3,20 +3,20 @@ use Rattle.std.proofs.Common.{◌≡◌, ◌⊎◌, inl, inr, ℕ, ◌==◌, ◌
 use Rattle.std.specs.Prelude.{MatchOption}
 use Rattle.std.specs.List.{list_any}
 use Rattle.std.proofs.lemmas.Bool.Decides.{nat_tests}
-use Rattle.md_base.specs.declared.answers.Who.{Who}
-use Rattle.call_entries.specs.flat_history_the_Entry.{Entry}
-use Rattle.call_entries.specs.flat_history_the_Event_TheVariants.{Lost, Failed}
-use Rattle.call_entries.specs.flat_history_the_LostCause_TheVariants.{Command}
-use Rattle.call_entries.specs.flat_history_Flat.{last_of}
-use Rattle.call_entries.specs.flat_history_Legal.{is_lost_by_command, IsFailed, IsFailedByCall}
-use Rattle.call_entries.specs.flat_history_OneShape.{is_lost}
-use Rattle.call_entries.specs.flat_history_Plain.{entries_of}
-use Rattle.call_entries.specs.flat_history_World.{World}
-use Rattle.call_entries.proofs.history_laws_OneShapeGrowing.{found-before}
-use Rattle.call_entries.specs.Losing.{losses_of}
-use Rattle.call_entries.proofs.CallLaws.{losses-are}
-use Rattle.call_entries.proofs.LosingLaws.{entries-both}
-use Rattle.call_entries.proofs.PlainLaws.{last-snoc}
+use Rattle.kept_history.specs.md_base_the_Who.{Who}
+use Rattle.kept_history.specs.flat_history_the_Entry.{Entry}
+use Rattle.kept_history.specs.flat_history_the_Event_TheVariants.{Lost, Failed}
+use Rattle.kept_history.specs.flat_history_the_LostCause_TheVariants.{Command}
+use Rattle.kept_history.specs.flat_history_Flat.{last_of}
+use Rattle.kept_history.specs.flat_history_Legal.{is_lost_by_command, IsFailed, IsFailedByCall}
+use Rattle.kept_history.specs.flat_history_OneShape.{is_lost}
+use Rattle.kept_history.specs.flat_history_Plain.{entries_of}
+use Rattle.kept_history.specs.flat_history_World.{World}
+use Rattle.kept_history.proofs.history_laws_OneShapeGrowing.{found-before}
+use Rattle.kept_history.specs.call_entries_Losing.{losses_of}
+use Rattle.kept_history.proofs.call_entries_CallLaws.{losses-are}
+use Rattle.kept_history.proofs.call_entries_LosingLaws.{entries-both}
+use Rattle.kept_history.proofs.call_entries_PlainLaws.{last-snoc}
 use Rattle.kept_history.specs.Recorded.{IsLegalCall, entry_of}
 use Rattle.history_calls.proofs.Behind.{AreEarly, IsAmong, early-losses, inner-of, legal-losses}
 

@@ -5,31 +5,31 @@ use Rattle.std.specs.List.{list_any, list_all}
 use Rattle.std.specs.Option.{option_map_or}
 use Rattle.std.proofs.lemmas.Bool.Decides.{nat_tests}
 use Rattle.std.proofs.lemmas.List.Sums.{fold-append}
-use Rattle.md_base.specs.Sectors.{Sector}
-use Rattle.md_base.specs.declared.answers.Who.{Who}
-use Rattle.bank.specs.declared.bank.Operation.{Operation}
-use Rattle.bank.specs.Given.{Given, sizes}
-use Rattle.bank.specs.Tape.{disk}
-use Rattle.call_entries.specs.superblocks_the_Members.{Members}
-use Rattle.call_entries.specs.superblocks_Reading.{Scope, is_clean, list_length, role_count}
-use Rattle.call_entries.specs.row_io_Rows.{reading_of, is_missing}
-use Rattle.call_entries.specs.flat_history_the_Entry.{Entry}
-use Rattle.call_entries.specs.flat_history_the_Event.{Event}
-use Rattle.call_entries.specs.flat_history_the_Event_TheVariants.{Rebuilt}
-use Rattle.call_entries.specs.flat_history_Epochs.{HasRoomForEvents}
-use Rattle.call_entries.specs.flat_history_Flat.{values_of, values_after}
-use Rattle.call_entries.specs.flat_history_Legal.{level_at, level_after}
-use Rattle.call_entries.specs.flat_history_Losses.{loses, is_gone_after, is_unsynced}
-use Rattle.call_entries.specs.flat_history_OneShape.{is_lost, is_unsettled}
-use Rattle.call_entries.specs.flat_history_Plain.{entries_of}
-use Rattle.call_entries.specs.flat_history_Sound.{OpensFit}
-use Rattle.call_entries.specs.flat_history_World.{World, reading_at, opening_list}
-use Rattle.call_entries.specs.shape_views_Views.{Ledger}
-use Rattle.call_entries.specs.shape_changes_Safety.{HasRoomLeft, IsRisen}
-use Rattle.call_entries.specs.shape_changes_Steady.{IsMoreTold, IsSafeOver, KeepsSafe, AreGoneTold, IsUncleanTold, given_back}
-use Rattle.call_entries.proofs.views_SoundViews.{throughout-kept}
-use Rattle.call_entries.proofs.CallLaws.{last_end-behind}
-use Rattle.call_entries.proofs.LosingLaws.{entries-both}
+use Rattle.kept_history.specs.md_base_Sectors.{Sector}
+use Rattle.kept_history.specs.md_base_the_Who.{Who}
+use Rattle.kept_history.specs.bank_the_Operation.{Operation}
+use Rattle.kept_history.specs.bank_Given.{Given, sizes}
+use Rattle.kept_history.specs.bank_Tape.{disk}
+use Rattle.kept_history.specs.superblocks_the_Members.{Members}
+use Rattle.kept_history.specs.superblocks_Reading.{Scope, is_clean, list_length, role_count}
+use Rattle.kept_history.specs.row_io_Rows.{reading_of, is_missing}
+use Rattle.kept_history.specs.flat_history_the_Entry.{Entry}
+use Rattle.kept_history.specs.flat_history_the_Event.{Event}
+use Rattle.kept_history.specs.flat_history_the_Event_TheVariants.{Rebuilt}
+use Rattle.kept_history.specs.flat_history_Epochs.{HasRoomForEvents}
+use Rattle.kept_history.specs.flat_history_Flat.{values_of, values_after}
+use Rattle.kept_history.specs.flat_history_Legal.{level_at, level_after}
+use Rattle.kept_history.specs.flat_history_Losses.{loses, is_gone_after, is_unsynced}
+use Rattle.kept_history.specs.flat_history_OneShape.{is_lost, is_unsettled}
+use Rattle.kept_history.specs.flat_history_Plain.{entries_of}
+use Rattle.kept_history.specs.flat_history_Sound.{OpensFit}
+use Rattle.kept_history.specs.flat_history_World.{World, reading_at, opening_list}
+use Rattle.kept_history.specs.shape_views_Views.{Ledger}
+use Rattle.kept_history.specs.shape_changes_Safety.{HasRoomLeft, IsRisen}
+use Rattle.kept_history.specs.shape_changes_Steady.{IsMoreTold, IsSafeOver, KeepsSafe, AreGoneTold, IsUncleanTold, given_back}
+use Rattle.kept_history.proofs.views_SoundViews.{throughout-kept}
+use Rattle.kept_history.proofs.call_entries_CallLaws.{last_end-behind}
+use Rattle.kept_history.proofs.call_entries_LosingLaws.{entries-both}
 use Rattle.kept_history.specs.Recorded.{IsHistoryKept, IsLegalCall, IsCallGoing, IsOpenBehind, entry_of, gives_some}
 use Rattle.kept_history.specs.Safe.{world_in, is_taken_over, IsFilledRight, IsSafeHistory}
 use Rattle.kept_history.specs.Told.{told_now, told_by}

@@ -4,22 +4,22 @@ use Rattle.std.specs.Prelude.{filter, ⊤}
 use Rattle.std.specs.Option.{option_map_or}
 use Rattle.std.proofs.lemmas.Bool.Decides.{nat_tests}
 use Rattle.std.proofs.lemmas.List.Elements.{filter-append}
-use Rattle.md_base.specs.Sectors.{Sector}
-use Rattle.md_base.specs.declared.answers.Who.{Who}
-use Rattle.bank.specs.declared.bank.Operation.{Operation}
-use Rattle.call_entries.specs.flat_history_the_Entry.{Entry}
-use Rattle.call_entries.specs.flat_history_the_Event.{Event}
-use Rattle.call_entries.specs.flat_history_the_Event_TheVariants.{Wrote, Torn, Lost, SpareLost, Resized}
-use Rattle.call_entries.specs.flat_history_the_LostCause.{LostCause}
-use Rattle.call_entries.specs.flat_history_the_LostCause_TheVariants.{Fault}
-use Rattle.call_entries.specs.flat_history_Flat.{last_of, covers, sector_at, behind, resized, values_of, values_after}
-use Rattle.call_entries.specs.flat_history_Growing.{grown, EndBy}
-use Rattle.call_entries.specs.flat_history_Legal.{is_loss, last_but_losses, end_before}
-use Rattle.call_entries.specs.flat_history_Plain.{entries_of}
-use Rattle.call_entries.specs.flat_history_World.{World, opening_list}
-use Rattle.call_entries.proofs.flat_history_OneShapeLegal.{last-snoc}
-use Rattle.call_entries.proofs.CallLaws.{AreLossEvents}
-use Rattle.call_entries.proofs.LosingLaws.{entries-both}
+use Rattle.kept_history.specs.md_base_Sectors.{Sector}
+use Rattle.kept_history.specs.md_base_the_Who.{Who}
+use Rattle.kept_history.specs.bank_the_Operation.{Operation}
+use Rattle.kept_history.specs.flat_history_the_Entry.{Entry}
+use Rattle.kept_history.specs.flat_history_the_Event.{Event}
+use Rattle.kept_history.specs.flat_history_the_Event_TheVariants.{Wrote, Torn, Lost, SpareLost, Resized}
+use Rattle.kept_history.specs.flat_history_the_LostCause.{LostCause}
+use Rattle.kept_history.specs.flat_history_the_LostCause_TheVariants.{Fault}
+use Rattle.kept_history.specs.flat_history_Flat.{last_of, covers, sector_at, behind, resized, values_of, values_after}
+use Rattle.kept_history.specs.flat_history_Growing.{grown, EndBy}
+use Rattle.kept_history.specs.flat_history_Legal.{is_loss, last_but_losses, end_before}
+use Rattle.kept_history.specs.flat_history_Plain.{entries_of}
+use Rattle.kept_history.specs.flat_history_World.{World, opening_list}
+use Rattle.kept_history.proofs.flat_history_OneShapeLegal.{last-snoc}
+use Rattle.kept_history.proofs.call_entries_CallLaws.{AreLossEvents}
+use Rattle.kept_history.proofs.call_entries_LosingLaws.{entries-both}
 use Rattle.kept_history.specs.Recorded.{entry_of}
 use Rattle.kept_history.proofs.Entered.{values-more}
 use Rattle.kept_history.proofs.Growing.{opening-grown}

@@ -3,22 +3,22 @@ use Rattle.std.proofs.Common.{◌≡◌, ℕ, ◌≤◌, Bool, true, false, cond
 use Rattle.std.specs.Prelude.{⊤}
 use Rattle.std.specs.List.{list_all}
 use Rattle.std.proofs.lemmas.List.Sums.{fold-append}
-use Rattle.md_base.specs.declared.answers.Who.{Who}
-use Rattle.md_base.specs.declared.places.Shape.{Shape}
-use Rattle.bank.specs.declared.bank.Operation.{Operation}
-use Rattle.call_entries.specs.superblocks_Reading.{Reading, shape_of}
-use Rattle.grow_plan.specs.Plans.{target}
-use Rattle.call_entries.specs.flat_history_the_Entry.{Entry}
-use Rattle.call_entries.specs.flat_history_the_Event.{Event}
-use Rattle.call_entries.specs.flat_history_the_Event_TheVariants.{Lost, SpareLost, Planned}
-use Rattle.call_entries.specs.flat_history_the_LostCause_TheVariants.{Fault}
-use Rattle.call_entries.specs.flat_history_Flat.{is_same_call}
-use Rattle.call_entries.specs.flat_history_Growing.{grown, EndBy}
-use Rattle.call_entries.specs.flat_history_Plain.{entries_of}
-use Rattle.call_entries.specs.flat_history_Reshaped.{behind, is_done, is_planned, plans_after, open_plans, planned_shape, IsConsistentAt, ArePlansDone}
-use Rattle.call_entries.specs.flat_history_World.{World}
-use Rattle.call_entries.proofs.flat_history_LegalLaws.{both}
-use Rattle.call_entries.proofs.CallLaws.{AreLossEvents}
+use Rattle.kept_history.specs.md_base_the_Who.{Who}
+use Rattle.kept_history.specs.md_base_the_Shape.{Shape}
+use Rattle.kept_history.specs.bank_the_Operation.{Operation}
+use Rattle.kept_history.specs.superblocks_Reading.{Reading, shape_of}
+use Rattle.kept_history.specs.grow_plan_Plans.{target}
+use Rattle.kept_history.specs.flat_history_the_Entry.{Entry}
+use Rattle.kept_history.specs.flat_history_the_Event.{Event}
+use Rattle.kept_history.specs.flat_history_the_Event_TheVariants.{Lost, SpareLost, Planned}
+use Rattle.kept_history.specs.flat_history_the_LostCause_TheVariants.{Fault}
+use Rattle.kept_history.specs.flat_history_Flat.{is_same_call}
+use Rattle.kept_history.specs.flat_history_Growing.{grown, EndBy}
+use Rattle.kept_history.specs.flat_history_Plain.{entries_of}
+use Rattle.kept_history.specs.flat_history_Reshaped.{behind, is_done, is_planned, plans_after, open_plans, planned_shape, IsConsistentAt, ArePlansDone}
+use Rattle.kept_history.specs.flat_history_World.{World}
+use Rattle.kept_history.proofs.flat_history_LegalLaws.{both}
+use Rattle.kept_history.proofs.call_entries_CallLaws.{AreLossEvents}
 use Rattle.kept_history.specs.Recorded.{entry_of}
 use Rattle.kept_history.proofs.Growing.{reading-grown}
 use Rattle.kept_history.proofs.Records.{same-call}

@@ -1,14 +1,14 @@
 -- What a history says can be relied on, who is gone by it, and what it says of its last step and past the list's end.
 use Rattle.std.specs.Prelude.{◌≡◌, ℕ, ◌<◌, ◌≤◌, true, List, [], length}
-use Rattle.call_entries.specs.superblocks_the_Members.{Members}
-use Rattle.call_entries.specs.superblocks_Reading.{role_count}
-use Rattle.call_entries.specs.row_io_Rows.{reading_of, is_missing}
-use Rattle.call_entries.specs.flat_history_the_Entry.{Entry}
-use Rattle.call_entries.specs.flat_history_Epochs.{HasRoomForEvents}
-use Rattle.call_entries.specs.flat_history_Flat.{values_of}
-use Rattle.call_entries.specs.flat_history_Legal.{end_before}
-use Rattle.call_entries.specs.flat_history_Losses.{is_gone_after}
-use Rattle.call_entries.specs.flat_history_World.{World, opening_list}
+use Rattle.kept_history.specs.superblocks_the_Members.{Members}
+use Rattle.kept_history.specs.superblocks_Reading.{role_count}
+use Rattle.kept_history.specs.row_io_Rows.{reading_of, is_missing}
+use Rattle.kept_history.specs.flat_history_the_Entry.{Entry}
+use Rattle.kept_history.specs.flat_history_Epochs.{HasRoomForEvents}
+use Rattle.kept_history.specs.flat_history_Flat.{values_of}
+use Rattle.kept_history.specs.flat_history_Legal.{end_before}
+use Rattle.kept_history.specs.flat_history_Losses.{is_gone_after}
+use Rattle.kept_history.specs.flat_history_World.{World, opening_list}
 use Rattle.kept_history.specs.Safe.{IsFilledRight}
 
 -- What is filled in is right, and the superblocks can be read, for the event counts have room.

@@ -1,13 +1,13 @@
 -- A checkpoint that records the position before the copied rows are flushed is found out: where a stop leaves the first new
 -- superblock and not the copy, the new region is read where nothing was written. With the flush that mark is safe.
 use Rattle.std.proofs.Common.{◌≡◌, ℕ, zero, suc, ◌+◌, ◌-◌, ◌<◌, ◌≤◌, inl, inr, List, [], ◌∷◌, ◌++◌, length, get_or, take, drop, replicate, refl, sym, ap, ◌∙◌, subst, Bool, true, false, ◌&&◌, ◌==◌, cond, None, lit≤, arith}
-use Rattle.md_base.specs.Sectors.{Sector}
-use Rattle.md_base.specs.Search.{tabulate, least_below, count_below, any_below}
-use Rattle.bank.specs.declared.bank.Operation.TheVariants.{Write, Flush}
-use Rattle.bank.specs.Tape.{Contents, IsIn, IsImage, IsDrawn, with_one, run}
-use Rattle.bank.proofs.Listed.{Slot, listed}
-use Rattle.bank.specs.declared.bank.Operation.{Operation}
-use Rattle.bank.proofs.Images.{drawn-image, image-drawn, drawn-written}
+use Rattle.flat_history.specs.md_base_Sectors.{Sector}
+use Rattle.flat_history.specs.md_base_Search.{tabulate, least_below, count_below, any_below}
+use Rattle.flat_history.specs.bank_the_Operation_TheVariants.{Write, Flush}
+use Rattle.flat_history.specs.bank_Tape.{Contents, IsIn, IsImage, IsDrawn, with_one, run}
+use Rattle.flat_history.proofs.bank_Listed.{Slot, listed}
+use Rattle.flat_history.specs.bank_the_Operation.{Operation}
+use Rattle.flat_history.proofs.bank_Images.{drawn-image, image-drawn, drawn-written}
 use Rattle.flat_history.specs.superblocks_Reading.{reading}
 use Rattle.flat_history.specs.declared.events.Event.TheVariants.{Step}
 use Rattle.flat_history.specs.declared.events.StepKind.TheVariants.{Entered, Copied, Checkpointed}

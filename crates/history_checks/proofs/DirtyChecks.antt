@@ -1,16 +1,16 @@
 -- A write into a degraded array that is begun before the superblocks say dirty is found out: where a stop leaves its first
 -- half, the absent role is filled with what never stood there. Behind the dirty mark such an image is refused, with its cause.
 use Rattle.std.proofs.Common.{◌≡◌, ◌⊎◌, ℕ, ◌<◌, ◌≤◌, inl, inr, List, [], ◌∷◌, length, get_or, take, refl, sym, ap, ◌∙◌, subst, Bool, true, false, cond, ◌&&◌, ◌==◌, replicate, Some, None, lit≤, arith}
-use Rattle.md_base.specs.declared.places.RowRoles.{RowRoles}
-use Rattle.md_base.specs.Sectors.{Sector}
-use Rattle.md_base.specs.Search.{tabulate, least_below, count_below, any_below}
-use Rattle.parity.specs.Parity.{Row, fill}
-use Rattle.parity.proofs.ParityChecks.{from_one, from_none}
-use Rattle.bank.specs.declared.bank.Operation.{Operation}
-use Rattle.bank.specs.declared.bank.Operation.TheVariants.{Write, Flush}
-use Rattle.bank.specs.Tape.{Contents, IsIn, IsImage, with_one}
-use Rattle.bank.proofs.Listed.{listed}
-use Rattle.bank.proofs.Images.{drawn-image, image-drawn}
+use Rattle.flat_history.specs.md_base_the_RowRoles.{RowRoles}
+use Rattle.flat_history.specs.md_base_Sectors.{Sector}
+use Rattle.flat_history.specs.md_base_Search.{tabulate, least_below, count_below, any_below}
+use Rattle.flat_history.specs.parity_Parity.{Row, fill}
+use Rattle.flat_history.proofs.parity_ParityChecks.{from_one, from_none}
+use Rattle.flat_history.specs.bank_the_Operation.{Operation}
+use Rattle.flat_history.specs.bank_the_Operation_TheVariants.{Write, Flush}
+use Rattle.flat_history.specs.bank_Tape.{Contents, IsIn, IsImage, with_one}
+use Rattle.flat_history.proofs.bank_Listed.{listed}
+use Rattle.flat_history.proofs.bank_Images.{drawn-image, image-drawn}
 use Rattle.flat_history.specs.superblocks_Reading.{reading}
 use Rattle.flat_history.specs.declared.events.Event.TheVariants.{Wrote, Lost}
 use Rattle.flat_history.specs.declared.events.LostCause.TheVariants.{Absent}
@@ -20,12 +20,12 @@ use Rattle.flat_history.specs.Stands.{stands, verdict}
 use Rattle.flat_history.specs.Flat.{values_of, IsAllowed}
 use Rattle.flat_history.specs.CrashSafe.{IsSafeAt}
 use Rattle.flat_history.specs.Losses.{is_gone, is_unclean}
-use Rattle.md_base.specs.declared.answers.Refusal.TheVariants.{DirtyDegraded}
+use Rattle.flat_history.specs.md_base_the_Refusal_TheVariants.{DirtyDegraded}
 use Rattle.flat_history.specs.superblocks_Same.{HaveSameSuperblocks}
 use Rattle.flat_history.proofs.SameLaws.{verdict-same}
 use Rattle.history_checks.proofs.ReadingChecks.{slot, superblock, ones, scope_of}
 use Rattle.history_checks.proofs.Refuted.{drawn-start, drawn-with, not-judged}
-use Rattle.bank.proofs.Listed.{Slot}
+use Rattle.flat_history.proofs.bank_Listed.{Slot}
 
 -- three members, clean; member 1 is two events behind, so its role is missing
 abbrev slots : List Slot

@@ -1,16 +1,16 @@
 -- A short epoch over the created array: its history is legal, and its opening mark is safe.
 use Rattle.std.proofs.Common.{◌≡◌, ℕ, zero, suc, ◌+◌, ◌<◌, inl, inr, List, [], ◌∷◌, refl, sym, subst, None, length, get_or, take, drop, ap, lit≤, arith, not-suc-le-zero, Bool, ◌&&◌, ◌==◌, if◌then◌else◌, subst₂, ◌∙◌, Option, ◌⊎◌, true, false, Some, ◌≤◌, zero-le}
-use Rattle.md_base.specs.declared.answers.Refusal.TheVariants.{PastEnd, DirtyDegraded, MembersMissing}
-use Rattle.md_base.specs.declared.answers.Refusal.{Refusal}
-use Rattle.md_base.specs.Search.{tabulate, least_below, count_below, any_below}
+use Rattle.flat_history.specs.md_base_the_Refusal_TheVariants.{PastEnd, DirtyDegraded, MembersMissing}
+use Rattle.flat_history.specs.md_base_the_Refusal.{Refusal}
+use Rattle.flat_history.specs.md_base_Search.{tabulate, least_below, count_below, any_below}
 use Rattle.flat_history.specs.declared.events.Event.TheVariants.{Read, Wrote, Flushed, Lost, Failed, Refused}
 use Rattle.flat_history.specs.declared.events.LostCause.TheVariants.{Command}
 use Rattle.flat_history.specs.declared.events.Entry.{Entry}
-use Rattle.bank.proofs.Images.{image-drawn, drawn-image}
-use Rattle.bank.specs.declared.bank.Operation.{Operation}
-use Rattle.bank.specs.Tape.{Contents, IsImage, IsIn}
+use Rattle.flat_history.proofs.bank_Images.{image-drawn, drawn-image}
+use Rattle.flat_history.specs.bank_the_Operation.{Operation}
+use Rattle.flat_history.specs.bank_Tape.{Contents, IsImage, IsIn}
 use Rattle.flat_history.specs.World.{World, opening_list}
-use Rattle.bank.specs.declared.bank.Operation.TheVariants.{Write}
+use Rattle.flat_history.specs.bank_the_Operation_TheVariants.{Write}
 use Rattle.flat_history.specs.superblocks_Reading.{reading}
 use Rattle.flat_history.specs.Stands.{stands, verdict}
 use Rattle.flat_history.specs.Flat.{values_of, IsAllowed}

@@ -1,13 +1,13 @@
 -- A reshape that moves the data and leaves the parity of the new rows is found out where it finishes; one with parity that
 -- fits is right.
 use Rattle.std.proofs.Common.{◌≡◌, ℕ, ◌<◌, ◌≤◌, inl, inr, List, [], ◌∷◌, replicate, length, get_or, ◌/◌, refl, sym, ap, ◌∙◌, subst, option_map, MatchOption, Some, None, Option, lit≤, arith}
-use Rattle.md_base.specs.declared.places.Shape.{Shape}
-use Rattle.md_base.specs.Search.{tabulate, count_below}
-use Rattle.md_base.proofs.Tabulated.{get_or-tabulate}
+use Rattle.flat_history.specs.md_base_the_Shape.{Shape}
+use Rattle.flat_history.specs.md_base_Search.{tabulate, count_below}
+use Rattle.flat_history.proofs.md_base_Tabulated.{get_or-tabulate}
 use Rattle.std.proofs.lemmas.List.{get_or-replicate}
-use Rattle.bank.specs.declared.bank.Operation.TheVariants.{Write, Flush}
-use Rattle.bank.specs.Tape.{Contents}
-use Rattle.bank.proofs.Listed.{Slot, listed}
+use Rattle.flat_history.specs.bank_the_Operation_TheVariants.{Write, Flush}
+use Rattle.flat_history.specs.bank_Tape.{Contents}
+use Rattle.flat_history.proofs.bank_Listed.{Slot, listed}
 use Rattle.flat_history.specs.superblocks_Reading.{Reading, reading, shape_of, target_of}
 use Rattle.flat_history.specs.declared.events.Event.TheVariants.{Step}
 use Rattle.flat_history.specs.declared.events.StepKind.TheVariants.{Finished}
@@ -17,9 +17,9 @@ use Rattle.flat_history.specs.Losses.{is_gone_after}
 use Rattle.flat_history.specs.Legal.{target_at}
 use Rattle.flat_history.specs.Reshaped.{IsReshaped, IsConsistentAt, IsConsistentBy, IsGoodRow, AreTooManyGone}
 use Rattle.flat_history.specs.Stands.{held_row}
-use Rattle.layout.specs.Layout.{row_roles, stripe_p}
-use Rattle.parity.specs.Parity.{Row, lacking_in, AreEquationsMet}
-use Rattle.parity.proofs.ParityChecks.{left_behind, zero_row}
+use Rattle.flat_history.specs.layout_Layout.{row_roles, stripe_p}
+use Rattle.flat_history.specs.parity_Parity.{Row, lacking_in, AreEquationsMet}
+use Rattle.flat_history.proofs.parity_ParityChecks.{left_behind, zero_row}
 use Rattle.history_checks.proofs.SmallReshape.{reshaping, three, superblock, member, scope}
 
 -- At the end of the windows. Row 0 of the new shape has a one on role 0, and nothing on role 1 and on role 2, its P.

@@ -1,9 +1,9 @@
 -- Replies over the created array that fit their requests, and some that don't.
 use Rattle.std.proofs.Common.{◌≡◌, ℕ, [], ◌∷◌, true, false, refl, Some, None, Option, lit≤}
-use Rattle.md_base.specs.declared.answers.Refusal.TheVariants.{PastEnd, TooManyMissing, NoSuchRole, SlotTaken, NoSuchSlot, PastSize, Busy, SameShape, NeedSpares, NeedBackup, BackupTooSmall, Nothing, BackupFault}
-use Rattle.md_base.specs.declared.answers.BusyKind.TheVariants.{Resync}
-use Rattle.md_base.specs.declared.wishes.Wish.{Wish}
-use Rattle.md_base.specs.Search.{tabulate, count_below, least_below}
+use Rattle.flat_history.specs.md_base_the_Refusal_TheVariants.{PastEnd, TooManyMissing, NoSuchRole, SlotTaken, NoSuchSlot, PastSize, Busy, SameShape, NeedSpares, NeedBackup, BackupTooSmall, Nothing, BackupFault}
+use Rattle.flat_history.specs.md_base_the_BusyKind_TheVariants.{Resync}
+use Rattle.flat_history.specs.md_base_the_Wish.{Wish}
+use Rattle.flat_history.specs.md_base_Search.{tabulate, count_below, least_below}
 use Rattle.flat_history.specs.declared.events.Event.{Event}
 use Rattle.flat_history.specs.declared.events.Event.TheVariants.{Read, Planned, Refused}
 use Rattle.flat_history.specs.declared.events.Request.TheVariants.{Read as AsksRead, Flush as AsksFlush, Fail as AsksFail, Add as AsksAdd, Visible as AsksVisible, Grow as AsksGrow}

@@ -1,7 +1,7 @@
 -- A role that a shrink drops while it is lost, and that a later grow gives to a spare, is not gone any more.
 use Rattle.std.proofs.Common.{◌≡◌, ℕ, ◌+◌, List, [], ◌∷◌, true, false, not, ◌&&◌, ◌||◌, leb, refl, ap, ◌∙◌, Some, None, Option}
-use Rattle.md_base.specs.Search.{count_below, tabulate}
-use Rattle.bank.proofs.Listed.{listed}
+use Rattle.flat_history.specs.md_base_Search.{count_below, tabulate}
+use Rattle.flat_history.proofs.bank_Listed.{listed}
 use Rattle.flat_history.specs.superblocks_Reading.{Reading, shape_of, reading}
 use Rattle.flat_history.specs.declared.events.Event.{Event}
 use Rattle.flat_history.specs.declared.events.Event.TheVariants.{Lost, Step}

@@ -1,9 +1,9 @@
 -- The steps that are left at an opening, computed.
 use Rattle.std.proofs.Common.{◌≡◌, ℕ, ◌+◌, List, [], ◌∷◌, replicate, refl, true, false, Some, Option, option_map}
-use Rattle.md_base.specs.declared.places.Shape.{Shape}
-use Rattle.md_base.specs.declared.status.Role.TheVariants.{Whole, Recovering, Missing}
-use Rattle.bank.proofs.Listed.{Slot, listed}
-use Rattle.md_base.specs.Search.{tabulate, least_below}
+use Rattle.flat_history.specs.md_base_the_Shape.{Shape}
+use Rattle.flat_history.specs.md_base_the_Role_TheVariants.{Whole, Recovering, Missing}
+use Rattle.flat_history.proofs.bank_Listed.{Slot, listed}
+use Rattle.flat_history.specs.md_base_Search.{tabulate, least_below}
 use Rattle.flat_history.specs.declared.events.LostCause.TheVariants.{Absent, Recovering as WasRecovering}
 use Rattle.flat_history.specs.superblocks_Reading.{reading}
 use Rattle.flat_history.specs.Left.{resync_steps, resync_steps_at, spare_rebuild_steps, rebuild_steps, left_at_opening, found_losses}

@@ -1,6 +1,6 @@
 -- A change of length that no stored bytes show isn't legal, with a step before it or without.
 use Rattle.std.proofs.Common.{◌≡◌, ℕ, inl, inr, [], ◌∷◌, length, refl, true, false, arith}
-use Rattle.md_base.specs.Search.{tabulate, all_below}
+use Rattle.flat_history.specs.md_base_Search.{tabulate, all_below}
 use Rattle.flat_history.specs.superblocks_Reading.{reading}
 use Rattle.flat_history.specs.declared.events.Event.TheVariants.{Resized, Step}
 use Rattle.flat_history.specs.declared.events.StepKind.TheVariants.{Begun, Finished}

@@ -1,10 +1,10 @@
 -- A write that is answered and flushed while a lost member still counts as whole is found out: its older sector is read.
 use Rattle.std.proofs.Common.{◌≡◌, ℕ, ◌<◌, ◌≤◌, inl, inr, List, [], ◌∷◌, length, get_or, take, replicate, refl, subst, None, lit≤, arith}
-use Rattle.md_base.specs.Sectors.{Sector}
-use Rattle.md_base.specs.Search.{tabulate, least_below, count_below, any_below}
-use Rattle.bank.specs.declared.bank.Operation.{Operation}
-use Rattle.bank.specs.declared.bank.Operation.TheVariants.{Write, Flush}
-use Rattle.bank.specs.Tape.{Contents, IsIn, IsImage, value_after}
+use Rattle.flat_history.specs.md_base_Sectors.{Sector}
+use Rattle.flat_history.specs.md_base_Search.{tabulate, least_below, count_below, any_below}
+use Rattle.flat_history.specs.bank_the_Operation.{Operation}
+use Rattle.flat_history.specs.bank_the_Operation_TheVariants.{Write, Flush}
+use Rattle.flat_history.specs.bank_Tape.{Contents, IsIn, IsImage, value_after}
 use Rattle.flat_history.specs.superblocks_Reading.{reading}
 use Rattle.flat_history.specs.declared.events.Event.TheVariants.{Wrote, Flushed, Lost}
 use Rattle.flat_history.specs.declared.events.LostCause.TheVariants.{Fault}

@@ -1,12 +1,12 @@
 -- How an example is refuted: an image that a stop may leave, and a sector of it that no entries allow.
 use Rattle.std.proofs.Common.{◌≡◌, ◌⊎◌, ℕ, ◌<◌, ◌≤◌, inl, inr, Bool, true, false, ◌&&◌, ◌==◌, cond, List, [], ◌∷◌, length, get_or, take, refl, sym, subst, ◌∙◌, Option, Some, None}
-use Rattle.md_base.specs.declared.answers.Refusal.{Refusal}
-use Rattle.md_base.specs.declared.answers.Refusal.TheVariants.{DirtyDegraded, MembersMissing}
-use Rattle.md_base.specs.Sectors.{Sector}
-use Rattle.bank.specs.declared.bank.Operation.{Operation}
-use Rattle.bank.specs.declared.bank.Operation.TheVariants.{Write}
-use Rattle.bank.specs.Tape.{Contents, IsImage, IsDrawn, IsIn, with_one, value_after, run}
-use Rattle.bank.proofs.Images.{now-image, disk-some}
+use Rattle.flat_history.specs.md_base_the_Refusal.{Refusal}
+use Rattle.flat_history.specs.md_base_the_Refusal_TheVariants.{DirtyDegraded, MembersMissing}
+use Rattle.flat_history.specs.md_base_Sectors.{Sector}
+use Rattle.flat_history.specs.bank_the_Operation.{Operation}
+use Rattle.flat_history.specs.bank_the_Operation_TheVariants.{Write}
+use Rattle.flat_history.specs.bank_Tape.{Contents, IsImage, IsDrawn, IsIn, with_one, value_after, run}
+use Rattle.flat_history.proofs.bank_Images.{now-image, disk-some}
 use Rattle.flat_history.specs.declared.events.Entry.{Entry}
 use Rattle.flat_history.specs.World.{World, opening_list}
 use Rattle.flat_history.specs.Stands.{stands, verdict}

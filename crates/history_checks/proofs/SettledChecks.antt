@@ -1,8 +1,8 @@
 -- At the opening of the created array the facts hold from which its images are right.
 use Rattle.std.proofs.Common.{◌≡◌, ℕ, ◌<◌, inl, inr, [], ◌∷◌, refl, sym, ap, ◌∙◌, subst, length, get_or, Option, Some, None, lit≤}
-use Rattle.md_base.specs.Sectors.{Sector}
-use Rattle.md_base.proofs.Tabulated.{length-tabulate, get_or-tabulate}
-use Rattle.bank.specs.Tape.{IsIn}
+use Rattle.flat_history.specs.md_base_Sectors.{Sector}
+use Rattle.flat_history.proofs.md_base_Tabulated.{length-tabulate, get_or-tabulate}
+use Rattle.flat_history.specs.bank_Tape.{IsIn}
 use Rattle.flat_history.specs.superblocks_Reading.{Reading, reading, list_length}
 use Rattle.flat_history.specs.Stands.{stands, standing_sector, placed_sector, shape_for}
 use Rattle.flat_history.specs.World.{opening_list}

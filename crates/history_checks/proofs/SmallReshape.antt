@@ -1,10 +1,10 @@
 -- The superblocks of a small array: level 5 on two disks that goes to three, chunk 8, size 32. The unit is 16.
 use Rattle.std.proofs.Common.{ℕ, zero, suc, List, [], ◌∷◌, ◌++◌, replicate, Some}
-use Rattle.md_base.specs.Sectors.{Sector}
-use Rattle.sb1.specs.Superblock.{checksum}
-use Rattle.bank.proofs.Listed.{Slot, listed_sizes}
+use Rattle.flat_history.specs.md_base_Sectors.{Sector}
+use Rattle.flat_history.specs.sb1_Superblock.{checksum}
+use Rattle.flat_history.proofs.bank_Listed.{Slot, listed_sizes}
 use Rattle.flat_history.specs.superblocks_Reading.{Scope}
-use Rattle.backup.specs.Written.{bytes_of}
+use Rattle.flat_history.specs.backup_Written.{bytes_of}
 
 abbrev pub uuid : List ℕ
 uuid = replicate 16 7

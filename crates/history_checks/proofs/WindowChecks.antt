@@ -1,15 +1,15 @@
 -- A write into an entered critical window that goes to the old place is found out: after a flush the section of the backup
 -- still gives the older value.
 use Rattle.std.proofs.Common.{◌≡◌, ℕ, ◌<◌, ◌≤◌, inl, inr, List, [], ◌∷◌, ◌++◌, length, get_or, take, replicate, refl, subst, Some, None, lit≤, arith, option_and_then}
-use Rattle.md_base.specs.declared.places.Span.{Span}
-use Rattle.md_base.specs.Sectors.{Sector}
-use Rattle.md_base.specs.Search.{tabulate, least_below, count_below, any_below}
-use Rattle.bank.specs.declared.bank.Operation.{Operation}
-use Rattle.bank.specs.declared.bank.Operation.TheVariants.{Write, Flush}
-use Rattle.bank.specs.Tape.{Contents, IsIn, IsImage, value_after}
-use Rattle.bank.proofs.Listed.{Slot, listed}
+use Rattle.flat_history.specs.md_base_the_Span.{Span}
+use Rattle.flat_history.specs.md_base_Sectors.{Sector}
+use Rattle.flat_history.specs.md_base_Search.{tabulate, least_below, count_below, any_below}
+use Rattle.flat_history.specs.bank_the_Operation.{Operation}
+use Rattle.flat_history.specs.bank_the_Operation_TheVariants.{Write, Flush}
+use Rattle.flat_history.specs.bank_Tape.{Contents, IsIn, IsImage, value_after}
+use Rattle.flat_history.proofs.bank_Listed.{Slot, listed}
 use Rattle.flat_history.specs.superblocks_Reading.{reading}
-use Rattle.backup.specs.Written.{header_of}
+use Rattle.flat_history.specs.backup_Written.{header_of}
 use Rattle.flat_history.specs.declared.events.Event.TheVariants.{Wrote, Flushed}
 use Rattle.flat_history.specs.declared.events.Entry.{Entry}
 use Rattle.flat_history.specs.World.{World, opening_list}

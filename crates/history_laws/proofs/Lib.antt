@@ -6,3 +6,17 @@ pub mod PlainLegal
 pub mod OneShapeGrowing
 pub mod OneShapeGoing
 pub mod OneShapeOpening
+pub use Rattle.flat_history.proofs.bank_Images
+pub use Rattle.flat_history.proofs.bank_Laws
+pub use Rattle.flat_history.proofs.bank_Marks
+pub use Rattle.flat_history.proofs.gf256_FieldLaws
+pub use Rattle.flat_history.proofs.layout_Limits
+pub use Rattle.flat_history.proofs.layout_Places
+pub use Rattle.flat_history.proofs.parity_Columns
+pub use Rattle.flat_history.proofs.parity_Contents
+pub use Rattle.flat_history.proofs.parity_Lacking
+pub use Rattle.flat_history.proofs.parity_OwnFills
+pub use Rattle.flat_history.proofs.parity_Refilled
+pub use Rattle.flat_history.proofs.superblocks_Searches
+pub use Rattle.flat_history.proofs.superblocks_SlotSets
+pub use Rattle.flat_history.proofs.superblocks_ValidFields

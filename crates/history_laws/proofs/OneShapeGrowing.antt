@@ -6,14 +6,14 @@ use Rattle.std.proofs.lemmas.List.Folds.{list_any-append, list_all-append}
 use Rattle.std.specs.Prelude.{fold, map, reverse, not, IsTrue, IsFalse, ⊤}
 use Rattle.std.specs.Option.{option_map_or}
 use Rattle.std.specs.List.{list_any, list_all}
-use Rattle.md_base.specs.Search.{count_below}
-use Rattle.md_base.specs.declared.answers.Who.{Who}
+use Rattle.flat_history.specs.md_base_Search.{count_below}
+use Rattle.flat_history.specs.md_base_the_Who.{Who}
 use Rattle.flat_history.specs.declared.events.Entry.{Entry}
 use Rattle.flat_history.specs.declared.events.Event.{Event}
 use Rattle.flat_history.specs.declared.events.Event.TheVariants.{Lost, SpareLost, Failed}
 use Rattle.flat_history.specs.declared.events.LostCause.{LostCause}
 use Rattle.flat_history.specs.declared.events.LostCause.TheVariants.{Absent, Recovering, Command, Fault}
-use Rattle.bank.specs.declared.bank.Operation.{Operation}
+use Rattle.flat_history.specs.bank_the_Operation.{Operation}
 use Rattle.flat_history.specs.World.{World}
 use Rattle.flat_history.specs.Flat.{is_same_call, rest_of_call, last_of, next_number, number_after}
 use Rattle.flat_history.specs.Transfers.{last_end_from}

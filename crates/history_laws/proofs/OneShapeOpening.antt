@@ -4,11 +4,11 @@ use Rattle.std.proofs.lemmas.Bool.Decides.{nat_tests}
 use Rattle.std.proofs.lemmas.Bool.{lt-ltb}
 use Rattle.std.specs.Prelude.{slice_index_or, option_map, IsTrue}
 use Rattle.std.specs.Option.{option_map_or}
-use Rattle.md_base.proofs.Tabulated.{length-tabulate}
-use Rattle.md_base.specs.declared.answers.Who.{Who}
-use Rattle.md_base.specs.declared.status.Role.{Role}
-use Rattle.md_base.specs.declared.status.Role.TheVariants.{Whole, Recovering, Missing}
-use Rattle.sb1.specs.declared.sb.Sb.{Sb}
+use Rattle.flat_history.proofs.md_base_Tabulated.{length-tabulate}
+use Rattle.flat_history.specs.md_base_the_Who.{Who}
+use Rattle.flat_history.specs.md_base_the_Role.{Role}
+use Rattle.flat_history.specs.md_base_the_Role_TheVariants.{Whole, Recovering, Missing}
+use Rattle.flat_history.specs.sb1_the_Sb.{Sb}
 use Rattle.flat_history.specs.superblocks_Reading.{Reading, reading, reading_by, superblocks, newest_of, holder_from, is_whole, role_state, role_count, is_reshaping}
 use Rattle.flat_history.specs.World.{World, contents_at, reading_at}
 use Rattle.flat_history.specs.Left.{opened_role, found_losses, opening_losses}

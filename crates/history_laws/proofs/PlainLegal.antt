@@ -3,10 +3,10 @@ use Rattle.std.proofs.Common.{rules, ◌≡◌, ℕ, zero, suc, ◌≤◌, Bool,
 use Rattle.std.specs.Prelude.{⊤}
 use Rattle.std.specs.Option.{option_map_or}
 use Rattle.std.specs.List.{list_any, list_all}
-use Rattle.md_base.specs.Search.{count_below}
-use Rattle.md_base.proofs.Counted.{count_below-same}
-use Rattle.md_base.specs.declared.answers.Refusal.TheVariants.{PastEnd, TooManyMissing}
-use Rattle.bank.specs.declared.bank.Operation.{Operation}
+use Rattle.flat_history.specs.md_base_Search.{count_below}
+use Rattle.flat_history.proofs.md_base_Counted.{count_below-same}
+use Rattle.flat_history.specs.md_base_the_Refusal_TheVariants.{PastEnd, TooManyMissing}
+use Rattle.flat_history.specs.bank_the_Operation.{Operation}
 use Rattle.flat_history.specs.declared.events.Entry.{Entry}
 use Rattle.flat_history.specs.declared.events.Event.{Event}
 use Rattle.flat_history.specs.declared.events.Event.TheVariants.{Read, Wrote, Torn, Flushed, Lost, SpareLost, Shown, Stopped, Halted, Refused}
@@ -125,7 +125,7 @@ take-twice (op ∷ ops) (suc m) (suc n) le = ap (λ l. op ∷ l) (take-twice ops
 opening-until : (world : World) (mark : ℕ) → world.first ≤ mark → opening_list (until mark world) ≡ opening_list world
 unfolding opening_list
 opening-until world mark le =
-    ap (λ (ops : List Operation). stands world.scope (λ s k. Rattle.bank.specs.Tape.value_after s k (world.start s k) ops)) (take-twice world.tape world.first mark le)
+    ap (λ (ops : List Operation). stands world.scope (λ s k. Rattle.flat_history.specs.bank_Tape.value_after s k (world.start s k) ops)) (take-twice world.tape world.first mark le)
 
 legal_event : (world : World) (opening : Opening) (before : List Entry) (e : Entry) (rest : List Entry) (event : Event) → opening.list ≡ opening_list world
     → list_all is_no_loss before ≡ true → not (is_loss event) ≡ true → AreNotTooMany rest → IsPlainEvent opening before e rest event → IsLegalEvent world before e rest event

@@ -1,7 +1,7 @@
 -- How a legal history of an array that keeps its shape grows.
 use Rattle.std.specs.Prelude.{ℕ, ◌≤◌, List, ◌++◌}
 use Rattle.std.specs.List.{All}
-use Rattle.md_base.specs.declared.answers.Who.{Who}
+use Rattle.flat_history.specs.md_base_the_Who.{Who}
 use Rattle.flat_history.specs.declared.events.Entry.{Entry}
 use Rattle.flat_history.specs.Flat.{last_of}
 use Rattle.flat_history.specs.Legal.{IsNumbered}

@@ -6,6 +6,10 @@ ghost use Rattle.flat_history.specs.Plain.{PlainHistoriesAreLegal};
 ghost use Rattle.flat_history.specs.Seen.{AnswersStay};
 ghost use Rattle.history_laws.specs.OneShapeGrowth.{OneShapeHistoriesGoOn, OneShapeHistoriesGrow, OpenCallsAreNumbered};
 
+pub use flat_history::{
+    Entries, Entry, Epoch, Event, LostCause, Refusal, Request, Sectors, Who, contains,
+};
+
 /// A mark that was safe stays safe, whatever is done and entered after it.
 pub fn marks_stay_safe()
     ensures { MarksStaySafe }

@@ -1,13 +1,13 @@
 -- The device numbers that slots may bear may be told anew: what was safe stays so.
 use Rattle.std.proofs.Common.{inl, inr, ⊎_elim, ℕ, Bool, List}
-use Rattle.bank.specs.Given.{Given}
-use Rattle.bank.specs.Tape.{disk}
-use Rattle.shape_changes.specs.superblocks_the_Members.{Members}
-use Rattle.shape_changes.specs.flat_history_the_Entry.{Entry}
-use Rattle.shape_changes.specs.flat_history_World.{World}
-use Rattle.shape_changes.specs.flat_history_Sound.{OpensFit}
-use Rattle.shape_changes.specs.Carried.{AreToldAnew}
-use Rattle.shape_changes.proofs.Steady.{seen-anew, numbers-stay-safe}
+use Rattle.array_kept.specs.bank_Given.{Given}
+use Rattle.array_kept.specs.bank_Tape.{disk}
+use Rattle.array_kept.specs.superblocks_the_Members.{Members}
+use Rattle.array_kept.specs.flat_history_the_Entry.{Entry}
+use Rattle.array_kept.specs.flat_history_World.{World}
+use Rattle.array_kept.specs.flat_history_Sound.{OpensFit}
+use Rattle.array_kept.specs.shape_changes_Carried.{AreToldAnew}
+use Rattle.array_kept.proofs.shape_changes_Steady.{seen-anew, numbers-stay-safe}
 use Rattle.kept_history.specs.Safe.{IsNowRight, IsSafeHistory}
 use Rattle.kept_history.specs.Told.{told_now}
 

@@ -2,25 +2,25 @@
 use Rattle.std.proofs.Common.{◌≡◌, inl, inr, ℕ, ◌+◌, ◌<◌, ◌≤◌, Bool, true, None, List, ◌++◌, length, take, sym, ◌∙◌, ap, subst, arith, length-append}
 use Rattle.std.specs.Prelude.{⊤}
 use Rattle.std.proofs.Math.Seq.{take-length}
-use Rattle.md_base.specs.declared.answers.Who.{Who}
-use Rattle.bank.specs.declared.bank.Operation.{Operation}
-use Rattle.bank.specs.Given.{Given, sizes}
-use Rattle.bank.specs.Tape.{Contents, IsDrawn, disk}
-use Rattle.shape_changes.specs.superblocks_the_Members.{Members}
-use Rattle.shape_changes.specs.superblocks_Reading.{Scope}
-use Rattle.shape_changes.specs.flat_history_the_Entry.{Entry}
-use Rattle.shape_changes.specs.flat_history_the_Event.{Event}
-use Rattle.shape_changes.specs.flat_history_CrashSafe.{last_resized}
-use Rattle.shape_changes.specs.flat_history_Growing.{grown, EndBy}
-use Rattle.shape_changes.specs.flat_history_Plain.{entries_of}
-use Rattle.shape_changes.specs.flat_history_Sound.{OpensFit, LeavesSound, LeavesSoundThroughout}
-use Rattle.shape_changes.specs.flat_history_World.{World}
-use Rattle.shape_changes.proofs.flat_history_SoundLaws.{fit-before, throughout-grown}
-use Rattle.history_laws.proofs.OneShapeGrowing.{entries-both}
-use Rattle.shape_changes.specs.shape_views_Views.{Ledger, IsSeenRight}
-use Rattle.shape_changes.specs.Safety.{HasLiveSlot, IsRisen}
-use Rattle.shape_changes.specs.Steady.{IsMoreTold, IsSafeNow, IsSafeOver, KeepsSafe}
-use Rattle.shape_changes.proofs.Steady.{views-told}
+use Rattle.array_kept.specs.md_base_the_Who.{Who}
+use Rattle.array_kept.specs.bank_the_Operation.{Operation}
+use Rattle.array_kept.specs.bank_Given.{Given, sizes}
+use Rattle.array_kept.specs.bank_Tape.{Contents, IsDrawn, disk}
+use Rattle.array_kept.specs.superblocks_the_Members.{Members}
+use Rattle.array_kept.specs.superblocks_Reading.{Scope}
+use Rattle.array_kept.specs.flat_history_the_Entry.{Entry}
+use Rattle.array_kept.specs.flat_history_the_Event.{Event}
+use Rattle.array_kept.specs.flat_history_CrashSafe.{last_resized}
+use Rattle.array_kept.specs.flat_history_Growing.{grown, EndBy}
+use Rattle.array_kept.specs.flat_history_Plain.{entries_of}
+use Rattle.array_kept.specs.flat_history_Sound.{OpensFit, LeavesSound, LeavesSoundThroughout}
+use Rattle.array_kept.specs.flat_history_World.{World}
+use Rattle.array_kept.proofs.flat_history_SoundLaws.{fit-before, throughout-grown}
+use Rattle.array_kept.proofs.history_laws_OneShapeGrowing.{entries-both}
+use Rattle.array_kept.specs.shape_views_Views.{Ledger, IsSeenRight}
+use Rattle.array_kept.specs.shape_changes_Safety.{HasLiveSlot, IsRisen}
+use Rattle.array_kept.specs.shape_changes_Steady.{IsMoreTold, IsSafeNow, IsSafeOver, KeepsSafe}
+use Rattle.array_kept.proofs.shape_changes_Steady.{views-told}
 use Rattle.kept_history.specs.Safe.{world_in, IsFilledRight, IsCounted, IsNowRight, IsSafeHistory}
 use Rattle.kept_history.specs.Told.{told_now, told_by}
 use Rattle.kept_history.proofs.Growing.{reading-grown, fit-grown}

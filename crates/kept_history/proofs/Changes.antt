@@ -4,26 +4,26 @@ use Rattle.std.specs.Prelude.{⊤, IsTrue}
 use Rattle.std.specs.List.{list_any}
 use Rattle.std.specs.Option.{option_map_or}
 use Rattle.std.proofs.Math.Seq.{drop-append_seam, take-length}
-use Rattle.md_base.specs.declared.answers.Who.{Who}
-use Rattle.bank.specs.declared.bank.Operation.{Operation}
-use Rattle.bank.specs.Given.{Given, sizes}
-use Rattle.bank.specs.Tape.{Contents, IsDrawn, disk}
-use Rattle.shape_changes.specs.superblocks_the_Members.{Members}
-use Rattle.shape_changes.specs.superblocks_Reading.{Scope}
-use Rattle.shape_changes.specs.flat_history_the_Entry.{Entry}
-use Rattle.shape_changes.specs.flat_history_the_Event.{Event}
-use Rattle.shape_changes.specs.flat_history_the_Event_TheVariants.{Resized}
-use Rattle.shape_changes.specs.flat_history_CrashSafe.{is_resized, last_resized, first_end, up_to, MayBeLeftOut}
-use Rattle.shape_changes.specs.flat_history_Growing.{grown, EndBy}
-use Rattle.shape_changes.specs.flat_history_Legal.{is_all_gone}
-use Rattle.shape_changes.specs.flat_history_Plain.{entries_of}
-use Rattle.shape_changes.specs.flat_history_Sound.{OpensFit}
-use Rattle.shape_changes.specs.flat_history_World.{World}
-use Rattle.history_laws.proofs.OneShapeGrowing.{one, entries-both}
-use Rattle.shape_changes.specs.shape_views_Views.{Disk, Ledger, IsSeenRight}
-use Rattle.shape_changes.specs.Changing.{IsSpentByEither, IsSafeChange}
-use Rattle.shape_changes.specs.Safety.{HasLiveSlot, IsRisen}
-use Rattle.shape_changes.specs.Steady.{IsMoreTold, IsSafeNow, IsSafeOver, IsSafeStretch}
+use Rattle.array_kept.specs.md_base_the_Who.{Who}
+use Rattle.array_kept.specs.bank_the_Operation.{Operation}
+use Rattle.array_kept.specs.bank_Given.{Given, sizes}
+use Rattle.array_kept.specs.bank_Tape.{Contents, IsDrawn, disk}
+use Rattle.array_kept.specs.superblocks_the_Members.{Members}
+use Rattle.array_kept.specs.superblocks_Reading.{Scope}
+use Rattle.array_kept.specs.flat_history_the_Entry.{Entry}
+use Rattle.array_kept.specs.flat_history_the_Event.{Event}
+use Rattle.array_kept.specs.flat_history_the_Event_TheVariants.{Resized}
+use Rattle.array_kept.specs.flat_history_CrashSafe.{is_resized, last_resized, first_end, up_to, MayBeLeftOut}
+use Rattle.array_kept.specs.flat_history_Growing.{grown, EndBy}
+use Rattle.array_kept.specs.flat_history_Legal.{is_all_gone}
+use Rattle.array_kept.specs.flat_history_Plain.{entries_of}
+use Rattle.array_kept.specs.flat_history_Sound.{OpensFit}
+use Rattle.array_kept.specs.flat_history_World.{World}
+use Rattle.array_kept.proofs.history_laws_OneShapeGrowing.{one, entries-both}
+use Rattle.array_kept.specs.shape_views_Views.{Disk, Ledger, IsSeenRight}
+use Rattle.array_kept.specs.shape_changes_Changing.{IsSpentByEither, IsSafeChange}
+use Rattle.array_kept.specs.shape_changes_Safety.{HasLiveSlot, IsRisen}
+use Rattle.array_kept.specs.shape_changes_Steady.{IsMoreTold, IsSafeNow, IsSafeOver, IsSafeStretch}
 use Rattle.kept_history.specs.Safe.{world_in, IsFilledRight, told_without, IsNowRight, IsSafeHistory}
 use Rattle.kept_history.specs.Told.{told_now, told_by}
 use Rattle.kept_history.proofs.Calls.{LeavesSoundFrom, sound-later, counted-later}

@@ -4,22 +4,22 @@ use Rattle.std.specs.Prelude.{IsTrue}
 use Rattle.std.specs.List.{list_any, list_all}
 use Rattle.std.proofs.lemmas.List.Folds.{list_any-append}
 use Rattle.std.proofs.lemmas.List.Sums.{fold-append}
-use Rattle.md_base.specs.Sectors.{Sector}
-use Rattle.md_base.specs.declared.answers.Who.{Who}
-use Rattle.bank.specs.Tape.{IsIn}
-use Rattle.shape_changes.specs.superblocks_Reading.{Reading}
-use Rattle.shape_changes.specs.flat_history_the_Entry.{Entry}
-use Rattle.shape_changes.specs.flat_history_the_Event.{Event}
-use Rattle.shape_changes.specs.flat_history_the_Event_TheVariants.{Wrote, Torn, Flushed, Lost, SpareLost, Resized, Step, Stopped}
-use Rattle.shape_changes.specs.flat_history_the_LostCause_TheVariants.{Fault}
-use Rattle.shape_changes.specs.flat_history_the_StepKind_TheVariants.{ResyncEnded}
-use Rattle.shape_changes.specs.flat_history_Flat.{length_after, length_of, covers, sector_at, behind, values_after, first_values, values_of, now}
-use Rattle.shape_changes.specs.flat_history_Losses.{takes, loses, settles, is_unsynced, is_gone_after, unsettles}
-use Rattle.shape_changes.specs.flat_history_OneShape.{is_lost, is_unsettled}
-use Rattle.shape_changes.specs.flat_history_Plain.{loses_role, entries_of}
-use Rattle.shape_changes.specs.flat_history_World.{World, reading_at, opening_list}
-use Rattle.history_laws.proofs.OneShapeGrowing.{AreFaults}
-use Rattle.shape_changes.specs.Steady.{IsMoreTold, settled_ledger}
+use Rattle.array_kept.specs.md_base_Sectors.{Sector}
+use Rattle.array_kept.specs.md_base_the_Who.{Who}
+use Rattle.array_kept.specs.bank_Tape.{IsIn}
+use Rattle.array_kept.specs.superblocks_Reading.{Reading}
+use Rattle.array_kept.specs.flat_history_the_Entry.{Entry}
+use Rattle.array_kept.specs.flat_history_the_Event.{Event}
+use Rattle.array_kept.specs.flat_history_the_Event_TheVariants.{Wrote, Torn, Flushed, Lost, SpareLost, Resized, Step, Stopped}
+use Rattle.array_kept.specs.flat_history_the_LostCause_TheVariants.{Fault}
+use Rattle.array_kept.specs.flat_history_the_StepKind_TheVariants.{ResyncEnded}
+use Rattle.array_kept.specs.flat_history_Flat.{length_after, length_of, covers, sector_at, behind, values_after, first_values, values_of, now}
+use Rattle.array_kept.specs.flat_history_Losses.{takes, loses, settles, is_unsynced, is_gone_after, unsettles}
+use Rattle.array_kept.specs.flat_history_OneShape.{is_lost, is_unsettled}
+use Rattle.array_kept.specs.flat_history_Plain.{loses_role, entries_of}
+use Rattle.array_kept.specs.flat_history_World.{World, reading_at, opening_list}
+use Rattle.array_kept.proofs.history_laws_OneShapeGrowing.{AreFaults}
+use Rattle.array_kept.specs.shape_changes_Steady.{IsMoreTold, settled_ledger}
 use Rattle.kept_history.specs.Recorded.{gives_some}
 use Rattle.kept_history.specs.Told.{told_now, told_by}
 use Rattle.kept_history.proofs.Tests.{or-left, or-right}

@@ -3,25 +3,25 @@ use Rattle.std.proofs.Common.{◌≡◌, ℕ, ◌+◌, ◌-◌, ◌<◌, ◌≤�
 use Rattle.std.specs.Prelude.{◌^◌, IfSome, IsTrue}
 use Rattle.std.specs.Option.{option_map_or}
 use Rattle.std.specs.List.{list_any, list_all}
-use Rattle.bank.specs.declared.bank.Operation.{Operation}
-use Rattle.bank.proofs.Laws.{contents-earlier}
-use Rattle.shape_changes.specs.superblocks_the_Members.{Members}
-use Rattle.shape_changes.specs.superblocks_Reading.{Reading, reading, is_clean, is_reshaping}
-use Rattle.shape_changes.specs.flat_history_the_Entry.{Entry}
-use Rattle.shape_changes.specs.flat_history_the_Event.{Event}
-use Rattle.shape_changes.specs.flat_history_the_Event_TheVariants.{Lost, Rebuilt, Step}
-use Rattle.shape_changes.specs.flat_history_the_StepKind_TheVariants.{Begun, TakenOver}
-use Rattle.shape_changes.specs.flat_history_Epochs.{HasRoomForEvents}
-use Rattle.shape_changes.specs.flat_history_Flat.{length_of, values_of}
-use Rattle.shape_changes.specs.flat_history_Growing.{grown, EndBy}
-use Rattle.shape_changes.specs.flat_history_Losses.{takes, gives_back, loses, regains, gone_surely, is_gone_after, is_resync_end, is_unsynced, unsettles}
-use Rattle.shape_changes.specs.flat_history_OneShape.{gives_role, is_unsettled, keeps_shape_event, KeepShape}
-use Rattle.shape_changes.specs.flat_history_Opened.{IsSound}
-use Rattle.shape_changes.specs.flat_history_Plain.{loses_role}
-use Rattle.shape_changes.specs.flat_history_Sound.{OpensFit}
-use Rattle.shape_changes.specs.flat_history_Stands.{stands}
-use Rattle.shape_changes.specs.flat_history_World.{World, contents_at, reading_at, opening_list}
-use Rattle.shape_changes.specs.Safety.{HasLiveSlot, HasRoomLeft}
+use Rattle.array_kept.specs.bank_the_Operation.{Operation}
+use Rattle.array_kept.proofs.bank_Laws.{contents-earlier}
+use Rattle.array_kept.specs.superblocks_the_Members.{Members}
+use Rattle.array_kept.specs.superblocks_Reading.{Reading, reading, is_clean, is_reshaping}
+use Rattle.array_kept.specs.flat_history_the_Entry.{Entry}
+use Rattle.array_kept.specs.flat_history_the_Event.{Event}
+use Rattle.array_kept.specs.flat_history_the_Event_TheVariants.{Lost, Rebuilt, Step}
+use Rattle.array_kept.specs.flat_history_the_StepKind_TheVariants.{Begun, TakenOver}
+use Rattle.array_kept.specs.flat_history_Epochs.{HasRoomForEvents}
+use Rattle.array_kept.specs.flat_history_Flat.{length_of, values_of}
+use Rattle.array_kept.specs.flat_history_Growing.{grown, EndBy}
+use Rattle.array_kept.specs.flat_history_Losses.{takes, gives_back, loses, regains, gone_surely, is_gone_after, is_resync_end, is_unsynced, unsettles}
+use Rattle.array_kept.specs.flat_history_OneShape.{gives_role, is_unsettled, keeps_shape_event, KeepShape}
+use Rattle.array_kept.specs.flat_history_Opened.{IsSound}
+use Rattle.array_kept.specs.flat_history_Plain.{loses_role}
+use Rattle.array_kept.specs.flat_history_Sound.{OpensFit}
+use Rattle.array_kept.specs.flat_history_Stands.{stands}
+use Rattle.array_kept.specs.flat_history_World.{World, contents_at, reading_at, opening_list}
+use Rattle.array_kept.specs.shape_changes_Safety.{HasLiveSlot, HasRoomLeft}
 use Rattle.kept_history.specs.Safe.{IsCounted, IsReshapeFit, OpensOnCourse}
 use Rattle.kept_history.specs.Told.{told_now, told_by}
 

@@ -1,18 +1,18 @@
 -- A call keeps what is kept of the history.
 use Rattle.std.proofs.Common.{◌≡◌, inl, inr, ℕ, ◌==◌, List, ◌++◌, length, ◌∙◌, ap, arith}
 use Rattle.std.specs.Prelude.{IsFalse}
-use Rattle.md_base.specs.Sectors.{Sector}
-use Rattle.md_base.specs.declared.answers.Who.{Who}
-use Rattle.bank.specs.declared.bank.Operation.{Operation}
-use Rattle.shape_changes.specs.flat_history_the_Entry.{Entry}
-use Rattle.shape_changes.specs.flat_history_the_Event.{Event}
-use Rattle.shape_changes.specs.flat_history_Flat.{length_of}
-use Rattle.shape_changes.specs.flat_history_Growing.{grown}
-use Rattle.shape_changes.specs.flat_history_Plain.{entries_of}
-use Rattle.shape_changes.specs.flat_history_Sound.{OpensFit}
-use Rattle.shape_changes.specs.flat_history_Transfers.{last_end_from}
-use Rattle.shape_changes.specs.flat_history_World.{World, opening_list}
-use Rattle.shape_changes.proofs.flat_history_SoundLaws.{fit-before}
+use Rattle.array_kept.specs.md_base_Sectors.{Sector}
+use Rattle.array_kept.specs.md_base_the_Who.{Who}
+use Rattle.array_kept.specs.bank_the_Operation.{Operation}
+use Rattle.array_kept.specs.flat_history_the_Entry.{Entry}
+use Rattle.array_kept.specs.flat_history_the_Event.{Event}
+use Rattle.array_kept.specs.flat_history_Flat.{length_of}
+use Rattle.array_kept.specs.flat_history_Growing.{grown}
+use Rattle.array_kept.specs.flat_history_Plain.{entries_of}
+use Rattle.array_kept.specs.flat_history_Sound.{OpensFit}
+use Rattle.array_kept.specs.flat_history_Transfers.{last_end_from}
+use Rattle.array_kept.specs.flat_history_World.{World, opening_list}
+use Rattle.array_kept.proofs.flat_history_SoundLaws.{fit-before}
 use Rattle.kept_history.specs.Recorded.{IsHistoryKept, IsLegalCall, IsReshapedCall, IsCallGoing, MayFollow}
 use Rattle.kept_history.proofs.Growing.{longer-by, opening-grown}
 use Rattle.kept_history.proofs.Marks.{ends-call}

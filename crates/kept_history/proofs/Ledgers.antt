@@ -4,17 +4,17 @@ use Rattle.std.specs.List.{list_any}
 use Rattle.std.proofs.Math.Seq.{take-append_seam, drop-append_seam, take-length}
 use Rattle.std.proofs.lemmas.List.Folds.{list_any-append}
 use Rattle.std.proofs.lemmas.List.Sums.{fold-append}
-use Rattle.bank.specs.Tape.{IsIn}
-use Rattle.md_base.specs.Sectors.{Sector}
-use Rattle.shape_changes.specs.flat_history_the_Entry.{Entry}
-use Rattle.shape_changes.specs.flat_history_the_Event.{Event}
-use Rattle.shape_changes.specs.flat_history_the_Event_TheVariants.{Flushed, Stopped}
-use Rattle.shape_changes.specs.flat_history_Flat.{length_of, values_of}
-use Rattle.shape_changes.specs.flat_history_Losses.{loses, regains, gone_surely, gone_perhaps, is_gone, is_gone_after, was_dirty, is_resync_end, is_unsynced, settles, unsettles, unsettled_surely, unsettled_perhaps, is_unclean}
-use Rattle.shape_changes.specs.flat_history_OneShape.{is_unsettled}
-use Rattle.shape_changes.specs.flat_history_World.{World, opening_list}
-use Rattle.shape_changes.specs.shape_views_Views.{Ledger, ledger_of}
-use Rattle.shape_changes.specs.Steady.{IsMoreTold}
+use Rattle.array_kept.specs.bank_Tape.{IsIn}
+use Rattle.array_kept.specs.md_base_Sectors.{Sector}
+use Rattle.array_kept.specs.flat_history_the_Entry.{Entry}
+use Rattle.array_kept.specs.flat_history_the_Event.{Event}
+use Rattle.array_kept.specs.flat_history_the_Event_TheVariants.{Flushed, Stopped}
+use Rattle.array_kept.specs.flat_history_Flat.{length_of, values_of}
+use Rattle.array_kept.specs.flat_history_Losses.{loses, regains, gone_surely, gone_perhaps, is_gone, is_gone_after, was_dirty, is_resync_end, is_unsynced, settles, unsettles, unsettled_surely, unsettled_perhaps, is_unclean}
+use Rattle.array_kept.specs.flat_history_OneShape.{is_unsettled}
+use Rattle.array_kept.specs.flat_history_World.{World, opening_list}
+use Rattle.array_kept.specs.shape_views_Views.{Ledger, ledger_of}
+use Rattle.array_kept.specs.shape_changes_Steady.{IsMoreTold}
 use Rattle.kept_history.specs.Safe.{TakesNone}
 use Rattle.kept_history.specs.Told.{told_now, told_by}
 use Rattle.kept_history.proofs.Tests.{neither, or-none, or-left, or-right, or-assoc, weaken, none-take, none-drop}

@@ -3,24 +3,24 @@ use Rattle.std.proofs.Common.{◌≡◌, ℕ, ◌≤◌, ◌||◌, Bool, false, 
 use Rattle.std.specs.List.{list_any, All}
 use Rattle.std.proofs.lemmas.List.Elements.{All-nil, All-cons, All-head, All-tail, All-append}
 use Rattle.std.proofs.lemmas.List.Folds.{list_any-append}
-use Rattle.bank.specs.declared.bank.Operation.{Operation}
-use Rattle.bank.specs.Given.{Given}
-use Rattle.bank.specs.Tape.{Contents, contents, IsDrawn, IsIn, disk, value_after}
-use Rattle.bank.proofs.Images.{disk-some}
-use Rattle.shape_changes.specs.superblocks_the_Members.{Members}
-use Rattle.shape_changes.specs.superblocks_Reading.{Scope}
-use Rattle.shape_changes.specs.flat_history_the_Entry.{Entry}
-use Rattle.shape_changes.specs.flat_history_the_Event.{Event}
-use Rattle.shape_changes.specs.flat_history_the_Event_TheVariants.{Resized}
-use Rattle.shape_changes.specs.flat_history_Growing.{grown, EndBy}
-use Rattle.shape_changes.specs.flat_history_Reshaped.{is_done}
-use Rattle.shape_changes.specs.flat_history_Sound.{OpensFit}
-use Rattle.shape_changes.specs.flat_history_Stands.{stands}
-use Rattle.shape_changes.specs.flat_history_World.{World, contents_at}
-use Rattle.shape_changes.specs.shape_views_Views.{Ledger}
-use Rattle.shape_changes.proofs.shape_views_Standing.{read-length}
-use Rattle.shape_changes.specs.Steady.{AreViewsRight, IsSafeOver}
-use Rattle.shape_changes.proofs.Steady.{safe-is-seen}
+use Rattle.array_kept.specs.bank_the_Operation.{Operation}
+use Rattle.array_kept.specs.bank_Given.{Given}
+use Rattle.array_kept.specs.bank_Tape.{Contents, contents, IsDrawn, IsIn, disk, value_after}
+use Rattle.array_kept.proofs.bank_Images.{disk-some}
+use Rattle.array_kept.specs.superblocks_the_Members.{Members}
+use Rattle.array_kept.specs.superblocks_Reading.{Scope}
+use Rattle.array_kept.specs.flat_history_the_Entry.{Entry}
+use Rattle.array_kept.specs.flat_history_the_Event.{Event}
+use Rattle.array_kept.specs.flat_history_the_Event_TheVariants.{Resized}
+use Rattle.array_kept.specs.flat_history_Growing.{grown, EndBy}
+use Rattle.array_kept.specs.flat_history_Reshaped.{is_done}
+use Rattle.array_kept.specs.flat_history_Sound.{OpensFit}
+use Rattle.array_kept.specs.flat_history_Stands.{stands}
+use Rattle.array_kept.specs.flat_history_World.{World, contents_at}
+use Rattle.array_kept.specs.shape_views_Views.{Ledger}
+use Rattle.array_kept.proofs.shape_views_Standing.{read-length}
+use Rattle.array_kept.specs.shape_changes_Steady.{AreViewsRight, IsSafeOver}
+use Rattle.array_kept.proofs.shape_changes_Steady.{safe-is-seen}
 use Rattle.kept_history.specs.Recorded.{IsLengthKept, IsOpenBehind}
 use Rattle.kept_history.specs.Safe.{world_in}
 use Rattle.kept_history.proofs.Growing.{contents-grown}

@@ -3,16 +3,16 @@ use Rattle.std.proofs.Common.{◌≡◌, inl, ℕ, zero, suc, ◌+◌, ◌<◌, 
 use Rattle.std.specs.Prelude.{slice_index_or}
 use Rattle.std.specs.Option.{option_map_or}
 use Rattle.std.proofs.lemmas.Bool.Decides.{nat_tests}
-use Rattle.md_base.specs.Sectors.{Sector, zero_sector}
-use Rattle.bank.specs.Tape.{IsIn}
-use Rattle.shape_changes.specs.flat_history_the_Entry.{Entry}
-use Rattle.shape_changes.specs.flat_history_the_Event.{Event}
-use Rattle.shape_changes.specs.flat_history_the_Event_TheVariants.{Wrote, Torn, Flushed, Resized, Stopped}
-use Rattle.shape_changes.specs.flat_history_Flat.{is_same_call, rest_of_call, length_after, length_of, limit_of, visible_of, covers, sector_at, behind, resized, values_after, first_values, values_of, now}
-use Rattle.shape_changes.specs.flat_history_Legal.{call_end, IsLegalEvent, AreLegal, IsLegal}
-use Rattle.shape_changes.specs.flat_history_Transfers.{last_end_from}
-use Rattle.shape_changes.specs.flat_history_World.{World, until, opening_list}
-use Rattle.shape_changes.proofs.flat_history_OneShapeLegal.{list-until}
+use Rattle.array_kept.specs.md_base_Sectors.{Sector, zero_sector}
+use Rattle.array_kept.specs.bank_Tape.{IsIn}
+use Rattle.array_kept.specs.flat_history_the_Entry.{Entry}
+use Rattle.array_kept.specs.flat_history_the_Event.{Event}
+use Rattle.array_kept.specs.flat_history_the_Event_TheVariants.{Wrote, Torn, Flushed, Resized, Stopped}
+use Rattle.array_kept.specs.flat_history_Flat.{is_same_call, rest_of_call, length_after, length_of, limit_of, visible_of, covers, sector_at, behind, resized, values_after, first_values, values_of, now}
+use Rattle.array_kept.specs.flat_history_Legal.{call_end, IsLegalEvent, AreLegal, IsLegal}
+use Rattle.array_kept.specs.flat_history_Transfers.{last_end_from}
+use Rattle.array_kept.specs.flat_history_World.{World, until, opening_list}
+use Rattle.array_kept.proofs.flat_history_OneShapeLegal.{list-until}
 use Rattle.kept_history.proofs.Entered.{AreAdding, lengths-stay, all-stay, values-more, length-more}
 use Rattle.kept_history.proofs.Records.{end-snoc}
 

@@ -4,27 +4,27 @@ use Rattle.std.specs.Prelude.{IfSome, IsTrue, filter, ⊤}
 use Rattle.std.specs.Option.{option_map_or}
 use Rattle.std.specs.List.{list_any}
 use Rattle.std.proofs.lemmas.List.Folds.{list_any-append}
-use Rattle.md_base.specs.Sectors.{Sector}
-use Rattle.md_base.specs.Search.{count_below, any_below, all_below}
-use Rattle.md_base.specs.Shapes.{tolerance_of, data_disks}
-use Rattle.md_base.specs.declared.answers.Refusal.{Refusal}
-use Rattle.md_base.specs.declared.answers.Refusal.TheVariants.{PastEnd, TooManyMissing, NotResynced}
-use Rattle.md_base.proofs.Counted.{all_below-implied}
-use Rattle.bank.specs.declared.bank.Operation.{Operation}
-use Rattle.bank.specs.Tape.{Contents}
-use Rattle.shape_changes.specs.superblocks_Reading.{Reading, role_count, target_of}
-use Rattle.shape_changes.specs.flat_history_the_Entry.{Entry}
-use Rattle.shape_changes.specs.flat_history_the_Event.{Event}
-use Rattle.shape_changes.specs.flat_history_the_Event_TheVariants.{Lost, SpareLost, Rebuilt, Resized, Step, Refused}
-use Rattle.shape_changes.specs.flat_history_the_LostCause_TheVariants.{Fault}
-use Rattle.shape_changes.specs.flat_history_the_StepKind.{StepKind}
-use Rattle.shape_changes.specs.flat_history_the_StepKind_TheVariants.{Begun, Entered, Finished, WindowFinished}
-use Rattle.shape_changes.specs.flat_history_Flat.{is_same_call, last_of, length_of, visible_of}
-use Rattle.shape_changes.specs.flat_history_Growing.{grown, EndBy}
-use Rattle.shape_changes.specs.flat_history_Legal.{is_loss, last_but_losses, is_all_gone, before_last_step, end_before, IsLengthOfTarget, IsLengthOfLevel, IsUnkeptLength, ChangesLength, IsResizedBy, IsResizedAfter, IsResized, call_before, disturbs, told_left, known_left, is_free_step, IsStep, level_after, level_at, IsRefusedRight, IsLegalEvent}
-use Rattle.shape_changes.specs.flat_history_Losses.{regains, gives_back, is_gone_after}
-use Rattle.shape_changes.specs.flat_history_Stands.{stands}
-use Rattle.shape_changes.specs.flat_history_World.{World, contents_at, reading_at}
+use Rattle.array_kept.specs.md_base_Sectors.{Sector}
+use Rattle.array_kept.specs.md_base_Search.{count_below, any_below, all_below}
+use Rattle.array_kept.specs.md_base_Shapes.{tolerance_of, data_disks}
+use Rattle.array_kept.specs.md_base_the_Refusal.{Refusal}
+use Rattle.array_kept.specs.md_base_the_Refusal_TheVariants.{PastEnd, TooManyMissing, NotResynced}
+use Rattle.array_kept.proofs.md_base_Counted.{all_below-implied}
+use Rattle.array_kept.specs.bank_the_Operation.{Operation}
+use Rattle.array_kept.specs.bank_Tape.{Contents}
+use Rattle.array_kept.specs.superblocks_Reading.{Reading, role_count, target_of}
+use Rattle.array_kept.specs.flat_history_the_Entry.{Entry}
+use Rattle.array_kept.specs.flat_history_the_Event.{Event}
+use Rattle.array_kept.specs.flat_history_the_Event_TheVariants.{Lost, SpareLost, Rebuilt, Resized, Step, Refused}
+use Rattle.array_kept.specs.flat_history_the_LostCause_TheVariants.{Fault}
+use Rattle.array_kept.specs.flat_history_the_StepKind.{StepKind}
+use Rattle.array_kept.specs.flat_history_the_StepKind_TheVariants.{Begun, Entered, Finished, WindowFinished}
+use Rattle.array_kept.specs.flat_history_Flat.{is_same_call, last_of, length_of, visible_of}
+use Rattle.array_kept.specs.flat_history_Growing.{grown, EndBy}
+use Rattle.array_kept.specs.flat_history_Legal.{is_loss, last_but_losses, is_all_gone, before_last_step, end_before, IsLengthOfTarget, IsLengthOfLevel, IsUnkeptLength, ChangesLength, IsResizedBy, IsResizedAfter, IsResized, call_before, disturbs, told_left, known_left, is_free_step, IsStep, level_after, level_at, IsRefusedRight, IsLegalEvent}
+use Rattle.array_kept.specs.flat_history_Losses.{regains, gives_back, is_gone_after}
+use Rattle.array_kept.specs.flat_history_Stands.{stands}
+use Rattle.array_kept.specs.flat_history_World.{World, contents_at, reading_at}
 use Rattle.kept_history.specs.Recorded.{MayGoOn, IsLengthKept, gives_some}
 use Rattle.kept_history.proofs.Tests.{neither, or-left}
 use Rattle.kept_history.proofs.Growing.{contents-grown, reading-grown, opening-grown, unsynced-grown, gone-grown}

@@ -3,24 +3,24 @@ use Rattle.std.proofs.Common.{◌≡◌, inl, inr, ℕ, suc, ◌+◌, ◌<◌, �
 use Rattle.std.proofs.Math.Seq.{drop-append_seam}
 use Rattle.std.proofs.lemmas.Bool.{cases_lt, lt-leb, le-leb}
 use Rattle.std.proofs.lemmas.Bool.Decides.{nat_tests}
-use Rattle.md_base.specs.declared.answers.Who.{Who}
-use Rattle.bank.specs.declared.bank.Operation.{Operation}
-use Rattle.bank.specs.Given.{Given, sizes}
-use Rattle.bank.specs.Tape.{Contents, IsDrawn, IsIn, disk}
-use Rattle.shape_changes.specs.superblocks_Reading.{Scope}
-use Rattle.shape_changes.specs.flat_history_the_Entry.{Entry}
-use Rattle.shape_changes.specs.flat_history_the_Event.{Event}
-use Rattle.shape_changes.specs.flat_history_CrashSafe.{made_by, may_be_made, first_call_len, MayBeJudgedBy, IsSafeAt}
-use Rattle.shape_changes.specs.flat_history_Flat.{is_same_call, rest_of_call}
-use Rattle.shape_changes.specs.flat_history_Growing.{grown, EndBy, MadeFrom, IsSafeThroughout}
-use Rattle.shape_changes.specs.flat_history_Losses.{is_gone}
-use Rattle.shape_changes.specs.flat_history_Plain.{entries_of}
-use Rattle.shape_changes.specs.flat_history_Sound.{OpensFit}
-use Rattle.shape_changes.specs.flat_history_World.{World}
-use Rattle.history_laws.proofs.GrowingLaws.{calls-owe}
-use Rattle.history_laws.proofs.OneShapeGrowing.{one}
-use Rattle.shape_changes.specs.shape_views_Views.{Disk, IsSeenRight, ledger_of}
-use Rattle.shape_changes.proofs.shape_views_Judged.{views-safe}
+use Rattle.array_kept.specs.md_base_the_Who.{Who}
+use Rattle.array_kept.specs.bank_the_Operation.{Operation}
+use Rattle.array_kept.specs.bank_Given.{Given, sizes}
+use Rattle.array_kept.specs.bank_Tape.{Contents, IsDrawn, IsIn, disk}
+use Rattle.array_kept.specs.superblocks_Reading.{Scope}
+use Rattle.array_kept.specs.flat_history_the_Entry.{Entry}
+use Rattle.array_kept.specs.flat_history_the_Event.{Event}
+use Rattle.array_kept.specs.flat_history_CrashSafe.{made_by, may_be_made, first_call_len, MayBeJudgedBy, IsSafeAt}
+use Rattle.array_kept.specs.flat_history_Flat.{is_same_call, rest_of_call}
+use Rattle.array_kept.specs.flat_history_Growing.{grown, EndBy, MadeFrom, IsSafeThroughout}
+use Rattle.array_kept.specs.flat_history_Losses.{is_gone}
+use Rattle.array_kept.specs.flat_history_Plain.{entries_of}
+use Rattle.array_kept.specs.flat_history_Sound.{OpensFit}
+use Rattle.array_kept.specs.flat_history_World.{World}
+use Rattle.array_kept.proofs.history_laws_GrowingLaws.{calls-owe}
+use Rattle.array_kept.proofs.history_laws_OneShapeGrowing.{one}
+use Rattle.array_kept.specs.shape_views_Views.{Disk, IsSeenRight, ledger_of}
+use Rattle.array_kept.proofs.shape_views_Judged.{views-safe}
 use Rattle.kept_history.specs.Safe.{world_in, IsFilledRight}
 use Rattle.kept_history.proofs.Growing.{longer-by}
 use Rattle.kept_history.proofs.Ledgers.{judged_by, none-gone}

@@ -4,27 +4,27 @@ use Rattle.std.specs.Prelude.{⊤, IsTrue, map}
 use Rattle.std.specs.List.{list_all}
 use Rattle.std.proofs.lemmas.Bool.Decides.{nat_tests}
 use Rattle.std.proofs.lemmas.List.Folds.{list_all-append}
-use Rattle.md_base.specs.declared.answers.Who.{Who}
-use Rattle.bank.specs.declared.bank.Operation.{Operation}
-use Rattle.bank.specs.Given.{Given, sizes}
-use Rattle.shape_changes.specs.superblocks_the_Members.{Members}
-use Rattle.shape_changes.specs.superblocks_Reading.{Scope}
-use Rattle.shape_changes.specs.flat_history_the_Entry.{Entry}
-use Rattle.shape_changes.specs.flat_history_the_Event.{Event}
-use Rattle.shape_changes.specs.flat_history_the_Event_TheVariants.{Lost}
-use Rattle.shape_changes.specs.flat_history_the_LostCause.{LostCause}
-use Rattle.shape_changes.specs.flat_history_the_LostCause_TheVariants.{Absent, Recovering}
-use Rattle.shape_changes.specs.flat_history_CrashSafe.{IsSafeAt}
-use Rattle.shape_changes.specs.flat_history_Growing.{grown}
-use Rattle.shape_changes.specs.flat_history_Legal.{GoesOn, IsNumbered, IsOfOpening, IsAbsentAtFirst, IsLost, IsLegalEntry, call_end, AreLegal}
-use Rattle.shape_changes.specs.flat_history_Plain.{entries_of}
-use Rattle.shape_changes.specs.flat_history_Sound.{OpensFit, LeavesSound}
-use Rattle.shape_changes.specs.flat_history_Transfers.{last_end_from}
-use Rattle.shape_changes.specs.flat_history_World.{World, until, opening_list}
-use Rattle.shape_changes.proofs.flat_history_OneShapeLegal.{last-snoc}
-use Rattle.history_laws.proofs.OneShapeGrowing.{inner-of}
-use Rattle.shape_changes.specs.Safety.{HasLiveSlot}
-use Rattle.shape_changes.specs.Steady.{IsSafeOver}
+use Rattle.array_kept.specs.md_base_the_Who.{Who}
+use Rattle.array_kept.specs.bank_the_Operation.{Operation}
+use Rattle.array_kept.specs.bank_Given.{Given, sizes}
+use Rattle.array_kept.specs.superblocks_the_Members.{Members}
+use Rattle.array_kept.specs.superblocks_Reading.{Scope}
+use Rattle.array_kept.specs.flat_history_the_Entry.{Entry}
+use Rattle.array_kept.specs.flat_history_the_Event.{Event}
+use Rattle.array_kept.specs.flat_history_the_Event_TheVariants.{Lost}
+use Rattle.array_kept.specs.flat_history_the_LostCause.{LostCause}
+use Rattle.array_kept.specs.flat_history_the_LostCause_TheVariants.{Absent, Recovering}
+use Rattle.array_kept.specs.flat_history_CrashSafe.{IsSafeAt}
+use Rattle.array_kept.specs.flat_history_Growing.{grown}
+use Rattle.array_kept.specs.flat_history_Legal.{GoesOn, IsNumbered, IsOfOpening, IsAbsentAtFirst, IsLost, IsLegalEntry, call_end, AreLegal}
+use Rattle.array_kept.specs.flat_history_Plain.{entries_of}
+use Rattle.array_kept.specs.flat_history_Sound.{OpensFit, LeavesSound}
+use Rattle.array_kept.specs.flat_history_Transfers.{last_end_from}
+use Rattle.array_kept.specs.flat_history_World.{World, until, opening_list}
+use Rattle.array_kept.proofs.flat_history_OneShapeLegal.{last-snoc}
+use Rattle.array_kept.proofs.history_laws_OneShapeGrowing.{inner-of}
+use Rattle.array_kept.specs.shape_changes_Safety.{HasLiveSlot}
+use Rattle.array_kept.specs.shape_changes_Steady.{IsSafeOver}
 use Rattle.kept_history.specs.Recorded.{IsHistoryKept, entry_of, IsReshapedCall}
 use Rattle.kept_history.specs.Safe.{world_in, IsFilledRight, IsCounted, IsNowRight, IsSafeHistory}
 use Rattle.kept_history.specs.Told.{told_now}

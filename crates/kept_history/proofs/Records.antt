@@ -6,24 +6,24 @@ use Rattle.std.specs.Option.{option_map_or}
 use Rattle.std.proofs.lemmas.Bool.Decides.{nat_tests}
 use Rattle.std.proofs.lemmas.List.{take-append-drop, take-take, length-take-le}
 use Rattle.std.proofs.lemmas.List.Elements.{All-nil, All-append, All-cons, All-head, All-tail}
-use Rattle.md_base.specs.declared.answers.Who.{Who}
-use Rattle.bank.specs.declared.bank.Operation.{Operation}
-use Rattle.bank.specs.Tape.{Contents, value_after}
-use Rattle.shape_changes.specs.flat_history_the_Entry.{Entry}
-use Rattle.shape_changes.specs.flat_history_the_Event.{Event}
-use Rattle.shape_changes.specs.flat_history_the_Event_TheVariants.{Lost, SpareLost, Rebuilt, Resized, Step, Refused}
-use Rattle.shape_changes.specs.flat_history_the_LostCause_TheVariants.{Fault}
-use Rattle.shape_changes.specs.flat_history_Flat.{is_same_call, rest_of_call, last_of, next_number}
-use Rattle.shape_changes.specs.flat_history_Growing.{grown, EndBy, BeginAnother}
-use Rattle.shape_changes.specs.flat_history_Legal.{GoesOn, IsNumbered, IsInnerOrLast, IsOfOpening, IsLegalEvent, IsLegalEntry, call_end, AreLegal, IsLegal}
-use Rattle.shape_changes.specs.flat_history_OneShape.{GoesOnBehind, IsOfCall, IsCallOpen}
-use Rattle.shape_changes.specs.flat_history_Plain.{entries_of}
-use Rattle.shape_changes.specs.flat_history_Stands.{stands}
-use Rattle.shape_changes.specs.flat_history_Transfers.{last_end_from}
-use Rattle.shape_changes.specs.flat_history_World.{World, until, contents_at}
-use Rattle.shape_changes.proofs.flat_history_LegalLaws.{histories-stay-legal, rest-apart, another-behind}
-use Rattle.shape_changes.proofs.flat_history_OneShapeLegal.{last-snoc}
-use Rattle.history_laws.proofs.OneShapeGrowing.{AreFaults, next-begins, none-another}
+use Rattle.array_kept.specs.md_base_the_Who.{Who}
+use Rattle.array_kept.specs.bank_the_Operation.{Operation}
+use Rattle.array_kept.specs.bank_Tape.{Contents, value_after}
+use Rattle.array_kept.specs.flat_history_the_Entry.{Entry}
+use Rattle.array_kept.specs.flat_history_the_Event.{Event}
+use Rattle.array_kept.specs.flat_history_the_Event_TheVariants.{Lost, SpareLost, Rebuilt, Resized, Step, Refused}
+use Rattle.array_kept.specs.flat_history_the_LostCause_TheVariants.{Fault}
+use Rattle.array_kept.specs.flat_history_Flat.{is_same_call, rest_of_call, last_of, next_number}
+use Rattle.array_kept.specs.flat_history_Growing.{grown, EndBy, BeginAnother}
+use Rattle.array_kept.specs.flat_history_Legal.{GoesOn, IsNumbered, IsInnerOrLast, IsOfOpening, IsLegalEvent, IsLegalEntry, call_end, AreLegal, IsLegal}
+use Rattle.array_kept.specs.flat_history_OneShape.{GoesOnBehind, IsOfCall, IsCallOpen}
+use Rattle.array_kept.specs.flat_history_Plain.{entries_of}
+use Rattle.array_kept.specs.flat_history_Stands.{stands}
+use Rattle.array_kept.specs.flat_history_Transfers.{last_end_from}
+use Rattle.array_kept.specs.flat_history_World.{World, until, contents_at}
+use Rattle.array_kept.proofs.flat_history_LegalLaws.{histories-stay-legal, rest-apart, another-behind}
+use Rattle.array_kept.proofs.flat_history_OneShapeLegal.{last-snoc}
+use Rattle.array_kept.proofs.history_laws_OneShapeGrowing.{AreFaults, next-begins, none-another}
 use Rattle.kept_history.specs.Recorded.{entry_of, IsLegalCall, MayGoOn, IsCallGoing, IsLengthKept, gives_some}
 use Rattle.kept_history.proofs.Growing.{longer-by}
 use Rattle.kept_history.proofs.Longer.{event-longer}

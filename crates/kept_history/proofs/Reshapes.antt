@@ -3,26 +3,26 @@ use Rattle.std.proofs.Common.{◌≡◌, inl, inr, ℕ, zero, suc, ◌+◌, ◌�
 use Rattle.std.specs.Bool.{OnTrue}
 use Rattle.std.specs.List.{list_any, All}
 use Rattle.std.proofs.lemmas.List.Elements.{All-append}
-use Rattle.md_base.specs.Search.{count_below}
-use Rattle.md_base.specs.declared.answers.Who.{Who}
-use Rattle.md_base.specs.declared.places.Shape.{Shape}
-use Rattle.bank.specs.declared.bank.Operation.{Operation}
-use Rattle.shape_changes.specs.flat_history_the_Entry.{Entry}
-use Rattle.shape_changes.specs.flat_history_the_Event.{Event}
-use Rattle.shape_changes.specs.flat_history_the_Event_TheVariants.{Lost, SpareLost, Rebuilt, Step}
-use Rattle.shape_changes.specs.flat_history_the_LostCause_TheVariants.{Fault}
-use Rattle.shape_changes.specs.flat_history_the_StepKind_TheVariants.{Begun, Finished}
-use Rattle.shape_changes.specs.flat_history_Flat.{is_same_call, last_of}
-use Rattle.shape_changes.specs.flat_history_Growing.{grown, EndBy, BeginAnother}
-use Rattle.shape_changes.specs.flat_history_Legal.{end_before, target_at}
-use Rattle.shape_changes.specs.flat_history_Losses.{is_gone_after}
-use Rattle.shape_changes.specs.flat_history_OneShape.{IsOfCall}
-use Rattle.shape_changes.specs.flat_history_Plain.{entries_of}
-use Rattle.shape_changes.specs.flat_history_Reshaped.{AreTooManyGone, behind, comes_with_finish, comes_with_step, IsConsistentAt, IsFinishedRight, is_done, open_plans, planned_shape, ArePlansDone, IsReshapedBy, AreReshaped, IsReshaped}
-use Rattle.shape_changes.specs.flat_history_World.{World, until}
-use Rattle.shape_changes.proofs.flat_history_LegalLaws.{both, another-last, another-behind}
-use Rattle.history_laws.proofs.OneShapeGrowing.{AreFaults}
-use Rattle.history_laws.proofs.ReshapedLaws.{reshapes-stay-right}
+use Rattle.array_kept.specs.md_base_Search.{count_below}
+use Rattle.array_kept.specs.md_base_the_Who.{Who}
+use Rattle.array_kept.specs.md_base_the_Shape.{Shape}
+use Rattle.array_kept.specs.bank_the_Operation.{Operation}
+use Rattle.array_kept.specs.flat_history_the_Entry.{Entry}
+use Rattle.array_kept.specs.flat_history_the_Event.{Event}
+use Rattle.array_kept.specs.flat_history_the_Event_TheVariants.{Lost, SpareLost, Rebuilt, Step}
+use Rattle.array_kept.specs.flat_history_the_LostCause_TheVariants.{Fault}
+use Rattle.array_kept.specs.flat_history_the_StepKind_TheVariants.{Begun, Finished}
+use Rattle.array_kept.specs.flat_history_Flat.{is_same_call, last_of}
+use Rattle.array_kept.specs.flat_history_Growing.{grown, EndBy, BeginAnother}
+use Rattle.array_kept.specs.flat_history_Legal.{end_before, target_at}
+use Rattle.array_kept.specs.flat_history_Losses.{is_gone_after}
+use Rattle.array_kept.specs.flat_history_OneShape.{IsOfCall}
+use Rattle.array_kept.specs.flat_history_Plain.{entries_of}
+use Rattle.array_kept.specs.flat_history_Reshaped.{AreTooManyGone, behind, comes_with_finish, comes_with_step, IsConsistentAt, IsFinishedRight, is_done, open_plans, planned_shape, ArePlansDone, IsReshapedBy, AreReshaped, IsReshaped}
+use Rattle.array_kept.specs.flat_history_World.{World, until}
+use Rattle.array_kept.proofs.flat_history_LegalLaws.{both, another-last, another-behind}
+use Rattle.array_kept.proofs.history_laws_OneShapeGrowing.{AreFaults}
+use Rattle.array_kept.proofs.history_laws_ReshapedLaws.{reshapes-stay-right}
 use Rattle.kept_history.specs.Recorded.{entry_of, IsReshapedCall, ends_reshape, IsCallGoing, gives_some}
 use Rattle.kept_history.proofs.Tests.{neither}
 use Rattle.kept_history.proofs.Longer.{gone-still}

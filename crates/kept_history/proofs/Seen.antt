@@ -1,25 +1,25 @@
 -- Images that are seen right by what a history tells now.
 use Rattle.std.proofs.Common.{◌≡◌, inl, inr, ℕ, ◌≤◌, Bool, true, List, ◌++◌, length, take, remove, refl, sym, ◌∙◌, ap, subst, arith}
 use Rattle.std.proofs.Math.Seq.{take-length}
-use Rattle.md_base.specs.declared.answers.Who.{Who}
-use Rattle.bank.specs.declared.bank.Operation.{Operation}
-use Rattle.bank.specs.Given.{Given, sizes}
-use Rattle.bank.specs.Tape.{Contents, IsDrawn, IsIn, disk}
-use Rattle.shape_changes.specs.superblocks_the_Members.{Members}
-use Rattle.shape_changes.specs.superblocks_Reading.{Scope, list_length}
-use Rattle.shape_changes.specs.flat_history_the_Entry.{Entry}
-use Rattle.shape_changes.specs.flat_history_the_Event.{Event}
-use Rattle.shape_changes.specs.flat_history_Flat.{length_of, values_of}
-use Rattle.shape_changes.specs.flat_history_Growing.{grown, EndBy}
-use Rattle.shape_changes.specs.flat_history_Plain.{entries_of}
-use Rattle.shape_changes.specs.flat_history_Sound.{OpensFit}
-use Rattle.shape_changes.specs.flat_history_World.{World, opening_list}
-use Rattle.shape_changes.specs.shape_views_Views.{Disk, Ledger, IsSettled, IsViewRight, IsSeenRight, ledger_of}
-use Rattle.shape_changes.proofs.shape_views_Stands.{window-inside}
-use Rattle.shape_changes.proofs.shape_views_WindowLaws.{open-window}
-use Rattle.shape_changes.specs.Steady.{IsMoreTold, IsSafeNow}
-use Rattle.shape_changes.proofs.Steady.{safe-is-seen, losing-stays-safe}
-use Rattle.shape_changes.proofs.Without.{without-none}
+use Rattle.array_kept.specs.md_base_the_Who.{Who}
+use Rattle.array_kept.specs.bank_the_Operation.{Operation}
+use Rattle.array_kept.specs.bank_Given.{Given, sizes}
+use Rattle.array_kept.specs.bank_Tape.{Contents, IsDrawn, IsIn, disk}
+use Rattle.array_kept.specs.superblocks_the_Members.{Members}
+use Rattle.array_kept.specs.superblocks_Reading.{Scope, list_length}
+use Rattle.array_kept.specs.flat_history_the_Entry.{Entry}
+use Rattle.array_kept.specs.flat_history_the_Event.{Event}
+use Rattle.array_kept.specs.flat_history_Flat.{length_of, values_of}
+use Rattle.array_kept.specs.flat_history_Growing.{grown, EndBy}
+use Rattle.array_kept.specs.flat_history_Plain.{entries_of}
+use Rattle.array_kept.specs.flat_history_Sound.{OpensFit}
+use Rattle.array_kept.specs.flat_history_World.{World, opening_list}
+use Rattle.array_kept.specs.shape_views_Views.{Disk, Ledger, IsSettled, IsViewRight, IsSeenRight, ledger_of}
+use Rattle.array_kept.proofs.shape_views_Stands.{window-inside}
+use Rattle.array_kept.proofs.shape_views_WindowLaws.{open-window}
+use Rattle.array_kept.specs.shape_changes_Steady.{IsMoreTold, IsSafeNow}
+use Rattle.array_kept.proofs.shape_changes_Steady.{safe-is-seen, losing-stays-safe}
+use Rattle.array_kept.proofs.shape_changes_Without.{without-none}
 use Rattle.kept_history.specs.Safe.{world_in, IsFilledRight, told_without, IsNowRight}
 use Rattle.kept_history.specs.Told.{told_now}
 use Rattle.kept_history.proofs.Ledgers.{judged_by, now-ledger}

@@ -4,27 +4,27 @@ use Rattle.std.specs.Prelude.{IfSome, IsTrue}
 use Rattle.std.specs.List.{list_any}
 use Rattle.std.proofs.lemmas.Bool.Decides.{nat_tests}
 use Rattle.std.proofs.lemmas.List.Folds.{list_any-append}
-use Rattle.md_base.specs.Search.{count_below}
-use Rattle.md_base.specs.Shapes.{tolerance_of}
-use Rattle.bank.specs.declared.bank.Operation.{Operation}
-use Rattle.bank.specs.Tape.{IsIn}
-use Rattle.shape_changes.specs.superblocks_Reading.{Reading, reading, is_reshaping, shape_of}
-use Rattle.shape_changes.specs.flat_history_the_Entry.{Entry}
-use Rattle.shape_changes.specs.flat_history_the_Event.{Event}
-use Rattle.shape_changes.specs.flat_history_the_Event_TheVariants.{Lost, Rebuilt, Step}
-use Rattle.shape_changes.specs.flat_history_the_StepKind_TheVariants.{Begun, TakenOver}
-use Rattle.shape_changes.specs.flat_history_Growing.{grown, EndBy}
-use Rattle.shape_changes.specs.flat_history_Legal.{level_at, IsTooManyMissing}
-use Rattle.shape_changes.specs.flat_history_Flat.{length_of, values_of}
-use Rattle.shape_changes.specs.flat_history_Losses.{takes, gives_back, loses, settles, unsettles, is_gone_after, is_unsynced}
-use Rattle.shape_changes.specs.flat_history_OneShape.{is_lost, is_unsettled}
-use Rattle.shape_changes.specs.flat_history_Opened.{IsSound}
-use Rattle.shape_changes.specs.flat_history_Plain.{loses_role}
-use Rattle.shape_changes.specs.flat_history_Sound.{FillsRight, OpensFit}
-use Rattle.shape_changes.specs.flat_history_World.{World, contents_at, reading_at, opening_list}
-use Rattle.shape_changes.proofs.flat_history_GoneCounts.{few_missing}
-use Rattle.shape_changes.proofs.flat_history_SoundLaws.{fit-before}
-use Rattle.shape_changes.specs.Steady.{IsMoreTold, given_back}
+use Rattle.array_kept.specs.md_base_Search.{count_below}
+use Rattle.array_kept.specs.md_base_Shapes.{tolerance_of}
+use Rattle.array_kept.specs.bank_the_Operation.{Operation}
+use Rattle.array_kept.specs.bank_Tape.{IsIn}
+use Rattle.array_kept.specs.superblocks_Reading.{Reading, reading, is_reshaping, shape_of}
+use Rattle.array_kept.specs.flat_history_the_Entry.{Entry}
+use Rattle.array_kept.specs.flat_history_the_Event.{Event}
+use Rattle.array_kept.specs.flat_history_the_Event_TheVariants.{Lost, Rebuilt, Step}
+use Rattle.array_kept.specs.flat_history_the_StepKind_TheVariants.{Begun, TakenOver}
+use Rattle.array_kept.specs.flat_history_Growing.{grown, EndBy}
+use Rattle.array_kept.specs.flat_history_Legal.{level_at, IsTooManyMissing}
+use Rattle.array_kept.specs.flat_history_Flat.{length_of, values_of}
+use Rattle.array_kept.specs.flat_history_Losses.{takes, gives_back, loses, settles, unsettles, is_gone_after, is_unsynced}
+use Rattle.array_kept.specs.flat_history_OneShape.{is_lost, is_unsettled}
+use Rattle.array_kept.specs.flat_history_Opened.{IsSound}
+use Rattle.array_kept.specs.flat_history_Plain.{loses_role}
+use Rattle.array_kept.specs.flat_history_Sound.{FillsRight, OpensFit}
+use Rattle.array_kept.specs.flat_history_World.{World, contents_at, reading_at, opening_list}
+use Rattle.array_kept.proofs.flat_history_GoneCounts.{few_missing}
+use Rattle.array_kept.proofs.flat_history_SoundLaws.{fit-before}
+use Rattle.array_kept.specs.shape_changes_Steady.{IsMoreTold, given_back}
 use Rattle.kept_history.specs.Recorded.{gives_some}
 use Rattle.kept_history.specs.Safe.{is_taken_over, IsReshapeFit, OpensOnCourse, IsFilledRight}
 use Rattle.kept_history.specs.Told.{told_now, told_by}

@@ -2,30 +2,30 @@
 use Rattle.std.proofs.Common.{◌≡◌, ℕ, ◌<◌, ◌≤◌, Bool, true, false, List, [], ◌∷◌, ◌++◌, length, refl, sym, ◌∙◌, ap, subst, append_assoc, append-nil}
 use Rattle.std.specs.Prelude.{⊤, IsTrue}
 use Rattle.std.specs.List.{list_any}
-use Rattle.md_base.specs.Sectors.{Sector, zero_sector}
-use Rattle.md_base.specs.declared.answers.Who.{Who}
-use Rattle.bank.specs.declared.bank.Operation.{Operation}
-use Rattle.bank.specs.Given.{Given, sizes}
-use Rattle.bank.specs.Tape.{IsIn}
-use Rattle.shape_changes.specs.superblocks_the_Members.{Members}
-use Rattle.shape_changes.specs.superblocks_Reading.{Scope}
-use Rattle.shape_changes.specs.flat_history_the_Entry.{Entry}
-use Rattle.shape_changes.specs.flat_history_the_Event.{Event}
-use Rattle.shape_changes.specs.flat_history_the_Event_TheVariants.{Lost, SpareLost, Resized}
-use Rattle.shape_changes.specs.flat_history_the_LostCause_TheVariants.{Fault}
-use Rattle.shape_changes.specs.flat_history_CrashSafe.{is_resized, up_to}
-use Rattle.shape_changes.specs.flat_history_Flat.{length_of, values_of}
-use Rattle.shape_changes.specs.flat_history_Growing.{grown, EndBy}
-use Rattle.shape_changes.specs.flat_history_Legal.{is_all_gone}
-use Rattle.shape_changes.specs.flat_history_Losses.{is_gone_after}
-use Rattle.shape_changes.specs.flat_history_Plain.{entries_of}
-use Rattle.shape_changes.specs.flat_history_Sound.{OpensFit}
-use Rattle.shape_changes.specs.flat_history_World.{World}
-use Rattle.history_laws.proofs.OneShapeGrowing.{one, entries-both, AreFaults}
-use Rattle.shape_changes.specs.shape_views_Views.{Ledger}
-use Rattle.shape_changes.specs.Changing.{IsSafeChange}
-use Rattle.shape_changes.specs.Safety.{HasLiveSlot, IsRisen}
-use Rattle.shape_changes.specs.Steady.{IsMoreTold, IsSafeOver}
+use Rattle.array_kept.specs.md_base_Sectors.{Sector, zero_sector}
+use Rattle.array_kept.specs.md_base_the_Who.{Who}
+use Rattle.array_kept.specs.bank_the_Operation.{Operation}
+use Rattle.array_kept.specs.bank_Given.{Given, sizes}
+use Rattle.array_kept.specs.bank_Tape.{IsIn}
+use Rattle.array_kept.specs.superblocks_the_Members.{Members}
+use Rattle.array_kept.specs.superblocks_Reading.{Scope}
+use Rattle.array_kept.specs.flat_history_the_Entry.{Entry}
+use Rattle.array_kept.specs.flat_history_the_Event.{Event}
+use Rattle.array_kept.specs.flat_history_the_Event_TheVariants.{Lost, SpareLost, Resized}
+use Rattle.array_kept.specs.flat_history_the_LostCause_TheVariants.{Fault}
+use Rattle.array_kept.specs.flat_history_CrashSafe.{is_resized, up_to}
+use Rattle.array_kept.specs.flat_history_Flat.{length_of, values_of}
+use Rattle.array_kept.specs.flat_history_Growing.{grown, EndBy}
+use Rattle.array_kept.specs.flat_history_Legal.{is_all_gone}
+use Rattle.array_kept.specs.flat_history_Losses.{is_gone_after}
+use Rattle.array_kept.specs.flat_history_Plain.{entries_of}
+use Rattle.array_kept.specs.flat_history_Sound.{OpensFit}
+use Rattle.array_kept.specs.flat_history_World.{World}
+use Rattle.array_kept.proofs.history_laws_OneShapeGrowing.{one, entries-both, AreFaults}
+use Rattle.array_kept.specs.shape_views_Views.{Ledger}
+use Rattle.array_kept.specs.shape_changes_Changing.{IsSafeChange}
+use Rattle.array_kept.specs.shape_changes_Safety.{HasLiveSlot, IsRisen}
+use Rattle.array_kept.specs.shape_changes_Steady.{IsMoreTold, IsSafeOver}
 use Rattle.kept_history.specs.Safe.{world_in, IsFilledRight, told_without, IsSafeHistory}
 use Rattle.kept_history.specs.Told.{told_now, told_by}
 use Rattle.kept_history.proofs.Calls.{LeavesSoundFrom, safe-call}

@@ -4,21 +4,21 @@ use Rattle.std.specs.List.{list_any}
 use Rattle.std.proofs.Math.Seq.{take-append_seam, drop-append_seam}
 use Rattle.std.proofs.lemmas.Bool.Decides.{nat_tests}
 use Rattle.std.proofs.lemmas.List.Folds.{list_any-append}
-use Rattle.md_base.specs.declared.answers.Who.{Who}
-use Rattle.bank.specs.Tape.{IsIn}
-use Rattle.shape_changes.specs.flat_history_the_Entry.{Entry}
-use Rattle.shape_changes.specs.flat_history_the_Event.{Event}
-use Rattle.shape_changes.specs.flat_history_the_Event_TheVariants.{Lost, SpareLost, Resized}
-use Rattle.shape_changes.specs.flat_history_the_LostCause_TheVariants.{Fault}
-use Rattle.shape_changes.specs.flat_history_CrashSafe.{up_to, first_with_losses, losses_behind}
-use Rattle.shape_changes.specs.flat_history_Flat.{length_of, values_of}
-use Rattle.shape_changes.specs.flat_history_Losses.{settles, unsettles, is_gone_after, is_unsynced}
-use Rattle.shape_changes.specs.flat_history_OneShape.{is_unsettled}
-use Rattle.shape_changes.specs.flat_history_Plain.{entries_of}
-use Rattle.shape_changes.specs.flat_history_World.{World, opening_list}
-use Rattle.history_laws.proofs.OneShapeGrowing.{one, AreFaults}
-use Rattle.shape_changes.specs.shape_views_Views.{Ledger}
-use Rattle.shape_changes.specs.Steady.{IsMoreTold}
+use Rattle.array_kept.specs.md_base_the_Who.{Who}
+use Rattle.array_kept.specs.bank_Tape.{IsIn}
+use Rattle.array_kept.specs.flat_history_the_Entry.{Entry}
+use Rattle.array_kept.specs.flat_history_the_Event.{Event}
+use Rattle.array_kept.specs.flat_history_the_Event_TheVariants.{Lost, SpareLost, Resized}
+use Rattle.array_kept.specs.flat_history_the_LostCause_TheVariants.{Fault}
+use Rattle.array_kept.specs.flat_history_CrashSafe.{up_to, first_with_losses, losses_behind}
+use Rattle.array_kept.specs.flat_history_Flat.{length_of, values_of}
+use Rattle.array_kept.specs.flat_history_Losses.{settles, unsettles, is_gone_after, is_unsynced}
+use Rattle.array_kept.specs.flat_history_OneShape.{is_unsettled}
+use Rattle.array_kept.specs.flat_history_Plain.{entries_of}
+use Rattle.array_kept.specs.flat_history_World.{World, opening_list}
+use Rattle.array_kept.proofs.history_laws_OneShapeGrowing.{one, AreFaults}
+use Rattle.array_kept.specs.shape_views_Views.{Ledger}
+use Rattle.array_kept.specs.shape_changes_Steady.{IsMoreTold}
 use Rattle.kept_history.specs.Safe.{told_without}
 use Rattle.kept_history.specs.Told.{told_by}
 use Rattle.kept_history.proofs.Entered.{AreAdding, length-adding, values-adding, settle-none}

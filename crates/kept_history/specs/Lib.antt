@@ -1,3 +1,47 @@
 pub mod Told
 pub mod Safe
 pub mod Recorded
+pub use Rattle.array_kept.specs.Adopting as array_kept_Adopting
+pub use Rattle.array_kept.specs.Calls as array_kept_Calls
+pub use Rattle.array_kept.specs.Kept as array_kept_Kept
+pub use Rattle.array_kept.specs.bank_Given
+pub use Rattle.array_kept.specs.bank_Tape
+pub use Rattle.array_kept.specs.bank_the_Operation
+pub use Rattle.array_kept.specs.call_entries_Losing
+pub use Rattle.array_kept.specs.flat_history_Epochs
+pub use Rattle.array_kept.specs.flat_history_Flat
+pub use Rattle.array_kept.specs.flat_history_Growing
+pub use Rattle.array_kept.specs.flat_history_Legal
+pub use Rattle.array_kept.specs.flat_history_Losses
+pub use Rattle.array_kept.specs.flat_history_OneShape
+pub use Rattle.array_kept.specs.flat_history_Plain
+pub use Rattle.array_kept.specs.flat_history_Reshaped
+pub use Rattle.array_kept.specs.flat_history_Sound
+pub use Rattle.array_kept.specs.flat_history_Transfers
+pub use Rattle.array_kept.specs.flat_history_World
+pub use Rattle.array_kept.specs.flat_history_the_Entry
+pub use Rattle.array_kept.specs.flat_history_the_Event
+pub use Rattle.array_kept.specs.flat_history_the_Event_TheVariants
+pub use Rattle.array_kept.specs.flat_history_the_LostCause
+pub use Rattle.array_kept.specs.flat_history_the_LostCause_TheVariants
+pub use Rattle.array_kept.specs.flat_history_the_StepKind_TheVariants
+pub use Rattle.array_kept.specs.grow_plan_Plans
+pub use Rattle.array_kept.specs.md_base_Search
+pub use Rattle.array_kept.specs.md_base_Sectors
+pub use Rattle.array_kept.specs.md_base_Shapes
+pub use Rattle.array_kept.specs.md_base_the_Refusal
+pub use Rattle.array_kept.specs.md_base_the_Refusal_TheVariants
+pub use Rattle.array_kept.specs.md_base_the_Role
+pub use Rattle.array_kept.specs.md_base_the_Role_TheVariants
+pub use Rattle.array_kept.specs.md_base_the_Shape
+pub use Rattle.array_kept.specs.md_base_the_Side_TheVariants
+pub use Rattle.array_kept.specs.md_base_the_Span
+pub use Rattle.array_kept.specs.md_base_the_Who
+pub use Rattle.array_kept.specs.row_io_Rows
+pub use Rattle.array_kept.specs.shape_changes_Safety
+pub use Rattle.array_kept.specs.shape_changes_Steady
+pub use Rattle.array_kept.specs.shape_views_Views
+pub use Rattle.array_kept.specs.superblocks_Reading
+pub use Rattle.array_kept.specs.superblocks_the_Members
+pub use Rattle.array_kept.specs.views_Numbers
+pub use Rattle.array_kept.specs.views_the_Work

@@ -1,21 +1,21 @@
 -- What is kept of the history of an array, whether a reshape stands in it or not, and what a call owes that is entered behind it.
 use Rattle.std.specs.Prelude.{◌≡◌, ◌⊎◌, ℕ, ◌≤◌, ◌++◌, Bool, true, false, List, [], ◌∷◌, length, ⊤}
 use Rattle.std.specs.List.{list_any, All}
-use Rattle.md_base.specs.declared.answers.Who.{Who}
-use Rattle.shape_changes.specs.flat_history_the_Entry.{Entry}
-use Rattle.shape_changes.specs.flat_history_the_Event.{Event}
-use Rattle.shape_changes.specs.flat_history_the_Event_TheVariants.{Rebuilt, Resized, Step}
-use Rattle.shape_changes.specs.flat_history_the_StepKind_TheVariants.{Begun, Finished}
-use Rattle.shape_changes.specs.flat_history_Flat.{length_of, next_number}
-use Rattle.shape_changes.specs.flat_history_Growing.{EndBy}
-use Rattle.shape_changes.specs.flat_history_Legal.{IsInnerOrLast, IsLegalEvent, IsLegal}
-use Rattle.shape_changes.specs.flat_history_OneShape.{GoesOnBehind, IsOfCall}
-use Rattle.shape_changes.specs.flat_history_Plain.{entries_of}
-use Rattle.shape_changes.specs.flat_history_Reshaped.{is_done, IsReshapedBy, IsReshaped}
-use Rattle.shape_changes.specs.flat_history_Sound.{OpensFit}
-use Rattle.shape_changes.specs.flat_history_Stands.{stands}
-use Rattle.shape_changes.specs.flat_history_Transfers.{last_end_from}
-use Rattle.shape_changes.specs.flat_history_World.{World, contents_at, opening_list}
+use Rattle.array_kept.specs.md_base_the_Who.{Who}
+use Rattle.array_kept.specs.flat_history_the_Entry.{Entry}
+use Rattle.array_kept.specs.flat_history_the_Event.{Event}
+use Rattle.array_kept.specs.flat_history_the_Event_TheVariants.{Rebuilt, Resized, Step}
+use Rattle.array_kept.specs.flat_history_the_StepKind_TheVariants.{Begun, Finished}
+use Rattle.array_kept.specs.flat_history_Flat.{length_of, next_number}
+use Rattle.array_kept.specs.flat_history_Growing.{EndBy}
+use Rattle.array_kept.specs.flat_history_Legal.{IsInnerOrLast, IsLegalEvent, IsLegal}
+use Rattle.array_kept.specs.flat_history_OneShape.{GoesOnBehind, IsOfCall}
+use Rattle.array_kept.specs.flat_history_Plain.{entries_of}
+use Rattle.array_kept.specs.flat_history_Reshaped.{is_done, IsReshapedBy, IsReshaped}
+use Rattle.array_kept.specs.flat_history_Sound.{OpensFit}
+use Rattle.array_kept.specs.flat_history_Stands.{stands}
+use Rattle.array_kept.specs.flat_history_Transfers.{last_end_from}
+use Rattle.array_kept.specs.flat_history_World.{World, contents_at, opening_list}
 
 -- Over a bank that tells its contents: the list has this size, and where what was filled in is right the history is legal, and, if the opening was sound, its
 -- reshapes end right, since rows that were copied before it are only known by that; and it reaches to the tape's end.

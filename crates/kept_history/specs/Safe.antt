@@ -1,27 +1,27 @@
 -- When the marks of an epoch are safe, and what a stop may leave now, whether the array is reshaped or not.
 use Rattle.std.specs.Prelude.{◌≡◌, ◌⊎◌, ℕ, ◌+◌, ◌≤◌, ◌||◌, Bool, true, false, List, length, remove, Some, IfSome, IsTrue}
 use Rattle.std.specs.List.{list_any}
-use Rattle.bank.specs.declared.bank.Operation.{Operation}
-use Rattle.bank.specs.Given.{Given}
-use Rattle.bank.specs.Tape.{Contents, disk}
-use Rattle.shape_changes.specs.superblocks_the_Members.{Members}
-use Rattle.shape_changes.specs.superblocks_Reading.{Scope, Reading, is_reshaping}
-use Rattle.shape_changes.specs.flat_history_the_Entry.{Entry}
-use Rattle.shape_changes.specs.flat_history_the_Event.{Event}
-use Rattle.shape_changes.specs.flat_history_the_Event_TheVariants.{Step}
-use Rattle.shape_changes.specs.flat_history_the_StepKind_TheVariants.{TakenOver}
-use Rattle.shape_changes.specs.flat_history_World.{World, contents_at, opening_list, reading_at}
-use Rattle.shape_changes.specs.flat_history_Flat.{length_of, values_of}
-use Rattle.shape_changes.specs.flat_history_Losses.{loses, is_gone_after, is_unsynced}
-use Rattle.shape_changes.specs.flat_history_OneShape.{is_unsettled}
-use Rattle.shape_changes.specs.flat_history_CrashSafe.{MayBeLeftOut}
-use Rattle.shape_changes.specs.flat_history_Growing.{IsSafeThroughout}
-use Rattle.shape_changes.specs.flat_history_Opened.{HasFittingSections, HasZeroTail}
-use Rattle.shape_changes.specs.flat_history_Sound.{OpensFit, LeavesSoundThroughout}
-use Rattle.shape_changes.specs.shape_views_Views.{Ledger}
-use Rattle.shape_changes.specs.Changing.{IsSpentByEither}
-use Rattle.shape_changes.specs.Safety.{HasLiveSlot}
-use Rattle.shape_changes.specs.Steady.{IsSafeOver}
+use Rattle.array_kept.specs.bank_the_Operation.{Operation}
+use Rattle.array_kept.specs.bank_Given.{Given}
+use Rattle.array_kept.specs.bank_Tape.{Contents, disk}
+use Rattle.array_kept.specs.superblocks_the_Members.{Members}
+use Rattle.array_kept.specs.superblocks_Reading.{Scope, Reading, is_reshaping}
+use Rattle.array_kept.specs.flat_history_the_Entry.{Entry}
+use Rattle.array_kept.specs.flat_history_the_Event.{Event}
+use Rattle.array_kept.specs.flat_history_the_Event_TheVariants.{Step}
+use Rattle.array_kept.specs.flat_history_the_StepKind_TheVariants.{TakenOver}
+use Rattle.array_kept.specs.flat_history_World.{World, contents_at, opening_list, reading_at}
+use Rattle.array_kept.specs.flat_history_Flat.{length_of, values_of}
+use Rattle.array_kept.specs.flat_history_Losses.{loses, is_gone_after, is_unsynced}
+use Rattle.array_kept.specs.flat_history_OneShape.{is_unsettled}
+use Rattle.array_kept.specs.flat_history_CrashSafe.{MayBeLeftOut}
+use Rattle.array_kept.specs.flat_history_Growing.{IsSafeThroughout}
+use Rattle.array_kept.specs.flat_history_Opened.{HasFittingSections, HasZeroTail}
+use Rattle.array_kept.specs.flat_history_Sound.{OpensFit, LeavesSoundThroughout}
+use Rattle.array_kept.specs.shape_views_Views.{Ledger}
+use Rattle.array_kept.specs.shape_changes_Changing.{IsSpentByEither}
+use Rattle.array_kept.specs.shape_changes_Safety.{HasLiveSlot}
+use Rattle.array_kept.specs.shape_changes_Steady.{IsSafeOver}
 use Rattle.kept_history.specs.Told.{told_now}
 
 -- an epoch's world

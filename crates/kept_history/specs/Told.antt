@@ -1,12 +1,12 @@
 -- What a history tells of an array, whether a reshape stands in it or not.
 use Rattle.std.specs.Prelude.{ℕ, ◌++◌, ◌||◌, Bool, List, length}
 use Rattle.std.specs.List.{list_any}
-use Rattle.shape_changes.specs.flat_history_the_Entry.{Entry}
-use Rattle.shape_changes.specs.flat_history_World.{World, opening_list}
-use Rattle.shape_changes.specs.flat_history_Flat.{length_of, values_of}
-use Rattle.shape_changes.specs.flat_history_Losses.{loses, is_gone_after, is_unsynced, unsettles}
-use Rattle.shape_changes.specs.flat_history_OneShape.{is_unsettled}
-use Rattle.shape_changes.specs.shape_views_Views.{Ledger}
+use Rattle.array_kept.specs.flat_history_the_Entry.{Entry}
+use Rattle.array_kept.specs.flat_history_World.{World, opening_list}
+use Rattle.array_kept.specs.flat_history_Flat.{length_of, values_of}
+use Rattle.array_kept.specs.flat_history_Losses.{loses, is_gone_after, is_unsynced, unsettles}
+use Rattle.array_kept.specs.flat_history_OneShape.{is_unsettled}
+use Rattle.array_kept.specs.shape_views_Views.{Ledger}
 
 -- The whole history: how long the list is and the values of each of its sectors, the roles that are gone, and whether a write may be unsettled; with
 -- it, what a history doesn't tell: whether a reshape may be active, and the device numbers that slots may bear.

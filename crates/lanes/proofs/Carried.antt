@@ -1,11 +1,11 @@
 -- What a call of the lock tells of what its passes carry.
 use Rattle.std.proofs.Common.{◌≡◌, ℕ, ◌+◌, ◌≤◌, true, List, ◌++◌, length, refl, sym, ap, ◌∙◌, subst, subst₂, Option, Some, None, is_some, MatchOption, arith}
-use Rattle.md_base.specs.declared.answers.Who.{Who}
-use Rattle.bank.specs.declared.bank.Operation.{Operation}
-use Rattle.bank.specs.Given.{Given}
-use Rattle.flat_history.specs.declared.events.Entry.{Entry}
-use Rattle.flat_history.specs.declared.events.Event.{Event}
-use Rattle.flat_history.specs.declared.events.Request.{Request}
+use Rattle.running_calls.specs.md_base_the_Who.{Who}
+use Rattle.running_calls.specs.bank_the_Operation.{Operation}
+use Rattle.running_calls.specs.bank_Given.{Given}
+use Rattle.seen_laws.specs.flat_history_the_Entry.{Entry}
+use Rattle.seen_laws.specs.flat_history_the_Event.{Event}
+use Rattle.seen_laws.specs.flat_history_the_Request.{Request}
 use Rattle.lanes.specs.running_words_Parts.{RunningParts}
 use Rattle.lanes.specs.running_calls_the_Reply.{Reply}
 use Rattle.lanes.specs.running_calls_the_Reply_TheVariants.{Done, NoMemory as Short}

@@ -3,9 +3,9 @@ use Rattle.std.proofs.Common.{◌≡◌, ℕ, List, [], ◌∷◌, ◌++◌, len
 use Rattle.std.specs.Bool.{⊤}
 use Rattle.std.specs.List.{All}
 use Rattle.std.proofs.lemmas.List.Elements.{All-nil, All-cons, All-append, All-weaker}
-use Rattle.flat_history.specs.declared.events.Entry.{Entry}
-use Rattle.flat_history.specs.declared.events.Event.{Event}
-use Rattle.flat_history.specs.declared.events.Request.{Request}
+use Rattle.seen_laws.specs.flat_history_the_Entry.{Entry}
+use Rattle.seen_laws.specs.flat_history_the_Event.{Event}
+use Rattle.seen_laws.specs.flat_history_the_Request.{Request}
 use Rattle.running_calls.specs.declared.reply.Reply.{Reply}
 use Rattle.running_calls.specs.declared.reply.Reply.TheVariants.{Done, NoMemory as Short}
 use Rattle.seen_laws.specs.Callers.{IsReplyTo, AreReplied}

@@ -1,6 +1,6 @@
 -- What a lane appended to an empty row.
 use Rattle.std.proofs.Common.{◌≡◌, List, [], ◌++◌, sym, ap, ◌∙◌, subst}
-use Rattle.flat_history.specs.declared.events.Request.{Request}
+use Rattle.seen_laws.specs.flat_history_the_Request.{Request}
 use Rattle.lanes.specs.running_calls_the_Reply.{Reply}
 use Rattle.lanes.specs.Carried.{Carried}
 use Rattle.lanes.specs.Lane.{AreDone}

@@ -1,7 +1,7 @@
 -- What the lanes and the worker of a block have made of an array's history.
 use Rattle.std.specs.Prelude.{ℕ, ◌≤◌, List, length}
 use Rattle.std.specs.List.{All}
-use Rattle.flat_history.specs.declared.events.Request.{Request}
+use Rattle.seen_laws.specs.flat_history_the_Request.{Request}
 use Rattle.lanes.specs.running_words_Parts.{RunningParts}
 use Rattle.lanes.specs.running_calls_the_Reply.{Reply}
 use Rattle.lanes.specs.seen_laws_Callers.{AreReplied, HasCalled}

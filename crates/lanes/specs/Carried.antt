@@ -1,11 +1,11 @@
 -- What a caller's pass carries, and what one call adds to it.
 use Rattle.std.specs.Prelude.{◌≡◌, ℕ, ◌+◌, ◌≤◌, ◌^◌, List, [], ◌∷◌, ◌++◌, length}
-use Rattle.md_base.specs.declared.answers.Who.{Who}
-use Rattle.flat_history.specs.declared.events.Entry.{Entry}
-use Rattle.flat_history.specs.declared.events.Event.{Event}
-use Rattle.flat_history.specs.declared.events.Request.{Request}
-use Rattle.flat_history.specs.Flat.{next_number}
-use Rattle.flat_history.specs.Seen.{Seen}
+use Rattle.running_calls.specs.md_base_the_Who.{Who}
+use Rattle.seen_laws.specs.flat_history_the_Entry.{Entry}
+use Rattle.seen_laws.specs.flat_history_the_Event.{Event}
+use Rattle.seen_laws.specs.flat_history_the_Request.{Request}
+use Rattle.seen_laws.specs.flat_history_Flat.{next_number}
+use Rattle.seen_laws.specs.flat_history_Seen.{Seen}
 use Rattle.running_calls.specs.declared.reply.Reply.{Reply}
 use Rattle.running_calls.specs.declared.reply.Reply.TheVariants.{Done, NoMemory as Short}
 use Rattle.seen_laws.specs.Callers.{IsBefore, IsCalled, HasCalled}

@@ -1,8 +1,8 @@
 -- Requests that were made one after another, and their replies.
 use Rattle.std.specs.Prelude.{◌≡◌, ℕ, Bool, true, false, List, [], ◌∷◌, ◌++◌, slice_get, MatchOption, ⊤}
 use Rattle.std.specs.List.{All}
-use Rattle.flat_history.specs.declared.events.Entry.{Entry}
-use Rattle.flat_history.specs.declared.events.Request.{Request}
+use Rattle.seen_laws.specs.flat_history_the_Entry.{Entry}
+use Rattle.seen_laws.specs.flat_history_the_Request.{Request}
 use Rattle.running_calls.specs.declared.reply.Reply.{Reply}
 use Rattle.running_calls.specs.declared.reply.Reply.TheVariants.{Done, NoMemory as Short}
 use Rattle.seen_laws.specs.Callers.{AreReplied}

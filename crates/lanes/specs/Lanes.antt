@@ -1,9 +1,9 @@
 -- The passes of a shared array: what each has seen of it, and which calls are its own.
 use Rattle.std.proofs.Common.{subst}
 use Rattle.std.specs.Prelude.{◌≡◌, ℕ, ◌<◌, List, [], ◌∷◌, ◌++◌, Option, Some, None, is_some, true, MatchBool, ⊤}
-use Rattle.bank.specs.declared.bank.Operation.{Operation}
-use Rattle.bank.specs.Given.{Given}
-use Rattle.flat_history.specs.declared.events.Request.{Request}
+use Rattle.running_calls.specs.bank_the_Operation.{Operation}
+use Rattle.running_calls.specs.bank_Given.{Given}
+use Rattle.seen_laws.specs.flat_history_the_Request.{Request}
 use Rattle.lanes.specs.running_words_Parts.{RunningParts}
 use Rattle.lanes.specs.running_calls_the_Reply.{Reply}
 use Rattle.lanes.specs.running_calls_the_Reply_TheVariants.{Done, NoMemory as Short}

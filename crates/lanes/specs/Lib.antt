@@ -17,3 +17,11 @@ pub mod Threads
 pub mod Lanes
 pub use Rattle.seen_laws.specs.Callers as seen_laws_Callers
 pub mod Blocks
+pub use Rattle.running_calls.specs.bank_Given
+pub use Rattle.running_calls.specs.bank_Tape
+pub use Rattle.running_calls.specs.bank_the_Operation
+pub use Rattle.running_calls.specs.bank_the_Operation_TheVariants
+pub use Rattle.running_calls.specs.md_base_Sectors
+pub use Rattle.running_calls.specs.md_base_the_NoMemory
+pub use Rattle.running_calls.specs.md_base_the_Refusal_TheVariants
+pub use Rattle.running_calls.specs.md_base_the_Wish

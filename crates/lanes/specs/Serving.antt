@@ -1,11 +1,11 @@
 -- An array as a lock sees it: what of it was seen, and which calls its callers have made.
 use Rattle.std.specs.Prelude.{◌≡◌, ◌≢◌, ℕ, ◌<◌, ◌≤◌, ◌^◌, Bool, true, false, min, List, [], length, map}
 use Rattle.std.specs.List.{All}
-use Rattle.bank.specs.declared.bank.Operation.{Operation}
-use Rattle.bank.specs.Given.{Given}
+use Rattle.running_calls.specs.bank_the_Operation.{Operation}
+use Rattle.running_calls.specs.bank_Given.{Given}
 use Rattle.running_calls.specs.superblocks_Reading.{list_length}
-use Rattle.flat_history.specs.declared.events.Request.{Request}
-use Rattle.flat_history.specs.Seen.{Seen}
+use Rattle.seen_laws.specs.flat_history_the_Request.{Request}
+use Rattle.seen_laws.specs.flat_history_Seen.{Seen}
 use Rattle.running_calls.specs.array_kept_Calls.{world_for, IsEndOf}
 use Rattle.running_calls.specs.running_words_Parts.{RunningParts}
 use Rattle.running_calls.specs.Entered.{HasEntered}

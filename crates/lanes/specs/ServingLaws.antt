@@ -7,18 +7,18 @@ use Rattle.std.proofs.lemmas.List.Elements.{All-nil, All-cons, All-append, All-w
 use Rattle.std.specs.List.{All}
 use Rattle.std.specs.Prelude.{MatchBool}
 use Rattle.std.specs.Option.{option_map_or}
-use Rattle.md_base.specs.declared.answers.Who.{Who}
-use Rattle.md_base.specs.declared.status.Status.{Status}
-use Rattle.bank.specs.declared.bank.Operation.{Operation}
-use Rattle.bank.specs.Given.{Given, sizes}
+use Rattle.running_calls.specs.md_base_the_Who.{Who}
+use Rattle.running_calls.specs.md_base_the_Status.{Status}
+use Rattle.running_calls.specs.bank_the_Operation.{Operation}
+use Rattle.running_calls.specs.bank_Given.{Given, sizes}
 use Rattle.running_calls.specs.superblocks_Reading.{is_reshaping}
-use Rattle.flat_history.specs.declared.events.Entry.{Entry}
-use Rattle.flat_history.specs.declared.events.Event.{Event}
-use Rattle.flat_history.specs.declared.events.Request.{Request}
-use Rattle.flat_history.specs.declared.events.Request.TheVariants.{Show as AsksShow}
-use Rattle.flat_history.specs.Flat.{next_number, length_of, limit_of, visible_of}
-use Rattle.flat_history.specs.OneShape.{IsOfCall}
-use Rattle.flat_history.specs.Seen.{BeginsWith}
+use Rattle.seen_laws.specs.flat_history_the_Entry.{Entry}
+use Rattle.seen_laws.specs.flat_history_the_Event.{Event}
+use Rattle.seen_laws.specs.flat_history_the_Request.{Request}
+use Rattle.seen_laws.specs.flat_history_the_Request_TheVariants.{Show as AsksShow}
+use Rattle.seen_laws.specs.flat_history_Flat.{next_number, length_of, limit_of, visible_of}
+use Rattle.seen_laws.specs.flat_history_OneShape.{IsOfCall}
+use Rattle.seen_laws.specs.flat_history_Seen.{BeginsWith}
 use Rattle.running_calls.specs.running_words_Parts.{RunningParts, visible_in}
 use Rattle.running_calls.specs.running_words_Calls.{IsStatusFor}
 use Rattle.running_calls.specs.running_words_Still.{IsStillStatus}

@@ -1,8 +1,8 @@
 -- What one caller's thread has made of what its pass carries.
 use Rattle.std.specs.Prelude.{◌≡◌, ◌⊎◌, ℕ, ◌+◌, ◌≤◌, ◌^◌, List, [], ◌∷◌, ◌++◌, length, map, IsNone}
 use Rattle.std.specs.List.{sum_by}
-use Rattle.flat_history.specs.declared.events.Request.{Request}
-use Rattle.flat_history.specs.declared.events.Request.TheVariants.{Steps as AsksSteps}
+use Rattle.seen_laws.specs.flat_history_the_Request.{Request}
+use Rattle.seen_laws.specs.flat_history_the_Request_TheVariants.{Steps as AsksSteps}
 use Rattle.lanes.specs.running_calls_the_Reply.{Reply}
 use Rattle.lanes.specs.declared.worker.Worked.{Worked}
 use Rattle.lanes.specs.Carried.{Carried, GoesOn}

@@ -1,9 +1,9 @@
 -- The turns of a worker.
 use Rattle.std.specs.Prelude.{◌≡◌, ℕ, ◌+◌, ◌==◌, if◌then◌else◌, List, [], ◌∷◌, ◌++◌, length, map, Option, Some, None, MatchOption, ⊤}
 use Rattle.std.specs.List.{sum_by}
-use Rattle.flat_history.specs.declared.events.Event.TheVariants.{Stepped}
-use Rattle.flat_history.specs.declared.events.Request.{Request}
-use Rattle.flat_history.specs.declared.events.Request.TheVariants.{Steps as AsksSteps}
+use Rattle.seen_laws.specs.flat_history_the_Event_TheVariants.{Stepped}
+use Rattle.seen_laws.specs.flat_history_the_Request.{Request}
+use Rattle.seen_laws.specs.flat_history_the_Request_TheVariants.{Steps as AsksSteps}
 use Rattle.running_calls.specs.declared.reply.Reply.{Reply}
 use Rattle.running_calls.specs.declared.reply.Reply.TheVariants.{Done}
 use Rattle.lanes.specs.declared.worker.Worked.{Worked}

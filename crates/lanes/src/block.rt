@@ -12,8 +12,8 @@ ghost use Rattle.lanes.specs.Blocks.{HasRun, HasWorkedBy};
 
 use crate::starting::{begun, closed, ran, rooms};
 use crate::{Pace, Reply, Running, Worked};
-use bank::Bank;
-use flat_history::Request;
+use running_calls::Bank;
+use seen_laws::Request;
 use std::alloc::Global;
 use std::sync::Wait;
 use std::thread::Threads;

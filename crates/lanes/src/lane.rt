@@ -7,8 +7,8 @@ ghost use Rattle.lanes.specs.Carried.{GoesOn, IsOwn, IsAnswered};
 ghost use Rattle.lanes.specs.Lane.{AreCalls, AreDone, is_short};
 
 use crate::service::Service;
-use flat_history::Request;
 use running_calls::Reply;
+use seen_laws::Request;
 use std::sync::Wait;
 
 // Whether the reply tells that memory was short.

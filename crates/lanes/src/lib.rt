@@ -16,7 +16,8 @@ pub use block::{Joined, run_block};
 pub use lane::run_lane;
 pub use pace::Pace;
 pub use running_calls::{
-    CreateSpec, Reply, Running, create_array, open_running, perform, tells_sizes,
+    Bank, CreateSpec, NoMemory, Refusal, Reply, Running, create_array, open_running, perform,
+    tells_sizes,
 };
 pub use service::Service;
 pub use serving::Answering;

@@ -1,12 +1,12 @@
 //! What answers the requests of callers that share an array.
 ghost use Rattle.std.specs.Prelude.{◌≡◌, ◌≢◌};
-ghost use Rattle.flat_history.specs.declared.events.Request.{Request};
+ghost use Rattle.seen_laws.specs.flat_history_the_Request.{Request};
 ghost use Rattle.running_calls.specs.declared.reply.Reply.{Reply};
 ghost use Rattle.running_calls.specs.Replies.{IsAskable};
 ghost use Rattle.lanes.specs.Carried.{Carried, GoesOn, IsOwn, IsAnswered};
 
-use flat_history::Request;
 use running_calls::Reply;
+use seen_laws::Request;
 use std::sync::Wait;
 
 /// An array that answers callers, one at a time. Each has a pass.

@@ -2,9 +2,8 @@
 ghost use Rattle.std.specs.Prelude.{◌≡◌};
 
 use crate::{Reply, Running, perform, tells_sizes};
-use bank::Bank;
-use flat_history::Request;
-use md_base::Who;
+use running_calls::{Bank, Who};
+use seen_laws::Request;
 use std::alloc::Global;
 use std::marker::Model;
 use turn_lock::Served;

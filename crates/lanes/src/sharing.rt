@@ -8,8 +8,8 @@ ghost use Rattle.lanes.specs.Lanes.{own_requests};
 
 use crate::serving::Answering;
 use crate::{Reply, Running, Service};
-use bank::Bank;
-use flat_history::Request;
+use running_calls::Bank;
+use seen_laws::Request;
 use std::alloc::Global;
 use std::sync::Wait;
 use turn_lock::Lock;

@@ -11,8 +11,8 @@ ghost use Rattle.lanes.specs.Threads.{HasPassed, HasWorkedBy};
 
 use crate::rows::{put_back, taken};
 use crate::{Pace, Pass, Reply, Running, Shared, Worked, at_once};
-use bank::Bank;
-use flat_history::Request;
+use running_calls::Bank;
+use seen_laws::Request;
 use std::alloc::Global;
 use std::sync::Wait;
 use std::thread::Threads;

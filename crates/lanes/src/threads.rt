@@ -6,7 +6,7 @@ ghost use Rattle.lanes.specs.Pace.{AnswersSteps, asked_by};
 ghost use Rattle.lanes.specs.Threads.{HasPassed, HasWorkedBy};
 
 use crate::{Pace, Reply, Service, Worked, run_lane, run_worker};
-use flat_history::Request;
+use seen_laws::Request;
 use std::sync::Wait;
 use std::thread::{Threads, join};
 

@@ -1,14 +1,14 @@
 //! A worker: turn after turn, it asks for background steps.
 ghost use Rattle.std.specs.Prelude.{◌≡◌, ◌≢◌, ◌⊎◌, ◌+◌, ◌*◌, ◌<◌, ◌≤◌, ◌^◌, ℕ, IsNone, IfSome};
-ghost use Rattle.flat_history.specs.declared.events.Request.TheVariants.{Steps as AsksSteps};
+ghost use Rattle.seen_laws.specs.flat_history_the_Request_TheVariants.{Steps as AsksSteps};
 ghost use Rattle.lanes.specs.Pace.{AnswersSteps, asked_by};
 ghost use Rattle.lanes.specs.Carried.{GoesOn, IsOwn, IsAnswered};
 ghost use Rattle.lanes.specs.Worker.{done_in, left_behind, HasWorked};
 
 use crate::pace::Pace;
 use crate::service::Service;
-use flat_history::{Event, Request};
 use running_calls::Reply;
+use seen_laws::{Event, Request};
 use std::sync::Wait;
 
 /// What a worker did: its turns, the steps that were done in them, and the last reply.

@@ -2,11 +2,11 @@
 use Rattle.std.proofs.Common.{◌≡◌, ℕ, false, List, [], ◌∷◌, ◌++◌, refl, sym, subst}
 use Rattle.std.proofs.lemmas.List.Elements.{All-append, All-push, All-head, All-tail, All-weaker}
 use Rattle.std.specs.Prelude.{IsTrue, IsFalse}
-use Rattle.flat_history.specs.declared.events.Entry.{Entry}
-use Rattle.flat_history.specs.declared.events.Event.{Event}
-use Rattle.flat_history.specs.declared.events.Event.TheVariants.{Stopped, Halted}
-use Rattle.flat_history.specs.Legal.{MayBeInner}
-use Rattle.script.specs.declared.lines.Line.{Line}
+use Rattle.line_asks.specs.flat_history_the_Entry.{Entry}
+use Rattle.line_asks.specs.flat_history_the_Event.{Event}
+use Rattle.line_asks.specs.flat_history_the_Event_TheVariants.{Stopped, Halted}
+use Rattle.line_asks.specs.flat_history_Legal.{MayBeInner}
+use Rattle.line_asks.specs.script_the_Line.{Line}
 use Rattle.line_asks.specs.run_laws_Asked.{script_who, IsAskedAt}
 use Rattle.line_asks.specs.run_laws_Histories.{is_end, AreGoing, EndsOnce}
 use Rattle.line_asks.proofs.run_laws_AskLaws.{one, with_reply}

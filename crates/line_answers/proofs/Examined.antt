@@ -2,20 +2,20 @@
 use Rattle.std.proofs.Common.{◌≡◌, ℕ, ◌<◌, ◌≤◌, Option, List, ◌∷◌, [], ◌++◌, length, refl, sym, ◌∙◌, ap, subst, append-nil, Result, Ok, Err}
 use Rattle.std.specs.Prelude.{IfOk, OnErr, IsErr}
 use Rattle.std.specs.Global.{Vec}
-use Rattle.md_base.specs.declared.answers.Refusal.{Refusal}
-use Rattle.md_base.specs.declared.answers.Refusal.TheVariants.{SlotFault}
-use Rattle.bank.specs.Given.{Given, IsFaulted}
-use Rattle.bank.specs.declared.bank.BankFault.{BankFault}
-use Rattle.bank.specs.declared.bank.Operation.{Operation}
-use Rattle.bank.specs.Tape.{contents}
-use Rattle.sb1.specs.declared.sb.Sb.{Sb}
-use Rattle.sb1.specs.Superblock.{superblock_in}
-use Rattle.flat_history.specs.declared.events.Epoch.{Epoch}
-use Rattle.flat_history.specs.Reopened.{OpensAccepted}
+use Rattle.line_asks.specs.md_base_the_Refusal.{Refusal}
+use Rattle.line_asks.specs.md_base_the_Refusal_TheVariants.{SlotFault}
+use Rattle.line_asks.specs.bank_Given.{Given, IsFaulted}
+use Rattle.line_asks.specs.bank_the_BankFault.{BankFault}
+use Rattle.line_asks.specs.bank_the_Operation.{Operation}
+use Rattle.line_asks.specs.bank_Tape.{contents}
+use Rattle.line_asks.specs.sb1_the_Sb.{Sb}
+use Rattle.line_asks.specs.sb1_Superblock.{superblock_in}
+use Rattle.line_asks.specs.flat_history_the_Epoch.{Epoch}
+use Rattle.line_asks.specs.flat_history_Reopened.{OpensAccepted}
 use Rattle.line_asks.specs.views_Moving.{Grows}
 use Rattle.line_asks.specs.running_words_Parts.{RunningParts}
 use Rattle.line_asks.specs.views_Parts.{Parts}
-use Rattle.script.specs.declared.lines.Line.TheVariants.{Examine}
+use Rattle.line_asks.specs.script_the_Line_TheVariants.{Examine}
 use Rattle.line_asks.specs.run_laws_the_Answered_TheVariants.{Outside as IsOutside}
 use Rattle.line_asks.specs.run_laws_the_Outside_TheVariants.{Refused}
 use Rattle.line_asks.specs.run_laws_the_State_TheVariants.{Idle, Running}

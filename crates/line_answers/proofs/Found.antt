@@ -2,26 +2,26 @@
 use Rattle.std.proofs.Common.{◌≡◌, inl, ℕ, zero, suc, ◌+◌, ◌-◌, ◌/◌, ◌*◌, ◌<◌, min, max, not, nat_lt, Bool, true, false, is_some, Option, Some, None, List, [], ◌∷◌, ◌++◌, length, take, drop, replicate, slice_index_or, map, refl, sym, ◌∙◌, ap, ap₂, subst, arith}
 use Rattle.std.specs.Prelude.{if◌then◌else◌, MatchOption, MatchBool, IfSome, IsFalse, IsTrue}
 use Rattle.std.specs.Option.{option_map_or}
-use Rattle.md_base.specs.Shapes.{data_disks}
-use Rattle.md_base.specs.Search.{tabulate}
-use Rattle.md_base.specs.declared.places.Shape.{Shape}
-use Rattle.md_base.specs.declared.status.Role.{Role}
-use Rattle.md_base.specs.declared.status.Role.TheVariants.{Whole, Recovering as HeldInPart, Missing}
-use Rattle.md_base.specs.declared.status.Status.{Status}
-use Rattle.md_base.proofs.Tabulated.{length-tabulate}
-use Rattle.sb1.specs.declared.sb.Sb.{Sb}
-use Rattle.bank.specs.declared.bank.Operation.{Operation}
-use Rattle.bank.specs.Given.{Given, sizes}
-use Rattle.bank.specs.Tape.{contents}
+use Rattle.line_asks.specs.md_base_Shapes.{data_disks}
+use Rattle.line_asks.specs.md_base_Search.{tabulate}
+use Rattle.line_asks.specs.md_base_the_Shape.{Shape}
+use Rattle.line_asks.specs.md_base_the_Role.{Role}
+use Rattle.line_asks.specs.md_base_the_Role_TheVariants.{Whole, Recovering as HeldInPart, Missing}
+use Rattle.line_asks.specs.md_base_the_Status.{Status}
+use Rattle.line_asks.proofs.md_base_Tabulated.{length-tabulate}
+use Rattle.line_asks.specs.sb1_the_Sb.{Sb}
+use Rattle.line_asks.specs.bank_the_Operation.{Operation}
+use Rattle.line_asks.specs.bank_Given.{Given, sizes}
+use Rattle.line_asks.specs.bank_Tape.{contents}
 use Rattle.line_asks.specs.superblocks_the_Members.{Members}
 use Rattle.line_asks.specs.superblocks_Reading.{Reading, shape_of, final_shape, target_of, role_count, list_length, is_reshaping, is_clean, is_whole, role_state, rows_held, holder, reading}
 use Rattle.line_asks.specs.superblocks_Election.{reading_in}
 use Rattle.line_asks.specs.row_io_Rows.{reading_of, is_missing}
-use Rattle.flat_history.specs.declared.events.Event.{Event}
-use Rattle.flat_history.specs.World.{World, reading_at, opening_list}
-use Rattle.flat_history.specs.Stands.{stands, standing_sector}
-use Rattle.flat_history.specs.Fits.{whole_slot}
-use Rattle.flat_history.specs.Reopened.{OpensAccepted}
+use Rattle.line_asks.specs.flat_history_the_Event.{Event}
+use Rattle.line_asks.specs.flat_history_World.{World, reading_at, opening_list}
+use Rattle.line_asks.specs.flat_history_Stands.{stands, standing_sector}
+use Rattle.line_asks.specs.flat_history_Fits.{whole_slot}
+use Rattle.line_asks.specs.flat_history_Reopened.{OpensAccepted}
 use Rattle.line_asks.specs.array_kept_Adopting.{opener, found_loss, absent_loss, absent_losses, found_losses, stripes_held, found_stripes, found_work}
 use Rattle.line_asks.specs.views_the_Work.{Work}
 use Rattle.line_asks.specs.views_Parts.{Parts}
@@ -40,10 +40,10 @@ use Rattle.line_asks.specs.grow_asked_the_Window.{Window}
 use Rattle.line_asks.specs.course_kept_the_Course.{Course}
 use Rattle.line_asks.specs.reshape_openings_Finding.{window_for}
 use Rattle.line_asks.specs.shape_views_Regions.{header_in, open_by}
-use Rattle.grow_plan.specs.Plans.{phases_steps}
-use Rattle.md_base.specs.declared.wishes.Phase.{Phase}
-use Rattle.flat_history.specs.Left.{opened_role, opened_roles}
-use Rattle.flat_history.specs.Plain.{entries_of}
+use Rattle.line_asks.specs.grow_plan_Plans.{phases_steps}
+use Rattle.line_asks.specs.md_base_the_Phase.{Phase}
+use Rattle.line_asks.specs.flat_history_Left.{opened_role, opened_roles}
+use Rattle.line_asks.specs.flat_history_Plain.{entries_of}
 use Rattle.line_asks.specs.openings_Found.{IsStillFound, IsMovingFound, IsRunningFound}
 use Rattle.line_asks.specs.superblocks_Reads.{has_spare}
 use Rattle.line_asks.specs.run_laws_Histories.{History}

@@ -7,13 +7,13 @@ use Rattle.std.specs.Prelude.{slice_get, if◌then◌else◌, vec_capacity, Matc
 use Rattle.std.specs.Global.{Vec}
 use Rattle.std.specs.List.{All}
 use Rattle.std.specs.Option.{option_and_then, option_map_or}
-use Rattle.md_base.specs.declared.places.Shape.{Shape}
-use Rattle.md_base.specs.declared.answers.NoMemory.{NoMemory}
-use Rattle.md_base.specs.declared.answers.Refusal.{Refusal}
-use Rattle.md_base.specs.declared.answers.Refusal.TheVariants.{Running as IsRunning}
-use Rattle.md_base.specs.declared.status.Status.{Status}
-use Rattle.md_base.specs.declared.wishes.Wish.{Wish}
-use Rattle.md_base.specs.Shapes.{data_disks}
+use Rattle.line_asks.specs.md_base_the_Shape.{Shape}
+use Rattle.line_asks.specs.md_base_the_NoMemory.{NoMemory}
+use Rattle.line_asks.specs.md_base_the_Refusal.{Refusal}
+use Rattle.line_asks.specs.md_base_the_Refusal_TheVariants.{Running as IsRunning}
+use Rattle.line_asks.specs.md_base_the_Status.{Status}
+use Rattle.line_asks.specs.md_base_the_Wish.{Wish}
+use Rattle.line_asks.specs.md_base_Shapes.{data_disks}
 use Rattle.line_asks.specs.superblocks_Reading.{is_reshaping, list_length}
 use Rattle.line_asks.specs.grow_asked_Left.{phases_of}
 use Rattle.line_asks.specs.grow_asked_the_PhasesLeft.{PhasesLeft}
@@ -24,21 +24,21 @@ use Rattle.line_asks.proofs.Sizes.{leaves-all, sized-now}
 use Rattle.line_asks.proofs.CausedLaws.{shown-record, judged-asked}
 use Rattle.line_asks.proofs.RecordLaws.{left-asked}
 use Rattle.line_asks.proofs.run_laws_Turned.{found-told}
-use Rattle.flat_history.specs.declared.events.Entry.{Entry}
-use Rattle.flat_history.specs.declared.events.Epoch.{Epoch}
-use Rattle.flat_history.specs.declared.events.Event.{Event}
-use Rattle.flat_history.specs.declared.events.Event.TheVariants.{Shown, Stopped, Halted}
-use Rattle.flat_history.specs.declared.events.Request.TheVariants.{Read as AsksRead, Write as AsksWrite, Flush as AsksFlush, Fail as AsksFail, Add as AsksAdd, Visible as AsksVisible, Grow as AsksGrow, Steps as AsksSteps}
-use Rattle.flat_history.specs.Flat.{rest_of_call, next_number, number_after, length_after, length_of}
-use Rattle.flat_history.specs.Legal.{call_before}
-use Rattle.flat_history.specs.Plain.{entries_of}
-use Rattle.flat_history.specs.OneShape.{OneShapeAnswers}
-use Rattle.flat_history.specs.Transfers.{last_end_from}
-use Rattle.flat_history.proofs.OneShapeLegal.{last-snoc}
+use Rattle.line_asks.specs.flat_history_the_Entry.{Entry}
+use Rattle.line_asks.specs.flat_history_the_Epoch.{Epoch}
+use Rattle.line_asks.specs.flat_history_the_Event.{Event}
+use Rattle.line_asks.specs.flat_history_the_Event_TheVariants.{Shown, Stopped, Halted}
+use Rattle.line_asks.specs.flat_history_the_Request_TheVariants.{Read as AsksRead, Write as AsksWrite, Flush as AsksFlush, Fail as AsksFail, Add as AsksAdd, Visible as AsksVisible, Grow as AsksGrow, Steps as AsksSteps}
+use Rattle.line_asks.specs.flat_history_Flat.{rest_of_call, next_number, number_after, length_after, length_of}
+use Rattle.line_asks.specs.flat_history_Legal.{call_before}
+use Rattle.line_asks.specs.flat_history_Plain.{entries_of}
+use Rattle.line_asks.specs.flat_history_OneShape.{OneShapeAnswers}
+use Rattle.line_asks.specs.flat_history_Transfers.{last_end_from}
+use Rattle.line_asks.proofs.flat_history_OneShapeLegal.{last-snoc}
 use Rattle.line_asks.proofs.history_laws_OneShapeGrowing.{call-ends}
-use Rattle.flat_history.specs.World.{World, opening_list}
-use Rattle.flat_history.specs.Opened.{OpensSound}
-use Rattle.bank.specs.Given.{sizes}
+use Rattle.line_asks.specs.flat_history_World.{World, opening_list}
+use Rattle.line_asks.specs.flat_history_Opened.{OpensSound}
+use Rattle.line_asks.specs.bank_Given.{sizes}
 use Rattle.line_asks.specs.superblocks_the_Members.{Members}
 use Rattle.line_asks.specs.views_the_Work.{Work}
 use Rattle.line_asks.specs.array_kept_Adopting.{opener, absent_losses}
@@ -47,9 +47,9 @@ use Rattle.line_asks.specs.assemble_Creating.{create_refusal}
 use Rattle.line_asks.specs.assemble_Opening.{AreGiven, array_of, scope_of}
 use Rattle.line_asks.specs.assemble_Made.{used_slot}
 use Rattle.line_asks.specs.assemble_Running.{IsCreated, OpensWithZeros}
-use Rattle.script.specs.declared.lines.CreateLine.{CreateLine}
-use Rattle.script.specs.declared.lines.Line.{Line}
-use Rattle.script.specs.declared.lines.Line.TheVariants.{Create, Read, Write, Flush, Fail, Add, ArraySize, Grow, Step, Wait, Assemble}
+use Rattle.line_asks.specs.script_the_CreateLine.{CreateLine}
+use Rattle.line_asks.specs.script_the_Line.{Line}
+use Rattle.line_asks.specs.script_the_Line_TheVariants.{Create, Read, Write, Flush, Fail, Add, ArraySize, Grow, Step, Wait, Assemble}
 use Rattle.line_asks.specs.run_laws_the_Outside_TheVariants.{Created, Assembled, Refused}
 use Rattle.line_asks.specs.run_laws_the_Answered_TheVariants.{Inside, Outside as IsOutside}
 use Rattle.line_asks.specs.run_laws_the_State_TheVariants.{Idle, Running}
@@ -61,9 +61,9 @@ use Rattle.line_asks.specs.run_laws_Histories.{History, history_of, histories_of
 use Rattle.line_asks.specs.run_laws_Making.{Setting, held_at, history_world, MissingAtFirst, IsStoredNew, IsStoredAs}
 use Rattle.line_asks.specs.run_laws_Blocks.{caller_of}
 use Rattle.line_asks.specs.run_laws_Replies.{Course, with_script, at_rest, begun, gone_on, calls_behind, course_behind, entries_to, course_after, steps_at_once, IsRepliedAt, IsAnsweredInside, IsRefusedOutside, spec_of}
-use Rattle.script.specs.declared.reply.Lane.{Lane}
-use Rattle.script.specs.declared.reply.Lane.TheVariants.{Script as InScript, A as InA, B as InB, Worker as InWorker}
-use Rattle.script.specs.Seeds.{seeded}
+use Rattle.line_asks.specs.script_the_Lane.{Lane}
+use Rattle.line_asks.specs.script_the_Lane_TheVariants.{Script as InScript, A as InA, B as InB, Worker as InWorker}
+use Rattle.line_asks.specs.script_Seeds.{seeded}
 use Rattle.line_asks.specs.run_laws_States.{EndsBetween, AreLossesBehind, AreLossesFrom, running_history, course_with, answer_at, IsGrown, AreGrown, AreLossesSince, IsTurn, IsNoTurn, IsTurnOrNone, RunsOwn, IsOwnEntry, AreByScript, IsByScript, IsOfScript, AreOfScript}
 use Rattle.line_asks.proofs.run_laws_AskLaws.{one, with_reply, entry_there, replied_at}
 use Rattle.line_answers.proofs.Ending.{gone_once, ended_once}

@@ -1,10 +1,10 @@
 //! The answer to a line, by whether an array runs.
 
 ghost use Rattle.std.specs.Prelude.{◌≡◌, ◌<◌, ◌≤◌, ◌^◌, ℕ, List, length, vec_capacity, Some, Ok, IfOk, IsTrue, IsSome};
-ghost use Rattle.bank.specs.Given.{NeverFalls};
+ghost use Rattle.line_asks.specs.bank_Given.{NeverFalls};
 ghost use Rattle.line_asks.specs.views_Moving.{Grows};
-ghost use Rattle.script.specs.Script.{is_within_limits};
-ghost use Rattle.script.specs.declared.lines.Line.TheVariants.{Create as AsksCreate, Stop as AsksStop, Halt as AsksHalt, Assemble as AsksAssemble};
+ghost use Rattle.line_asks.specs.script_Script.{is_within_limits};
+ghost use Rattle.line_asks.specs.script_the_Line_TheVariants.{Create as AsksCreate, Stop as AsksStop, Halt as AsksHalt, Assemble as AsksAssemble};
 ghost use Rattle.line_asks.specs.run_laws_Caused.{record_of};
 ghost use Rattle.line_asks.specs.run_laws_Ended.{IsRunKept};
 ghost use Rattle.line_asks.specs.run_laws_Histories.{entry_at};
@@ -17,15 +17,12 @@ ghost use Rattle.line_asks.specs.run_laws_the_Outside_TheVariants.{Refused as Is
 ghost use Rattle.line_asks.specs.run_laws_the_State_TheVariants.{Idle as IsIdle, Running as IsRunning};
 
 use crate::examines::{examine_idle, examine_running};
-use bank::Bank;
-use flat_history::{Entry, Epoch};
 use line_asks::{
-    Answered, CreateSpec, Outside, Running, State, ask_add, ask_fail, ask_flush, ask_grow,
-    ask_read, ask_show, ask_steps, ask_visible, ask_wait, ask_write,
-    create_array as create_running, last_place, open_running, script_call,
+    Answered, Bank, CreateLine, CreateSpec, Entry, Epoch, Fault, Line, NoMemory, Outside, Refusal,
+    Running, State, ask_add, ask_fail, ask_flush, ask_grow, ask_read, ask_show, ask_steps,
+    ask_visible, ask_wait, ask_write, create_array as create_running, last_place, open_running,
+    script_call,
 };
-use md_base::{Fault, NoMemory, Refusal};
-use script::{CreateLine, Line};
 use std::alloc::Global;
 
 // A refusal that no history holds.

@@ -1,10 +1,10 @@
 //! A slot's superblock is looked at, while an array runs or none does.
 
 ghost use Rattle.std.specs.Prelude.{◌≡◌};
-ghost use Rattle.bank.specs.Given.{NeverFalls};
+ghost use Rattle.line_asks.specs.bank_Given.{NeverFalls};
 ghost use Rattle.line_asks.specs.views_Moving.{Grows};
-ghost use Rattle.md_base.specs.declared.answers.Refusal.TheVariants.{NoSuchSlot};
-ghost use Rattle.script.specs.declared.lines.Line.TheVariants.{Examine as AsksExamine};
+ghost use Rattle.line_asks.specs.md_base_the_Refusal_TheVariants.{NoSuchSlot};
+ghost use Rattle.line_asks.specs.script_the_Line_TheVariants.{Examine as AsksExamine};
 ghost use Rattle.line_asks.specs.run_laws_Ended.{IsRunKept};
 ghost use Rattle.line_asks.specs.run_laws_Examining.{told_of};
 ghost use Rattle.line_asks.specs.run_laws_Making.{setting_of};
@@ -14,12 +14,10 @@ ghost use Rattle.line_asks.specs.run_laws_the_Answered_TheVariants.{Outside as A
 ghost use Rattle.line_asks.specs.run_laws_the_Outside_TheVariants.{Refused as IsRefused};
 ghost use Rattle.line_asks.specs.run_laws_the_State_TheVariants.{Idle as IsIdle, Running as IsRunning};
 
-use bank::{Bank, BankFault};
-use election::reads::read_superblock;
-use flat_history::Epoch;
-use line_asks::{Answered, Outside, Running, State};
-use md_base::{NoMemory, Refusal};
-use sb1::Sb;
+use line_asks::{
+    Answered, Bank, BankFault, Epoch, NoMemory, Outside, Refusal, Running, Sb, State,
+    read_superblock,
+};
 
 // What is answered where the slot was looked at.
 fn told(slot: u32, found: Result<Option<Sb>, BankFault>) -> Answered

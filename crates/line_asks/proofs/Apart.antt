@@ -4,8 +4,8 @@ use Rattle.std.proofs.lemmas.Bool.Decides.{nat_tests}
 use Rattle.std.proofs.lemmas.List.Elements.{All-nil, All-cons, All-append, All-head, All-tail, All-weaker}
 use Rattle.std.specs.Prelude.{if◌then◌else◌}
 use Rattle.std.specs.List.{All}
-use Rattle.flat_history.specs.declared.events.Entry.{Entry}
-use Rattle.flat_history.specs.Flat.{is_same_call, rest_of_call, next_number}
+use Rattle.run_laws.specs.flat_history_the_Entry.{Entry}
+use Rattle.run_laws.specs.flat_history_Flat.{is_same_call, rest_of_call, next_number}
 use Rattle.run_laws.specs.running_calls_Entered.{IsOfNewCall}
 use Rattle.run_laws.proofs.running_calls_Entered.{never-falls}
 use Rattle.run_laws.specs.States.{IsCaller, IsOwnEntry, AreByScript}

@@ -1,19 +1,19 @@
 -- A write that was refused for the backup: the array is in a reshape, and has a backup that failed.
 use Rattle.std.proofs.Common.{◌≡◌, ℕ, ◌+◌, ◌≤◌, ◌/◌, Bool, true, false, Option, Some, None, Result, Err, List, length, refl, subst, arith}
 use Rattle.std.specs.Prelude.{MatchBool, MatchOption, IfSome, IsSome, nat_lt}
-use Rattle.md_base.specs.Sectors.{sectors_of}
-use Rattle.md_base.proofs.SectorLaws.{length-sectors_of}
-use Rattle.md_base.specs.declared.answers.Fault.{Fault}
-use Rattle.md_base.specs.declared.answers.Fault.TheVariants.{Refused as IsRefusedWith}
-use Rattle.md_base.specs.declared.answers.Refusal.{Refusal}
-use Rattle.md_base.specs.declared.answers.Refusal.TheVariants.{BackupFault}
-use Rattle.md_base.specs.declared.answers.Who.{Who}
+use Rattle.run_laws.specs.md_base_Sectors.{sectors_of}
+use Rattle.run_laws.proofs.md_base_SectorLaws.{length-sectors_of}
+use Rattle.run_laws.specs.md_base_the_Fault.{Fault}
+use Rattle.run_laws.specs.md_base_the_Fault_TheVariants.{Refused as IsRefusedWith}
+use Rattle.run_laws.specs.md_base_the_Refusal.{Refusal}
+use Rattle.run_laws.specs.md_base_the_Refusal_TheVariants.{BackupFault}
+use Rattle.run_laws.specs.md_base_the_Who.{Who}
 use Rattle.run_laws.specs.superblocks_the_Members.{Members}
-use Rattle.flat_history.specs.declared.events.Entry.{Entry}
-use Rattle.flat_history.specs.declared.events.Event.TheVariants.{Wrote}
-use Rattle.flat_history.specs.declared.events.Request.TheVariants.{Write as AsksWrite}
-use Rattle.flat_history.specs.Fits.{IsReadRefused}
-use Rattle.flat_history.specs.Transfers.{IsRefusedAt, IsPastEnd}
+use Rattle.run_laws.specs.flat_history_the_Entry.{Entry}
+use Rattle.run_laws.specs.flat_history_the_Event_TheVariants.{Wrote}
+use Rattle.run_laws.specs.flat_history_the_Request_TheVariants.{Write as AsksWrite}
+use Rattle.run_laws.specs.flat_history_Fits.{IsReadRefused}
+use Rattle.run_laws.specs.flat_history_Transfers.{IsRefusedAt, IsPastEnd}
 use Rattle.run_laws.specs.array_kept_Calls.{IsAnswered, IsCausedBy}
 use Rattle.run_laws.proofs.AskLaws.{barred_within}
 

@@ -5,34 +5,34 @@ use Rattle.std.proofs.lemmas.List.Elements.{All-nil, All-cons, All-append, All-h
 use Rattle.std.specs.Prelude.{if◌then◌else◌}
 use Rattle.std.specs.List.{All}
 use Rattle.std.specs.Option.{option_map_or}
-use Rattle.flat_history.specs.declared.events.Entry.{Entry}
-use Rattle.flat_history.specs.Flat.{rest_of_call, next_number, number_after, length_of, limit_of, visible_of}
-use Rattle.flat_history.specs.OneShape.{IsOfCall}
-use Rattle.md_base.specs.Shapes.{data_disks}
-use Rattle.bank.specs.declared.bank.Operation.{Operation}
-use Rattle.bank.specs.Given.{Given}
+use Rattle.run_laws.specs.flat_history_the_Entry.{Entry}
+use Rattle.run_laws.specs.flat_history_Flat.{rest_of_call, next_number, number_after, length_of, limit_of, visible_of}
+use Rattle.run_laws.specs.flat_history_OneShape.{IsOfCall}
+use Rattle.run_laws.specs.md_base_Shapes.{data_disks}
+use Rattle.run_laws.specs.bank_the_Operation.{Operation}
+use Rattle.run_laws.specs.bank_Given.{Given}
 use Rattle.run_laws.specs.superblocks_Reading.{list_length}
-use Rattle.flat_history.specs.World.{World}
+use Rattle.run_laws.specs.flat_history_World.{World}
 use Rattle.run_laws.specs.running_words_Parts.{RunningParts, visible_in}
 use Rattle.run_laws.specs.running_words_Calls.{IsCalled, IsSameReshape}
 use Rattle.run_laws.specs.running_words_Adding.{IsAddCalled}
 use Rattle.run_laws.specs.running_replies_Going.{IsSameEpoch, HasRunOn}
 use Rattle.run_laws.specs.running_replies_Replies.{IsAnsweredWith, IsRepliedWith, HasToldBy}
-use Rattle.md_base.specs.declared.answers.NoMemory.{NoMemory}
-use Rattle.md_base.specs.declared.answers.Fault.{Fault}
-use Rattle.md_base.specs.declared.answers.Fault.TheVariants.{Refused as IsRefusedWith, NoMemory as WantsMemory}
-use Rattle.md_base.specs.declared.answers.Who.{Who}
-use Rattle.flat_history.specs.declared.events.Event.{Event}
-use Rattle.flat_history.specs.declared.events.Event.TheVariants.{Refused}
-use Rattle.flat_history.specs.declared.events.Request.{Request}
+use Rattle.run_laws.specs.md_base_the_NoMemory.{NoMemory}
+use Rattle.run_laws.specs.md_base_the_Fault.{Fault}
+use Rattle.run_laws.specs.md_base_the_Fault_TheVariants.{Refused as IsRefusedWith, NoMemory as WantsMemory}
+use Rattle.run_laws.specs.md_base_the_Who.{Who}
+use Rattle.run_laws.specs.flat_history_the_Event.{Event}
+use Rattle.run_laws.specs.flat_history_the_Event_TheVariants.{Refused}
+use Rattle.run_laws.specs.flat_history_the_Request.{Request}
 use Rattle.std.specs.Prelude.{Result, Ok, Err, IfErr}
 use Rattle.run_laws.specs.array_kept_Calls.{AreLossesBy}
 use Rattle.run_laws.specs.Asked.{IsSizedBy}
 use Rattle.run_laws.specs.States.{running_history}
 use Rattle.run_laws.proofs.Losses.{IsSameOpening, IsHistoryLater, AreHeldOn, on-steps}
-use Rattle.script.specs.declared.lines.Line.{Line}
-use Rattle.script.specs.declared.reply.Lane.{Lane}
-use Rattle.script.specs.declared.reply.Lane.TheVariants.{Script as InScript, A as InA, B as InB, Worker as InWorker}
+use Rattle.run_laws.specs.script_the_Line.{Line}
+use Rattle.run_laws.specs.script_the_Lane.{Lane}
+use Rattle.run_laws.specs.script_the_Lane_TheVariants.{Script as InScript, A as InA, B as InB, Worker as InWorker}
 use Rattle.run_laws.specs.Blocks.{caller_of}
 use Rattle.run_laws.specs.Replies.{with_script, calls_behind}
 use Rattle.run_laws.specs.Asked.{script_who, IsAskedAt}

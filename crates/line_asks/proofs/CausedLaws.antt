@@ -1,24 +1,24 @@
 -- Why an array answered a line: what its calls say of it.
 use Rattle.std.proofs.Common.{◌≡◌, ◌≢◌, ℕ, ◌+◌, Bool, true, false, Option, None, Some, Result, Ok, Err, List, [], ◌∷◌, ◌++◌, length, refl, sym, ◌∙◌, ap, subst}
 use Rattle.std.specs.Prelude.{slice_get, IfOk, MatchBool, MatchOption}
-use Rattle.md_base.specs.declared.answers.Fault.{Fault}
-use Rattle.md_base.specs.declared.answers.Fault.TheVariants.{Refused as IsRefusedWith, NoMemory as WantsMemory}
-use Rattle.md_base.specs.declared.answers.NoMemory.{NoMemory}
-use Rattle.md_base.specs.declared.answers.Refusal.TheVariants.{SlotFault, Nothing}
-use Rattle.md_base.specs.declared.answers.Who.{Who}
-use Rattle.md_base.specs.declared.status.Status.{Status}
-use Rattle.md_base.specs.declared.wishes.Phase.{Phase}
-use Rattle.md_base.specs.declared.wishes.Wish.{Wish}
-use Rattle.bank.specs.Given.{Given}
-use Rattle.grow_plan.specs.Plans.{phases, phases_steps}
+use Rattle.run_laws.specs.md_base_the_Fault.{Fault}
+use Rattle.run_laws.specs.md_base_the_Fault_TheVariants.{Refused as IsRefusedWith, NoMemory as WantsMemory}
+use Rattle.run_laws.specs.md_base_the_NoMemory.{NoMemory}
+use Rattle.run_laws.specs.md_base_the_Refusal_TheVariants.{SlotFault, Nothing}
+use Rattle.run_laws.specs.md_base_the_Who.{Who}
+use Rattle.run_laws.specs.md_base_the_Status.{Status}
+use Rattle.run_laws.specs.md_base_the_Phase.{Phase}
+use Rattle.run_laws.specs.md_base_the_Wish.{Wish}
+use Rattle.run_laws.specs.bank_Given.{Given}
+use Rattle.run_laws.specs.grow_plan_Plans.{phases, phases_steps}
 use Rattle.run_laws.specs.superblocks_the_Members.{Members}
 use Rattle.run_laws.specs.superblocks_Reading.{is_reshaping, is_clean, shape_of, final_shape, list_length}
-use Rattle.flat_history.specs.declared.events.Entry.{Entry}
-use Rattle.flat_history.specs.declared.events.Event.{Event}
-use Rattle.flat_history.specs.declared.events.Event.TheVariants.{Added, Failed, Visible, Planned, Stepped, Shown, Refused}
-use Rattle.flat_history.specs.declared.events.Request.TheVariants.{Add as AsksAdd, Fail as AsksFail, Visible as AsksVisible, Steps as AsksSteps}
-use Rattle.flat_history.specs.Plain.{entries_of}
-use Rattle.flat_history.specs.World.{World}
+use Rattle.run_laws.specs.flat_history_the_Entry.{Entry}
+use Rattle.run_laws.specs.flat_history_the_Event.{Event}
+use Rattle.run_laws.specs.flat_history_the_Event_TheVariants.{Added, Failed, Visible, Planned, Stepped, Shown, Refused}
+use Rattle.run_laws.specs.flat_history_the_Request_TheVariants.{Add as AsksAdd, Fail as AsksFail, Visible as AsksVisible, Steps as AsksSteps}
+use Rattle.run_laws.specs.flat_history_Plain.{entries_of}
+use Rattle.run_laws.specs.flat_history_World.{World}
 use Rattle.run_laws.specs.array_kept_Calls.{IsReplied, IsAnswered, IsAddedFor, IsFailedFor, by_answer}
 use Rattle.run_laws.specs.growing_Planned.{asked_in, IsGrowJudged, IsGrowAnswered, IsGrowPlanned, IsReplied as IsRepliedTo}
 use Rattle.run_laws.specs.running_Calls.{running_left, IsShownAs}
@@ -29,8 +29,8 @@ use Rattle.run_laws.specs.running_words_Still.{IsStillStatus}
 use Rattle.run_laws.specs.running_words_Visible.{IsVisibleJudged, IsLimitedAs}
 use Rattle.run_laws.specs.running_replies_Limits.{limit_refusal}
 use Rattle.run_laws.specs.running_replies_Replies.{IsAnsweredWith}
-use Rattle.script.specs.declared.lines.Line.{Line}
-use Rattle.script.specs.declared.lines.Line.TheVariants.{Fail, Add, ArraySize, Grow, Step, Detail, Mdstat}
+use Rattle.run_laws.specs.script_the_Line.{Line}
+use Rattle.run_laws.specs.script_the_Line_TheVariants.{Fail, Add, ArraySize, Grow, Step, Detail, Mdstat}
 use Rattle.run_laws.specs.Asked.{IsAskedAt, IsAsked}
 use Rattle.run_laws.specs.Caused.{Record, record_of, IsSeen, IsJudgedBy, IsJudgedAt}
 use Rattle.run_laws.specs.Showing.{TellsArray, IsToldAt}

@@ -1,24 +1,24 @@
 -- What a call leaves of the array, as a line leaves it.
 use Rattle.std.proofs.Common.{◌≡◌, ◌≢◌, ℕ, ◌+◌, Option, Result, Ok, Err, List, [], ◌∷◌, ◌++◌, length, refl, sym, ◌∙◌, ap, subst}
 use Rattle.std.specs.Prelude.{IfOk, OnErr, MatchOption}
-use Rattle.md_base.specs.Sectors.{Sector}
-use Rattle.md_base.specs.declared.answers.Fault.{Fault}
-use Rattle.md_base.specs.declared.answers.Fault.TheVariants.{Refused as IsRefusedWith, NoMemory as WantsMemory}
-use Rattle.md_base.specs.declared.answers.Refusal.{Refusal}
-use Rattle.md_base.specs.declared.answers.Refusal.TheVariants.{SlotFault, BackupFault}
-use Rattle.md_base.specs.declared.answers.Who.{Who}
-use Rattle.md_base.specs.declared.wishes.Wish.{Wish}
-use Rattle.bank.specs.declared.bank.Operation.{Operation}
-use Rattle.bank.specs.Given.{Given}
-use Rattle.grow_plan.specs.Plans.{phases}
+use Rattle.run_laws.specs.md_base_Sectors.{Sector}
+use Rattle.run_laws.specs.md_base_the_Fault.{Fault}
+use Rattle.run_laws.specs.md_base_the_Fault_TheVariants.{Refused as IsRefusedWith, NoMemory as WantsMemory}
+use Rattle.run_laws.specs.md_base_the_Refusal.{Refusal}
+use Rattle.run_laws.specs.md_base_the_Refusal_TheVariants.{SlotFault, BackupFault}
+use Rattle.run_laws.specs.md_base_the_Who.{Who}
+use Rattle.run_laws.specs.md_base_the_Wish.{Wish}
+use Rattle.run_laws.specs.bank_the_Operation.{Operation}
+use Rattle.run_laws.specs.bank_Given.{Given}
+use Rattle.run_laws.specs.grow_plan_Plans.{phases}
 use Rattle.run_laws.specs.superblocks_the_Members.{Members}
 use Rattle.run_laws.specs.superblocks_Reading.{is_reshaping, shape_of, list_length}
-use Rattle.flat_history.specs.declared.events.Entry.{Entry}
-use Rattle.flat_history.specs.declared.events.Event.{Event}
-use Rattle.flat_history.specs.declared.events.Event.TheVariants.{Read, Wrote, Flushed, Failed, Added, Visible, Planned, Refused}
-use Rattle.flat_history.specs.declared.events.Request.TheVariants.{Read as AsksRead, Flush as AsksFlush, Fail as AsksFail, Add as AsksAdd, Grow as AsksGrow, Visible as AsksVisible}
-use Rattle.flat_history.specs.Plain.{entries_of}
-use Rattle.flat_history.specs.World.{World}
+use Rattle.run_laws.specs.flat_history_the_Entry.{Entry}
+use Rattle.run_laws.specs.flat_history_the_Event.{Event}
+use Rattle.run_laws.specs.flat_history_the_Event_TheVariants.{Read, Wrote, Flushed, Failed, Added, Visible, Planned, Refused}
+use Rattle.run_laws.specs.flat_history_the_Request_TheVariants.{Read as AsksRead, Flush as AsksFlush, Fail as AsksFail, Add as AsksAdd, Grow as AsksGrow, Visible as AsksVisible}
+use Rattle.run_laws.specs.flat_history_Plain.{entries_of}
+use Rattle.run_laws.specs.flat_history_World.{World}
 use Rattle.run_laws.specs.views_the_Work.{Work}
 use Rattle.run_laws.specs.views_Lacking.{AreTooMany, HaveRolesFailed}
 use Rattle.run_laws.specs.grow_asked_the_PhasesLeft.{PhasesLeft}
@@ -31,8 +31,8 @@ use Rattle.run_laws.specs.running_words_Adding.{IsAddCalled}
 use Rattle.run_laws.specs.running_words_Calls.{IsCalled, IsSameReshape}
 use Rattle.run_laws.specs.running_words_Parts.{RunningParts, visible_in}
 use Rattle.run_laws.specs.running_words_Visible.{IsLimitedAs}
-use Rattle.script.specs.declared.lines.Line.{Line}
-use Rattle.script.specs.declared.lines.Line.TheVariants.{Read as ReadLine, Write as WriteLine, Flush, Fail, Add, ArraySize, Grow, Stop}
+use Rattle.run_laws.specs.script_the_Line.{Line}
+use Rattle.run_laws.specs.script_the_Line_TheVariants.{Read as ReadLine, Write as WriteLine, Flush, Fail, Add, ArraySize, Grow, Stop}
 use Rattle.run_laws.specs.Asked.{IsAskedAt}
 use Rattle.run_laws.specs.Caused.{record_of}
 use Rattle.run_laws.specs.Records.{IsShapeKept, IsWorkKept, IsOnlyLess, IsLessByFaults, IsWithSpare, IsAsItWas, IsUntouched, IsLeftBy, IsLeftAt}

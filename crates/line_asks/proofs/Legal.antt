@@ -1,16 +1,16 @@
 -- The histories of the arrays that ran stay legal as the tape grows.
 use Rattle.std.proofs.Common.{◌≡◌, ℕ, ◌≤◌, List, [], ◌∷◌, ◌++◌, length, Option, sym, ◌∙◌, ap, subst, arith, append-nil, length-append}
 use Rattle.std.proofs.lemmas.List.Elements.{All-push, All-weaker, All-nil, All-cons, All-head, All-tail}
-use Rattle.bank.specs.Given.{Given}
-use Rattle.bank.specs.declared.bank.Operation.{Operation}
-use Rattle.flat_history.specs.declared.events.Entry.{Entry}
-use Rattle.flat_history.specs.declared.events.Epoch.{Epoch}
-use Rattle.flat_history.specs.Epochs.{world_of}
-use Rattle.flat_history.specs.OneShape.{ShapeOpening, opening_in, IsOneShapeLegal}
-use Rattle.flat_history.proofs.LegalLaws.{histories-stay-legal}
-use Rattle.flat_history.proofs.OneShapeLegal.{opening-grown}
+use Rattle.run_laws.specs.bank_Given.{Given}
+use Rattle.run_laws.specs.bank_the_Operation.{Operation}
+use Rattle.run_laws.specs.flat_history_the_Entry.{Entry}
+use Rattle.run_laws.specs.flat_history_the_Epoch.{Epoch}
+use Rattle.run_laws.specs.flat_history_Epochs.{world_of}
+use Rattle.run_laws.specs.flat_history_OneShape.{ShapeOpening, opening_in, IsOneShapeLegal}
+use Rattle.run_laws.proofs.flat_history_LegalLaws.{histories-stay-legal}
+use Rattle.run_laws.proofs.flat_history_OneShapeLegal.{opening-grown}
 use Rattle.run_laws.proofs.history_laws_OneShapeGrowing.{one_shape-later}
-use Rattle.flat_history.proofs.SoundLaws.{fit-before}
+use Rattle.run_laws.proofs.flat_history_SoundLaws.{fit-before}
 use Rattle.run_laws.proofs.history_laws_ReshapedLaws.{reshapes-stay-right}
 use Rattle.run_laws.proofs.kept_history_Turned.{filled-before}
 use Rattle.run_laws.specs.kept_history_Safe.{IsFilledRight}
@@ -21,14 +21,14 @@ use Rattle.run_laws.specs.array_kept_Calls.{IsEndOf}
 use Rattle.run_laws.specs.views_Moving.{Grows}
 use Rattle.run_laws.specs.views_Parts.{Parts}
 use Rattle.std.specs.Prelude.{Result, Ok, Err, IfOk, IfErr}
-use Rattle.md_base.specs.declared.answers.NoMemory.{NoMemory}
+use Rattle.run_laws.specs.md_base_the_NoMemory.{NoMemory}
 use Rattle.std.proofs.lemmas.List.{map-append}
-use Rattle.flat_history.specs.CrashSafe.{IsCrashSafe}
-use Rattle.flat_history.specs.World.{World}
-use Rattle.flat_history.specs.Growing.{EndBy}
-use Rattle.flat_history.specs.Reopened.{OpensAccepted}
-use Rattle.flat_history.specs.Sound.{StaysSound}
-use Rattle.flat_history.specs.Growing.{grown}
+use Rattle.run_laws.specs.flat_history_CrashSafe.{IsCrashSafe}
+use Rattle.run_laws.specs.flat_history_World.{World}
+use Rattle.run_laws.specs.flat_history_Growing.{EndBy}
+use Rattle.run_laws.specs.flat_history_Reopened.{OpensAccepted}
+use Rattle.run_laws.specs.flat_history_Sound.{StaysSound}
+use Rattle.run_laws.specs.flat_history_Growing.{grown}
 use Rattle.run_laws.specs.Histories.{History, history_of, histories_of}
 use Rattle.run_laws.specs.Making.{world_at, AreHeldSince}
 use Rattle.run_laws.specs.States.{running_history}

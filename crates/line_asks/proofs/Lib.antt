@@ -20,3 +20,5 @@ pub use Rattle.run_laws.proofs.Told as run_laws_Told
 pub use Rattle.run_laws.proofs.running_calls_GoneOn
 pub use Rattle.run_laws.proofs.views_Still
 pub use Rattle.run_laws.proofs.history_laws_OneShapeGrowing
+pub use Rattle.run_laws.proofs.flat_history_OneShapeLegal
+pub use Rattle.run_laws.proofs.md_base_Tabulated

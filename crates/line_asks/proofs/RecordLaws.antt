@@ -4,21 +4,21 @@ use Rattle.std.proofs.Math.Seq.{drop-append_seam}
 use Rattle.std.specs.Prelude.{slice_get, IfOk, IsTrue, MatchOption}
 use Rattle.std.specs.List.{list_any}
 use Rattle.std.specs.Option.{option_map_or}
-use Rattle.md_base.specs.declared.answers.NoMemory.{NoMemory}
-use Rattle.md_base.specs.declared.answers.Refusal.TheVariants.{SlotFault}
-use Rattle.md_base.specs.declared.answers.Who.{Who}
-use Rattle.md_base.specs.declared.status.Status.{Status}
-use Rattle.bank.specs.Given.{Given, NeverFalls}
-use Rattle.bank.specs.declared.bank.Operation.{Operation}
+use Rattle.run_laws.specs.md_base_the_NoMemory.{NoMemory}
+use Rattle.run_laws.specs.md_base_the_Refusal_TheVariants.{SlotFault}
+use Rattle.run_laws.specs.md_base_the_Who.{Who}
+use Rattle.run_laws.specs.md_base_the_Status.{Status}
+use Rattle.run_laws.specs.bank_Given.{Given, NeverFalls}
+use Rattle.run_laws.specs.bank_the_Operation.{Operation}
 use Rattle.run_laws.specs.superblocks_the_Members.{Members}
 use Rattle.run_laws.specs.superblocks_Reading.{list_length}
-use Rattle.flat_history.specs.declared.events.Entry.{Entry}
-use Rattle.flat_history.specs.declared.events.Event.{Event}
-use Rattle.flat_history.specs.declared.events.Event.TheVariants.{Lost, SpareLost, Failed, Added, Visible, Planned, Refused}
-use Rattle.flat_history.specs.declared.events.LostCause.TheVariants.{Command, Fault as ByFault}
-use Rattle.flat_history.specs.declared.events.Request.TheVariants.{Steps as AsksSteps}
-use Rattle.flat_history.specs.Flat.{length_of}
-use Rattle.flat_history.specs.Reshaped.{is_planned}
+use Rattle.run_laws.specs.flat_history_the_Entry.{Entry}
+use Rattle.run_laws.specs.flat_history_the_Event.{Event}
+use Rattle.run_laws.specs.flat_history_the_Event_TheVariants.{Lost, SpareLost, Failed, Added, Visible, Planned, Refused}
+use Rattle.run_laws.specs.flat_history_the_LostCause_TheVariants.{Command, Fault as ByFault}
+use Rattle.run_laws.specs.flat_history_the_Request_TheVariants.{Steps as AsksSteps}
+use Rattle.run_laws.specs.flat_history_Flat.{length_of}
+use Rattle.run_laws.specs.flat_history_Reshaped.{is_planned}
 use Rattle.run_laws.specs.views_Lacking.{HaveRolesFailed}
 use Rattle.run_laws.specs.running_calls_Going.{MayHoldSince, WasMemberSince, AreLossesSince}
 use Rattle.run_laws.specs.array_kept_Calls.{IsLossBy}
@@ -27,11 +27,11 @@ use Rattle.run_laws.specs.running_replies_Going.{is_begin, AreHeldBehind, HasNoR
 use Rattle.run_laws.specs.running_replies_Replies.{IsAnsweredWith}
 use Rattle.run_laws.specs.running_steps_Steps.{IsStepCount, KeepsItsWay}
 use Rattle.run_laws.specs.running_words_Parts.{RunningParts}
-use Rattle.script.specs.declared.lines.Line.{Line}
-use Rattle.script.specs.declared.lines.Line.TheVariants.{Read, Write, Flush, Fail, Add, ArraySize, Grow, Step, Wait, Stop, Detail, Mdstat}
-use Rattle.script.specs.declared.lines.Numbered.{Numbered}
-use Rattle.script.specs.declared.reply.Lane.{Lane}
-use Rattle.script.specs.declared.reply.Lane.TheVariants.{Script as InScript, A as InA, B as InB, Worker as InWorker}
+use Rattle.run_laws.specs.script_the_Line.{Line}
+use Rattle.run_laws.specs.script_the_Line_TheVariants.{Read, Write, Flush, Fail, Add, ArraySize, Grow, Step, Wait, Stop, Detail, Mdstat}
+use Rattle.run_laws.specs.script_the_Numbered.{Numbered}
+use Rattle.run_laws.specs.script_the_Lane.{Lane}
+use Rattle.run_laws.specs.script_the_Lane_TheVariants.{Script as InScript, A as InA, B as InB, Worker as InWorker}
 use Rattle.run_laws.specs.declared.report.Answered.{Answered}
 use Rattle.run_laws.specs.declared.report.Answered.TheVariants.{Inside, Outside as IsOutside}
 use Rattle.run_laws.specs.declared.report.LineReply.{LineReply}

@@ -3,18 +3,18 @@ use Rattle.std.proofs.Common.{◌≡◌, ◌⊎◌, inl, inr, ℕ, List, [], ◌
 use Rattle.std.proofs.lemmas.List.Sums.{fold-append}
 use Rattle.std.proofs.lemmas.List.Elements.{All-push, All-head, All-tail, All-weaker}
 use Rattle.std.specs.List.{All}
-use Rattle.md_base.specs.declared.answers.Who.{Who}
-use Rattle.md_base.specs.declared.answers.Fault.{Fault}
-use Rattle.md_base.specs.declared.answers.Fault.TheVariants.{Refused as IsRefusedWith, NoMemory}
-use Rattle.md_base.specs.declared.answers.Refusal.TheVariants.{BackupFault}
-use Rattle.bank.specs.declared.bank.Operation.{Operation}
-use Rattle.flat_history.specs.declared.events.Entry.{Entry}
-use Rattle.flat_history.specs.declared.events.Event.{Event}
-use Rattle.flat_history.specs.declared.events.Event.TheVariants.{Resized, Refused}
-use Rattle.flat_history.specs.declared.events.Request.{Request}
-use Rattle.flat_history.specs.Flat.{length_after, length_of}
-use Rattle.flat_history.specs.OneShape.{IsOfCall}
-use Rattle.flat_history.specs.Plain.{entries_of}
+use Rattle.run_laws.specs.md_base_the_Who.{Who}
+use Rattle.run_laws.specs.md_base_the_Fault.{Fault}
+use Rattle.run_laws.specs.md_base_the_Fault_TheVariants.{Refused as IsRefusedWith, NoMemory}
+use Rattle.run_laws.specs.md_base_the_Refusal_TheVariants.{BackupFault}
+use Rattle.run_laws.specs.bank_the_Operation.{Operation}
+use Rattle.run_laws.specs.flat_history_the_Entry.{Entry}
+use Rattle.run_laws.specs.flat_history_the_Event.{Event}
+use Rattle.run_laws.specs.flat_history_the_Event_TheVariants.{Resized, Refused}
+use Rattle.run_laws.specs.flat_history_the_Request.{Request}
+use Rattle.run_laws.specs.flat_history_Flat.{length_after, length_of}
+use Rattle.run_laws.specs.flat_history_OneShape.{IsOfCall}
+use Rattle.run_laws.specs.flat_history_Plain.{entries_of}
 use Rattle.run_laws.specs.call_entries_Losing.{losses_of}
 use Rattle.run_laws.proofs.call_entries_CallLaws.{losses-are}
 use Rattle.run_laws.specs.array_kept_Calls.{StandsInside, IsReplied, IsAnswered, IsBehind, IsEntered}

@@ -2,14 +2,14 @@
 use Rattle.std.proofs.Common.{◌≡◌, ℕ, ◌+◌, ◌≤◌, Bool, true, false, Option, List, [], ◌∷◌, ◌++◌, length, append-nil, refl, sym, ◌∙◌, subst}
 use Rattle.std.proofs.lemmas.List.Elements.{All-nil}
 use Rattle.std.specs.Prelude.{MatchOption, MatchBool}
-use Rattle.bank.specs.declared.bank.Operation.{Operation}
-use Rattle.md_base.specs.declared.answers.Who.{Who}
-use Rattle.md_base.specs.declared.status.Status.{Status}
-use Rattle.flat_history.specs.declared.events.Entry.{Entry}
-use Rattle.flat_history.specs.declared.events.Event.{Event}
-use Rattle.flat_history.specs.declared.events.Event.TheVariants.{Shown}
-use Rattle.flat_history.specs.Flat.{length_of, limit_of}
-use Rattle.flat_history.specs.OneShape.{IsOfCall}
+use Rattle.run_laws.specs.bank_the_Operation.{Operation}
+use Rattle.run_laws.specs.md_base_the_Who.{Who}
+use Rattle.run_laws.specs.md_base_the_Status.{Status}
+use Rattle.run_laws.specs.flat_history_the_Entry.{Entry}
+use Rattle.run_laws.specs.flat_history_the_Event.{Event}
+use Rattle.run_laws.specs.flat_history_the_Event_TheVariants.{Shown}
+use Rattle.run_laws.specs.flat_history_Flat.{length_of, limit_of}
+use Rattle.run_laws.specs.flat_history_OneShape.{IsOfCall}
 use Rattle.run_laws.specs.superblocks_Reading.{is_reshaping, list_length}
 use Rattle.run_laws.specs.running_words_Parts.{RunningParts, visible_in}
 use Rattle.run_laws.specs.running_words_Calls.{IsStatusFor}
@@ -17,8 +17,8 @@ use Rattle.run_laws.specs.running_words_Still.{IsStillStatus}
 use Rattle.run_laws.specs.running_Calls.{IsShownAs}
 use Rattle.run_laws.specs.array_kept_Calls.{IsEntered}
 use Rattle.run_laws.proofs.array_kept_ReplyLaws.{none-inside}
-use Rattle.script.specs.declared.lines.Line.{Line}
-use Rattle.script.specs.declared.lines.Line.TheVariants.{Detail, Mdstat}
+use Rattle.run_laws.specs.script_the_Line.{Line}
+use Rattle.run_laws.specs.script_the_Line_TheVariants.{Detail, Mdstat}
 use Rattle.run_laws.specs.Asked.{script_who, IsAskedAt}
 use Rattle.run_laws.specs.Histories.{is_end}
 use Rattle.run_laws.specs.Replies.{FitsLine}

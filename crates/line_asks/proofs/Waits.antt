@@ -2,9 +2,9 @@
 use Rattle.std.proofs.Common.{◌≡◌, ℕ, Bool, true, false, Option, List, [], ◌∷◌, ◌++◌, refl, sym, ◌∙◌, ap, subst}
 use Rattle.std.specs.Prelude.{IsTrue, IsFalse}
 use Rattle.std.specs.Option.{option_map_or}
-use Rattle.flat_history.specs.declared.events.Entry.{Entry}
-use Rattle.flat_history.specs.Flat.{next_number}
-use Rattle.script.specs.declared.lines.Line.TheVariants.{Step, Wait}
+use Rattle.run_laws.specs.flat_history_the_Entry.{Entry}
+use Rattle.run_laws.specs.flat_history_Flat.{next_number}
+use Rattle.run_laws.specs.script_the_Line_TheVariants.{Step, Wait}
 use Rattle.run_laws.proofs.running_replies_Fitting.{fits-steps}
 use Rattle.run_laws.specs.Asked.{script_who, IsAskedAt, IsStillWaiting, IsWaitedFor}
 use Rattle.run_laws.specs.Replies.{steps_at_once, leaves_more, leaves_more_at, IsReplyAt, IsWaitedAt, IsRepliedAt}

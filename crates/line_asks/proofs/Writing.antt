@@ -5,21 +5,21 @@ use Rattle.std.proofs.lemmas.List.{map-append}
 use Rattle.std.specs.Prelude.{slice_get}
 use Rattle.std.specs.Global.{Vec}
 use Rattle.std.specs.Option.{option_map_or}
-use Rattle.md_base.specs.Sectors.{Sector}
-use Rattle.md_base.specs.declared.answers.NoMemory.{NoMemory}
-use Rattle.md_base.specs.declared.answers.Who.{Who}
-use Rattle.md_base.specs.declared.answers.Fault.TheVariants.{Refused as IsRefusedWith, NoMemory as WantsMemory}
-use Rattle.md_base.specs.declared.answers.Refusal.{Refusal}
-use Rattle.md_base.specs.declared.answers.Refusal.TheVariants.{SlotFault, UuidInUse}
-use Rattle.bank.specs.Given.{Given}
-use Rattle.bank.specs.Tape.{Contents, AreFlushes}
-use Rattle.bank.specs.declared.bank.Operation.{Operation}
-use Rattle.bank.specs.declared.bank.Operation.TheVariants.{Write, Flush}
-use Rattle.flat_history.specs.declared.events.Entry.{Entry}
-use Rattle.flat_history.specs.declared.events.Epoch.{Epoch}
-use Rattle.flat_history.specs.declared.events.Event.{Event}
-use Rattle.flat_history.proofs.OneShapeLegal.{last-snoc}
-use Rattle.flat_history.specs.Transfers.{last_end_from}
+use Rattle.run_laws.specs.md_base_Sectors.{Sector}
+use Rattle.run_laws.specs.md_base_the_NoMemory.{NoMemory}
+use Rattle.run_laws.specs.md_base_the_Who.{Who}
+use Rattle.run_laws.specs.md_base_the_Fault_TheVariants.{Refused as IsRefusedWith, NoMemory as WantsMemory}
+use Rattle.run_laws.specs.md_base_the_Refusal.{Refusal}
+use Rattle.run_laws.specs.md_base_the_Refusal_TheVariants.{SlotFault, UuidInUse}
+use Rattle.run_laws.specs.bank_Given.{Given}
+use Rattle.run_laws.specs.bank_Tape.{Contents, AreFlushes}
+use Rattle.run_laws.specs.bank_the_Operation.{Operation}
+use Rattle.run_laws.specs.bank_the_Operation_TheVariants.{Write, Flush}
+use Rattle.run_laws.specs.flat_history_the_Entry.{Entry}
+use Rattle.run_laws.specs.flat_history_the_Epoch.{Epoch}
+use Rattle.run_laws.specs.flat_history_the_Event.{Event}
+use Rattle.run_laws.proofs.flat_history_OneShapeLegal.{last-snoc}
+use Rattle.run_laws.specs.flat_history_Transfers.{last_end_from}
 use Rattle.run_laws.specs.views_Flushing.{OnlyFlushesAdded}
 use Rattle.run_laws.specs.views_Moving.{Grows}
 use Rattle.run_laws.specs.running_words_Parts.{RunningParts}
@@ -27,9 +27,9 @@ use Rattle.run_laws.specs.array_kept_Calls.{IsEntered}
 use Rattle.run_laws.specs.assemble_Creating.{create_refusal}
 use Rattle.run_laws.specs.assemble_Filling.{AreBelow, OnlyBelow}
 use Rattle.run_laws.specs.assemble_Made.{HasCreateCause}
-use Rattle.script.specs.declared.lines.CreateLine.{CreateLine}
-use Rattle.script.specs.declared.lines.Line.{Line}
-use Rattle.script.specs.declared.lines.Line.TheVariants.{Create}
+use Rattle.run_laws.specs.script_the_CreateLine.{CreateLine}
+use Rattle.run_laws.specs.script_the_Line.{Line}
+use Rattle.run_laws.specs.script_the_Line_TheVariants.{Create}
 use Rattle.run_laws.specs.declared.report.Outside.TheVariants.{Created, Refused}
 use Rattle.run_laws.specs.declared.report.Answered.{Answered}
 use Rattle.run_laws.specs.declared.report.Answered.TheVariants.{Outside as IsOutside}

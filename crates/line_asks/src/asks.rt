@@ -1,9 +1,9 @@
 //! One request of the script to a running array.
 
 ghost use Rattle.std.specs.Prelude.{◌≡◌, ◌≢◌, ◌⊎◌, ◌+◌, ◌*◌, ◌/◌, ◌<◌, ◌≤◌, ◌^◌, ℕ, true, List, length, slice_get, Err, IfOk, IfErr, IsTrue, IsFalse, IsSome};
-ghost use Rattle.md_base.specs.declared.answers.Fault.TheVariants.{NoMemory as WantsMemory};
-ghost use Rattle.bank.specs.Given.{NeverFalls};
-ghost use Rattle.md_base.specs.Sectors.{IsWhole};
+ghost use Rattle.run_laws.specs.md_base_the_Fault_TheVariants.{NoMemory as WantsMemory};
+ghost use Rattle.run_laws.specs.bank_Given.{NeverFalls};
+ghost use Rattle.run_laws.specs.md_base_Sectors.{IsWhole};
 ghost use Rattle.std.specs.List.{list_any};
 ghost use Rattle.run_laws.specs.superblocks_Reads.{has_spare};
 ghost use Rattle.run_laws.specs.superblocks_Reading.{is_reshaping, list_length};
@@ -19,13 +19,9 @@ ghost use Rattle.run_laws.specs.Replies.{leaves_more_at};
 ghost use Rattle.run_laws.specs.Caused.{Record, record_of, IsJudgedAt};
 ghost use Rattle.run_laws.specs.Records.{AreStepsAnswered, AreAllAnswered, IsLeftAt};
 ghost use Rattle.run_laws.specs.Turning.{IsTellable, IsTurningTold};
-ghost use Rattle.script.specs.declared.lines.Line.TheVariants.{Read as ReadLine, Write as WriteLine, Flush as FlushLine, Fail as FailLine, Add as AddLine, ArraySize as ArraySizeLine, Grow as GrowLine, Step as StepLine};
+ghost use Rattle.run_laws.specs.script_the_Line_TheVariants.{Read as ReadLine, Write as WriteLine, Flush as FlushLine, Fail as FailLine, Add as AddLine, ArraySize as ArraySizeLine, Grow as GrowLine, Step as StepLine};
 
-use bank::Bank;
-use flat_history::Event;
-use md_base::{Fault, NoMemory, Who, Wish};
-use run_laws::{Running, steps};
-use script::seed_sectors;
+use run_laws::{Bank, Event, Fault, NoMemory, Running, Who, Wish, seed_sectors, steps};
 use std::alloc::Global;
 
 // How many steps a wait asks for at a time.

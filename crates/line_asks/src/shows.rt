@@ -1,7 +1,7 @@
 //! What a running array is asked of itself.
 
 ghost use Rattle.std.specs.Prelude.{◌≡◌, ◌+◌, ◌≤◌, length, IfOk, IfErr};
-ghost use Rattle.bank.specs.Given.{NeverFalls};
+ghost use Rattle.run_laws.specs.bank_Given.{NeverFalls};
 ghost use Rattle.run_laws.specs.superblocks_Reading.{is_reshaping, list_length};
 ghost use Rattle.run_laws.specs.views_Placed.{AreStillHeld};
 ghost use Rattle.run_laws.specs.views_Moving.{Grows};
@@ -14,12 +14,10 @@ ghost use Rattle.run_laws.specs.Caused.{record_of};
 ghost use Rattle.run_laws.specs.Records.{IsUntouched};
 ghost use Rattle.run_laws.specs.Showing.{IsToldAt};
 ghost use Rattle.run_laws.specs.Turning.{IsTellable, IsTurningTold};
-ghost use Rattle.script.specs.declared.lines.Line.TheVariants.{Detail as DetailLine, Mdstat as MdstatLine};
+ghost use Rattle.run_laws.specs.script_the_Line_TheVariants.{Detail as DetailLine, Mdstat as MdstatLine};
 
 use crate::asks::{last_place, script_call};
-use bank::Bank;
-use md_base::NoMemory;
-use run_laws::Running;
+use run_laws::{Bank, NoMemory, Running};
 
 /// Asks what the array tells of itself. Ok is the place of the reply entry. It makes no device call.
 pub fn ask_show<B: Bank>(array: &mut Running<B>) -> Result<u64, NoMemory>

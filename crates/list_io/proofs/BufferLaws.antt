@@ -1,19 +1,19 @@
 -- Rows that were read whole.
 use Rattle.std.proofs.Common.{◌≡◌, inl, inr, ℕ, ◌+◌, ◌*◌, ◌<◌, ◌≤◌, Bool, true, false, nat_lt, if◌then◌else◌, List, Option, Some, None, unwrap_or, option_map, refl, sym, ap, ◌∙◌, subst, arith}
 use Rattle.std.proofs.lemmas.Bool.Decides.{nat_tests}
-use Rattle.md_base.specs.declared.places.Shape.{Shape}
-use Rattle.md_base.specs.declared.status.Role.{Role}
-use Rattle.md_base.specs.declared.status.Role.TheVariants.{Whole, Recovering, Missing}
-use Rattle.md_base.specs.Sectors.{Sector}
-use Rattle.md_base.specs.Shapes.{is_valid_shape, is_multiple, data_disks}
-use Rattle.bank.specs.Tape.{Contents}
+use Rattle.layout.specs.md_base_the_Shape.{Shape}
+use Rattle.layout.specs.md_base_the_Role.{Role}
+use Rattle.layout.specs.md_base_the_Role_TheVariants.{Whole, Recovering, Missing}
+use Rattle.layout.specs.md_base_Sectors.{Sector}
+use Rattle.layout.specs.md_base_Shapes.{is_valid_shape, is_multiple, data_disks}
+use Rattle.row_io.specs.bank_Tape.{Contents}
 use Rattle.layout.specs.Layout.{place, row_roles}
 use Rattle.layout.proofs.Places.{place-role_below, place-row_below}
 use Rattle.layout.proofs.OnlyParity.{parity_only-all}
-use Rattle.parity.specs.Parity.{fill}
-use Rattle.parity.proofs.Columns.{bool_cases}
-use Rattle.superblocks.specs.declared.members.Members.{Members}
-use Rattle.superblocks.specs.Reading.{Reading, role_state, rows_held, holder, data_offset_of}
+use Rattle.row_io.specs.parity_Parity.{fill}
+use Rattle.row_io.proofs.parity_Columns.{bool_cases}
+use Rattle.row_io.specs.superblocks_the_Members.{Members}
+use Rattle.row_io.specs.superblocks_Reading.{Reading, role_state, rows_held, holder, data_offset_of}
 use Rattle.row_io.specs.Rows.{reading_of, is_held, held_slot, held_sector, held_row, standing_sector, members_without, IsTolerated}
 use Rattle.row_io.proofs.Lacks.{lacking-missing}
 use Rattle.row_io.proofs.Losses.{held_slot-after}

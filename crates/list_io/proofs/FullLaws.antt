@@ -3,26 +3,26 @@ use Rattle.std.proofs.Common.{◌≡◌, ◌≢◌, inl, inr, ℕ, ◌+◌, ◌*
 use Rattle.std.specs.Prelude.{IfSome}
 use Rattle.std.proofs.lemmas.Bool.Decides.{nat_tests}
 use Rattle.std.proofs.lemmas.Nat.{mod_below, mod-mul-add}
-use Rattle.md_base.specs.declared.places.Shape.{Shape}
-use Rattle.md_base.specs.declared.places.Place.{Place}
-use Rattle.md_base.specs.declared.places.RowRoles.{RowRoles}
-use Rattle.md_base.specs.Search.{least_below}
-use Rattle.md_base.specs.Sectors.{Sector}
-use Rattle.md_base.specs.Shapes.{is_valid_shape, data_disks}
-use Rattle.md_base.proofs.Least.{least_below-only}
-use Rattle.bank.specs.Tape.{Contents}
+use Rattle.layout.specs.md_base_the_Shape.{Shape}
+use Rattle.layout.specs.md_base_the_Place.{Place}
+use Rattle.layout.specs.md_base_the_RowRoles.{RowRoles}
+use Rattle.layout.specs.md_base_Search.{least_below}
+use Rattle.layout.specs.md_base_Sectors.{Sector}
+use Rattle.layout.specs.md_base_Shapes.{is_valid_shape, data_disks}
+use Rattle.layout.proofs.md_base_Least.{least_below-only}
+use Rattle.row_io.specs.bank_Tape.{Contents}
 use Rattle.layout.specs.Layout.{place, row_roles, stripe_of, stripe_data, data_index, IsParity}
 use Rattle.layout.proofs.Limits.{limited}
 use Rattle.layout.proofs.Places.{chunk_some, data_index-below, sector_at-parts, stripe_of-row, place-apart, parity-or_sector, row_roles-p_below, row_roles-q_apart}
 use Rattle.layout.proofs.Stripes.{stripe_data-only}
-use Rattle.parity.specs.Exponents.{is_data, is_this_q}
-use Rattle.parity.specs.Parity.{fill}
-use Rattle.parity.specs.Fills.{IsGoodBut}
-use Rattle.parity.specs.Rows.{IsRowRoles, IsSector, row_without, sector_of}
-use Rattle.parity.proofs.Columns.{bool_cases, data_at_p, data_at_q, q_at}
-use Rattle.parity.proofs.OwnFills.{fills-are-own}
-use Rattle.superblocks.specs.declared.members.Members.{Members}
-use Rattle.superblocks.specs.Reading.{Reading, data_offset_of}
+use Rattle.row_io.specs.parity_Exponents.{is_data, is_this_q}
+use Rattle.row_io.specs.parity_Parity.{fill}
+use Rattle.row_io.specs.parity_Fills.{IsGoodBut}
+use Rattle.row_io.specs.parity_Rows.{IsRowRoles, IsSector, row_without, sector_of}
+use Rattle.row_io.proofs.parity_Columns.{bool_cases, data_at_p, data_at_q, q_at}
+use Rattle.row_io.proofs.parity_OwnFills.{fills-are-own}
+use Rattle.row_io.specs.superblocks_the_Members.{Members}
+use Rattle.row_io.specs.superblocks_Reading.{Reading, data_offset_of}
 use Rattle.row_io.specs.Rows.{reading_of, is_held, held_slot, members_without}
 use Rattle.row_io.specs.Writes.{is_parity, new_sector, IsGoodRow}
 use Rattle.row_io.proofs.Losses.{held_slot-after, all_stand}

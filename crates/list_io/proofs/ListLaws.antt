@@ -1,16 +1,16 @@
 -- Sectors of the list, read from a slot or filled in, and what becomes of them in the rest of a call.
 use Rattle.std.proofs.Common.{◌≡◌, ℕ, ◌+◌, ◌<◌, Bool, true, false, if◌then◌else◌, List, Option, Some, None, option_map, Result, Ok, Err, refl, sym, ap₂, ◌∙◌, subst}
 use Rattle.std.specs.Prelude.{OnOk}
-use Rattle.md_base.specs.declared.places.Shape.{Shape}
-use Rattle.md_base.specs.Sectors.{Sector}
-use Rattle.md_base.specs.Shapes.{is_valid_shape}
-use Rattle.bank.specs.Given.{Given}
-use Rattle.bank.specs.declared.bank.Operation.{Operation}
-use Rattle.bank.specs.Tape.{Contents}
+use Rattle.layout.specs.md_base_the_Shape.{Shape}
+use Rattle.layout.specs.md_base_Sectors.{Sector}
+use Rattle.layout.specs.md_base_Shapes.{is_valid_shape}
+use Rattle.row_io.specs.bank_Given.{Given}
+use Rattle.row_io.specs.bank_the_Operation.{Operation}
+use Rattle.row_io.specs.bank_Tape.{Contents}
 use Rattle.layout.specs.Layout.{place}
 use Rattle.layout.proofs.Places.{place-role_below}
-use Rattle.superblocks.specs.declared.members.Members.{Members}
-use Rattle.superblocks.specs.Reading.{Reading, role_state, holder, data_offset_of}
+use Rattle.row_io.specs.superblocks_the_Members.{Members}
+use Rattle.row_io.specs.superblocks_Reading.{Reading, role_state, holder, data_offset_of}
 use Rattle.row_io.specs.Rows.{present, reading_of, is_held, held_sector, standing_sector, members_without, IsTolerated}
 use Rattle.list_io.specs.declared.outcome.Unavailable.{Unavailable}
 use Rattle.list_io.specs.declared.outcome.Unavailable.TheVariants.{TooManyMissing, NotResynced}

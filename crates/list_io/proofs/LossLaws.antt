@@ -3,15 +3,15 @@ use Rattle.std.proofs.Common.{◌≡◌, ◌⊎◌, inl, inr, ℕ, ◌<◌, ◌�
 use Rattle.std.specs.Int.{bit_at}
 use Rattle.std.proofs.lemmas.Bool.Decides.{nat_tests}
 use Rattle.std.proofs.lemmas.Nat.Bits.{bit_at_or, bit_at-lt}
-use Rattle.md_base.specs.declared.places.Shape.{Shape}
-use Rattle.md_base.specs.declared.status.Role.{Role}
-use Rattle.md_base.specs.declared.status.Role.TheVariants.{Whole, Recovering, Missing}
-use Rattle.md_base.specs.Shapes.{has_slot}
-use Rattle.bank.specs.Given.{Given, IsFaulted, NeverFalls}
-use Rattle.bank.proofs.Causes.{faulted_longer}
-use Rattle.superblocks.specs.declared.members.Members.{Members}
-use Rattle.superblocks.specs.Reading.{Reading, role_state, rows_held, holder}
-use Rattle.superblocks.proofs.SlotSets.{same_set, none_there}
+use Rattle.layout.specs.md_base_the_Shape.{Shape}
+use Rattle.layout.specs.md_base_the_Role.{Role}
+use Rattle.layout.specs.md_base_the_Role_TheVariants.{Whole, Recovering, Missing}
+use Rattle.layout.specs.md_base_Shapes.{has_slot}
+use Rattle.row_io.specs.bank_Given.{Given, IsFaulted, NeverFalls}
+use Rattle.row_io.proofs.bank_Causes.{faulted_longer}
+use Rattle.row_io.specs.superblocks_the_Members.{Members}
+use Rattle.row_io.specs.superblocks_Reading.{Reading, role_state, rows_held, holder}
+use Rattle.row_io.proofs.superblocks_SlotSets.{same_set, none_there}
 use Rattle.row_io.specs.Rows.{reading_of, is_held, role_without, members_without, IsRow, IsTolerated}
 use Rattle.row_io.proofs.Losses.{holder-after, state_after, state_kept}
 use Rattle.row_io.proofs.Tables.{length-mapped}

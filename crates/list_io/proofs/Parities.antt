@@ -2,19 +2,19 @@
 use Rattle.std.proofs.Common.{◌≡◌, inl, inr, ℕ, ◌<◌, Bool, true, false, not, cond, if◌then◌else◌, ◌==◌, eqb, eq-eqb, eqb-true, List, get_or, Option, Some, None, refl, sym, ap, ◌∙◌, subst, arith}
 use Rattle.std.proofs.lemmas.Bool.{cases_lt, cases_eq}
 use Rattle.std.proofs.lemmas.List.{get_or_past}
-use Rattle.md_base.specs.declared.places.RowRoles.{RowRoles}
-use Rattle.md_base.specs.Search.{tabulate}
-use Rattle.md_base.specs.Sectors.{Sector}
-use Rattle.md_base.proofs.Tabulated.{length-tabulate, get_or-tabulate}
-use Rattle.gf256.specs.Field.{product, power_of_two}
-use Rattle.gf256.proofs.FieldLaws.{product-lt}
-use Rattle.parity.specs.Exponents.{is_data, is_q, exponent}
-use Rattle.parity.specs.Parity.{Row, data_sum, p_byte, q_byte, p_holds, q_holds_at, fill, AreEquationsMet}
-use Rattle.parity.specs.Rows.{IsRowRoles, IsSector, row_without, whole_row, filled_sector}
-use Rattle.parity.proofs.Totals.{total-lt}
-use Rattle.parity.proofs.Columns.{bool_cases, tabulate-same, weighed, weighed-is, data_sum-tabulate, data_sum-agrees, data_at_p, data_at_q, data_else, q_at, q_of}
-use Rattle.parity.proofs.Contents.{whole-good, q_from}
-use Rattle.parity.proofs.OwnFills.{fills-are-own}
+use Rattle.layout.specs.md_base_the_RowRoles.{RowRoles}
+use Rattle.layout.specs.md_base_Search.{tabulate}
+use Rattle.layout.specs.md_base_Sectors.{Sector}
+use Rattle.layout.proofs.md_base_Tabulated.{length-tabulate, get_or-tabulate}
+use Rattle.row_io.specs.gf256_Field.{product, power_of_two}
+use Rattle.row_io.proofs.gf256_FieldLaws.{product-lt}
+use Rattle.row_io.specs.parity_Exponents.{is_data, is_q, exponent}
+use Rattle.row_io.specs.parity_Parity.{Row, data_sum, p_byte, q_byte, p_holds, q_holds_at, fill, AreEquationsMet}
+use Rattle.row_io.specs.parity_Rows.{IsRowRoles, IsSector, row_without, whole_row, filled_sector}
+use Rattle.row_io.proofs.parity_Totals.{total-lt}
+use Rattle.row_io.proofs.parity_Columns.{bool_cases, tabulate-same, weighed, weighed-is, data_sum-tabulate, data_sum-agrees, data_at_p, data_at_q, data_else, q_at, q_of}
+use Rattle.row_io.proofs.parity_Contents.{whole-good, q_from}
+use Rattle.row_io.proofs.parity_OwnFills.{fills-are-own}
 use Rattle.row_io.specs.Writes.{is_parity, IsGoodRow}
 use Rattle.row_io.proofs.NewRow.{parity_few}
 

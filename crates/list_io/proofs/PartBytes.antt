@@ -3,7 +3,7 @@ use Rattle.std.proofs.Common.{◌≡◌, ◌⊎◌, inl, inr, ℕ, ◌+◌, ◌-
 use Rattle.std.proofs.lemmas.List.{drop-drop, drop-take, take-take}
 use Rattle.std.proofs.lemmas.Slice.{drop-put_mid, take-put_mid_below, between-put_mid}
 use borrow.Rule.Slice.PartMut.{put_mid}
-use Rattle.parity.specs.Rows.{sector_of}
+use Rattle.row_io.specs.parity_Rows.{sector_of}
 
 -- a sector in as few words
 plain : (bytes : List ℕ) (role : ℕ) → sector_of bytes role ≡ take 512 (drop (512 * role) bytes)

@@ -2,17 +2,17 @@
 use Rattle.std.proofs.Common.{◌≡◌, ◌≢◌, ◌⊎◌, inl, inr, ℕ, ◌+◌, ◌<◌, ◌≤◌, List, length, true, refl, sym, ◌∙◌, ap, ap₂, subst, arith}
 use Rattle.std.specs.Prelude.{slice_index}
 use Rattle.std.proofs.lemmas.Bool.{cases_eq}
-use Rattle.md_base.specs.declared.places.Shape.{Shape}
-use Rattle.md_base.specs.Sectors.{Sector}
-use Rattle.md_base.specs.Shapes.{is_valid_shape}
-use Rattle.bank.specs.Given.{Given}
-use Rattle.bank.specs.declared.bank.Operation.{Operation}
-use Rattle.bank.specs.Tape.{Contents, EachMark, disk}
-use Rattle.bank.proofs.Marks.{each_mark-map, each_mark-then}
+use Rattle.layout.specs.md_base_the_Shape.{Shape}
+use Rattle.layout.specs.md_base_Sectors.{Sector}
+use Rattle.layout.specs.md_base_Shapes.{is_valid_shape}
+use Rattle.row_io.specs.bank_Given.{Given}
+use Rattle.row_io.specs.bank_the_Operation.{Operation}
+use Rattle.row_io.specs.bank_Tape.{Contents, EachMark, disk}
+use Rattle.row_io.proofs.bank_Marks.{each_mark-map, each_mark-then}
 use Rattle.layout.specs.Layout.{place}
 use Rattle.layout.proofs.Places.{place-role_below}
-use Rattle.superblocks.specs.declared.members.Members.{Members}
-use Rattle.superblocks.specs.Reading.{Reading, data_offset_of}
+use Rattle.row_io.specs.superblocks_the_Members.{Members}
+use Rattle.row_io.specs.superblocks_Reading.{Reading, data_offset_of}
 use Rattle.row_io.specs.Rows.{reading_of, members_without}
 use Rattle.row_io.specs.Writes.{AreApart}
 use Rattle.row_io.proofs.Losses.{held_slot-after}

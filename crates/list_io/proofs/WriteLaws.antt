@@ -1,20 +1,20 @@
 -- One row: what its rewriting leaves, and what a stop may leave on the way.
 use Rattle.std.proofs.Common.{◌≡◌, ◌≢◌, ◌⊎◌, inl, inr, ℕ, ◌+◌, ◌-◌, ◌/◌, ◌<◌, ◌≤◌, Bool, true, false, ◌||◌, if◌then◌else◌, List, ◌∷◌, length, Option, Some, None, refl, sym, ◌∙◌, ap, subst, arith}
 use Rattle.std.proofs.lemmas.Bool.{cases_lt}
-use Rattle.md_base.specs.declared.places.Shape.{Shape}
-use Rattle.md_base.specs.declared.places.Place.{Place}
-use Rattle.md_base.specs.Sectors.{Sector}
-use Rattle.md_base.specs.Shapes.{is_valid_shape, has_slot}
-use Rattle.bank.specs.Given.{Given}
-use Rattle.bank.specs.declared.bank.Operation.{Operation}
-use Rattle.bank.specs.Tape.{Contents, IsIn, disk}
+use Rattle.layout.specs.md_base_the_Shape.{Shape}
+use Rattle.layout.specs.md_base_the_Place.{Place}
+use Rattle.layout.specs.md_base_Sectors.{Sector}
+use Rattle.layout.specs.md_base_Shapes.{is_valid_shape, has_slot}
+use Rattle.row_io.specs.bank_Given.{Given}
+use Rattle.row_io.specs.bank_the_Operation.{Operation}
+use Rattle.row_io.specs.bank_Tape.{Contents, IsIn, disk}
 use Rattle.layout.specs.Layout.{place, row_roles}
 use Rattle.layout.proofs.Places.{place-only}
-use Rattle.parity.specs.Parity.{fill}
-use Rattle.parity.specs.Rows.{sector_of, row_without}
-use Rattle.parity.proofs.Columns.{bool_cases}
-use Rattle.superblocks.specs.declared.members.Members.{Members}
-use Rattle.superblocks.specs.Reading.{Reading, role_state, holder, data_offset_of}
+use Rattle.row_io.specs.parity_Parity.{fill}
+use Rattle.row_io.specs.parity_Rows.{sector_of, row_without}
+use Rattle.row_io.proofs.parity_Columns.{bool_cases}
+use Rattle.row_io.specs.superblocks_the_Members.{Members}
+use Rattle.row_io.specs.superblocks_Reading.{Reading, role_state, holder, data_offset_of}
 use Rattle.row_io.specs.Rows.{present, reading_of, held_slot, members_without}
 use Rattle.row_io.specs.Writes.{is_parity, is_due, due_slot, new_sector, place_on, AreApart, HasNew, IsWriting, AreWritten, OthersStand}
 use Rattle.row_io.proofs.Losses.{some_slot, chosen, holder-of, held_slot-after}

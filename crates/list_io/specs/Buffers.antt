@@ -1,11 +1,11 @@
 -- Whole rows, many of them in one buffer.
 use Rattle.std.specs.Prelude.{◌≡◌, ◌≢◌, ℕ, ◌+◌, ◌*◌, ◌<◌, ◌≤◌, Bool, true, false, List, length, slice_index, Contains, Some}
-use Rattle.md_base.specs.declared.places.Shape.{Shape}
-use Rattle.md_base.specs.Sectors.{Sector}
-use Rattle.bank.specs.Tape.{Contents}
+use Rattle.layout.specs.md_base_the_Shape.{Shape}
+use Rattle.layout.specs.md_base_Sectors.{Sector}
+use Rattle.row_io.specs.bank_Tape.{Contents}
 use Rattle.layout.specs.Layout.{place, is_parity_only}
-use Rattle.parity.specs.Rows.{sector_of}
-use Rattle.superblocks.specs.Reading.{Reading, data_offset_of}
+use Rattle.row_io.specs.parity_Rows.{sector_of}
+use Rattle.row_io.specs.superblocks_Reading.{Reading, data_offset_of}
 use Rattle.row_io.specs.Rows.{held_slot, is_missing}
 use Rattle.list_io.specs.Calls.{IsListed}
 

@@ -1,13 +1,13 @@
 -- What calls on a list take, and what became of them.
 use Rattle.std.specs.Prelude.{◌≡◌, ℕ, ◌+◌, ◌^◌, ◌<◌, ◌≤◌, Bool, true, false, length, Some, Result, Ok, Err, IsTrue}
-use Rattle.md_base.specs.declared.places.Shape.{Shape}
-use Rattle.md_base.specs.Sectors.{Sector}
-use Rattle.md_base.specs.Shapes.{is_valid_shape, is_multiple, tolerance}
-use Rattle.bank.specs.Given.{Given, NeverFalls}
-use Rattle.bank.specs.Tape.{Contents}
+use Rattle.layout.specs.md_base_the_Shape.{Shape}
+use Rattle.layout.specs.md_base_Sectors.{Sector}
+use Rattle.layout.specs.md_base_Shapes.{is_valid_shape, is_multiple, tolerance}
+use Rattle.row_io.specs.bank_Given.{Given, NeverFalls}
+use Rattle.row_io.specs.bank_Tape.{Contents}
 use Rattle.layout.specs.Layout.{place}
-use Rattle.superblocks.specs.declared.members.Members.{Members}
-use Rattle.superblocks.specs.Reading.{Reading, role_state, holder}
+use Rattle.row_io.specs.superblocks_the_Members.{Members}
+use Rattle.row_io.specs.superblocks_Reading.{Reading, role_state, holder}
 use Rattle.row_io.specs.Rows.{reading_of, is_held, is_missing, missing_count, members_without, IsHolder, HaveFailed, IsTolerated}
 use Rattle.list_io.specs.declared.outcome.Unavailable.{Unavailable}
 use Rattle.list_io.specs.declared.outcome.Unavailable.TheVariants.{TooManyMissing, NotResynced}

@@ -1,13 +1,13 @@
 -- A flat list of sectors as it stands on the roles of an array.
 use Rattle.std.specs.Prelude.{◌≡◌, ℕ, ◌+◌, ◌*◌, ◌/◌, ◌%◌, ◌<◌, ◌==◌, true, false, Some, unwrap_or}
-use Rattle.md_base.specs.declared.places.Shape.{Shape}
-use Rattle.md_base.specs.Search.{least_below}
-use Rattle.md_base.specs.Sectors.{Sector}
-use Rattle.md_base.specs.Shapes.{data_disks}
-use Rattle.bank.specs.Tape.{Contents}
+use Rattle.layout.specs.md_base_the_Shape.{Shape}
+use Rattle.layout.specs.md_base_Search.{least_below}
+use Rattle.layout.specs.md_base_Sectors.{Sector}
+use Rattle.layout.specs.md_base_Shapes.{data_disks}
+use Rattle.row_io.specs.bank_Tape.{Contents}
 use Rattle.layout.specs.Layout.{place, row_roles, stripe_data}
-use Rattle.parity.specs.Rows.{IsSector, filled_sector}
-use Rattle.superblocks.specs.Reading.{Reading, data_offset_of}
+use Rattle.row_io.specs.parity_Rows.{IsSector, filled_sector}
+use Rattle.row_io.specs.superblocks_Reading.{Reading, data_offset_of}
 use Rattle.row_io.specs.Rows.{held_slot}
 use Rattle.row_io.specs.Writes.{is_parity}
 

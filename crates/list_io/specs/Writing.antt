@@ -1,12 +1,12 @@
 -- A write of some sectors, from a place of the list on, row by row.
 use Rattle.std.specs.Prelude.{◌≡◌, ◌⊎◌, ℕ, ◌+◌, ◌-◌, ◌/◌, ◌<◌, ◌≤◌, List, length, slice_index, Some}
-use Rattle.md_base.specs.declared.places.Shape.{Shape}
-use Rattle.md_base.specs.declared.status.Role.TheVariants.{Recovering}
-use Rattle.md_base.specs.Sectors.{Sector}
-use Rattle.bank.specs.Tape.{Contents, IsIn}
+use Rattle.layout.specs.md_base_the_Shape.{Shape}
+use Rattle.layout.specs.md_base_the_Role_TheVariants.{Recovering}
+use Rattle.layout.specs.md_base_Sectors.{Sector}
+use Rattle.row_io.specs.bank_Tape.{Contents, IsIn}
 use Rattle.layout.specs.Layout.{place}
-use Rattle.parity.specs.Rows.{sector_of}
-use Rattle.superblocks.specs.Reading.{Reading, role_state, holder, data_offset_of}
+use Rattle.row_io.specs.parity_Rows.{sector_of}
+use Rattle.row_io.specs.superblocks_Reading.{Reading, role_state, holder, data_offset_of}
 use Rattle.row_io.specs.Rows.{held_slot}
 use Rattle.list_io.specs.Full.{full_sector}
 use Rattle.list_io.specs.Buffers.{buffered}

@@ -1,19 +1,16 @@
 //! Whole rows, read into one buffer.
 
 ghost use Rattle.std.specs.Prelude.{◌≡◌, ◌+◌, ◌*◌, ◌/◌, ◌<◌, ◌≤◌, ◌^◌, ◌⊎◌, ℕ, true, false, length, Contains, [], IsTrue, vec_len, vec_capacity, MatchOption, OnOk};
-ghost use Rattle.md_base.specs.Shapes.{is_valid_shape, data_disks};
+ghost use Rattle.layout.specs.md_base_Shapes.{is_valid_shape, data_disks};
 ghost use Rattle.layout.specs.Layout.{place, is_parity_only};
-ghost use Rattle.parity.specs.Rows.{IsRowOf, sector_of};
+ghost use Rattle.row_io.specs.parity_Rows.{IsRowOf, sector_of};
 ghost use Rattle.row_io.specs.Rows.{present, reading_of, is_missing, IsRow};
 ghost use Rattle.list_io.specs.Calls.{HasRows, AreLost, IsAnswer};
 ghost use Rattle.list_io.specs.Buffers.{AreDistinct, AreTouched, HasData, IsDataWhole, IsRowRead, AreRead};
 
 use crate::outcome::{Outcome, Unavailable, are_too_many};
-use bank::Bank;
-use layout::{parity_only, place};
-use md_base::Shape;
-use row_io::{is_missing, read_row};
-use superblocks::Members;
+use layout::{Shape, parity_only, place};
+use row_io::{Bank, Members, is_missing, read_row};
 
 /// The bytes that each row has in the buffer: room for 16 sectors.
 pub const ROW_BYTES: usize = 8192;

@@ -1,13 +1,12 @@
 //! Which slot holds a role's sector of a row.
 
 ghost use Rattle.std.specs.Prelude.{◌≡◌, ◌<◌, ℕ, Some, length};
-ghost use Rattle.md_base.specs.declared.status.Role.TheVariants.{Recovering};
-ghost use Rattle.superblocks.specs.Reading.{rows_held, role_state, holder};
+ghost use Rattle.layout.specs.md_base_the_Role_TheVariants.{Recovering};
+ghost use Rattle.row_io.specs.superblocks_Reading.{rows_held, role_state, holder};
 ghost use Rattle.row_io.specs.Rows.{reading_of, held_slot};
 
-use md_base::Role;
-use superblocks::Members;
-use superblocks::sets::contains;
+use layout::Role;
+use row_io::{Members, contains};
 
 /// The bit of the feature map that says that a reshape is active.
 const RESHAPE: u32 = 2;

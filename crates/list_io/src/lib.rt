@@ -14,3 +14,4 @@ pub use buffers::{ROW_BYTES, missing_data, read_touched};
 pub use lists::read_list;
 pub use outcome::{Outcome, Unavailable, are_too_many, tolerance};
 pub use puts::{Written, write_touched};
+pub use row_io::{data_offset, is_missing, lose_slot, lose_slots, missing_count};

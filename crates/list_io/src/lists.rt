@@ -1,21 +1,18 @@
 //! Sectors of the flat list, read one by one: each from the slot that holds it, or filled in from its row.
 
 ghost use Rattle.std.specs.Prelude.{◌≡◌, ◌≢◌, ◌+◌, ◌*◌, ◌/◌, ◌^◌, ◌<◌, ◌≤◌, ℕ, true, false, length, unwrap_or, Some, None, OnOk, IfSome};
-ghost use Rattle.md_base.specs.Sectors.{IsWhole};
-ghost use Rattle.md_base.specs.Shapes.{data_disks};
+ghost use Rattle.layout.specs.md_base_Sectors.{IsWhole};
+ghost use Rattle.layout.specs.md_base_Shapes.{data_disks};
 ghost use Rattle.layout.specs.Layout.{place};
-ghost use Rattle.parity.specs.Rows.{sector_of};
+ghost use Rattle.row_io.specs.parity_Rows.{sector_of};
 ghost use Rattle.row_io.specs.Rows.{present, reading_of, is_held, held_sector, standing_sector, IsRow, IsTolerated};
 ghost use Rattle.list_io.specs.Calls.{HasRows, AreLost, IsAnswer, IsAsked, IsListed};
 
 use crate::held::held_slot;
 use crate::outcome::{Outcome, Unavailable, are_too_many};
 use crate::sectors::{copy_sector, read_into};
-use bank::Bank;
-use layout::place;
-use md_base::{Place, Shape};
-use row_io::{data_offset, lose_slot, read_row};
-use superblocks::Members;
+use layout::{Place, Shape, place};
+use row_io::{Bank, Members, data_offset, lose_slot, read_row};
 
 // Reads the sector at a place from the slot that holds it. None where it was read; else no slot holds it, after the loss
 // of these.

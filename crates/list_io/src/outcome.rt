@@ -1,12 +1,11 @@
 //! What became of a call.
 
 ghost use Rattle.std.specs.Prelude.{◌≡◌, ◌<◌, ◌≤◌, true, false, length};
-ghost use Rattle.md_base.specs.Shapes.{tolerance};
+ghost use Rattle.layout.specs.md_base_Shapes.{tolerance};
 ghost use Rattle.row_io.specs.Rows.{reading_of, missing_count, IsTolerated};
 
-use md_base::Shape;
-use row_io::missing_count;
-use superblocks::Members;
+use layout::Shape;
+use row_io::{Members, missing_count};
 
 /// Why sectors of the list can't be had: more roles are missing than the shape tolerates, or this one is, in an array
 /// whose parity can't be relied on.

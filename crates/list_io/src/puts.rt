@@ -1,8 +1,8 @@
 //! A write of sectors of the list: the rows that it touches were read whole, and are written one after another.
 
 ghost use Rattle.std.specs.Prelude.{◌≡◌, ◌≢◌, ◌+◌, ◌*◌, ◌/◌, ◌^◌, ◌<◌, ◌≤◌, ℕ, true, length, slice_index, Contains, OnOk};
-ghost use Rattle.bank.specs.Tape.{EachMark, disk};
-ghost use Rattle.md_base.specs.Sectors.{Sector, IsWhole};
+ghost use Rattle.row_io.specs.bank_Tape.{EachMark, disk};
+ghost use Rattle.layout.specs.md_base_Sectors.{Sector, IsWhole};
 ghost use Rattle.row_io.specs.Rows.{present, reading_of, IsTolerated};
 ghost use Rattle.row_io.specs.Writes.{AreApart};
 ghost use Rattle.list_io.specs.Calls.{HasRows, AreLost, IsAnswer};
@@ -12,9 +12,8 @@ ghost use Rattle.list_io.specs.Writing.{IsWritten, AreDataFrom, IsFull, StaysReb
 use crate::buffers::ROW_BYTES;
 use crate::outcome::{Unavailable, are_too_many};
 use crate::rows::rewrite_row;
-use bank::Bank;
-use md_base::Shape;
-use superblocks::Members;
+use layout::Shape;
+use row_io::{Bank, Members};
 
 /// The set of the slots that were lost in a write, the first row that wasn't written, and what it answers.
 #[derive(Drop)]

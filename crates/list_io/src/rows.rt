@@ -1,11 +1,11 @@
 //! One row, changed in memory and written with its parity.
 
 ghost use Rattle.std.specs.Prelude.{◌≡◌, ◌≢◌, ◌+◌, ◌-◌, ◌*◌, ◌/◌, ◌^◌, ◌<◌, ◌≤◌, ◌⊎◌, ℕ, true, false, length, IsTrue};
-ghost use Rattle.bank.specs.Tape.{EachMark, disk};
-ghost use Rattle.md_base.specs.Sectors.{Sector, IsWhole};
-ghost use Rattle.md_base.specs.Shapes.{is_valid_shape, has_slot};
+ghost use Rattle.row_io.specs.bank_Tape.{EachMark, disk};
+ghost use Rattle.layout.specs.md_base_Sectors.{Sector, IsWhole};
+ghost use Rattle.layout.specs.md_base_Shapes.{is_valid_shape, has_slot};
 ghost use Rattle.layout.specs.Layout.{place, row_roles};
-ghost use Rattle.parity.specs.Rows.{IsRowOf, sector_of};
+ghost use Rattle.row_io.specs.parity_Rows.{IsRowOf, sector_of};
 ghost use Rattle.row_io.specs.Rows.{present, reading_of, lost_of, IsRow, IsTolerated};
 ghost use Rattle.row_io.specs.Writes.{is_parity, AreApart};
 ghost use Rattle.list_io.specs.Calls.{AreLost};
@@ -13,12 +13,8 @@ ghost use Rattle.list_io.specs.Buffers.{AreStanding};
 ghost use Rattle.list_io.specs.Writing.{IsOther, HasOther, IsChanged, IsWritten, AreDataOf, IsFull, StaysRebuilt, IsRowKept, IsPutting};
 
 use crate::sectors::copy_sector;
-use bank::Bank;
-use layout::at;
-use md_base::Shape;
-use row_io::write_row;
-use superblocks::Members;
-use superblocks::sets::with;
+use layout::{Shape, at};
+use row_io::{Bank, Members, with, write_row};
 
 // The set of the slots that a row's call lost.
 fn lost_of(answer: Result<u32, u32>) -> u32

@@ -1,11 +1,11 @@
 //! One sector at a time.
 
 ghost use Rattle.std.specs.Prelude.{◌≡◌, ◌≢◌, ◌+◌, ◌*◌, ◌≤◌, ℕ, length, OnOk};
-ghost use Rattle.bank.specs.Given.{IsPlace, HasCause};
-ghost use Rattle.parity.specs.Rows.{sector_of};
+ghost use Rattle.row_io.specs.bank_Given.{IsPlace, HasCause};
+ghost use Rattle.row_io.specs.parity_Rows.{sector_of};
 ghost use Rattle.row_io.specs.Rows.{present};
 
-use bank::{Bank, BankFault};
+use row_io::{Bank, BankFault};
 
 /// Reads a sector into its place in many.
 pub fn read_into<B: Bank>(

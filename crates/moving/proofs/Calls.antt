@@ -2,35 +2,35 @@
 use Rattle.std.proofs.Common.{inl, ◌≡◌, ◌⊎◌, ℕ, ◌+◌, ◌-◌, ◌*◌, ◌/◌, ◌<◌, ◌≤◌, Option, Some, None, Result, Ok, Err, Bool, List, [], ◌∷◌, ◌++◌, length, length-append, max, refl, sym, ◌∙◌, ap, subst, arith, append-nil}
 use Rattle.std.specs.Prelude.{MatchOption, OnErr}
 use Rattle.std.proofs.lemmas.List.Elements.{All-nil}
-use Rattle.md_base.specs.declared.answers.Fault.{Fault}
-use Rattle.md_base.specs.declared.answers.Fault.TheVariants.{Refused as IsRefusedWith}
-use Rattle.md_base.specs.Sectors.{IsWhole}
-use Rattle.md_base.specs.declared.answers.Refusal.{Refusal}
-use Rattle.md_base.specs.declared.places.Shape.{Shape}
-use Rattle.md_base.specs.declared.places.Span.{Span}
-use Rattle.sb1.specs.declared.sb.Sb.{Sb}
-use Rattle.geometry.specs.Geometry.{zeroed_stripes}
-use Rattle.superblocks.specs.declared.members.Members.{Members}
-use Rattle.superblocks.specs.Reading.{final_shape, list_length, role_count}
-use Rattle.md_base.specs.declared.wishes.Phase.{Phase}
-use Rattle.grow_plan.specs.Plans.{AreSound}
-use Rattle.md_base.specs.declared.answers.Who.{Who}
-use Rattle.flat_history.specs.declared.events.Entry.{Entry}
-use Rattle.flat_history.specs.declared.events.StepKind.{StepKind}
-use Rattle.flat_history.specs.declared.events.Event.TheVariants.{Step}
-use Rattle.flat_history.specs.Plain.{entries_of}
-use Rattle.call_entries.specs.Losing.{losses_of}
-use Rattle.grow_asked.specs.declared.window.Window.TheVariants.{Closed, Entered, Unsure}
-use Rattle.grow_asked.specs.Left.{zeroed_by}
+use Rattle.array_state.specs.md_base_the_Fault.{Fault}
+use Rattle.array_state.specs.md_base_the_Fault_TheVariants.{Refused as IsRefusedWith}
+use Rattle.array_state.specs.md_base_Sectors.{IsWhole}
+use Rattle.array_state.specs.md_base_the_Refusal.{Refusal}
+use Rattle.array_state.specs.md_base_the_Shape.{Shape}
+use Rattle.array_state.specs.md_base_the_Span.{Span}
+use Rattle.election.specs.sb1_the_Sb.{Sb}
+use Rattle.election.specs.geometry_Geometry.{zeroed_stripes}
+use Rattle.election.specs.superblocks_the_Members.{Members}
+use Rattle.election.specs.superblocks_Reading.{final_shape, list_length, role_count}
+use Rattle.array_state.specs.md_base_the_Phase.{Phase}
+use Rattle.pieces.specs.grow_plan_Plans.{AreSound}
+use Rattle.array_state.specs.md_base_the_Who.{Who}
+use Rattle.pieces.specs.flat_history_the_Entry.{Entry}
+use Rattle.pieces.specs.flat_history_the_StepKind.{StepKind}
+use Rattle.pieces.specs.flat_history_the_Event_TheVariants.{Step}
+use Rattle.pieces.specs.flat_history_Plain.{entries_of}
+use Rattle.array_state.specs.call_entries_Losing.{losses_of}
+use Rattle.pieces.specs.grow_asked_the_Window_TheVariants.{Closed, Entered, Unsure}
+use Rattle.pieces.specs.grow_asked_Left.{zeroed_by}
 use Rattle.moving_laws.specs.shape_views_Windows.{moved_past}
-use Rattle.bank.specs.declared.bank.Operation.{Operation}
-use Rattle.bank.specs.Given.{Given, NeverFalls}
-use Rattle.views.specs.declared.work.Work.{Work}
-use Rattle.views.specs.Placed.{IsPlaced}
-use Rattle.views.specs.Moving.{IsMoved}
-use Rattle.views.specs.Lacking.{AreTooMany}
-use Rattle.views.specs.Rebuilding.{Held}
-use Rattle.views.proofs.MovedLaws.{grows-none, moved-same}
+use Rattle.election.specs.bank_the_Operation.{Operation}
+use Rattle.election.specs.bank_Given.{Given, NeverFalls}
+use Rattle.pieces.specs.views_the_Work.{Work}
+use Rattle.pieces.specs.views_Placed.{IsPlaced}
+use Rattle.pieces.specs.views_Moving.{IsMoved}
+use Rattle.pieces.specs.views_Lacking.{AreTooMany}
+use Rattle.pieces.specs.views_Rebuilding.{Held}
+use Rattle.pieces.proofs.views_MovedLaws.{grows-none, moved-same}
 use Rattle.moving_laws.specs.shape_changes_Steady.{AreUnlost}
 use Rattle.moving_laws.specs.array_kept_Calls.{by_answer, IsLossBy, WasSpare, IsEndOf, IsRefusedFor, IsBehind}
 use Rattle.moving_laws.proofs.array_kept_ReplyLaws.{too-many-of, refused-for}

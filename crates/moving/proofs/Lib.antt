@@ -14,8 +14,8 @@ pub use Rattle.moving_laws.proofs.moving_state_ReshapeLaws
 pub use Rattle.moving_laws.proofs.running_words_Called
 pub use Rattle.moving_laws.proofs.running_words_Lengths
 pub use Rattle.moving_laws.proofs.running_words_VisibleLaws
-pub use Rattle.views.proofs.Fit as views_Fit
-pub use Rattle.views.proofs.MovedLaws as views_MovedLaws
+pub use Rattle.pieces.proofs.views_Fit
+pub use Rattle.pieces.proofs.views_MovedLaws
 pub use Rattle.moving_laws.proofs.kept_history_Entered
 pub use Rattle.moving_laws.proofs.kept_history_Tests
 pub use Rattle.moving_laws.proofs.kept_history_Ledgers
@@ -56,3 +56,15 @@ pub use Rattle.moving_laws.proofs.calls_kept_ReadLaws
 pub use Rattle.moving_laws.proofs.moving_kept_Writing
 pub use Rattle.moving_laws.proofs.WriteReplies as moving_laws_WriteReplies
 pub use Rattle.moving_laws.proofs.Entered as moving_laws_Entered
+pub use Rattle.election.proofs.geometry_ClosedForms
+pub use Rattle.election.proofs.geometry_Valid
+pub use Rattle.election.proofs.superblocks_Searches
+pub use Rattle.pieces.proofs.flat_history_OneShapeReplies
+pub use Rattle.pieces.proofs.grow_asked_FirstLaws
+pub use Rattle.pieces.proofs.grow_asked_FitLaws
+pub use Rattle.pieces.proofs.grow_asked_LeftLaws
+pub use Rattle.pieces.proofs.grow_asked_PlanLaws
+pub use Rattle.pieces.proofs.grow_plan_Sound
+pub use Rattle.pieces.proofs.row_io_Losses
+pub use Rattle.pieces.proofs.views_MarkLaws
+pub use Rattle.pieces.proofs.views_MemberLaws

@@ -1,26 +1,26 @@
 -- What the steps of an array in a reshape need alike.
 use Rattle.std.proofs.Common.{◌≡◌, ℕ, ◌+◌, ◌-◌, ◌*◌, ◌<◌, ◌≤◌, max, Bool, true, Option, Some, None, cond, List, ◌∷◌, [], ◌++◌, length, sym, ◌∙◌, ap, subst, arith, zero-le}
 use Rattle.std.specs.Prelude.{MatchOption}
-use Rattle.md_base.specs.declared.answers.Refusal.{Refusal}
-use Rattle.md_base.specs.declared.answers.Who.{Who}
-use Rattle.md_base.specs.declared.places.Shape.{Shape}
-use Rattle.md_base.specs.declared.places.Span.{Span}
-use Rattle.md_base.specs.declared.wishes.Phase.{Phase}
-use Rattle.bank.specs.Given.{Given}
-use Rattle.geometry.specs.Geometry.{window, zeroed_stripes}
-use Rattle.grow_plan.specs.Plans.{AreSound}
-use Rattle.superblocks.specs.declared.members.Members.{Members}
-use Rattle.superblocks.specs.Reading.{is_reshaping, final_shape, role_count, next_window}
-use Rattle.flat_history.specs.declared.events.Entry.{Entry}
-use Rattle.flat_history.specs.declared.events.Event.{Event}
-use Rattle.flat_history.specs.declared.events.Event.TheVariants.{Step}
-use Rattle.flat_history.specs.declared.events.StepKind.{StepKind}
-use Rattle.flat_history.specs.Plain.{entries_of}
-use Rattle.views.specs.Moving.{IsMoved}
-use Rattle.call_entries.specs.Losing.{losses_of}
-use Rattle.grow_asked.specs.declared.window.Window.{Window}
-use Rattle.grow_asked.specs.declared.window.Window.TheVariants.{Closed, Entered, Unsure}
-use Rattle.grow_asked.specs.Left.{zeroed_by, IsReshapeUnderWay, IsWindowRight}
+use Rattle.array_state.specs.md_base_the_Refusal.{Refusal}
+use Rattle.array_state.specs.md_base_the_Who.{Who}
+use Rattle.array_state.specs.md_base_the_Shape.{Shape}
+use Rattle.array_state.specs.md_base_the_Span.{Span}
+use Rattle.array_state.specs.md_base_the_Phase.{Phase}
+use Rattle.election.specs.bank_Given.{Given}
+use Rattle.election.specs.geometry_Geometry.{window, zeroed_stripes}
+use Rattle.pieces.specs.grow_plan_Plans.{AreSound}
+use Rattle.election.specs.superblocks_the_Members.{Members}
+use Rattle.election.specs.superblocks_Reading.{is_reshaping, final_shape, role_count, next_window}
+use Rattle.pieces.specs.flat_history_the_Entry.{Entry}
+use Rattle.pieces.specs.flat_history_the_Event.{Event}
+use Rattle.pieces.specs.flat_history_the_Event_TheVariants.{Step}
+use Rattle.pieces.specs.flat_history_the_StepKind.{StepKind}
+use Rattle.pieces.specs.flat_history_Plain.{entries_of}
+use Rattle.pieces.specs.views_Moving.{IsMoved}
+use Rattle.array_state.specs.call_entries_Losing.{losses_of}
+use Rattle.pieces.specs.grow_asked_the_Window.{Window}
+use Rattle.pieces.specs.grow_asked_the_Window_TheVariants.{Closed, Entered, Unsure}
+use Rattle.pieces.specs.grow_asked_Left.{zeroed_by, IsReshapeUnderWay, IsWindowRight}
 use Rattle.moving_laws.specs.array_kept_Calls.{IsBehind}
 use Rattle.moving_laws.specs.running_words_Parts.{RunningParts}
 use Rattle.moving_laws.specs.shape_views_Windows.{moved_past}

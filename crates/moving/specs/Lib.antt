@@ -19,11 +19,11 @@ pub use Rattle.moving_laws.specs.running_words_Calls
 pub use Rattle.moving_laws.specs.running_words_Plans
 pub use Rattle.moving_laws.specs.running_words_Still
 pub use Rattle.moving_laws.specs.window_steps_Zeroing
-pub use Rattle.views.specs.declared.work.Work as views_the_Work
-pub use Rattle.views.specs.Placed as views_Placed
-pub use Rattle.views.specs.Lacking as views_Lacking
-pub use Rattle.views.specs.Numbers as views_Numbers
-pub use Rattle.views.specs.Rebuilding as views_Rebuilding
+pub use Rattle.pieces.specs.views_the_Work
+pub use Rattle.pieces.specs.views_Placed
+pub use Rattle.pieces.specs.views_Lacking
+pub use Rattle.pieces.specs.views_Numbers
+pub use Rattle.pieces.specs.views_Rebuilding
 pub use Rattle.moving_laws.specs.kept_history_Recorded
 pub use Rattle.moving_laws.specs.kept_history_Safe
 pub use Rattle.moving_laws.specs.shape_ends_Ends
@@ -35,9 +35,9 @@ pub use Rattle.moving_laws.specs.shape_changes_Steady
 pub use Rattle.moving_laws.specs.shape_changes_Updates
 pub use Rattle.moving_laws.specs.shape_views_Regions
 pub use Rattle.moving_laws.specs.shape_views_Views
-pub use Rattle.grow_asked.specs.declared.window.PhasesLeft as grow_asked_the_PhasesLeft
-pub use Rattle.superblocks.specs.declared.members.Members as superblocks_the_Members
-pub use Rattle.superblocks.specs.Reading as superblocks_Reading
+pub use Rattle.pieces.specs.grow_asked_the_PhasesLeft
+pub use Rattle.election.specs.superblocks_the_Members
+pub use Rattle.election.specs.superblocks_Reading
 pub use Rattle.moving_laws.specs.array_kept_Calls
 pub use Rattle.moving_laws.specs.Refusing as moving_laws_Refusing
 pub use Rattle.moving_laws.specs.list_io_Full
@@ -50,3 +50,16 @@ pub use Rattle.moving_laws.specs.safe_updates_First
 pub use Rattle.moving_laws.specs.array_kept_Kept
 pub use Rattle.moving_laws.specs.course_mends_Mended
 pub use Rattle.moving_laws.specs.moving_state_Left
+pub use Rattle.election.specs.geometry_Geometry
+pub use Rattle.election.specs.superblocks_Outcome
+pub use Rattle.election.specs.superblocks_Update
+pub use Rattle.election.specs.superblocks_Verdict
+pub use Rattle.election.specs.superblocks_the_Change
+pub use Rattle.election.specs.superblocks_the_Give
+pub use Rattle.election.specs.superblocks_the_Give_TheVariants
+pub use Rattle.pieces.specs.flat_history_Stands
+pub use Rattle.pieces.specs.flat_history_Transfers
+pub use Rattle.pieces.specs.grow_asked_Asked
+pub use Rattle.pieces.specs.grow_asked_Fitting
+pub use Rattle.pieces.specs.grow_asked_the_Window
+pub use Rattle.pieces.specs.grow_asked_the_Window_TheVariants

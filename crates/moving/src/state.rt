@@ -1,11 +1,11 @@
 //! An array in a reshape.
 
 ghost use Rattle.std.specs.Prelude.{◌≡◌, ◌≤◌, length};
-ghost use Rattle.grow_plan.specs.Plans.{AreSound};
-ghost use Rattle.superblocks.specs.Reading.{final_shape};
+ghost use Rattle.pieces.specs.grow_plan_Plans.{AreSound};
+ghost use Rattle.election.specs.superblocks_Reading.{final_shape};
 ghost use Rattle.moving_laws.specs.shape_views_Regions.{AreShapesFit};
-ghost use Rattle.flat_history.specs.Flat.{next_number};
-ghost use Rattle.grow_asked.specs.Left.{phases_of, zeroed_by, IsReshapeUnderWay, IsWindowRight};
+ghost use Rattle.pieces.specs.flat_history_Flat.{next_number};
+ghost use Rattle.pieces.specs.grow_asked_Left.{phases_of, zeroed_by, IsReshapeUnderWay, IsWindowRight};
 ghost use Rattle.moving_laws.specs.running_words_Parts.{left_in};
 
 mod adding;
@@ -19,15 +19,12 @@ mod parting;
 mod reading;
 mod settling;
 
-use bank::Bank;
-use flat_history::Epoch;
+use election::{Bank, Members};
 pub use going::check_going;
-use grow_asked::{PhasesLeft, planned_left, reshape_left};
 use moving_laws::{Course, final_in, resync_left};
+use pieces::{Epoch, PhasesLeft, Work, planned_left, reshape_left};
 use std::alloc::Global;
 use std::marker::Model;
-use superblocks::Members;
-use views::Work;
 
 /// An array over slots of a bank whose superblocks tell an active reshape. Each sector of its list is placed by the shape of its region,
 /// but those of the open window, which are in the buffer `window`. `ahead` are the phases of the plan behind the reshape, and `limit` that

@@ -1,12 +1,12 @@
 -- Contents are consistent under a shape where the superblocks say it alone and each row stands; and where too few roles are left, too many are gone.
 use Rattle.std.proofs.Common.{◌≡◌, inl, inr, ℕ, ◌<◌, ◌≤◌, Bool, false, cond, Option, Some, None, List, length, MatchOption, sym, ◌∙◌, ap, subst, arith}
 use Rattle.std.proofs.lemmas.Bool.{cases_lt}
-use Rattle.md_base.specs.Shapes.{tolerance}
-use Rattle.md_base.specs.Sectors.{Sector}
-use Rattle.bank.specs.declared.bank.Operation.{Operation}
-use Rattle.bank.specs.Given.{Given}
-use Rattle.bank.specs.Tape.{Contents, disk}
-use Rattle.parity.proofs.Columns.{tabulate-same}
+use Rattle.moving_kept.specs.md_base_Shapes.{tolerance}
+use Rattle.moving_kept.specs.md_base_Sectors.{Sector}
+use Rattle.moving_kept.specs.bank_the_Operation.{Operation}
+use Rattle.moving_kept.specs.bank_Given.{Given}
+use Rattle.moving_kept.specs.bank_Tape.{Contents, disk}
+use Rattle.moving_kept.proofs.parity_Columns.{tabulate-same}
 use Rattle.moving_kept.specs.superblocks_the_Members.{Members}
 use Rattle.moving_kept.specs.superblocks_Reading.{Scope, Reading, reading, is_reshaping, shape_of, target_of}
 use Rattle.moving_kept.specs.row_io_Rows.{reading_of, present, is_missing, missing_count}

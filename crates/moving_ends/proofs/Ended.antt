@@ -10,16 +10,16 @@ use Rattle.std.proofs.lemmas.Bool.Decides.{nat_tests}
 use Rattle.std.proofs.lemmas.List.Folds.{list_any-append}
 use Rattle.std.proofs.lemmas.List.Sums.{fold-append}
 use Rattle.std.proofs.Math.Nat.{mul-le-mul_right}
-use Rattle.md_base.specs.Search.{all_below}
-use Rattle.md_base.specs.Sectors.{Sector, zero_sector}
-use Rattle.md_base.specs.Shapes.{data_disks}
-use Rattle.md_base.specs.declared.answers.Who.{Who}
-use Rattle.md_base.specs.declared.places.Shape.{Shape}
-use Rattle.bank.specs.declared.bank.Operation.{Operation}
-use Rattle.bank.specs.Given.{Given}
-use Rattle.bank.specs.Tape.{IsIn, disk}
-use Rattle.geometry.specs.Geometry.{zeroed_stripes}
-use Rattle.sb1.specs.declared.sb.Sb.{Sb}
+use Rattle.moving_kept.specs.md_base_Search.{all_below}
+use Rattle.moving_kept.specs.md_base_Sectors.{Sector, zero_sector}
+use Rattle.moving_kept.specs.md_base_Shapes.{data_disks}
+use Rattle.moving_kept.specs.md_base_the_Who.{Who}
+use Rattle.moving_kept.specs.md_base_the_Shape.{Shape}
+use Rattle.moving_kept.specs.bank_the_Operation.{Operation}
+use Rattle.moving_kept.specs.bank_Given.{Given}
+use Rattle.moving_kept.specs.bank_Tape.{IsIn, disk}
+use Rattle.moving_kept.specs.geometry_Geometry.{zeroed_stripes}
+use Rattle.moving_kept.specs.sb1_the_Sb.{Sb}
 use Rattle.moving_kept.specs.superblocks_the_Members.{Members}
 use Rattle.moving_kept.specs.superblocks_Reading.{Scope, Reading, is_reshaping, is_backward, is_clean, shape_of, final_shape, target_of, list_length, role_count}
 use Rattle.moving_kept.proofs.superblocks_Searches.{any_below-some}

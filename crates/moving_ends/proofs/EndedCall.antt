@@ -1,16 +1,16 @@
 -- What `finish` leaves where it isn't refused is what is asked of a call by which a reshape ends.
 use Rattle.std.proofs.Common.{◌≡◌, ◌⊎◌, inl, inr, ℕ, ◌<◌, ◌≤◌, ◌&&◌, ◌||◌, nat_lt, max, Bool, true, false, not, Some, is_some, List, refl, sym, ◌∙◌, ap, arith}
 use Rattle.std.proofs.lemmas.Bool.Decides.{nat_tests}
-use Rattle.md_base.specs.Shapes.{has_slot}
-use Rattle.md_base.specs.declared.status.Role.{Role}
-use Rattle.md_base.specs.declared.status.Role.TheVariants.{Whole, Recovering, Missing}
-use Rattle.md_base.specs.Sectors.{Sector}
-use Rattle.md_base.specs.declared.places.Shape.{Shape}
-use Rattle.bank.specs.declared.bank.Operation.{Operation}
-use Rattle.bank.specs.Given.{Given}
-use Rattle.bank.specs.Tape.{disk}
-use Rattle.geometry.specs.Geometry.{zeroed_stripes}
-use Rattle.sb1.specs.declared.sb.Sb.{Sb}
+use Rattle.moving_kept.specs.md_base_Shapes.{has_slot}
+use Rattle.moving_kept.specs.md_base_the_Role.{Role}
+use Rattle.moving_kept.specs.md_base_the_Role_TheVariants.{Whole, Recovering, Missing}
+use Rattle.moving_kept.specs.md_base_Sectors.{Sector}
+use Rattle.moving_kept.specs.md_base_the_Shape.{Shape}
+use Rattle.moving_kept.specs.bank_the_Operation.{Operation}
+use Rattle.moving_kept.specs.bank_Given.{Given}
+use Rattle.moving_kept.specs.bank_Tape.{disk}
+use Rattle.moving_kept.specs.geometry_Geometry.{zeroed_stripes}
+use Rattle.moving_kept.specs.sb1_the_Sb.{Sb}
 use Rattle.moving_kept.specs.superblocks_the_Members.{Members}
 use Rattle.moving_kept.specs.superblocks_Held.{AreDrawn}
 use Rattle.moving_kept.specs.superblocks_Reading.{Scope, is_reshaping, is_backward, is_whole, shape_of, final_shape, role_count, role_state, holder, data_offset_of}

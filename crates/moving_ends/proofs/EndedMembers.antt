@@ -1,12 +1,12 @@
 -- An array whose reshape ends keeps its record without it, from what `finish` leaves where it isn't refused.
 use Rattle.std.proofs.Common.{◌≡◌, inl, inr, ℕ, ◌==◌, ◌≤◌, Bool, true, false, None, List, ◌++◌, length, refl, sym, ◌∙◌, ap, subst, ◌||◌}
 use Rattle.std.specs.Prelude.{IsFalse, ⊤}
-use Rattle.md_base.specs.Shapes.{tolerance_of}
-use Rattle.md_base.specs.declared.answers.Who.{Who}
-use Rattle.md_base.specs.declared.places.Shape.{Shape}
-use Rattle.bank.specs.declared.bank.Operation.{Operation}
-use Rattle.bank.specs.Given.{Given}
-use Rattle.geometry.specs.Geometry.{zeroed_stripes}
+use Rattle.moving_kept.specs.md_base_Shapes.{tolerance_of}
+use Rattle.moving_kept.specs.md_base_the_Who.{Who}
+use Rattle.moving_kept.specs.md_base_the_Shape.{Shape}
+use Rattle.moving_kept.specs.bank_the_Operation.{Operation}
+use Rattle.moving_kept.specs.bank_Given.{Given}
+use Rattle.moving_kept.specs.geometry_Geometry.{zeroed_stripes}
 use Rattle.moving_kept.specs.superblocks_the_Members.{Members}
 use Rattle.moving_kept.specs.superblocks_Reading.{Scope, is_backward, shape_of, final_shape, list_length, role_count}
 use Rattle.moving_kept.proofs.superblocks_ValidFields.{few-roles}

@@ -1,23 +1,23 @@
 -- The list behind the end of a reshape: it stands on the members by the new shape alone, with its rows, and zeros behind its end.
 use Rattle.std.proofs.Common.{◌≡◌, ℕ, ◌*◌, ◌<◌, ◌≤◌, nat_lt, Bool, true, false, not, cond, min, Some, None, List, refl, sym, ◌∙◌, ap, subst, arith}
 use Rattle.std.proofs.lemmas.Bool.Decides.{nat_tests}
-use Rattle.md_base.specs.Sectors.{Sector, zero_sector}
-use Rattle.md_base.specs.Shapes.{data_disks}
-use Rattle.md_base.specs.declared.places.Shape.{Shape}
-use Rattle.md_base.specs.declared.status.Role.{Role}
-use Rattle.md_base.specs.declared.status.Role.TheVariants.{Whole, Recovering, Missing}
-use Rattle.bank.specs.Given.{Given}
-use Rattle.bank.specs.Tape.{Contents}
-use Rattle.layout.specs.Layout.{place}
-use Rattle.layout.proofs.Places.{place-sector_below}
-use Rattle.geometry.specs.Geometry.{zeroed_stripes}
+use Rattle.moving_kept.specs.md_base_Sectors.{Sector, zero_sector}
+use Rattle.moving_kept.specs.md_base_Shapes.{data_disks}
+use Rattle.moving_kept.specs.md_base_the_Shape.{Shape}
+use Rattle.moving_kept.specs.md_base_the_Role.{Role}
+use Rattle.moving_kept.specs.md_base_the_Role_TheVariants.{Whole, Recovering, Missing}
+use Rattle.moving_kept.specs.bank_Given.{Given}
+use Rattle.moving_kept.specs.bank_Tape.{Contents}
+use Rattle.moving_kept.specs.layout_Layout.{place}
+use Rattle.moving_kept.proofs.layout_Places.{place-sector_below}
+use Rattle.moving_kept.specs.geometry_Geometry.{zeroed_stripes}
 use Rattle.moving_kept.specs.superblocks_the_Members.{Members}
 use Rattle.moving_kept.specs.superblocks_Reading.{Scope, is_reshaping, is_backward, is_whole, shape_of, final_shape, list_length, role_state, rows_held, holder, data_offset_of}
 use Rattle.moving_kept.specs.row_io_Rows.{reading_of, is_missing, held_slot}
 use Rattle.moving_kept.proofs.row_io_Losses.{holder-of}
 use Rattle.moving_kept.specs.list_io_Full.{RowStands}
 use Rattle.moving_kept.specs.flat_history_Stands.{shape_for}
-use Rattle.region_laws.specs.Regions.{IsDirected}
+use Rattle.moving_kept.specs.region_laws_Regions.{IsDirected}
 use Rattle.moving_kept.specs.shape_views_Regions.{ArePlaced, DoWithout}
 use Rattle.moving_kept.specs.shape_views_Windows.{ListStands, RowsStand}
 use Rattle.moving_kept.proofs.shape_views_Stands.{for-still, list-still, still-stands}

@@ -3,9 +3,9 @@
 use Rattle.std.proofs.Common.{◌≡◌, ℕ, suc, ◌+◌, ◌<◌, ◌&&◌, ◌||◌, nat_lt, Bool, true, false, cond, List, [], ◌∷◌, ◌++◌, length, take, fold, refl, sym, ◌∙◌, ap, ap₂, subst, arith, append_assoc, append-nil}
 use Rattle.std.specs.List.{list_any, list_all}
 use Rattle.std.proofs.lemmas.List.Folds.{list_any-append}
-use Rattle.md_base.specs.Sectors.{Sector}
-use Rattle.md_base.specs.declared.answers.Who.{Who}
-use Rattle.bank.specs.Tape.{IsIn}
+use Rattle.moving_kept.specs.md_base_Sectors.{Sector}
+use Rattle.moving_kept.specs.md_base_the_Who.{Who}
+use Rattle.moving_kept.specs.bank_Tape.{IsIn}
 use Rattle.moving_kept.specs.flat_history_the_Entry.{Entry}
 use Rattle.moving_kept.specs.flat_history_the_Event.{Event}
 use Rattle.moving_kept.specs.flat_history_the_Event_TheVariants.{Lost, SpareLost, Resized, Step}

@@ -2,8 +2,8 @@
 use Rattle.std.proofs.Common.{◌≡◌, ◌≤◌, ◌||◌, Bool, false, cond, List, [], ◌∷◌, ◌++◌, length, fold, refl, sym, ◌∙◌, ap, subst}
 use Rattle.std.specs.List.{list_any}
 use Rattle.std.proofs.lemmas.List.Sums.{fold-append}
-use Rattle.md_base.specs.declared.places.Shape.{Shape}
-use Rattle.bank.specs.declared.bank.Operation.{Operation}
+use Rattle.moving_kept.specs.md_base_the_Shape.{Shape}
+use Rattle.moving_kept.specs.bank_the_Operation.{Operation}
 use Rattle.moving_kept.specs.flat_history_the_Entry.{Entry}
 use Rattle.moving_kept.specs.flat_history_Growing.{grown, EndBy}
 use Rattle.moving_kept.specs.flat_history_Reshaped.{is_done, is_planned, plans_after, open_plans}

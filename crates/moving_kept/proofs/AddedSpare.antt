@@ -3,16 +3,16 @@ use Rattle.std.proofs.Common.{◌≡◌, ◌≢◌, inl, inr, ℕ, ◌<◌, ◌�
 use Rattle.std.specs.Prelude.{IsFalse, ⊤}
 use Rattle.std.specs.List.{list_any}
 use Rattle.std.proofs.lemmas.Bool.Decides.{nat_tests}
-use Rattle.md_base.specs.Sectors.{Sector}
-use Rattle.md_base.specs.Shapes.{tolerance, tolerance_of}
-use Rattle.md_base.specs.declared.answers.Refusal.{Refusal}
-use Rattle.md_base.specs.declared.answers.Refusal.TheVariants.{PastEnd, TooManyMissing, NotResynced, SlotFault}
-use Rattle.md_base.specs.declared.answers.Who.{Who}
-use Rattle.md_base.specs.declared.places.Shape.{Shape}
-use Rattle.bank.specs.declared.bank.Operation.{Operation}
-use Rattle.bank.specs.Given.{Given}
-use Rattle.bank.specs.Tape.{Contents, IsIn, disk}
-use Rattle.sb1.specs.declared.sb.Sb.{Sb}
+use Rattle.history_calls.specs.md_base_Sectors.{Sector}
+use Rattle.history_calls.specs.md_base_Shapes.{tolerance, tolerance_of}
+use Rattle.history_calls.specs.md_base_the_Refusal.{Refusal}
+use Rattle.history_calls.specs.md_base_the_Refusal_TheVariants.{PastEnd, TooManyMissing, NotResynced, SlotFault}
+use Rattle.history_calls.specs.md_base_the_Who.{Who}
+use Rattle.history_calls.specs.md_base_the_Shape.{Shape}
+use Rattle.course_mends.specs.bank_the_Operation.{Operation}
+use Rattle.course_mends.specs.bank_Given.{Given}
+use Rattle.course_mends.specs.bank_Tape.{Contents, IsIn, disk}
+use Rattle.course_mends.specs.sb1_the_Sb.{Sb}
 use Rattle.course_mends.specs.superblocks_the_Members.{Members}
 use Rattle.course_mends.specs.superblocks_Reading.{Scope, is_clean, shape_of, list_length, role_state, holder}
 use Rattle.course_mends.specs.superblocks_Reads.{has_spare}
@@ -57,7 +57,7 @@ use Rattle.course_mends.proofs.safe_updates_Under.{flushed-fewer}
 use Rattle.history_calls.specs.call_entries_Losing.{losses_of}
 use Rattle.history_calls.proofs.call_entries_CallLaws.{losses-are}
 use Rattle.history_calls.proofs.call_entries_LeftLaws.{TellLeft, left-behind, left-more}
-use Rattle.array_kept.specs.Calls.{IsUnaddable}
+use Rattle.history_calls.specs.array_kept_Calls.{IsUnaddable}
 use Rattle.history_calls.proofs.kept_history_Anew.{history-anew}
 use Rattle.history_calls.specs.kept_history_Recorded.{IsCallGoing, entry_of}
 use Rattle.history_calls.specs.kept_history_Safe.{world_in, OpensOnCourse}

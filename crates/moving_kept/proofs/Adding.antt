@@ -1,11 +1,11 @@
 -- A call whose events add to the list's values, behind what it tells lost: a write, or one that was torn.
 use Rattle.std.proofs.Common.{◌≡◌, ◌⊎◌, ℕ, ◌<◌, ◌≤◌, ◌==◌, Bool, true, false, Option, List, [], ◌∷◌, ◌++◌, length, refl, sym, ◌∙◌, ap, subst, inl, inr, ◌||◌, arith}
 use Rattle.std.specs.Prelude.{IsFalse, IfSome, ⊤}
-use Rattle.md_base.specs.Shapes.{tolerance_of}
-use Rattle.md_base.specs.declared.answers.Who.{Who}
-use Rattle.bank.specs.declared.bank.Operation.{Operation}
-use Rattle.bank.specs.Given.{Given}
-use Rattle.bank.specs.Tape.{IsIn, disk}
+use Rattle.history_calls.specs.md_base_Shapes.{tolerance_of}
+use Rattle.history_calls.specs.md_base_the_Who.{Who}
+use Rattle.course_mends.specs.bank_the_Operation.{Operation}
+use Rattle.course_mends.specs.bank_Given.{Given}
+use Rattle.course_mends.specs.bank_Tape.{IsIn, disk}
 use Rattle.course_mends.specs.superblocks_the_Members.{Members}
 use Rattle.course_mends.specs.superblocks_Reading.{Scope, is_clean, shape_of, list_length, role_count}
 use Rattle.course_mends.specs.row_io_Rows.{present, reading_of, is_missing}
@@ -36,7 +36,7 @@ use Rattle.moving_kept.specs.Moving.{AreReshaping, HasListInCourse, IsMoving}
 use Rattle.moving_kept.proofs.Pending.{HasResync, pending-on}
 use Rattle.moving_kept.proofs.Quiet.{listed-later, safe-now, course-earlier}
 use Rattle.std.specs.List.{list_any}
-use Rattle.md_base.specs.Sectors.{Sector}
+use Rattle.history_calls.specs.md_base_Sectors.{Sector}
 use Rattle.course_mends.specs.flat_history_OneShape.{is_unsettled}
 use Rattle.course_mends.specs.views_Placed.{AreWhole}
 use Rattle.history_calls.proofs.call_entries_CallLaws.{losses-are}

@@ -1,10 +1,10 @@
 -- The backup has no part in an array in a reshape: it holds no role and is no spare. So what a call leaves of such slots it leaves of the backup.
 use Rattle.std.proofs.Common.{◌≡◌, ℕ, ◌&&◌, ◌||◌, nat_lt, Bool, true, false, List, refl, sym, ◌∙◌, ap, subst}
 use Rattle.std.specs.List.{list_any}
-use Rattle.md_base.specs.declared.places.Shape.{Shape}
-use Rattle.md_base.specs.Sectors.{Sector}
-use Rattle.bank.specs.Given.{Given}
-use Rattle.bank.specs.Tape.{IsIn}
+use Rattle.history_calls.specs.md_base_the_Shape.{Shape}
+use Rattle.history_calls.specs.md_base_Sectors.{Sector}
+use Rattle.course_mends.specs.bank_Given.{Given}
+use Rattle.course_mends.specs.bank_Tape.{IsIn}
 use Rattle.course_mends.specs.superblocks_the_Members.{Members}
 use Rattle.course_mends.specs.superblocks_Outcome.{is_in_update, AreGivesOfLive}
 use Rattle.course_mends.specs.superblocks_Reading.{Scope}

@@ -1,13 +1,13 @@
 -- What `begin` leaves where it isn't refused is what is asked of a call by which a reshape begins, if that leaves the list's length.
 use Rattle.std.proofs.Common.{◌≡◌, ◌⊎◌, ℕ, ◌*◌, ◌<◌, nat_lt, min, Bool, true, false, List, ◌++◌, length, sym, ◌∙◌, ap, subst, arith}
 use Rattle.std.proofs.lemmas.Bool.Decides.{nat_tests}
-use Rattle.md_base.specs.declared.places.Shape.{Shape}
-use Rattle.md_base.specs.Shapes.{data_disks}
-use Rattle.bank.specs.declared.bank.Operation.{Operation}
-use Rattle.bank.specs.Given.{Given}
-use Rattle.bank.specs.Tape.{contents, disk}
-use Rattle.sb1.specs.declared.sb.Sb.{Sb}
-use Rattle.geometry.specs.Geometry.{AreInForce}
+use Rattle.history_calls.specs.md_base_the_Shape.{Shape}
+use Rattle.history_calls.specs.md_base_Shapes.{data_disks}
+use Rattle.course_mends.specs.bank_the_Operation.{Operation}
+use Rattle.course_mends.specs.bank_Given.{Given}
+use Rattle.course_mends.specs.bank_Tape.{contents, disk}
+use Rattle.course_mends.specs.sb1_the_Sb.{Sb}
+use Rattle.course_mends.specs.geometry_Geometry.{AreInForce}
 use Rattle.course_mends.specs.superblocks_the_Members.{Members}
 use Rattle.course_mends.specs.superblocks_Held.{AreDrawn}
 use Rattle.course_mends.specs.superblocks_Reading.{Scope, is_reshaping, shape_of, list_length, role_count}

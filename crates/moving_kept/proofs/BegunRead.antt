@@ -1,15 +1,15 @@
 -- What is read behind the begin of a reshape says the old shape, also where all live slots were lost in its update.
 use Rattle.std.proofs.Common.{◌≡◌, List, length, Some, sym, subst}
 use Rattle.std.specs.Prelude.{⊤, false, ℕ}
-use Rattle.md_base.specs.declared.places.Shape.{Shape}
-use Rattle.bank.specs.declared.bank.Operation.{Operation}
-use Rattle.bank.specs.Given.{Given}
-use Rattle.bank.specs.Tape.{Contents, EachMark, disk}
-use Rattle.bank.proofs.Marks.{each_mark-along}
-use Rattle.backup.specs.Written.{cleared_header}
-use Rattle.backup.specs.Storing.{IsHeading}
-use Rattle.backup.proofs.StoringLaws.{heading-along}
-use Rattle.geometry.specs.Geometry.{AreInForce}
+use Rattle.history_calls.specs.md_base_the_Shape.{Shape}
+use Rattle.course_mends.specs.bank_the_Operation.{Operation}
+use Rattle.course_mends.specs.bank_Given.{Given}
+use Rattle.course_mends.specs.bank_Tape.{Contents, EachMark, disk}
+use Rattle.course_mends.proofs.bank_Marks.{each_mark-along}
+use Rattle.course_mends.specs.backup_Written.{cleared_header}
+use Rattle.course_mends.specs.backup_Storing.{IsHeading}
+use Rattle.course_mends.proofs.backup_StoringLaws.{heading-along}
+use Rattle.course_mends.specs.geometry_Geometry.{AreInForce}
 use Rattle.course_mends.specs.superblocks_the_Members.{Members}
 use Rattle.course_mends.specs.superblocks_Held.{AreDrawn}
 use Rattle.course_mends.specs.superblocks_Reading.{Scope, is_reshaping, shape_of}

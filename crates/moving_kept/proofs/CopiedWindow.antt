@@ -2,22 +2,22 @@
 use Rattle.std.proofs.Common.{◌≡◌, ◌≢◌, inl, inr, ℕ, ◌*◌, ◌<◌, ◌≤◌, ◌&&◌, nat_le, nat_lt, min, Bool, true, false, if◌then◌else◌, Option, Some, None, List, [], ◌∷◌, ◌++◌, refl, sym, ◌∙◌, ap, subst, arith}
 use Rattle.std.proofs.lemmas.Bool.{cases_lt}
 use Rattle.std.proofs.lemmas.Bool.Decides.{nat_tests}
-use Rattle.md_base.specs.Sectors.{Sector, IsSector}
-use Rattle.md_base.specs.Shapes.{data_disks, is_valid_shape}
-use Rattle.md_base.specs.declared.answers.Who.{Who}
-use Rattle.md_base.specs.declared.places.Shape.{Shape}
-use Rattle.md_base.specs.declared.places.Side.TheVariants.{Old, New}
-use Rattle.md_base.specs.declared.places.Span.{Span}
-use Rattle.bank.specs.declared.bank.Operation.{Operation}
-use Rattle.bank.specs.Given.{Given}
-use Rattle.bank.specs.Tape.{Contents}
-use Rattle.layout.specs.Layout.{place}
-use Rattle.layout.proofs.Places.{place-sector_below}
-use Rattle.geometry.specs.Geometry.{beyond, side, stripes}
-use Rattle.geometry.specs.Geometry as geometry
-use Rattle.geometry.proofs.Rows.{rows_hold}
-use Rattle.region_laws.specs.Regions.{IsDirected}
-use Rattle.sb1.specs.declared.sb.Sb.{Sb}
+use Rattle.history_calls.specs.md_base_Sectors.{Sector, IsSector}
+use Rattle.history_calls.specs.md_base_Shapes.{data_disks, is_valid_shape}
+use Rattle.history_calls.specs.md_base_the_Who.{Who}
+use Rattle.history_calls.specs.md_base_the_Shape.{Shape}
+use Rattle.history_calls.specs.md_base_the_Side_TheVariants.{Old, New}
+use Rattle.history_calls.specs.md_base_the_Span.{Span}
+use Rattle.course_mends.specs.bank_the_Operation.{Operation}
+use Rattle.course_mends.specs.bank_Given.{Given}
+use Rattle.course_mends.specs.bank_Tape.{Contents}
+use Rattle.window_calls.specs.layout_Layout.{place}
+use Rattle.window_calls.proofs.layout_Places.{place-sector_below}
+use Rattle.course_mends.specs.geometry_Geometry.{beyond, side, stripes}
+use Rattle.course_mends.specs.geometry_Geometry as geometry
+use Rattle.course_mends.proofs.geometry_Rows.{rows_hold}
+use Rattle.window_calls.specs.region_laws_Regions.{IsDirected}
+use Rattle.course_mends.specs.sb1_the_Sb.{Sb}
 use Rattle.course_mends.specs.superblocks_the_Members.{Members}
 use Rattle.course_mends.specs.superblocks_Reading.{Scope, is_backward, is_reshaping, shape_of, final_shape, list_length, next_window}
 use Rattle.course_mends.specs.row_io_Rows.{reading_of, present}

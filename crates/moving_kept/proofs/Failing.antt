@@ -1,11 +1,11 @@
 -- A role that is failed by command in an array in a reshape.
 use Rattle.std.proofs.Common.{◌≡◌, ◌⊎◌, inl, inr, ℕ, ◌<◌, ◌≤◌, ◌==◌, Bool, true, Option, None, List, [], ◌∷◌, ◌++◌, length, refl, ◌∙◌, ap, subst}
 use Rattle.std.specs.Prelude.{IsFalse, ⊤}
-use Rattle.md_base.specs.declared.answers.Who.{Who}
-use Rattle.md_base.specs.declared.places.Shape.{Shape}
-use Rattle.bank.specs.declared.bank.Operation.{Operation}
-use Rattle.bank.specs.Given.{Given}
-use Rattle.bank.specs.Tape.{disk}
+use Rattle.history_calls.specs.md_base_the_Who.{Who}
+use Rattle.history_calls.specs.md_base_the_Shape.{Shape}
+use Rattle.course_mends.specs.bank_the_Operation.{Operation}
+use Rattle.course_mends.specs.bank_Given.{Given}
+use Rattle.course_mends.specs.bank_Tape.{disk}
 use Rattle.course_mends.specs.superblocks_the_Members.{Members}
 use Rattle.course_mends.specs.superblocks_Reading.{Scope, is_clean, list_length, role_count}
 use Rattle.course_mends.specs.row_io_Rows.{reading_of, present, is_missing}

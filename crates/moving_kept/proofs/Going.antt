@@ -2,7 +2,7 @@
 use Rattle.std.proofs.Common.{ℕ, List, [], ◌∷◌, ◌++◌, refl}
 use Rattle.std.specs.List.{All}
 use Rattle.std.proofs.lemmas.List.Elements.{All-nil, All-cons}
-use Rattle.md_base.specs.declared.answers.Who.{Who}
+use Rattle.history_calls.specs.md_base_the_Who.{Who}
 use Rattle.course_mends.specs.flat_history_the_Entry.{Entry}
 use Rattle.course_mends.specs.flat_history_the_Event.{Event}
 use Rattle.course_mends.specs.flat_history_the_Event_TheVariants.{Lost, SpareLost}

@@ -41,17 +41,17 @@ pub use Rattle.course_mends.proofs.region_writes_Sides
 pub use Rattle.course_mends.proofs.region_writes_Together
 pub use Rattle.course_mends.proofs.window_steps_CopyLaws
 pub use Rattle.course_mends.proofs.window_steps_PastLaws
-pub use Rattle.array_kept.proofs.DegradedLaws as array_kept_DegradedLaws
-pub use Rattle.array_kept.proofs.KeptLaws as array_kept_KeptLaws
-pub use Rattle.array_kept.proofs.LedgerLaws as array_kept_LedgerLaws
-pub use Rattle.array_kept.proofs.LossLaws as array_kept_LossLaws
-pub use Rattle.array_kept.proofs.NowLaws as array_kept_NowLaws
-pub use Rattle.array_kept.proofs.OnlyLaws as array_kept_OnlyLaws
-pub use Rattle.array_kept.proofs.ReadyLaws as array_kept_ReadyLaws
-pub use Rattle.array_kept.proofs.RecordLaws as array_kept_RecordLaws
-pub use Rattle.array_kept.proofs.ReplyLaws as array_kept_ReplyLaws
-pub use Rattle.array_kept.proofs.StepsLeft as array_kept_StepsLeft
-pub use Rattle.array_kept.proofs.ToldLosses as array_kept_ToldLosses
+pub use Rattle.history_calls.proofs.array_kept_DegradedLaws
+pub use Rattle.history_calls.proofs.array_kept_KeptLaws
+pub use Rattle.history_calls.proofs.array_kept_LedgerLaws
+pub use Rattle.history_calls.proofs.array_kept_LossLaws
+pub use Rattle.history_calls.proofs.array_kept_NowLaws
+pub use Rattle.history_calls.proofs.array_kept_OnlyLaws
+pub use Rattle.history_calls.proofs.array_kept_ReadyLaws
+pub use Rattle.history_calls.proofs.array_kept_RecordLaws
+pub use Rattle.history_calls.proofs.array_kept_ReplyLaws
+pub use Rattle.history_calls.proofs.array_kept_StepsLeft
+pub use Rattle.history_calls.proofs.array_kept_ToldLosses
 pub use Rattle.course_mends.proofs.reshape_ends_FinishLaws
 pub use Rattle.course_mends.proofs.reshape_ends_Made
 pub use Rattle.course_mends.proofs.reshape_updates_BegunNewest
@@ -73,7 +73,7 @@ pub use Rattle.history_calls.proofs.call_entries_CallLaws
 pub use Rattle.history_calls.proofs.call_entries_LeftLaws
 pub use Rattle.course_mends.proofs.views_Fit
 pub use Rattle.course_mends.proofs.views_LiveLeft
-pub use Rattle.array_kept.proofs.views_BearerLaws
+pub use Rattle.history_calls.proofs.views_BearerLaws
 pub use Rattle.history_calls.proofs.kept_history_Growing
 pub use Rattle.history_calls.proofs.kept_history_Ledgers
 pub use Rattle.history_calls.proofs.kept_history_Lists
@@ -155,3 +155,12 @@ pub use Rattle.course_mends.proofs.superblocks_SlotSets
 pub use Rattle.course_mends.proofs.superblock_reads_SaidLists
 pub use Rattle.history_calls.proofs.history_laws_ReshapedLaws
 pub use Rattle.history_calls.proofs.history_laws_GrowingLaws
+pub use Rattle.course_mends.proofs.bank_Marks
+pub use Rattle.course_mends.proofs.bank_Whole
+pub use Rattle.course_mends.proofs.geometry_Divisions
+pub use Rattle.course_mends.proofs.grow_asked_FirstLaws
+pub use Rattle.course_mends.proofs.parity_Columns
+pub use Rattle.course_mends.proofs.parity_OwnFills
+pub use Rattle.course_mends.proofs.parity_Refilled
+pub use Rattle.window_calls.proofs.layout_Limits
+pub use Rattle.window_calls.proofs.layout_Places

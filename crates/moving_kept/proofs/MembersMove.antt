@@ -1,12 +1,12 @@
 -- Members of an array in a reshape stay so, where slots are lost or the position moves.
 use Rattle.std.proofs.Common.{◌≡◌, ◌||◌, false, not, cond, Some, None, sym, ◌∙◌, ap}
 use Rattle.std.specs.Prelude.{min}
-use Rattle.md_base.specs.declared.places.Span.{Span}
-use Rattle.bank.specs.Given.{Given}
+use Rattle.history_calls.specs.md_base_the_Span.{Span}
+use Rattle.course_mends.specs.bank_Given.{Given}
 use Rattle.course_mends.specs.superblocks_the_Members.{Members}
 use Rattle.course_mends.specs.superblocks_Reading.{Scope, shape_of, next_window, holder}
-use Rattle.md_base.specs.declared.answers.Refusal.TheVariants.{BackupAbsent}
-use Rattle.geometry.specs.Geometry.{unit}
+use Rattle.history_calls.specs.md_base_the_Refusal_TheVariants.{BackupAbsent}
+use Rattle.course_mends.specs.geometry_Geometry.{unit}
 use Rattle.course_mends.specs.flat_history_Stands.{backup_absent, has_room}
 use Rattle.course_mends.specs.shape_views_Regions.{backup_of, ArePlaced}
 use Rattle.course_mends.specs.shape_views_Windows.{moved_past}

@@ -1,14 +1,14 @@
 -- More steps of a reshape under way: a stripe behind the list is zeroed, a window is recorded; and steps that are refused.
 use Rattle.std.proofs.Common.{◌≡◌, ◌≢◌, inl, ℕ, ◌+◌, ◌<◌, ◌≤◌, ◌==◌, Bool, true, Option, None, List, [], ◌∷◌, ◌++◌, length, refl, sym, ◌∙◌, ap, subst, arith}
 use Rattle.std.specs.Prelude.{IsFalse, ⊤}
-use Rattle.md_base.specs.Sectors.{Sector, zero_sector}
-use Rattle.md_base.specs.declared.answers.Who.{Who}
-use Rattle.md_base.specs.declared.places.Shape.{Shape}
-use Rattle.md_base.specs.declared.places.Span.{Span}
-use Rattle.bank.specs.declared.bank.Operation.{Operation}
-use Rattle.bank.specs.Given.{Given}
-use Rattle.bank.specs.Tape.{IsIn, disk}
-use Rattle.geometry.specs.Geometry.{stripes, zeroed_stripes}
+use Rattle.history_calls.specs.md_base_Sectors.{Sector, zero_sector}
+use Rattle.history_calls.specs.md_base_the_Who.{Who}
+use Rattle.history_calls.specs.md_base_the_Shape.{Shape}
+use Rattle.history_calls.specs.md_base_the_Span.{Span}
+use Rattle.course_mends.specs.bank_the_Operation.{Operation}
+use Rattle.course_mends.specs.bank_Given.{Given}
+use Rattle.course_mends.specs.bank_Tape.{IsIn, disk}
+use Rattle.course_mends.specs.geometry_Geometry.{stripes, zeroed_stripes}
 use Rattle.course_mends.specs.superblocks_the_Members.{Members}
 use Rattle.course_mends.specs.superblocks_Reading.{Scope, is_clean, is_backward, shape_of, final_shape, list_length, role_count}
 use Rattle.course_mends.specs.row_io_Rows.{reading_of, present}

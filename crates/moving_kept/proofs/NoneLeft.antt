@@ -1,13 +1,13 @@
 -- Where no live slot is left, no role is held; where a shape does without what it misses, one is.
 use Rattle.std.proofs.Common.{◌≡◌, ◌⊎◌, inl, inr, ℕ, zero, suc, ◌+◌, ◌<◌, ◌≤◌, ◌&&◌, Bool, true, false, not, cond, Some, refl, ap, arith}
 use Rattle.std.proofs.lemmas.Bool.Decides.{nat_tests}
-use Rattle.md_base.specs.Search.{all_below, count_below}
-use Rattle.md_base.specs.Shapes.{tolerance_of}
-use Rattle.md_base.specs.declared.places.Shape.{Shape}
-use Rattle.md_base.specs.declared.status.Role.{Role}
-use Rattle.md_base.specs.declared.status.Role.TheVariants.{Whole, Recovering, Missing}
-use Rattle.bank.specs.Given.{Given}
-use Rattle.layout.proofs.Limits.{limited}
+use Rattle.history_calls.specs.md_base_Search.{all_below, count_below}
+use Rattle.history_calls.specs.md_base_Shapes.{tolerance_of}
+use Rattle.history_calls.specs.md_base_the_Shape.{Shape}
+use Rattle.history_calls.specs.md_base_the_Role.{Role}
+use Rattle.history_calls.specs.md_base_the_Role_TheVariants.{Whole, Recovering, Missing}
+use Rattle.course_mends.specs.bank_Given.{Given}
+use Rattle.window_calls.proofs.layout_Limits.{limited}
 use Rattle.course_mends.specs.superblocks_the_Members.{Members}
 use Rattle.course_mends.specs.superblocks_Reading.{is_whole, role_state, holder}
 use Rattle.course_mends.specs.row_io_Rows.{reading_of, is_missing}

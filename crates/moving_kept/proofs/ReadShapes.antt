@@ -2,11 +2,11 @@
 use Rattle.std.proofs.Common.{◌≡◌, ◌⊎◌, inl, inr, ⊎_elim, ℕ, ◌+◌, ◌^◌, ◌<◌, ◌≤◌, List, length, take, take_all, le_refl, Some, sym, ◌∙◌, subst, arith}
 use Rattle.std.specs.Prelude.{⊤}
 use Rattle.std.proofs.lemmas.Bool.{cases_lt}
-use Rattle.md_base.specs.declared.places.Shape.{Shape}
-use Rattle.bank.specs.declared.bank.Operation.{Operation}
-use Rattle.bank.specs.Given.{Given}
-use Rattle.bank.specs.Tape.{Contents, disk}
-use Rattle.sb1.specs.declared.sb.Sb.{Sb}
+use Rattle.history_calls.specs.md_base_the_Shape.{Shape}
+use Rattle.course_mends.specs.bank_the_Operation.{Operation}
+use Rattle.course_mends.specs.bank_Given.{Given}
+use Rattle.course_mends.specs.bank_Tape.{Contents, disk}
+use Rattle.course_mends.specs.sb1_the_Sb.{Sb}
 use Rattle.course_mends.specs.superblocks_the_Change.{Change}
 use Rattle.course_mends.specs.superblocks_the_Members.{Members}
 use Rattle.course_mends.specs.superblocks_Held.{AreDrawn}

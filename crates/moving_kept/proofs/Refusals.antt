@@ -1,11 +1,11 @@
 -- A refusal is right by the history, in an array that is in a reshape.
 use Rattle.std.proofs.Common.{◌≡◌, inl, inr, ℕ, zero, suc, ◌+◌, ◌-◌, ◌≤◌, Bool, true, false, cond, List, refl, sym, ◌∙◌, ap, subst, arith}
-use Rattle.md_base.specs.declared.answers.Refusal.{Refusal}
-use Rattle.md_base.specs.declared.answers.Refusal.TheVariants.{TooManyMissing, PastEnd, NotResynced}
-use Rattle.md_base.specs.declared.places.Shape.{Shape}
-use Rattle.md_base.specs.Search.{count_below}
-use Rattle.md_base.specs.Shapes.{tolerance, tolerance_of}
-use Rattle.bank.specs.Given.{Given}
+use Rattle.history_calls.specs.md_base_the_Refusal.{Refusal}
+use Rattle.history_calls.specs.md_base_the_Refusal_TheVariants.{TooManyMissing, PastEnd, NotResynced}
+use Rattle.history_calls.specs.md_base_the_Shape.{Shape}
+use Rattle.history_calls.specs.md_base_Search.{count_below}
+use Rattle.history_calls.specs.md_base_Shapes.{tolerance, tolerance_of}
+use Rattle.course_mends.specs.bank_Given.{Given}
 use Rattle.course_mends.specs.superblocks_the_Members.{Members}
 use Rattle.course_mends.specs.superblocks_Reading.{shape_of, final_shape}
 use Rattle.course_mends.proofs.superblocks_ValidFields.{few-roles}

@@ -1,10 +1,10 @@
 -- A call that makes no device call, and enters one event, whether a live slot is left or not.
 use Rattle.std.proofs.Common.{◌≡◌, ℕ, ◌==◌, Bool, true, Option, List, [], ◌∷◌, ◌++◌, length, refl, sym, ◌∙◌, ap, subst}
 use Rattle.std.specs.Prelude.{IsFalse}
-use Rattle.md_base.specs.Shapes.{tolerance_of}
-use Rattle.md_base.specs.declared.answers.Who.{Who}
-use Rattle.bank.specs.declared.bank.Operation.{Operation}
-use Rattle.bank.specs.Given.{Given}
+use Rattle.history_calls.specs.md_base_Shapes.{tolerance_of}
+use Rattle.history_calls.specs.md_base_the_Who.{Who}
+use Rattle.course_mends.specs.bank_the_Operation.{Operation}
+use Rattle.course_mends.specs.bank_Given.{Given}
 use Rattle.course_mends.specs.superblocks_the_Members.{Members}
 use Rattle.course_mends.specs.superblocks_Reading.{Scope, list_length}
 use Rattle.course_mends.proofs.superblocks_ValidFields.{few-roles}

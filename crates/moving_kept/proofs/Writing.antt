@@ -5,17 +5,17 @@ use Rattle.std.specs.Option.{option_map_or}
 use Rattle.std.proofs.lemmas.Bool.{cases_lt}
 use Rattle.std.proofs.lemmas.Bool.Decides.{nat_tests}
 use Rattle.std.proofs.lemmas.List.Sums.{fold-append}
-use Rattle.md_base.specs.Sectors.{Sector, IsSector, IsWhole, sectors_of}
-use Rattle.md_base.proofs.SectorLaws.{length-sectors_of}
-use Rattle.md_base.specs.declared.answers.Refusal.{Refusal}
-use Rattle.md_base.specs.declared.answers.Who.{Who}
-use Rattle.md_base.specs.declared.places.Shape.{Shape}
-use Rattle.md_base.specs.declared.places.Span.{Span}
-use Rattle.md_base.specs.Shapes.{tolerance, tolerance_of, stripe_sectors}
-use Rattle.bank.specs.declared.bank.Operation.{Operation}
-use Rattle.bank.specs.Given.{Given}
-use Rattle.bank.specs.Tape.{IsIn, disk}
-use Rattle.sb1.specs.declared.sb.Sb.{Sb}
+use Rattle.history_calls.specs.md_base_Sectors.{Sector, IsSector, IsWhole, sectors_of}
+use Rattle.history_calls.proofs.md_base_SectorLaws.{length-sectors_of}
+use Rattle.history_calls.specs.md_base_the_Refusal.{Refusal}
+use Rattle.history_calls.specs.md_base_the_Who.{Who}
+use Rattle.history_calls.specs.md_base_the_Shape.{Shape}
+use Rattle.history_calls.specs.md_base_the_Span.{Span}
+use Rattle.history_calls.specs.md_base_Shapes.{tolerance, tolerance_of, stripe_sectors}
+use Rattle.course_mends.specs.bank_the_Operation.{Operation}
+use Rattle.course_mends.specs.bank_Given.{Given}
+use Rattle.course_mends.specs.bank_Tape.{IsIn, disk}
+use Rattle.course_mends.specs.sb1_the_Sb.{Sb}
 use Rattle.course_mends.specs.superblocks_the_Members.{Members}
 use Rattle.course_mends.specs.superblocks_Reading.{Scope, is_clean, shape_of, final_shape, list_length, role_count}
 use Rattle.course_mends.specs.row_io_Rows.{reading_of, present}
@@ -49,8 +49,8 @@ use Rattle.history_calls.specs.call_entries_Losing.{losses_of, failure_events}
 use Rattle.history_calls.proofs.call_entries_CallLaws.{losses-are, limit-losses, values-losses}
 use Rattle.history_calls.proofs.call_entries_LeftLaws.{TellLeft, left-behind, left-more}
 use Rattle.history_calls.proofs.call_entries_LosingLaws.{entries-both}
-use Rattle.array_kept.proofs.LedgerLaws.{written-allowed, wrote-in, torn-in}
-use Rattle.array_kept.proofs.NowLaws.{wrote-is}
+use Rattle.history_calls.proofs.array_kept_LedgerLaws.{written-allowed, wrote-in, torn-in}
+use Rattle.history_calls.proofs.array_kept_NowLaws.{wrote-is}
 use Rattle.course_mends.specs.region_rows_Stretches.{relied_rows, IsShapeOf, ListStandsIn, RowsStandIn}
 use Rattle.course_mends.specs.region_writes_Runs.{IsListTouched, MayBeHidden, WindowRowsStand, IsListTorn, IsListUnwritten}
 use Rattle.course_mends.proofs.region_writes_Together.{shape-force}

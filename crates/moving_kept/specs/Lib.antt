@@ -10,9 +10,9 @@ pub use Rattle.course_mends.specs.region_writes_Runs
 pub use Rattle.course_mends.specs.window_steps_Recording
 pub use Rattle.window_calls.specs.Fetching as window_calls_Fetching
 pub use Rattle.window_calls.specs.Finishing as window_calls_Finishing
-pub use Rattle.array_kept.specs.Adopting as array_kept_Adopting
-pub use Rattle.array_kept.specs.Calls as array_kept_Calls
-pub use Rattle.array_kept.specs.Kept as array_kept_Kept
+pub use Rattle.history_calls.specs.array_kept_Adopting
+pub use Rattle.history_calls.specs.array_kept_Calls
+pub use Rattle.history_calls.specs.array_kept_Kept
 pub use Rattle.course_mends.specs.reshape_ends_Begun
 pub use Rattle.course_mends.specs.reshape_ends_Finished
 pub use Rattle.course_mends.specs.reshape_updates_Beginning
@@ -91,3 +91,26 @@ pub use Rattle.course_mends.specs.flat_history_the_Request_TheVariants
 pub use Rattle.course_mends.specs.flat_history_the_Epoch
 pub use Rattle.course_mends.specs.flat_history_Fits
 pub use Rattle.course_mends.specs.list_io_Buffers
+pub use Rattle.course_mends.specs.backup_Section
+pub use Rattle.course_mends.specs.bank_Given
+pub use Rattle.course_mends.specs.bank_Tape
+pub use Rattle.course_mends.specs.bank_Whole
+pub use Rattle.course_mends.specs.bank_the_Operation
+pub use Rattle.course_mends.specs.geometry_Geometry
+pub use Rattle.course_mends.specs.grow_asked_Asked
+pub use Rattle.course_mends.specs.grow_plan_Plans
+pub use Rattle.course_mends.specs.parity_Fills
+pub use Rattle.course_mends.specs.parity_Parity
+pub use Rattle.course_mends.specs.parity_Rows
+pub use Rattle.course_mends.specs.sb1_the_Sb
+pub use Rattle.history_calls.specs.md_base_Search
+pub use Rattle.history_calls.specs.md_base_Sectors
+pub use Rattle.history_calls.specs.md_base_Shapes
+pub use Rattle.history_calls.specs.md_base_the_Refusal
+pub use Rattle.history_calls.specs.md_base_the_Role
+pub use Rattle.history_calls.specs.md_base_the_Role_TheVariants
+pub use Rattle.history_calls.specs.md_base_the_Shape
+pub use Rattle.history_calls.specs.md_base_the_Span
+pub use Rattle.history_calls.specs.md_base_the_Who
+pub use Rattle.window_calls.specs.layout_Layout
+pub use Rattle.window_calls.specs.region_laws_Regions

@@ -1,11 +1,11 @@
 -- What an array keeps that is in a reshape, over plain data.
 use Rattle.std.specs.Prelude.{◌≡◌, ◌⊎◌, ℕ, ◌<◌, ◌≤◌, ◌||◌, Bool, true, false, List, length, Option, IfSome, IsSome, is_some, None, ⊤}
-use Rattle.md_base.specs.Sectors.{Sector}
-use Rattle.md_base.specs.Shapes.{tolerance, tolerance_of}
-use Rattle.md_base.specs.declared.places.Span.{Span}
-use Rattle.bank.specs.declared.bank.Operation.{Operation}
-use Rattle.bank.specs.Given.{Given, sizes}
-use Rattle.bank.specs.Tape.{Contents, disk}
+use Rattle.history_calls.specs.md_base_Sectors.{Sector}
+use Rattle.history_calls.specs.md_base_Shapes.{tolerance, tolerance_of}
+use Rattle.history_calls.specs.md_base_the_Span.{Span}
+use Rattle.course_mends.specs.bank_the_Operation.{Operation}
+use Rattle.course_mends.specs.bank_Given.{Given, sizes}
+use Rattle.course_mends.specs.bank_Tape.{Contents, disk}
 use Rattle.course_mends.specs.superblocks_the_Members.{Members}
 use Rattle.course_mends.specs.superblocks_Reading.{Scope, is_reshaping, is_backward, is_clean, shape_of, list_length}
 use Rattle.course_mends.specs.row_io_Rows.{present}

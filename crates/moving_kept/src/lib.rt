@@ -2,9 +2,9 @@
 #![tactic(auto)]
 
 pub use course_mends::{
-    Course, Filled, Finished, begin, copy, fetch, fill, final_in, finish, flush_and_record,
-    give_role, has_unnamed, is_spare, is_vacant, list_length, mend, mend_list, mended_rows,
-    name_missing, newly_vacant, put, put_list, record, recovering_slot, relied_sector, resync_left,
-    settle, shape_in, too_many, unmended, unread, unwritten, vacant_roles, zero,
+    Course, Filled, Finished, PhasesLeft, Window, begin, copy, fetch, fill, final_in, finish,
+    flush_and_record, give_role, has_unnamed, is_spare, is_vacant, list_length, mend, mend_list,
+    mended_rows, name_missing, newly_vacant, put, put_list, record, recovering_slot, relied_sector,
+    resync_left, settle, shape_in, too_many, unmended, unread, unwritten, vacant_roles, zero,
 };
 pub use window_calls::{fetch_beside, finish_window};

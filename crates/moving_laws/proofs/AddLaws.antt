@@ -2,12 +2,12 @@
 use Rattle.std.proofs.Common.{◌≡◌, ◌≢◌, inl, ℕ, ◌*◌, ◌<◌, ◌≤◌, ◌==◌, Bool, true, false, List, [], length, Option, Some, refl, sym, ◌∙◌, ap, subst, arith, append-nil}
 use Rattle.std.proofs.lemmas.Bool.Decides.{nat_tests}
 use Rattle.std.proofs.lemmas.List.Elements.{All-nil}
-use Rattle.md_base.specs.Sectors.{Sector}
-use Rattle.md_base.specs.declared.answers.Refusal.{Refusal}
-use Rattle.bank.specs.declared.bank.Operation.{Operation}
-use Rattle.bank.specs.Given.{Given}
-use Rattle.bank.specs.Tape.{IsIn, disk}
-use Rattle.sb1.specs.declared.sb.Sb.{Sb}
+use Rattle.running_words.specs.md_base_Sectors.{Sector}
+use Rattle.running_words.specs.md_base_the_Refusal.{Refusal}
+use Rattle.window_entering.specs.bank_the_Operation.{Operation}
+use Rattle.window_entering.specs.bank_Given.{Given}
+use Rattle.window_entering.specs.bank_Tape.{IsIn, disk}
+use Rattle.window_entering.specs.sb1_the_Sb.{Sb}
 use Rattle.mending_kept.specs.superblocks_the_Members.{Members}
 use Rattle.mending_kept.specs.superblocks_Reading.{Scope}
 use Rattle.mending_kept.specs.superblocks_Held.{IsSecondHalf}

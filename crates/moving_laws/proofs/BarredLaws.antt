@@ -1,14 +1,14 @@
 -- A write of an array in a reshape whose window may be unsure: why it isn't done, and its reply.
 use Rattle.std.specs.Prelude.{IfSome, IsErr, OnOk, OnErr}
 use Rattle.std.proofs.Common.{◌≡◌, ◌⊎◌, inl, inr, ℕ, ◌+◌, false, Option, Result, Ok, Err, List, length, refl, sym, ap, subst}
-use Rattle.md_base.specs.Sectors.{Sector}
-use Rattle.md_base.specs.declared.answers.Fault.{Fault as AnyFault}
-use Rattle.md_base.specs.declared.answers.Fault.TheVariants.{Refused as IsRefusedWith, NoMemory}
-use Rattle.md_base.specs.declared.answers.Refusal.{Refusal}
-use Rattle.md_base.specs.declared.answers.Refusal.TheVariants.{PastEnd, BackupFault}
-use Rattle.md_base.specs.declared.answers.Who.{Who}
-use Rattle.md_base.specs.declared.places.Span.{Span}
-use Rattle.bank.specs.Given.{IsFaulted}
+use Rattle.running_words.specs.md_base_Sectors.{Sector}
+use Rattle.running_words.specs.md_base_the_Fault.{Fault as AnyFault}
+use Rattle.running_words.specs.md_base_the_Fault_TheVariants.{Refused as IsRefusedWith, NoMemory}
+use Rattle.running_words.specs.md_base_the_Refusal.{Refusal}
+use Rattle.running_words.specs.md_base_the_Refusal_TheVariants.{PastEnd, BackupFault}
+use Rattle.running_words.specs.md_base_the_Who.{Who}
+use Rattle.running_words.specs.md_base_the_Span.{Span}
+use Rattle.window_entering.specs.bank_Given.{IsFaulted}
 use Rattle.mending_kept.specs.superblocks_the_Members.{Members}
 use Rattle.mending_kept.specs.flat_history_the_Entry.{Entry}
 use Rattle.mending_kept.specs.flat_history_the_Event_TheVariants.{Refused}

@@ -1,7 +1,7 @@
 -- The position behind the window under way lies in the list.
 use Rattle.std.proofs.Common.{◌≡◌, ◌<◌, ◌≤◌, Bool, true, false, arith}
-use Rattle.sb1.specs.declared.sb.Sb.{Sb}
-use Rattle.geometry.specs.Geometry.{beyond}
+use Rattle.window_entering.specs.sb1_the_Sb.{Sb}
+use Rattle.window_entering.specs.geometry_Geometry.{beyond}
 use Rattle.mending_kept.specs.superblocks_Reading.{is_reshaping, is_backward, list_length}
 use Rattle.mending_kept.specs.shape_views_Regions.{AreShapesFit}
 use Rattle.mending_kept.proofs.shape_views_Headers.{window-filled}

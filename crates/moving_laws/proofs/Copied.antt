@@ -5,16 +5,16 @@ use Rattle.std.specs.List.{All}
 use Rattle.std.proofs.lemmas.Bool.Decides.{nat_tests}
 use Rattle.std.proofs.lemmas.List.Elements.{All-head, All-tail}
 use Rattle.std.proofs.lemmas.List.Sums.{fold-append}
-use Rattle.md_base.specs.Sectors.{Sector}
-use Rattle.md_base.specs.declared.answers.Refusal.{Refusal}
-use Rattle.md_base.specs.declared.answers.Who.{Who}
-use Rattle.md_base.specs.declared.places.Span.{Span}
-use Rattle.bank.specs.declared.bank.Operation.{Operation}
-use Rattle.bank.specs.Given.{Given}
-use Rattle.bank.specs.Tape.{disk}
-use Rattle.geometry.specs.Geometry.{beyond}
-use Rattle.grow_plan.specs.Plans.{phases_steps}
-use Rattle.sb1.specs.declared.sb.Sb.{Sb}
+use Rattle.running_words.specs.md_base_Sectors.{Sector}
+use Rattle.running_words.specs.md_base_the_Refusal.{Refusal}
+use Rattle.running_words.specs.md_base_the_Who.{Who}
+use Rattle.running_words.specs.md_base_the_Span.{Span}
+use Rattle.window_entering.specs.bank_the_Operation.{Operation}
+use Rattle.window_entering.specs.bank_Given.{Given}
+use Rattle.window_entering.specs.bank_Tape.{disk}
+use Rattle.window_entering.specs.geometry_Geometry.{beyond}
+use Rattle.window_entering.specs.grow_plan_Plans.{phases_steps}
+use Rattle.window_entering.specs.sb1_the_Sb.{Sb}
 use Rattle.mending_kept.specs.superblocks_the_Members.{Members}
 use Rattle.mending_kept.specs.superblocks_Reading.{Scope, is_reshaping, is_backward, is_clean, final_shape, role_count}
 use Rattle.mending_kept.proofs.superblocks_ValidFields.{few-roles}

@@ -1,19 +1,19 @@
 -- A step that enters the next window, or is refused: what the array keeps of it.
 use Rattle.std.proofs.Common.{◌≡◌, ◌≢◌, ◌⊎◌, inl, inr, ℕ, ◌+◌, ◌-◌, ◌*◌, ◌<◌, ◌==◌, Bool, true, false, Option, Some, None, List, [], ◌∷◌, ◌++◌, length, take, refl, sym, ◌∙◌, ap, subst, arith}
 use Rattle.std.specs.Prelude.{IfSome, IsFalse, MatchOption, ⊤}
-use Rattle.md_base.specs.Sectors.{Sector}
-use Rattle.md_base.specs.Shapes.{tolerance, tolerance_of}
-use Rattle.md_base.specs.declared.answers.Refusal.{Refusal}
-use Rattle.md_base.specs.declared.answers.Refusal.TheVariants.{BackupFault}
-use Rattle.md_base.specs.declared.answers.Who.{Who}
-use Rattle.md_base.specs.declared.places.Shape.{Shape}
-use Rattle.md_base.specs.declared.places.Span.{Span}
-use Rattle.bank.specs.declared.bank.Operation.{Operation}
-use Rattle.bank.specs.Given.{Given}
-use Rattle.bank.specs.Tape.{Contents, IsIn, disk}
-use Rattle.geometry.specs.Geometry.{is_critical}
-use Rattle.grow_plan.specs.Plans.{phases_steps}
-use Rattle.sb1.specs.declared.sb.Sb.{Sb}
+use Rattle.running_words.specs.md_base_Sectors.{Sector}
+use Rattle.running_words.specs.md_base_Shapes.{tolerance, tolerance_of}
+use Rattle.running_words.specs.md_base_the_Refusal.{Refusal}
+use Rattle.running_words.specs.md_base_the_Refusal_TheVariants.{BackupFault}
+use Rattle.running_words.specs.md_base_the_Who.{Who}
+use Rattle.running_words.specs.md_base_the_Shape.{Shape}
+use Rattle.running_words.specs.md_base_the_Span.{Span}
+use Rattle.window_entering.specs.bank_the_Operation.{Operation}
+use Rattle.window_entering.specs.bank_Given.{Given}
+use Rattle.window_entering.specs.bank_Tape.{Contents, IsIn, disk}
+use Rattle.window_entering.specs.geometry_Geometry.{is_critical}
+use Rattle.window_entering.specs.grow_plan_Plans.{phases_steps}
+use Rattle.window_entering.specs.sb1_the_Sb.{Sb}
 use Rattle.mending_kept.specs.superblocks_the_Members.{Members}
 use Rattle.mending_kept.specs.superblocks_Reading.{Scope, is_backward, is_clean, shape_of, final_shape, list_length, next_window}
 use Rattle.mending_kept.proofs.superblocks_ValidFields.{few-roles}

@@ -1,8 +1,8 @@
 -- What an array in a reshape keeps over a bank of which only counts of faults have risen.
 use Rattle.std.proofs.Common.{◌≡◌, ℕ, ◌≤◌, Bool, List, Option, sym, subst, arith}
 use Rattle.std.specs.Prelude.{unwrap_or}
-use Rattle.bank.specs.Given.{Given}
-use Rattle.bank.specs.declared.bank.Operation.{Operation}
+use Rattle.window_entering.specs.bank_Given.{Given}
+use Rattle.window_entering.specs.bank_the_Operation.{Operation}
 use Rattle.mending_kept.specs.superblocks_the_Members.{Members}
 use Rattle.mending_kept.specs.superblocks_Reading.{Scope}
 use Rattle.mending_kept.specs.flat_history_the_Entry.{Entry}

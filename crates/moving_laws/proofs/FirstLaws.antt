@@ -1,9 +1,9 @@
 -- The first refusal is the one that is answered: by what the members told before any device was touched.
 use Rattle.std.proofs.Common.{◌≡◌, ℕ, Option, Some, None, Result, Ok, Err, subst}
 use Rattle.std.specs.Prelude.{MatchOption, ⊤}
-use Rattle.md_base.specs.declared.answers.Fault.{Fault as AnyFault}
-use Rattle.md_base.specs.declared.answers.Fault.TheVariants.{Refused as IsRefusedWith, NoMemory}
-use Rattle.md_base.specs.declared.answers.Refusal.{Refusal}
+use Rattle.running_words.specs.md_base_the_Fault.{Fault as AnyFault}
+use Rattle.running_words.specs.md_base_the_Fault_TheVariants.{Refused as IsRefusedWith, NoMemory}
+use Rattle.running_words.specs.md_base_the_Refusal.{Refusal}
 use Rattle.running_words.specs.safe_updates_First.{call_refusal}
 use Rattle.moving_laws.specs.Refusing.{IsFirstFor}
 

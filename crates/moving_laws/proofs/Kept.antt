@@ -5,18 +5,18 @@ use Rattle.std.specs.List.{list_any}
 use Rattle.std.proofs.lemmas.Bool.Decides.{nat_tests}
 use Rattle.std.proofs.lemmas.List.{take-append-le}
 use Rattle.std.proofs.lemmas.List.Folds.{list_any-append}
-use Rattle.md_base.specs.Shapes.{data_disks}
-use Rattle.md_base.specs.declared.places.Span.{Span}
-use Rattle.md_base.specs.declared.wishes.Phase.{Phase}
-use Rattle.bank.specs.declared.bank.Operation.{Operation}
-use Rattle.md_base.specs.declared.answers.Who.{Who}
+use Rattle.running_words.specs.md_base_Shapes.{data_disks}
+use Rattle.running_words.specs.md_base_the_Span.{Span}
+use Rattle.running_words.specs.md_base_the_Phase.{Phase}
+use Rattle.window_entering.specs.bank_the_Operation.{Operation}
+use Rattle.running_words.specs.md_base_the_Who.{Who}
 use Rattle.mending_kept.specs.call_entries_Losing.{losses_of}
 use Rattle.mending_kept.proofs.call_entries_CallLaws.{losses-are, length-losses, limit-losses}
 use Rattle.running_words.proofs.array_kept_NowLaws.{length-more}
-use Rattle.bank.specs.Given.{Given, NeverFalls}
-use Rattle.sb1.specs.declared.sb.Sb.{Sb}
-use Rattle.geometry.specs.Geometry.{unit, steps_of, stripes, beyond}
-use Rattle.grow_plan.specs.Plans.{AreSound, phases_steps}
+use Rattle.window_entering.specs.bank_Given.{Given, NeverFalls}
+use Rattle.window_entering.specs.sb1_the_Sb.{Sb}
+use Rattle.window_entering.specs.geometry_Geometry.{unit, steps_of, stripes, beyond}
+use Rattle.window_entering.specs.grow_plan_Plans.{AreSound, phases_steps}
 use Rattle.mending_kept.specs.superblocks_the_Members.{Members}
 use Rattle.mending_kept.specs.superblocks_Reading.{Scope, shape_of, final_shape, list_length}
 use Rattle.mending_kept.proofs.superblocks_ValidFields.{few-roles}

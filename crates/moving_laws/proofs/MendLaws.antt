@@ -2,18 +2,18 @@
 use Rattle.std.proofs.Common.{◌≡◌, ◌≢◌, inl, inr, ℕ, ◌+◌, ◌-◌, ◌/◌, ◌^◌, ◌<◌, ◌≤◌, Bool, true, false, Option, Some, None, unwrap_or, List, [], ◌∷◌, ◌++◌, length, refl, sym, ◌∙◌, ap, subst, arith}
 use Rattle.std.specs.Prelude.{IsSome, MatchOption}
 use Rattle.std.proofs.Math.Nat.{div-le_self}
-use Rattle.md_base.specs.Sectors.{Sector}
-use Rattle.md_base.specs.Shapes.{stripe_sectors}
-use Rattle.md_base.specs.declared.answers.Refusal.{Refusal}
-use Rattle.md_base.specs.declared.answers.Who.{Who}
-use Rattle.md_base.specs.declared.places.Shape.{Shape}
-use Rattle.md_base.specs.declared.places.Span.{Span}
-use Rattle.bank.specs.declared.bank.Operation.{Operation}
-use Rattle.bank.specs.Given.{Given}
-use Rattle.bank.specs.Tape.{disk}
-use Rattle.sb1.specs.declared.sb.Sb.{Sb}
-use Rattle.geometry.proofs.ClosedForms.{ceiling_below}
-use Rattle.grow_plan.specs.Plans.{phases_steps}
+use Rattle.running_words.specs.md_base_Sectors.{Sector}
+use Rattle.running_words.specs.md_base_Shapes.{stripe_sectors}
+use Rattle.running_words.specs.md_base_the_Refusal.{Refusal}
+use Rattle.running_words.specs.md_base_the_Who.{Who}
+use Rattle.running_words.specs.md_base_the_Shape.{Shape}
+use Rattle.running_words.specs.md_base_the_Span.{Span}
+use Rattle.window_entering.specs.bank_the_Operation.{Operation}
+use Rattle.window_entering.specs.bank_Given.{Given}
+use Rattle.window_entering.specs.bank_Tape.{disk}
+use Rattle.window_entering.specs.sb1_the_Sb.{Sb}
+use Rattle.window_entering.proofs.geometry_ClosedForms.{ceiling_below}
+use Rattle.window_entering.specs.grow_plan_Plans.{phases_steps}
 use Rattle.mending_kept.specs.superblocks_the_Members.{Members}
 use Rattle.mending_kept.specs.superblocks_Reading.{Scope, is_reshaping, is_clean, final_shape, list_length}
 use Rattle.mending_kept.specs.row_io_Rows.{reading_of, present}

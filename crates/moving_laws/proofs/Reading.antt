@@ -6,19 +6,19 @@ use Rattle.std.specs.List.{list_any}
 use Rattle.std.proofs.lemmas.Bool.{cases_lt}
 use Rattle.std.proofs.lemmas.List.{length-take-le}
 use Rattle.std.proofs.lemmas.List.Sums.{fold-append}
-use Rattle.md_base.specs.Sectors.{Sector, sectors_of}
-use Rattle.md_base.specs.Shapes.{tolerance, tolerance_of}
-use Rattle.md_base.specs.declared.answers.Refusal.{Refusal}
-use Rattle.md_base.specs.declared.answers.Refusal.TheVariants.{PastEnd}
-use Rattle.md_base.specs.declared.answers.Who.{Who}
-use Rattle.md_base.specs.declared.places.Shape.{Shape}
-use Rattle.md_base.specs.declared.places.Span.{Span}
-use Rattle.md_base.proofs.SectorLaws.{length-sectors_of}
-use Rattle.bank.specs.declared.bank.Operation.{Operation}
-use Rattle.bank.specs.Given.{Given}
-use Rattle.bank.specs.Tape.{Contents, disk}
-use Rattle.parity.specs.Rows.{sector_of}
-use Rattle.sb1.specs.declared.sb.Sb.{Sb}
+use Rattle.running_words.specs.md_base_Sectors.{Sector, sectors_of}
+use Rattle.running_words.specs.md_base_Shapes.{tolerance, tolerance_of}
+use Rattle.running_words.specs.md_base_the_Refusal.{Refusal}
+use Rattle.running_words.specs.md_base_the_Refusal_TheVariants.{PastEnd}
+use Rattle.running_words.specs.md_base_the_Who.{Who}
+use Rattle.running_words.specs.md_base_the_Shape.{Shape}
+use Rattle.running_words.specs.md_base_the_Span.{Span}
+use Rattle.running_words.proofs.md_base_SectorLaws.{length-sectors_of}
+use Rattle.window_entering.specs.bank_the_Operation.{Operation}
+use Rattle.window_entering.specs.bank_Given.{Given}
+use Rattle.window_entering.specs.bank_Tape.{Contents, disk}
+use Rattle.window_entering.specs.parity_Rows.{sector_of}
+use Rattle.window_entering.specs.sb1_the_Sb.{Sb}
 use Rattle.mending_kept.specs.superblocks_the_Members.{Members}
 use Rattle.mending_kept.specs.superblocks_Reading.{Scope, is_clean, list_length, role_count}
 use Rattle.mending_kept.specs.row_io_Rows.{reading_of, present, is_missing}

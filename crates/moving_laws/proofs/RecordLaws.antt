@@ -1,20 +1,20 @@
 -- A window is recorded, from what `record` of `window_steps` says of it: what is kept, done or refused.
 use Rattle.std.proofs.Common.{◌≡◌, ◌≢◌, inr, ℕ, ◌+◌, ◌<◌, Bool, true, None, Option, Some, List, [], ◌∷◌, ◌++◌, length, sym, ◌∙◌, ap, subst, arith}
 use Rattle.std.specs.Prelude.{MatchOption}
-use Rattle.md_base.specs.Sectors.{Sector, zero_sector}
-use Rattle.md_base.specs.declared.answers.Refusal.{Refusal}
-use Rattle.md_base.specs.declared.answers.Who.{Who}
-use Rattle.md_base.specs.declared.places.Span.{Span}
-use Rattle.bank.specs.declared.bank.Operation.{Operation}
-use Rattle.bank.specs.Given.{Given}
-use Rattle.bank.specs.Tape.{disk}
-use Rattle.grow_plan.specs.Plans.{phases_steps}
-use Rattle.sb1.specs.declared.sb.Sb.{Sb}
+use Rattle.running_words.specs.md_base_Sectors.{Sector, zero_sector}
+use Rattle.running_words.specs.md_base_the_Refusal.{Refusal}
+use Rattle.running_words.specs.md_base_the_Who.{Who}
+use Rattle.running_words.specs.md_base_the_Span.{Span}
+use Rattle.window_entering.specs.bank_the_Operation.{Operation}
+use Rattle.window_entering.specs.bank_Given.{Given}
+use Rattle.window_entering.specs.bank_Tape.{disk}
+use Rattle.window_entering.specs.grow_plan_Plans.{phases_steps}
+use Rattle.window_entering.specs.sb1_the_Sb.{Sb}
 use Rattle.mending_kept.specs.superblocks_the_Members.{Members}
 use Rattle.mending_kept.specs.superblocks_Reading.{Scope, is_clean, is_reshaping, final_shape, next_window, role_count}
 use Rattle.mending_kept.proofs.superblocks_ValidFields.{few-roles}
 use Rattle.mending_kept.specs.row_io_Rows.{present}
-use Rattle.geometry.specs.Geometry.{stripes}
+use Rattle.window_entering.specs.geometry_Geometry.{stripes}
 use Rattle.mending_kept.specs.flat_history_the_Entry.{Entry}
 use Rattle.mending_kept.specs.flat_history_the_Event_TheVariants.{Step, Refused}
 use Rattle.mending_kept.specs.flat_history_the_StepKind_TheVariants.{Checkpointed as RecordsWindow}

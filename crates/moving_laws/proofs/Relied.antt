@@ -2,12 +2,12 @@
 use Rattle.std.proofs.Common.{◌≡◌, ℕ, ◌<◌, ◌≤◌, Bool, true, false, Option, Some, None, List, [], ◌++◌, refl, sym, ◌∙◌, subst, arith, append-nil}
 use Rattle.std.specs.Prelude.{is_some}
 use Rattle.std.specs.List.{list_any}
-use Rattle.md_base.specs.declared.answers.Refusal.{Refusal}
-use Rattle.md_base.specs.declared.answers.Refusal.TheVariants.{NotResynced}
-use Rattle.md_base.specs.declared.answers.Who.{Who}
-use Rattle.bank.specs.declared.bank.Operation.{Operation}
-use Rattle.bank.specs.Given.{Given}
-use Rattle.sb1.specs.declared.sb.Sb.{Sb}
+use Rattle.running_words.specs.md_base_the_Refusal.{Refusal}
+use Rattle.running_words.specs.md_base_the_Refusal_TheVariants.{NotResynced}
+use Rattle.running_words.specs.md_base_the_Who.{Who}
+use Rattle.window_entering.specs.bank_the_Operation.{Operation}
+use Rattle.window_entering.specs.bank_Given.{Given}
+use Rattle.window_entering.specs.sb1_the_Sb.{Sb}
 use Rattle.mending_kept.specs.superblocks_the_Members.{Members}
 use Rattle.mending_kept.specs.superblocks_Reading.{Scope, list_length, role_count}
 use Rattle.mending_kept.specs.row_io_Rows.{reading_of, is_missing}
@@ -21,7 +21,7 @@ use Rattle.mending_kept.specs.flat_history_World.{World}
 use Rattle.mending_kept.specs.shape_views_Regions.{AreShapesFit, place_by}
 use Rattle.mending_kept.specs.views_Moving.{Grows}
 use Rattle.mending_kept.proofs.views_Fit.{force-valid, force-disks}
-use Rattle.layout.proofs.Places.{place-role_below}
+use Rattle.window_entering.proofs.layout_Places.{place-role_below}
 use Rattle.mending_kept.specs.call_entries_Losing.{losses_of}
 use Rattle.mending_kept.proofs.call_entries_CallLaws.{losses-are, ends-losses}
 use Rattle.mending_kept.specs.kept_history_Safe.{world_in}

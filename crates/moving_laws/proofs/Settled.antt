@@ -1,9 +1,9 @@
 -- A flush of an array in a reshape, from what `settle` says of it.
 use Rattle.std.proofs.Common.{◌≡◌, inl, inr, ℕ, Option, Some, List, sym, ap, subst}
 use Rattle.std.specs.Prelude.{MatchOption, ⊤}
-use Rattle.md_base.specs.declared.answers.Refusal.{Refusal}
+use Rattle.running_words.specs.md_base_the_Refusal.{Refusal}
 use Rattle.mending_kept.specs.superblocks_the_Members.{Members}
-use Rattle.bank.specs.declared.bank.Operation.{Operation}
+use Rattle.window_entering.specs.bank_the_Operation.{Operation}
 use Rattle.mending_kept.specs.flat_history_the_Event.{Event}
 use Rattle.mending_kept.specs.flat_history_Flat.{length_after, limit_after}
 use Rattle.mending_kept.specs.shape_changes_Safety.{IsRisen}

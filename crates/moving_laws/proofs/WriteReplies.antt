@@ -5,12 +5,12 @@ use Rattle.std.specs.List.{All}
 use Rattle.std.proofs.lemmas.List.{reverse-append}
 use Rattle.std.proofs.lemmas.List.Elements.{All-nil, All-cons, All-append}
 use Rattle.std.proofs.lemmas.List.Sums.{fold-append}
-use Rattle.md_base.specs.Sectors.{Sector}
-use Rattle.md_base.specs.declared.answers.Fault.{Fault as AnyFault}
-use Rattle.md_base.specs.declared.answers.Fault.TheVariants.{Refused as IsRefusedWith, NoMemory}
-use Rattle.md_base.specs.declared.answers.Refusal.{Refusal}
-use Rattle.md_base.specs.declared.answers.Refusal.TheVariants.{PastEnd}
-use Rattle.md_base.specs.declared.answers.Who.{Who}
+use Rattle.running_words.specs.md_base_Sectors.{Sector}
+use Rattle.running_words.specs.md_base_the_Fault.{Fault as AnyFault}
+use Rattle.running_words.specs.md_base_the_Fault_TheVariants.{Refused as IsRefusedWith, NoMemory}
+use Rattle.running_words.specs.md_base_the_Refusal.{Refusal}
+use Rattle.running_words.specs.md_base_the_Refusal_TheVariants.{PastEnd}
+use Rattle.running_words.specs.md_base_the_Who.{Who}
 use Rattle.mending_kept.specs.superblocks_the_Members.{Members}
 use Rattle.mending_kept.specs.flat_history_the_Entry.{Entry}
 use Rattle.mending_kept.specs.flat_history_the_Event.{Event}

@@ -1,12 +1,12 @@
 -- What an array in a reshape keeps between its calls.
 use Rattle.std.specs.Prelude.{◌≡◌, ℕ, ◌-◌, ◌*◌, ◌<◌, ◌≤◌, false, List, [], length, take, Option}
-use Rattle.md_base.specs.Shapes.{has_slot}
-use Rattle.md_base.specs.declared.places.Span.{Span}
-use Rattle.bank.specs.declared.bank.Operation.{Operation}
-use Rattle.bank.specs.Given.{Given}
+use Rattle.running_words.specs.md_base_Shapes.{has_slot}
+use Rattle.running_words.specs.md_base_the_Span.{Span}
+use Rattle.window_entering.specs.bank_the_Operation.{Operation}
+use Rattle.window_entering.specs.bank_Given.{Given}
 use Rattle.mending_kept.specs.superblocks_the_Members.{Members}
 use Rattle.mending_kept.specs.superblocks_Reading.{Scope, final_shape, list_length}
-use Rattle.grow_plan.specs.Plans.{AreSound}
+use Rattle.window_entering.specs.grow_plan_Plans.{AreSound}
 use Rattle.mending_kept.specs.flat_history_the_Entry.{Entry}
 use Rattle.mending_kept.specs.flat_history_Flat.{length_of, limit_of}
 use Rattle.mending_kept.specs.flat_history_Stands.{reach_of}

@@ -1,8 +1,8 @@
 -- Which refusal of a read or a write of an array in a reshape is the first.
 use Rattle.std.specs.Prelude.{ℕ, ◌≡◌, ◌+◌, Option, Some, None, Result, Ok, Err, ⊤}
-use Rattle.md_base.specs.declared.answers.Fault.{Fault}
-use Rattle.md_base.specs.declared.answers.Fault.TheVariants.{Refused as IsRefusedWith, NoMemory}
-use Rattle.md_base.specs.declared.answers.Refusal.{Refusal}
+use Rattle.running_words.specs.md_base_the_Fault.{Fault}
+use Rattle.running_words.specs.md_base_the_Fault_TheVariants.{Refused as IsRefusedWith, NoMemory}
+use Rattle.running_words.specs.md_base_the_Refusal.{Refusal}
 use Rattle.running_words.specs.moving_state_First.{list_refusal}
 use Rattle.running_words.specs.safe_updates_First.{call_refusal}
 use Rattle.running_words.specs.Parts.{RunningParts, visible_in}

@@ -1,6 +1,6 @@
 -- Which step of an array in a reshape is done next, what it makes of a pending resync and of the mark, and why it isn't done.
 use Rattle.std.specs.Prelude.{◌≡◌, ℕ, true, Option, Some, None, Result, OnOk}
-use Rattle.md_base.specs.declared.answers.Fault.{Fault}
+use Rattle.running_words.specs.md_base_the_Fault.{Fault}
 use Rattle.mending_kept.specs.superblocks_the_Members.{Members}
 use Rattle.mending_kept.specs.superblocks_Reading.{is_clean, list_length}
 use Rattle.mending_kept.specs.flat_history_the_StepKind.{StepKind}

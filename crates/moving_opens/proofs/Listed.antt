@@ -5,21 +5,21 @@ use Rattle.std.proofs.lemmas.Bool.{cases_lt}
 use Rattle.std.proofs.lemmas.Bool.Decides.{nat_tests}
 use Rattle.std.proofs.lemmas.Nat.{mul-le}
 use Rattle.std.proofs.Math.Nat.{div-mul-le_self}
-use Rattle.md_base.specs.declared.places.Shape.{Shape}
-use Rattle.md_base.specs.declared.places.Side.{Side}
-use Rattle.md_base.specs.declared.places.Side.TheVariants.{Old, New}
-use Rattle.md_base.specs.declared.places.Span.{Span}
-use Rattle.md_base.specs.Sectors.{Sector, zero_sector}
-use Rattle.md_base.specs.Shapes.{stripe_sectors}
-use Rattle.bank.specs.Given.{Given, sizes}
-use Rattle.bank.specs.Tape.{Contents}
-use Rattle.layout.specs.Layout.{place, row_roles}
-use Rattle.layout.proofs.Places.{chunk_some, place-role_below}
-use Rattle.parity.specs.Parity.{Row, fill}
-use Rattle.parity.specs.Rows.{IsSector}
-use Rattle.parity.proofs.Columns.{tabulate-same}
-use Rattle.geometry.specs.Geometry as geometry
-use Rattle.geometry.specs.Geometry.{side}
+use Rattle.moving_kept.specs.md_base_the_Shape.{Shape}
+use Rattle.found_members.specs.md_base_the_Side.{Side}
+use Rattle.found_members.specs.md_base_the_Side_TheVariants.{Old, New}
+use Rattle.moving_kept.specs.md_base_the_Span.{Span}
+use Rattle.moving_kept.specs.md_base_Sectors.{Sector, zero_sector}
+use Rattle.moving_kept.specs.md_base_Shapes.{stripe_sectors}
+use Rattle.moving_kept.specs.bank_Given.{Given, sizes}
+use Rattle.moving_kept.specs.bank_Tape.{Contents}
+use Rattle.moving_kept.specs.layout_Layout.{place, row_roles}
+use Rattle.moving_kept.proofs.layout_Places.{chunk_some, place-role_below}
+use Rattle.moving_kept.specs.parity_Parity.{Row, fill}
+use Rattle.moving_kept.specs.parity_Rows.{IsSector}
+use Rattle.moving_kept.proofs.parity_Columns.{tabulate-same}
+use Rattle.moving_kept.specs.geometry_Geometry as geometry
+use Rattle.moving_kept.specs.geometry_Geometry.{side}
 use Rattle.moving_kept.specs.superblocks_the_Members.{Members}
 use Rattle.moving_kept.specs.superblocks_Reading.{Scope, Reading, reading, is_reshaping, is_backward, shape_of, final_shape, list_length, next_window, data_offset_of}
 use Rattle.moving_kept.specs.superblocks_Election.{reading_in}

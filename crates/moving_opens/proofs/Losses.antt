@@ -4,10 +4,10 @@ use Rattle.std.specs.List.{list_any}
 use Rattle.std.proofs.lemmas.Bool.{cases_lt}
 use Rattle.std.proofs.lemmas.Bool.Decides.{nat_tests}
 use Rattle.std.proofs.lemmas.List.Folds.{list_any-append}
-use Rattle.md_base.specs.declared.answers.Who.{Who}
-use Rattle.md_base.specs.declared.status.Role.{Role}
-use Rattle.md_base.specs.declared.status.Role.TheVariants.{Whole, Recovering, Missing}
-use Rattle.md_base.specs.Sectors.{Sector}
+use Rattle.moving_kept.specs.md_base_the_Who.{Who}
+use Rattle.moving_kept.specs.md_base_the_Role.{Role}
+use Rattle.moving_kept.specs.md_base_the_Role_TheVariants.{Whole, Recovering, Missing}
+use Rattle.moving_kept.specs.md_base_Sectors.{Sector}
 use Rattle.moving_kept.specs.superblocks_Reading.{Reading, role_state, is_whole}
 use Rattle.moving_kept.specs.row_io_Rows.{is_missing}
 use Rattle.moving_kept.specs.flat_history_the_Entry.{Entry}

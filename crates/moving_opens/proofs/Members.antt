@@ -1,9 +1,9 @@
 -- The members that an opening finds of an array in a reshape, without the slots that recover a role.
 use Rattle.std.proofs.Common.{◌≡◌, ℕ, ◌||◌, ◌&&◌, nat_lt, Bool, true, false, List, length, take, get_or, Option, Some, None, refl, sym, ◌∙◌, ap}
-use Rattle.md_base.specs.declared.status.Role.TheVariants.{Recovering}
-use Rattle.md_base.specs.Shapes.{has_slot}
-use Rattle.sb1.specs.declared.sb.Sb.{Sb}
-use Rattle.bank.specs.Given.{Given, sizes}
+use Rattle.moving_kept.specs.md_base_the_Role_TheVariants.{Recovering}
+use Rattle.moving_kept.specs.md_base_Shapes.{has_slot}
+use Rattle.moving_kept.specs.sb1_the_Sb.{Sb}
+use Rattle.moving_kept.specs.bank_Given.{Given, sizes}
 use Rattle.moving_kept.specs.superblocks_the_Members.{Members}
 use Rattle.moving_kept.specs.superblocks_Reading.{is_reshaping, role_state, holder}
 use Rattle.moving_kept.specs.superblocks_Election.{reading_in}

@@ -3,18 +3,18 @@ use Rattle.std.proofs.Common.{◌≡◌, inl, inr, ℕ, ◌+◌, ◌<◌, ◌≤
 use Rattle.std.specs.Prelude.{slice_index_or, is_some, IsSome, IsTrue, ⊤}
 use Rattle.std.specs.Option.{option_map_or}
 use Rattle.std.proofs.lemmas.Bool.Decides.{nat_tests}
-use Rattle.md_base.specs.declared.answers.Refusal.{Refusal}
-use Rattle.md_base.specs.declared.answers.Refusal.TheVariants.{BackupAbsent}
-use Rattle.md_base.specs.declared.places.Span.{Span}
-use Rattle.md_base.specs.declared.status.Role.{Role}
-use Rattle.md_base.specs.declared.status.Role.TheVariants.{Whole, Recovering, Missing}
-use Rattle.md_base.specs.Sectors.{Sector}
-use Rattle.md_base.specs.Shapes.{has_slot, tolerance, tolerance_of}
-use Rattle.bank.specs.declared.bank.Operation.{Operation}
-use Rattle.bank.specs.Given.{Given, sizes}
-use Rattle.bank.specs.Tape.{Contents, IsIn, disk}
-use Rattle.bank.proofs.Whole.{sectors-whole}
-use Rattle.backup.specs.Section.{is_header_of, names_span}
+use Rattle.moving_kept.specs.md_base_the_Refusal.{Refusal}
+use Rattle.found_members.specs.md_base_the_Refusal_TheVariants.{BackupAbsent}
+use Rattle.moving_kept.specs.md_base_the_Span.{Span}
+use Rattle.moving_kept.specs.md_base_the_Role.{Role}
+use Rattle.moving_kept.specs.md_base_the_Role_TheVariants.{Whole, Recovering, Missing}
+use Rattle.moving_kept.specs.md_base_Sectors.{Sector}
+use Rattle.moving_kept.specs.md_base_Shapes.{has_slot, tolerance, tolerance_of}
+use Rattle.moving_kept.specs.bank_the_Operation.{Operation}
+use Rattle.moving_kept.specs.bank_Given.{Given, sizes}
+use Rattle.moving_kept.specs.bank_Tape.{Contents, IsIn, disk}
+use Rattle.moving_kept.proofs.bank_Whole.{sectors-whole}
+use Rattle.moving_kept.specs.backup_Section.{is_header_of, names_span}
 use Rattle.moving_kept.specs.superblocks_the_Members.{Members}
 use Rattle.moving_kept.specs.superblocks_Election.{reading_in}
 use Rattle.moving_kept.specs.superblocks_Reading.{Scope, Reading, reading, is_reshaping, is_clean, is_whole, shape_of, list_length, role_count, role_state, holder}

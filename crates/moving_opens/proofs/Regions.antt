@@ -4,18 +4,18 @@ use Rattle.std.specs.Int.{◌∣◌}
 use Rattle.std.proofs.lemmas.Bool.{cases_lt}
 use Rattle.std.proofs.lemmas.Bool.Decides.{nat_tests}
 use Rattle.std.proofs.Math.Nat.{dvd-add, dvd_refl, dvd-mul_left}
-use Rattle.md_base.specs.declared.places.Shape.{Shape}
-use Rattle.md_base.specs.declared.places.Side.{Side}
-use Rattle.md_base.specs.declared.places.Side.TheVariants.{Old, New}
-use Rattle.md_base.specs.declared.places.Span.{Span}
-use Rattle.md_base.specs.Shapes.{data_disks, is_multiple, tolerance, tolerance_of}
-use Rattle.sb1.specs.declared.sb.Sb.{Sb}
-use Rattle.layout.specs.Layout.{place, stripe_of}
-use Rattle.layout.proofs.Places.{chunk_some, data_some, stripe_of-row, place-sector_below}
-use Rattle.geometry.proofs.Divisions.{floor_grows}
-use Rattle.geometry.specs.Geometry.{unit, side, row_at, window}
-use Rattle.region_laws.specs.Regions.{IsUnderWay}
-use Rattle.region_laws.proofs.RegionLaws.{IsDivided, by-old, by-new, forward-is, backward-is}
+use Rattle.moving_kept.specs.md_base_the_Shape.{Shape}
+use Rattle.found_members.specs.md_base_the_Side.{Side}
+use Rattle.found_members.specs.md_base_the_Side_TheVariants.{Old, New}
+use Rattle.moving_kept.specs.md_base_the_Span.{Span}
+use Rattle.moving_kept.specs.md_base_Shapes.{data_disks, is_multiple, tolerance, tolerance_of}
+use Rattle.moving_kept.specs.sb1_the_Sb.{Sb}
+use Rattle.moving_kept.specs.layout_Layout.{place, stripe_of}
+use Rattle.moving_kept.proofs.layout_Places.{chunk_some, data_some, stripe_of-row, place-sector_below}
+use Rattle.moving_kept.proofs.geometry_Divisions.{floor_grows}
+use Rattle.moving_kept.specs.geometry_Geometry.{unit, side, row_at, window}
+use Rattle.moving_kept.specs.region_laws_Regions.{IsUnderWay}
+use Rattle.found_members.proofs.region_laws_RegionLaws.{IsDivided, by-old, by-new, forward-is, backward-is}
 use Rattle.moving_kept.specs.superblocks_Reading.{is_reshaping, is_backward, shape_of, final_shape, list_length, next_window}
 use Rattle.moving_kept.specs.flat_history_Stands.{shape_at, shape_for, covers}
 use Rattle.moving_kept.specs.shape_views_Regions.{AreShapesFit}

@@ -1,12 +1,12 @@
 -- What an opening finds of an array in a reshape is seen right by what it tells: a stop leaves what is there, and nothing else.
 use Rattle.std.proofs.Common.{◌≡◌, inl, inr, ℕ, suc, zero, ◌+◌, ◌<◌, Bool, true, false, List, [], ◌∷◌, length, take, drop, Some, refl, sym, ◌∙◌, ap, subst, arith}
 use Rattle.std.specs.Prelude.{slice_index_or}
-use Rattle.md_base.specs.Sectors.{Sector, zero_sector}
-use Rattle.md_base.specs.Shapes.{has_slot}
-use Rattle.bank.specs.declared.bank.Operation.{Operation}
-use Rattle.bank.specs.Given.{Given}
-use Rattle.bank.specs.Tape.{IsIn, disk}
-use Rattle.layout.specs.Layout.{place}
+use Rattle.moving_kept.specs.md_base_Sectors.{Sector, zero_sector}
+use Rattle.moving_kept.specs.md_base_Shapes.{has_slot}
+use Rattle.moving_kept.specs.bank_the_Operation.{Operation}
+use Rattle.moving_kept.specs.bank_Given.{Given}
+use Rattle.moving_kept.specs.bank_Tape.{IsIn, disk}
+use Rattle.moving_kept.specs.layout_Layout.{place}
 use Rattle.moving_kept.specs.superblocks_the_Members.{Members}
 use Rattle.moving_kept.specs.superblocks_Election.{reading_in}
 use Rattle.moving_kept.specs.superblocks_Reading.{Scope, reading, is_clean, final_shape, role_count, list_length, data_offset_of}

@@ -4,20 +4,20 @@ use Rattle.std.specs.Option.{option_map_or}
 use Rattle.std.proofs.lemmas.Bool.{cases_lt}
 use Rattle.std.proofs.lemmas.Bool.Decides.{nat_tests}
 use Rattle.std.proofs.lemmas.List.{get_or_past, get_or-replicate, length-replicate}
-use Rattle.md_base.specs.declared.places.Place.{Place}
-use Rattle.md_base.specs.declared.places.RowRoles.{RowRoles}
-use Rattle.md_base.specs.declared.places.Shape.{Shape}
-use Rattle.md_base.specs.Sectors.{Sector, zero_sector}
-use Rattle.md_base.specs.Shapes.{is_valid_shape}
-use Rattle.bank.specs.Given.{Given, Sizes, sizes}
-use Rattle.bank.specs.Tape.{Contents}
-use Rattle.layout.specs.Layout.{place, row_roles}
-use Rattle.layout.proofs.Places.{place-role_below}
-use Rattle.parity.specs.Fills.{IsGoodBut}
-use Rattle.parity.specs.Parity.{Row, fill, lacking_in, AreEquationsMet}
-use Rattle.parity.specs.Rows.{IsSector, row_without, whole_row, filled_sector}
-use Rattle.parity.proofs.OwnFills.{fills-are-own}
-use Rattle.parity.proofs.Refilled.{filled-sector, good-filled}
+use Rattle.found_members.specs.md_base_the_Place.{Place}
+use Rattle.found_members.specs.md_base_the_RowRoles.{RowRoles}
+use Rattle.moving_kept.specs.md_base_the_Shape.{Shape}
+use Rattle.moving_kept.specs.md_base_Sectors.{Sector, zero_sector}
+use Rattle.moving_kept.specs.md_base_Shapes.{is_valid_shape}
+use Rattle.moving_kept.specs.bank_Given.{Given, Sizes, sizes}
+use Rattle.moving_kept.specs.bank_Tape.{Contents}
+use Rattle.moving_kept.specs.layout_Layout.{place, row_roles}
+use Rattle.moving_kept.proofs.layout_Places.{place-role_below}
+use Rattle.moving_kept.specs.parity_Fills.{IsGoodBut}
+use Rattle.moving_kept.specs.parity_Parity.{Row, fill, lacking_in, AreEquationsMet}
+use Rattle.moving_kept.specs.parity_Rows.{IsSector, row_without, whole_row, filled_sector}
+use Rattle.moving_kept.proofs.parity_OwnFills.{fills-are-own}
+use Rattle.moving_kept.proofs.parity_Refilled.{filled-sector, good-filled}
 use Rattle.moving_kept.specs.superblocks_the_Members.{Members}
 use Rattle.moving_kept.specs.superblocks_Reading.{Scope, Reading, role_state, holder, data_offset_of}
 use Rattle.moving_kept.specs.row_io_Rows.{reading_of, is_held, held_slot, held_sector, held_row, standing_sector, IsTolerated}

@@ -1,10 +1,10 @@
 -- What an opening finds of an array in a reshape, and that this is what such an array keeps.
 use Rattle.std.specs.Prelude.{◌≡◌, ℕ, Bool, true, List, length, if◌then◌else◌, Option, Some, None}
-use Rattle.sb1.specs.declared.sb.Sb.{Sb}
-use Rattle.bank.specs.declared.bank.Operation.{Operation}
-use Rattle.bank.specs.Given.{Given}
-use Rattle.bank.specs.Tape.{disk}
-use Rattle.bank.specs.Whole.{HasWholeSectors}
+use Rattle.moving_kept.specs.sb1_the_Sb.{Sb}
+use Rattle.moving_kept.specs.bank_the_Operation.{Operation}
+use Rattle.moving_kept.specs.bank_Given.{Given}
+use Rattle.moving_kept.specs.bank_Tape.{disk}
+use Rattle.moving_kept.specs.bank_Whole.{HasWholeSectors}
 use Rattle.moving_kept.specs.superblocks_the_Members.{Members}
 use Rattle.moving_kept.specs.superblocks_Reading.{Scope, is_reshaping, is_clean, role_count}
 use Rattle.moving_kept.specs.superblocks_Update.{own_in}

@@ -14,4 +14,5 @@ pub fn openings_move()
     ensures { OpeningsMove ⊤ }
 {}
 
+pub use moving_kept::{PhasesLeft, Window};
 pub use reshape_openings::{find_window, lose_recovering};

@@ -3,14 +3,14 @@ use Rattle.std.proofs.Common.{◌≡◌, inl, inr, ℕ, ◌<◌, ◌≤◌, nat_
 use Rattle.std.specs.Prelude.{IfSome}
 use Rattle.std.proofs.lemmas.Bool.{cases_lt}
 use Rattle.std.proofs.lemmas.Bool.Decides.{nat_tests}
-use Rattle.md_base.specs.declared.places.Span.{Span}
-use Rattle.sb1.specs.declared.sb.Sb.{Sb}
-use Rattle.superblocks.specs.Reading.{is_reshaping, next_window}
+use Rattle.course_kept.specs.md_base_the_Span.{Span}
+use Rattle.course_kept.specs.sb1_the_Sb.{Sb}
+use Rattle.course_kept.specs.superblocks_Reading.{is_reshaping, next_window}
 use Rattle.course_kept.specs.shape_views_Regions.{AreShapesFit}
 use Rattle.region_mends.specs.Mends.{mend_stripes}
-use Rattle.grow_asked.specs.declared.window.Window.{Window}
-use Rattle.grow_asked.specs.declared.window.Window.TheVariants.{Closed, Entered, Unsure}
-use Rattle.grow_asked.specs.Left.{stripes_in, zeroed_by}
+use Rattle.course_kept.specs.grow_asked_the_Window.{Window}
+use Rattle.course_kept.specs.grow_asked_the_Window_TheVariants.{Closed, Entered, Unsure}
+use Rattle.course_kept.specs.grow_asked_Left.{stripes_in, zeroed_by}
 use Rattle.course_kept.specs.declared.course.Course.{Course}
 use Rattle.course_kept.specs.Course.{IsCourseOf}
 use Rattle.moving_state.specs.declared.stepping.Due.{Due}

@@ -3,16 +3,16 @@ use Rattle.std.proofs.Common.{◌≡◌, ◌⊎◌, ◌↔◌, inl, inr, ℕ, �
 use Rattle.std.specs.Prelude.{MatchOption, ⊤}
 use Rattle.std.proofs.lemmas.Bool.{cases_lt}
 use Rattle.std.proofs.lemmas.Bool.Decides.{nat_tests}
-use Rattle.md_base.proofs.Least.{least_below-none}
-use Rattle.md_base.specs.Shapes.{tolerance}
-use Rattle.md_base.specs.declared.places.Shape.{Shape}
-use Rattle.md_base.specs.declared.places.Span.{Span}
-use Rattle.md_base.specs.declared.answers.Refusal.{Refusal}
-use Rattle.md_base.specs.declared.answers.Refusal.TheVariants.{PastEnd, NotResynced as Unsynced}
-use Rattle.geometry.specs.Geometry.{IsIn}
-use Rattle.layout.specs.Layout.{place}
-use Rattle.superblocks.specs.declared.members.Members.{Members}
-use Rattle.superblocks.proofs.Searches.{least_below-first}
+use Rattle.array_kept.proofs.md_base_Least.{least_below-none}
+use Rattle.array_kept.specs.md_base_Shapes.{tolerance}
+use Rattle.array_kept.specs.md_base_the_Shape.{Shape}
+use Rattle.course_kept.specs.md_base_the_Span.{Span}
+use Rattle.array_kept.specs.md_base_the_Refusal.{Refusal}
+use Rattle.array_kept.specs.md_base_the_Refusal_TheVariants.{PastEnd, NotResynced as Unsynced}
+use Rattle.course_kept.specs.geometry_Geometry.{IsIn}
+use Rattle.course_kept.specs.layout_Layout.{place}
+use Rattle.course_kept.specs.superblocks_the_Members.{Members}
+use Rattle.course_kept.proofs.superblocks_Searches.{least_below-first}
 use Rattle.course_kept.specs.flat_history_Stands.{covers, shape_for}
 use Rattle.course_kept.specs.shape_views_Regions.{AreShapesFit, place_by}
 use Rattle.course_kept.specs.views_Lacking.{lacking, too_many, DoesWithout, LacksTooMany, IsNotResynced}

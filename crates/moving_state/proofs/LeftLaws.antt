@@ -2,19 +2,19 @@
 use Rattle.std.proofs.Common.{◌≡◌, ℕ, ◌+◌, ◌-◌, ◌<◌, ◌≤◌, true, [], Option, None, refl, sym, ◌∙◌, ap, subst, arith}
 use Rattle.std.specs.Prelude.{MatchOption}
 use Rattle.std.proofs.lemmas.Bool.{cond-true}
-use Rattle.md_base.specs.declared.places.Span.{Span}
-use Rattle.sb1.specs.declared.sb.Sb.{Sb}
-use Rattle.geometry.specs.Geometry.{stripes, steps_of, window, window_steps, beyond}
-use Rattle.geometry.proofs.GoingOn.{steps_fall}
-use Rattle.grow_plan.specs.Plans.{phases_steps}
-use Rattle.superblocks.specs.Reading.{is_reshaping, is_backward, shape_of, final_shape}
+use Rattle.course_kept.specs.md_base_the_Span.{Span}
+use Rattle.course_kept.specs.sb1_the_Sb.{Sb}
+use Rattle.course_kept.specs.geometry_Geometry.{stripes, steps_of, window, window_steps, beyond}
+use Rattle.course_kept.proofs.geometry_GoingOn.{steps_fall}
+use Rattle.array_kept.specs.grow_plan_Plans.{phases_steps}
+use Rattle.course_kept.specs.superblocks_Reading.{is_reshaping, is_backward, shape_of, final_shape}
 use Rattle.course_kept.specs.shape_views_Regions.{AreShapesFit}
 use Rattle.course_kept.specs.shape_views_Windows.{moved_past}
 use Rattle.course_kept.specs.views_Placed.{HaveSameReshape}
-use Rattle.grow_asked.specs.declared.window.Window.{Window}
-use Rattle.grow_asked.specs.declared.window.Window.TheVariants.{Closed, Entered, Unsure}
-use Rattle.grow_asked.specs.Left.{steps_from, stripes_in, zeroed_by, reshape_left, grow_left, IsPast, IsWindowRight}
-use Rattle.grow_asked.proofs.LeftLaws.{entering, copying, recording, finishing, zeroing}
+use Rattle.course_kept.specs.grow_asked_the_Window.{Window}
+use Rattle.course_kept.specs.grow_asked_the_Window_TheVariants.{Closed, Entered, Unsure}
+use Rattle.course_kept.specs.grow_asked_Left.{steps_from, stripes_in, zeroed_by, reshape_left, grow_left, IsPast, IsWindowRight}
+use Rattle.course_kept.proofs.grow_asked_LeftLaws.{entering, copying, recording, finishing, zeroing}
 use Rattle.course_kept.specs.Course.{IsWindowOf}
 use Rattle.course_kept.specs.Laws.{entered, closed}
 use Rattle.course_kept.specs.window_steps_Zeroing.{IsThrough}

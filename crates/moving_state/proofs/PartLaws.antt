@@ -1,8 +1,8 @@
 -- Which sectors of a request lie in a span.
 use Rattle.std.proofs.Common.{◌≡◌, inl, inr, ℕ, ◌<◌, ◌≤◌, ◌&&◌, nat_le, nat_lt, max, min, Bool, true, false, ◌↔◌, Option, Some, refl, sym, ◌∙◌, arith}
 use Rattle.std.proofs.lemmas.Bool.Decides.{nat_tests}
-use Rattle.md_base.specs.declared.places.Span.{Span}
-use Rattle.geometry.specs.Geometry.{IsIn}
+use Rattle.course_kept.specs.md_base_the_Span.{Span}
+use Rattle.course_kept.specs.geometry_Geometry.{IsIn}
 use Rattle.course_kept.specs.flat_history_Stands.{covers}
 use Rattle.course_kept.proofs.shape_views_UnderWay.{in-or-out}
 

@@ -2,19 +2,19 @@
 use Rattle.std.proofs.Common.{◌≡◌, ℕ, ◌+◌, ◌-◌, ◌*◌, ◌/◌, ◌^◌, ◌<◌, ◌≤◌, ◌==◌, nat_le, min, Bool, true, false, cond, if◌then◌else◌, Option, Some, None, IfSome, IfNone, IsTrue, refl, sym, ◌∙◌, ap, subst, arith, eqb-true}
 use Rattle.std.proofs.lemmas.Bool.{cond-true}
 use Rattle.std.proofs.lemmas.Bool.Decides.{nat_tests}
-use Rattle.md_base.specs.declared.places.Shape.{Shape}
-use Rattle.md_base.specs.declared.places.Span.{Span}
-use Rattle.md_base.specs.Shapes.{is_valid_shape, stripe_sectors}
-use Rattle.sb1.specs.declared.sb.Sb.{Sb}
-use Rattle.geometry.specs.Geometry.{AreInForce, unit, list_end, window, ceiling}
-use Rattle.geometry.proofs.Divisions.{quotient}
-use Rattle.geometry.proofs.Valid.{the_unit, bounded_pair}
-use Rattle.superblocks.specs.Reading.{is_reshaping, is_backward, shape_of, final_shape, list_length, next_window}
+use Rattle.array_kept.specs.md_base_the_Shape.{Shape}
+use Rattle.course_kept.specs.md_base_the_Span.{Span}
+use Rattle.array_kept.specs.md_base_Shapes.{is_valid_shape, stripe_sectors}
+use Rattle.course_kept.specs.sb1_the_Sb.{Sb}
+use Rattle.course_kept.specs.geometry_Geometry.{AreInForce, unit, list_end, window, ceiling}
+use Rattle.course_kept.proofs.geometry_Divisions.{quotient}
+use Rattle.course_kept.proofs.geometry_Valid.{the_unit, bounded_pair}
+use Rattle.course_kept.specs.superblocks_Reading.{is_reshaping, is_backward, shape_of, final_shape, list_length, next_window}
 use Rattle.course_kept.specs.flat_history_Stands.{reach_of}
 use Rattle.course_kept.specs.shape_views_Regions.{AreShapesFit}
 use Rattle.course_kept.proofs.shape_views_Stands.{window-inside}
 use Rattle.course_kept.proofs.shape_views_UnderWay.{is-reshaping, window-is}
-use Rattle.grow_asked.specs.Left.{zeroed_by, IsReshapeUnderWay}
+use Rattle.course_kept.specs.grow_asked_Left.{zeroed_by, IsReshapeUnderWay}
 use Rattle.course_kept.specs.window_steps_Zeroing.{IsThrough}
 
 -- ---- the shapes in force

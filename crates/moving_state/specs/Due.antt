@@ -1,11 +1,11 @@
 -- Which window of a reshape is open, and which step is next.
 use Rattle.std.specs.Prelude.{◌≡◌, ◌⊎◌, ℕ, ◌<◌, nat_lt, Bool, if◌then◌else◌, is_some, Option, Some, None}
-use Rattle.md_base.specs.declared.places.Span.{Span}
-use Rattle.sb1.specs.declared.sb.Sb.{Sb}
-use Rattle.superblocks.specs.Reading.{next_window}
-use Rattle.grow_asked.specs.declared.window.Window.{Window}
-use Rattle.grow_asked.specs.declared.window.Window.TheVariants.{Closed, Entered, Unsure}
-use Rattle.grow_asked.specs.Left.{stripes_in, zeroed_by}
+use Rattle.course_kept.specs.md_base_the_Span.{Span}
+use Rattle.course_kept.specs.sb1_the_Sb.{Sb}
+use Rattle.course_kept.specs.superblocks_Reading.{next_window}
+use Rattle.course_kept.specs.grow_asked_the_Window.{Window}
+use Rattle.course_kept.specs.grow_asked_the_Window_TheVariants.{Closed, Entered, Unsure}
+use Rattle.course_kept.specs.grow_asked_Left.{stripes_in, zeroed_by}
 use Rattle.course_kept.specs.window_steps_Zeroing.{IsThrough}
 use Rattle.region_mends.specs.Mends.{mend_stripes}
 use Rattle.course_kept.specs.declared.course.Course.{Course}

@@ -1,10 +1,10 @@
 -- Why sectors of the list of an array in a reshape aren't read or written.
 use Rattle.std.specs.Prelude.{◌≡◌, ◌⊎◌, ℕ, ◌+◌, ◌<◌, ◌≤◌, Bool, false, Option, option_map}
-use Rattle.md_base.specs.Search.{least_below}
-use Rattle.md_base.specs.declared.answers.Refusal.{Refusal}
-use Rattle.md_base.specs.declared.answers.Refusal.TheVariants.{NotResynced as Unsynced}
-use Rattle.md_base.specs.declared.places.Span.{Span}
-use Rattle.superblocks.specs.declared.members.Members.{Members}
+use Rattle.array_kept.specs.md_base_Search.{least_below}
+use Rattle.array_kept.specs.md_base_the_Refusal.{Refusal}
+use Rattle.array_kept.specs.md_base_the_Refusal_TheVariants.{NotResynced as Unsynced}
+use Rattle.course_kept.specs.md_base_the_Span.{Span}
+use Rattle.course_kept.specs.superblocks_the_Members.{Members}
 use Rattle.course_kept.specs.flat_history_Stands.{covers, shape_for}
 use Rattle.course_kept.specs.shape_views_Regions.{place_by}
 use Rattle.course_kept.specs.views_Lacking.{too_many, LacksTooMany}

@@ -1,14 +1,14 @@
 -- How much of the list is visible, and the steps that are left of an array in a reshape.
 use Rattle.std.specs.Prelude.{◌≡◌, ℕ, ◌+◌, ◌-◌, ◌<◌, min, Bool, true, List, Option, Some}
 use Rattle.std.specs.Option.{option_map_or}
-use Rattle.md_base.specs.declared.places.Span.{Span}
-use Rattle.md_base.specs.declared.wishes.Phase.{Phase}
-use Rattle.bank.specs.Given.{Given}
-use Rattle.sb1.specs.declared.sb.Sb.{Sb}
-use Rattle.superblocks.specs.declared.members.Members.{Members}
-use Rattle.superblocks.specs.Reading.{is_reshaping, final_shape, next_window}
-use Rattle.grow_plan.specs.Plans.{phases_steps}
-use Rattle.grow_asked.specs.Left.{stripes_in, zeroed_by, reshape_left, grow_left}
+use Rattle.course_kept.specs.md_base_the_Span.{Span}
+use Rattle.array_kept.specs.md_base_the_Phase.{Phase}
+use Rattle.course_kept.specs.bank_Given.{Given}
+use Rattle.course_kept.specs.sb1_the_Sb.{Sb}
+use Rattle.course_kept.specs.superblocks_the_Members.{Members}
+use Rattle.course_kept.specs.superblocks_Reading.{is_reshaping, final_shape, next_window}
+use Rattle.array_kept.specs.grow_plan_Plans.{phases_steps}
+use Rattle.course_kept.specs.grow_asked_Left.{stripes_in, zeroed_by, reshape_left, grow_left}
 use Rattle.course_kept.specs.shape_views_Regions.{AreShapesFit}
 use Rattle.course_kept.specs.shape_views_Windows.{moved_past}
 use Rattle.course_kept.specs.views_Moving.{IsMoved}

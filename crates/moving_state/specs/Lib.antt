@@ -30,8 +30,8 @@ pub use Rattle.course_kept.specs.shape_changes_Safety
 pub use Rattle.course_kept.specs.shape_changes_Steady
 pub use Rattle.course_kept.specs.flat_history_Stands
 pub use Rattle.course_kept.specs.flat_history_ActiveSection
-pub use Rattle.grow_asked.specs.declared.window.PhasesLeft as grow_asked_the_PhasesLeft
-pub use Rattle.grow_asked.specs.Left as grow_asked_Left
+pub use Rattle.course_kept.specs.grow_asked_the_PhasesLeft
+pub use Rattle.course_kept.specs.grow_asked_Left
 pub use Rattle.course_kept.specs.flat_history_the_Entry
 pub use Rattle.course_kept.specs.flat_history_the_Epoch
 pub use Rattle.course_kept.specs.flat_history_the_Event_TheVariants
@@ -52,10 +52,28 @@ pub use Rattle.course_kept.specs.flat_history_Flat
 pub use Rattle.course_kept.specs.flat_history_the_Request
 pub use Rattle.course_kept.specs.flat_history_Transfers
 pub use Rattle.course_kept.specs.row_io_Rows
-pub use Rattle.superblocks.specs.declared.members.Members as superblocks_the_Members
-pub use Rattle.superblocks.specs.Reads as superblocks_Reads
-pub use Rattle.superblocks.specs.Reading as superblocks_Reading
+pub use Rattle.course_kept.specs.superblocks_the_Members
+pub use Rattle.course_kept.specs.superblocks_Reads
+pub use Rattle.course_kept.specs.superblocks_Reading
 pub use Rattle.course_kept.specs.flat_history_the_LostCause
 pub use Rattle.course_kept.specs.flat_history_the_LostCause_TheVariants
 pub use Rattle.course_kept.specs.flat_history_Growing
 pub use Rattle.course_kept.specs.flat_history_Seen
+pub use Rattle.array_kept.specs.grow_plan_Plans
+pub use Rattle.array_kept.specs.md_base_Sectors
+pub use Rattle.array_kept.specs.md_base_Shapes
+pub use Rattle.array_kept.specs.md_base_the_BusyKind_TheVariants
+pub use Rattle.array_kept.specs.md_base_the_Fault
+pub use Rattle.array_kept.specs.md_base_the_Phase
+pub use Rattle.array_kept.specs.md_base_the_Role_TheVariants
+pub use Rattle.array_kept.specs.md_base_the_Status
+pub use Rattle.array_kept.specs.parity_Rows
+pub use Rattle.course_kept.specs.backup_Section
+pub use Rattle.course_kept.specs.bank_Given
+pub use Rattle.course_kept.specs.bank_Tape
+pub use Rattle.course_kept.specs.bank_the_Operation
+pub use Rattle.course_kept.specs.geometry_Geometry
+pub use Rattle.course_kept.specs.grow_asked_the_Window
+pub use Rattle.course_kept.specs.grow_asked_the_Window_TheVariants
+pub use Rattle.course_kept.specs.md_base_the_Span
+pub use Rattle.course_kept.specs.sb1_the_Sb

@@ -1,15 +1,13 @@
 //! What an array in a reshape tells of itself.
 
 ghost use Rattle.std.specs.Prelude.{◌≡◌, ◌^◌, ◌<◌, ◌≤◌, true, length};
-ghost use Rattle.superblocks.specs.Reading.{is_reshaping, role_count, list_length};
+ghost use Rattle.course_kept.specs.superblocks_Reading.{is_reshaping, role_count, list_length};
 ghost use Rattle.course_kept.specs.shape_views_Regions.{AreShapesFit};
 ghost use Rattle.course_kept.specs.Course.{IsCourseOf};
 ghost use Rattle.moving_state.specs.Left.{visible_by, left_of};
 
 use crate::reshape::list_sectors;
-use course_kept::Course;
-use grow_asked::reshape_left;
-use superblocks::Members;
+use course_kept::{Course, Members, reshape_left};
 
 /// How many roles there are: those of the shape with more disks.
 pub fn role_count(members: &Members) -> u32

@@ -1,14 +1,14 @@
 //! Which slots hold roles.
 
 ghost use Rattle.std.specs.Prelude.{◌≡◌, length, Some, IfSome, IfNone};
-ghost use Rattle.superblocks.specs.Reading.{role_count, role_state, holder};
+ghost use Rattle.course_kept.specs.superblocks_Reading.{role_count, role_state, holder};
 ghost use Rattle.course_kept.specs.row_io_Rows.{reading_of};
 ghost use Rattle.course_kept.specs.shape_views_Regions.{AreShapesFit};
 ghost use Rattle.array_kept.specs.Calls.{HasRole};
 
 use crate::asking::role_count;
-use md_base::Role;
-use superblocks::Members;
+use array_kept::Role;
+use course_kept::Members;
 
 /// The slot that holds a role of either shape, whole or in part.
 pub fn slot_of(members: &Members, role: u32) -> Option<u32>

@@ -10,7 +10,10 @@ pub mod reshape;
 pub mod stepping;
 pub mod windows;
 
-pub use course_kept::{Course, is_spare};
+pub use array_kept::{Role, Span};
+pub use course_kept::{
+    Bank, BankFault, Course, Members, Window, find_section, is_spare, lose_slots, with,
+};
 pub use region_mends::counting::{mends_at, resync_left};
 pub use region_mends::stripes::{mend_stripes, next_mend, relied_sector};
 pub use region_mends::{final_in, shape_in};

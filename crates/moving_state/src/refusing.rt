@@ -1,7 +1,7 @@
 //! Why a read or a write of an array in a reshape isn't done, before any device is touched.
 
 ghost use Rattle.std.specs.Prelude.{◌≡◌, ◌+◌, ◌^◌, ◌<◌, ◌≤◌, ℕ, false, length, Some, MatchOption, ⊤};
-ghost use Rattle.superblocks.specs.Reading.{list_length, role_count};
+ghost use Rattle.course_kept.specs.superblocks_Reading.{list_length, role_count};
 ghost use Rattle.course_kept.specs.flat_history_Stands.{covers, shape_for};
 ghost use Rattle.course_kept.specs.shape_views_Regions.{AreShapesFit};
 ghost use Rattle.course_kept.specs.views_Lacking.{DoesWithout};
@@ -12,9 +12,9 @@ ghost use Rattle.array_kept.specs.Calls.{IsRefusalOf};
 ghost use Rattle.moving_state.specs.First.{list_refusal, IsUnreadAround};
 
 use crate::windows::part_in;
-use md_base::{Refusal, Span};
+use array_kept::{Refusal, Span};
+use course_kept::Members;
 use region_mends::{runs_of, stretch_at, too_many_of, unread_list, unwritten_runs};
-use superblocks::Members;
 
 // The refusal of the first of so many sectors from this one on of whose shape more roles are missing than it tolerates.
 fn lacking_from(members: &Members, first: u64, count: u64) -> Option<Refusal>

@@ -1,22 +1,21 @@
 //! The reshape of an array, by its newest superblock: its next window, and the stripes of its steps.
 
 ghost use Rattle.std.specs.Prelude.{◌≡◌, ◌+◌, ◌-◌, ◌^◌, ◌<◌, ◌≤◌, true, Some, IfSome, IfNone};
-ghost use Rattle.geometry.specs.Geometry.{is_critical};
-ghost use Rattle.superblocks.specs.Reading.{is_reshaping, is_backward, shape_of, final_shape, list_length, next_window};
+ghost use Rattle.course_kept.specs.geometry_Geometry.{is_critical};
+ghost use Rattle.course_kept.specs.superblocks_Reading.{is_reshaping, is_backward, shape_of, final_shape, list_length, next_window};
 ghost use Rattle.course_kept.specs.flat_history_Stands.{reach_of};
 ghost use Rattle.course_kept.specs.shape_views_Regions.{AreShapesFit};
-ghost use Rattle.grow_asked.specs.Left.{stripes_in, zeroed_by};
+ghost use Rattle.course_kept.specs.grow_asked_Left.{stripes_in, zeroed_by};
 ghost use Rattle.course_kept.specs.window_rows_Copies.{IsStripeOf, IsPastStripe};
 ghost use Rattle.course_kept.specs.window_steps_Zeroing.{IsThrough};
 ghost use Rattle.course_kept.specs.Course.{past_stripe};
 ghost use Rattle.course_kept.specs.Laws.{next_stripe};
 
-use geometry::{is_critical, list_end, stripe_sectors};
-use grow_asked::left::{next_window, stripes_in};
-use grow_asked::shapes::is_backward;
-use md_base::Span;
+use array_kept::Span;
+use course_kept::{
+    Members, is_backward, is_critical, list_end, next_window, stripe_sectors, stripes_in,
+};
 use region_mends::{final_in, shape_in};
-use superblocks::Members;
 
 /// How many sectors the list has while the reshape is active.
 pub fn list_sectors(members: &Members) -> u64

@@ -1,17 +1,15 @@
 //! Which step of an array in a reshape is next.
 
 ghost use Rattle.std.specs.Prelude.{◌≡◌, ◌≤◌, true, IfSome};
-ghost use Rattle.superblocks.specs.Reading.{is_reshaping};
+ghost use Rattle.course_kept.specs.superblocks_Reading.{is_reshaping};
 ghost use Rattle.course_kept.specs.shape_views_Regions.{AreShapesFit};
 ghost use Rattle.region_mends.specs.Mends.{mend_stripes};
 ghost use Rattle.course_kept.specs.Course.{IsCourseOf};
 ghost use Rattle.moving_state.specs.Due.{due_between, due_aside, due_of, IsDue};
 
 use crate::reshape::{next_window_of, stripes_to_zero, window_stripes};
-use course_kept::Course;
-use grow_asked::Window;
+use course_kept::{Course, Members, Window};
 use region_mends::stripes::mend_stripes;
-use superblocks::Members;
 
 /// A step of an array between the begin of its reshape and the end, or the end: a stripe of the entered window is copied, the window is
 /// recorded, the next stripe of a pending resync is mended, the resync ends, the next window is entered, a stripe behind the list is zeroed, or

@@ -1,14 +1,13 @@
 //! The window of a reshape, by how far that has come, and which sectors of the list lie in it.
 
 ghost use Rattle.std.specs.Prelude.{◌≡◌, ◌↔◌, ◌<◌, ◌≤◌, ℕ, true, false, Some};
-ghost use Rattle.geometry.specs.Geometry.{IsIn};
+ghost use Rattle.course_kept.specs.geometry_Geometry.{IsIn};
 ghost use Rattle.course_kept.specs.flat_history_Stands.{covers};
 ghost use Rattle.course_kept.specs.Course.{hidden_in};
 ghost use Rattle.moving_state.specs.Due.{open_in, unsure_in};
 
-use course_kept::Course;
-use grow_asked::Window;
-use md_base::Span;
+use array_kept::Span;
+use course_kept::{Course, Window};
 
 /// The span of the window that is entered.
 pub fn open_span(course: &Course) -> Option<Span>

@@ -1,24 +1,24 @@
 -- A reply to a request for steps in a reshape: what is kept behind it.
 use Rattle.std.proofs.Common.{◌≡◌, ◌≢◌, inl, inr, ℕ, ◌*◌, ◌<◌, Bool, Option, Some, None, List, [], ◌∷◌, ◌++◌, length, refl, sym, ◌∙◌, subst, arith}
 use Rattle.std.specs.Prelude.{IfSome, is_some, MatchOption, ⊤}
-use Rattle.md_base.specs.declared.answers.Refusal.{Refusal}
-use Rattle.md_base.specs.declared.answers.Who.{Who}
-use Rattle.bank.specs.declared.bank.Operation.{Operation}
-use Rattle.bank.specs.Given.{Given}
+use Rattle.still_kept.specs.md_base_the_Refusal.{Refusal}
+use Rattle.still_kept.specs.md_base_the_Who.{Who}
+use Rattle.still_kept.specs.bank_the_Operation.{Operation}
+use Rattle.still_kept.specs.bank_Given.{Given}
 use Rattle.moving.specs.superblocks_the_Members.{Members}
 use Rattle.moving.specs.superblocks_Reading.{Scope}
-use Rattle.flat_history.specs.declared.events.Entry.{Entry}
-use Rattle.flat_history.specs.declared.events.Event.{Event}
-use Rattle.flat_history.specs.declared.events.Event.TheVariants.{Stepped}
-use Rattle.flat_history.specs.Legal.{IsRefusedRight}
-use Rattle.flat_history.specs.Losses.{is_unsynced}
-use Rattle.flat_history.specs.Plain.{entries_of}
-use Rattle.flat_history.specs.World.{World}
+use Rattle.still_kept.specs.flat_history_the_Entry.{Entry}
+use Rattle.still_kept.specs.flat_history_the_Event.{Event}
+use Rattle.still_kept.specs.flat_history_the_Event_TheVariants.{Stepped}
+use Rattle.still_kept.specs.flat_history_Legal.{IsRefusedRight}
+use Rattle.still_kept.specs.flat_history_Losses.{is_unsynced}
+use Rattle.still_kept.specs.flat_history_Plain.{entries_of}
+use Rattle.still_kept.specs.flat_history_World.{World}
 use Rattle.moving.specs.views_the_Work.{Work}
 use Rattle.moving.specs.views_Numbers.{bears}
 use Rattle.moving.specs.views_Placed.{IsPlaced}
 use Rattle.moving.proofs.views_Fit.{force-disks}
-use Rattle.call_entries.proofs.LeftLaws.{keeps-left}
+use Rattle.still_kept.proofs.call_entries_LeftLaws.{keeps-left}
 use Rattle.still_kept.specs.array_kept_Calls.{IsLossBy}
 use Rattle.moving.specs.grow_asked_the_PhasesLeft.{PhasesLeft}
 use Rattle.moving.specs.kept_history_Recorded.{IsCallGoing, entry_of}

@@ -1,7 +1,7 @@
 -- What is told of arrays that are known by their parts.
 use Rattle.std.proofs.Common.{◌≡◌, ℕ, List, sym, subst}
-use Rattle.bank.specs.declared.bank.Operation.{Operation}
-use Rattle.bank.specs.Given.{Given}
+use Rattle.still_kept.specs.bank_the_Operation.{Operation}
+use Rattle.still_kept.specs.bank_Given.{Given}
 use Rattle.moving.specs.running_words_Parts.{RunningParts}
 use Rattle.moving.specs.running_words_Calls.{IsCalled}
 

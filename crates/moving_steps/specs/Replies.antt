@@ -1,11 +1,11 @@
 -- A reply to a request for steps in a reshape.
 use Rattle.std.specs.Prelude.{◌≡◌, ◌⊎◌, false, IsSome, MatchOption, ⊤}
-use Rattle.md_base.specs.declared.answers.Refusal.{Refusal}
-use Rattle.md_base.specs.declared.answers.Refusal.TheVariants.{BackupFault}
-use Rattle.md_base.specs.declared.places.Shape.{Shape}
+use Rattle.still_kept.specs.md_base_the_Refusal.{Refusal}
+use Rattle.still_kept.specs.md_base_the_Refusal_TheVariants.{BackupFault}
+use Rattle.still_kept.specs.md_base_the_Shape.{Shape}
 use Rattle.moving.specs.superblocks_the_Members.{Members}
-use Rattle.flat_history.specs.declared.events.Event.{Event}
-use Rattle.flat_history.specs.declared.events.Event.TheVariants.{Stepped}
+use Rattle.still_kept.specs.flat_history_the_Event.{Event}
+use Rattle.still_kept.specs.flat_history_the_Event_TheVariants.{Stepped}
 use Rattle.moving.specs.views_the_Work.{Work}
 use Rattle.moving.specs.views_Placed.{IsInForce}
 use Rattle.moving.specs.views_Lacking.{AreTooMany, IsNotResynced}

@@ -6,11 +6,8 @@ ghost use Rattle.moving.specs.kept_history_Recorded.{IsCallGoing};
 ghost use Rattle.moving.specs.running_words_Calls.{IsCalled};
 ghost use Rattle.moving_steps.specs.Replies.{IsReplyInReshape};
 
-use bank::Bank;
-use call_entries::calls::enter;
-use flat_history::Event;
-use md_base::Who;
-use moving::{Moving, check_going};
+use moving::{Bank, Event, Moving, check_going};
+use still_kept::{Who, enter};
 
 /// Answers a request for steps: how many were done and what refused one. It makes no device call, and takes no memory.
 pub fn answer<B: Bank>(moving: Moving<B>, who: Who, event: Event) -> Moving<B>

@@ -1,16 +1,16 @@
 //! An unsure window: the header of its section is tried again.
 
 ghost use Rattle.std.specs.Prelude.{◌≡◌, ◌≢◌, ◌+◌, ◌<◌, ◌≤◌, ◌^◌, ◌/◌, length, Err, IfSome, IsErr};
-ghost use Rattle.md_base.specs.Sectors.{sectors_of};
-ghost use Rattle.md_base.specs.declared.answers.Fault.TheVariants.{Refused as IsRefusedWith};
-ghost use Rattle.md_base.specs.declared.answers.Refusal.TheVariants.{BackupFault};
-ghost use Rattle.md_base.specs.declared.places.Span.{Span};
-ghost use Rattle.bank.specs.Given.{IsFaulted};
-ghost use Rattle.superblocks.specs.Reading.{list_length};
-ghost use Rattle.flat_history.specs.Flat.{next_number};
-ghost use Rattle.views.specs.Lacking.{HaveRolesFailed};
+ghost use Rattle.still_kept.specs.md_base_Sectors.{sectors_of};
+ghost use Rattle.still_kept.specs.md_base_the_Fault_TheVariants.{Refused as IsRefusedWith};
+ghost use Rattle.still_kept.specs.md_base_the_Refusal_TheVariants.{BackupFault};
+ghost use Rattle.still_kept.specs.md_base_the_Span.{Span};
+ghost use Rattle.still_kept.specs.bank_Given.{IsFaulted};
+ghost use Rattle.moving.specs.superblocks_Reading.{list_length};
+ghost use Rattle.still_kept.specs.flat_history_Flat.{next_number};
+ghost use Rattle.moving.specs.views_Lacking.{HaveRolesFailed};
 ghost use Rattle.moving.specs.array_kept_Calls.{IsCausedBy, OnNoMemory};
-ghost use Rattle.grow_asked.specs.declared.window.Window.TheVariants.{Unsure as IsUnsureWindow};
+ghost use Rattle.moving.specs.grow_asked_the_Window_TheVariants.{Unsure as IsUnsureWindow};
 ghost use Rattle.moving.specs.kept_history_Recorded.{IsCallGoing};
 ghost use Rattle.moving.specs.region_mends_Mends.{relied_sector};
 ghost use Rattle.moving.specs.running_words_Calls.{IsCalled};
@@ -19,11 +19,8 @@ ghost use Rattle.moving.specs.moving_laws_Refusing.{first_refusal, IsFirstFor};
 ghost use Rattle.moving.specs.moving_laws_Writing.{TouchesUnsure, IsWriteBarred, IsRefusedAlone, IsWriteEntered, IsWriteReplied};
 
 use crate::writing::unwritten_here;
-use bank::Bank;
-use call_entries::calls::enter;
-use flat_history::Event;
-use md_base::{Fault, Refusal, Who};
-use moving::{Moving, check_going, clear_window, open_span, relied_sector};
+use moving::{Bank, Event, Moving, check_going, clear_window, open_span, relied_sector};
+use still_kept::{Fault, Refusal, Who, enter};
 
 // Tries to make the header of an unsure window plain. It is refused `BackupFault`, and nothing is written: the backup failed when the
 // header was written, and a slot that failed once fails again.

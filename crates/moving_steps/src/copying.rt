@@ -1,25 +1,25 @@
 //! The steps of a reshape between its begin and its end.
 
 ghost use Rattle.std.specs.Prelude.{◌≡◌, ◌≢◌, ◌+◌, ◌-◌, ◌*◌, ◌<◌, ◌≤◌, ℕ, Bool, length, take, None, Some, MatchOption, OnOk, OnErr, ⊤};
-ghost use Rattle.md_base.specs.Sectors.{Sector};
-ghost use Rattle.md_base.specs.declared.places.Span.{Span};
-ghost use Rattle.bank.specs.Given.{NeverFalls};
-ghost use Rattle.bank.specs.Tape.{disk};
-ghost use Rattle.superblocks.specs.Reading.{is_clean, final_shape, list_length, next_window};
-ghost use Rattle.row_io.specs.Rows.{present, reading_of};
+ghost use Rattle.still_kept.specs.md_base_Sectors.{Sector};
+ghost use Rattle.still_kept.specs.md_base_the_Span.{Span};
+ghost use Rattle.still_kept.specs.bank_Given.{NeverFalls};
+ghost use Rattle.still_kept.specs.bank_Tape.{disk};
+ghost use Rattle.moving.specs.superblocks_Reading.{is_clean, final_shape, list_length, next_window};
+ghost use Rattle.still_kept.specs.row_io_Rows.{present, reading_of};
 ghost use Rattle.moving.specs.list_io_Full.{RowStands};
-ghost use Rattle.flat_history.specs.World.{World};
-ghost use Rattle.flat_history.specs.declared.events.StepKind.TheVariants.{Copied as CopiesStripe};
+ghost use Rattle.still_kept.specs.flat_history_World.{World};
+ghost use Rattle.still_kept.specs.flat_history_the_StepKind_TheVariants.{Copied as CopiesStripe};
 ghost use Rattle.moving.specs.shape_views_Views.{Ledger};
 ghost use Rattle.moving.specs.shape_views_Windows.{IsCopyable};
 ghost use Rattle.moving.specs.shape_changes_Safety.{HasRoomLeft, IsRisen};
 ghost use Rattle.moving.specs.shape_changes_Steady.{AreUnlost, IsSafeOver, KeepsSafe, AreGoneTold, IsUncleanTold};
-ghost use Rattle.views.specs.Placed.{IsPlaced};
-ghost use Rattle.views.specs.Moving.{Grows, IsMoved};
-ghost use Rattle.views.specs.Rebuilding.{AreSparesFree};
-ghost use Rattle.views.specs.Lacking.{AreLostSince, AreTooMany, AreOtherRowsKept, IsOfStripe};
+ghost use Rattle.moving.specs.views_Placed.{IsPlaced};
+ghost use Rattle.still_kept.specs.views_Moving.{Grows, IsMoved};
+ghost use Rattle.moving.specs.views_Rebuilding.{AreSparesFree};
+ghost use Rattle.moving.specs.views_Lacking.{AreLostSince, AreTooMany, AreOtherRowsKept, IsOfStripe};
 ghost use Rattle.moving.specs.safe_updates_Unused.{IsUnusedKept};
-ghost use Rattle.grow_asked.specs.Left.{stripes_in};
+ghost use Rattle.still_kept.specs.grow_asked_Left.{stripes_in};
 ghost use Rattle.moving.specs.window_rows_Copies.{tail_of, IsCopied};
 ghost use Rattle.moving.specs.course_kept_Laws.{entered, next_stripe};
 ghost use Rattle.moving.specs.array_kept_Calls.{IsCausedBy};
@@ -27,16 +27,11 @@ ghost use Rattle.moving.specs.kept_history_Recorded.{IsCallGoing};
 ghost use Rattle.moving.specs.running_words_Parts.{left_in};
 ghost use Rattle.moving.specs.running_words_Calls.{IsCalled, IsStepTaken, IsCopyDue};
 
-use bank::Bank;
-use call_entries::calls::{enter, enter_behind};
-use flat_history::{Event, StepKind};
-use grow_asked::Window;
-use md_base::{Fault, Refusal, Span, Who};
 use moving::{
-    Moving, all_left, check_going, copy, final_in, newly_vacant, stripe_to_copy, too_many,
-    vacant_roles,
+    Bank, Event, Members, Moving, StepKind, Window, all_left, check_going, copy, final_in,
+    newly_vacant, stripe_to_copy, too_many, vacant_roles,
 };
-use superblocks::Members;
+use still_kept::{Fault, Refusal, Span, Who, enter, enter_behind};
 
 // The roles and the spares that were lost in a step, and why it wasn't done.
 #[derive(Clone, Copy)]

@@ -1,29 +1,24 @@
 //! The next window of a reshape is entered.
 
 ghost use Rattle.std.specs.Prelude.{◌≡◌, ◌≢◌, ◌⊎◌, ◌+◌, ◌≤◌, true, false, length, OnOk, OnErr};
-ghost use Rattle.md_base.specs.declared.answers.Refusal.{Refusal as AnyRefusal};
-ghost use Rattle.md_base.specs.declared.places.Span.{Span as AnySpan};
-ghost use Rattle.superblocks.specs.Reading.{is_clean, role_count};
-ghost use Rattle.superblocks.specs.Verdict.{AreValidShapes};
-ghost use Rattle.flat_history.specs.declared.events.StepKind.TheVariants.{Entered as EntersWindow};
+ghost use Rattle.still_kept.specs.md_base_the_Refusal.{Refusal as AnyRefusal};
+ghost use Rattle.still_kept.specs.md_base_the_Span.{Span as AnySpan};
+ghost use Rattle.moving.specs.superblocks_Reading.{is_clean, role_count};
+ghost use Rattle.moving.specs.superblocks_Verdict.{AreValidShapes};
+ghost use Rattle.still_kept.specs.flat_history_the_StepKind_TheVariants.{Entered as EntersWindow};
 ghost use Rattle.moving.specs.shape_views_Regions.{DoWithout};
-ghost use Rattle.views.specs.Lacking.{AreTooMany};
-ghost use Rattle.grow_asked.specs.declared.window.Window.TheVariants.{Unsure as IsUnsureWindow};
+ghost use Rattle.moving.specs.views_Lacking.{AreTooMany};
+ghost use Rattle.moving.specs.grow_asked_the_Window_TheVariants.{Unsure as IsUnsureWindow};
 ghost use Rattle.moving.specs.kept_history_Recorded.{IsCallGoing};
 ghost use Rattle.moving.specs.running_words_Parts.{left_in};
 ghost use Rattle.moving.specs.running_words_Calls.{IsCalled, IsStepTaken, IsEnterDue, IsEnterCaused, IsNextOpen, IsNextUnsure};
 
 use crate::clearing::clear;
-use bank::Bank;
-use call_entries::calls::{enter, enter_behind};
-use flat_history::{Event, StepKind};
-use grow_asked::Window;
-use md_base::{Fault, Who};
 use moving::{
-    Course, Moving, all_left, check_going, enter_next, is_window_critical, list_sectors,
-    next_window_of, too_many,
+    Bank, Course, Event, Members, Moving, StepKind, Window, all_left, check_going, enter_next,
+    is_window_critical, list_sectors, next_window_of, too_many,
 };
-use superblocks::Members;
+use still_kept::{Fault, Who, enter, enter_behind};
 
 // Whether a window is unsure, and no more roles are missing than the shapes in force tolerate.
 fn is_barred(members: &Members, course: &Course) -> bool

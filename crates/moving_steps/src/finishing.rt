@@ -1,24 +1,24 @@
 //! An open window is finished in one call.
 
 ghost use Rattle.std.specs.Prelude.{◌≡◌, ◌≢◌, ◌+◌, ◌-◌, ◌*◌, ◌≤◌, ℕ, length, take, None, Some, MatchOption, OnOk, OnErr, ⊤};
-ghost use Rattle.md_base.specs.Sectors.{Sector};
-ghost use Rattle.bank.specs.Given.{NeverFalls};
-ghost use Rattle.bank.specs.Tape.{disk};
-ghost use Rattle.geometry.specs.Geometry.{stripes};
-ghost use Rattle.superblocks.specs.Reading.{Scope, is_clean, final_shape, list_length, next_window};
-ghost use Rattle.row_io.specs.Rows.{present, reading_of};
-ghost use Rattle.flat_history.specs.World.{World};
-ghost use Rattle.flat_history.specs.Sound.{OpensFit};
-ghost use Rattle.flat_history.specs.declared.events.StepKind.TheVariants.{WindowFinished as FinishesWindow};
+ghost use Rattle.still_kept.specs.md_base_Sectors.{Sector};
+ghost use Rattle.still_kept.specs.bank_Given.{NeverFalls};
+ghost use Rattle.still_kept.specs.bank_Tape.{disk};
+ghost use Rattle.moving.specs.geometry_Geometry.{stripes};
+ghost use Rattle.moving.specs.superblocks_Reading.{Scope, is_clean, final_shape, list_length, next_window};
+ghost use Rattle.still_kept.specs.row_io_Rows.{present, reading_of};
+ghost use Rattle.still_kept.specs.flat_history_World.{World};
+ghost use Rattle.still_kept.specs.flat_history_Sound.{OpensFit};
+ghost use Rattle.still_kept.specs.flat_history_the_StepKind_TheVariants.{WindowFinished as FinishesWindow};
 ghost use Rattle.moving.specs.shape_views_Regions.{ArePlaced};
 ghost use Rattle.moving.specs.shape_views_Views.{AreHeadersFit, Ledger};
 ghost use Rattle.moving.specs.shape_views_Windows.{HasNoSection, moved_past};
 ghost use Rattle.moving.specs.shape_changes_Safety.{HasRoomLeft, IsRisen};
 ghost use Rattle.moving.specs.shape_changes_Steady.{AreUnlost, IsSafeOver, KeepsSafe, AreGoneTold, IsUncleanTold};
-ghost use Rattle.views.specs.Placed.{IsPlaced};
-ghost use Rattle.views.specs.Moving.{Grows, IsMoved};
-ghost use Rattle.views.specs.Rebuilding.{AreSparesFree};
-ghost use Rattle.views.specs.Lacking.{HaveFailedSince, HaveRolesFailed, AreLostSince, AreTooMany, AreOtherRowsKept};
+ghost use Rattle.moving.specs.views_Placed.{IsPlaced};
+ghost use Rattle.still_kept.specs.views_Moving.{Grows, IsMoved};
+ghost use Rattle.moving.specs.views_Rebuilding.{AreSparesFree};
+ghost use Rattle.moving.specs.views_Lacking.{HaveFailedSince, HaveRolesFailed, AreLostSince, AreTooMany, AreOtherRowsKept};
 ghost use Rattle.moving.specs.safe_updates_Unused.{IsUnusedKept};
 ghost use Rattle.moving.specs.window_rows_Copies.{tail_of, IsCopied};
 ghost use Rattle.moving.specs.window_calls_Finishing.{IsOfRest, AreStripesCopied, IsOpenWindow};
@@ -32,16 +32,11 @@ ghost use Rattle.moving.specs.moving_state_Due.{open_in};
 ghost use Rattle.moving.specs.running_words_Calls.{moving_world, IsCalled, IsStepTaken};
 ghost use Rattle.moving.specs.moving_laws_Writing.{IsWindowOpen, steps_in};
 
-use bank::Bank;
-use call_entries::calls::{enter, enter_behind};
-use flat_history::{Event, StepKind};
-use grow_asked::Window;
-use md_base::{Fault, Refusal, Span, Who};
 use moving::{
-    Course, Moving, all_left, check_going, final_in, finish_window, newly_vacant, too_many,
-    vacant_roles,
+    Bank, Course, Event, Members, Moving, StepKind, Window, all_left, check_going, final_in,
+    finish_window, newly_vacant, too_many, vacant_roles,
 };
-use superblocks::Members;
+use still_kept::{Fault, Refusal, Span, Who, enter, enter_behind};
 
 // The roles and the spares that were lost as a window was finished, how many of its stripes are copied, and why it isn't.
 #[derive(Clone, Copy)]

@@ -1,21 +1,20 @@
 //! The windows of a reshape are recorded.
 
 ghost use Rattle.std.specs.Prelude.{◌≡◌, ◌≢◌, ◌+◌, ◌≤◌, OnOk, OnErr};
-ghost use Rattle.flat_history.specs.declared.events.StepKind.TheVariants.{Checkpointed as RecordsWindow};
-ghost use Rattle.superblocks.specs.Reading.{is_clean, list_length};
-ghost use Rattle.views.specs.Lacking.{AreTooMany};
+ghost use Rattle.still_kept.specs.flat_history_the_StepKind_TheVariants.{Checkpointed as RecordsWindow};
+ghost use Rattle.moving.specs.superblocks_Reading.{is_clean, list_length};
+ghost use Rattle.moving.specs.views_Lacking.{AreTooMany};
 ghost use Rattle.moving.specs.array_kept_Calls.{IsCausedBy};
 ghost use Rattle.moving.specs.kept_history_Recorded.{IsCallGoing};
 ghost use Rattle.moving.specs.course_kept_Laws.{closed};
 ghost use Rattle.moving.specs.running_words_Parts.{left_in};
 ghost use Rattle.moving.specs.running_words_Calls.{IsCalled, IsStepTaken, IsRecordDue};
 
-use bank::Bank;
-use call_entries::calls::{enter, enter_behind};
-use flat_history::{Event, StepKind};
-use grow_asked::Window;
-use md_base::{Fault, Who};
-use moving::{Course, Moving, all_left, check_going, newly_vacant, record, too_many, vacant_roles};
+use moving::{
+    Bank, Course, Event, Moving, StepKind, Window, all_left, check_going, newly_vacant, record,
+    too_many, vacant_roles,
+};
+use still_kept::{Fault, Who, enter, enter_behind};
 
 /// A step of the reshape: the open window, whose stripes are all copied, is recorded. Refusals: `TooManyMissing`. It takes no
 /// memory.

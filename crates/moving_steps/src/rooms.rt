@@ -2,10 +2,8 @@
 
 ghost use Rattle.std.specs.Prelude.{◌≡◌, ◌*◌, ◌<◌, ◌≤◌, OnOk, OnErr};
 
-use bank::Bank;
-use flat_history::Entries;
-use md_base::NoMemory;
-use moving::Moving;
+use moving::{Bank, Entries, Moving};
+use still_kept::NoMemory;
 
 // Makes room for so many times 50 entries, and one more.
 fn reserve(entries: &mut Entries, steps: u64) -> Result<(), NoMemory>

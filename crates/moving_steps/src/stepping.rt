@@ -14,9 +14,8 @@ use crate::copying::copy_stripe;
 use crate::entering::enter_window;
 use crate::recording::record_window;
 use crate::zeroing::zero_stripe;
-use bank::Bank;
-use md_base::{Fault, Who};
-use moving::{Due, Moving, due_step};
+use moving::{Bank, Due, Moving, due_step};
+use still_kept::{Fault, Who};
 
 /// The step that is due, but for the end of the reshape: a stripe of the entered window is copied, or it is recorded; of a pending
 /// resync the next stripe is mended, or it ends; the next window is entered, or a stripe behind the list is zeroed. Refusals: `TooManyMissing`, `NotResynced` where a stripe is to be mended, and `BackupFault` where a window is to be

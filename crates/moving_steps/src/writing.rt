@@ -1,16 +1,16 @@
 //! Writes to an array in a reshape.
 
 ghost use Rattle.std.specs.Prelude.{◌≡◌, ◌≢◌, ◌⊎◌, ◌+◌, ◌/◌, ◌^◌, ◌<◌, ◌≤◌, ℕ, length, false, Some, Err, IfSome, MatchOption, OnOk, ⊤};
-ghost use Rattle.md_base.specs.Sectors.{IsWhole, sectors_of};
-ghost use Rattle.md_base.specs.declared.answers.Fault.TheVariants.{Refused as IsRefusedWith};
-ghost use Rattle.md_base.specs.declared.answers.Refusal.TheVariants.{BackupFault};
-ghost use Rattle.bank.specs.Given.{IsFaulted};
-ghost use Rattle.superblocks.specs.Reading.{is_clean, list_length, role_count};
-ghost use Rattle.row_io.specs.Rows.{present};
-ghost use Rattle.flat_history.specs.Flat.{next_number};
-ghost use Rattle.flat_history.specs.Stands.{covers};
-ghost use Rattle.flat_history.specs.declared.events.StepKind.TheVariants.{WindowFinished as FinishesWindow};
-ghost use Rattle.views.specs.Lacking.{HaveRolesFailed, AreTooMany};
+ghost use Rattle.still_kept.specs.md_base_Sectors.{IsWhole, sectors_of};
+ghost use Rattle.still_kept.specs.md_base_the_Fault_TheVariants.{Refused as IsRefusedWith};
+ghost use Rattle.still_kept.specs.md_base_the_Refusal_TheVariants.{BackupFault};
+ghost use Rattle.still_kept.specs.bank_Given.{IsFaulted};
+ghost use Rattle.moving.specs.superblocks_Reading.{is_clean, list_length, role_count};
+ghost use Rattle.still_kept.specs.row_io_Rows.{present};
+ghost use Rattle.still_kept.specs.flat_history_Flat.{next_number};
+ghost use Rattle.moving.specs.flat_history_Stands.{covers};
+ghost use Rattle.still_kept.specs.flat_history_the_StepKind_TheVariants.{WindowFinished as FinishesWindow};
+ghost use Rattle.moving.specs.views_Lacking.{HaveRolesFailed, AreTooMany};
 ghost use Rattle.moving.specs.shape_views_Regions.{AreShapesFit};
 ghost use Rattle.moving.specs.array_kept_Calls.{IsCausedBy, IsRefusalOf, OnNoMemory};
 ghost use Rattle.moving.specs.region_writes_Runs.{IsListUnwritten};
@@ -29,15 +29,11 @@ ghost use Rattle.moving.specs.moving_laws_Writing.{IsWindowOpen, TouchesWindow, 
 
 use crate::clearing::bar_write;
 use crate::finishing::finish_open;
-use bank::Bank;
-use call_entries::calls::{enter, enter_behind, enter_failure};
-use flat_history::Event;
-use md_base::{Fault, Refusal, Sectors, Span, Who};
 use moving::{
-    Moving, check_going, meets, newly_vacant, open_span, put_list, relied_sector, unsure_span,
-    unwritten_from, vacant_roles, visible,
+    Bank, Event, Members, Moving, check_going, meets, newly_vacant, open_span, put_list,
+    relied_sector, unsure_span, unwritten_from, vacant_roles, visible,
 };
-use superblocks::Members;
+use still_kept::{Fault, Refusal, Sectors, Span, Who, enter, enter_behind, enter_failure};
 
 // Why so many sectors from one on aren't written, before any row is read, where those below the limit are visible and parity is to be relied
 // on up to sector `relied`, and in the window, if there is one.

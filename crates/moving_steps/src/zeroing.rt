@@ -1,23 +1,20 @@
 //! The stripes behind the list, once a reshape has gone through it.
 
 ghost use Rattle.std.specs.Prelude.{◌≡◌, ◌≢◌, ◌+◌, ◌≤◌, None, OnOk, OnErr};
-ghost use Rattle.flat_history.specs.declared.events.StepKind.TheVariants.{Zeroed as ZeroesStripe};
-ghost use Rattle.superblocks.specs.Reading.{is_clean, list_length};
-ghost use Rattle.views.specs.Lacking.{AreTooMany};
+ghost use Rattle.still_kept.specs.flat_history_the_StepKind_TheVariants.{Zeroed as ZeroesStripe};
+ghost use Rattle.moving.specs.superblocks_Reading.{is_clean, list_length};
+ghost use Rattle.moving.specs.views_Lacking.{AreTooMany};
 ghost use Rattle.moving.specs.array_kept_Calls.{IsCausedBy};
 ghost use Rattle.moving.specs.kept_history_Recorded.{IsCallGoing};
 ghost use Rattle.moving.specs.course_kept_Laws.{closed};
 ghost use Rattle.moving.specs.running_words_Parts.{left_in};
 ghost use Rattle.moving.specs.running_words_Calls.{IsCalled, IsStepTaken, IsZeroDue};
 
-use bank::Bank;
-use call_entries::calls::{enter, enter_behind};
-use flat_history::{Event, StepKind};
-use md_base::{Fault, Who};
 use moving::{
-    Moving, all_left, check_going, final_in, newly_vacant, stripe_to_zero, too_many, vacant_roles,
-    zero,
+    Bank, Event, Moving, StepKind, all_left, check_going, final_in, newly_vacant, stripe_to_zero,
+    too_many, vacant_roles, zero,
 };
+use still_kept::{Fault, Who, enter, enter_behind};
 
 /// A step of the reshape, which has gone through the list, where no resync is pending: the next stripe behind it is zeroed. Refusals: `TooManyMissing`. It
 /// takes no memory.

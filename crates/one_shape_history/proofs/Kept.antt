@@ -3,26 +3,26 @@ use Rattle.std.proofs.Common.{◌≡◌, inl, inr, ℕ, ◌||◌, Bool, true, fa
 use Rattle.std.specs.Prelude.{⊤}
 use Rattle.std.specs.List.{list_any, list_all}
 use Rattle.std.proofs.lemmas.Bool.{and_parts}
-use Rattle.bank.specs.Given.{Given}
-use Rattle.array_kept.specs.superblocks_the_Members.{Members}
-use Rattle.array_kept.specs.flat_history_the_Entry.{Entry}
-use Rattle.array_kept.specs.flat_history_the_Event.{Event}
-use Rattle.array_kept.specs.flat_history_the_Event_TheVariants.{Step}
-use Rattle.array_kept.specs.flat_history_the_StepKind_TheVariants.{TakenOver}
-use Rattle.array_kept.specs.flat_history_Flat.{length_of, values_of}
-use Rattle.array_kept.specs.flat_history_Losses.{loses, is_gone_after, is_unsynced, unsettles}
-use Rattle.array_kept.specs.flat_history_OneShape.{opening_in, is_gone_now, is_unsettled, keeps_shape_event, KeepShape}
-use Rattle.array_kept.specs.flat_history_Sound.{FillsRight}
-use Rattle.array_kept.specs.flat_history_World.{World, opening_list}
-use Rattle.array_kept.proofs.flat_history_OneShapeGone.{after-gone, gone-or_lost}
-use Rattle.array_kept.proofs.flat_history_OneShapeLegal.{found-in, one_shape-legal}
-use Rattle.array_kept.specs.shape_views_Views.{Ledger}
-use Rattle.array_kept.specs.shape_changes_Steady.{IsSafeOver, AreGoneTold}
-use Rattle.array_kept.specs.views_the_Work.{Work}
-use Rattle.array_kept.specs.views_Numbers.{bears}
-use Rattle.array_kept.proofs.call_entries_CallLaws.{GivesNone}
-use Rattle.array_kept.specs.Kept.{ledger_now, AreTold, AreFillsRight, IsRecorded, IsCounted, IsSafe}
-use Rattle.array_kept.proofs.LedgerLaws.{told_by}
+use Rattle.kept_history.specs.bank_Given.{Given}
+use Rattle.kept_history.specs.superblocks_the_Members.{Members}
+use Rattle.kept_history.specs.flat_history_the_Entry.{Entry}
+use Rattle.kept_history.specs.flat_history_the_Event.{Event}
+use Rattle.kept_history.specs.flat_history_the_Event_TheVariants.{Step}
+use Rattle.kept_history.specs.flat_history_the_StepKind_TheVariants.{TakenOver}
+use Rattle.kept_history.specs.flat_history_Flat.{length_of, values_of}
+use Rattle.kept_history.specs.flat_history_Losses.{loses, is_gone_after, is_unsynced, unsettles}
+use Rattle.kept_history.specs.flat_history_OneShape.{opening_in, is_gone_now, is_unsettled, keeps_shape_event, KeepShape}
+use Rattle.kept_history.specs.flat_history_Sound.{FillsRight}
+use Rattle.kept_history.specs.flat_history_World.{World, opening_list}
+use Rattle.kept_history.proofs.flat_history_OneShapeGone.{after-gone, gone-or_lost}
+use Rattle.kept_history.proofs.flat_history_OneShapeLegal.{found-in, one_shape-legal}
+use Rattle.kept_history.specs.shape_views_Views.{Ledger}
+use Rattle.kept_history.specs.shape_changes_Steady.{IsSafeOver, AreGoneTold}
+use Rattle.kept_history.specs.views_the_Work.{Work}
+use Rattle.kept_history.specs.views_Numbers.{bears}
+use Rattle.kept_history.proofs.call_entries_CallLaws.{GivesNone}
+use Rattle.kept_history.specs.array_kept_Kept.{ledger_now, AreTold, AreFillsRight, IsRecorded, IsCounted, IsSafe}
+use Rattle.kept_history.proofs.array_kept_LedgerLaws.{told_by}
 use Rattle.kept_history.specs.Recorded.{IsHistoryKept}
 use Rattle.kept_history.specs.Safe.{is_taken_over, KeepsLevel, OpensOnCourse, IsFilledRight, IsSafeHistory}
 use Rattle.kept_history.specs.Safe as history

@@ -5,25 +5,25 @@ use Rattle.std.specs.List.{list_any}
 use Rattle.std.proofs.lemmas.Bool.{cases_lt}
 use Rattle.std.proofs.lemmas.Bool.Decides.{nat_tests}
 use Rattle.std.proofs.lemmas.List.{get_or_past}
-use Rattle.md_base.specs.declared.answers.Refusal.{Refusal}
-use Rattle.md_base.specs.declared.answers.Refusal.TheVariants.{BadShape}
-use Rattle.md_base.specs.declared.answers.ShapeField.{ShapeField}
-use Rattle.md_base.specs.declared.status.Role.{Role}
-use Rattle.md_base.specs.declared.status.Role.TheVariants.{Whole, Missing}
-use Rattle.md_base.specs.Search.{tabulate}
-use Rattle.md_base.proofs.Tabulated.{length-tabulate, get_or-tabulate}
-use Rattle.bank.specs.declared.bank.Operation.{Operation}
-use Rattle.bank.specs.Given.{Given}
-use Rattle.bank.specs.Tape.{Contents}
-use Rattle.superblocks.specs.declared.members.Members.{Members}
-use Rattle.superblocks.specs.Reading.{is_backup, is_reshaping, role_state, holder}
-use Rattle.superblocks.specs.Reads.{has_spare}
-use Rattle.superblocks.specs.Update.{own_in, is_held_by}
-use Rattle.superblocks.specs.Writing.{AreWritable}
+use Rattle.assemble.specs.md_base_the_Refusal.{Refusal}
+use Rattle.assemble.specs.md_base_the_Refusal_TheVariants.{BadShape}
+use Rattle.assemble.specs.md_base_the_ShapeField.{ShapeField}
+use Rattle.assemble.specs.md_base_the_Role.{Role}
+use Rattle.assemble.specs.md_base_the_Role_TheVariants.{Whole, Missing}
+use Rattle.assemble.specs.md_base_Search.{tabulate}
+use Rattle.assemble.proofs.md_base_Tabulated.{length-tabulate, get_or-tabulate}
+use Rattle.assemble.specs.bank_the_Operation.{Operation}
+use Rattle.assemble.specs.bank_Given.{Given}
+use Rattle.assemble.specs.bank_Tape.{Contents}
+use Rattle.assemble.specs.superblocks_the_Members.{Members}
+use Rattle.assemble.specs.superblocks_Reading.{is_backup, is_reshaping, role_state, holder}
+use Rattle.assemble.specs.superblocks_Reads.{has_spare}
+use Rattle.assemble.specs.superblocks_Update.{own_in, is_held_by}
+use Rattle.assemble.specs.superblocks_Writing.{AreWritable}
 use Rattle.running_steps.specs.row_io_Rows.{reading_of}
 use Rattle.running_steps.specs.shape_views_Regions.{AreShapesFit}
-use Rattle.views.specs.Parts.{Parts}
-use Rattle.views.specs.Rebuilding.{Held}
+use Rattle.assemble.specs.views_Parts.{Parts}
+use Rattle.assemble.specs.views_Rebuilding.{Held}
 use Rattle.running_steps.specs.array_kept_Adopting.{IsAdopted}
 use Rattle.assemble.specs.declared.spec.CreateSpec.{CreateSpec}
 use Rattle.running_steps.proofs.kept_history_Tests.{or-right}

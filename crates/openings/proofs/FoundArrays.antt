@@ -1,22 +1,22 @@
 -- What an opening found runs, with or without a reshape.
 use Rattle.std.proofs.Common.{◌≡◌, ◌⊎◌, inl, inr, ℕ, ◌<◌, ◌≤◌, Bool, true, false, MatchBool, List, [], length, Option, Some, None, IfSome, Result, Ok, Err, IfOk, IfErr, sym, ◌∙◌, ap, subst, arith}
-use Rattle.md_base.specs.declared.answers.Fault.{Fault}
-use Rattle.md_base.specs.declared.answers.Fault.TheVariants.{Refused, NoMemory}
-use Rattle.md_base.specs.declared.answers.Refusal.TheVariants.{BackupAbsent}
-use Rattle.md_base.specs.Shapes.{has_slot}
-use Rattle.bank.specs.declared.bank.Operation.{Operation}
-use Rattle.bank.specs.Given.{Given, NeverFalls}
-use Rattle.bank.specs.Tape.{Contents, contents}
-use Rattle.bank.proofs.Causes.{faulted_longer}
-use Rattle.superblocks.specs.declared.members.Members.{Members}
-use Rattle.superblocks.specs.Found.{AreInSectors}
-use Rattle.superblocks.specs.Reading.{is_reshaping}
-use Rattle.superblocks.specs.Writing.{AreWritable}
-use Rattle.flat_history.specs.Stands.{verdict}
+use Rattle.assemble.specs.md_base_the_Fault.{Fault}
+use Rattle.assemble.specs.md_base_the_Fault_TheVariants.{Refused, NoMemory}
+use Rattle.assemble.specs.md_base_the_Refusal_TheVariants.{BackupAbsent}
+use Rattle.assemble.specs.md_base_Shapes.{has_slot}
+use Rattle.assemble.specs.bank_the_Operation.{Operation}
+use Rattle.assemble.specs.bank_Given.{Given, NeverFalls}
+use Rattle.assemble.specs.bank_Tape.{Contents, contents}
+use Rattle.assemble.proofs.bank_Causes.{faulted_longer}
+use Rattle.assemble.specs.superblocks_the_Members.{Members}
+use Rattle.assemble.specs.superblocks_Found.{AreInSectors}
+use Rattle.assemble.specs.superblocks_Reading.{is_reshaping}
+use Rattle.assemble.specs.superblocks_Writing.{AreWritable}
+use Rattle.assemble.specs.flat_history_Stands.{verdict}
 use Rattle.running_steps.specs.shape_views_Regions.{DoWithout}
-use Rattle.views.specs.Flushing.{OnlyItsSlotsFail}
+use Rattle.assemble.specs.views_Flushing.{OnlyItsSlotsFail}
 use Rattle.running_steps.specs.array_kept_Adopting.{IsAdopted}
-use Rattle.grow_asked.specs.Left.{phases_of}
+use Rattle.moving_opens.specs.grow_asked_Left.{phases_of}
 use Rattle.running_steps.specs.running_words_Parts.{RunningParts}
 use Rattle.assemble.specs.declared.opening.Opened.{Opened}
 use Rattle.assemble.specs.Opening.{scope_of, array_of, AreGiven, AreOfGiven, AreCounted, AreFlushed, IsFound, IsAside, IsOpened, IsUnfound, HasFoundNone}

@@ -1,28 +1,28 @@
 -- What an opening finds of an array in a reshape, before its window is read; and where the backup fails then.
 use Rattle.std.proofs.Common.{◌≡◌, ℕ, suc, ◌<◌, ◌≤◌, ◌==◌, ◌&&◌, nat_lt, Bool, true, false, not, cond, List, [], ◌∷◌, length, map, take, get_or, Option, Some, refl, sym, ◌∙◌, ap, ap₂, subst, arith}
 use Rattle.std.proofs.lemmas.Bool.Decides.{nat_tests}
-use Rattle.md_base.specs.declared.answers.Refusal.TheVariants.{BackupAbsent}
-use Rattle.md_base.specs.declared.status.Role.{Role}
-use Rattle.md_base.specs.declared.status.Role.TheVariants.{Whole, Recovering, Missing}
-use Rattle.md_base.specs.Search.{count_below}
-use Rattle.md_base.specs.Shapes.{has_slot, tolerance}
-use Rattle.bank.specs.declared.bank.Operation.{Operation}
-use Rattle.bank.specs.Given.{Given, sizes, IsFaulted, NeverFalls}
-use Rattle.bank.specs.Tape.{Contents, contents}
-use Rattle.bank.proofs.Causes.{faulted_longer}
-use Rattle.superblocks.specs.declared.members.Members.{Members}
-use Rattle.superblocks.specs.Election.{uuid_for, reading_in}
-use Rattle.superblocks.specs.Found.{AreInSectors}
-use Rattle.superblocks.specs.Reading.{is_reshaping, is_whole, shape_of, final_shape, role_state, holder}
-use Rattle.superblocks.specs.Outcome.{set_of}
-use Rattle.superblocks.specs.Writing.{AreWritable}
-use Rattle.superblocks.proofs.SlotSets.{has-set_of}
+use Rattle.assemble.specs.md_base_the_Refusal_TheVariants.{BackupAbsent}
+use Rattle.assemble.specs.md_base_the_Role.{Role}
+use Rattle.assemble.specs.md_base_the_Role_TheVariants.{Whole, Recovering, Missing}
+use Rattle.assemble.specs.md_base_Search.{count_below}
+use Rattle.assemble.specs.md_base_Shapes.{has_slot, tolerance}
+use Rattle.assemble.specs.bank_the_Operation.{Operation}
+use Rattle.assemble.specs.bank_Given.{Given, sizes, IsFaulted, NeverFalls}
+use Rattle.assemble.specs.bank_Tape.{Contents, contents}
+use Rattle.assemble.proofs.bank_Causes.{faulted_longer}
+use Rattle.assemble.specs.superblocks_the_Members.{Members}
+use Rattle.assemble.specs.superblocks_Election.{uuid_for, reading_in}
+use Rattle.assemble.specs.superblocks_Found.{AreInSectors}
+use Rattle.assemble.specs.superblocks_Reading.{is_reshaping, is_whole, shape_of, final_shape, role_state, holder}
+use Rattle.assemble.specs.superblocks_Outcome.{set_of}
+use Rattle.assemble.specs.superblocks_Writing.{AreWritable}
+use Rattle.assemble.proofs.superblocks_SlotSets.{has-set_of}
 use Rattle.running_steps.specs.row_io_Rows.{reading_of, is_missing, role_without, members_without}
 use Rattle.running_steps.proofs.row_io_Losses.{state_after}
-use Rattle.flat_history.specs.Left.{opened_role}
-use Rattle.flat_history.specs.Stands.{verdict}
+use Rattle.assemble.specs.flat_history_Left.{opened_role}
+use Rattle.assemble.specs.flat_history_Stands.{verdict}
 use Rattle.running_steps.specs.shape_views_Regions.{DoWithout}
-use Rattle.views.specs.Placed.{IsPlaced}
+use Rattle.assemble.specs.views_Placed.{IsPlaced}
 use Rattle.assemble.specs.declared.opening.Opened.{Opened}
 use Rattle.assemble.specs.Opening.{scope_of, array_of, AreGiven, AreOfGiven, AreCounted, AreFlushed, IsFound, IsAside, IsUnfound}
 use Rattle.moving_opens.specs.found_members_Causes.{IsWithoutBackup}

@@ -1,11 +1,11 @@
 -- Of the bank that was taken over, and of the one that was handed back.
 use Rattle.std.proofs.Common.{◌≡◌, ℕ, List, Option, Result, Ok, Err, sym, subst}
 use Rattle.std.specs.Prelude.{IfOk, IfErr}
-use Rattle.md_base.specs.declared.answers.Fault.{Fault}
-use Rattle.md_base.specs.declared.answers.Fault.TheVariants.{Refused, NoMemory}
-use Rattle.md_base.specs.declared.answers.Refusal.{Refusal}
-use Rattle.bank.specs.declared.bank.Operation.{Operation}
-use Rattle.superblocks.specs.declared.members.Members.{Members}
+use Rattle.assemble.specs.md_base_the_Fault.{Fault}
+use Rattle.assemble.specs.md_base_the_Fault_TheVariants.{Refused, NoMemory}
+use Rattle.assemble.specs.md_base_the_Refusal.{Refusal}
+use Rattle.assemble.specs.bank_the_Operation.{Operation}
+use Rattle.assemble.specs.superblocks_the_Members.{Members}
 use Rattle.running_steps.specs.running_words_Parts.{RunningParts}
 use Rattle.running_steps.specs.array_kept_Adopting.{IsAdopted}
 

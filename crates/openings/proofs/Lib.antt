@@ -11,10 +11,10 @@ pub use Rattle.running_steps.proofs.array_kept_ReplyLaws
 pub use Rattle.running_steps.proofs.call_entries_PlainLaws
 pub use Rattle.running_steps.proofs.call_entries_LosingLaws
 pub use Rattle.running_steps.proofs.call_entries_CallLaws
-pub use Rattle.views.proofs.Flushed as views_Flushed
-pub use Rattle.views.proofs.Still as views_Still
+pub use Rattle.assemble.proofs.views_Flushed
+pub use Rattle.assemble.proofs.views_Still
 pub use Rattle.running_steps.proofs.kept_history_Turned
-pub use Rattle.grow_asked.proofs.FirstLaws as grow_asked_FirstLaws
+pub use Rattle.moving_opens.proofs.grow_asked_FirstLaws
 pub use Rattle.running_steps.proofs.history_laws_OneShapeGrowing
 pub use Rattle.running_steps.proofs.history_laws_ReshapedLaws
 pub use Rattle.running_steps.proofs.history_laws_GrowingLaws

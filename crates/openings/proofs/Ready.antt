@@ -1,24 +1,24 @@
 -- What an opening finds of an array in a reshape is ready for its calls.
 use Rattle.std.proofs.Common.{◌≡◌, ℕ, ◌*◌, ◌<◌, ◌≤◌, false, List, length, Some, None, refl, sym, ◌∙◌, ap, subst, arith}
-use Rattle.md_base.specs.Shapes.{has_slot}
-use Rattle.bank.specs.declared.bank.Operation.{Operation}
-use Rattle.bank.specs.Given.{Given}
-use Rattle.superblocks.specs.declared.members.Members.{Members}
-use Rattle.superblocks.specs.Reading.{Scope, list_length, role_count}
+use Rattle.assemble.specs.md_base_Shapes.{has_slot}
+use Rattle.assemble.specs.bank_the_Operation.{Operation}
+use Rattle.assemble.specs.bank_Given.{Given}
+use Rattle.assemble.specs.superblocks_the_Members.{Members}
+use Rattle.assemble.specs.superblocks_Reading.{Scope, list_length, role_count}
 use Rattle.running_steps.specs.row_io_Rows.{reading_of, members_without}
-use Rattle.flat_history.specs.declared.events.Entry.{Entry}
-use Rattle.flat_history.specs.Stands.{reach_of}
-use Rattle.views.specs.declared.work.Work.{Work}
-use Rattle.views.specs.Numbers.{bears}
-use Rattle.views.specs.Placed.{AreWhole}
+use Rattle.assemble.specs.flat_history_the_Entry.{Entry}
+use Rattle.assemble.specs.flat_history_Stands.{reach_of}
+use Rattle.assemble.specs.views_the_Work.{Work}
+use Rattle.assemble.specs.views_Numbers.{bears}
+use Rattle.assemble.specs.views_Placed.{AreWhole}
 use Rattle.running_steps.specs.array_kept_Kept.{scope_in}
 use Rattle.running_steps.specs.array_kept_Adopting.{opener}
 use Rattle.running_steps.proofs.calls_kept_AdoptingLaws.{found-kept}
 use Rattle.running_steps.specs.kept_history_Safe.{world_in, TakesNone}
-use Rattle.grow_asked.specs.declared.window.PhasesLeft.{PhasesLeft}
-use Rattle.grow_asked.specs.declared.window.Window.{Window}
+use Rattle.moving_opens.specs.grow_asked_the_PhasesLeft.{PhasesLeft}
+use Rattle.moving_opens.specs.grow_asked_the_Window.{Window}
 use Rattle.running_steps.specs.moving_state_Due.{unsure_in}
-use Rattle.grow_asked.specs.declared.window.Window.TheVariants.{Closed, Entered, Unsure}
+use Rattle.moving_opens.specs.grow_asked_the_Window_TheVariants.{Closed, Entered, Unsure}
 use Rattle.running_steps.proofs.still_kept_Whole.{whole-told}
 use Rattle.running_steps.specs.running_words_Parts.{left_in}
 use Rattle.running_steps.specs.moving_laws_Ready.{bytes_in, IsReady}

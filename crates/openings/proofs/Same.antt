@@ -1,9 +1,9 @@
 -- What an opening found stays so, as long as nothing more is written.
 use Rattle.std.proofs.Common.{◌≡◌, ℕ, List, length, sym, ◌∙◌, ap, subst}
-use Rattle.bank.specs.declared.bank.Operation.{Operation}
-use Rattle.bank.specs.Given.{Given}
-use Rattle.superblocks.specs.declared.members.Members.{Members}
-use Rattle.grow_asked.specs.declared.window.Window.{Window}
+use Rattle.assemble.specs.bank_the_Operation.{Operation}
+use Rattle.assemble.specs.bank_Given.{Given}
+use Rattle.assemble.specs.superblocks_the_Members.{Members}
+use Rattle.moving_opens.specs.grow_asked_the_Window.{Window}
 use Rattle.running_steps.specs.running_words_Parts.{RunningParts}
 use Rattle.moving_opens.specs.Opening.{AreOpenedMoving, IsOpenedMoving}
 use Rattle.openings.specs.Adopted.{IsMovingAdopted}

@@ -1,8 +1,8 @@
 -- What is told of an array that is known by its parts.
 use Rattle.std.proofs.Common.{◌≡◌, ℕ, List, sym, subst}
-use Rattle.bank.specs.declared.bank.Operation.{Operation}
-use Rattle.bank.specs.Given.{Given}
-use Rattle.superblocks.specs.declared.members.Members.{Members}
+use Rattle.assemble.specs.bank_the_Operation.{Operation}
+use Rattle.assemble.specs.bank_Given.{Given}
+use Rattle.assemble.specs.superblocks_the_Members.{Members}
 use Rattle.openings.specs.Adopted.{IsMovingAdopted}
 use Rattle.running_steps.specs.running_words_Parts.{RunningParts}
 

@@ -1,20 +1,20 @@
 -- An opening enters losses alone, so no plan is open; and what it found of an array in a reshape tells the reshape.
 use Rattle.std.proofs.Common.{◌≡◌, ℕ, true, false, List, [], ◌∷◌, Option, Some, MatchOption, refl, sym, ◌∙◌, ap, subst}
 use Rattle.std.specs.Prelude.{⊤}
-use Rattle.md_base.specs.declared.answers.Who.{Who}
-use Rattle.bank.specs.declared.bank.Operation.{Operation}
-use Rattle.bank.specs.Given.{Given}
-use Rattle.bank.specs.Tape.{contents}
-use Rattle.superblocks.specs.declared.members.Members.{Members}
-use Rattle.superblocks.specs.Election.{reading_in}
-use Rattle.superblocks.specs.Reading.{Reading, reading, is_reshaping, role_count, shape_of}
+use Rattle.assemble.specs.md_base_the_Who.{Who}
+use Rattle.assemble.specs.bank_the_Operation.{Operation}
+use Rattle.assemble.specs.bank_Given.{Given}
+use Rattle.assemble.specs.bank_Tape.{contents}
+use Rattle.assemble.specs.superblocks_the_Members.{Members}
+use Rattle.assemble.specs.superblocks_Election.{reading_in}
+use Rattle.assemble.specs.superblocks_Reading.{Reading, reading, is_reshaping, role_count, shape_of}
 use Rattle.running_steps.specs.row_io_Rows.{reading_of}
-use Rattle.flat_history.specs.declared.events.Event.{Event}
-use Rattle.flat_history.specs.declared.events.LostCause.{LostCause}
-use Rattle.flat_history.specs.Plain.{entries_of}
-use Rattle.flat_history.specs.Reshaped.{open_plans}
-use Rattle.flat_history.specs.World.{reading_at}
-use Rattle.views.specs.Parts.{Parts}
+use Rattle.assemble.specs.flat_history_the_Event.{Event}
+use Rattle.assemble.specs.flat_history_the_LostCause.{LostCause}
+use Rattle.assemble.specs.flat_history_Plain.{entries_of}
+use Rattle.assemble.specs.flat_history_Reshaped.{open_plans}
+use Rattle.assemble.specs.flat_history_World.{reading_at}
+use Rattle.assemble.specs.views_Parts.{Parts}
 use Rattle.running_steps.specs.array_kept_Kept.{scope_in}
 use Rattle.running_steps.specs.array_kept_Adopting.{opener, absent_losses, IsAdopted}
 use Rattle.running_steps.proofs.kept_history_Opened.{loss_events}

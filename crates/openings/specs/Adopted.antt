@@ -1,17 +1,17 @@
 -- An array in a reshape that is taken over from its superblocks.
 use Rattle.std.specs.Prelude.{◌≡◌, ◌⊎◌, ℕ, List, [], length, replicate, Some, None}
-use Rattle.md_base.specs.Search.{tabulate}
-use Rattle.md_base.specs.declared.answers.Fault.{Fault}
-use Rattle.md_base.specs.declared.answers.Fault.TheVariants.{Refused, NoMemory}
-use Rattle.md_base.specs.declared.answers.Refusal.TheVariants.{BackupAbsent}
-use Rattle.bank.specs.declared.bank.Operation.{Operation}
-use Rattle.bank.specs.Given.{Given, IsFaulted}
-use Rattle.superblocks.specs.declared.members.Members.{Members}
+use Rattle.assemble.specs.md_base_Search.{tabulate}
+use Rattle.assemble.specs.md_base_the_Fault.{Fault}
+use Rattle.assemble.specs.md_base_the_Fault_TheVariants.{Refused, NoMemory}
+use Rattle.assemble.specs.md_base_the_Refusal_TheVariants.{BackupAbsent}
+use Rattle.assemble.specs.bank_the_Operation.{Operation}
+use Rattle.assemble.specs.bank_Given.{Given, IsFaulted}
+use Rattle.assemble.specs.superblocks_the_Members.{Members}
 use Rattle.running_steps.specs.row_io_Rows.{present, members_without}
 use Rattle.running_steps.specs.shape_views_Regions.{header_in, open_by}
-use Rattle.views.specs.declared.work.Work.{Work}
+use Rattle.assemble.specs.views_the_Work.{Work}
 use Rattle.running_steps.specs.array_kept_Adopting.{bearers_of}
-use Rattle.grow_asked.specs.Left.{phases_of}
+use Rattle.moving_opens.specs.grow_asked_Left.{phases_of}
 use Rattle.moving_opens.specs.reshape_openings_Finding.{window_for}
 use Rattle.moving_opens.specs.reshape_openings_Recovering.{AreRecovering}
 use Rattle.moving_opens.specs.Opening.{scope_of, opening_entries, found_course, found_resync}

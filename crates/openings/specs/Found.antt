@@ -1,13 +1,13 @@
 -- An array that an opening found, and that runs.
 use Rattle.std.specs.Prelude.{◌≡◌, ℕ, true, List, [], length, map, Option, Some, None, IfSome, MatchBool}
-use Rattle.bank.specs.declared.bank.Operation.{Operation}
-use Rattle.bank.specs.Given.{Given}
-use Rattle.bank.specs.Tape.{contents}
-use Rattle.superblocks.specs.declared.members.Members.{Members}
-use Rattle.superblocks.specs.Reading.{is_reshaping}
-use Rattle.flat_history.specs.Left.{opened_role}
+use Rattle.assemble.specs.bank_the_Operation.{Operation}
+use Rattle.assemble.specs.bank_Given.{Given}
+use Rattle.assemble.specs.bank_Tape.{contents}
+use Rattle.assemble.specs.superblocks_the_Members.{Members}
+use Rattle.assemble.specs.superblocks_Reading.{is_reshaping}
+use Rattle.assemble.specs.flat_history_Left.{opened_role}
 use Rattle.running_steps.specs.shape_views_Regions.{DoWithout}
-use Rattle.grow_asked.specs.Left.{phases_of}
+use Rattle.moving_opens.specs.grow_asked_Left.{phases_of}
 use Rattle.running_steps.specs.running_words_Parts.{RunningParts}
 use Rattle.assemble.specs.Opening.{AreGiven, IsFound}
 use Rattle.assemble.specs.Running.{IsAssembled}

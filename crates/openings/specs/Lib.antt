@@ -26,28 +26,28 @@ pub use Rattle.running_steps.specs.history_calls_Reliable
 pub use Rattle.running_steps.specs.growing_Planned
 pub use Rattle.running_steps.specs.running_replies_Limits
 pub use Rattle.running_steps.specs.running_words_Visible
-pub use Rattle.views.specs.Moving as views_Moving
-pub use Rattle.views.specs.Rebuilding as views_Rebuilding
-pub use Rattle.views.specs.Placed as views_Placed
+pub use Rattle.running_steps.specs.views_Moving
+pub use Rattle.assemble.specs.views_Rebuilding
+pub use Rattle.assemble.specs.views_Placed
 pub use Rattle.running_steps.specs.call_entries_Losing
-pub use Rattle.views.specs.Parts as views_Parts
-pub use Rattle.views.specs.Status as views_Status
-pub use Rattle.views.specs.Lacking as views_Lacking
-pub use Rattle.views.specs.Flushing as views_Flushing
+pub use Rattle.assemble.specs.views_Parts
+pub use Rattle.assemble.specs.views_Status
+pub use Rattle.running_steps.specs.views_Lacking
+pub use Rattle.assemble.specs.views_Flushing
 pub use Rattle.running_steps.specs.kept_history_Safe
 pub use Rattle.running_steps.specs.kept_history_Recorded
 pub use Rattle.running_steps.specs.shape_views_Regions
-pub use Rattle.views.specs.declared.work.Work as views_the_Work
-pub use Rattle.grow_asked.specs.Left as grow_asked_Left
-pub use Rattle.grow_asked.specs.declared.window.PhasesLeft as grow_asked_the_PhasesLeft
-pub use Rattle.superblocks.specs.Reading as superblocks_Reading
-pub use Rattle.superblocks.specs.declared.members.Members as superblocks_the_Members
-pub use Rattle.superblocks.specs.Reads as superblocks_Reads
-pub use Rattle.grow_asked.specs.Asked as grow_asked_Asked
-pub use Rattle.grow_asked.specs.declared.window.Window as grow_asked_the_Window
+pub use Rattle.assemble.specs.views_the_Work
+pub use Rattle.moving_opens.specs.grow_asked_Left
+pub use Rattle.moving_opens.specs.grow_asked_the_PhasesLeft
+pub use Rattle.assemble.specs.superblocks_Reading
+pub use Rattle.assemble.specs.superblocks_the_Members
+pub use Rattle.assemble.specs.superblocks_Reads
+pub use Rattle.moving_opens.specs.grow_asked_Asked
+pub use Rattle.moving_opens.specs.grow_asked_the_Window
 pub use Rattle.running_steps.specs.row_io_Rows
-pub use Rattle.superblocks.specs.Found as superblocks_Found
-pub use Rattle.superblocks.specs.Election as superblocks_Election
+pub use Rattle.assemble.specs.superblocks_Found
+pub use Rattle.assemble.specs.superblocks_Election
 pub use Rattle.running_steps.specs.shape_changes_Marking
 pub use Rattle.running_steps.specs.growing_Plans
 pub use Rattle.running_steps.specs.growing_Replied

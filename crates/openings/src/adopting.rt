@@ -1,33 +1,25 @@
 //! An array in a reshape is taken over from its superblocks.
 
 ghost use Rattle.std.specs.Prelude.{◌≡◌, ◌⊎◌, ◌*◌, ◌^◌, ◌<◌, ◌≤◌, ℕ, [], false, true, length, vec_capacity, replicate, Some, None, IfOk, IfErr};
-ghost use Rattle.md_base.specs.Shapes.{has_slot};
-ghost use Rattle.bank.specs.Given.{NeverFalls};
-ghost use Rattle.superblocks.specs.Reading.{is_reshaping, role_count, holder, role_state};
+ghost use Rattle.assemble.specs.md_base_Shapes.{has_slot};
+ghost use Rattle.assemble.specs.bank_Given.{NeverFalls};
+ghost use Rattle.assemble.specs.superblocks_Reading.{is_reshaping, role_count, holder, role_state};
 ghost use Rattle.running_steps.specs.row_io_Rows.{reading_of};
-ghost use Rattle.flat_history.specs.Stands.{reach_of};
+ghost use Rattle.assemble.specs.flat_history_Stands.{reach_of};
 ghost use Rattle.running_steps.specs.shape_views_Regions.{AreShapesFit};
-ghost use Rattle.views.specs.Flushing.{OnlyItsSlotsFail};
+ghost use Rattle.assemble.specs.views_Flushing.{OnlyItsSlotsFail};
 ghost use Rattle.running_steps.specs.moving_state_Due.{unsure_in};
 ghost use Rattle.running_steps.specs.moving_laws_Ready.{bytes_in};
 ghost use Rattle.moving_opens.specs.Opening.{AreOpenedMoving, IsOpenedMoving};
 ghost use Rattle.openings.specs.Adopted.{moving_work, IsMovingAdopted, IsNotAdopted};
 
-use bank::Bank;
-use flat_history::Epoch;
-use geometry::unit;
-use grow_asked::{PhasesLeft, Window};
-use md_base::{Fault, Refusal};
-use moving_opens::{find_window, lose_recovering};
-use pieces::Pieces;
+use assemble::{Bank, Epoch, Fault, Members, Refusal, Work, is_clean, unit};
+use moving_opens::{PhasesLeft, Window, find_window, lose_recovering};
 use running_steps::{
-    Course, Moving, Room, enter_all_absent, final_in, found_numbers, list_sectors, room_for,
-    shape_in, zeros,
+    Course, Moving, Pieces, Room, enter_all_absent, final_in, found_numbers, list_sectors,
+    room_for, shape_in, zeros,
 };
 use std::alloc::Global;
-use superblocks::Members;
-use superblocks::says::is_clean;
-use views::Work;
 
 // The sectors that a window of the reshape has at most.
 fn longest_window(members: &Members) -> u64

@@ -1,12 +1,12 @@
 //! An array that is made in a bank's slots, and runs.
 
 ghost use Rattle.std.specs.Prelude.{◌≡◌, ◌≤◌, ℕ, [], Some, None, IfOk, IfErr};
-ghost use Rattle.md_base.specs.declared.answers.Fault.TheVariants.{Refused as IsRefused};
-ghost use Rattle.md_base.specs.declared.answers.Refusal.{Refusal as AnyRefusal};
-ghost use Rattle.md_base.specs.declared.answers.Refusal.TheVariants.{UuidInUse as IsInUse};
+ghost use Rattle.assemble.specs.md_base_the_Fault_TheVariants.{Refused as IsRefused};
+ghost use Rattle.assemble.specs.md_base_the_Refusal.{Refusal as AnyRefusal};
+ghost use Rattle.assemble.specs.md_base_the_Refusal_TheVariants.{UuidInUse as IsInUse};
 ghost use Rattle.running_steps.specs.row_io_Rows.{present};
-ghost use Rattle.views.specs.Flushing.{OnlyFlushesAdded, OnlyItsSlotsFail};
-ghost use Rattle.grow_asked.specs.Left.{phases_of};
+ghost use Rattle.assemble.specs.views_Flushing.{OnlyFlushesAdded, OnlyItsSlotsFail};
+ghost use Rattle.moving_opens.specs.grow_asked_Left.{phases_of};
 ghost use Rattle.assemble.specs.Opening.{scope_of};
 ghost use Rattle.assemble.specs.Creating.{IsLastSlot, create_refusal};
 ghost use Rattle.assemble.specs.Filling.{OnlyBelow};
@@ -14,9 +14,7 @@ ghost use Rattle.assemble.specs.Made.{used_slot, HasCreateCause};
 ghost use Rattle.assemble.specs.Running.{IsCreated};
 
 use crate::finding::run_still;
-use assemble::{CreateSpec, make};
-use bank::Bank;
-use md_base::Fault;
+use assemble::{Bank, CreateSpec, Fault, make};
 use running_steps::Running;
 use std::alloc::Global;
 

@@ -2,16 +2,16 @@
 
 ghost use Rattle.std.specs.Prelude.{◌≡◌, ◌≢◌, [], ◌∷◌, false, length, IfOk, IfErr};
 ghost use Rattle.std.specs.List.{list_any};
-ghost use Rattle.md_base.specs.declared.answers.Refusal.{Refusal};
-ghost use Rattle.bank.specs.Given.{NeverFalls};
-ghost use Rattle.superblocks.specs.Reading.{is_reshaping, list_length};
+ghost use Rattle.assemble.specs.md_base_the_Refusal.{Refusal};
+ghost use Rattle.assemble.specs.bank_Given.{NeverFalls};
+ghost use Rattle.assemble.specs.superblocks_Reading.{is_reshaping, list_length};
 ghost use Rattle.running_steps.specs.row_io_Rows.{present};
-ghost use Rattle.flat_history.specs.Epochs.{world_of};
-ghost use Rattle.flat_history.specs.Flat.{next_number, now};
-ghost use Rattle.flat_history.specs.Growing.{EndBy};
-ghost use Rattle.flat_history.specs.Sound.{OpensFit};
-ghost use Rattle.flat_history.specs.World.{opening_list};
-ghost use Rattle.flat_history.specs.declared.events.Event.TheVariants.{Halted, Stopped};
+ghost use Rattle.assemble.specs.flat_history_Epochs.{world_of};
+ghost use Rattle.assemble.specs.flat_history_Flat.{next_number, now};
+ghost use Rattle.assemble.specs.flat_history_Growing.{EndBy};
+ghost use Rattle.assemble.specs.flat_history_Sound.{OpensFit};
+ghost use Rattle.assemble.specs.flat_history_World.{opening_list};
+ghost use Rattle.assemble.specs.flat_history_the_Event_TheVariants.{Halted, Stopped};
 ghost use Rattle.running_steps.specs.shape_views_Regions.{DoWithout};
 ghost use Rattle.running_steps.specs.views_Moving.{Grows};
 ghost use Rattle.running_steps.specs.views_Lacking.{AreTooMany, HaveRolesFailed};
@@ -24,9 +24,7 @@ ghost use Rattle.running_steps.specs.running_words_Plans.{turns_shape, KeepsShap
 ghost use Rattle.running_steps.specs.running_words_Still.{AreLeftSettled};
 ghost use Rattle.running_steps.specs.still_laws_Plain.{AreToldPlainly, IsPlainEpoch};
 
-use bank::Bank;
-use flat_history::Epoch;
-use md_base::{Fault, Who};
+use assemble::{Bank, Epoch, Fault, Who};
 use running_steps::{Running, State, check_moving, check_still};
 
 /// Ends the epoch, and gives the bank back with what happened. It takes no memory and makes no device call.

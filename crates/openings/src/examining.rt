@@ -1,13 +1,12 @@
 //! The superblocks as they are stored.
 
 ghost use Rattle.std.specs.Prelude.{◌≡◌, ◌<◌, length, IfOk};
-ghost use Rattle.sb1.specs.Superblock.{superblock_in};
-ghost use Rattle.bank.specs.Tape.{contents};
-ghost use Rattle.superblocks.specs.Election.{IsCausedBy};
+ghost use Rattle.assemble.specs.sb1_Superblock.{superblock_in};
+ghost use Rattle.assemble.specs.bank_Tape.{contents};
+ghost use Rattle.assemble.specs.superblocks_Election.{IsCausedBy};
 
-use bank::{Bank, BankFault};
+use assemble::{Bank, BankFault, Sb};
 use running_steps::{Running, State, check_moving, check_still};
-use sb1::Sb;
 
 /// What the superblock of a slot says as it is stored now, whichever array's it is, and `None` where the slot has no valid
 /// one. It writes nothing and enters nothing. Where the slot fails it is lost by the next call that uses it.

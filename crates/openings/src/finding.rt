@@ -1,28 +1,25 @@
 //! An array that is found in a bank's slots, and runs.
 
 ghost use Rattle.std.specs.Prelude.{◌≡◌, ◌<◌, ◌≤◌, ℕ, [], false, length, Some, None, IfOk, IfErr, IfSome};
-ghost use Rattle.md_base.specs.declared.answers.Fault.TheVariants.{NoMemory as WantsMemory};
-ghost use Rattle.md_base.specs.Shapes.{has_slot};
-ghost use Rattle.bank.specs.Tape.{contents};
-ghost use Rattle.superblocks.specs.Reads.{has_spare};
+ghost use Rattle.assemble.specs.md_base_the_Fault_TheVariants.{NoMemory as WantsMemory};
+ghost use Rattle.assemble.specs.md_base_Shapes.{has_slot};
+ghost use Rattle.assemble.specs.bank_Tape.{contents};
+ghost use Rattle.assemble.specs.superblocks_Reads.{has_spare};
 ghost use Rattle.running_steps.specs.row_io_Rows.{present};
-ghost use Rattle.views.specs.Flushing.{OnlyFlushesAdded, OnlyItsSlotsFail};
-ghost use Rattle.views.specs.Rebuilding.{Held};
+ghost use Rattle.assemble.specs.views_Flushing.{OnlyFlushesAdded, OnlyItsSlotsFail};
+ghost use Rattle.assemble.specs.views_Rebuilding.{Held};
 ghost use Rattle.running_steps.specs.array_kept_Kept.{scope_in};
 ghost use Rattle.running_steps.specs.array_kept_Adopting.{IsAdoptable, IsAdopted};
-ghost use Rattle.grow_asked.specs.Left.{phases_of};
+ghost use Rattle.moving_opens.specs.grow_asked_Left.{phases_of};
 ghost use Rattle.assemble.specs.Opening.{HasFoundNone};
 ghost use Rattle.moving_opens.specs.Opening.{AreOpenedMoving};
 ghost use Rattle.openings.specs.Adopted.{IsMovingAdopted, IsNotAdopted};
 ghost use Rattle.openings.specs.Found.{IsRunningFound};
 
 use crate::adopting::adopt_moving;
-use assemble::{Opened, find};
-use bank::Bank;
-use md_base::Fault;
+use assemble::{Bank, Fault, Opened, find, is_reshaping};
 use running_steps::{Opened as OpenedStill, Running, Still};
 use std::alloc::Global;
-use superblocks::says::is_reshaping;
 
 // The array runs that has no active reshape, and whose backup holds no role and is no spare.
 pub(crate) fn run_still<B: Bank>(

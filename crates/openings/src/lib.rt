@@ -8,7 +8,7 @@ mod examining;
 mod finding;
 
 pub use adopting::adopt_moving;
-pub use assemble::CreateSpec;
+pub use assemble::{CreateSpec, read_superblock};
 pub use creating::create_array;
 pub use ending::{halt, stop};
 pub use examining::examine;

@@ -2,11 +2,11 @@
 #![tactic(auto)]
 
 ghost use Rattle.std.specs.Prelude.{◌≡◌, ◌≢◌, ◌==◌, ◌<◌, ◌≤◌, ◌||◌, ℕ, Some, None, IsTrue, if◌then◌else◌};
-ghost use Rattle.parity.specs.Exponents.{is_data};
-ghost use Rattle.parity.specs.Parity.{AreEquationsMet, fill};
-ghost use Rattle.parity.specs.Rows.{IsRowOf, sector_of, row_without, whole_row};
+ghost use Rattle.parity_lanes.specs.parity_Exponents.{is_data};
+ghost use Rattle.parity_lanes.specs.parity_Parity.{AreEquationsMet, fill};
+ghost use Rattle.parity_lanes.specs.parity_Rows.{IsRowOf, sector_of, row_without, whole_row};
 
-use md_base::RowRoles;
+use parity_lanes::RowRoles;
 
 /// Sets P and Q from the data of a row of whole sectors, role after role.
 #[unsafe(no_mangle)]
@@ -18,7 +18,7 @@ pub extern "C" fn parity_syndromes(row: &mut [u8], disks: u32, p: u32, q: u32)
     ensures good { AreEquationsMet (record { disks = disks; p = p; q = Some q }) (whole_row disks (sector_of row.new)) }
     ensures data { (role : ℕ) → IsTrue (is_data (record { disks = disks; p = p; q = Some q }) role) → sector_of row.new role ≡ sector_of row.old role }
 {
-    parity::syndromes(
+    parity_lanes::parity_syndromes(
         row,
         &RowRoles {
             disks,
@@ -37,7 +37,7 @@ pub extern "C" fn parity_plain_syndromes(row: &mut [u8], disks: u32, p: u32)
     ensures good { AreEquationsMet (record { disks = disks; p = p; q = None }) (whole_row disks (sector_of row.new)) }
     ensures data { (role : ℕ) → IsTrue (is_data (record { disks = disks; p = p; q = None }) role) → sector_of row.new role ≡ sector_of row.old role }
 {
-    parity::syndromes(row, &RowRoles { disks, p, q: None });
+    parity_lanes::parity_syndromes(row, &RowRoles { disks, p, q: None });
 }
 
 /// Sets the sector of one missing role.
@@ -51,7 +51,7 @@ pub extern "C" fn parity_fill_one(row: &mut [u8], disks: u32, p: u32, q: u32, mi
     ensures filled { sector_of row.new missing ≡ fill (record { disks = disks; p = p; q = Some q }) (row_without (λ role. role == missing) disks (sector_of row.old)) missing }
     ensures others { (role : ℕ) → role ≢ missing → sector_of row.new role ≡ sector_of row.old role }
 {
-    parity::fill_one(
+    parity_lanes::parity_fill_one(
         row,
         &RowRoles {
             disks,
@@ -83,7 +83,7 @@ pub extern "C" fn parity_fill_two(
     ensures second { sector_of row.new second ≡ fill (record { disks = disks; p = p; q = Some q }) (row_without (λ role. (role == first) || (role == second)) disks (sector_of row.old)) second }
     ensures others { (role : ℕ) → role ≢ first → role ≢ second → sector_of row.new role ≡ sector_of row.old role }
 {
-    parity::fill_two(
+    parity_lanes::parity_fill_two(
         row,
         &RowRoles {
             disks,

@@ -4,9 +4,9 @@ use Rattle.std.specs.Simd.Lanes.{put_chunk}
 use Rattle.std.proofs.lemmas.Bool.{cases_lt, cases_eq}
 use Rattle.std.proofs.lemmas.Simd.{get_or-put_chunk_below, get_or-put_chunk_at, get_or-put_chunk_above, get_or-replicate, length-replicate}
 use Rattle.std.specs.Int.Bits.{bit_xor}
-use Rattle.gf256.specs.Field.{product, power_of_two}
-use Rattle.gf256.proofs.FieldLaws.{product-one_l}
-use Rattle.md_base.specs.declared.places.RowRoles.{RowRoles}
+use Rattle.parity.specs.gf256_Field.{product, power_of_two}
+use Rattle.parity.proofs.gf256_FieldLaws.{product-one_l}
+use Rattle.parity.specs.md_base_the_RowRoles.{RowRoles}
 use Rattle.parity.specs.Exponents.{is_q, is_data, exponent}
 use Rattle.parity.specs.Parity.{p_byte, q_byte, fill}
 use Rattle.parity.specs.Rows.{IsRowRoles, IsRowOf, byte_of, bytes_at, sector_of, row_without, p_weight}

@@ -5,9 +5,9 @@ use Rattle.std.proofs.lemmas.List.{get_or-set_same, get_or-set_other}
 use Rattle.std.proofs.lemmas.Bool.{cases_eq}
 use Rattle.std.proofs.lemmas.Bool.Decides.{nat_tests}
 use Rattle.std.specs.Int.Bits.{bit_xor}
-use Rattle.gf256.specs.Field.{double, power_of_two}
-use Rattle.md_base.specs.Search.{tabulate}
-use Rattle.md_base.specs.declared.places.RowRoles.{RowRoles}
+use Rattle.parity.specs.gf256_Field.{double, power_of_two}
+use Rattle.parity.specs.md_base_Search.{tabulate}
+use Rattle.parity.specs.md_base_the_RowRoles.{RowRoles}
 use Rattle.parity.specs.Exponents.{is_data, steps_behind, exponent}
 use Rattle.parity.specs.Parity.{data_sum}
 use Rattle.parity.specs.Rows.{IsRowRoles}

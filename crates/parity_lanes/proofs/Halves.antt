@@ -2,8 +2,8 @@
 use Rattle.std.proofs.Common.{◌≡◌, ℕ, ◌+◌, ◌*◌, ◌/◌, ◌%◌, ◌^◌, ◌<◌, Bool, true, List, length, get_or, replicate, nat_eq, eqb-true, refl, sym, ap, ap₂, ◌∙◌, arith, w8, Fits, bit_and}
 use Rattle.std.specs.Int.Bits.{bit_xor}
 use lib.Lanes.{zip2, Each1}
-use Rattle.gf256.specs.Field.{product}
-use Rattle.gf256.proofs.FieldLaws.{product-add_r}
+use Rattle.parity.specs.gf256_Field.{product}
+use Rattle.parity.proofs.gf256_FieldLaws.{product-add_r}
 use Rattle.std.proofs.lemmas.Bool.{agree_below_at}
 use Rattle.std.proofs.lemmas.Simd.{swz_l, SwzOk, SwzOk-from_below, Each1-from_get_or, Each1-get_or, get_or-swz_l_below, length-swz_l, get_or-zip2, length-zip2, get_or-replicate, below_from_Fits}
 use Rattle.parity_lanes.specs.declared.sectors.TheConstants.{LOW_HALVES, HIGH_HALVES}

@@ -5,9 +5,9 @@ use Rattle.std.specs.Simd.Lanes.{zip2, chunk, put_chunk}
 use Rattle.std.proofs.Common.{Bool, true, false, cond, leb, nat_eq, eqb-true, ◌%◌, ◌^◌, map, replicate, w8}
 use lib.Lanes.{sel_l, top, Each1}
 use mir.Val.{bits, hbits}
-use Rattle.gf256.specs.Field.{double, product_of_bits}
+use Rattle.parity.specs.gf256_Field.{double, product_of_bits}
 use Rattle.parity.specs.Rows.{byte_of}
-use Rattle.gf256.proofs.FieldLaws.{double-lt, bits-suc}
+use Rattle.parity.proofs.gf256_FieldLaws.{double-lt, bits-suc}
 use Rattle.std.proofs.Math.Nat.{zero-mul, one-mul}
 use Rattle.std.proofs.lemmas.Bool.{cases_lt, agree_below_at}
 use Rattle.std.proofs.lemmas.Simd.{tops_compared, length-sel_l, get_or-sel_l, get_or-replicate, Each1-get_or}

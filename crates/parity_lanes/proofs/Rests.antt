@@ -2,10 +2,10 @@
 use Rattle.std.proofs.Common.{◌≡◌, ℕ, inl, inr, cond, Some, None, sym, ap, ◌∙◌}
 use Rattle.std.proofs.lemmas.Bool.{cases_eq}
 use Rattle.std.specs.Int.Bits.{bit_xor, xor_assoc, xor_self, xor_zero_r}
-use Rattle.gf256.specs.Field.{product}
-use Rattle.gf256.proofs.FieldLaws.{product-one_l, product-zero_l}
-use Rattle.md_base.specs.Search.{tabulate}
-use Rattle.md_base.specs.declared.places.RowRoles.{RowRoles}
+use Rattle.parity.specs.gf256_Field.{product}
+use Rattle.parity.proofs.gf256_FieldLaws.{product-one_l, product-zero_l}
+use Rattle.parity.specs.md_base_Search.{tabulate}
+use Rattle.parity.specs.md_base_the_RowRoles.{RowRoles}
 use Rattle.parity.specs.Exponents.{is_this_q}
 use Rattle.parity.specs.Parity.{data_sum}
 use Rattle.parity.specs.Rows.{IsRowRoles, p_weight}

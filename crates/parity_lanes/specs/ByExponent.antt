@@ -1,6 +1,6 @@
 -- Data roles by their exponents.
 use Rattle.std.specs.Prelude.{◌≡◌, ℕ, ◌+◌, ◌<◌, List, slice_index, IsTrue}
-use Rattle.md_base.specs.declared.places.RowRoles.{RowRoles}
+use Rattle.parity.specs.md_base_the_RowRoles.{RowRoles}
 use Rattle.parity.specs.Exponents.{is_data, exponent}
 
 -- The data roles of a row with this Q, from the greatest exponent down to exponent 0; what follows them is left open.

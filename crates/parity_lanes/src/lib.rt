@@ -6,4 +6,8 @@ mod row;
 mod sectors;
 mod sums;
 
+pub use parity::{
+    RowRoles, fill_one as parity_fill_one, fill_two as parity_fill_two,
+    syndromes as parity_syndromes,
+};
 pub use row::{fill_one, fill_two, syndromes};

@@ -4,7 +4,7 @@ ghost use Rattle.parity.specs.Exponents.{is_data, steps_behind, exponent};
 ghost use Rattle.parity.specs.Rows.{IsRowRoles};
 ghost use Rattle.parity_lanes.specs.ByExponent.{IsByExponent};
 
-use md_base::RowRoles;
+use parity::RowRoles;
 
 /// How many disks a role stands behind Q, going round.
 pub(crate) fn steps_after(roles: &RowRoles, q: u32, role: u32) -> u32

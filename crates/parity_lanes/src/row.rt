@@ -7,8 +7,7 @@ ghost use Rattle.parity.specs.Rows.{IsRowRoles, IsRowOf, sector_of, row_without,
 
 use crate::sectors::{combination, put_sector};
 use crate::sums::{Sums, rests, set_both, set_q, set_rest, weights_of};
-use gf256::{inv, mul};
-use md_base::RowRoles;
+use parity::{RowRoles, inv, mul};
 
 /// Sets P, and Q where there is one, from the data of a row of whole sectors, role after role.
 pub fn syndromes(row: &mut [u8], roles: &RowRoles)

@@ -2,7 +2,7 @@
 ghost use Rattle.std.specs.Prelude.{◌≡◌, ◌≢◌, ℕ, ◌+◌, ◌*◌, ◌%◌, ◌<◌, ◌≤◌, length, slice_index};
 ghost use Rattle.std.specs.Int.Bits.{bit_xor};
 ghost use Rattle.std.specs.Simd.Lanes.{Each1, chunk, put_chunk};
-ghost use Rattle.gf256.specs.Field.{double, product};
+ghost use Rattle.parity.specs.gf256_Field.{double, product};
 ghost use Rattle.parity.specs.Rows.{sector_of, byte_of};
 
 use std::simd::prelude::*;

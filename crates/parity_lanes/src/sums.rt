@@ -10,8 +10,7 @@ use crate::order::{data_roles, steps_after};
 use crate::sectors::{
     BLOCKS, LANES, SECTOR, add_sector, double_and_add, load, put_block, sector, store,
 };
-use gf256::pow_g;
-use md_base::RowRoles;
+use parity::{RowRoles, pow_g};
 use std::simd::prelude::*;
 
 /// Two sums of a row's sectors, the second with a weight for each.

@@ -1,12 +1,15 @@
 //! What an array owns, whether a reshape is active in it or not.
 #![tactic(auto)]
 
-use bank::Bank;
-use flat_history::Epoch;
-use grow_asked::PhasesLeft;
+pub use grow_asked::planning::all_left;
+pub use grow_asked::shapes::is_backward;
+use grow_asked::{Bank, Members};
+pub use grow_asked::{
+    Entries, Epoch, Event, LostCause, PhasesLeft, StepKind, Window, judge_grow, plan_of,
+    planned_left, reshape_left,
+};
 use std::alloc::Global;
-use superblocks::Members;
-use views::Work;
+pub use views::{Work, is_missing, lose_slot};
 
 /// What an array owns while it goes from one state to another: its bank and history, what is known of the superblocks, what is under
 /// way in it, the phases of a plan that haven't begun, the limit of the visible size in sectors, the steps that there is room for, and

@@ -5,11 +5,11 @@ use Rattle.std.specs.Int.{◌∣◌}
 use Rattle.std.proofs.lemmas.Bool.{cases_lt, and_parts, eqb-true}
 use Rattle.std.proofs.lemmas.Bool.Decides.{nat_tests}
 use Rattle.std.proofs.Math.Nat.{dvd-add, dvd_refl, dvd-mul_left, dvd_trans, div-mul_cancel, mul-le-mul_left, mul-le-mul_right, mul_assoc}
-use Rattle.md_base.specs.declared.places.Shape.{Shape}
-use Rattle.md_base.specs.declared.places.Span.{Span}
-use Rattle.md_base.specs.declared.places.Side.{Side}
-use Rattle.md_base.specs.declared.places.Side.TheVariants.{Old, New}
-use Rattle.md_base.specs.Shapes.{data_disks, stripe_sectors, is_valid_shape}
+use Rattle.geometry.specs.md_base_the_Shape.{Shape}
+use Rattle.geometry.specs.md_base_the_Span.{Span}
+use Rattle.geometry.specs.md_base_the_Side.{Side}
+use Rattle.geometry.specs.md_base_the_Side_TheVariants.{Old, New}
+use Rattle.geometry.specs.md_base_Shapes.{data_disks, stripe_sectors, is_valid_shape}
 use Rattle.geometry.specs.Geometry.{AreInForce, unit, list_end, side, window, ceiling, rows, row_at, IsIn}
 use Rattle.region_laws.specs.Regions.{IsUnderWay, RegionsAreApart, IsWindowRow, WindowsWriteTheirRows}
 use Rattle.geometry.proofs.Divisions.{next_multiple, ceiling_of_multiple, ceiling_grows}

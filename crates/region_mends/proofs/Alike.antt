@@ -1,8 +1,8 @@
 -- Superblocks that say the same of the shapes and of a reshape have the same stripes.
 use Rattle.std.proofs.Common.{◌≡◌, ℕ, ◌+◌, ◌-◌, ◌/◌, nat_lt, if◌then◌else◌, Option, Some, None, ◌∙◌, ap}
-use Rattle.md_base.specs.Shapes.{stripe_sectors}
-use Rattle.sb1.specs.declared.sb.Sb.{Sb}
-use Rattle.superblocks.specs.Reading.{shape_of}
+use Rattle.grow_asked.specs.md_base_Shapes.{stripe_sectors}
+use Rattle.grow_asked.specs.sb1_the_Sb.{Sb}
+use Rattle.grow_asked.specs.superblocks_Reading.{shape_of}
 use Rattle.region_writes.specs.flat_history_Stands.{shape_for}
 use Rattle.region_writes.specs.views_Placed.{HaveSameReshape}
 use Rattle.region_writes.proofs.views_Fit.{for-alike, list-alike}

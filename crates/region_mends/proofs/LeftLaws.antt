@@ -3,17 +3,17 @@ use Rattle.std.proofs.Common.{◌≡◌, inl, inr, ℕ, ◌+◌, ◌-◌, ◌*�
 use Rattle.std.specs.Prelude.{IsTrue}
 use Rattle.std.proofs.lemmas.Bool.{cases_lt}
 use Rattle.std.proofs.lemmas.Bool.Decides.{nat_tests}
-use Rattle.md_base.specs.declared.places.Shape.{Shape}
-use Rattle.md_base.specs.declared.places.Side.{Side}
-use Rattle.md_base.specs.declared.places.Side.TheVariants.{Old, New}
-use Rattle.md_base.specs.Shapes.{is_valid_shape, is_multiple, data_disks, stripe_sectors}
-use Rattle.bank.specs.Given.{Given}
-use Rattle.sb1.specs.declared.sb.Sb.{Sb}
-use Rattle.geometry.specs.Geometry.{side, ceiling, beyond}
-use Rattle.geometry.proofs.Divisions.{ceiling_le, next_multiple, quotient}
-use Rattle.geometry.proofs.Valid.{bounded}
-use Rattle.superblocks.specs.declared.members.Members.{Members}
-use Rattle.superblocks.specs.Reading.{is_reshaping, is_backward, shape_of, final_shape}
+use Rattle.grow_asked.specs.md_base_the_Shape.{Shape}
+use Rattle.grow_asked.specs.md_base_the_Side.{Side}
+use Rattle.grow_asked.specs.md_base_the_Side_TheVariants.{Old, New}
+use Rattle.grow_asked.specs.md_base_Shapes.{is_valid_shape, is_multiple, data_disks, stripe_sectors}
+use Rattle.grow_asked.specs.bank_Given.{Given}
+use Rattle.grow_asked.specs.sb1_the_Sb.{Sb}
+use Rattle.grow_asked.specs.geometry_Geometry.{side, ceiling, beyond}
+use Rattle.grow_asked.proofs.geometry_Divisions.{ceiling_le, next_multiple, quotient}
+use Rattle.grow_asked.proofs.geometry_Valid.{bounded}
+use Rattle.grow_asked.specs.superblocks_the_Members.{Members}
+use Rattle.grow_asked.specs.superblocks_Reading.{is_reshaping, is_backward, shape_of, final_shape}
 use Rattle.region_writes.specs.flat_history_Stands.{shape_at, shape_for}
 use Rattle.region_writes.specs.shape_views_Regions.{AreShapesFit}
 use Rattle.region_writes.specs.shape_views_Windows.{moved_past}

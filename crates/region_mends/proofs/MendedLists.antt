@@ -3,15 +3,15 @@ use Rattle.std.proofs.Common.{◌≡◌, inl, inr, ℕ, ◌+◌, ◌*◌, ◌<�
 use Rattle.std.specs.Option.{option_map_or}
 use Rattle.std.proofs.lemmas.Bool.{cases_lt}
 use Rattle.std.proofs.lemmas.Nat.{mul-le}
-use Rattle.md_base.specs.Sectors.{Sector}
-use Rattle.md_base.specs.Shapes.{is_valid_shape}
-use Rattle.md_base.specs.declared.places.Shape.{Shape}
-use Rattle.md_base.specs.declared.places.Span.{Span}
-use Rattle.bank.specs.Given.{Given}
-use Rattle.bank.specs.Tape.{Contents}
-use Rattle.layout.specs.Layout.{place}
-use Rattle.superblocks.specs.declared.members.Members.{Members}
-use Rattle.superblocks.specs.Reading.{final_shape, list_length, data_offset_of}
+use Rattle.grow_asked.specs.md_base_Sectors.{Sector}
+use Rattle.grow_asked.specs.md_base_Shapes.{is_valid_shape}
+use Rattle.grow_asked.specs.md_base_the_Shape.{Shape}
+use Rattle.grow_asked.specs.md_base_the_Span.{Span}
+use Rattle.grow_asked.specs.bank_Given.{Given}
+use Rattle.grow_asked.specs.bank_Tape.{Contents}
+use Rattle.grow_asked.specs.layout_Layout.{place}
+use Rattle.grow_asked.specs.superblocks_the_Members.{Members}
+use Rattle.grow_asked.specs.superblocks_Reading.{final_shape, list_length, data_offset_of}
 use Rattle.region_writes.specs.row_io_Rows.{reading_of, held_slot}
 use Rattle.region_writes.proofs.row_io_Losses.{holder-of}
 use Rattle.region_writes.specs.list_io_Full.{AreWholeIn, DataStands, RowStands}

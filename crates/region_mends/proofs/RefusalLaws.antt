@@ -2,11 +2,11 @@
 use Rattle.std.proofs.Common.{◌≡◌, inl, inr, ℕ, ◌<◌, ◌≤◌, nat_lt, Bool, true, false, if◌then◌else◌, Option, Some, None, is_some, refl, sym, ◌∙◌, ap, subst, arith}
 use Rattle.std.specs.Prelude.{MatchOption, ⊤}
 use Rattle.std.proofs.lemmas.Bool.Decides.{nat_tests}
-use Rattle.md_base.specs.Shapes.{tolerance}
-use Rattle.md_base.specs.declared.places.Shape.{Shape}
-use Rattle.md_base.specs.declared.answers.Refusal.{Refusal}
-use Rattle.superblocks.specs.declared.members.Members.{Members}
-use Rattle.superblocks.specs.Reading.{shape_of, final_shape}
+use Rattle.grow_asked.specs.md_base_Shapes.{tolerance}
+use Rattle.grow_asked.specs.md_base_the_Shape.{Shape}
+use Rattle.grow_asked.specs.md_base_the_Refusal.{Refusal}
+use Rattle.grow_asked.specs.superblocks_the_Members.{Members}
+use Rattle.grow_asked.specs.superblocks_Reading.{shape_of, final_shape}
 use Rattle.region_writes.specs.shape_views_Regions.{DoWithout}
 use Rattle.region_writes.specs.views_Placed.{IsInForce}
 use Rattle.region_writes.specs.views_Lacking.{lacking, too_many, DoesWithout, LacksTooMany, AreTooMany, IsUnwritten}

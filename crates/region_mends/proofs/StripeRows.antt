@@ -3,14 +3,14 @@ use Rattle.std.proofs.Common.{◌≡◌, ◌⊎◌, inl, inr, ℕ, ◌+◌, ◌*
 use Rattle.std.proofs.lemmas.Bool.{cases_lt}
 use Rattle.std.proofs.lemmas.Bool.Decides.{nat_tests}
 use Rattle.std.proofs.lemmas.Nat.{mul-le}
-use Rattle.md_base.specs.declared.places.Shape.{Shape}
-use Rattle.md_base.specs.declared.places.Side.TheVariants.{Old, New}
-use Rattle.md_base.specs.Shapes.{is_valid_shape, data_disks, stripe_sectors}
-use Rattle.sb1.specs.declared.sb.Sb.{Sb}
-use Rattle.layout.specs.Layout.{place}
-use Rattle.layout.proofs.Places.{chunk_some}
-use Rattle.geometry.specs.Geometry.{side, ceiling}
-use Rattle.superblocks.specs.Reading.{is_reshaping, is_backward, final_shape, list_length}
+use Rattle.grow_asked.specs.md_base_the_Shape.{Shape}
+use Rattle.grow_asked.specs.md_base_the_Side_TheVariants.{Old, New}
+use Rattle.grow_asked.specs.md_base_Shapes.{is_valid_shape, data_disks, stripe_sectors}
+use Rattle.grow_asked.specs.sb1_the_Sb.{Sb}
+use Rattle.grow_asked.specs.layout_Layout.{place}
+use Rattle.grow_asked.proofs.layout_Places.{chunk_some}
+use Rattle.grow_asked.specs.geometry_Geometry.{side, ceiling}
+use Rattle.grow_asked.specs.superblocks_Reading.{is_reshaping, is_backward, final_shape, list_length}
 use Rattle.region_writes.specs.flat_history_Stands.{shape_for}
 use Rattle.region_writes.specs.shape_views_Regions.{AreShapesFit, place_by}
 use Rattle.region_writes.specs.shape_views_Views.{IsTail}

@@ -1,9 +1,9 @@
 -- How a resync goes through the list of an array in a reshape.
 use Rattle.std.specs.Prelude.{◌≡◌, ◌↔◌, ℕ, ◌+◌, ◌*◌, ◌/◌, ◌<◌, ◌≤◌, min, true, false, Option, Some, IfSome}
-use Rattle.md_base.specs.Shapes.{stripe_sectors}
-use Rattle.sb1.specs.declared.sb.Sb.{Sb}
-use Rattle.geometry.specs.Geometry.{ceiling}
-use Rattle.superblocks.specs.Reading.{is_reshaping, is_backward, shape_of, final_shape, list_length}
+use Rattle.grow_asked.specs.md_base_Shapes.{stripe_sectors}
+use Rattle.grow_asked.specs.sb1_the_Sb.{Sb}
+use Rattle.grow_asked.specs.geometry_Geometry.{ceiling}
+use Rattle.grow_asked.specs.superblocks_Reading.{is_reshaping, is_backward, shape_of, final_shape, list_length}
 use Rattle.region_writes.specs.flat_history_Stands.{shape_for}
 use Rattle.region_writes.specs.shape_views_Regions.{AreShapesFit, place_by}
 use Rattle.region_writes.specs.views_Placed.{IsInForce}

@@ -1,13 +1,13 @@
 -- The resync of an array in a reshape: the stripes of both regions in the order of the list, how far parity is relied on, and why a stripe isn't mended.
 use Rattle.std.specs.Prelude.{◌⊎◌, ℕ, ◌+◌, ◌-◌, ◌*◌, ◌/◌, nat_lt, false, if◌then◌else◌, Option, Some, None}
-use Rattle.md_base.specs.declared.places.Shape.{Shape}
-use Rattle.md_base.specs.declared.answers.Refusal.{Refusal}
-use Rattle.md_base.specs.Sectors.{Sector}
-use Rattle.md_base.specs.Shapes.{stripe_sectors}
-use Rattle.bank.specs.Tape.{Contents}
-use Rattle.sb1.specs.declared.sb.Sb.{Sb}
-use Rattle.superblocks.specs.declared.members.Members.{Members}
-use Rattle.superblocks.specs.Reading.{shape_of, final_shape, list_length}
+use Rattle.grow_asked.specs.md_base_the_Shape.{Shape}
+use Rattle.grow_asked.specs.md_base_the_Refusal.{Refusal}
+use Rattle.grow_asked.specs.md_base_Sectors.{Sector}
+use Rattle.grow_asked.specs.md_base_Shapes.{stripe_sectors}
+use Rattle.grow_asked.specs.bank_Tape.{Contents}
+use Rattle.grow_asked.specs.sb1_the_Sb.{Sb}
+use Rattle.grow_asked.specs.superblocks_the_Members.{Members}
+use Rattle.grow_asked.specs.superblocks_Reading.{shape_of, final_shape, list_length}
 use Rattle.region_writes.specs.shape_views_Regions.{DoWithout}
 use Rattle.region_writes.specs.views_Lacking.{DataStandsAmong, IsOfStripe, too_many, AreTooMany, IsNotResynced}
 use Rattle.region_writes.specs.safe_updates_First.{are_too_many, write_refusal}

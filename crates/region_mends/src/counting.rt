@@ -1,17 +1,14 @@
 //! The steps that a pending resync of an array in a reshape has left.
 
 ghost use Rattle.std.specs.Prelude.{◌≡◌, ◌*◌, ◌^◌, ◌≤◌, IfSome, IsTrue};
-ghost use Rattle.md_base.specs.Shapes.{is_valid_shape, is_multiple, data_disks};
-ghost use Rattle.superblocks.specs.Reading.{is_backward, shape_of, final_shape, list_length};
+ghost use Rattle.grow_asked.specs.md_base_Shapes.{is_valid_shape, is_multiple, data_disks};
+ghost use Rattle.grow_asked.specs.superblocks_Reading.{is_backward, shape_of, final_shape, list_length};
 ghost use Rattle.region_writes.specs.shape_views_Regions.{AreShapesFit};
 ghost use Rattle.region_mends.specs.Left.{stripes_beside, mends_at, position_behind, resync_left};
 
-use geometry::stripe_sectors;
-use grow_asked::Window;
 use grow_asked::shapes::is_backward;
-use md_base::Shape;
+use grow_asked::{Members, Shape, Window, stripe_sectors};
 use region_writes::{final_in, shape_in};
-use superblocks::Members;
 
 // The stripes that two shapes have below a position and from there on.
 fn stripes_beside(low: &Shape, high: &Shape, size: u64, position: u64) -> u64

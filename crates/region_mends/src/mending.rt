@@ -1,14 +1,14 @@
 //! A stripe of the list of an array in a reshape is mended.
 
 ghost use Rattle.std.specs.Prelude.{◌≡◌, ◌+◌, ◌<◌, ◌≤◌, ℕ, Bool, true, false, length, vec_capacity, None, Some, Option, MatchOption, ⊤};
-ghost use Rattle.bank.specs.Given.{NeverFalls};
-ghost use Rattle.bank.specs.Tape.{disk};
-ghost use Rattle.md_base.specs.Sectors.{Sector};
-ghost use Rattle.md_base.specs.declared.places.Shape.{Shape};
-ghost use Rattle.md_base.specs.declared.places.Span.{Span};
-ghost use Rattle.superblocks.specs.Reading.{is_clean, final_shape, role_count, role_state};
+ghost use Rattle.grow_asked.specs.bank_Given.{NeverFalls};
+ghost use Rattle.grow_asked.specs.bank_Tape.{disk};
+ghost use Rattle.grow_asked.specs.md_base_Sectors.{Sector};
+ghost use Rattle.grow_asked.specs.md_base_the_Shape.{Shape};
+ghost use Rattle.grow_asked.specs.md_base_the_Span.{Span};
+ghost use Rattle.grow_asked.specs.superblocks_Reading.{is_clean, final_shape, role_count, role_state};
 ghost use Rattle.region_writes.specs.row_io_Rows.{reading_of, present};
-ghost use Rattle.md_base.specs.declared.status.Role.TheVariants.{Recovering as IsRecovering};
+ghost use Rattle.grow_asked.specs.md_base_the_Role_TheVariants.{Recovering as IsRecovering};
 ghost use Rattle.region_writes.specs.list_io_Full.{AreWholeIn, RowStands};
 ghost use Rattle.region_writes.specs.list_io_Writing.{HasFull};
 ghost use Rattle.region_writes.specs.flat_history_Sound.{OpensFit};
@@ -27,10 +27,8 @@ ghost use Rattle.region_writes.specs.region_rows_Stretches.{ListStandsIn, RowsSt
 ghost use Rattle.region_mends.specs.Mends.{low_shape, mend_stripes, relied_sector, mend_shape, IsMendRow, MendStands, AreEndsStanding, lacking_or, mend_refusal, IsNotMended};
 
 use crate::stripes::stripe_behind;
-use bank::Bank;
-use md_base::Refusal;
+use grow_asked::{Bank, Members, Refusal};
 use region_writes::{Mended, mend, too_many, unwritten};
-use superblocks::Members;
 
 // The refusal where more roles of a shape in force are missing than it tolerates, of the old one first, or else the one that was found.
 fn lacking_or(members: &Members, found: Option<Refusal>) -> Option<Refusal>

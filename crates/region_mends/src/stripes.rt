@@ -1,16 +1,13 @@
 //! The stripes of both regions of the list, in its order, and how far parity is relied on.
 
 ghost use Rattle.std.specs.Prelude.{◌≡◌, ◌*◌, ◌^◌, ◌<◌, ◌≤◌, IfSome};
-ghost use Rattle.md_base.specs.Shapes.{stripe_sectors};
-ghost use Rattle.superblocks.specs.Reading.{list_length};
+ghost use Rattle.grow_asked.specs.md_base_Shapes.{stripe_sectors};
+ghost use Rattle.grow_asked.specs.superblocks_Reading.{list_length};
 ghost use Rattle.region_writes.specs.shape_views_Regions.{AreShapesFit};
 ghost use Rattle.region_mends.specs.Mends.{low_end, low_shape, high_shape, low_stripes, high_stripe, mend_stripes, stripe_behind, next_mend, relied_sector};
 
-use geometry::{list_end, stripe_sectors};
-use md_base::Shape;
+use grow_asked::{Members, Shape, is_reshaping, list_end, stripe_sectors};
 use region_writes::{final_in, shape_for, shape_in};
-use superblocks::Members;
-use superblocks::says::is_reshaping;
 
 /// A stripe of a shape in force.
 #[derive(Clone, Copy, Debug, PartialEq, Eq)]

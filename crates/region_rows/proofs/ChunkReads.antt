@@ -2,20 +2,20 @@
 use Rattle.std.proofs.Common.{◌≡◌, ℕ, ◌+◌, ◌-◌, ◌*◌, ◌/◌, ◌%◌, ◌<◌, ◌≤◌, nat_lt, Bool, true, if◌then◌else◌, List, length, Some, None, refl, sym, ◌∙◌, ap, subst, arith}
 use Rattle.std.proofs.lemmas.Bool.Decides.{nat_tests}
 use Rattle.std.proofs.lemmas.Nat.{div-add-mod'}
-use Rattle.md_base.specs.Sectors.{Sector}
-use Rattle.md_base.specs.Shapes.{is_valid_shape, is_multiple, data_disks}
-use Rattle.md_base.specs.declared.places.Place.{Place}
-use Rattle.md_base.specs.declared.places.Shape.{Shape}
-use Rattle.md_base.specs.declared.status.Role.{Role}
-use Rattle.md_base.specs.declared.status.Role.TheVariants.{Whole}
-use Rattle.bank.specs.Tape.{Contents, AreSectors}
-use Rattle.layout.specs.Layout.{place, stripe_of, data_index, stripe_data}
-use Rattle.layout.proofs.Places.{data_index-below, sector_at, sector_at-parts, place-sector, place-row_below}
-use Rattle.parity.specs.Rows.{sector_of}
-use Rattle.superblocks.specs.declared.members.Members.{Members}
-use Rattle.superblocks.specs.Reading.{role_state, rows_held, holder, data_offset_of}
-use Rattle.row_io.specs.Rows.{reading_of, held_slot}
-use Rattle.list_io.specs.Full.{DataStands}
+use Rattle.safe_rows.specs.md_base_Sectors.{Sector}
+use Rattle.safe_rows.specs.md_base_Shapes.{is_valid_shape, is_multiple, data_disks}
+use Rattle.safe_rows.specs.md_base_the_Place.{Place}
+use Rattle.safe_rows.specs.md_base_the_Shape.{Shape}
+use Rattle.safe_rows.specs.md_base_the_Role.{Role}
+use Rattle.safe_rows.specs.md_base_the_Role_TheVariants.{Whole}
+use Rattle.safe_rows.specs.bank_Tape.{Contents, AreSectors}
+use Rattle.safe_rows.specs.layout_Layout.{place, stripe_of, data_index, stripe_data}
+use Rattle.safe_rows.proofs.layout_Places.{data_index-below, sector_at, sector_at-parts, place-sector, place-row_below}
+use Rattle.safe_rows.specs.parity_Rows.{sector_of}
+use Rattle.safe_rows.specs.superblocks_the_Members.{Members}
+use Rattle.safe_rows.specs.superblocks_Reading.{role_state, rows_held, holder, data_offset_of}
+use Rattle.safe_rows.specs.row_io_Rows.{reading_of, held_slot}
+use Rattle.safe_rows.specs.list_io_Full.{DataStands}
 use Rattle.safe_rows.proofs.shape_views_Stands.{data-at}
 use Rattle.region_rows.specs.Stretches.{IsOneRun}
 use Rattle.region_rows.proofs.StretchReads.{plain}

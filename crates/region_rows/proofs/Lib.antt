@@ -19,4 +19,13 @@ pub use Rattle.safe_rows.proofs.shape_views_Alike
 pub use Rattle.safe_rows.proofs.shape_views_Stands
 pub use Rattle.safe_rows.proofs.shape_views_UnderWay
 pub use Rattle.safe_rows.proofs.views_MendedParts
-pub use Rattle.row_io.proofs.Losses as row_io_Losses
+pub use Rattle.safe_rows.proofs.row_io_Losses
+pub use Rattle.safe_rows.proofs.geometry_ClosedForms
+pub use Rattle.safe_rows.proofs.geometry_Divisions
+pub use Rattle.safe_rows.proofs.geometry_Valid
+pub use Rattle.safe_rows.proofs.layout_Places
+pub use Rattle.safe_rows.proofs.list_io_BufferLaws
+pub use Rattle.safe_rows.proofs.list_io_FullLaws
+pub use Rattle.safe_rows.proofs.list_io_ListLaws
+pub use Rattle.safe_rows.proofs.list_io_LossLaws
+pub use Rattle.safe_rows.proofs.region_laws_RegionLaws

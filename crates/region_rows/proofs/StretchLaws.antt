@@ -3,16 +3,16 @@ use Rattle.std.proofs.Common.{◌≡◌, inl, inr, ℕ, ◌*◌, ◌/◌, ◌^�
 use Rattle.std.proofs.lemmas.Bool.{cases_lt}
 use Rattle.std.proofs.lemmas.Bool.Decides.{nat_tests}
 use Rattle.std.proofs.lemmas.Nat.{mul-le, div-add-mod'}
-use Rattle.md_base.specs.Shapes.{is_valid_shape, is_multiple, data_disks, stripe_sectors}
-use Rattle.md_base.specs.declared.places.Shape.{Shape}
-use Rattle.sb1.specs.declared.sb.Sb.{Sb}
-use Rattle.layout.specs.Layout.{place}
-use Rattle.layout.proofs.Places.{chunk_some, place-sector_below}
-use Rattle.superblocks.specs.Reading.{shape_of, final_shape, list_length}
+use Rattle.safe_rows.specs.md_base_Shapes.{is_valid_shape, is_multiple, data_disks, stripe_sectors}
+use Rattle.safe_rows.specs.md_base_the_Shape.{Shape}
+use Rattle.safe_rows.specs.sb1_the_Sb.{Sb}
+use Rattle.safe_rows.specs.layout_Layout.{place}
+use Rattle.safe_rows.proofs.layout_Places.{chunk_some, place-sector_below}
+use Rattle.safe_rows.specs.superblocks_Reading.{shape_of, final_shape, list_length}
 use Rattle.safe_rows.specs.shape_views_Regions.{AreShapesFit}
 use Rattle.safe_rows.specs.views_Placed.{IsInForce}
 use Rattle.safe_rows.proofs.views_Fit.{force-valid, force-multiple, fit-short}
-use Rattle.layout.proofs.Limits.{limited}
+use Rattle.safe_rows.proofs.layout_Limits.{limited}
 use Rattle.safe_rows.proofs.views_Stripes.{stripes-multiple}
 use Rattle.region_rows.specs.Stretches.{relied_rows}
 

@@ -5,18 +5,18 @@ use Rattle.std.proofs.lemmas.List.{drop-drop, drop-take, take-take, length-drop,
 use Rattle.std.proofs.lemmas.Slice.{take-put_mid_below, between-put_mid}
 use Rattle.std.specs.Option.{option_map_or}
 use borrow.Rule.Slice.PartMut.{put_mid}
-use Rattle.md_base.specs.Sectors.{Sector}
-use Rattle.md_base.specs.Shapes.{is_valid_shape}
-use Rattle.md_base.specs.declared.places.Shape.{Shape}
-use Rattle.md_base.specs.declared.places.Span.{Span}
-use Rattle.bank.specs.Given.{Given}
-use Rattle.bank.specs.Tape.{Contents}
-use Rattle.layout.specs.Layout.{place}
-use Rattle.parity.specs.Rows.{sector_of}
-use Rattle.superblocks.specs.declared.members.Members.{Members}
-use Rattle.superblocks.specs.Reading.{data_offset_of}
-use Rattle.row_io.specs.Rows.{reading_of, held_slot}
-use Rattle.list_io.specs.Full.{DataStands, RowStands}
+use Rattle.safe_rows.specs.md_base_Sectors.{Sector}
+use Rattle.safe_rows.specs.md_base_Shapes.{is_valid_shape}
+use Rattle.safe_rows.specs.md_base_the_Shape.{Shape}
+use Rattle.safe_rows.specs.md_base_the_Span.{Span}
+use Rattle.safe_rows.specs.bank_Given.{Given}
+use Rattle.safe_rows.specs.bank_Tape.{Contents}
+use Rattle.safe_rows.specs.layout_Layout.{place}
+use Rattle.safe_rows.specs.parity_Rows.{sector_of}
+use Rattle.safe_rows.specs.superblocks_the_Members.{Members}
+use Rattle.safe_rows.specs.superblocks_Reading.{data_offset_of}
+use Rattle.safe_rows.specs.row_io_Rows.{reading_of, held_slot}
+use Rattle.safe_rows.specs.list_io_Full.{DataStands, RowStands}
 use Rattle.safe_rows.specs.flat_history_Stands.{shape_for}
 use Rattle.safe_rows.specs.shape_views_Windows.{IsShown}
 use Rattle.safe_rows.proofs.shape_views_Stands.{data-from}

@@ -2,16 +2,16 @@
 use Rattle.std.proofs.Common.{◌≡◌, inl, inr, ℕ, ◌-◌, ◌<◌, ◌≤◌, true, false, Option, Some, None, Result, Ok, Err, is_some, refl, sym, ◌∙◌, ap, subst, arith}
 use Rattle.std.specs.Prelude.{MatchOption, ⊤}
 use Rattle.std.specs.Result.{is_err}
-use Rattle.md_base.specs.Shapes.{tolerance}
-use Rattle.md_base.specs.declared.places.Shape.{Shape}
-use Rattle.md_base.specs.declared.answers.Refusal.{Refusal}
-use Rattle.md_base.specs.declared.answers.Refusal.TheVariants.{NotResynced as Unsynced}
-use Rattle.layout.specs.Layout.{place}
-use Rattle.superblocks.specs.declared.members.Members.{Members}
-use Rattle.row_io.specs.Rows.{reading_of, is_missing}
-use Rattle.list_io.specs.declared.outcome.Unavailable.{Unavailable}
-use Rattle.list_io.specs.declared.outcome.Unavailable.TheVariants.{TooManyMissing, NotResynced}
-use Rattle.list_io.specs.Calls.{IsAnswer}
+use Rattle.safe_rows.specs.md_base_Shapes.{tolerance}
+use Rattle.safe_rows.specs.md_base_the_Shape.{Shape}
+use Rattle.safe_rows.specs.md_base_the_Refusal.{Refusal}
+use Rattle.safe_rows.specs.md_base_the_Refusal_TheVariants.{NotResynced as Unsynced}
+use Rattle.safe_rows.specs.layout_Layout.{place}
+use Rattle.safe_rows.specs.superblocks_the_Members.{Members}
+use Rattle.safe_rows.specs.row_io_Rows.{reading_of, is_missing}
+use Rattle.safe_rows.specs.list_io_the_Unavailable.{Unavailable}
+use Rattle.safe_rows.specs.list_io_the_Unavailable_TheVariants.{TooManyMissing, NotResynced}
+use Rattle.safe_rows.specs.list_io_Calls.{IsAnswer}
 use Rattle.safe_rows.specs.views_Lacking.{lacking, LacksTooMany, IsAskedBeyond, IsUnread}
 use Rattle.safe_rows.specs.safe_updates_First.{read_refusal}
 use Rattle.safe_rows.proofs.safe_updates_RefusingLaws.{read-cause, read-none}

@@ -1,18 +1,18 @@
 -- Stretches of the list that are placed by one shape, and how far the parity of their rows is to be relied on.
 use Rattle.std.specs.Prelude.{◌≡◌, ◌⊎◌, ℕ, ◌+◌, ◌*◌, ◌/◌, ◌<◌, ◌≤◌, nat_le, true, if◌then◌else◌, Option, Some}
-use Rattle.md_base.specs.declared.places.Shape.{Shape}
-use Rattle.md_base.specs.declared.places.Span.{Span}
-use Rattle.md_base.specs.declared.answers.Refusal.{Refusal}
-use Rattle.md_base.specs.declared.answers.Refusal.TheVariants.{NotResynced as Unsynced}
-use Rattle.md_base.specs.Sectors.{Sector}
-use Rattle.md_base.specs.Shapes.{stripe_sectors, tolerance}
-use Rattle.sb1.specs.declared.sb.Sb.{Sb}
-use Rattle.bank.specs.Tape.{Contents}
-use Rattle.layout.specs.Layout.{place}
-use Rattle.superblocks.specs.declared.members.Members.{Members}
-use Rattle.superblocks.specs.Reading.{list_length, data_offset_of}
-use Rattle.row_io.specs.Rows.{reading_of, is_missing, held_slot}
-use Rattle.list_io.specs.Full.{RowStands}
+use Rattle.safe_rows.specs.md_base_the_Shape.{Shape}
+use Rattle.safe_rows.specs.md_base_the_Span.{Span}
+use Rattle.safe_rows.specs.md_base_the_Refusal.{Refusal}
+use Rattle.safe_rows.specs.md_base_the_Refusal_TheVariants.{NotResynced as Unsynced}
+use Rattle.safe_rows.specs.md_base_Sectors.{Sector}
+use Rattle.safe_rows.specs.md_base_Shapes.{stripe_sectors, tolerance}
+use Rattle.safe_rows.specs.sb1_the_Sb.{Sb}
+use Rattle.safe_rows.specs.bank_Tape.{Contents}
+use Rattle.safe_rows.specs.layout_Layout.{place}
+use Rattle.safe_rows.specs.superblocks_the_Members.{Members}
+use Rattle.safe_rows.specs.superblocks_Reading.{list_length, data_offset_of}
+use Rattle.safe_rows.specs.row_io_Rows.{reading_of, is_missing, held_slot}
+use Rattle.safe_rows.specs.list_io_Full.{RowStands}
 use Rattle.safe_rows.specs.flat_history_Stands.{shape_for}
 use Rattle.safe_rows.specs.shape_views_Regions.{place_by}
 use Rattle.safe_rows.specs.shape_views_Windows.{IsShown}

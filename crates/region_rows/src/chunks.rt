@@ -1,13 +1,13 @@
 //! Sectors of the list that stand on one role, in rows one behind the other, read in one device call.
 
 ghost use Rattle.std.specs.Prelude.{◌≡◌, ◌⊎◌, ◌+◌, ◌*◌, ◌/◌, ◌-◌, ◌^◌, ◌<◌, ◌≤◌, ℕ, false, length, None, OnOk, IsTrue, unwrap_or};
-ghost use Rattle.md_base.specs.Sectors.{Sector, IsWhole};
-ghost use Rattle.md_base.specs.Shapes.{is_multiple, data_disks};
-ghost use Rattle.layout.specs.Layout.{place};
-ghost use Rattle.parity.specs.Rows.{sector_of};
-ghost use Rattle.row_io.specs.Rows.{present, reading_of};
-ghost use Rattle.list_io.specs.Calls.{AreLost, IsAnswer};
-ghost use Rattle.list_io.specs.Full.{DataStands, RowStands};
+ghost use Rattle.safe_rows.specs.md_base_Sectors.{Sector, IsWhole};
+ghost use Rattle.safe_rows.specs.md_base_Shapes.{is_multiple, data_disks};
+ghost use Rattle.safe_rows.specs.layout_Layout.{place};
+ghost use Rattle.safe_rows.specs.parity_Rows.{sector_of};
+ghost use Rattle.safe_rows.specs.row_io_Rows.{present, reading_of};
+ghost use Rattle.safe_rows.specs.list_io_Calls.{AreLost, IsAnswer};
+ghost use Rattle.safe_rows.specs.list_io_Full.{DataStands, RowStands};
 ghost use Rattle.safe_rows.specs.flat_history_Stands.{shape_for};
 ghost use Rattle.safe_rows.specs.shape_views_Regions.{AreShapesFit};
 ghost use Rattle.safe_rows.specs.views_Placed.{AreWhole, IsPlaced, IsInForce};
@@ -15,13 +15,10 @@ ghost use Rattle.safe_rows.specs.views_Lacking.{IsAskedBeyond};
 ghost use Rattle.region_rows.specs.Stretches.{IsStretch, IsOneRun};
 
 use crate::stretches::{Stretch, stretch_at};
-use bank::Bank;
-use layout::place;
-use list_io::{Outcome, Unavailable, are_too_many};
-use md_base::{Role, Shape};
-use row_io::{data_offset, lose_slot};
 use safe_rows::fetching::read_parts;
-use superblocks::Members;
+use safe_rows::{
+    Bank, Members, Outcome, Role, Shape, Unavailable, are_too_many, data_offset, lose_slot, place,
+};
 
 /// The sectors of the list from this one on, up to `to`, that are placed by one shape and stand on one role, in rows one behind the
 /// other: those of its chunk.

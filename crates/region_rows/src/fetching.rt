@@ -1,13 +1,13 @@
 //! Reads of the list of an array in a reshape.
 
 ghost use Rattle.std.specs.Prelude.{◌≡◌, ◌⊎◌, ◌+◌, ◌-◌, ◌/◌, ◌<◌, ◌≤◌, ℕ, length, None, MatchOption, Option, ⊤};
-ghost use Rattle.bank.specs.Given.{NeverFalls};
-ghost use Rattle.bank.specs.Tape.{disk};
-ghost use Rattle.md_base.specs.Sectors.{Sector, IsWhole};
-ghost use Rattle.md_base.specs.declared.places.Span.{Span};
-ghost use Rattle.parity.specs.Rows.{sector_of};
-ghost use Rattle.superblocks.specs.Reading.{is_clean, list_length, role_count};
-ghost use Rattle.row_io.specs.Rows.{present, members_without};
+ghost use Rattle.safe_rows.specs.bank_Given.{NeverFalls};
+ghost use Rattle.safe_rows.specs.bank_Tape.{disk};
+ghost use Rattle.safe_rows.specs.md_base_Sectors.{Sector, IsWhole};
+ghost use Rattle.safe_rows.specs.md_base_the_Span.{Span};
+ghost use Rattle.safe_rows.specs.parity_Rows.{sector_of};
+ghost use Rattle.safe_rows.specs.superblocks_Reading.{is_clean, list_length, role_count};
+ghost use Rattle.safe_rows.specs.row_io_Rows.{present, members_without};
 ghost use Rattle.safe_rows.specs.flat_history_Stands.{shape_for};
 ghost use Rattle.safe_rows.specs.flat_history_World.{World};
 ghost use Rattle.safe_rows.specs.shape_views_Regions.{AreShapesFit};
@@ -25,11 +25,8 @@ ghost use Rattle.region_rows.specs.Stretches.{IsShapeOf, ListStandsIn, RowsStand
 
 use crate::chunks::{read_chunk, run_at};
 use crate::stretches::{relied_rows, stretch_at};
-use bank::Bank;
-use md_base::Refusal;
 use safe_rows::fetching::Fetched;
-use safe_rows::{name_missing, too_many_of, unread};
-use superblocks::Members;
+use safe_rows::{Bank, Members, Refusal, name_missing, too_many_of, unread};
 
 // The refusal where more roles are missing than a shape tolerates that places one of these sectors: the first of them.
 fn too_many_in(members: &Members, from: u64, to: u64) -> Option<Refusal>

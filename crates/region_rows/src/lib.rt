@@ -9,4 +9,7 @@ pub use safe_rows::fetching::{Fetched, fetch};
 pub use safe_rows::filling::{Filled, fill, recovering_slot};
 pub use safe_rows::mending::{Mended, mend, mended_rows};
 pub use safe_rows::putting::{Outcome, put, put_rows};
-pub use safe_rows::{final_in, list_length, raise, shape_in, too_many, too_many_of, unwritten};
+pub use safe_rows::{
+    Bank, Members, Refusal, Shape, Span, final_in, list_length, raise, read_touched, shape_in,
+    stripe_sectors, too_many, too_many_of, unwritten,
+};

@@ -2,19 +2,17 @@
 
 ghost use Rattle.std.specs.Prelude.{◌≡◌, ◌⊎◌, ◌<◌, ◌≤◌, ◌==◌, true, IsTrue};
 ghost use Rattle.std.specs.Int.{bit_at};
-ghost use Rattle.md_base.specs.Shapes.{is_valid_shape, is_multiple};
-ghost use Rattle.superblocks.specs.Reading.{shape_of, is_negative, is_zero, is_reshaping, is_backward};
+ghost use Rattle.safe_rows.specs.md_base_Shapes.{is_valid_shape, is_multiple};
+ghost use Rattle.safe_rows.specs.superblocks_Reading.{shape_of, is_negative, is_zero, is_reshaping, is_backward};
 ghost use Rattle.safe_rows.specs.flat_history_Stands.{shape_for};
 ghost use Rattle.safe_rows.specs.shape_views_Regions.{AreShapesFit};
 ghost use Rattle.safe_rows.specs.views_Placed.{IsInForce};
 ghost use Rattle.region_rows.specs.Stretches.{IsStretch, relied_rows};
 
-use geometry::{side, stripe_sectors};
-use md_base::{Shape, Side};
-use safe_rows::{final_in, shape_in};
-use sb1::{Features, Sb};
-use superblocks::Members;
-use superblocks::says::{is_reshaping, list_length};
+use safe_rows::{
+    Features, Members, Sb, Shape, Side, final_in, is_reshaping, shape_in, side, stripe_sectors,
+    superblocks_list_length as list_length,
+};
 
 /// Sectors of the list that are placed by one shape, up to the end.
 #[derive(Clone, Copy)]

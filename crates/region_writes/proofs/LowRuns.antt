@@ -1,14 +1,14 @@
 -- A run that touches a row of the stripes below the position is of their shape.
 use Rattle.std.proofs.Common.{◌≡◌, ℕ, ◌*◌, ◌/◌, ◌<◌, if◌then◌else◌, sym, ◌∙◌, ap, arith}
 use Rattle.std.proofs.lemmas.Nat.{div_below}
-use Rattle.md_base.specs.declared.places.Shape.{Shape}
-use Rattle.md_base.specs.Shapes.{data_disks, stripe_sectors}
-use Rattle.sb1.specs.declared.sb.Sb.{Sb}
-use Rattle.layout.specs.Layout.{place}
-use Rattle.layout.proofs.Places.{chunk_some}
-use Rattle.geometry.specs.Geometry.{ceiling}
-use Rattle.geometry.proofs.Divisions.{quotient}
-use Rattle.superblocks.specs.Reading.{shape_of, list_length}
+use Rattle.region_rows.specs.md_base_the_Shape.{Shape}
+use Rattle.region_rows.specs.md_base_Shapes.{data_disks, stripe_sectors}
+use Rattle.region_rows.specs.sb1_the_Sb.{Sb}
+use Rattle.region_rows.specs.layout_Layout.{place}
+use Rattle.region_rows.proofs.layout_Places.{chunk_some}
+use Rattle.region_rows.specs.geometry_Geometry.{ceiling}
+use Rattle.region_rows.proofs.geometry_Divisions.{quotient}
+use Rattle.region_rows.specs.superblocks_Reading.{shape_of, list_length}
 use Rattle.region_rows.specs.flat_history_Stands.{shape_for}
 use Rattle.region_rows.specs.shape_views_Regions.{AreShapesFit, place_by}
 use Rattle.region_rows.specs.views_Placed.{HaveSameReshape}

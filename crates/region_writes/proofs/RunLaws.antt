@@ -3,18 +3,18 @@ use Rattle.std.proofs.Common.{◌≡◌, inl, inr, ℕ, zero, suc, ◌+◌, ◌-
 use Rattle.std.specs.Prelude.{MatchOption, ⊤}
 use Rattle.std.specs.Result.{is_ok, is_err}
 use Rattle.std.proofs.lemmas.Bool.{cases_lt}
-use Rattle.md_base.specs.declared.places.Shape.{Shape}
-use Rattle.md_base.specs.declared.places.Span.{Span}
-use Rattle.md_base.specs.declared.answers.Refusal.{Refusal}
-use Rattle.md_base.specs.Search.{count_below}
-use Rattle.md_base.specs.Shapes.{data_disks, tolerance, tolerance_of}
-use Rattle.sb1.specs.declared.sb.Sb.{Sb}
-use Rattle.layout.specs.Layout.{place}
-use Rattle.layout.proofs.Places.{data_some}
-use Rattle.superblocks.specs.declared.members.Members.{Members}
-use Rattle.superblocks.specs.Reading.{shape_of, list_length}
+use Rattle.region_rows.specs.md_base_the_Shape.{Shape}
+use Rattle.region_rows.specs.md_base_the_Span.{Span}
+use Rattle.region_rows.specs.md_base_the_Refusal.{Refusal}
+use Rattle.region_rows.specs.md_base_Search.{count_below}
+use Rattle.region_rows.specs.md_base_Shapes.{data_disks, tolerance, tolerance_of}
+use Rattle.region_rows.specs.sb1_the_Sb.{Sb}
+use Rattle.region_rows.specs.layout_Layout.{place}
+use Rattle.region_rows.proofs.layout_Places.{data_some}
+use Rattle.region_rows.specs.superblocks_the_Members.{Members}
+use Rattle.region_rows.specs.superblocks_Reading.{shape_of, list_length}
 use Rattle.region_rows.specs.row_io_Rows.{reading_of, is_missing}
-use Rattle.list_io.specs.Buffers.{IsTouched}
+use Rattle.region_rows.specs.list_io_Buffers.{IsTouched}
 use Rattle.region_rows.specs.flat_history_Stands.{covers, shape_for}
 use Rattle.region_rows.specs.shape_views_Regions.{AreShapesFit, place_by}
 use Rattle.region_rows.specs.views_Placed.{IsInForce}

@@ -3,24 +3,24 @@ use Rattle.std.proofs.Common.{◌≡◌, ◌⊎◌, inl, inr, ℕ, ◌+◌, ◌-
 use Rattle.std.specs.Option.{option_map_or}
 use Rattle.std.proofs.lemmas.Bool.{cases_lt}
 use Rattle.std.proofs.lemmas.List.{get_or_default}
-use Rattle.md_base.specs.Sectors.{Sector}
-use Rattle.md_base.specs.Shapes.{is_valid_shape}
-use Rattle.md_base.specs.declared.places.Shape.{Shape}
-use Rattle.md_base.specs.declared.places.Span.{Span}
-use Rattle.md_base.specs.declared.status.Role.TheVariants.{Recovering}
-use Rattle.bank.specs.Given.{Given}
-use Rattle.bank.specs.Tape.{Contents, IsIn}
-use Rattle.sb1.specs.declared.sb.Sb.{Sb}
-use Rattle.layout.specs.Layout.{place}
-use Rattle.layout.proofs.Places.{place-role_below, place-sector_below}
-use Rattle.parity.specs.Rows.{IsSector, sector_of}
-use Rattle.superblocks.specs.declared.members.Members.{Members}
-use Rattle.superblocks.specs.Reading.{is_reshaping, shape_of, final_shape, list_length, role_state, holder, data_offset_of}
+use Rattle.region_rows.specs.md_base_Sectors.{Sector}
+use Rattle.region_rows.specs.md_base_Shapes.{is_valid_shape}
+use Rattle.region_rows.specs.md_base_the_Shape.{Shape}
+use Rattle.region_rows.specs.md_base_the_Span.{Span}
+use Rattle.region_rows.specs.md_base_the_Role_TheVariants.{Recovering}
+use Rattle.region_rows.specs.bank_Given.{Given}
+use Rattle.region_rows.specs.bank_Tape.{Contents, IsIn}
+use Rattle.region_rows.specs.sb1_the_Sb.{Sb}
+use Rattle.region_rows.specs.layout_Layout.{place}
+use Rattle.region_rows.proofs.layout_Places.{place-role_below, place-sector_below}
+use Rattle.region_rows.specs.parity_Rows.{IsSector, sector_of}
+use Rattle.region_rows.specs.superblocks_the_Members.{Members}
+use Rattle.region_rows.specs.superblocks_Reading.{is_reshaping, shape_of, final_shape, list_length, role_state, holder, data_offset_of}
 use Rattle.region_rows.specs.row_io_Rows.{reading_of, held_slot}
 use Rattle.region_rows.proofs.row_io_Losses.{holder-of}
-use Rattle.list_io.specs.Full.{full_sector, AreWholeIn, RowStands}
-use Rattle.list_io.specs.Writing.{IsWritten, AreDataFrom, HasFull}
-use Rattle.list_io.proofs.FullLaws.{full-data, full-same}
+use Rattle.region_rows.specs.list_io_Full.{full_sector, AreWholeIn, RowStands}
+use Rattle.region_rows.specs.list_io_Writing.{IsWritten, AreDataFrom, HasFull}
+use Rattle.region_rows.proofs.list_io_FullLaws.{full-data, full-same}
 use Rattle.region_rows.specs.flat_history_Stands.{covers, shape_for}
 use Rattle.region_rows.specs.shape_views_Regions.{place_by}
 use Rattle.region_rows.specs.shape_views_Views.{IsTail}

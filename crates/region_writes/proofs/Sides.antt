@@ -6,16 +6,16 @@ use Rattle.std.proofs.lemmas.Bool.{cases_lt}
 use Rattle.std.proofs.lemmas.Bool.Decides.{nat_tests}
 use Rattle.std.proofs.lemmas.Nat.{mul-le}
 use Rattle.std.proofs.Math.Nat.{dvd_trans, dvd-mul_left, div-mul_cancel}
-use Rattle.md_base.specs.declared.places.Shape.{Shape}
-use Rattle.md_base.specs.declared.places.Side.{Side}
-use Rattle.md_base.specs.declared.places.Side.TheVariants.{Old, New}
-use Rattle.md_base.specs.Shapes.{is_valid_shape, data_disks, stripe_sectors}
-use Rattle.sb1.specs.declared.sb.Sb.{Sb}
-use Rattle.geometry.specs.Geometry.{unit, side, ceiling}
-use Rattle.geometry.proofs.Divisions.{ceiling_bounds, ceiling_le, ceiling_of_multiple, next_multiple}
-use Rattle.geometry.proofs.Valid.{bounded, bounded_pair, the_unit}
-use Rattle.region_laws.specs.Regions.{IsDirected}
-use Rattle.superblocks.specs.Reading.{is_reshaping, is_backward, shape_of, final_shape, list_length}
+use Rattle.region_rows.specs.md_base_the_Shape.{Shape}
+use Rattle.region_rows.specs.md_base_the_Side.{Side}
+use Rattle.region_rows.specs.md_base_the_Side_TheVariants.{Old, New}
+use Rattle.region_rows.specs.md_base_Shapes.{is_valid_shape, data_disks, stripe_sectors}
+use Rattle.region_rows.specs.sb1_the_Sb.{Sb}
+use Rattle.region_rows.specs.geometry_Geometry.{unit, side, ceiling}
+use Rattle.region_rows.proofs.geometry_Divisions.{ceiling_bounds, ceiling_le, ceiling_of_multiple, next_multiple}
+use Rattle.region_rows.proofs.geometry_Valid.{bounded, bounded_pair, the_unit}
+use Rattle.region_rows.specs.region_laws_Regions.{IsDirected}
+use Rattle.region_rows.specs.superblocks_Reading.{is_reshaping, is_backward, shape_of, final_shape, list_length}
 use Rattle.region_rows.specs.flat_history_Stands.{shape_at, shape_for}
 use Rattle.region_rows.specs.shape_views_Regions.{AreShapesFit}
 use Rattle.region_rows.proofs.shape_views_Alike.{valid-for, for-both}

@@ -2,14 +2,14 @@
 use Rattle.std.proofs.Common.{◌≡◌, ◌⊎◌, inl, inr, ℕ, ◌-◌, ◌<◌, ◌≤◌, ◌==◌, ◌&&◌, ◌||◌, nat_lt, nat_le, not, Bool, true, false, cond, refl, sym, ◌∙◌, ap, subst, arith, eq-eqb}
 use Rattle.std.proofs.lemmas.Bool.{and_parts, eqb-true, leb-true}
 use Rattle.std.proofs.lemmas.Bool.Decides.{nat_tests}
-use Rattle.md_base.specs.declared.places.Shape.{Shape}
-use Rattle.md_base.specs.declared.places.Side.TheVariants.{Old, New}
-use Rattle.bank.specs.Given.{Given}
-use Rattle.sb1.specs.declared.sb.Sb.{Sb}
-use Rattle.layout.specs.Layout.{stripe_of}
-use Rattle.geometry.specs.Geometry.{side}
-use Rattle.superblocks.specs.declared.members.Members.{Members}
-use Rattle.superblocks.specs.Reading.{is_reshaping, is_backward, final_shape, list_length}
+use Rattle.region_rows.specs.md_base_the_Shape.{Shape}
+use Rattle.region_rows.specs.md_base_the_Side_TheVariants.{Old, New}
+use Rattle.region_rows.specs.bank_Given.{Given}
+use Rattle.region_rows.specs.sb1_the_Sb.{Sb}
+use Rattle.region_rows.specs.layout_Layout.{stripe_of}
+use Rattle.region_rows.specs.geometry_Geometry.{side}
+use Rattle.region_rows.specs.superblocks_the_Members.{Members}
+use Rattle.region_rows.specs.superblocks_Reading.{is_reshaping, is_backward, final_shape, list_length}
 use Rattle.region_rows.specs.flat_history_Stands.{shape_for}
 use Rattle.region_rows.specs.shape_views_Regions.{AreShapesFit}
 use Rattle.region_rows.specs.shape_views_Views.{IsTail}

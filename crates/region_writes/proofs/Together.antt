@@ -4,18 +4,18 @@ use Rattle.std.specs.Int.{◌∣◌}
 use Rattle.std.proofs.lemmas.Bool.{cases_lt}
 use Rattle.std.proofs.lemmas.Bool.Decides.{nat_tests}
 use Rattle.std.proofs.Math.Nat.{dvd-add, dvd_refl, dvd-mul_left}
-use Rattle.md_base.specs.declared.places.Shape.{Shape}
-use Rattle.md_base.specs.declared.places.Span.{Span}
-use Rattle.md_base.specs.declared.places.Side.{Side}
-use Rattle.md_base.specs.declared.places.Side.TheVariants.{Old, New}
-use Rattle.md_base.specs.Shapes.{data_disks}
-use Rattle.sb1.specs.declared.sb.Sb.{Sb}
-use Rattle.layout.specs.Layout.{place}
-use Rattle.geometry.specs.Geometry.{unit, side, window}
-use Rattle.geometry.specs.Geometry as geometry
-use Rattle.region_laws.specs.Regions.{IsDirected, IsUnderWay}
-use Rattle.region_laws.proofs.RegionLaws.{IsDivided, by-old, by-new, regions-apart, forward-is, backward-is}
-use Rattle.superblocks.specs.Reading.{is_reshaping, is_backward, shape_of, final_shape, list_length, next_window}
+use Rattle.region_rows.specs.md_base_the_Shape.{Shape}
+use Rattle.region_rows.specs.md_base_the_Span.{Span}
+use Rattle.region_rows.specs.md_base_the_Side.{Side}
+use Rattle.region_rows.specs.md_base_the_Side_TheVariants.{Old, New}
+use Rattle.region_rows.specs.md_base_Shapes.{data_disks}
+use Rattle.region_rows.specs.sb1_the_Sb.{Sb}
+use Rattle.region_rows.specs.layout_Layout.{place}
+use Rattle.region_rows.specs.geometry_Geometry.{unit, side, window}
+use Rattle.region_rows.specs.geometry_Geometry as geometry
+use Rattle.region_rows.specs.region_laws_Regions.{IsDirected, IsUnderWay}
+use Rattle.region_rows.proofs.region_laws_RegionLaws.{IsDivided, by-old, by-new, regions-apart, forward-is, backward-is}
+use Rattle.region_rows.specs.superblocks_Reading.{is_reshaping, is_backward, shape_of, final_shape, list_length, next_window}
 use Rattle.region_rows.specs.flat_history_Stands.{shape_at, shape_for, covers}
 use Rattle.region_rows.specs.shape_views_Regions.{AreShapesFit, place_by}
 use Rattle.region_rows.proofs.shape_views_Stands.{for-still}

@@ -1,21 +1,21 @@
 -- What two writes of rows leave, one behind the other.
 use Rattle.std.proofs.Common.{◌≡◌, ℕ, ◌+◌, ◌*◌, ◌/◌, ◌<◌, ◌≤◌, nat_le, true, if◌then◌else◌, List, length, slice_index, Contains, Option, Some, None, is_some, sym, ◌∙◌, ap, subst, arith}
 use Rattle.std.proofs.lemmas.List.{get_or_default}
-use Rattle.md_base.specs.Sectors.{Sector}
-use Rattle.md_base.specs.declared.places.Shape.{Shape}
-use Rattle.md_base.specs.declared.places.Span.{Span}
-use Rattle.md_base.specs.Shapes.{stripe_sectors}
-use Rattle.layout.specs.Layout.{place}
-use Rattle.bank.specs.Given.{Given}
-use Rattle.bank.specs.Tape.{Contents}
-use Rattle.sb1.specs.declared.sb.Sb.{Sb}
-use Rattle.superblocks.specs.declared.members.Members.{Members}
-use Rattle.superblocks.specs.Reading.{Reading, shape_of, holder, data_offset_of}
+use Rattle.region_rows.specs.md_base_Sectors.{Sector}
+use Rattle.region_rows.specs.md_base_the_Shape.{Shape}
+use Rattle.region_rows.specs.md_base_the_Span.{Span}
+use Rattle.region_rows.specs.md_base_Shapes.{stripe_sectors}
+use Rattle.region_rows.specs.layout_Layout.{place}
+use Rattle.region_rows.specs.bank_Given.{Given}
+use Rattle.region_rows.specs.bank_Tape.{Contents}
+use Rattle.region_rows.specs.sb1_the_Sb.{Sb}
+use Rattle.region_rows.specs.superblocks_the_Members.{Members}
+use Rattle.region_rows.specs.superblocks_Reading.{Reading, shape_of, holder, data_offset_of}
 use Rattle.region_rows.specs.row_io_Rows.{reading_of, held_slot}
 use Rattle.region_rows.proofs.row_io_Losses.{holder-of}
-use Rattle.list_io.specs.Buffers.{AreStanding}
-use Rattle.list_io.specs.Full.{full_sector}
-use Rattle.list_io.specs.Writing.{StaysRebuilt}
+use Rattle.region_rows.specs.list_io_Buffers.{AreStanding}
+use Rattle.region_rows.specs.list_io_Full.{full_sector}
+use Rattle.region_rows.specs.list_io_Writing.{StaysRebuilt}
 use Rattle.region_rows.specs.views_Placed.{HaveSameReshape}
 use Rattle.region_rows.specs.views_Moving.{IsMoved}
 use Rattle.region_rows.specs.views_Lacking.{IsHeldRowKept, AreOtherRowsKept, AreRowsWritten}

@@ -1,14 +1,14 @@
 -- The regions of the list on either side of the position, and what stands behind its end.
 use Rattle.std.specs.Prelude.{◌≡◌, ℕ, ◌+◌, ◌*◌, ◌/◌, ◌<◌, ◌≤◌, if◌then◌else◌, Some}
-use Rattle.md_base.specs.declared.places.Shape.{Shape}
-use Rattle.md_base.specs.Sectors.{Sector}
-use Rattle.md_base.specs.Shapes.{stripe_sectors}
-use Rattle.bank.specs.Tape.{Contents}
-use Rattle.sb1.specs.declared.sb.Sb.{Sb}
-use Rattle.layout.specs.Layout.{place}
-use Rattle.geometry.specs.Geometry.{ceiling}
-use Rattle.superblocks.specs.declared.members.Members.{Members}
-use Rattle.superblocks.specs.Reading.{is_reshaping, list_length, data_offset_of}
+use Rattle.region_rows.specs.md_base_the_Shape.{Shape}
+use Rattle.region_rows.specs.md_base_Sectors.{Sector}
+use Rattle.region_rows.specs.md_base_Shapes.{stripe_sectors}
+use Rattle.region_rows.specs.bank_Tape.{Contents}
+use Rattle.region_rows.specs.sb1_the_Sb.{Sb}
+use Rattle.region_rows.specs.layout_Layout.{place}
+use Rattle.region_rows.specs.geometry_Geometry.{ceiling}
+use Rattle.region_rows.specs.superblocks_the_Members.{Members}
+use Rattle.region_rows.specs.superblocks_Reading.{is_reshaping, list_length, data_offset_of}
 use Rattle.region_rows.specs.row_io_Rows.{reading_of, held_slot}
 use Rattle.region_rows.specs.flat_history_Stands.{shape_for}
 

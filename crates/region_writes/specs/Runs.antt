@@ -1,19 +1,19 @@
 -- A write of the list of an array in a reshape: the runs that it is cut in, which rows it touches, and why it isn't done.
 use Rattle.std.specs.Prelude.{◌≡◌, ◌⊎◌, ℕ, ◌-◌, ◌<◌, ◌≤◌, true, false, List, length, Contains, Option, Some}
-use Rattle.md_base.specs.declared.places.Span.{Span}
-use Rattle.md_base.specs.declared.places.Shape.{Shape}
-use Rattle.md_base.specs.Shapes.{data_disks}
-use Rattle.md_base.specs.declared.answers.Refusal.{Refusal}
-use Rattle.md_base.specs.Sectors.{Sector}
-use Rattle.sb1.specs.declared.sb.Sb.{Sb}
-use Rattle.bank.specs.Tape.{Contents}
-use Rattle.layout.specs.Layout.{place}
-use Rattle.superblocks.specs.declared.members.Members.{Members}
-use Rattle.superblocks.specs.Reading.{is_reshaping, list_length, next_window}
+use Rattle.region_rows.specs.md_base_the_Span.{Span}
+use Rattle.region_rows.specs.md_base_the_Shape.{Shape}
+use Rattle.region_rows.specs.md_base_Shapes.{data_disks}
+use Rattle.region_rows.specs.md_base_the_Refusal.{Refusal}
+use Rattle.region_rows.specs.md_base_Sectors.{Sector}
+use Rattle.region_rows.specs.sb1_the_Sb.{Sb}
+use Rattle.region_rows.specs.bank_Tape.{Contents}
+use Rattle.region_rows.specs.layout_Layout.{place}
+use Rattle.region_rows.specs.superblocks_the_Members.{Members}
+use Rattle.region_rows.specs.superblocks_Reading.{is_reshaping, list_length, next_window}
 use Rattle.region_rows.specs.row_io_Rows.{reading_of}
-use Rattle.list_io.specs.Buffers.{AreTouched}
-use Rattle.list_io.specs.Full.{RowStands}
-use Rattle.list_io.specs.Writing.{IsWritten, AreDataFrom, IsFull, StaysRebuilt}
+use Rattle.region_rows.specs.list_io_Buffers.{AreTouched}
+use Rattle.region_rows.specs.list_io_Full.{RowStands}
+use Rattle.region_rows.specs.list_io_Writing.{IsWritten, AreDataFrom, IsFull, StaysRebuilt}
 use Rattle.region_rows.specs.flat_history_Stands.{covers, shape_for}
 use Rattle.region_rows.specs.shape_views_Regions.{place_by}
 use Rattle.region_rows.specs.views_Placed.{IsInForce}

@@ -1,7 +1,7 @@
 //! The runs that a write of the list is cut in, each placed by one shape.
 
 ghost use Rattle.std.specs.Prelude.{◌≡◌, ◌⊎◌, ◌-◌, ◌<◌, ◌≤◌, ℕ, length, None, MatchOption, true, false};
-ghost use Rattle.superblocks.specs.Reading.{is_reshaping, list_length, role_count};
+ghost use Rattle.region_rows.specs.superblocks_Reading.{is_reshaping, list_length, role_count};
 ghost use Rattle.region_rows.specs.flat_history_Stands.{covers};
 ghost use Rattle.region_rows.specs.shape_views_Regions.{AreShapesFit};
 ghost use Rattle.region_rows.specs.views_Placed.{IsInForce};
@@ -9,10 +9,8 @@ ghost use Rattle.region_rows.specs.views_Lacking.{DoesWithout};
 ghost use Rattle.region_rows.specs.safe_updates_First.{write_refusal};
 ghost use Rattle.region_writes.specs.Runs.{IsRun, IsRelied, AreRuns, AreRunsTorn, AreRunsUnwritten};
 
-use md_base::{Refusal, Shape, Span};
 use region_rows::stretches::{relied_rows, stretch_at};
-use region_rows::{list_length, too_many_of, unwritten};
-use superblocks::Members;
+use region_rows::{Members, Refusal, Shape, Span, list_length, too_many_of, unwritten};
 
 /// Sectors of the list that are placed by one shape, from one up to another, and whether parity is relied on in each row that they touch.
 #[derive(Clone, Copy)]

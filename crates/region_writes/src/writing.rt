@@ -1,16 +1,16 @@
 //! Writes of the list of an array in a reshape.
 
 ghost use Rattle.std.specs.Prelude.{◌≡◌, ◌⊎◌, ◌+◌, ◌-◌, ◌/◌, ◌^◌, ◌<◌, ◌≤◌, ℕ, Bool, true, false, length, slice_index, Contains, vec_capacity, None, Option, MatchOption, ⊤};
-ghost use Rattle.bank.specs.Given.{NeverFalls};
-ghost use Rattle.bank.specs.Tape.{disk};
-ghost use Rattle.md_base.specs.Sectors.{Sector, IsWhole};
-ghost use Rattle.md_base.specs.declared.places.Shape.{Shape};
-ghost use Rattle.md_base.specs.declared.places.Span.{Span};
-ghost use Rattle.md_base.specs.declared.status.Role.TheVariants.{Recovering as IsRecovering};
-ghost use Rattle.superblocks.specs.Reading.{is_clean, is_reshaping, shape_of, final_shape, list_length, role_state};
+ghost use Rattle.region_rows.specs.bank_Given.{NeverFalls};
+ghost use Rattle.region_rows.specs.bank_Tape.{disk};
+ghost use Rattle.region_rows.specs.md_base_Sectors.{Sector, IsWhole};
+ghost use Rattle.region_rows.specs.md_base_the_Shape.{Shape};
+ghost use Rattle.region_rows.specs.md_base_the_Span.{Span};
+ghost use Rattle.region_rows.specs.md_base_the_Role_TheVariants.{Recovering as IsRecovering};
+ghost use Rattle.region_rows.specs.superblocks_Reading.{is_clean, is_reshaping, shape_of, final_shape, list_length, role_state};
 ghost use Rattle.region_rows.specs.row_io_Rows.{reading_of, present, members_without};
-ghost use Rattle.list_io.specs.Buffers.{buffered, AreStanding};
-ghost use Rattle.list_io.specs.Writing.{IsWritten, AreDataFrom, HasFull};
+ghost use Rattle.region_rows.specs.list_io_Buffers.{buffered, AreStanding};
+ghost use Rattle.region_rows.specs.list_io_Writing.{IsWritten, AreDataFrom, HasFull};
 ghost use Rattle.region_rows.specs.flat_history_Sound.{OpensFit};
 ghost use Rattle.region_rows.specs.flat_history_Stands.{shape_for};
 ghost use Rattle.region_rows.specs.flat_history_World.{World};
@@ -30,11 +30,7 @@ ghost use Rattle.region_writes.specs.Runs.{IsRun, AreRowsOf, AreFull, StayRebuil
 ghost use Rattle.region_writes.specs.Ends.{AreEndsStanding};
 
 use crate::runs::{Run, runs_of, too_many_runs, unwritten_runs};
-use bank::Bank;
-use list_io::read_touched;
-use md_base::{Refusal, Span};
-use region_rows::{Outcome, put_rows, raise};
-use superblocks::Members;
+use region_rows::{Bank, Members, Outcome, Refusal, Span, put_rows, raise, read_touched};
 
 // The spares that were lost, and why what was asked for wasn't done.
 #[derive(Clone, Copy)]

@@ -4,23 +4,23 @@ use Rattle.std.specs.Prelude.{IfSome, IsTrue, IsFalse}
 use Rattle.std.specs.Option.{option_map_or}
 use Rattle.std.proofs.lemmas.Bool.{cases_lt}
 use Rattle.std.proofs.lemmas.List.{get_or_past}
-use Rattle.md_base.specs.declared.places.Shape.{Shape}
-use Rattle.md_base.specs.declared.places.Span.{Span}
-use Rattle.md_base.specs.declared.status.Role.{Role}
-use Rattle.md_base.specs.declared.status.Role.TheVariants.{Whole, Recovering, Missing}
-use Rattle.md_base.specs.Sectors.{Sector, zero_sector}
-use Rattle.md_base.specs.Shapes.{has_slot, tolerance}
-use Rattle.md_base.specs.Search.{tabulate}
-use Rattle.md_base.proofs.Tabulated.{length-tabulate, get_or-tabulate}
-use Rattle.sb1.specs.declared.sb.Sb.{Sb}
-use Rattle.sb1.specs.Superblock.{superblock_in}
-use Rattle.bank.specs.Tape.{Contents, contents}
-use Rattle.bank.proofs.Images.{drawn-image, disk-some}
-use Rattle.layout.specs.Layout.{place, row_roles, stripe_of}
-use Rattle.parity.specs.Parity.{AreEquationsMet, fill, Row, lacking_in}
+use Rattle.flat_history.specs.md_base_the_Shape.{Shape}
+use Rattle.flat_history.specs.md_base_the_Span.{Span}
+use Rattle.flat_history.specs.md_base_the_Role.{Role}
+use Rattle.flat_history.specs.md_base_the_Role_TheVariants.{Whole, Recovering, Missing}
+use Rattle.flat_history.specs.md_base_Sectors.{Sector, zero_sector}
+use Rattle.flat_history.specs.md_base_Shapes.{has_slot, tolerance}
+use Rattle.flat_history.specs.md_base_Search.{tabulate}
+use Rattle.flat_history.proofs.md_base_Tabulated.{length-tabulate, get_or-tabulate}
+use Rattle.flat_history.specs.sb1_the_Sb.{Sb}
+use Rattle.flat_history.specs.sb1_Superblock.{superblock_in}
+use Rattle.flat_history.specs.bank_Tape.{Contents, contents}
+use Rattle.flat_history.proofs.bank_Images.{drawn-image, disk-some}
+use Rattle.flat_history.specs.layout_Layout.{place, row_roles, stripe_of}
+use Rattle.flat_history.specs.parity_Parity.{AreEquationsMet, fill, Row, lacking_in}
 use Rattle.flat_history.specs.superblocks_Reading.{Scope, Reading, reading, superblocks, seen_superblock, of_array, is_backup, role_state, rows_held, holder, own_of, data_offset_of, next_window, list_length, is_reshaping, is_backward, final_shape, is_clean}
 use Rattle.flat_history.proofs.superblock_reads_SaidSlots.{read-parts}
-use Rattle.backup.specs.Section.{has_section}
+use Rattle.flat_history.specs.backup_Section.{has_section}
 use Rattle.flat_history.specs.declared.events.Entry.{Entry}
 use Rattle.flat_history.specs.ActiveSection.{section_for, active_section}
 use Rattle.flat_history.specs.CrashSafe.{IsCrashSafe, IsJudged}

@@ -1,25 +1,25 @@
 -- What the update that begins a reshape leaves, and what it takes for it to be safe.
 use Rattle.std.proofs.Common.{◌≡◌, ◌⊎◌, inl, inr, ℕ, ◌<◌, ◌&&◌, ◌||◌, Bool, true, false, not, nat_lt, List, length, get_or, Option, Some, None, refl, sym, ◌∙◌, ap, arith}
 use Rattle.std.proofs.lemmas.Bool.Decides.{nat_tests}
-use Rattle.md_base.specs.Shapes.{has_slot}
-use Rattle.md_base.specs.declared.places.Shape.{Shape}
-use Rattle.md_base.specs.declared.places.Span.{Span}
-use Rattle.md_base.specs.declared.status.Role.{Role}
-use Rattle.md_base.specs.declared.status.Role.TheVariants.{Missing}
-use Rattle.md_base.proofs.Tabulated.{length-tabulate, get_or-tabulate}
-use Rattle.bank.specs.declared.bank.Operation.{Operation}
-use Rattle.bank.specs.Given.{Given, IsFaulted, NeverFalls}
-use Rattle.bank.proofs.Causes.{faulted_longer}
-use Rattle.geometry.specs.Geometry.{AreInForce}
-use Rattle.superblocks.specs.declared.change.Give.{Give}
-use Rattle.superblocks.specs.declared.change.Give.TheVariants.{Same}
-use Rattle.superblocks.specs.declared.change.Change.{Change}
-use Rattle.superblocks.specs.declared.members.Members.{Members}
-use Rattle.superblocks.specs.Reading.{Scope, is_reshaping, shape_of, list_length, role_count, role_state, holder}
-use Rattle.superblocks.specs.Reads.{has_spare}
-use Rattle.superblocks.specs.Update.{give_of, planned_role, is_planned_spare}
-use Rattle.superblocks.specs.Updating.{AreLosses, planned_newest}
-use Rattle.superblocks.specs.Outcome.{live_set, AreGivesOfLive, planned_state, planned_roles}
+use Rattle.safe_updates.specs.md_base_Shapes.{has_slot}
+use Rattle.safe_updates.specs.md_base_the_Shape.{Shape}
+use Rattle.safe_updates.specs.md_base_the_Span.{Span}
+use Rattle.safe_updates.specs.md_base_the_Role.{Role}
+use Rattle.safe_updates.specs.md_base_the_Role_TheVariants.{Missing}
+use Rattle.safe_updates.proofs.md_base_Tabulated.{length-tabulate, get_or-tabulate}
+use Rattle.safe_updates.specs.bank_the_Operation.{Operation}
+use Rattle.safe_updates.specs.bank_Given.{Given, IsFaulted, NeverFalls}
+use Rattle.safe_updates.proofs.bank_Causes.{faulted_longer}
+use Rattle.safe_updates.specs.geometry_Geometry.{AreInForce}
+use Rattle.safe_updates.specs.superblocks_the_Give.{Give}
+use Rattle.safe_updates.specs.superblocks_the_Give_TheVariants.{Same}
+use Rattle.safe_updates.specs.superblocks_the_Change.{Change}
+use Rattle.safe_updates.specs.superblocks_the_Members.{Members}
+use Rattle.safe_updates.specs.superblocks_Reading.{Scope, is_reshaping, shape_of, list_length, role_count, role_state, holder}
+use Rattle.safe_updates.specs.superblocks_Reads.{has_spare}
+use Rattle.safe_updates.specs.superblocks_Update.{give_of, planned_role, is_planned_spare}
+use Rattle.safe_updates.specs.superblocks_Updating.{AreLosses, planned_newest}
+use Rattle.safe_updates.specs.superblocks_Outcome.{live_set, AreGivesOfLive, planned_state, planned_roles}
 use Rattle.safe_updates.proofs.superblock_reads_SaidLists.{role-holder}
 use Rattle.safe_updates.proofs.superblock_reads_SaidSlots.{below-length}
 use Rattle.safe_updates.specs.row_io_Rows.{reading_of}

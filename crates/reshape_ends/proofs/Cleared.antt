@@ -3,22 +3,22 @@ use Rattle.std.proofs.Common.{◌≡◌, ◌≢◌, ◌⊎◌, inl, inr, ℕ, �
 use Rattle.std.specs.Prelude.{⊤}
 use Rattle.std.proofs.lemmas.Bool.{cases_eq}
 use Rattle.std.proofs.lemmas.List.{take_all}
-use Rattle.md_base.specs.Sectors.{Sector}
-use Rattle.sb1.specs.declared.sb.Sb.{Sb}
-use Rattle.sb1.specs.Superblock.{superblock_in}
-use Rattle.bank.specs.declared.bank.Operation.{Operation}
-use Rattle.bank.specs.Given.{Given}
-use Rattle.bank.specs.Tape.{Contents, EachMark, IsIn, Kept, disk, value_after}
-use Rattle.bank.proofs.Laws.{choices-present, kept_in}
-use Rattle.bank.proofs.Marks.{each_mark-map, each_mark-then}
-use Rattle.superblocks.specs.declared.members.Members.{Members}
-use Rattle.superblocks.specs.Reading.{Scope, is_seen, is_reshaping, of_array}
-use Rattle.superblocks.specs.Held.{MayRead}
+use Rattle.safe_updates.specs.md_base_Sectors.{Sector}
+use Rattle.safe_updates.specs.sb1_the_Sb.{Sb}
+use Rattle.safe_updates.specs.sb1_Superblock.{superblock_in}
+use Rattle.safe_updates.specs.bank_the_Operation.{Operation}
+use Rattle.safe_updates.specs.bank_Given.{Given}
+use Rattle.safe_updates.specs.bank_Tape.{Contents, EachMark, IsIn, Kept, disk, value_after}
+use Rattle.safe_updates.proofs.bank_Laws.{choices-present, kept_in}
+use Rattle.safe_updates.proofs.bank_Marks.{each_mark-map, each_mark-then}
+use Rattle.safe_updates.specs.superblocks_the_Members.{Members}
+use Rattle.safe_updates.specs.superblocks_Reading.{Scope, is_seen, is_reshaping, of_array}
+use Rattle.safe_updates.specs.superblocks_Held.{MayRead}
 use Rattle.safe_updates.specs.row_io_Rows.{present}
-use Rattle.backup.specs.Section.{is_header_of, names_span}
-use Rattle.backup.specs.Written.{cleared_header}
-use Rattle.backup.specs.Storing.{IsHeading, IsHeaded}
-use Rattle.backup.proofs.WrittenLaws.{cleared-none}
+use Rattle.reshape_updates.specs.backup_Section.{is_header_of, names_span}
+use Rattle.reshape_updates.specs.backup_Written.{cleared_header}
+use Rattle.reshape_updates.specs.backup_Storing.{IsHeading, IsHeaded}
+use Rattle.reshape_updates.proofs.backup_WrittenLaws.{cleared-none}
 use Rattle.safe_updates.specs.shape_views_Views.{Disk, Ledger}
 use Rattle.safe_updates.specs.shape_views_Windows.{IsSomewhere}
 use Rattle.safe_updates.proofs.shape_views_BackupLaws.{clearing-right}

@@ -4,36 +4,36 @@ use Rattle.std.specs.Prelude.{◌^◌}
 use Rattle.std.specs.List.{list_any}
 use Rattle.std.proofs.lemmas.Bool.Decides.{nat_tests}
 use Rattle.std.proofs.lemmas.List.{get_or-drop}
-use Rattle.md_base.specs.Shapes.{has_slot, data_disks}
-use Rattle.md_base.specs.Sectors.{Sector, zero_sector}
-use Rattle.md_base.specs.declared.places.Shape.{Shape}
-use Rattle.md_base.specs.declared.answers.Refusal.TheVariants.{BackupAbsent}
-use Rattle.md_base.specs.declared.status.Role.{Role}
-use Rattle.md_base.specs.declared.status.Role.TheVariants.{Whole, Recovering, Missing}
-use Rattle.md_base.proofs.Tabulated.{get_or-tabulate}
-use Rattle.bank.specs.declared.bank.Operation.{Operation}
-use Rattle.bank.specs.Given.{Given, IsFaulted, NeverFalls}
-use Rattle.bank.specs.Tape.{Contents}
-use Rattle.bank.proofs.Causes.{faulted_longer}
-use Rattle.layout.specs.Layout.{place, stripe_of}
-use Rattle.geometry.specs.Geometry.{rows, unit}
-use Rattle.superblocks.specs.declared.change.Give.{Give}
-use Rattle.superblocks.specs.declared.change.Give.TheVariants.{Same, Spare}
-use Rattle.superblocks.specs.declared.change.Change.{Change}
-use Rattle.superblocks.specs.declared.members.Members.{Members}
-use Rattle.superblocks.specs.Reading.{Scope, is_clean, is_reshaping, is_backward, shape_of, final_shape, list_length, role_count, role_state, holder, is_whole, data_offset_of}
-use Rattle.superblocks.specs.Reads.{has_spare}
-use Rattle.superblocks.specs.Update.{give_of, is_held_by, is_live, role_from, planned_role, is_planned_spare}
-use Rattle.superblocks.proofs.SlotSets.{some_role, none_there}
-use Rattle.superblocks.specs.Updating.{AreLosses}
-use Rattle.superblocks.specs.Outcome.{live_set, AreGivesOfLive, held_state, planned_state}
+use Rattle.safe_updates.specs.md_base_Shapes.{has_slot, data_disks}
+use Rattle.safe_updates.specs.md_base_Sectors.{Sector, zero_sector}
+use Rattle.safe_updates.specs.md_base_the_Shape.{Shape}
+use Rattle.safe_updates.specs.md_base_the_Refusal_TheVariants.{BackupAbsent}
+use Rattle.safe_updates.specs.md_base_the_Role.{Role}
+use Rattle.safe_updates.specs.md_base_the_Role_TheVariants.{Whole, Recovering, Missing}
+use Rattle.safe_updates.proofs.md_base_Tabulated.{get_or-tabulate}
+use Rattle.safe_updates.specs.bank_the_Operation.{Operation}
+use Rattle.safe_updates.specs.bank_Given.{Given, IsFaulted, NeverFalls}
+use Rattle.safe_updates.specs.bank_Tape.{Contents}
+use Rattle.safe_updates.proofs.bank_Causes.{faulted_longer}
+use Rattle.safe_updates.specs.layout_Layout.{place, stripe_of}
+use Rattle.safe_updates.specs.geometry_Geometry.{rows, unit}
+use Rattle.safe_updates.specs.superblocks_the_Give.{Give}
+use Rattle.safe_updates.specs.superblocks_the_Give_TheVariants.{Same, Spare}
+use Rattle.safe_updates.specs.superblocks_the_Change.{Change}
+use Rattle.safe_updates.specs.superblocks_the_Members.{Members}
+use Rattle.safe_updates.specs.superblocks_Reading.{Scope, is_clean, is_reshaping, is_backward, shape_of, final_shape, list_length, role_count, role_state, holder, is_whole, data_offset_of}
+use Rattle.safe_updates.specs.superblocks_Reads.{has_spare}
+use Rattle.safe_updates.specs.superblocks_Update.{give_of, is_held_by, is_live, role_from, planned_role, is_planned_spare}
+use Rattle.safe_updates.proofs.superblocks_SlotSets.{some_role, none_there}
+use Rattle.safe_updates.specs.superblocks_Updating.{AreLosses}
+use Rattle.safe_updates.specs.superblocks_Outcome.{live_set, AreGivesOfLive, held_state, planned_state}
 use Rattle.safe_updates.proofs.superblock_reads_SaidLists.{role-holder}
 use Rattle.safe_updates.proofs.superblock_reads_SaidSlots.{below-length}
 use Rattle.safe_updates.specs.row_io_Rows.{reading_of, held_slot}
 use Rattle.safe_updates.proofs.row_io_Losses.{holder-of}
 use Rattle.safe_updates.specs.list_io_Full.{RowStands}
 use Rattle.safe_updates.specs.flat_history_Stands.{has_room, shape_for}
-use Rattle.region_laws.specs.Regions.{IsDirected}
+use Rattle.reshape_updates.specs.region_laws_Regions.{IsDirected}
 use Rattle.safe_updates.specs.shape_views_Regions.{AreShapesFit, ArePlaced, DoWithout}
 use Rattle.safe_updates.specs.shape_views_Views.{Disk, Ledger, IsTail}
 use Rattle.safe_updates.specs.shape_views_Windows.{IsFlushedRight, ListStands, RowsStand, AreTailsStanding}

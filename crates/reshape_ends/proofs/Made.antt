@@ -4,26 +4,26 @@ use Rattle.std.specs.Option.{option_map_or}
 use Rattle.std.proofs.lemmas.Bool.{cases_lt}
 use Rattle.std.proofs.lemmas.Bool.Decides.{nat_tests}
 use Rattle.std.proofs.lemmas.List.{get_or_past}
-use Rattle.md_base.specs.Shapes.{has_slot}
-use Rattle.md_base.specs.Search.{tabulate}
-use Rattle.md_base.specs.declared.status.Role.{Role}
-use Rattle.md_base.specs.declared.status.Role.TheVariants.{Whole, Recovering, Missing}
-use Rattle.md_base.proofs.Tabulated.{length-tabulate, get_or-tabulate}
-use Rattle.sb1.specs.declared.sb.Sb.{Sb}
-use Rattle.bank.specs.Given.{Given}
-use Rattle.superblocks.specs.declared.change.Give.{Give}
-use Rattle.superblocks.specs.declared.change.Give.TheVariants.{Same, Spare}
-use Rattle.superblocks.specs.declared.change.Give.TheVariants as give
-use Rattle.superblocks.specs.declared.change.Change.{Change}
-use Rattle.superblocks.specs.declared.members.Members.{Members}
-use Rattle.superblocks.specs.Reading.{role_count, role_state, holder, is_whole, data_offset_of}
-use Rattle.superblocks.specs.Reads.{has_spare}
-use Rattle.superblocks.specs.Update.{give_of, own_in, planned_role, is_planned_spare, with_give}
-use Rattle.superblocks.specs.Updating.{IsLater, planned_newest}
-use Rattle.superblocks.specs.Outcome.{live_set, is_left, AreLive, AreGivesOfLive, AreStored, IsPlannedOwn, planned_state, planned_roles, planned_spares}
-use Rattle.superblocks.specs.Crash.{IsWithin}
-use Rattle.superblocks.proofs.PlannedSb.{planned-of}
-use Rattle.superblocks.proofs.ReadAlike.{count-same}
+use Rattle.safe_updates.specs.md_base_Shapes.{has_slot}
+use Rattle.safe_updates.specs.md_base_Search.{tabulate}
+use Rattle.safe_updates.specs.md_base_the_Role.{Role}
+use Rattle.safe_updates.specs.md_base_the_Role_TheVariants.{Whole, Recovering, Missing}
+use Rattle.safe_updates.proofs.md_base_Tabulated.{length-tabulate, get_or-tabulate}
+use Rattle.safe_updates.specs.sb1_the_Sb.{Sb}
+use Rattle.safe_updates.specs.bank_Given.{Given}
+use Rattle.safe_updates.specs.superblocks_the_Give.{Give}
+use Rattle.safe_updates.specs.superblocks_the_Give_TheVariants.{Same, Spare}
+use Rattle.safe_updates.specs.superblocks_the_Give_TheVariants as give
+use Rattle.safe_updates.specs.superblocks_the_Change.{Change}
+use Rattle.safe_updates.specs.superblocks_the_Members.{Members}
+use Rattle.safe_updates.specs.superblocks_Reading.{role_count, role_state, holder, is_whole, data_offset_of}
+use Rattle.safe_updates.specs.superblocks_Reads.{has_spare}
+use Rattle.safe_updates.specs.superblocks_Update.{give_of, own_in, planned_role, is_planned_spare, with_give}
+use Rattle.safe_updates.specs.superblocks_Updating.{IsLater, planned_newest}
+use Rattle.safe_updates.specs.superblocks_Outcome.{live_set, is_left, AreLive, AreGivesOfLive, AreStored, IsPlannedOwn, planned_state, planned_roles, planned_spares}
+use Rattle.safe_updates.specs.superblocks_Crash.{IsWithin}
+use Rattle.safe_updates.proofs.superblocks_PlannedSb.{planned-of}
+use Rattle.safe_updates.proofs.superblocks_ReadAlike.{count-same}
 use Rattle.safe_updates.proofs.superblock_reads_SaidSlots.{has-slots_below}
 use Rattle.safe_updates.specs.row_io_Rows.{reading_of, is_missing, IsHolder}
 use Rattle.safe_updates.specs.shape_views_Regions.{AreShapesFit}

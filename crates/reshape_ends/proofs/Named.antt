@@ -1,18 +1,18 @@
 -- Behind an update the newest superblock gives no device a role that no slot holds.
 use Rattle.std.proofs.Common.{◌≡◌, ◌<◌, ◌≤◌, ⊎_elim, ℕ, Bool, true, false, not, cond, nat_lt, max, get_or, List, length, Option, Some, is_some, sym, ◌∙◌, ap, arith}
-use Rattle.md_base.specs.Shapes.{has_slot}
-use Rattle.md_base.specs.declared.status.Role.{Role}
-use Rattle.md_base.specs.declared.status.Role.TheVariants.{Missing}
-use Rattle.md_base.proofs.Tabulated.{get_or-tabulate}
-use Rattle.bank.specs.Given.{Given}
-use Rattle.sb1.specs.declared.sb.Sb.{Sb}
-use Rattle.superblocks.specs.declared.change.Change.{Change}
-use Rattle.superblocks.specs.declared.members.Members.{Members}
-use Rattle.superblocks.specs.Reading.{entry_of, role_count, holder}
-use Rattle.superblocks.specs.Update.{give_of, planned_role, is_planned_spare, entry_for, with_roles}
-use Rattle.superblocks.specs.Updating.{AreNamed}
-use Rattle.superblocks.specs.Outcome.{planned_state}
-use Rattle.superblocks.proofs.ValidFields.{few-roles}
+use Rattle.safe_updates.specs.md_base_Shapes.{has_slot}
+use Rattle.safe_updates.specs.md_base_the_Role.{Role}
+use Rattle.safe_updates.specs.md_base_the_Role_TheVariants.{Missing}
+use Rattle.safe_updates.proofs.md_base_Tabulated.{get_or-tabulate}
+use Rattle.safe_updates.specs.bank_Given.{Given}
+use Rattle.safe_updates.specs.sb1_the_Sb.{Sb}
+use Rattle.safe_updates.specs.superblocks_the_Change.{Change}
+use Rattle.safe_updates.specs.superblocks_the_Members.{Members}
+use Rattle.safe_updates.specs.superblocks_Reading.{entry_of, role_count, holder}
+use Rattle.safe_updates.specs.superblocks_Update.{give_of, planned_role, is_planned_spare, entry_for, with_roles}
+use Rattle.safe_updates.specs.superblocks_Updating.{AreNamed}
+use Rattle.safe_updates.specs.superblocks_Outcome.{planned_state}
+use Rattle.safe_updates.proofs.superblocks_ValidFields.{few-roles}
 use Rattle.safe_updates.proofs.superblock_reads_PlanFits.{length-any, roles-at, entry-is}
 use Rattle.safe_updates.specs.shape_changes_Updates.{HasOneHolder}
 use Rattle.safe_updates.proofs.shape_changes_PlannedRoles.{planned-held}

@@ -1,14 +1,14 @@
 -- A reshape begins: the backup's header is cleared, and behind it the superblocks record the reshape.
 use Rattle.std.specs.Prelude.{◌≡◌, ℕ, ◌++◌, Bool, false, not, ◌&&◌, nat_lt, List, [], ◌∷◌, Some, None}
-use Rattle.md_base.specs.declared.places.Shape.{Shape}
-use Rattle.bank.specs.declared.bank.Operation.{Operation}
-use Rattle.bank.specs.declared.bank.Operation.TheVariants.{Write}
-use Rattle.bank.specs.Given.{Given, IsFaulted}
-use Rattle.superblocks.specs.declared.members.Members.{Members}
-use Rattle.superblocks.specs.Reading.{Scope}
-use Rattle.superblocks.specs.Reads.{has_spare}
-use Rattle.backup.specs.Written.{cleared_header}
-use Rattle.backup.specs.Storing.{HasSomeOf, header_operations}
+use Rattle.safe_updates.specs.md_base_the_Shape.{Shape}
+use Rattle.safe_updates.specs.bank_the_Operation.{Operation}
+use Rattle.safe_updates.specs.bank_the_Operation_TheVariants.{Write}
+use Rattle.safe_updates.specs.bank_Given.{Given, IsFaulted}
+use Rattle.safe_updates.specs.superblocks_the_Members.{Members}
+use Rattle.safe_updates.specs.superblocks_Reading.{Scope}
+use Rattle.safe_updates.specs.superblocks_Reads.{has_spare}
+use Rattle.reshape_updates.specs.backup_Written.{cleared_header}
+use Rattle.reshape_updates.specs.backup_Storing.{HasSomeOf, header_operations}
 use Rattle.safe_updates.specs.flat_history_Stands.{backup_absent}
 use Rattle.safe_updates.specs.shape_changes_Updates.{planned_view}
 use Rattle.safe_updates.specs.shape_changes_Changing.{IsChanged}

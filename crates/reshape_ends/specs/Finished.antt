@@ -1,14 +1,14 @@
 -- A reshape ends: the holders of roles are flushed, what is missing is named, and the superblocks record the new shape alone.
 use Rattle.std.specs.Prelude.{◌≡◌, ◌⊎◌, ℕ, ◌*◌, ◌<◌, ◌≤◌, true, false, List, Some, None}
-use Rattle.md_base.specs.Sectors.{Sector, zero_sector}
-use Rattle.md_base.specs.Shapes.{data_disks, has_slot}
-use Rattle.bank.specs.declared.bank.Operation.{Operation}
-use Rattle.bank.specs.Given.{Given, IsFaulted}
-use Rattle.bank.specs.Tape.{Contents, IsIn}
-use Rattle.sb1.specs.declared.sb.Sb.{Sb}
-use Rattle.superblocks.specs.declared.members.Members.{Members}
-use Rattle.superblocks.specs.Reading.{is_clean, is_reshaping, is_backward, shape_of, final_shape, list_length, role_state, holder}
-use Rattle.superblocks.specs.Reads.{has_spare}
+use Rattle.safe_updates.specs.md_base_Sectors.{Sector, zero_sector}
+use Rattle.safe_updates.specs.md_base_Shapes.{data_disks, has_slot}
+use Rattle.safe_updates.specs.bank_the_Operation.{Operation}
+use Rattle.safe_updates.specs.bank_Given.{Given, IsFaulted}
+use Rattle.safe_updates.specs.bank_Tape.{Contents, IsIn}
+use Rattle.safe_updates.specs.sb1_the_Sb.{Sb}
+use Rattle.safe_updates.specs.superblocks_the_Members.{Members}
+use Rattle.safe_updates.specs.superblocks_Reading.{is_clean, is_reshaping, is_backward, shape_of, final_shape, list_length, role_state, holder}
+use Rattle.safe_updates.specs.superblocks_Reads.{has_spare}
 use Rattle.safe_updates.specs.row_io_Rows.{reading_of}
 use Rattle.safe_updates.specs.list_io_Full.{RowStands}
 use Rattle.safe_updates.specs.flat_history_World.{World}

@@ -1,15 +1,15 @@
 //! A reshape begins.
 
 ghost use Rattle.std.specs.Prelude.{◌≡◌, ◌≢◌, ◌⊎◌, ◌+◌, ◌<◌, ◌≤◌, ◌&&◌, ◌||◌, ◌==◌, ℕ, true, false, not, nat_lt, length, Some, None};
-ghost use Rattle.bank.specs.Given.{NeverFalls};
-ghost use Rattle.bank.specs.Tape.{disk};
-ghost use Rattle.md_base.specs.Shapes.{has_slot};
-ghost use Rattle.md_base.specs.Search.{count_below};
-ghost use Rattle.md_base.specs.declared.answers.Refusal.TheVariants.{BackupFault};
-ghost use Rattle.md_base.specs.declared.status.Role.TheVariants.{Whole};
-ghost use Rattle.geometry.specs.Geometry.{AreInForce};
-ghost use Rattle.superblocks.specs.Reading.{Scope, is_reshaping, shape_of, role_state};
-ghost use Rattle.superblocks.specs.Reads.{has_spare};
+ghost use Rattle.safe_updates.specs.bank_Given.{NeverFalls};
+ghost use Rattle.safe_updates.specs.bank_Tape.{disk};
+ghost use Rattle.safe_updates.specs.md_base_Shapes.{has_slot};
+ghost use Rattle.safe_updates.specs.md_base_Search.{count_below};
+ghost use Rattle.safe_updates.specs.md_base_the_Refusal_TheVariants.{BackupFault};
+ghost use Rattle.safe_updates.specs.md_base_the_Role_TheVariants.{Whole};
+ghost use Rattle.safe_updates.specs.geometry_Geometry.{AreInForce};
+ghost use Rattle.safe_updates.specs.superblocks_Reading.{Scope, is_reshaping, shape_of, role_state};
+ghost use Rattle.safe_updates.specs.superblocks_Reads.{has_spare};
 ghost use Rattle.safe_updates.specs.row_io_Rows.{present, reading_of};
 ghost use Rattle.safe_updates.specs.flat_history_World.{World};
 ghost use Rattle.safe_updates.specs.flat_history_Sound.{OpensFit};
@@ -27,14 +27,9 @@ ghost use Rattle.safe_updates.specs.views_Rebuilding.{AreSparesFree};
 ghost use Rattle.safe_updates.specs.Named.{AreNamedMissing};
 ghost use Rattle.reshape_ends.specs.Begun.{begun_plan, is_idle_spare, IsBackupOf, IsUntouched, IsBegunBehind};
 
-use backup::clear_section;
-use bank::Bank;
-use md_base::{Refusal, Shape, SlotList};
-use reshape_updates::begin_update;
+use reshape_updates::{begin_update, clear_section};
 use safe_updates::roles::shape_in;
-use sb1::Sb;
-use superblocks::Members;
-use superblocks::sets::{with, without};
+use safe_updates::{Bank, Members, Refusal, Sb, Shape, SlotList, with, without};
 
 /// The spares that were lost as a reshape began, and why it didn't.
 #[derive(Clone, Copy)]

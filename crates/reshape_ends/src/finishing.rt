@@ -1,11 +1,11 @@
 //! A reshape ends.
 
 ghost use Rattle.std.specs.Prelude.{◌≡◌, ◌≤◌, ℕ, true, length, Some, None, MatchOption};
-ghost use Rattle.bank.specs.Given.{NeverFalls};
-ghost use Rattle.bank.specs.Tape.{disk};
-ghost use Rattle.md_base.specs.Sectors.{Sector};
-ghost use Rattle.md_base.specs.Shapes.{has_slot};
-ghost use Rattle.superblocks.specs.Reading.{is_clean, is_reshaping, role_state, holder, data_offset_of};
+ghost use Rattle.safe_updates.specs.bank_Given.{NeverFalls};
+ghost use Rattle.safe_updates.specs.bank_Tape.{disk};
+ghost use Rattle.safe_updates.specs.md_base_Sectors.{Sector};
+ghost use Rattle.safe_updates.specs.md_base_Shapes.{has_slot};
+ghost use Rattle.safe_updates.specs.superblocks_Reading.{is_clean, is_reshaping, role_state, holder, data_offset_of};
 ghost use Rattle.safe_updates.specs.row_io_Rows.{present, reading_of};
 ghost use Rattle.safe_updates.specs.flat_history_World.{World};
 ghost use Rattle.safe_updates.specs.flat_history_Sound.{OpensFit};
@@ -26,14 +26,12 @@ ghost use Rattle.safe_updates.specs.Unused.{IsUnusedKept};
 ghost use Rattle.reshape_ends.specs.Finished.{IsOver, IsEndedBehind, AreLostInEnd, IsFinishable};
 
 use crate::beginning::{check_counts, check_entries};
-use bank::Bank;
-use md_base::Refusal;
 use reshape_updates::end_update;
 use safe_updates::naming::newly_vacant;
 use safe_updates::refusing::too_many;
 use safe_updates::roles::vacant_roles;
 use safe_updates::settles::flush_naming;
-use superblocks::{Lostness, Members};
+use safe_updates::{Bank, Lostness, Members, Refusal};
 
 /// What was lost as a reshape ended: the roles and the spares in the flush, the slots in the update that ends it. And why it
 /// didn't end.

@@ -6,4 +6,14 @@ mod finishing;
 
 pub use beginning::{Begun, begin};
 pub use finishing::{Finished, finish};
+pub use reshape_updates::{SectionFault, record_position, write_section};
 pub use safe_updates::flushes::holders;
+pub use safe_updates::giving::{flush_and_record, give_role};
+pub use safe_updates::naming::{has_unnamed, name_missing, newly_vacant};
+pub use safe_updates::refusing::{too_many, unread, unwritten};
+pub use safe_updates::roles::{is_spare, is_vacant, list_length, vacant_roles};
+pub use safe_updates::settles::{flush_naming, settle};
+pub use safe_updates::{
+    Bank, Change, Give, Members, Outcome, Sb, Shape, Unavailable, are_too_many, data_offset,
+    lose_slot, read_list, syndromes, update, with, without,
+};

@@ -2,18 +2,18 @@
 use Rattle.std.proofs.Common.{◌≡◌, ◌⊎◌, inl, inr, ℕ, ◌+◌, ◌-◌, ◌*◌, ◌/◌, ◌<◌, ◌≤◌, nat_lt, Bool, true, cond, if◌then◌else◌, List, length, take, drop, Option, Some, None, Result, Ok, Err, IfOk, refl, sym, ◌∙◌, ap, subst, arith}
 use Rattle.std.proofs.lemmas.Bool.Decides.{nat_tests}
 use Rattle.std.proofs.lemmas.List.{length-take-le}
-use Rattle.md_base.specs.declared.places.Span.{Span}
-use Rattle.md_base.specs.Sectors.{Sector}
-use Rattle.sb1.specs.declared.sb.Sb.{Sb}
-use Rattle.bank.specs.Given.{Given, Sizes}
-use Rattle.bank.specs.Tape.{Contents, AreSectors}
-use Rattle.backup.specs.Section.{has_section}
-use Rattle.superblocks.specs.Reading.{Scope, next_window}
+use Rattle.moving_state.specs.md_base_the_Span.{Span}
+use Rattle.moving_state.specs.md_base_Sectors.{Sector}
+use Rattle.moving_state.specs.sb1_the_Sb.{Sb}
+use Rattle.moving_state.specs.bank_Given.{Given, Sizes}
+use Rattle.moving_state.specs.bank_Tape.{Contents, AreSectors}
+use Rattle.moving_state.specs.backup_Section.{has_section}
+use Rattle.moving_state.specs.superblocks_Reading.{Scope, next_window}
 use Rattle.moving_state.specs.flat_history_ActiveSection.{section_for}
 use Rattle.moving_state.specs.shape_views_Regions.{header_in, open_by}
 use Rattle.moving_state.proofs.shape_views_BackupLaws.{found-open}
-use Rattle.grow_asked.specs.declared.window.Window.{Window}
-use Rattle.grow_asked.specs.declared.window.Window.TheVariants.{Closed, Entered}
+use Rattle.moving_state.specs.grow_asked_the_Window.{Window}
+use Rattle.moving_state.specs.grow_asked_the_Window_TheVariants.{Closed, Entered}
 use Rattle.moving_state.specs.course_kept_Course.{IsWindowOf}
 use Rattle.reshape_openings.specs.Finding.{IsLookedFor, window_for, bytes_for, AreOfSection, IsFoundIn}
 

@@ -1,15 +1,15 @@
 -- The window that an opening finds of a reshape, by what the backup holds.
 use Rattle.std.specs.Prelude.{◌≡◌, ℕ, ◌+◌, ◌-◌, ◌*◌, ◌<◌, true, List, [], take, Option, Some, None, ⊤}
-use Rattle.md_base.specs.declared.places.Span.{Span}
-use Rattle.md_base.specs.Sectors.{Sector}
-use Rattle.md_base.specs.Shapes.{has_slot}
-use Rattle.sb1.specs.declared.sb.Sb.{Sb}
-use Rattle.bank.specs.Given.{Given, sizes}
-use Rattle.parity.specs.Rows.{sector_of}
-use Rattle.superblocks.specs.Reading.{Scope}
+use Rattle.moving_state.specs.md_base_the_Span.{Span}
+use Rattle.moving_state.specs.md_base_Sectors.{Sector}
+use Rattle.moving_state.specs.md_base_Shapes.{has_slot}
+use Rattle.moving_state.specs.sb1_the_Sb.{Sb}
+use Rattle.moving_state.specs.bank_Given.{Given, sizes}
+use Rattle.moving_state.specs.parity_Rows.{sector_of}
+use Rattle.moving_state.specs.superblocks_Reading.{Scope}
 use Rattle.moving_state.specs.window_rows_Copies.{IsRoomFor}
-use Rattle.grow_asked.specs.declared.window.Window.{Window}
-use Rattle.grow_asked.specs.declared.window.Window.TheVariants.{Closed, Entered, Unsure}
+use Rattle.moving_state.specs.grow_asked_the_Window.{Window}
+use Rattle.moving_state.specs.grow_asked_the_Window_TheVariants.{Closed, Entered, Unsure}
 
 -- An array with this newest superblock is looked for in slots of the bank, of which this one is its backup.
 pub record IsLookedFor (bank : Given) (newest : Sb) (backup : ℕ) (scope : Scope) : Type 0 where

@@ -1,10 +1,10 @@
 -- The slots that recover a role.
 use Rattle.std.specs.Prelude.{◌≡◌, ℕ, true}
-use Rattle.md_base.specs.Shapes.{has_slot}
-use Rattle.md_base.specs.declared.status.Role.TheVariants.{Recovering}
-use Rattle.superblocks.specs.declared.members.Members.{Members}
-use Rattle.superblocks.specs.Reading.{role_state}
-use Rattle.row_io.specs.Rows.{reading_of}
+use Rattle.moving_state.specs.md_base_Shapes.{has_slot}
+use Rattle.moving_state.specs.md_base_the_Role_TheVariants.{Recovering}
+use Rattle.moving_state.specs.superblocks_the_Members.{Members}
+use Rattle.moving_state.specs.superblocks_Reading.{role_state}
+use Rattle.moving_state.specs.row_io_Rows.{reading_of}
 
 -- these are the slots that recover a role: in a reshape they count as absent
 pub record AreRecovering (members : Members) (slots : ℕ) : Type 0 where

@@ -1,14 +1,11 @@
 //! The slots that recover a role.
 
 ghost use Rattle.std.specs.Prelude.{◌≡◌, ◌<◌, ◌≤◌, ℕ, length, Some};
-ghost use Rattle.superblocks.specs.Reading.{role_state, holder};
-ghost use Rattle.row_io.specs.Rows.{reading_of, members_without};
+ghost use Rattle.moving_state.specs.superblocks_Reading.{role_state, holder};
+ghost use Rattle.moving_state.specs.row_io_Rows.{reading_of, members_without};
 ghost use Rattle.reshape_openings.specs.Recovering.{AreRecovering};
 
-use md_base::Role;
-use row_io::lose_slots;
-use superblocks::Members;
-use superblocks::sets::with;
+use moving_state::{Members, Role, lose_slots, with};
 
 // A bit for each slot that recovers a role.
 fn recovering_slots(members: &Members) -> u32

@@ -1,24 +1,20 @@
 //! The window of a stored reshape.
 
 ghost use Rattle.std.specs.Prelude.{◌≡◌, ◌≢◌, ◌⊎◌, ◌-◌, ◌*◌, ◌<◌, ◌≤◌, ℕ, true, length, take, Some, None, Ok, IfOk, OnErr, if◌then◌else◌};
-ghost use Rattle.bank.specs.Given.{IsFaulted, NeverFalls};
-ghost use Rattle.bank.specs.Tape.{AreSectors};
-ghost use Rattle.backup.specs.Section.{has_section};
-ghost use Rattle.superblocks.specs.Reading.{Scope, is_reshaping};
-ghost use Rattle.row_io.specs.Rows.{present};
+ghost use Rattle.moving_state.specs.bank_Given.{IsFaulted, NeverFalls};
+ghost use Rattle.moving_state.specs.bank_Tape.{AreSectors};
+ghost use Rattle.moving_state.specs.backup_Section.{has_section};
+ghost use Rattle.moving_state.specs.superblocks_Reading.{Scope, is_reshaping};
+ghost use Rattle.moving_state.specs.row_io_Rows.{present};
 ghost use Rattle.moving_state.specs.flat_history_Stands.{reach_of};
 ghost use Rattle.moving_state.specs.shape_views_Regions.{AreShapesFit, header_in, open_by};
-ghost use Rattle.grow_asked.specs.declared.window.Window.TheVariants.{Closed, Entered};
+ghost use Rattle.moving_state.specs.grow_asked_the_Window_TheVariants.{Closed, Entered};
 ghost use Rattle.moving_state.specs.course_kept_Course.{IsWindowOf};
 ghost use Rattle.moving_state.specs.Due.{unsure_in};
 ghost use Rattle.reshape_openings.specs.Finding.{IsLookedFor, window_for, bytes_for, IsFoundIn};
 
-use backup::find_section;
-use bank::{Bank, BankFault};
-use grow_asked::Window;
-use md_base::Span;
 use moving_state::reshape::next_window_of;
-use superblocks::Members;
+use moving_state::{Bank, BankFault, Members, Span, Window, find_section};
 
 // The next window, with this span, is entered where the backup names its section, whose sectors then begin the buffer.
 fn find_entered<B: Bank>(

@@ -5,15 +5,15 @@ use Rattle.std.specs.Int.{bit_at}
 use Rattle.std.proofs.lemmas.Nat.{div-add-mod'}
 use Rattle.std.proofs.lemmas.Bool.Decides.{nat_tests}
 use Rattle.std.proofs.lemmas.Nat.Bits.{bit_at_and, bit_at_or}
-use Rattle.md_base.specs.declared.places.Shape.{Shape}
-use Rattle.md_base.specs.Shapes.{data_disks, tolerance_of, is_multiple, is_valid_shape}
-use Rattle.sb1.specs.declared.sb.Sb.{Sb}
-use Rattle.layout.proofs.Limits.{limited, IsLimited}
-use Rattle.geometry.specs.Geometry.{AreInForce, list_end, is_size}
-use Rattle.superblocks.specs.Reading.{is_reshaping, is_backward, is_zero, shape_of, final_shape, role_count, list_length, count_of}
-use Rattle.md_base.specs.declared.answers.Refusal.{Refusal}
-use Rattle.md_base.specs.declared.answers.Refusal.TheVariants.{PositionNotOnUnit}
-use Rattle.superblocks.specs.Verdict.{off_unit, unit_of}
+use Rattle.superblock_updates.specs.md_base_the_Shape.{Shape}
+use Rattle.superblock_updates.specs.md_base_Shapes.{data_disks, tolerance_of, is_multiple, is_valid_shape}
+use Rattle.superblock_updates.specs.sb1_the_Sb.{Sb}
+use Rattle.superblock_updates.proofs.layout_Limits.{limited, IsLimited}
+use Rattle.superblock_updates.specs.geometry_Geometry.{AreInForce, list_end, is_size}
+use Rattle.superblock_updates.specs.superblocks_Reading.{is_reshaping, is_backward, is_zero, shape_of, final_shape, role_count, list_length, count_of}
+use Rattle.superblock_updates.specs.md_base_the_Refusal.{Refusal}
+use Rattle.superblock_updates.specs.md_base_the_Refusal_TheVariants.{PositionNotOnUnit}
+use Rattle.superblock_updates.specs.superblocks_Verdict.{off_unit, unit_of}
 use Rattle.shape_ends.specs.shape_views_Regions.{AreShapesFit}
 use Rattle.reshape_updates.specs.Beginning.{goes_back, map_with_reshape, with_reshape, HasBegun}
 use Rattle.reshape_updates.proofs.Differences.{former-count, negative-is}

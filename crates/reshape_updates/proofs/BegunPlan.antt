@@ -1,18 +1,18 @@
 -- The change that begins a reshape is what the laws of a begin ask for.
 use Rattle.std.proofs.Common.{◌≡◌, inl, inr, ℕ, ◌+◌, ◌<◌, ◌≤◌, false, Bool, cond, max, length, Option, Some, None, unwrap_or, get_or, refl, sym, ◌∙◌, ap, subst, arith}
 use Rattle.std.proofs.lemmas.List.{get_or_past}
-use Rattle.md_base.specs.declared.places.Shape.{Shape}
-use Rattle.md_base.specs.declared.status.Role.TheVariants.{Missing}
-use Rattle.md_base.specs.Search.{count_below}
-use Rattle.sb1.specs.declared.sb.Sb.{Sb}
-use Rattle.geometry.specs.Geometry.{AreInForce}
-use Rattle.layout.proofs.Limits.{limited}
-use Rattle.superblocks.specs.declared.change.Give.TheVariants as give
-use Rattle.superblocks.specs.declared.members.Members.{Members}
-use Rattle.superblocks.specs.Reading.{is_reshaping, shape_of, final_shape, role_count, holder}
-use Rattle.superblocks.specs.Reads.{SaysSame, has_spare}
-use Rattle.superblocks.specs.Update.{IsRoleGive, give_of, is_recovery}
-use Rattle.superblocks.specs.Updating.{planned_newest}
+use Rattle.superblock_updates.specs.md_base_the_Shape.{Shape}
+use Rattle.superblock_updates.specs.md_base_the_Role_TheVariants.{Missing}
+use Rattle.superblock_updates.specs.md_base_Search.{count_below}
+use Rattle.superblock_updates.specs.sb1_the_Sb.{Sb}
+use Rattle.superblock_updates.specs.geometry_Geometry.{AreInForce}
+use Rattle.superblock_updates.proofs.layout_Limits.{limited}
+use Rattle.superblock_updates.specs.superblocks_the_Give_TheVariants as give
+use Rattle.superblock_updates.specs.superblocks_the_Members.{Members}
+use Rattle.superblock_updates.specs.superblocks_Reading.{is_reshaping, shape_of, final_shape, role_count, holder}
+use Rattle.superblock_updates.specs.superblocks_Reads.{SaysSame, has_spare}
+use Rattle.superblock_updates.specs.superblocks_Update.{IsRoleGive, give_of, is_recovery}
+use Rattle.superblock_updates.specs.superblocks_Updating.{planned_newest}
 use Rattle.shape_ends.specs.shape_views_Regions.{AreShapesFit}
 use Rattle.shape_ends.proofs.shape_views_Alike.{shape-alike, final-alike, length-alike}
 use Rattle.shape_ends.specs.shape_changes_Kinds.{IsTaking}

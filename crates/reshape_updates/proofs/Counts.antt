@@ -2,7 +2,7 @@
 use Rattle.std.proofs.Common.{◌≡◌, ℕ, zero, suc, ◌+◌, ◌<◌, ◌≤◌, Bool, true, false, cond, inl, inr, refl, sym, ◌∙◌, ap, arith}
 use Rattle.std.proofs.lemmas.Bool.{cases_lt}
 use mir.Val.{bool_byte}
-use Rattle.md_base.specs.Search.{count_below}
+use Rattle.superblock_updates.specs.md_base_Search.{count_below}
 
 count-suc : (n : ℕ) (f : ℕ → Bool) → count_below (suc n) f ≡ count_below n f + cond (f n) 1 0
 unfolding count_below

@@ -3,7 +3,7 @@ use Rattle.std.proofs.Common.{◌≡◌, ℕ, zero, suc, ◌+◌, ◌-◌, ◌<�
 use Rattle.std.specs.Prelude.{ℤ, pos, negsuc, ◌-ℤ◌}
 use Rattle.std.proofs.lemmas.Bool.{cases_lt}
 use Rattle.std.proofs.lemmas.Bool.Decides.{nat_tests}
-use Rattle.superblocks.specs.Reading.{count_of, is_negative}
+use Rattle.superblock_updates.specs.superblocks_Reading.{count_of, is_negative}
 
 less : (a b : ℕ) → a < b → nat_lt a b ≡ true
 less a b lt = grind (arith, nat_tests)

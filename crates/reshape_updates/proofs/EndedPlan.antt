@@ -5,24 +5,24 @@ use Rattle.std.specs.Int.{bit_at}
 use Rattle.std.proofs.lemmas.Bool.{cases_lt}
 use Rattle.std.proofs.lemmas.List.{get_or_past, get_or-drop}
 use Rattle.std.proofs.lemmas.Nat.Bits.{bit_at_and}
-use Rattle.md_base.specs.declared.places.Shape.{Shape}
-use Rattle.md_base.specs.declared.status.Role.{Role}
-use Rattle.md_base.specs.declared.status.Role.TheVariants.{Missing, Whole, Recovering}
-use Rattle.md_base.specs.declared.answers.Refusal.TheVariants.{PositionNotOnUnit, BackupAbsent}
-use Rattle.md_base.specs.Shapes.{is_multiple, is_valid_shape}
-use Rattle.md_base.proofs.Tabulated.{length-tabulate, get_or-tabulate}
-use Rattle.sb1.specs.declared.sb.Sb.{Sb}
-use Rattle.geometry.specs.Geometry.{is_size, unit}
-use Rattle.layout.proofs.Limits.{limited}
-use Rattle.superblocks.specs.declared.change.Give.{Give}
-use Rattle.superblocks.specs.declared.change.Give.TheVariants.{Same, Spare}
-use Rattle.superblocks.specs.declared.change.Give.TheVariants as give
-use Rattle.superblocks.specs.declared.members.Members.{Members}
-use Rattle.superblocks.specs.Reading.{Scope, is_reshaping, is_backward, shape_of, final_shape, role_count, list_length, role_state, holder, count_of}
-use Rattle.superblocks.specs.Reads.{SaysSame}
-use Rattle.superblocks.specs.Verdict.{unit_of}
-use Rattle.superblocks.specs.Update.{IsRoleGive, give_of, planned_role}
-use Rattle.superblocks.specs.Updating.{planned_newest}
+use Rattle.superblock_updates.specs.md_base_the_Shape.{Shape}
+use Rattle.superblock_updates.specs.md_base_the_Role.{Role}
+use Rattle.superblock_updates.specs.md_base_the_Role_TheVariants.{Missing, Whole, Recovering}
+use Rattle.superblock_updates.specs.md_base_the_Refusal_TheVariants.{PositionNotOnUnit, BackupAbsent}
+use Rattle.superblock_updates.specs.md_base_Shapes.{is_multiple, is_valid_shape}
+use Rattle.superblock_updates.proofs.md_base_Tabulated.{length-tabulate, get_or-tabulate}
+use Rattle.superblock_updates.specs.sb1_the_Sb.{Sb}
+use Rattle.superblock_updates.specs.geometry_Geometry.{is_size, unit}
+use Rattle.superblock_updates.proofs.layout_Limits.{limited}
+use Rattle.superblock_updates.specs.superblocks_the_Give.{Give}
+use Rattle.superblock_updates.specs.superblocks_the_Give_TheVariants.{Same, Spare}
+use Rattle.superblock_updates.specs.superblocks_the_Give_TheVariants as give
+use Rattle.superblock_updates.specs.superblocks_the_Members.{Members}
+use Rattle.superblock_updates.specs.superblocks_Reading.{Scope, is_reshaping, is_backward, shape_of, final_shape, role_count, list_length, role_state, holder, count_of}
+use Rattle.superblock_updates.specs.superblocks_Reads.{SaysSame}
+use Rattle.superblock_updates.specs.superblocks_Verdict.{unit_of}
+use Rattle.superblock_updates.specs.superblocks_Update.{IsRoleGive, give_of, planned_role}
+use Rattle.superblock_updates.specs.superblocks_Updating.{planned_newest}
 use Rattle.shape_ends.proofs.superblock_reads_SaidLists.{role-holder}
 use Rattle.shape_ends.specs.row_io_Rows.{reading_of}
 use Rattle.shape_ends.specs.flat_history_Stands.{backup_absent, has_room}
@@ -38,7 +38,7 @@ use Rattle.shape_ends.specs.Plans.{HasNoneRecovering}
 use Rattle.shape_ends.proofs.PlanRoles.{plans-keep, planned-ended}
 use Rattle.shape_ends.proofs.GrownStanding.{grown-without}
 use Rattle.shape_ends.proofs.PlanPlaced.{planned-placed}
-use Rattle.bank.specs.Given.{Given}
+use Rattle.superblock_updates.specs.bank_Given.{Given}
 use Rattle.reshape_updates.specs.Ending.{with_new_shape, HasEnded, holds_from, dropped_give, ending}
 
 -- what says the same has ended too

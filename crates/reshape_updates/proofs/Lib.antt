@@ -15,3 +15,4 @@ pub use Rattle.shape_ends.proofs.PastWindows as shape_ends_PastWindows
 pub use Rattle.shape_ends.proofs.Takeovers as shape_ends_Takeovers
 pub use Rattle.shape_ends.proofs.GrownLaws as shape_ends_GrownLaws
 pub use Rattle.shape_ends.proofs.TakenShapes as shape_ends_TakenShapes
+pub use Rattle.shape_ends.proofs.backup_WrittenLaws

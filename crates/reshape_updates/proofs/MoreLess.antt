@@ -1,11 +1,11 @@
 -- Views that have less than others, one after the other.
 use Rattle.std.proofs.Common.{◌≡◌, ℕ, Some, refl, sym, ◌∙◌, ap}
-use Rattle.md_base.specs.declared.status.Role.{Role}
-use Rattle.md_base.specs.declared.status.Role.TheVariants.{Whole, Recovering, Missing}
-use Rattle.sb1.specs.declared.sb.Sb.{Sb}
-use Rattle.superblocks.specs.declared.members.Members.{Members}
-use Rattle.superblocks.specs.Reading.{holder, role_state, rows_held}
-use Rattle.superblocks.specs.Reads.{SaysSame}
+use Rattle.superblock_updates.specs.md_base_the_Role.{Role}
+use Rattle.superblock_updates.specs.md_base_the_Role_TheVariants.{Whole, Recovering, Missing}
+use Rattle.superblock_updates.specs.sb1_the_Sb.{Sb}
+use Rattle.superblock_updates.specs.superblocks_the_Members.{Members}
+use Rattle.superblock_updates.specs.superblocks_Reading.{holder, role_state, rows_held}
+use Rattle.superblock_updates.specs.superblocks_Reads.{SaysSame}
 use Rattle.shape_ends.specs.row_io_Rows.{reading_of}
 use Rattle.shape_ends.specs.shape_changes_Updates.{IsLessView}
 

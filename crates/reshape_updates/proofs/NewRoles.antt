@@ -3,13 +3,13 @@ use Rattle.std.proofs.Common.{◌≡◌, ◌⊎◌, ℕ, ◌+◌, ◌-◌, ◌<�
 use Rattle.std.proofs.lemmas.Bool.{cases_lt}
 use Rattle.std.proofs.lemmas.Bool.Decides.{nat_tests}
 use Rattle.std.proofs.lemmas.List.{get_or_past}
-use Rattle.md_base.specs.Search.{tabulate, count_below}
-use Rattle.md_base.proofs.Tabulated.{length-tabulate, get_or-tabulate}
-use Rattle.superblocks.specs.declared.change.Give.{Give}
-use Rattle.superblocks.specs.declared.change.Give.TheVariants.{Same}
-use Rattle.superblocks.specs.declared.change.Give.TheVariants as give
-use Rattle.superblocks.specs.Reads.{has_spare}
-use Rattle.superblocks.specs.Update.{give_of}
+use Rattle.superblock_updates.specs.md_base_Search.{tabulate, count_below}
+use Rattle.superblock_updates.proofs.md_base_Tabulated.{length-tabulate, get_or-tabulate}
+use Rattle.superblock_updates.specs.superblocks_the_Give.{Give}
+use Rattle.superblock_updates.specs.superblocks_the_Give_TheVariants.{Same}
+use Rattle.superblock_updates.specs.superblocks_the_Give_TheVariants as give
+use Rattle.superblock_updates.specs.superblocks_Reads.{has_spare}
+use Rattle.superblock_updates.specs.superblocks_Update.{give_of}
 use Rattle.reshape_updates.specs.Beginning.{give_where, new_role, new_give}
 use Rattle.reshape_updates.proofs.Counts.{count-strict, count-find}
 

@@ -1,15 +1,15 @@
 -- What holds of roles that spares take.
 use Rattle.std.proofs.Common.{◌≡◌, ◌⊎◌, inl, inr, ℕ, ◌<◌, Bool, true, false, Option, Some, None, get_or, refl, sym, ◌∙◌, ap, subst}
-use Rattle.md_base.specs.Shapes.{has_slot}
-use Rattle.md_base.specs.declared.status.Role.TheVariants.{Missing, Whole}
-use Rattle.md_base.proofs.Tabulated.{get_or-tabulate}
-use Rattle.superblocks.specs.declared.change.Give.{Give}
-use Rattle.superblocks.specs.declared.change.Give.TheVariants as give
-use Rattle.superblocks.specs.declared.change.Change.{Change}
-use Rattle.superblocks.specs.declared.members.Members.{Members}
-use Rattle.superblocks.specs.Reading.{role_count, role_state, holder}
-use Rattle.superblocks.specs.Update.{give_of, planned_role}
-use Rattle.superblocks.specs.Outcome.{held_state, planned_state}
+use Rattle.superblock_updates.specs.md_base_Shapes.{has_slot}
+use Rattle.superblock_updates.specs.md_base_the_Role_TheVariants.{Missing, Whole}
+use Rattle.superblock_updates.proofs.md_base_Tabulated.{get_or-tabulate}
+use Rattle.superblock_updates.specs.superblocks_the_Give.{Give}
+use Rattle.superblock_updates.specs.superblocks_the_Give_TheVariants as give
+use Rattle.superblock_updates.specs.superblocks_the_Change.{Change}
+use Rattle.superblock_updates.specs.superblocks_the_Members.{Members}
+use Rattle.superblock_updates.specs.superblocks_Reading.{role_count, role_state, holder}
+use Rattle.superblock_updates.specs.superblocks_Update.{give_of, planned_role}
+use Rattle.superblock_updates.specs.superblocks_Outcome.{held_state, planned_state}
 use Rattle.shape_ends.proofs.superblock_reads_SaidLists.{role-holder}
 use Rattle.shape_ends.specs.row_io_Rows.{reading_of}
 use Rattle.shape_ends.specs.shape_changes_Kinds.{IsTaking}

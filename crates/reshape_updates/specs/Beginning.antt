@@ -1,17 +1,17 @@
 -- The change that begins a reshape, and what the superblocks say then.
 use Rattle.std.specs.Prelude.{◌≡◌, ℕ, ◌+◌, ◌-◌, ◌^◌, Bool, true, ◌&&◌, nat_lt, if◌then◌else◌, bit_and, bit_or, List, None, pos, ◌-ℤ◌}
-use Rattle.md_base.specs.declared.places.Shape.{Shape}
-use Rattle.md_base.specs.Shapes.{data_disks}
-use Rattle.md_base.specs.Search.{tabulate, count_below}
-use Rattle.sb1.specs.declared.sb.Sb.{Sb}
-use Rattle.geometry.specs.Geometry.{list_end}
-use Rattle.superblocks.specs.declared.change.Give.{Give}
-use Rattle.superblocks.specs.declared.change.Give.TheVariants.{Same}
-use Rattle.superblocks.specs.declared.change.Give.TheVariants as give
-use Rattle.superblocks.specs.declared.change.Change.{Change}
-use Rattle.superblocks.specs.declared.members.Members.{Members}
-use Rattle.superblocks.specs.Reading.{is_reshaping, is_backward, shape_of, final_shape}
-use Rattle.superblocks.specs.Reads.{has_spare}
+use Rattle.superblock_updates.specs.md_base_the_Shape.{Shape}
+use Rattle.superblock_updates.specs.md_base_Shapes.{data_disks}
+use Rattle.superblock_updates.specs.md_base_Search.{tabulate, count_below}
+use Rattle.superblock_updates.specs.sb1_the_Sb.{Sb}
+use Rattle.superblock_updates.specs.geometry_Geometry.{list_end}
+use Rattle.superblock_updates.specs.superblocks_the_Give.{Give}
+use Rattle.superblock_updates.specs.superblocks_the_Give_TheVariants.{Same}
+use Rattle.superblock_updates.specs.superblocks_the_Give_TheVariants as give
+use Rattle.superblock_updates.specs.superblocks_the_Change.{Change}
+use Rattle.superblock_updates.specs.superblocks_the_Members.{Members}
+use Rattle.superblock_updates.specs.superblocks_Reading.{is_reshaping, is_backward, shape_of, final_shape}
+use Rattle.superblock_updates.specs.superblocks_Reads.{has_spare}
 use Rattle.shape_ends.specs.shape_changes_Updates.{IsAtStart}
 
 -- ---- what the superblocks say

@@ -1,15 +1,15 @@
 -- The change that ends a reshape, and what the superblocks say then.
 use Rattle.std.specs.Prelude.{◌≡◌, ℕ, ◌+◌, ◌-◌, ◌^◌, Bool, false, if◌then◌else◌, bit_and, List, drop, pos, None}
 use Rattle.std.specs.List.{list_any}
-use Rattle.md_base.specs.declared.status.Role.{Role}
-use Rattle.md_base.specs.Search.{tabulate}
-use Rattle.sb1.specs.declared.sb.Sb.{Sb}
-use Rattle.superblocks.specs.declared.change.Give.{Give}
-use Rattle.superblocks.specs.declared.change.Give.TheVariants.{Same, Spare}
-use Rattle.superblocks.specs.declared.change.Change.{Change}
-use Rattle.superblocks.specs.declared.members.Members.{Members}
-use Rattle.superblocks.specs.Reading.{is_reshaping, shape_of, final_shape}
-use Rattle.superblocks.specs.Update.{is_held_by}
+use Rattle.superblock_updates.specs.md_base_the_Role.{Role}
+use Rattle.superblock_updates.specs.md_base_Search.{tabulate}
+use Rattle.superblock_updates.specs.sb1_the_Sb.{Sb}
+use Rattle.superblock_updates.specs.superblocks_the_Give.{Give}
+use Rattle.superblock_updates.specs.superblocks_the_Give_TheVariants.{Same, Spare}
+use Rattle.superblock_updates.specs.superblocks_the_Change.{Change}
+use Rattle.superblock_updates.specs.superblocks_the_Members.{Members}
+use Rattle.superblock_updates.specs.superblocks_Reading.{is_reshaping, shape_of, final_shape}
+use Rattle.superblock_updates.specs.superblocks_Update.{is_held_by}
 
 -- A superblock with the new shape alone: all that it said of the reshape is zero.
 abbrev pub with_new_shape : Sb → Sb

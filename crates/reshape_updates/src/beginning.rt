@@ -1,16 +1,16 @@
 //! A reshape begins.
 
 ghost use Rattle.std.specs.Prelude.{◌≡◌, ◌+◌, ◌-◌, ◌<◌, ◌≤◌, ◌^◌, ◌&&◌, nat_lt, ℕ, true, false, not, min, length, pos, ◌-ℤ◌, None, IsTrue};
-ghost use Rattle.bank.specs.Given.{NeverFalls};
-ghost use Rattle.bank.specs.Tape.{disk};
-ghost use Rattle.md_base.specs.Shapes.{is_valid_shape, has_slot};
-ghost use Rattle.md_base.specs.Search.{tabulate, count_below};
-ghost use Rattle.md_base.specs.declared.status.Role.TheVariants.{Whole};
-ghost use Rattle.geometry.specs.Geometry.{AreInForce};
-ghost use Rattle.superblocks.specs.Reading.{Scope, is_reshaping, shape_of, role_state};
-ghost use Rattle.superblocks.specs.Reads.{has_spare};
-ghost use Rattle.superblocks.specs.Outcome.{live_set, AreLive};
-ghost use Rattle.superblocks.specs.Updating.{AreLosses};
+ghost use Rattle.superblock_updates.specs.bank_Given.{NeverFalls};
+ghost use Rattle.superblock_updates.specs.bank_Tape.{disk};
+ghost use Rattle.superblock_updates.specs.md_base_Shapes.{is_valid_shape, has_slot};
+ghost use Rattle.superblock_updates.specs.md_base_Search.{tabulate, count_below};
+ghost use Rattle.superblock_updates.specs.md_base_the_Role_TheVariants.{Whole};
+ghost use Rattle.superblock_updates.specs.geometry_Geometry.{AreInForce};
+ghost use Rattle.superblock_updates.specs.superblocks_Reading.{Scope, is_reshaping, shape_of, role_state};
+ghost use Rattle.superblock_updates.specs.superblocks_Reads.{has_spare};
+ghost use Rattle.superblock_updates.specs.superblocks_Outcome.{live_set, AreLive};
+ghost use Rattle.superblock_updates.specs.superblocks_Updating.{AreLosses};
 ghost use Rattle.shape_ends.specs.row_io_Rows.{reading_of};
 ghost use Rattle.shape_ends.specs.flat_history_World.{World};
 ghost use Rattle.shape_ends.specs.flat_history_Stands.{backup_absent};
@@ -27,13 +27,10 @@ ghost use Rattle.shape_ends.specs.Ends.{IsCleared, IsBegun};
 ghost use Rattle.shape_ends.specs.Plans.{AreGivenFit};
 ghost use Rattle.reshape_updates.specs.Beginning.{goes_back, map_with_reshape, first_position, with_reshape, HasBegun, give_where, new_give, beginning};
 
-use bank::Bank;
-use geometry::{data_disks, list_end};
-use md_base::{Shape, SlotList};
-use sb1::{Features, Sb};
-use superblock_updates::update;
-use superblocks::says::shape_of;
-use superblocks::{Change, Give, Lostness, Members};
+use superblock_updates::{
+    Bank, Change, Features, Give, Lostness, Members, Sb, Shape, SlotList, data_disks, list_end,
+    shape_of, update,
+};
 
 const RESHAPE_BITS: u32 = 4 + 32;
 

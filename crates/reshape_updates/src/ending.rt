@@ -1,16 +1,16 @@
 //! A reshape ends.
 
 ghost use Rattle.std.specs.Prelude.{◌≡◌, ◌⊎◌, ◌+◌, ◌-◌, ◌<◌, ◌≤◌, ◌^◌, ◌&&◌, ℕ, true, false, not, min, length, Some};
-ghost use Rattle.bank.specs.Given.{NeverFalls};
-ghost use Rattle.bank.specs.Tape.{Contents, disk};
-ghost use Rattle.md_base.specs.Sectors.{Sector};
-ghost use Rattle.md_base.specs.Shapes.{has_slot};
-ghost use Rattle.md_base.specs.Search.{tabulate};
-ghost use Rattle.md_base.specs.declared.status.Role.TheVariants.{Whole};
-ghost use Rattle.superblocks.specs.Reading.{Scope, is_reshaping, is_backward, final_shape, role_count, role_state, holder};
-ghost use Rattle.superblocks.specs.Reads.{has_spare};
-ghost use Rattle.superblocks.specs.Outcome.{live_set, AreLive};
-ghost use Rattle.superblocks.specs.Updating.{AreLosses};
+ghost use Rattle.superblock_updates.specs.bank_Given.{NeverFalls};
+ghost use Rattle.superblock_updates.specs.bank_Tape.{Contents, disk};
+ghost use Rattle.superblock_updates.specs.md_base_Sectors.{Sector};
+ghost use Rattle.superblock_updates.specs.md_base_Shapes.{has_slot};
+ghost use Rattle.superblock_updates.specs.md_base_Search.{tabulate};
+ghost use Rattle.superblock_updates.specs.md_base_the_Role_TheVariants.{Whole};
+ghost use Rattle.superblock_updates.specs.superblocks_Reading.{Scope, is_reshaping, is_backward, final_shape, role_count, role_state, holder};
+ghost use Rattle.superblock_updates.specs.superblocks_Reads.{has_spare};
+ghost use Rattle.superblock_updates.specs.superblocks_Outcome.{live_set, AreLive};
+ghost use Rattle.superblock_updates.specs.superblocks_Updating.{AreLosses};
 ghost use Rattle.shape_ends.specs.row_io_Rows.{reading_of};
 ghost use Rattle.shape_ends.specs.flat_history_World.{World};
 ghost use Rattle.shape_ends.specs.flat_history_Sound.{OpensFit};
@@ -26,12 +26,7 @@ ghost use Rattle.shape_ends.specs.Ends.{IsToldWith, IsEnded, IsGrown};
 ghost use Rattle.shape_ends.specs.Plans.{HasNoneRecovering};
 ghost use Rattle.reshape_updates.specs.Ending.{with_new_shape, HasEnded, holds_from, dropped_give, ending};
 
-use bank::Bank;
-use md_base::Role;
-use sb1::Sb;
-use superblock_updates::update;
-use superblocks::roles::role_of;
-use superblocks::{Change, Give, Lostness, Members};
+use superblock_updates::{Bank, Change, Give, Lostness, Members, Role, Sb, role_of, update};
 
 const RESHAPE_BITS: u32 = 4 + 32;
 

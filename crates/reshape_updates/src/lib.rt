@@ -8,3 +8,4 @@ mod position;
 pub use beginning::begin_update;
 pub use ending::end_update;
 pub use position::record_position;
+pub use shape_ends::{SectionFault, clear_section, write_section};

@@ -2,13 +2,13 @@
 
 ghost use Rattle.std.specs.Prelude.{◌≡◌, ◌+◌, ◌-◌, ◌^◌, ◌≤◌, ◌&&◌, ◌==◌, ℕ, min, not, length};
 ghost use Rattle.std.specs.Int.{bit_at};
-ghost use Rattle.bank.specs.Given.{NeverFalls};
-ghost use Rattle.bank.specs.Tape.{disk};
-ghost use Rattle.md_base.specs.Shapes.{has_slot};
-ghost use Rattle.superblocks.specs.Reading.{Scope, is_negative, is_zero, is_backward, role_count};
-ghost use Rattle.superblocks.specs.Reads.{SaysSame};
-ghost use Rattle.superblocks.specs.Outcome.{live_set, AreLive};
-ghost use Rattle.superblocks.specs.Updating.{AreLosses};
+ghost use Rattle.superblock_updates.specs.bank_Given.{NeverFalls};
+ghost use Rattle.superblock_updates.specs.bank_Tape.{disk};
+ghost use Rattle.superblock_updates.specs.md_base_Shapes.{has_slot};
+ghost use Rattle.superblock_updates.specs.superblocks_Reading.{Scope, is_negative, is_zero, is_backward, role_count};
+ghost use Rattle.superblock_updates.specs.superblocks_Reads.{SaysSame};
+ghost use Rattle.superblock_updates.specs.superblocks_Outcome.{live_set, AreLive};
+ghost use Rattle.superblock_updates.specs.superblocks_Updating.{AreLosses};
 ghost use Rattle.shape_ends.specs.flat_history_World.{World};
 ghost use Rattle.shape_ends.specs.flat_history_Sound.{OpensFit};
 ghost use Rattle.shape_ends.specs.shape_views_Regions.{ArePlaced};
@@ -20,11 +20,7 @@ ghost use Rattle.shape_ends.specs.shape_changes_Updates.{IsLessView};
 ghost use Rattle.shape_ends.specs.shape_changes_Changing.{IsChanged};
 ghost use Rattle.shape_ends.specs.shape_changes_Kinds.{recording};
 
-use bank::Bank;
-use md_base::Span;
-use sb1::{Features, Sb};
-use superblock_updates::update;
-use superblocks::{Change, Give, Lostness, Members};
+use superblock_updates::{Bank, Change, Features, Give, Lostness, Members, Sb, Span, update};
 
 fn is_negative(delta: i32) -> bool
     ensures { result ≡ is_negative delta }

@@ -6,16 +6,16 @@ use Rattle.std.specs.Option.{option_map_or}
 use Rattle.std.proofs.lemmas.Bool.{cases_eq, cases_lt}
 use Rattle.std.proofs.lemmas.Bool.Decides.{nat_tests}
 use Rattle.std.proofs.lemmas.List.{length-replicate, get_or-set_same, get_or-set_other, get_or_past}
-use Rattle.md_base.specs.Search.{tabulate, least_below}
-use Rattle.md_base.specs.declared.places.Shape.{Shape}
-use Rattle.md_base.specs.declared.places.Span.{Span}
-use Rattle.md_base.specs.declared.status.Role.{Role}
-use Rattle.md_base.specs.declared.status.Role.TheVariants.{Whole, Recovering, Missing}
-use Rattle.md_base.proofs.Tabulated.{length-tabulate, get_or-tabulate}
-use Rattle.sb1.specs.declared.sb.Sb.{Sb}
-use Rattle.bank.specs.declared.bank.Operation.{Operation}
-use Rattle.bank.specs.Given.{Given}
-use Rattle.bank.specs.Tape.{disk}
+use Rattle.shape_changes.specs.md_base_Search.{tabulate, least_below}
+use Rattle.shape_changes.specs.md_base_the_Shape.{Shape}
+use Rattle.shape_changes.specs.md_base_the_Span.{Span}
+use Rattle.shape_changes.specs.md_base_the_Role.{Role}
+use Rattle.shape_changes.specs.md_base_the_Role_TheVariants.{Whole, Recovering, Missing}
+use Rattle.shape_changes.proofs.md_base_Tabulated.{length-tabulate, get_or-tabulate}
+use Rattle.shape_changes.specs.sb1_the_Sb.{Sb}
+use Rattle.shape_changes.specs.bank_the_Operation.{Operation}
+use Rattle.shape_changes.specs.bank_Given.{Given}
+use Rattle.shape_changes.specs.bank_Tape.{disk}
 use Rattle.shape_changes.specs.superblocks_the_Give.{Give}
 use Rattle.shape_changes.specs.superblocks_the_Give_TheVariants.{Same, Spare}
 use Rattle.shape_changes.specs.superblocks_the_Give_TheVariants as give

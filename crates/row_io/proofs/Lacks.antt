@@ -2,14 +2,14 @@
 use Rattle.std.proofs.Common.{◌≡◌, ◌≢◌, ◌⊎◌, inl, inr, ℕ, ◌+◌, ◌<◌, ◌≤◌, Bool, true, false, not, ◌||◌, ◌==◌, nat_lt, if◌then◌else◌, Some, None, refl, sym, ◌∙◌, ap, arith}
 use Rattle.std.proofs.lemmas.Bool.{cases_lt, cases_eq}
 use Rattle.std.proofs.lemmas.Bool.Decides.{nat_tests}
-use Rattle.md_base.specs.declared.places.Shape.{Shape}
-use Rattle.md_base.specs.declared.status.Role.{Role}
-use Rattle.md_base.specs.declared.status.Role.TheVariants.{Whole, Recovering, Missing}
-use Rattle.md_base.specs.Sectors.{Sector}
-use Rattle.md_base.specs.Shapes.{tolerance_of}
+use Rattle.superblocks.specs.md_base_the_Shape.{Shape}
+use Rattle.superblocks.specs.md_base_the_Role.{Role}
+use Rattle.superblocks.specs.md_base_the_Role_TheVariants.{Whole, Recovering, Missing}
+use Rattle.superblocks.specs.md_base_Sectors.{Sector}
+use Rattle.superblocks.specs.md_base_Shapes.{tolerance_of}
 use Rattle.parity.proofs.Columns.{tabulate-same, bool_cases}
-use Rattle.md_base.specs.declared.places.RowRoles.{RowRoles}
-use Rattle.layout.specs.Layout.{row_roles}
+use Rattle.parity.specs.md_base_the_RowRoles.{RowRoles}
+use Rattle.superblocks.specs.layout_Layout.{row_roles}
 use Rattle.parity.specs.Parity.{Row, fill}
 use Rattle.parity.specs.Rows.{row_without}
 use Rattle.superblocks.specs.Reading.{Reading, role_state, rows_held, is_whole}

@@ -3,16 +3,16 @@ use Rattle.std.proofs.Common.{◌≡◌, ◌⊎◌, inl, inr, ℕ, ◌+◌, ◌<
 use Rattle.std.proofs.lemmas.Bool.{cases_lt}
 use Rattle.std.proofs.lemmas.List.{get_or_past}
 use Rattle.std.proofs.lemmas.Bool.Decides.{nat_tests}
-use Rattle.md_base.specs.declared.places.Shape.{Shape}
-use Rattle.md_base.specs.declared.status.Role.{Role}
-use Rattle.md_base.specs.declared.status.Role.TheVariants.{Whole, Recovering, Missing}
-use Rattle.md_base.specs.Sectors.{Sector}
-use Rattle.md_base.specs.Shapes.{has_slot}
-use Rattle.bank.specs.Given.{Given, IsFaulted, NeverFalls}
-use Rattle.bank.specs.declared.bank.Operation.{Operation}
-use Rattle.bank.specs.Tape.{Contents}
-use Rattle.bank.proofs.Causes.{faulted_longer}
-use Rattle.layout.specs.Layout.{row_roles}
+use Rattle.superblocks.specs.md_base_the_Shape.{Shape}
+use Rattle.superblocks.specs.md_base_the_Role.{Role}
+use Rattle.superblocks.specs.md_base_the_Role_TheVariants.{Whole, Recovering, Missing}
+use Rattle.superblocks.specs.md_base_Sectors.{Sector}
+use Rattle.superblocks.specs.md_base_Shapes.{has_slot}
+use Rattle.superblocks.specs.bank_Given.{Given, IsFaulted, NeverFalls}
+use Rattle.superblocks.specs.bank_the_Operation.{Operation}
+use Rattle.superblocks.specs.bank_Tape.{Contents}
+use Rattle.superblocks.proofs.bank_Causes.{faulted_longer}
+use Rattle.superblocks.specs.layout_Layout.{row_roles}
 use Rattle.parity.specs.Parity.{fill}
 use Rattle.parity.specs.Rows.{sector_of, row_without}
 use Rattle.parity.proofs.Columns.{tabulate-same, bool_cases}

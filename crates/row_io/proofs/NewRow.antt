@@ -3,10 +3,10 @@ use Rattle.std.proofs.Common.{◌≡◌, ◌⊎◌, inl, inr, ℕ, ◌+◌, ◌*
 use Rattle.std.specs.Option.{option_map_or}
 use Rattle.std.proofs.lemmas.Bool.{cases_eq, cases_lt, not-true}
 use Rattle.std.proofs.lemmas.List.{get_or_past}
-use Rattle.md_base.specs.declared.places.RowRoles.{RowRoles}
-use Rattle.md_base.specs.declared.places.Shape.{Shape}
-use Rattle.md_base.specs.Sectors.{Sector}
-use Rattle.layout.specs.Layout.{row_roles}
+use Rattle.parity.specs.md_base_the_RowRoles.{RowRoles}
+use Rattle.superblocks.specs.md_base_the_Shape.{Shape}
+use Rattle.superblocks.specs.md_base_Sectors.{Sector}
+use Rattle.superblocks.specs.layout_Layout.{row_roles}
 use Rattle.parity.specs.Exponents.{is_data, is_q}
 use Rattle.parity.specs.Parity.{Row, fill, lacking_in, AreEquationsMet}
 use Rattle.parity.specs.Rows.{IsRowRoles, IsRowOf, IsSector, parity_count, row_without, whole_row, filled_sector, sector_of}

@@ -4,7 +4,7 @@ use Rattle.std.specs.Prelude.{OnOk}
 use Rattle.std.proofs.lemmas.Bool.{cases_lt}
 use Rattle.std.proofs.lemmas.Slice.{drop-put_mid}
 use borrow.Rule.Slice.PartMut.{put_mid}
-use Rattle.bank.proofs.Present.{copied_below, copied_here}
+use Rattle.superblocks.proofs.bank_Present.{copied_below, copied_here}
 use Rattle.parity.specs.Rows.{sector_of}
 
 -- a role's sector in as few words

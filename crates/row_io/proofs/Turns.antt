@@ -1,14 +1,14 @@
 -- The writes of a row, one role after another, and what a stop may leave between them.
 use Rattle.std.proofs.Common.{◌≡◌, ◌≢◌, ◌⊎◌, inl, inr, ⊎_elim, ℕ, zero, suc, ◌+◌, true, false, List, [], ◌∷◌, ◌++◌, length, take, Option, Some, refl, sym, ◌∙◌, ap, subst, arith, append-nil}
 use Rattle.std.proofs.lemmas.Bool.{cases_eq}
-use Rattle.md_base.specs.Sectors.{Sector}
-use Rattle.md_base.specs.Shapes.{has_slot}
-use Rattle.bank.specs.declared.bank.Operation.{Operation}
-use Rattle.bank.specs.declared.bank.Operation.TheVariants.{Write}
-use Rattle.bank.specs.Tape.{disk, run, EachMark}
+use Rattle.superblocks.specs.md_base_Sectors.{Sector}
+use Rattle.superblocks.specs.md_base_Shapes.{has_slot}
+use Rattle.superblocks.specs.bank_the_Operation.{Operation}
+use Rattle.superblocks.specs.bank_the_Operation_TheVariants.{Write}
+use Rattle.superblocks.specs.bank_Tape.{disk, run, EachMark}
 use Rattle.std.proofs.lemmas.List.{take_all}
-use Rattle.bank.proofs.Laws.{choices_after-write_here, choices_after-write_other, disk-written, disk-unwritten}
-use Rattle.bank.proofs.Marks.{Along, each_mark-along, each_mark-map, each_mark-then, each_mark-told}
+use Rattle.superblocks.proofs.bank_Laws.{choices_after-write_here, choices_after-write_other, disk-written, disk-unwritten}
+use Rattle.superblocks.proofs.bank_Marks.{Along, each_mark-along, each_mark-map, each_mark-then, each_mark-told}
 use Rattle.parity.proofs.Columns.{bool_cases}
 use Rattle.superblocks.specs.Reading.{Reading, role_state, holder}
 use Rattle.row_io.specs.Writes.{HasNew, IsWritingTo, AreWrittenTo, IsTurn, AreApart, slot_in}

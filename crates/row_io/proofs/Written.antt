@@ -3,16 +3,16 @@ use Rattle.std.proofs.Common.{◌≡◌, ◌⊎◌, inl, inr, ℕ, ◌+◌, ◌<
 use Rattle.std.proofs.lemmas.List.{take_all}
 use Rattle.std.specs.Int.Bits.{or_zero_r}
 use Rattle.std.proofs.lemmas.Nat.Bits.{bit_at-zero}
-use Rattle.md_base.specs.declared.places.Shape.{Shape}
-use Rattle.md_base.specs.declared.status.Role.{Role}
-use Rattle.md_base.specs.declared.status.Role.TheVariants.{Whole, Recovering, Missing}
-use Rattle.md_base.specs.Sectors.{Sector}
-use Rattle.md_base.specs.Shapes.{has_slot}
-use Rattle.bank.specs.Given.{Given}
-use Rattle.bank.specs.declared.bank.Operation.{Operation}
-use Rattle.bank.specs.Tape.{Contents, disk, value_after}
-use Rattle.bank.proofs.Laws.{choices-present}
-use Rattle.layout.specs.Layout.{row_roles}
+use Rattle.superblocks.specs.md_base_the_Shape.{Shape}
+use Rattle.superblocks.specs.md_base_the_Role.{Role}
+use Rattle.superblocks.specs.md_base_the_Role_TheVariants.{Whole, Recovering, Missing}
+use Rattle.superblocks.specs.md_base_Sectors.{Sector}
+use Rattle.superblocks.specs.md_base_Shapes.{has_slot}
+use Rattle.superblocks.specs.bank_Given.{Given}
+use Rattle.superblocks.specs.bank_the_Operation.{Operation}
+use Rattle.superblocks.specs.bank_Tape.{Contents, disk, value_after}
+use Rattle.superblocks.proofs.bank_Laws.{choices-present}
+use Rattle.superblocks.specs.layout_Layout.{row_roles}
 use Rattle.parity.specs.Parity.{Row, fill, AreEquationsMet}
 use Rattle.parity.specs.Rows.{row_without, sector_of}
 use Rattle.parity.specs.Fills.{IsGoodBut}

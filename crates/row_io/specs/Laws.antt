@@ -1,6 +1,6 @@
 -- What an election gives of the members' slots.
 use Rattle.std.specs.Prelude.{ℕ, List, Option}
-use Rattle.sb1.specs.declared.sb.Sb.{Sb}
+use Rattle.superblocks.specs.sb1_the_Sb.{Sb}
 use Rattle.superblocks.specs.Reading.{reading_by}
 use Rattle.row_io.specs.Writes.{AreApart}
 

@@ -1,16 +1,16 @@
 -- A row as the members hold it, what stands where none of them does, and which rows can be read and written.
 use Rattle.std.specs.Prelude.{◌≡◌, ◌⊎◌, ℕ, ◌+◌, ◌^◌, ◌<◌, ◌≤◌, Bool, true, false, not, nat_lt, if◌then◌else◌, List, length, map, bit_or, Option, Some, None, unwrap_or, option_map, Result, Ok, Err, IsTrue}
 use Rattle.std.specs.Option.{option_map_or}
-use Rattle.md_base.specs.declared.places.Shape.{Shape}
-use Rattle.md_base.specs.declared.status.Role.{Role}
-use Rattle.md_base.specs.declared.status.Role.TheVariants.{Missing}
-use Rattle.md_base.specs.Sectors.{Sector}
-use Rattle.md_base.specs.Search.{tabulate, count_below}
-use Rattle.md_base.specs.Shapes.{is_valid_shape, has_slot, tolerance}
-use Rattle.bank.specs.declared.bank.Operation.{Operation}
-use Rattle.bank.specs.Given.{Given, IsFaulted}
-use Rattle.bank.specs.Tape.{Contents, contents}
-use Rattle.layout.specs.Layout.{row_roles}
+use Rattle.superblocks.specs.md_base_the_Shape.{Shape}
+use Rattle.superblocks.specs.md_base_the_Role.{Role}
+use Rattle.superblocks.specs.md_base_the_Role_TheVariants.{Missing}
+use Rattle.superblocks.specs.md_base_Sectors.{Sector}
+use Rattle.parity.specs.md_base_Search.{tabulate, count_below}
+use Rattle.superblocks.specs.md_base_Shapes.{is_valid_shape, has_slot, tolerance}
+use Rattle.superblocks.specs.bank_the_Operation.{Operation}
+use Rattle.superblocks.specs.bank_Given.{Given, IsFaulted}
+use Rattle.superblocks.specs.bank_Tape.{Contents, contents}
+use Rattle.superblocks.specs.layout_Layout.{row_roles}
 use Rattle.parity.specs.Parity.{Row, fill}
 use Rattle.parity.specs.Rows.{sector_of}
 use Rattle.superblocks.specs.declared.members.Members.{Members}

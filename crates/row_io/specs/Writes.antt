@@ -1,13 +1,13 @@
 -- What a write of a row leaves: the new row, which of its roles are written, and what a stop may leave on the way.
 use Rattle.std.specs.Prelude.{◌≡◌, ◌⊎◌, ℕ, ◌+◌, ◌<◌, Bool, true, false, not, ◌||◌, if◌then◌else◌, List, [], ◌∷◌, Option, Some, None}
-use Rattle.md_base.specs.declared.places.Shape.{Shape}
-use Rattle.md_base.specs.declared.places.RowRoles.{RowRoles}
-use Rattle.md_base.specs.Sectors.{Sector}
-use Rattle.md_base.specs.Shapes.{has_slot}
-use Rattle.bank.specs.declared.bank.Operation.{Operation}
-use Rattle.bank.specs.declared.bank.Operation.TheVariants.{Write}
-use Rattle.bank.specs.Tape.{Contents}
-use Rattle.layout.specs.Layout.{row_roles}
+use Rattle.superblocks.specs.md_base_the_Shape.{Shape}
+use Rattle.parity.specs.md_base_the_RowRoles.{RowRoles}
+use Rattle.superblocks.specs.md_base_Sectors.{Sector}
+use Rattle.superblocks.specs.md_base_Shapes.{has_slot}
+use Rattle.superblocks.specs.bank_the_Operation.{Operation}
+use Rattle.superblocks.specs.bank_the_Operation_TheVariants.{Write}
+use Rattle.superblocks.specs.bank_Tape.{Contents}
+use Rattle.superblocks.specs.layout_Layout.{row_roles}
 use Rattle.parity.specs.Exponents.{is_data}
 use Rattle.parity.specs.Parity.{AreEquationsMet}
 use Rattle.parity.specs.Rows.{IsRowRoles, IsSector, sector_of, filled_sector, whole_row}

@@ -1,18 +1,16 @@
 //! What the parity gives of the sectors of a row that no slot holds.
 
 ghost use Rattle.std.specs.Prelude.{◌≡◌, ◌<◌, ◌≤◌, ◌^◌, ℕ, true, false, not, length, Some, IsTrue, MatchOption};
-ghost use Rattle.md_base.specs.Shapes.{is_valid_shape};
-ghost use Rattle.layout.specs.Layout.{row_roles};
+ghost use Rattle.superblocks.specs.md_base_Shapes.{is_valid_shape};
+ghost use Rattle.superblocks.specs.layout_Layout.{row_roles};
 ghost use Rattle.parity.specs.Parity.{fill};
 ghost use Rattle.parity.specs.Rows.{IsRowOf, sector_of, row_without};
 ghost use Rattle.superblocks.specs.Reading.{holder, role_state};
 ghost use Rattle.row_io.specs.Rows.{reading_of, is_held, AreHeld, IsTolerated};
 
 use crate::held::held_slot;
-use layout::row_of;
-use md_base::Shape;
 use parity::{fill_one, fill_two};
-use superblocks::Members;
+use superblocks::{Members, Shape, row_of};
 
 // The first role from `first` on that lacks its sector of the row.
 fn next_lacking(members: &Members, row: u64, first: u32, disks: u32) -> Option<u32>

@@ -13,4 +13,7 @@ mod write;
 pub use held::{data_offset, is_missing};
 pub use lose::{lose_slot, lose_slots, missing_count};
 pub use read::read_row;
+pub use superblocks::says::{is_reshaping, shape_of, target_of};
+pub use superblocks::sets::{contains, with};
+pub use superblocks::{Bank, BankFault, Features, Members, Sb};
 pub use write::write_row;

@@ -1,16 +1,15 @@
 //! Slots that failed hold no role any longer.
 
 ghost use Rattle.std.specs.Prelude.{◌≡◌, ◌==◌, ◌^◌, ◌<◌, ◌≤◌, ℕ, Some, length, map, slice_index_or};
-ghost use Rattle.md_base.specs.declared.status.Role.TheVariants.{Missing};
-ghost use Rattle.md_base.specs.Search.{count_below};
-ghost use Rattle.md_base.specs.Shapes.{has_slot};
+ghost use Rattle.superblocks.specs.md_base_the_Role_TheVariants.{Missing};
+ghost use Rattle.parity.specs.md_base_Search.{count_below};
+ghost use Rattle.superblocks.specs.md_base_Shapes.{has_slot};
 ghost use Rattle.superblocks.specs.Reading.{holder, role_state};
 ghost use Rattle.row_io.specs.Rows.{reading_of, is_missing, role_without, members_without};
 
 use crate::held::is_missing;
 use crate::sets::{contains, with};
-use md_base::{Role, RoleList};
-use superblocks::Members;
+use superblocks::{Members, Role, RoleList};
 
 /// The slot that holds a role's rows, or the first of them.
 pub fn holder(state: Role) -> Option<u32>

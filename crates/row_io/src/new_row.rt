@@ -1,15 +1,14 @@
 //! The row that is to be written.
 
 ghost use Rattle.std.specs.Prelude.{◌≡◌, ◌||◌, ◌^◌, ◌<◌, ℕ, IsTrue, IfSome};
-ghost use Rattle.md_base.specs.Shapes.{is_valid_shape, has_slot};
-ghost use Rattle.layout.specs.Layout.{row_roles};
+ghost use Rattle.superblocks.specs.md_base_Shapes.{is_valid_shape, has_slot};
+ghost use Rattle.superblocks.specs.layout_Layout.{row_roles};
 ghost use Rattle.parity.specs.Rows.{IsRowOf, sector_of};
 ghost use Rattle.row_io.specs.Writes.{is_parity, is_due, new_sector, IsGoodRow};
 
 use crate::sets::with;
-use layout::row_of;
-use md_base::{RowRoles, Shape};
-use parity::syndromes;
+use parity::{RowRoles, syndromes};
+use superblocks::{Shape, row_of};
 
 /// Sets the parity of a row.
 pub fn set_parity(shape: &Shape, row: u64, bytes: &mut [u8])

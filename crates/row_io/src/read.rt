@@ -1,8 +1,8 @@
 //! A row is read.
 
 ghost use Rattle.std.specs.Prelude.{◌≡◌, ◌≢◌, ◌+◌, ◌*◌, ◌<◌, ◌≤◌, ℕ, true, false, length, OnOk, OnErr};
-ghost use Rattle.bank.specs.Given.{IsPlace, HasCause, NeverFalls};
-ghost use Rattle.md_base.specs.Shapes.{has_slot, tolerance};
+ghost use Rattle.superblocks.specs.bank_Given.{IsPlace, HasCause, NeverFalls};
+ghost use Rattle.superblocks.specs.md_base_Shapes.{has_slot, tolerance};
 ghost use Rattle.parity.specs.Rows.{IsRowOf, sector_of};
 ghost use Rattle.row_io.specs.Rows.{present, reading_of, standing_sector, missing_count, lost_of, members_without, IsRow, IsTolerated, IsLoss, HaveFailed, HasSector};
 
@@ -10,9 +10,7 @@ use crate::fill::fill_lacking;
 use crate::held::{data_offset, held_slot};
 use crate::lose::{lose_slots, missing_count};
 use crate::sets::{contains, with};
-use bank::{Bank, BankFault};
-use md_base::Shape;
-use superblocks::Members;
+use superblocks::{Bank, BankFault, Members, Shape};
 
 /// How many missing roles a row of the shape can do without.
 pub fn tolerance(shape: &Shape) -> u32

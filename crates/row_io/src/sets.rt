@@ -1,7 +1,7 @@
 //! Sets of slots, one bit for each.
 
 ghost use Rattle.std.specs.Prelude.{◌≡◌, ◌<◌, ◌==◌, ◌||◌, ℕ};
-ghost use Rattle.md_base.specs.Shapes.{has_slot};
+ghost use Rattle.superblocks.specs.md_base_Shapes.{has_slot};
 
 /// Whether the slot is in the set.
 pub fn contains(set: u32, slot: u32) -> bool

@@ -1,11 +1,11 @@
 //! A row is written.
 
 ghost use Rattle.std.specs.Prelude.{◌≡◌, ◌≢◌, ◌+◌, ◌*◌, ◌++◌, ◌<◌, ◌≤◌, List, ℕ, true, false, length, OnOk, OnErr, Err};
-ghost use Rattle.bank.specs.declared.bank.Operation.{Operation};
-ghost use Rattle.bank.specs.Given.{NeverFalls};
-ghost use Rattle.bank.specs.Tape.{EachMark, disk};
-ghost use Rattle.md_base.specs.Shapes.{has_slot, tolerance};
-ghost use Rattle.layout.specs.Layout.{row_roles};
+ghost use Rattle.superblocks.specs.bank_the_Operation.{Operation};
+ghost use Rattle.superblocks.specs.bank_Given.{NeverFalls};
+ghost use Rattle.superblocks.specs.bank_Tape.{EachMark, disk};
+ghost use Rattle.superblocks.specs.md_base_Shapes.{has_slot, tolerance};
+ghost use Rattle.superblocks.specs.layout_Layout.{row_roles};
 ghost use Rattle.parity.specs.Parity.{AreEquationsMet};
 ghost use Rattle.parity.specs.Rows.{IsRowOf, sector_of};
 ghost use Rattle.row_io.specs.Rows.{present, reading_of, held_row, standing_sector, missing_count, lost_of, members_without, IsRow, IsTolerated, IsLoss, HaveFailed};
@@ -16,9 +16,7 @@ use crate::lose::{holder_of, lose_slots, missing_count};
 use crate::new_row::{due_roles, set_parity};
 use crate::read::tolerance;
 use crate::sets::{contains, with};
-use bank::{Bank, write_sector};
-use md_base::Shape;
-use superblocks::Members;
+use superblocks::{Bank, Members, Shape, write_sector};
 
 /// The bytes of a row of sixteen disks.
 const MOST: usize = 8192;

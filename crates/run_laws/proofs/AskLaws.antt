@@ -6,35 +6,35 @@ use Rattle.std.proofs.lemmas.Bool.Decides.{nat_tests}
 use Rattle.std.proofs.lemmas.List.Folds.{list_any-append}
 use Rattle.std.specs.Prelude.{slice_get, IsTrue, MatchBool, nat_lt}
 use Rattle.std.specs.List.{All, list_any}
-use Rattle.md_base.specs.declared.answers.Who.{Who}
-use Rattle.md_base.specs.declared.answers.Fault.{Fault}
-use Rattle.md_base.specs.declared.answers.Fault.TheVariants.{Refused as IsRefusedWith, NoMemory}
-use Rattle.md_base.specs.Sectors.{Sector, sectors_of}
-use Rattle.md_base.proofs.SectorLaws.{length-sectors_of}
-use Rattle.md_base.proofs.Tabulated.{length-tabulate}
-use Rattle.flat_history.specs.declared.events.Entry.{Entry}
-use Rattle.flat_history.specs.declared.events.Event.{Event}
-use Rattle.flat_history.specs.declared.events.Event.TheVariants.{Wrote, Added, Stopped, Halted, Refused}
-use Rattle.flat_history.specs.Fits.{FitsStop, IsWriteRefused, AreTornOf}
-use Rattle.flat_history.specs.Transfers.{IsPastEnd}
-use Rattle.bank.specs.declared.bank.Operation.{Operation}
-use Rattle.md_base.specs.declared.answers.Refusal.{Refusal}
-use Rattle.md_base.specs.declared.answers.Refusal.TheVariants.{PastEnd, SlotFault, BackupFault}
+use Rattle.running_calls.specs.md_base_the_Who.{Who}
+use Rattle.running_calls.specs.md_base_the_Fault.{Fault}
+use Rattle.running_calls.specs.md_base_the_Fault_TheVariants.{Refused as IsRefusedWith, NoMemory}
+use Rattle.running_calls.specs.md_base_Sectors.{Sector, sectors_of}
+use Rattle.running_calls.proofs.md_base_SectorLaws.{length-sectors_of}
+use Rattle.running_calls.proofs.md_base_Tabulated.{length-tabulate}
+use Rattle.script.specs.flat_history_the_Entry.{Entry}
+use Rattle.script.specs.flat_history_the_Event.{Event}
+use Rattle.script.specs.flat_history_the_Event_TheVariants.{Wrote, Added, Stopped, Halted, Refused}
+use Rattle.script.specs.flat_history_Fits.{FitsStop, IsWriteRefused, AreTornOf}
+use Rattle.script.specs.flat_history_Transfers.{IsPastEnd}
+use Rattle.running_calls.specs.bank_the_Operation.{Operation}
+use Rattle.running_calls.specs.md_base_the_Refusal.{Refusal}
+use Rattle.running_calls.specs.md_base_the_Refusal_TheVariants.{PastEnd, SlotFault, BackupFault}
 use Rattle.running_calls.specs.superblocks_the_Members.{Members}
 use Rattle.running_calls.specs.superblocks_Reads.{has_spare}
-use Rattle.bank.specs.Given.{Given}
+use Rattle.running_calls.specs.bank_Given.{Given}
 use Rattle.running_calls.specs.views_Parts.{Parts}
 use Rattle.running_calls.specs.call_entries_Losing.{losses_of}
 use Rattle.running_calls.proofs.call_entries_CallLaws.{losses-are}
 use Rattle.running_calls.proofs.array_kept_ReplyLaws.{inside-losses, none-inside, none_before}
-use Rattle.flat_history.specs.declared.events.Request.{Request}
-use Rattle.flat_history.specs.declared.events.Request.TheVariants.{Write as AsksWrite, Add as AsksAdd}
+use Rattle.script.specs.flat_history_the_Request.{Request}
+use Rattle.script.specs.flat_history_the_Request_TheVariants.{Write as AsksWrite, Add as AsksAdd}
 use Rattle.running_calls.specs.moving_laws_Writing.{IsRepliedBehind, IsWriteReplied}
-use Rattle.flat_history.specs.Flat.{rest_of_call, next_number, visible_of}
-use Rattle.flat_history.specs.Plain.{entries_of}
-use Rattle.flat_history.specs.OneShape.{IsOfCall, OneShapeFits}
+use Rattle.script.specs.flat_history_Flat.{rest_of_call, next_number, visible_of}
+use Rattle.script.specs.flat_history_Plain.{entries_of}
+use Rattle.script.specs.flat_history_OneShape.{IsOfCall, OneShapeFits}
 use Rattle.running_calls.specs.views_Lacking.{AreTooMany}
-use Rattle.flat_history.specs.Legal.{MayBeInner}
+use Rattle.script.specs.flat_history_Legal.{MayBeInner}
 use Rattle.running_calls.specs.running_replies_Replies.{RunningFits, IsAnsweredWith}
 use Rattle.running_calls.proofs.running_replies_Fitting.{inside-inner, fits-write}
 use Rattle.running_calls.specs.array_kept_Calls.{OnNoMemory, StandsInside, IsReplied, IsAnswered, IsAddedFor, IsCausedBy, IsEntered, IsBehind, IsRefusedFor}

@@ -3,24 +3,24 @@ use Rattle.std.proofs.Common.{◌≡◌, ℕ, ◌+◌, ◌-◌, ◌^◌, ◌<◌
 use Rattle.std.proofs.lemmas.Bool.{cases_eq}
 use Rattle.std.proofs.lemmas.Bool.Decides.{nat_tests}
 use Rattle.std.specs.Prelude.{is_some, nat_le, if◌then◌else◌, MatchOption, IfSome, ⊤}
-use Rattle.md_base.specs.Sectors.{Sector}
-use Rattle.md_base.specs.Search.{least_below}
-use Rattle.md_base.specs.declared.answers.Fault.{Fault}
-use Rattle.md_base.specs.declared.answers.Fault.TheVariants.{Refused as IsRefusedWith, NoMemory}
-use Rattle.md_base.specs.declared.answers.Refusal.{Refusal}
-use Rattle.md_base.specs.declared.answers.Refusal.TheVariants.{UuidInUse, SlotFault}
-use Rattle.sb1.specs.Superblock.{superblock_in}
-use Rattle.bank.specs.Given.{Given, IsFaulted, NeverFalls}
-use Rattle.bank.specs.declared.bank.Operation.{Operation}
-use Rattle.bank.specs.declared.bank.Operation.TheVariants.{Write, Flush}
-use Rattle.bank.specs.Tape.{Contents, contents, value_after}
-use Rattle.bank.proofs.Laws.{value_after-append}
+use Rattle.running_calls.specs.md_base_Sectors.{Sector}
+use Rattle.running_calls.specs.md_base_Search.{least_below}
+use Rattle.running_calls.specs.md_base_the_Fault.{Fault}
+use Rattle.running_calls.specs.md_base_the_Fault_TheVariants.{Refused as IsRefusedWith, NoMemory}
+use Rattle.running_calls.specs.md_base_the_Refusal.{Refusal}
+use Rattle.running_calls.specs.md_base_the_Refusal_TheVariants.{UuidInUse, SlotFault}
+use Rattle.script.specs.sb1_Superblock.{superblock_in}
+use Rattle.running_calls.specs.bank_Given.{Given, IsFaulted, NeverFalls}
+use Rattle.running_calls.specs.bank_the_Operation.{Operation}
+use Rattle.running_calls.specs.bank_the_Operation_TheVariants.{Write, Flush}
+use Rattle.running_calls.specs.bank_Tape.{Contents, contents, value_after}
+use Rattle.running_calls.proofs.bank_Laws.{value_after-append}
 use Rattle.running_calls.specs.views_Flushing.{OnlyFlushesAdded}
 use Rattle.running_calls.specs.views_Moving.{Grows}
 use Rattle.running_calls.proofs.views_Flushed.{contents-added}
 use Rattle.running_calls.specs.assemble_Filling.{AreBelow, OnlyBelow}
 use Rattle.running_calls.specs.superblocks_Reading.{Scope, of_array, is_seen}
-use Rattle.flat_history.specs.Stands.{verdict}
+use Rattle.script.specs.flat_history_Stands.{verdict}
 use Rattle.running_calls.specs.assemble_the_CreateSpec.{CreateSpec}
 use Rattle.running_calls.specs.assemble_Opening.{scope_of, array_of, AreGiven, HasFoundNone}
 use Rattle.running_calls.specs.assemble_Made.{is_used, used_slot, IsUse, IsLateRefusal, HasCreateCause}

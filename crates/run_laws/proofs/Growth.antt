@@ -4,21 +4,21 @@ use Rattle.std.proofs.lemmas.List.{take-append-le, drop-append-le}
 use Rattle.std.proofs.lemmas.Option.{slice_get_within}
 use Rattle.std.specs.Prelude.{slice_get, MatchOption, if◌then◌else◌, IfSome, IsSome, IsTrue, IsFalse, nat_lt}
 use Rattle.std.specs.Option.{option_and_then, option_map_or}
-use Rattle.bank.specs.Given.{Given, sizes, NeverFalls}
-use Rattle.bank.specs.declared.bank.Operation.{Operation}
-use Rattle.bank.specs.Tape.{Contents, contents}
-use Rattle.bank.proofs.Laws.{contents-earlier}
-use Rattle.md_base.specs.declared.answers.Fault.TheVariants.{Refused as IsRefusedWith}
-use Rattle.md_base.specs.declared.answers.Refusal.{Refusal}
-use Rattle.md_base.specs.declared.answers.Refusal.TheVariants.{NoSuchSlot, SlotFault}
-use Rattle.md_base.specs.declared.status.Status.{Status}
-use Rattle.md_base.specs.Sectors.{Sector}
-use Rattle.md_base.specs.Shapes.{data_disks, has_slot}
-use Rattle.sb1.specs.declared.sb.Sb.{Sb}
-use Rattle.sb1.specs.Superblock.{superblock_in}
-use Rattle.flat_history.specs.World.{World, opening_list}
-use Rattle.flat_history.specs.Opened.{OpensSound}
-use Rattle.flat_history.specs.Growing.{grown}
+use Rattle.running_calls.specs.bank_Given.{Given, sizes, NeverFalls}
+use Rattle.running_calls.specs.bank_the_Operation.{Operation}
+use Rattle.running_calls.specs.bank_Tape.{Contents, contents}
+use Rattle.running_calls.proofs.bank_Laws.{contents-earlier}
+use Rattle.running_calls.specs.md_base_the_Fault_TheVariants.{Refused as IsRefusedWith}
+use Rattle.running_calls.specs.md_base_the_Refusal.{Refusal}
+use Rattle.running_calls.specs.md_base_the_Refusal_TheVariants.{NoSuchSlot, SlotFault}
+use Rattle.running_calls.specs.md_base_the_Status.{Status}
+use Rattle.running_calls.specs.md_base_Sectors.{Sector}
+use Rattle.running_calls.specs.md_base_Shapes.{data_disks, has_slot}
+use Rattle.script.specs.sb1_the_Sb.{Sb}
+use Rattle.script.specs.sb1_Superblock.{superblock_in}
+use Rattle.script.specs.flat_history_World.{World, opening_list}
+use Rattle.script.specs.flat_history_Opened.{OpensSound}
+use Rattle.script.specs.flat_history_Growing.{grown}
 use Rattle.running_calls.specs.views_Moving.{Grows}
 use Rattle.running_calls.specs.assemble_Creating.{create_refusal}
 use Rattle.running_calls.specs.assemble_Opening.{AreGiven, HasFoundNone, array_of, scope_of}
@@ -28,12 +28,12 @@ use Rattle.std.specs.List.{All}
 use Rattle.std.proofs.lemmas.List.Elements.{All-head, All-tail}
 use Rattle.running_calls.specs.assemble_the_CreateSpec.{CreateSpec}
 use Rattle.script.specs.declared.lines.Line.TheVariants.{Create, Read, Write, Flush, Fail, Add, ArraySize, Grow, Step, Wait, Stop, Halt, Detail, Mdstat, Examine, Assemble}
-use Rattle.flat_history.specs.declared.events.Entry.{Entry}
-use Rattle.flat_history.specs.declared.events.Event.TheVariants.{Shown}
-use Rattle.flat_history.specs.declared.events.Request.{Request}
-use Rattle.flat_history.specs.Plain.{entries_of}
+use Rattle.script.specs.flat_history_the_Entry.{Entry}
+use Rattle.script.specs.flat_history_the_Event_TheVariants.{Shown}
+use Rattle.script.specs.flat_history_the_Request.{Request}
+use Rattle.script.specs.flat_history_Plain.{entries_of}
 use Rattle.running_calls.specs.array_kept_Adopting.{opener}
-use Rattle.flat_history.specs.Flat.{rest_of_call, is_same_call, number_after, length_of}
+use Rattle.script.specs.flat_history_Flat.{rest_of_call, is_same_call, number_after, length_of}
 use Rattle.script.specs.declared.lines.Line.{Line}
 use Rattle.script.specs.declared.lines.Numbered.{Numbered}
 use Rattle.script.specs.declared.reply.Lane.{Lane}

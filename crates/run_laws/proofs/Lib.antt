@@ -18,3 +18,8 @@ pub use Rattle.running_calls.proofs.Entered as running_calls_Entered
 pub use Rattle.running_calls.proofs.history_laws_ReshapedLaws
 pub use Rattle.running_calls.proofs.kept_history_Turned
 pub use Rattle.running_calls.proofs.call_entries_CallLaws
+pub use Rattle.running_calls.proofs.md_base_SectorLaws
+pub use Rattle.running_calls.proofs.md_base_Tabulated
+pub use Rattle.script.proofs.flat_history_LegalLaws
+pub use Rattle.script.proofs.flat_history_OneShapeLegal
+pub use Rattle.script.proofs.flat_history_SoundLaws

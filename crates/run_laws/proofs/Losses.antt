@@ -4,22 +4,22 @@ use Rattle.std.proofs.lemmas.List.Folds.{list_any-append}
 use Rattle.std.proofs.lemmas.List.Elements.{All-nil, All-cons, All-append, All-head, All-tail}
 use Rattle.std.specs.Prelude.{slice_index_or, MatchOption, IsTrue}
 use Rattle.std.specs.List.{All, list_any}
-use Rattle.bank.specs.Given.{Given, IsFaulted}
-use Rattle.md_base.specs.declared.answers.Refusal.{Refusal}
-use Rattle.md_base.specs.declared.answers.Refusal.TheVariants.{BackupFault, SlotFault}
-use Rattle.bank.specs.declared.bank.Operation.{Operation}
-use Rattle.md_base.specs.declared.answers.Who.{Who}
+use Rattle.running_calls.specs.bank_Given.{Given, IsFaulted}
+use Rattle.running_calls.specs.md_base_the_Refusal.{Refusal}
+use Rattle.running_calls.specs.md_base_the_Refusal_TheVariants.{BackupFault, SlotFault}
+use Rattle.running_calls.specs.bank_the_Operation.{Operation}
+use Rattle.running_calls.specs.md_base_the_Who.{Who}
 use Rattle.running_calls.specs.superblocks_the_Members.{Members}
-use Rattle.flat_history.specs.declared.events.Entry.{Entry}
-use Rattle.flat_history.specs.declared.events.Event.{Event}
-use Rattle.flat_history.specs.declared.events.Event.TheVariants.{Lost, SpareLost, Stepped, Halted, Refused}
-use Rattle.flat_history.specs.declared.events.LostCause.{LostCause}
-use Rattle.flat_history.specs.declared.events.LostCause.TheVariants.{Absent, Recovering, Command, Fault}
-use Rattle.flat_history.specs.Plain.{entries_of}
-use Rattle.flat_history.specs.Growing.{grown}
-use Rattle.flat_history.specs.World.{World}
-use Rattle.md_base.specs.declared.status.Role.{Role}
-use Rattle.md_base.specs.declared.status.Role.TheVariants.{Whole, Recovering as HeldInPart, Missing}
+use Rattle.script.specs.flat_history_the_Entry.{Entry}
+use Rattle.script.specs.flat_history_the_Event.{Event}
+use Rattle.script.specs.flat_history_the_Event_TheVariants.{Lost, SpareLost, Stepped, Halted, Refused}
+use Rattle.script.specs.flat_history_the_LostCause.{LostCause}
+use Rattle.script.specs.flat_history_the_LostCause_TheVariants.{Absent, Recovering, Command, Fault}
+use Rattle.script.specs.flat_history_Plain.{entries_of}
+use Rattle.script.specs.flat_history_Growing.{grown}
+use Rattle.script.specs.flat_history_World.{World}
+use Rattle.script.specs.md_base_the_Role.{Role}
+use Rattle.script.specs.md_base_the_Role_TheVariants.{Whole, Recovering as HeldInPart, Missing}
 use Rattle.running_calls.specs.superblocks_Reading.{Reading, is_whole, role_state}
 use Rattle.running_calls.specs.superblocks_Reads.{has_spare}
 use Rattle.running_calls.specs.row_io_Rows.{is_missing}
@@ -335,7 +335,7 @@ module _ (setting : Setting) (old : List Entry) (history : History) (members : M
   losses-behind done [] was told = tt
   losses-behind done (e ∷ more) (one, was) told = (
     loss-since setting (old ++ done) history (MayHoldBehind members done) (WasSpareOrHolder members) (λ t role slot had. along-held done role slot t had)
-    (λ t slot was. along-was done slot t was) e.event one (All-head (λ e. IsRefusalTold setting e.event) e more told),
+        (λ t slot was. along-was done slot t was) e.event one (All-head (λ e. IsRefusalTold setting e.event) e more told),
     subst (λ (l : List Entry). AreLossesBehind setting history l more) (sym (append_assoc old done (e ∷ [])))
         (losses-behind (done ++ e ∷ []) more was (All-tail (λ e. IsRefusalTold setting e.event) e more told)),
   )

@@ -3,15 +3,15 @@ use Rattle.std.proofs.Common.{◌≡◌, inl, inr, ℕ, ◌||◌, Bool, false, O
 use Rattle.std.specs.Prelude.{MatchOption, IfSome, IsTrue, ⊤}
 use Rattle.std.specs.List.{list_any}
 use Rattle.running_calls.specs.superblocks_Reading.{Reading, is_reshaping}
-use Rattle.flat_history.specs.declared.events.Entry.{Entry}
-use Rattle.flat_history.specs.declared.events.Event.{Event}
-use Rattle.flat_history.specs.declared.events.Event.TheVariants.{Step}
-use Rattle.flat_history.specs.declared.events.StepKind.TheVariants.{TakenOver}
-use Rattle.flat_history.specs.Losses.{takes, loses}
-use Rattle.flat_history.specs.OneShape.{is_lost}
-use Rattle.flat_history.specs.Plain.{loses_role}
-use Rattle.flat_history.specs.Sound.{FillsRight}
-use Rattle.flat_history.specs.World.{World, contents_at, reading_at}
+use Rattle.script.specs.flat_history_the_Entry.{Entry}
+use Rattle.script.specs.flat_history_the_Event.{Event}
+use Rattle.script.specs.flat_history_the_Event_TheVariants.{Step}
+use Rattle.script.specs.flat_history_the_StepKind_TheVariants.{TakenOver}
+use Rattle.script.specs.flat_history_Losses.{takes, loses}
+use Rattle.script.specs.flat_history_OneShape.{is_lost}
+use Rattle.script.specs.flat_history_Plain.{loses_role}
+use Rattle.script.specs.flat_history_Sound.{FillsRight}
+use Rattle.script.specs.flat_history_World.{World, contents_at, reading_at}
 use Rattle.running_calls.specs.kept_history_Safe.{is_taken_over, KeepsLevel, IsReshapeFit, IsFilledRight}
 use Rattle.running_calls.specs.running_words_Plans.{turns_shape, KeepsShape}
 use Rattle.run_laws.proofs.PlainReplies.{neither}

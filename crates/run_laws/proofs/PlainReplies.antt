@@ -3,19 +3,19 @@ use Rattle.std.proofs.Common.{◌≡◌, ◌⊎◌, inl, inr, ℕ, ◌+◌, ◌|
 use Rattle.std.proofs.lemmas.List.Elements.{All-head, All-tail}
 use Rattle.std.specs.Prelude.{MatchBool, nat_lt, IfSome, IsSome, IsTrue}
 use Rattle.std.specs.List.{list_any}
-use Rattle.md_base.specs.declared.answers.Refusal.{Refusal}
-use Rattle.md_base.specs.declared.answers.Refusal.TheVariants.{TooManyMissing, NotResynced, BackupFault, Degraded, NeedSpares, Nothing}
-use Rattle.flat_history.specs.declared.events.Entry.{Entry}
-use Rattle.flat_history.specs.declared.events.Event.{Event}
-use Rattle.flat_history.specs.declared.events.Event.TheVariants.{Resized, Step, Stepped, Refused}
-use Rattle.flat_history.specs.declared.events.StepKind.TheVariants.{Finished}
-use Rattle.flat_history.specs.declared.events.Request.{Request}
-use Rattle.flat_history.specs.declared.events.Request.TheVariants.{Read as AsksRead, Write as AsksWrite, Flush as AsksFlush, Fail as AsksFail, Add as AsksAdd, Visible as AsksVisible, Grow as AsksGrow, Steps as AsksSteps, Show as AsksShow}
-use Rattle.flat_history.specs.Flat.{length_after, length_of, visible_of}
-use Rattle.flat_history.specs.Fits.{IsReadRefused, IsWriteRefused, is_lost_event}
-use Rattle.flat_history.specs.Legal.{call_before}
-use Rattle.flat_history.specs.OneShape.{DidOneShapeSteps, EndsIdleSteps, OneShapeAnswers, OneShapeFits}
-use Rattle.flat_history.specs.Transfers.{IsRefusedAt, IsPastEnd}
+use Rattle.running_calls.specs.md_base_the_Refusal.{Refusal}
+use Rattle.running_calls.specs.md_base_the_Refusal_TheVariants.{TooManyMissing, NotResynced, BackupFault, Degraded, NeedSpares, Nothing}
+use Rattle.script.specs.flat_history_the_Entry.{Entry}
+use Rattle.script.specs.flat_history_the_Event.{Event}
+use Rattle.script.specs.flat_history_the_Event_TheVariants.{Resized, Step, Stepped, Refused}
+use Rattle.script.specs.flat_history_the_StepKind_TheVariants.{Finished}
+use Rattle.script.specs.flat_history_the_Request.{Request}
+use Rattle.script.specs.flat_history_the_Request_TheVariants.{Read as AsksRead, Write as AsksWrite, Flush as AsksFlush, Fail as AsksFail, Add as AsksAdd, Visible as AsksVisible, Grow as AsksGrow, Steps as AsksSteps, Show as AsksShow}
+use Rattle.script.specs.flat_history_Flat.{length_after, length_of, visible_of}
+use Rattle.script.specs.flat_history_Fits.{IsReadRefused, IsWriteRefused, is_lost_event}
+use Rattle.script.specs.flat_history_Legal.{call_before}
+use Rattle.script.specs.flat_history_OneShape.{DidOneShapeSteps, EndsIdleSteps, OneShapeAnswers, OneShapeFits}
+use Rattle.script.specs.flat_history_Transfers.{IsRefusedAt, IsPastEnd}
 use Rattle.running_calls.specs.running_words_Plans.{turns_shape}
 use Rattle.running_calls.specs.running_replies_Replies.{may_end_early, EndsRunningSteps, MayEndBy, MayTellBy, DidRunningSteps, RunningAnswers, RunningFits}
 use Rattle.running_calls.specs.still_laws_Plain.{MayTellPlainly, AreToldPlainly}

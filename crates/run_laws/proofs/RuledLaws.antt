@@ -5,24 +5,24 @@ use Rattle.std.proofs.lemmas.Bool.Decides.{nat_tests}
 use Rattle.std.proofs.lemmas.List.{get_or_past}
 use Rattle.std.specs.Prelude.{if◌then◌else◌, MatchOption, IfSome}
 use Rattle.std.specs.List.{list_any}
-use Rattle.md_base.specs.Search.{tabulate}
-use Rattle.md_base.specs.declared.answers.BusyKind.TheVariants.{Reshape}
-use Rattle.md_base.specs.declared.answers.Refusal.{Refusal}
-use Rattle.md_base.specs.declared.answers.Refusal.TheVariants.{Busy, SlotFault}
-use Rattle.md_base.specs.declared.places.Shape.{Shape}
-use Rattle.md_base.specs.declared.status.Role.{Role}
-use Rattle.md_base.specs.declared.status.Role.TheVariants.{Whole, Missing}
-use Rattle.md_base.specs.declared.wishes.Phase.{Phase}
-use Rattle.md_base.specs.declared.wishes.Wish.{Wish}
-use Rattle.md_base.proofs.Tabulated.{length-tabulate, get_or-tabulate}
-use Rattle.bank.specs.Given.{Given}
-use Rattle.grow_plan.specs.Plans.{phases, phases_steps, last_shape}
-use Rattle.grow_plan.proofs.Sound.{phases_lead}
+use Rattle.running_calls.specs.md_base_Search.{tabulate}
+use Rattle.running_calls.specs.md_base_the_BusyKind_TheVariants.{Reshape}
+use Rattle.running_calls.specs.md_base_the_Refusal.{Refusal}
+use Rattle.running_calls.specs.md_base_the_Refusal_TheVariants.{Busy, SlotFault}
+use Rattle.script.specs.md_base_the_Shape.{Shape}
+use Rattle.script.specs.md_base_the_Role.{Role}
+use Rattle.script.specs.md_base_the_Role_TheVariants.{Whole, Missing}
+use Rattle.running_calls.specs.md_base_the_Phase.{Phase}
+use Rattle.running_calls.specs.md_base_the_Wish.{Wish}
+use Rattle.running_calls.proofs.md_base_Tabulated.{length-tabulate, get_or-tabulate}
+use Rattle.running_calls.specs.bank_Given.{Given}
+use Rattle.script.specs.grow_plan_Plans.{phases, phases_steps, last_shape}
+use Rattle.script.proofs.grow_plan_Sound.{phases_lead}
 use Rattle.running_calls.specs.superblocks_the_Members.{Members}
 use Rattle.running_calls.specs.superblocks_Reading.{is_reshaping, is_backup, shape_of, final_shape, role_count, role_state, holder}
 use Rattle.running_calls.specs.superblocks_Reads.{has_spare}
 use Rattle.running_calls.specs.row_io_Rows.{reading_of}
-use Rattle.flat_history.specs.declared.events.Event.TheVariants.{Visible, Planned, Refused}
+use Rattle.script.specs.flat_history_the_Event_TheVariants.{Visible, Planned, Refused}
 use Rattle.running_calls.specs.views_Placed.{is_vacant}
 use Rattle.running_calls.specs.views_Status.{left_of}
 use Rattle.running_calls.proofs.views_Still.{count-still}

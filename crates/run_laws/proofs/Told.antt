@@ -4,31 +4,31 @@ use Rattle.std.proofs.Math.Seq.{drop-append_seam}
 use Rattle.std.proofs.lemmas.List.Elements.{All-nil, All-cons, All-append, All-push, All-weaker}
 use Rattle.std.specs.Prelude.{nat_lt, MatchBool}
 use Rattle.std.specs.List.{All}
-use Rattle.bank.specs.Given.{Given, IsFaulted}
-use Rattle.bank.specs.declared.bank.Operation.{Operation}
-use Rattle.md_base.specs.declared.answers.Who.{Who}
-use Rattle.md_base.specs.declared.answers.Fault.{Fault}
-use Rattle.md_base.specs.declared.answers.Fault.TheVariants.{Refused as IsRefusedWith, NoMemory as WantsMemory}
-use Rattle.md_base.specs.declared.answers.Refusal.{Refusal}
-use Rattle.md_base.specs.declared.answers.Refusal.TheVariants.{TooManyMissing, NotResynced, BackupFault, NoSuchRole, SlotFault}
+use Rattle.running_calls.specs.bank_Given.{Given, IsFaulted}
+use Rattle.running_calls.specs.bank_the_Operation.{Operation}
+use Rattle.running_calls.specs.md_base_the_Who.{Who}
+use Rattle.running_calls.specs.md_base_the_Fault.{Fault}
+use Rattle.running_calls.specs.md_base_the_Fault_TheVariants.{Refused as IsRefusedWith, NoMemory as WantsMemory}
+use Rattle.running_calls.specs.md_base_the_Refusal.{Refusal}
+use Rattle.running_calls.specs.md_base_the_Refusal_TheVariants.{TooManyMissing, NotResynced, BackupFault, NoSuchRole, SlotFault}
 use Rattle.running_calls.specs.superblocks_the_Members.{Members}
-use Rattle.flat_history.specs.declared.events.Entry.{Entry}
-use Rattle.flat_history.specs.declared.events.Event.{Event}
-use Rattle.flat_history.specs.declared.events.Event.TheVariants.{Added, Stepped, Refused}
-use Rattle.flat_history.specs.declared.events.Request.{Request}
-use Rattle.flat_history.specs.declared.events.Request.TheVariants.{Read as AsksRead, Write as AsksWrite, Flush as AsksFlush, Fail as AsksFail, Add as AsksAdd}
-use Rattle.flat_history.specs.Flat.{visible_of}
-use Rattle.flat_history.specs.Fits.{IsReadRefused, FitsStop}
-use Rattle.flat_history.specs.Plain.{entries_of}
-use Rattle.flat_history.specs.Transfers.{IsRefusedAt, IsPastEnd}
-use Rattle.flat_history.specs.OneShape.{IsOfCall, OneShapeAnswers, EndsIdleSteps}
+use Rattle.script.specs.flat_history_the_Entry.{Entry}
+use Rattle.script.specs.flat_history_the_Event.{Event}
+use Rattle.script.specs.flat_history_the_Event_TheVariants.{Added, Stepped, Refused}
+use Rattle.script.specs.flat_history_the_Request.{Request}
+use Rattle.script.specs.flat_history_the_Request_TheVariants.{Read as AsksRead, Write as AsksWrite, Flush as AsksFlush, Fail as AsksFail, Add as AsksAdd}
+use Rattle.script.specs.flat_history_Flat.{visible_of}
+use Rattle.script.specs.flat_history_Fits.{IsReadRefused, FitsStop}
+use Rattle.script.specs.flat_history_Plain.{entries_of}
+use Rattle.script.specs.flat_history_Transfers.{IsRefusedAt, IsPastEnd}
+use Rattle.script.specs.flat_history_OneShape.{IsOfCall, OneShapeAnswers, EndsIdleSteps}
 use Rattle.running_calls.specs.call_entries_Losing.{losses_of}
 use Rattle.running_calls.proofs.call_entries_CallLaws.{losses-are}
 use Rattle.running_calls.proofs.array_kept_ReplyLaws.{inside-losses}
 use Rattle.running_calls.specs.array_kept_Calls.{StandsInside, IsReplied, IsAnswered, IsAddedFor, IsBehind, IsEntered}
 use Rattle.running_calls.specs.kept_history_Recorded.{entry_of}
 use Rattle.running_calls.specs.moving_laws_Writing.{IsRepliedBehind, IsWriteReplied}
-use Rattle.flat_history.specs.Legal.{call_before}
+use Rattle.script.specs.flat_history_Legal.{call_before}
 use Rattle.running_calls.specs.running_replies_Replies.{IsRefusalBy, IsRefusalToldBy, HasToldBy}
 use Rattle.run_laws.specs.Making.{Setting}
 use Rattle.run_laws.proofs.AskLaws.{one, entries_of-append}

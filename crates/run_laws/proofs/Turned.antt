@@ -8,27 +8,27 @@ use Rattle.std.proofs.lemmas.List.Sums.{fold-append}
 use Rattle.std.proofs.lemmas.List.Elements.{All-head, All-tail, All-push, All-weaker}
 use Rattle.std.specs.Prelude.{slice_get, nat_lt}
 use Rattle.std.specs.List.{list_any}
-use Rattle.md_base.specs.declared.answers.Fault.{Fault}
-use Rattle.md_base.specs.declared.answers.Fault.TheVariants.{Refused as IsRefusedWith, NoMemory}
-use Rattle.md_base.specs.declared.answers.Refusal.{Refusal}
-use Rattle.md_base.specs.declared.answers.Refusal.TheVariants.{BackupFault}
-use Rattle.md_base.specs.declared.answers.Who.{Who}
-use Rattle.md_base.specs.declared.status.Status.{Status}
-use Rattle.md_base.specs.declared.wishes.Phase.{Phase}
-use Rattle.bank.specs.declared.bank.Operation.{Operation}
-use Rattle.bank.specs.Given.{Given}
+use Rattle.running_calls.specs.md_base_the_Fault.{Fault}
+use Rattle.running_calls.specs.md_base_the_Fault_TheVariants.{Refused as IsRefusedWith, NoMemory}
+use Rattle.running_calls.specs.md_base_the_Refusal.{Refusal}
+use Rattle.running_calls.specs.md_base_the_Refusal_TheVariants.{BackupFault}
+use Rattle.running_calls.specs.md_base_the_Who.{Who}
+use Rattle.running_calls.specs.md_base_the_Status.{Status}
+use Rattle.running_calls.specs.md_base_the_Phase.{Phase}
+use Rattle.running_calls.specs.bank_the_Operation.{Operation}
+use Rattle.running_calls.specs.bank_Given.{Given}
 use Rattle.running_calls.specs.superblocks_Reading.{is_reshaping}
-use Rattle.flat_history.specs.declared.events.Entry.{Entry}
-use Rattle.flat_history.specs.declared.events.Event.{Event}
-use Rattle.flat_history.specs.declared.events.Event.TheVariants.{Wrote, Planned, Step, Stepped, Shown, Refused}
-use Rattle.flat_history.specs.declared.events.StepKind.TheVariants.{Begun}
-use Rattle.flat_history.specs.declared.events.Request.{Request}
-use Rattle.flat_history.specs.declared.events.Request.TheVariants.{Read as AsksRead, Write as AsksWrite, Flush as AsksFlush, Fail as AsksFail, Add as AsksAdd, Visible as AsksVisible, Grow as AsksGrow, Steps as AsksSteps, Show as AsksShow}
-use Rattle.flat_history.specs.Flat.{visible_of}
-use Rattle.flat_history.specs.Fits.{IsReadRefused, FitsStop, FitsHalt}
-use Rattle.flat_history.specs.Legal.{MayBeInner, call_before}
-use Rattle.flat_history.specs.Reshaped.{is_planned}
-use Rattle.flat_history.specs.Transfers.{IsRefusedAt, IsPastEnd}
+use Rattle.script.specs.flat_history_the_Entry.{Entry}
+use Rattle.script.specs.flat_history_the_Event.{Event}
+use Rattle.script.specs.flat_history_the_Event_TheVariants.{Wrote, Planned, Step, Stepped, Shown, Refused}
+use Rattle.script.specs.flat_history_the_StepKind_TheVariants.{Begun}
+use Rattle.script.specs.flat_history_the_Request.{Request}
+use Rattle.script.specs.flat_history_the_Request_TheVariants.{Read as AsksRead, Write as AsksWrite, Flush as AsksFlush, Fail as AsksFail, Add as AsksAdd, Visible as AsksVisible, Grow as AsksGrow, Steps as AsksSteps, Show as AsksShow}
+use Rattle.script.specs.flat_history_Flat.{visible_of}
+use Rattle.script.specs.flat_history_Fits.{IsReadRefused, FitsStop, FitsHalt}
+use Rattle.script.specs.flat_history_Legal.{MayBeInner, call_before}
+use Rattle.script.specs.flat_history_Reshaped.{is_planned}
+use Rattle.script.specs.flat_history_Transfers.{IsRefusedAt, IsPastEnd}
 use Rattle.running_calls.specs.kept_history_Recorded.{entry_of}
 use Rattle.running_calls.specs.grow_asked_Left.{phases_of}
 use Rattle.running_calls.specs.moving_laws_Writing.{IsWriteReplied}

@@ -6,13 +6,13 @@ use Rattle.std.proofs.lemmas.Bool.Decides.{nat_tests}
 use Rattle.std.proofs.Math.Seq.{take-append-add}
 use Rattle.std.specs.Option.{option_map_or}
 use Rattle.std.specs.Prelude.{IfSome, MatchOption, if◌then◌else◌, nat_le, IsFalse, ⊤}
-use Rattle.md_base.specs.Sectors.{Sector}
-use Rattle.bank.specs.declared.bank.Operation.{Operation}
-use Rattle.bank.specs.declared.bank.Operation.TheVariants.{Write, Flush}
-use Rattle.bank.specs.Tape.{Contents, disk, IsImage, IsDrawn, AreFlushes}
-use Rattle.bank.specs.Stretches.{AreWritesWithin}
-use Rattle.bank.proofs.Laws.{contents-earlier}
-use Rattle.bank.proofs.Images.{drawn-image}
+use Rattle.running_calls.specs.md_base_Sectors.{Sector}
+use Rattle.running_calls.specs.bank_the_Operation.{Operation}
+use Rattle.running_calls.specs.bank_the_Operation_TheVariants.{Write, Flush}
+use Rattle.running_calls.specs.bank_Tape.{Contents, disk, IsImage, IsDrawn, AreFlushes}
+use Rattle.running_calls.specs.bank_Stretches.{AreWritesWithin}
+use Rattle.running_calls.proofs.bank_Laws.{contents-earlier}
+use Rattle.running_calls.proofs.bank_Images.{drawn-image}
 use Rattle.running_calls.specs.superblocks_Reading.{Reading, reading, role_count, role_state, is_whole, is_reshaping, is_clean}
 use Rattle.running_calls.specs.shape_views_Regions.{header_in, open_by}
 use Rattle.running_calls.specs.grow_asked_the_Window.{Window}
@@ -21,23 +21,23 @@ use Rattle.running_calls.specs.region_mends_Left.{resync_left}
 use Rattle.running_calls.specs.reshape_openings_Finding.{window_for}
 use Rattle.running_calls.specs.array_kept_Adopting.{found_work}
 use Rattle.running_calls.specs.views_Status.{left_of}
-use Rattle.md_base.specs.declared.status.Status.{Status}
-use Rattle.flat_history.specs.declared.events.Entry.{Entry}
-use Rattle.flat_history.specs.declared.events.Event.{Event}
-use Rattle.flat_history.specs.World.{World, contents_at, reading_at, opening_list}
-use Rattle.flat_history.specs.Stands.{verdict, stands}
-use Rattle.flat_history.specs.Flat.{last_of}
-use Rattle.flat_history.specs.Transfers.{last_end_from}
-use Rattle.flat_history.specs.Legal.{last_end}
-use Rattle.flat_history.specs.CrashSafe.{IsSafeAt, IsSafeFor, IsCrashSafe, made_by}
-use Rattle.flat_history.specs.Epochs.{HasRoomForEvents}
-use Rattle.flat_history.specs.Opened.{IsSound, OpensSound}
-use Rattle.flat_history.specs.Reopened.{OpensAccepted}
-use Rattle.flat_history.specs.Sound.{FillsRight, LeavesSound, StaysSound}
-use Rattle.flat_history.specs.Growing.{grown, EndBy}
+use Rattle.running_calls.specs.md_base_the_Status.{Status}
+use Rattle.script.specs.flat_history_the_Entry.{Entry}
+use Rattle.script.specs.flat_history_the_Event.{Event}
+use Rattle.script.specs.flat_history_World.{World, contents_at, reading_at, opening_list}
+use Rattle.script.specs.flat_history_Stands.{verdict, stands}
+use Rattle.script.specs.flat_history_Flat.{last_of}
+use Rattle.script.specs.flat_history_Transfers.{last_end_from}
+use Rattle.script.specs.flat_history_Legal.{last_end}
+use Rattle.script.specs.flat_history_CrashSafe.{IsSafeAt, IsSafeFor, IsCrashSafe, made_by}
+use Rattle.script.specs.flat_history_Epochs.{HasRoomForEvents}
+use Rattle.script.specs.flat_history_Opened.{IsSound, OpensSound}
+use Rattle.script.specs.flat_history_Reopened.{OpensAccepted}
+use Rattle.script.specs.flat_history_Sound.{FillsRight, LeavesSound, StaysSound}
+use Rattle.script.specs.flat_history_Growing.{grown, EndBy}
 use Rattle.running_calls.proofs.history_laws_GrowingLaws.{marks-stay-safe}
-use Rattle.flat_history.proofs.SoundLaws.{fit-before, leaves-later, leaves-flushed}
-use Rattle.flat_history.proofs.StretchLaws.{bounds-serve}
+use Rattle.script.proofs.flat_history_SoundLaws.{fit-before, leaves-later, leaves-flushed}
+use Rattle.script.proofs.flat_history_StretchLaws.{bounds-serve}
 use Rattle.running_calls.specs.assemble_the_CreateSpec.{CreateSpec}
 use Rattle.running_calls.specs.running_words_Plans.{KeepsShape}
 use Rattle.run_laws.specs.Making.{IsStored, IsStoredNew, IsStoredAs, HeldAtFirst, MissingAtFirst, SpareAtFirst, found_members, found_left}

@@ -1,13 +1,13 @@
 -- One line of the script to a running array.
 use Rattle.std.specs.Prelude.{◌≡◌, ℕ, ◌+◌, ◌++◌, List, [], ◌∷◌, length, Result, Ok, Err, IsTrue, IsFalse}
 use Rattle.std.specs.List.{All}
-use Rattle.md_base.specs.declared.answers.NoMemory.{NoMemory}
-use Rattle.md_base.specs.declared.answers.Who.{Who}
-use Rattle.flat_history.specs.declared.events.Entry.{Entry}
-use Rattle.flat_history.specs.declared.events.Event.{Event}
-use Rattle.flat_history.specs.Flat.{next_number, length_of}
-use Rattle.flat_history.specs.OneShape.{IsOfCall}
-use Rattle.flat_history.specs.Legal.{MayBeInner}
+use Rattle.running_calls.specs.md_base_the_NoMemory.{NoMemory}
+use Rattle.running_calls.specs.md_base_the_Who.{Who}
+use Rattle.script.specs.flat_history_the_Entry.{Entry}
+use Rattle.script.specs.flat_history_the_Event.{Event}
+use Rattle.script.specs.flat_history_Flat.{next_number, length_of}
+use Rattle.script.specs.flat_history_OneShape.{IsOfCall}
+use Rattle.script.specs.flat_history_Legal.{MayBeInner}
 use Rattle.script.specs.declared.lines.Line.{Line}
 use Rattle.script.specs.declared.lines.Line.TheVariants.{Step}
 use Rattle.run_laws.specs.Replies.{FitsLine, leaves_more, steps_at_once}

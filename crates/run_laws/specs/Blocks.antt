@@ -1,11 +1,11 @@
 -- A block of lanes: what the lines of its lanes and its worker are answered, and what it leaves of the array's history.
 use Rattle.std.specs.Prelude.{◌≡◌, ◌⊎◌, ℕ, ◌+◌, ◌++◌, Bool, List, [], ◌∷◌, length, map, take, drop, slice_get, Some, ⊤}
 use Rattle.std.specs.List.{All}
-use Rattle.flat_history.specs.declared.events.Entry.{Entry}
-use Rattle.flat_history.specs.declared.events.Request.{Request}
-use Rattle.flat_history.specs.declared.events.Request.TheVariants.{Read as AsksRead, Write as AsksWrite, Flush as AsksFlush, Fail as AsksFail}
-use Rattle.flat_history.specs.Flat.{rest_of_call, next_number}
-use Rattle.flat_history.specs.Seen.{reply_places}
+use Rattle.script.specs.flat_history_the_Entry.{Entry}
+use Rattle.script.specs.flat_history_the_Request.{Request}
+use Rattle.script.specs.flat_history_the_Request_TheVariants.{Read as AsksRead, Write as AsksWrite, Flush as AsksFlush, Fail as AsksFail}
+use Rattle.script.specs.flat_history_Flat.{rest_of_call, next_number}
+use Rattle.script.specs.flat_history_Seen.{reply_places}
 use Rattle.running_calls.specs.running_replies_Replies.{RunningFits}
 use Rattle.running_calls.specs.Entered.{IsOfNewCall}
 use Rattle.running_calls.specs.declared.reply.Reply.{Reply}

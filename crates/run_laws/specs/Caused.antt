@@ -1,14 +1,14 @@
 -- Why an array answers a line as it does, by the record of it: what contracts see of the array. No bank is asked.
 use Rattle.std.specs.Prelude.{◌≡◌, ℕ, ◌<◌, List, slice_get, Some, None, MatchOption, ⊤}
-use Rattle.md_base.specs.declared.answers.Refusal.{Refusal}
-use Rattle.md_base.specs.declared.answers.Refusal.TheVariants.{SlotFault}
-use Rattle.bank.specs.Given.{Given}
-use Rattle.grow_plan.specs.Plans.{phases, phases_steps}
+use Rattle.running_calls.specs.md_base_the_Refusal.{Refusal}
+use Rattle.running_calls.specs.md_base_the_Refusal_TheVariants.{SlotFault}
+use Rattle.running_calls.specs.bank_Given.{Given}
+use Rattle.script.specs.grow_plan_Plans.{phases, phases_steps}
 use Rattle.running_calls.specs.superblocks_Reading.{shape_of, list_length}
-use Rattle.flat_history.specs.declared.events.Entry.{Entry}
-use Rattle.flat_history.specs.declared.events.Event.{Event}
-use Rattle.flat_history.specs.declared.events.Event.TheVariants.{Visible, Planned, Stepped, Refused}
-use Rattle.flat_history.specs.Flat.{visible_of}
+use Rattle.script.specs.flat_history_the_Entry.{Entry}
+use Rattle.script.specs.flat_history_the_Event.{Event}
+use Rattle.script.specs.flat_history_the_Event_TheVariants.{Visible, Planned, Stepped, Refused}
+use Rattle.script.specs.flat_history_Flat.{visible_of}
 use Rattle.running_calls.specs.grow_asked_Asked.{grow_refusal}
 use Rattle.running_calls.specs.array_kept_Calls.{HasRole, IsUnaddable}
 use Rattle.running_calls.specs.growing_Planned.{asked_in}

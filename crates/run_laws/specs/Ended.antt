@@ -1,16 +1,16 @@
 -- The epochs of the arrays that ran before, over the bank of their run.
 use Rattle.std.specs.Prelude.{◌≡◌, ℕ, ◌≤◌, List, [], ◌∷◌, length, Option, ⊤}
 use Rattle.std.specs.List.{All}
-use Rattle.bank.specs.Given.{Given}
-use Rattle.bank.specs.declared.bank.Operation.{Operation}
-use Rattle.flat_history.specs.declared.events.Epoch.{Epoch}
-use Rattle.flat_history.specs.Epochs.{world_of, IsEpochRight, HasRoomForEvents}
-use Rattle.flat_history.specs.Legal.{IsLegal}
-use Rattle.flat_history.specs.CrashSafe.{IsCrashSafe}
-use Rattle.flat_history.specs.Growing.{EndBy}
-use Rattle.flat_history.specs.Reopened.{OpensAccepted}
-use Rattle.flat_history.specs.Reshaped.{IsReshaped}
-use Rattle.flat_history.specs.Sound.{OpensFit, FillsRight, StaysSound}
+use Rattle.running_calls.specs.bank_Given.{Given}
+use Rattle.running_calls.specs.bank_the_Operation.{Operation}
+use Rattle.script.specs.flat_history_the_Epoch.{Epoch}
+use Rattle.script.specs.flat_history_Epochs.{world_of, IsEpochRight, HasRoomForEvents}
+use Rattle.script.specs.flat_history_Legal.{IsLegal}
+use Rattle.script.specs.flat_history_CrashSafe.{IsCrashSafe}
+use Rattle.script.specs.flat_history_Growing.{EndBy}
+use Rattle.script.specs.flat_history_Reopened.{OpensAccepted}
+use Rattle.script.specs.flat_history_Reshaped.{IsReshaped}
+use Rattle.script.specs.flat_history_Sound.{OpensFit, FillsRight, StaysSound}
 use Rattle.running_calls.specs.history_calls_Reliable.{IsReliable}
 use Rattle.running_calls.specs.running_words_Calls.{IsEpochKept}
 use Rattle.running_calls.specs.running_words_Plans.{KeepsShape}

@@ -1,11 +1,11 @@
 -- A slot's superblock as it is stored.
 use Rattle.std.specs.Prelude.{◌≡◌, ℕ, ◌<◌, ◌≤◌, Option, Result, Ok, Err}
-use Rattle.md_base.specs.declared.answers.Refusal.{Refusal}
-use Rattle.md_base.specs.declared.answers.Refusal.TheVariants.{NoSuchSlot, SlotFault}
-use Rattle.bank.specs.Given.{IsFaulted}
-use Rattle.bank.specs.declared.bank.BankFault.{BankFault}
-use Rattle.sb1.specs.declared.sb.Sb.{Sb}
-use Rattle.sb1.specs.Superblock.{superblock_in}
+use Rattle.running_calls.specs.md_base_the_Refusal.{Refusal}
+use Rattle.running_calls.specs.md_base_the_Refusal_TheVariants.{NoSuchSlot, SlotFault}
+use Rattle.running_calls.specs.bank_Given.{IsFaulted}
+use Rattle.running_calls.specs.bank_the_BankFault.{BankFault}
+use Rattle.script.specs.sb1_the_Sb.{Sb}
+use Rattle.script.specs.sb1_Superblock.{superblock_in}
 use Rattle.script.specs.declared.lines.Line.{Line}
 use Rattle.script.specs.declared.lines.Line.TheVariants.{Examine}
 use Rattle.run_laws.specs.declared.report.Outside.TheVariants.{Examined, Refused}

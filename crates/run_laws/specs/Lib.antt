@@ -64,3 +64,57 @@ pub use Rattle.running_calls.specs.call_entries_Losing
 pub use Rattle.running_calls.specs.kept_history_Recorded
 pub use Rattle.running_calls.specs.views_Flushing
 pub use Rattle.running_calls.specs.assemble_Filling
+pub use Rattle.running_calls.specs.bank_Given
+pub use Rattle.running_calls.specs.bank_Tape
+pub use Rattle.running_calls.specs.bank_the_BankFault
+pub use Rattle.running_calls.specs.bank_the_Operation
+pub use Rattle.running_calls.specs.bank_the_Operation_TheVariants
+pub use Rattle.running_calls.specs.md_base_Search
+pub use Rattle.running_calls.specs.md_base_Sectors
+pub use Rattle.running_calls.specs.md_base_Shapes
+pub use Rattle.running_calls.specs.md_base_the_Fault
+pub use Rattle.running_calls.specs.md_base_the_Fault_TheVariants
+pub use Rattle.running_calls.specs.md_base_the_NoMemory
+pub use Rattle.running_calls.specs.md_base_the_Phase
+pub use Rattle.running_calls.specs.md_base_the_Refusal
+pub use Rattle.running_calls.specs.md_base_the_Refusal_TheVariants
+pub use Rattle.running_calls.specs.md_base_the_Status
+pub use Rattle.running_calls.specs.md_base_the_Who
+pub use Rattle.running_calls.specs.md_base_the_Wish
+pub use Rattle.script.specs.Script as script_Script
+pub use Rattle.script.specs.Seeds as script_Seeds
+pub use Rattle.script.specs.declared.lines.CreateLine as script_the_CreateLine
+pub use Rattle.script.specs.declared.lines.Line as script_the_Line
+pub use Rattle.script.specs.declared.lines.Line.TheVariants as script_the_Line_TheVariants
+pub use Rattle.script.specs.declared.lines.Numbered as script_the_Numbered
+pub use Rattle.script.specs.declared.reply.Lane as script_the_Lane
+pub use Rattle.script.specs.declared.reply.Lane.TheVariants as script_the_Lane_TheVariants
+pub use Rattle.script.specs.flat_history_CrashSafe
+pub use Rattle.script.specs.flat_history_Epochs
+pub use Rattle.script.specs.flat_history_Fits
+pub use Rattle.script.specs.flat_history_Flat
+pub use Rattle.script.specs.flat_history_Growing
+pub use Rattle.script.specs.flat_history_Left
+pub use Rattle.script.specs.flat_history_Legal
+pub use Rattle.script.specs.flat_history_OneShape
+pub use Rattle.script.specs.flat_history_Opened
+pub use Rattle.script.specs.flat_history_Plain
+pub use Rattle.script.specs.flat_history_Reopened
+pub use Rattle.script.specs.flat_history_Reshaped
+pub use Rattle.script.specs.flat_history_Sound
+pub use Rattle.script.specs.flat_history_Stands
+pub use Rattle.script.specs.flat_history_Transfers
+pub use Rattle.script.specs.flat_history_World
+pub use Rattle.script.specs.flat_history_the_Entry
+pub use Rattle.script.specs.flat_history_the_Epoch
+pub use Rattle.script.specs.flat_history_the_Event
+pub use Rattle.script.specs.flat_history_the_Event_TheVariants
+pub use Rattle.script.specs.flat_history_the_LostCause_TheVariants
+pub use Rattle.script.specs.flat_history_the_Request
+pub use Rattle.script.specs.flat_history_the_Request_TheVariants
+pub use Rattle.script.specs.grow_plan_Plans
+pub use Rattle.script.specs.md_base_the_Role
+pub use Rattle.script.specs.md_base_the_Role_TheVariants
+pub use Rattle.script.specs.md_base_the_Shape
+pub use Rattle.script.specs.sb1_Superblock
+pub use Rattle.script.specs.sb1_the_Sb

@@ -1,28 +1,28 @@
 -- What the bank of a run is, and what an array on it was made or found as.
 use Rattle.std.specs.Prelude.{◌≡◌, ◌⊎◌, ℕ, ◌+◌, ◌<◌, ◌≤◌, ◌==◌, if◌then◌else◌, Bool, true, false, List, [], ◌∷◌, ◌++◌, length, Option, Some, None, MatchBool, IsTrue, IsFalse}
 use Rattle.std.specs.List.{list_any}
-use Rattle.md_base.specs.declared.answers.Fault.TheVariants.{Refused as IsRefusedWith}
-use Rattle.md_base.specs.declared.answers.Refusal.{Refusal}
-use Rattle.md_base.specs.declared.status.Status.{Status}
-use Rattle.md_base.specs.declared.status.Role.TheVariants.{Whole}
-use Rattle.md_base.specs.Search.{tabulate}
-use Rattle.bank.specs.declared.bank.Operation.{Operation}
-use Rattle.bank.specs.Given.{Given, sizes}
-use Rattle.bank.specs.Tape.{Contents, contents}
+use Rattle.running_calls.specs.md_base_the_Fault_TheVariants.{Refused as IsRefusedWith}
+use Rattle.running_calls.specs.md_base_the_Refusal.{Refusal}
+use Rattle.running_calls.specs.md_base_the_Status.{Status}
+use Rattle.script.specs.md_base_the_Role_TheVariants.{Whole}
+use Rattle.running_calls.specs.md_base_Search.{tabulate}
+use Rattle.running_calls.specs.bank_the_Operation.{Operation}
+use Rattle.running_calls.specs.bank_Given.{Given, sizes}
+use Rattle.running_calls.specs.bank_Tape.{Contents, contents}
 use Rattle.running_calls.specs.superblocks_the_Members.{Members}
 use Rattle.running_calls.specs.superblocks_Reading.{Reading, shape_of, is_clean, is_reshaping, is_whole, role_count, role_state, holder}
 use Rattle.running_calls.specs.superblocks_Reads.{has_spare}
 use Rattle.running_calls.specs.row_io_Rows.{reading_of}
-use Rattle.flat_history.specs.declared.events.Entry.{Entry}
-use Rattle.flat_history.specs.declared.events.Event.{Event}
-use Rattle.flat_history.specs.declared.events.Event.TheVariants.{Added, Shown}
+use Rattle.script.specs.flat_history_the_Entry.{Entry}
+use Rattle.script.specs.flat_history_the_Event.{Event}
+use Rattle.script.specs.flat_history_the_Event_TheVariants.{Added, Shown}
 use Rattle.running_calls.specs.running_replies_Going.{may_drop}
-use Rattle.flat_history.specs.World.{World, contents_at, reading_at, opening_list}
-use Rattle.flat_history.specs.Left.{opened_roles}
-use Rattle.flat_history.specs.Reopened.{OpensAccepted}
-use Rattle.flat_history.specs.Fits.{IsStatusOf}
-use Rattle.flat_history.specs.Legal.{IsAbsentAtFirst}
-use Rattle.flat_history.specs.Plain.{entries_of}
+use Rattle.script.specs.flat_history_World.{World, contents_at, reading_at, opening_list}
+use Rattle.script.specs.flat_history_Left.{opened_roles}
+use Rattle.script.specs.flat_history_Reopened.{OpensAccepted}
+use Rattle.script.specs.flat_history_Fits.{IsStatusOf}
+use Rattle.script.specs.flat_history_Legal.{IsAbsentAtFirst}
+use Rattle.script.specs.flat_history_Plain.{entries_of}
 use Rattle.running_calls.specs.assemble_the_CreateSpec.{CreateSpec}
 use Rattle.running_calls.specs.views_Status.{left_of}
 use Rattle.running_calls.specs.array_kept_Adopting.{opener, absent_losses, found_losses, found_work}

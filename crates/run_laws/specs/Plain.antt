@@ -1,12 +1,12 @@
 -- Which replies are those of an array of one shape, and what its history tells.
 use Rattle.std.specs.Prelude.{◌≡◌, ℕ, Bool, true, false, List, IsTrue}
 use Rattle.std.specs.List.{list_any}
-use Rattle.flat_history.specs.declared.events.Entry.{Entry}
-use Rattle.flat_history.specs.declared.events.Request.{Request}
-use Rattle.flat_history.specs.declared.events.Request.TheVariants.{Visible as AsksVisible, Grow as AsksGrow}
-use Rattle.flat_history.specs.Flat.{length_of}
-use Rattle.flat_history.specs.Legal.{call_before}
-use Rattle.flat_history.specs.OneShape.{OneShapeFits}
+use Rattle.script.specs.flat_history_the_Entry.{Entry}
+use Rattle.script.specs.flat_history_the_Request.{Request}
+use Rattle.script.specs.flat_history_the_Request_TheVariants.{Visible as AsksVisible, Grow as AsksGrow}
+use Rattle.script.specs.flat_history_Flat.{length_of}
+use Rattle.script.specs.flat_history_Legal.{call_before}
+use Rattle.script.specs.flat_history_OneShape.{OneShapeFits}
 use Rattle.running_calls.specs.running_words_Plans.{turns_shape}
 use Rattle.running_calls.specs.still_laws_Plain.{MayTellPlainly, AreToldPlainly}
 use Rattle.running_calls.specs.running_replies_Replies.{MayTellBy, RunningFits}

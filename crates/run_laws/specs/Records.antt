@@ -1,23 +1,23 @@
 -- The record of the array that runs, from line to line: what each line leaves of it. No bank is asked.
 use Rattle.std.specs.Prelude.{◌≡◌, ℕ, ◌+◌, ◌≤◌, ◌++◌, true, false, List, [], ◌∷◌, slice_get, Option, None, MatchOption, IfSome, IsTrue}
 use Rattle.std.specs.List.{list_any}
-use Rattle.md_base.specs.Search.{tabulate}
-use Rattle.md_base.specs.declared.answers.Refusal.{Refusal}
-use Rattle.md_base.specs.declared.answers.Refusal.TheVariants.{SlotFault}
-use Rattle.md_base.specs.declared.status.Role.TheVariants.{Whole}
-use Rattle.md_base.specs.declared.status.Status.{Status}
-use Rattle.bank.specs.Given.{IsFaulted}
-use Rattle.grow_plan.specs.Plans.{phases}
+use Rattle.running_calls.specs.md_base_Search.{tabulate}
+use Rattle.running_calls.specs.md_base_the_Refusal.{Refusal}
+use Rattle.running_calls.specs.md_base_the_Refusal_TheVariants.{SlotFault}
+use Rattle.script.specs.md_base_the_Role_TheVariants.{Whole}
+use Rattle.running_calls.specs.md_base_the_Status.{Status}
+use Rattle.running_calls.specs.bank_Given.{IsFaulted}
+use Rattle.script.specs.grow_plan_Plans.{phases}
 use Rattle.running_calls.specs.superblocks_the_Members.{Members}
 use Rattle.running_calls.specs.superblocks_Reading.{is_reshaping, shape_of, final_shape, list_length}
 use Rattle.running_calls.specs.superblocks_Reads.{has_spare}
 use Rattle.running_calls.specs.row_io_Rows.{reading_of}
-use Rattle.flat_history.specs.declared.events.Entry.{Entry}
-use Rattle.flat_history.specs.declared.events.Event.{Event}
-use Rattle.flat_history.specs.declared.events.Event.TheVariants.{Failed, Added, Visible, Planned, Refused}
-use Rattle.flat_history.specs.Flat.{length_of, limit_of}
-use Rattle.flat_history.specs.Legal.{told_left}
-use Rattle.flat_history.specs.Reshaped.{is_planned}
+use Rattle.script.specs.flat_history_the_Entry.{Entry}
+use Rattle.script.specs.flat_history_the_Event.{Event}
+use Rattle.script.specs.flat_history_the_Event_TheVariants.{Failed, Added, Visible, Planned, Refused}
+use Rattle.script.specs.flat_history_Flat.{length_of, limit_of}
+use Rattle.script.specs.flat_history_Legal.{told_left}
+use Rattle.script.specs.flat_history_Reshaped.{is_planned}
 use Rattle.running_calls.specs.views_Lacking.{AreTooMany, HaveRolesFailed}
 use Rattle.running_calls.specs.views_Placed.{AreStillHeld, is_vacant}
 use Rattle.running_calls.specs.grow_asked_Left.{phases_of}

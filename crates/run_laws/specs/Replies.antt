@@ -1,21 +1,21 @@
 -- The replies to the lines of a script, over the histories of its arrays.
 use Rattle.std.specs.Prelude.{◌≡◌, ◌⊎◌, ℕ, ◌+◌, ◌*◌, ◌^◌, ◌≤◌, Bool, true, false, if◌then◌else◌, nat_lt, List, [], ◌∷◌, length, drop, take, slice_get, Option, Some, None, MatchOption, IfSome, IsTrue, IsFalse, ⊤}
 use Rattle.std.specs.Option.{option_map_or}
-use Rattle.md_base.specs.declared.answers.Refusal.{Refusal}
-use Rattle.md_base.specs.declared.answers.Refusal.TheVariants.{Running, NotRunning}
-use Rattle.md_base.specs.declared.status.Status.{Status}
-use Rattle.md_base.specs.Shapes.{data_disks, has_slot}
+use Rattle.running_calls.specs.md_base_the_Refusal.{Refusal}
+use Rattle.running_calls.specs.md_base_the_Refusal_TheVariants.{Running, NotRunning}
+use Rattle.running_calls.specs.md_base_the_Status.{Status}
+use Rattle.running_calls.specs.md_base_Shapes.{data_disks, has_slot}
 use Rattle.running_calls.specs.assemble_the_CreateSpec.{CreateSpec}
 use Rattle.script.specs.declared.lines.CreateLine.{CreateLine}
-use Rattle.flat_history.specs.declared.events.Entry.{Entry}
-use Rattle.flat_history.specs.declared.events.Event.{Event}
-use Rattle.flat_history.specs.declared.events.Event.TheVariants.{Stepped}
-use Rattle.flat_history.specs.declared.events.Request.TheVariants.{Read as AsksRead, Write as AsksWrite, Flush as AsksFlush, Fail as AsksFail, Add as AsksAdd, Visible as AsksVisible, Grow as AsksGrow, Steps as AsksSteps}
-use Rattle.flat_history.specs.Flat.{rest_of_call, number_after, length_of}
-use Rattle.flat_history.specs.Fits.{FitsStop, FitsHalt}
+use Rattle.script.specs.flat_history_the_Entry.{Entry}
+use Rattle.script.specs.flat_history_the_Event.{Event}
+use Rattle.script.specs.flat_history_the_Event_TheVariants.{Stepped}
+use Rattle.script.specs.flat_history_the_Request_TheVariants.{Read as AsksRead, Write as AsksWrite, Flush as AsksFlush, Fail as AsksFail, Add as AsksAdd, Visible as AsksVisible, Grow as AsksGrow, Steps as AsksSteps}
+use Rattle.script.specs.flat_history_Flat.{rest_of_call, number_after, length_of}
+use Rattle.script.specs.flat_history_Fits.{FitsStop, FitsHalt}
 use Rattle.running_calls.specs.running_replies_Replies.{RunningFits}
-use Rattle.flat_history.specs.World.{opening_list}
-use Rattle.flat_history.specs.Opened.{OpensSound}
+use Rattle.script.specs.flat_history_World.{opening_list}
+use Rattle.script.specs.flat_history_Opened.{OpensSound}
 use Rattle.running_calls.specs.assemble_Creating.{create_refusal}
 use Rattle.running_calls.specs.assemble_Opening.{AreGiven, array_of, scope_of}
 use Rattle.running_calls.specs.assemble_Made.{used_slot}

@@ -1,17 +1,17 @@
 -- What the records of a run rule out.
 use Rattle.std.specs.Prelude.{◌≡◌, ◌≢◌, ℕ, ◌<◌, ◌≤◌, true, false, Option, Some, ⊤}
 use Rattle.std.specs.List.{list_any}
-use Rattle.md_base.specs.declared.answers.Refusal.{Refusal}
-use Rattle.md_base.specs.declared.answers.Refusal.TheVariants.{SlotTaken, SlotFault}
-use Rattle.md_base.specs.declared.wishes.Wish.{Wish}
-use Rattle.bank.specs.Given.{Given}
-use Rattle.grow_plan.specs.Plans.{target}
+use Rattle.running_calls.specs.md_base_the_Refusal.{Refusal}
+use Rattle.running_calls.specs.md_base_the_Refusal_TheVariants.{SlotTaken, SlotFault}
+use Rattle.running_calls.specs.md_base_the_Wish.{Wish}
+use Rattle.running_calls.specs.bank_Given.{Given}
+use Rattle.script.specs.grow_plan_Plans.{target}
 use Rattle.running_calls.specs.superblocks_Reading.{shape_of}
 use Rattle.running_calls.specs.superblocks_Reads.{has_spare}
-use Rattle.flat_history.specs.declared.events.Event.{Event}
-use Rattle.flat_history.specs.declared.events.Event.TheVariants.{Planned, Refused}
-use Rattle.flat_history.specs.Legal.{told_left}
-use Rattle.flat_history.specs.Reshaped.{is_planned}
+use Rattle.script.specs.flat_history_the_Event.{Event}
+use Rattle.script.specs.flat_history_the_Event_TheVariants.{Planned, Refused}
+use Rattle.script.specs.flat_history_Legal.{told_left}
+use Rattle.script.specs.flat_history_Reshaped.{is_planned}
 use Rattle.running_calls.specs.Going.{is_added}
 use Rattle.running_calls.specs.array_kept_Calls.{IsTaken}
 use Rattle.running_calls.specs.running_Calls.{running_left}

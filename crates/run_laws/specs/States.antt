@@ -1,16 +1,16 @@
 -- The bank of a run with or without an array on it, and what a line does to it.
 use Rattle.std.specs.Prelude.{◌≡◌, ◌⊎◌, ℕ, ◌+◌, ◌<◌, ◌≤◌, ◌^◌, ◌++◌, Bool, true, List, [], ◌∷◌, length, take, slice_get, vec_capacity, Option, Some, None, MatchOption, Result, Ok, Err, IfSome, IsSome, IsTrue, ⊤}
 use Rattle.std.specs.List.{All}
-use Rattle.md_base.specs.declared.answers.NoMemory.{NoMemory}
-use Rattle.md_base.specs.declared.answers.Refusal.{Refusal}
-use Rattle.md_base.specs.declared.wishes.Phase.{Phase}
-use Rattle.bank.specs.Given.{Given, IsFaulted}
-use Rattle.flat_history.specs.declared.events.Entry.{Entry}
-use Rattle.flat_history.specs.declared.events.Event.{Event}
-use Rattle.flat_history.specs.declared.events.Event.TheVariants.{Lost, SpareLost, Stepped, Refused}
-use Rattle.flat_history.specs.declared.events.LostCause.{LostCause}
-use Rattle.flat_history.specs.declared.events.LostCause.TheVariants.{Absent, Recovering, Command, Fault}
-use Rattle.flat_history.specs.Flat.{rest_of_call, next_number, length_of}
+use Rattle.running_calls.specs.md_base_the_NoMemory.{NoMemory}
+use Rattle.running_calls.specs.md_base_the_Refusal.{Refusal}
+use Rattle.running_calls.specs.md_base_the_Phase.{Phase}
+use Rattle.running_calls.specs.bank_Given.{Given, IsFaulted}
+use Rattle.script.specs.flat_history_the_Entry.{Entry}
+use Rattle.script.specs.flat_history_the_Event.{Event}
+use Rattle.script.specs.flat_history_the_Event_TheVariants.{Lost, SpareLost, Stepped, Refused}
+use Rattle.script.specs.flat_history_the_LostCause.{LostCause}
+use Rattle.script.specs.flat_history_the_LostCause_TheVariants.{Absent, Recovering, Command, Fault}
+use Rattle.script.specs.flat_history_Flat.{rest_of_call, next_number, length_of}
 use Rattle.running_calls.specs.views_Parts.{Parts}
 use Rattle.running_calls.specs.superblocks_Reading.{is_reshaping, list_length}
 use Rattle.running_calls.specs.grow_asked_Left.{phases_of}

@@ -1,11 +1,11 @@
 -- Where the writes of a run stand on its tape.
 use Rattle.std.specs.Prelude.{◌≡◌, ◌⊎◌, ℕ, ◌<◌, ◌≤◌, List, [], ◌∷◌, slice_get, Option, Some, None, Result, Ok, Err, ⊤}
-use Rattle.md_base.specs.Sectors.{Sector}
-use Rattle.md_base.specs.declared.answers.NoMemory.{NoMemory}
-use Rattle.md_base.specs.declared.answers.Refusal.TheVariants.{SlotFault}
-use Rattle.bank.specs.Given.{Given}
-use Rattle.bank.specs.declared.bank.Operation.TheVariants.{Write}
-use Rattle.flat_history.specs.Transfers.{last_end_from}
+use Rattle.running_calls.specs.md_base_Sectors.{Sector}
+use Rattle.running_calls.specs.md_base_the_NoMemory.{NoMemory}
+use Rattle.running_calls.specs.md_base_the_Refusal_TheVariants.{SlotFault}
+use Rattle.running_calls.specs.bank_Given.{Given}
+use Rattle.running_calls.specs.bank_the_Operation_TheVariants.{Write}
+use Rattle.script.specs.flat_history_Transfers.{last_end_from}
 use Rattle.running_calls.specs.assemble_Creating.{create_refusal}
 use Rattle.script.specs.declared.lines.Line.{Line}
 use Rattle.script.specs.declared.lines.Line.TheVariants.{Create}

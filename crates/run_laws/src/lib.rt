@@ -8,7 +8,9 @@ mod states;
 
 pub use report::{Answered, LineReply, Outside};
 pub use running_calls::{
-    CreateSpec, Running, add, create_array, examine, fail, flush, halt, open_running, plan_grow,
-    read, set_visible, status, steps, stop, write,
+    Bank, BankFault, CreateSpec, Fault, NoMemory, Refusal, Running, Who, Wish, add, create_array,
+    examine, fail, flush, halt, open_running, plan_grow, read, read_superblock, set_visible,
+    status, steps, stop, write,
 };
+pub use script::{CreateLine, Entry, Epoch, Event, Line, Sb, seed_sectors};
 pub use states::State;

@@ -1,8 +1,7 @@
 //! The replies to the lines of a script.
 
-use md_base::{Refusal, Status};
-use sb1::Sb;
-use script::Lane;
+use running_calls::Refusal;
+use script::{Lane, Sb, Status};
 
 /// A reply that no history holds: an array was made or found, a slot's superblock was looked at, or the line was refused.
 #[derive(Drop)]

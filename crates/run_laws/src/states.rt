@@ -1,8 +1,7 @@
 //! The bank of a run, with or without an array on it.
 
-use bank::Bank;
-use flat_history::Epoch;
-use running_calls::Running;
+use running_calls::{Bank, Running};
+use script::Epoch;
 
 /// The bank where no array runs, or the array, and the epochs of the arrays that ran before.
 #[derive(Drop)]

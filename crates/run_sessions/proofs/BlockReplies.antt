@@ -5,13 +5,13 @@ use Rattle.std.proofs.Math.ListN.{get_or}
 use Rattle.std.proofs.Math.Seq.{take-append_seam, take-append-add, drop-append_seam, get_or-append_seam, get_or-append-add}
 use Rattle.std.specs.Prelude.{if◌then◌else◌, IsTrue, IsFalse}
 use Rattle.std.specs.List.{All, AllPass}
-use Rattle.flat_history.specs.declared.events.Entry.{Entry}
-use Rattle.script.specs.Script.{is_of_worker, is_within_limits, may_ask, may_follow, are_in_turn}
-use Rattle.script.specs.declared.lines.Line.{Line}
-use Rattle.script.specs.declared.lines.Line.TheVariants.{Create}
-use Rattle.script.specs.declared.lines.Numbered.{Numbered}
-use Rattle.script.specs.declared.reply.Lane.{Lane}
-use Rattle.script.specs.declared.reply.Lane.TheVariants.{Script as InScript, A as InA, B as InB, Worker as InWorker}
+use Rattle.block_answers.specs.flat_history_the_Entry.{Entry}
+use Rattle.block_answers.specs.script_Script.{is_of_worker, is_within_limits, may_ask, may_follow, are_in_turn}
+use Rattle.block_answers.specs.script_the_Line.{Line}
+use Rattle.block_answers.specs.script_the_Line_TheVariants.{Create}
+use Rattle.block_answers.specs.script_the_Numbered.{Numbered}
+use Rattle.block_answers.specs.script_the_Lane.{Lane}
+use Rattle.block_answers.specs.script_the_Lane_TheVariants.{Script as InScript, A as InA, B as InB, Worker as InWorker}
 use Rattle.block_answers.specs.run_laws_the_Answered.{Answered}
 use Rattle.block_answers.specs.run_laws_the_Answered_TheVariants.{Inside, Outside as IsOutside}
 use Rattle.block_answers.specs.run_laws_the_LineReply.{LineReply}

@@ -1,14 +1,14 @@
 -- The reply to one line.
 use Rattle.std.proofs.Common.{◌≡◌, Bool, length, sym, ◌∙◌, ap, subst, Result, Ok}
 use Rattle.std.specs.Prelude.{IsTrue}
-use Rattle.md_base.specs.declared.answers.NoMemory.{NoMemory}
-use Rattle.script.specs.declared.lines.Line.{Line}
+use Rattle.block_answers.specs.md_base_the_NoMemory.{NoMemory}
+use Rattle.block_answers.specs.script_the_Line.{Line}
 use Rattle.block_answers.specs.run_laws_the_Answered.{Answered}
 use Rattle.block_answers.specs.run_laws_the_State.{State}
 use Rattle.block_answers.specs.run_laws_Making.{Setting}
 use Rattle.block_answers.specs.run_laws_Replies.{IsEnd}
-use Rattle.script.specs.Script.{is_within_limits}
-use Rattle.script.specs.declared.lines.Numbered.{Numbered}
+use Rattle.block_answers.specs.script_Script.{is_within_limits}
+use Rattle.block_answers.specs.script_the_Numbered.{Numbered}
 use Rattle.block_answers.specs.run_laws_the_LineReply.{LineReply}
 use Rattle.run_sessions.specs.Sessions.{IsEndNow, IsReplied}
 use Rattle.block_answers.specs.run_laws_States.{histories_in, course_in, IsNamed, IsTurn, IsTurnOrNone}

@@ -4,7 +4,7 @@ use Rattle.std.proofs.Math.ListN.{get_or}
 use Rattle.std.proofs.Math.Seq.{take-append-add}
 use Rattle.std.proofs.lemmas.List.{take_at}
 use Rattle.std.specs.Prelude.{is_some}
-use Rattle.script.specs.declared.lines.Numbered.{Numbered}
+use Rattle.block_answers.specs.script_the_Numbered.{Numbered}
 use Rattle.block_answers.specs.run_laws_the_Answered.{Answered}
 use Rattle.block_answers.specs.run_laws_the_LineReply.{LineReply}
 use Rattle.block_answers.specs.run_laws_Histories.{History}

@@ -9,15 +9,15 @@ use Rattle.std.proofs.lemmas.List.{take_at, length-take-le}
 use Rattle.std.proofs.Math.Seq.{drop-cons, take-suc, take-append-add, take-take, take-add, drop-drop, get_or-take}
 use Rattle.std.proofs.Math.ListN.{get_or}
 use Rattle.std.specs.Prelude.{MatchOption}
-use Rattle.bank.specs.Given.{Given, NeverFalls}
-use Rattle.bank.specs.declared.bank.Operation.{Operation}
+use Rattle.block_answers.specs.bank_Given.{Given, NeverFalls}
+use Rattle.block_answers.specs.bank_the_Operation.{Operation}
 use Rattle.block_answers.specs.views_Moving.{Grows}
-use Rattle.flat_history.specs.declared.events.Entry.{Entry}
+use Rattle.block_answers.specs.flat_history_the_Entry.{Entry}
 use Rattle.text_io.specs.Causes.{HasRisen}
-use Rattle.flat_history.specs.declared.events.Epoch.{Epoch}
-use Rattle.script.specs.declared.lines.Numbered.{Numbered}
-use Rattle.script.specs.declared.reply.Lane.{Lane}
-use Rattle.script.specs.declared.reply.Lane.TheVariants.{Script as InScript, A as InA, B as InB, Worker as InWorker}
+use Rattle.block_answers.specs.flat_history_the_Epoch.{Epoch}
+use Rattle.block_answers.specs.script_the_Numbered.{Numbered}
+use Rattle.block_answers.specs.script_the_Lane.{Lane}
+use Rattle.block_answers.specs.script_the_Lane_TheVariants.{Script as InScript, A as InA, B as InB, Worker as InWorker}
 use Rattle.block_answers.specs.run_laws_the_Answered.{Answered}
 use Rattle.block_answers.specs.run_laws_the_Answered_TheVariants.{Inside, Outside as IsOutside}
 use Rattle.block_answers.specs.run_laws_the_LineReply.{LineReply}

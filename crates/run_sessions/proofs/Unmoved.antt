@@ -1,9 +1,9 @@
 use Rattle.std.proofs.Common.{◌≡◌, ℕ, List, Option, [], sym, subst, ◌∙◌}
 use Rattle.std.proofs.lemmas.List.Elements.{All-nil}
 use Rattle.std.proofs.lemmas.List.{append-nil}
-use Rattle.bank.specs.Given.{Given}
-use Rattle.bank.specs.declared.bank.Operation.{Operation}
-use Rattle.flat_history.specs.declared.events.Epoch.{Epoch}
+use Rattle.block_answers.specs.bank_Given.{Given}
+use Rattle.block_answers.specs.bank_the_Operation.{Operation}
+use Rattle.block_answers.specs.flat_history_the_Epoch.{Epoch}
 use Rattle.block_answers.specs.run_laws_Ended.{IsLegalEpoch, IsSafeEpoch, AreFormer}
 use Rattle.block_answers.specs.views_Moving.{Grows}
 

@@ -4,17 +4,17 @@ use Rattle.std.proofs.lemmas.Bool.{cases_lt}
 use Rattle.std.proofs.lemmas.Option.{slice_get_within}
 use Rattle.std.proofs.Math.ListN.{get_or}
 use Rattle.std.specs.Prelude.{slice_get}
-use Rattle.md_base.specs.Sectors.{Sector}
-use Rattle.bank.specs.Given.{Given}
-use Rattle.bank.specs.Tape.{AreFlushes}
-use Rattle.bank.specs.declared.bank.Operation.{Operation}
-use Rattle.bank.specs.declared.bank.Operation.TheVariants.{Write, Flush}
-use Rattle.flat_history.specs.declared.events.Epoch.{Epoch}
-use Rattle.flat_history.specs.Transfers.{last_end_from}
-use Rattle.script.specs.declared.lines.Line.{Line}
-use Rattle.script.specs.declared.lines.Numbered.{Numbered}
-use Rattle.script.specs.declared.reply.Lane.{Lane}
-use Rattle.script.specs.declared.reply.Lane.TheVariants.{Script as InScript, A as InA, B as InB, Worker as InWorker}
+use Rattle.block_answers.specs.md_base_Sectors.{Sector}
+use Rattle.block_answers.specs.bank_Given.{Given}
+use Rattle.block_answers.specs.bank_Tape.{AreFlushes}
+use Rattle.block_answers.specs.bank_the_Operation.{Operation}
+use Rattle.block_answers.specs.bank_the_Operation_TheVariants.{Write, Flush}
+use Rattle.block_answers.specs.flat_history_the_Epoch.{Epoch}
+use Rattle.block_answers.specs.flat_history_Transfers.{last_end_from}
+use Rattle.block_answers.specs.script_the_Line.{Line}
+use Rattle.block_answers.specs.script_the_Numbered.{Numbered}
+use Rattle.block_answers.specs.script_the_Lane.{Lane}
+use Rattle.block_answers.specs.script_the_Lane_TheVariants.{Script as InScript, A as InA, B as InB, Worker as InWorker}
 use Rattle.block_answers.specs.run_laws_the_Answered.{Answered}
 use Rattle.block_answers.specs.run_laws_the_Answered_TheVariants.{Inside, Outside as IsOutside}
 use Rattle.block_answers.specs.run_laws_the_LineReply.{LineReply}

@@ -21,3 +21,4 @@ pub use Rattle.block_answers.specs.run_laws_Asked
 pub use Rattle.block_answers.specs.history_calls_Reliable
 pub use Rattle.block_answers.specs.running_words_Plans
 pub use Rattle.block_answers.specs.still_laws_Plain
+pub use Rattle.text_io.specs.Causes as text_io_Causes

@@ -1,12 +1,12 @@
 -- The lines of a script performed one after another, and what was shown of it.
 use Rattle.std.specs.Prelude.{◌≡◌, ◌≢◌, ◌⊎◌, ℕ, ◌+◌, ◌-◌, ◌^◌, ◌<◌, ◌≤◌, ◌||◌, Bool, true, false, if◌then◌else◌, List, [], ◌∷◌, ◌++◌, length, take, drop, min, Option, Some, None, Result, Ok, Err, ⊤}
 use Rattle.std.specs.List.{All}
-use Rattle.md_base.specs.declared.answers.NoMemory.{NoMemory}
-use Rattle.script.specs.declared.lines.Line.{Line}
-use Rattle.script.specs.declared.lines.Numbered.{Numbered}
-use Rattle.script.specs.declared.reply.Lane.{Lane}
-use Rattle.script.specs.declared.reply.Lane.TheVariants.{Script as InScript, A as InA, B as InB, Worker as InWorker}
-use Rattle.script.specs.Script.{is_of_worker}
+use Rattle.block_answers.specs.md_base_the_NoMemory.{NoMemory}
+use Rattle.block_answers.specs.script_the_Line.{Line}
+use Rattle.block_answers.specs.script_the_Numbered.{Numbered}
+use Rattle.block_answers.specs.script_the_Lane.{Lane}
+use Rattle.block_answers.specs.script_the_Lane_TheVariants.{Script as InScript, A as InA, B as InB, Worker as InWorker}
+use Rattle.block_answers.specs.script_Script.{is_of_worker}
 use Rattle.text_io.specs.Causes.{HasRisen}
 use Rattle.block_answers.specs.run_laws_the_Answered.{Answered}
 use Rattle.block_answers.specs.run_laws_the_Answered_TheVariants.{Inside, Outside as IsOutside}

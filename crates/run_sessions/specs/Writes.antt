@@ -1,12 +1,12 @@
 -- Where the writes of a run stand on its tape.
 use Rattle.std.specs.Prelude.{◌≡◌, ◌⊎◌, ℕ, ◌<◌, ◌≤◌, List, [], ◌∷◌, slice_get, Option, Some, ⊤}
-use Rattle.md_base.specs.Sectors.{Sector}
-use Rattle.bank.specs.Given.{Given}
-use Rattle.bank.specs.Tape.{OnlyFlushesBetween}
-use Rattle.bank.specs.declared.bank.Operation.TheVariants.{Write}
-use Rattle.flat_history.specs.declared.events.Epoch.{Epoch}
-use Rattle.flat_history.specs.Transfers.{last_end_from}
-use Rattle.script.specs.declared.lines.Numbered.{Numbered}
+use Rattle.block_answers.specs.md_base_Sectors.{Sector}
+use Rattle.block_answers.specs.bank_Given.{Given}
+use Rattle.block_answers.specs.bank_Tape.{OnlyFlushesBetween}
+use Rattle.block_answers.specs.bank_the_Operation_TheVariants.{Write}
+use Rattle.block_answers.specs.flat_history_the_Epoch.{Epoch}
+use Rattle.block_answers.specs.flat_history_Transfers.{last_end_from}
+use Rattle.block_answers.specs.script_the_Numbered.{Numbered}
 use Rattle.block_answers.specs.run_laws_the_LineReply.{LineReply}
 use Rattle.run_sessions.specs.declared.sessions.Stop.{Stop}
 use Rattle.run_sessions.specs.declared.sessions.Stop.TheVariants.{NoMemory as WantsMemory}

@@ -2,9 +2,9 @@
 
 ghost use Rattle.std.specs.Prelude.{◌≡◌, ◌+◌, ◌<◌, ◌≤◌, length, vec_capacity};
 ghost use Rattle.std.specs.List.{All, AllPass};
-ghost use Rattle.bank.specs.Given.{NeverFalls};
+ghost use Rattle.block_answers.specs.bank_Given.{NeverFalls};
 ghost use Rattle.block_answers.specs.views_Moving.{Grows};
-ghost use Rattle.script.specs.Script.{is_within_limits, may_ask};
+ghost use Rattle.block_answers.specs.script_Script.{is_within_limits, may_ask};
 ghost use Rattle.block_answers.specs.lanes_Pace.{AnswersSteps, asked_by};
 ghost use Rattle.block_answers.specs.run_laws_Ended.{IsRunKept};
 ghost use Rattle.block_answers.specs.run_laws_Making.{setting_of};
@@ -13,9 +13,9 @@ ghost use Rattle.block_answers.specs.Shown.{longest_reply, IsAnswerShort};
 ghost use Rattle.run_sessions.specs.Sessions.{block_length, front_length, IsBlock, IsOneShown, AreAllShown, IsBlockStep, IsStopCause};
 
 use crate::sessions::{Session, Stop, reply_of};
-use bank::Bank;
-use block_answers::{Answered, Pace, answer_block, is_answer_refused, put_text};
-use script::{Lane, Numbered};
+use block_answers::{
+    Answered, Bank, Lane, Numbered, Pace, answer_block, is_answer_refused, put_text,
+};
 use std::alloc::Global;
 use std::sync::Wait;
 use std::thread::Threads;

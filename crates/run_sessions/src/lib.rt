@@ -6,3 +6,4 @@ mod sessions;
 
 pub use block_answers::{LineReply, Pace, State, halt, script_call};
 pub use sessions::{Made, Session, Stop, perform};
+pub use text_io::{Sink, Source};

@@ -2,9 +2,9 @@
 
 ghost use Rattle.std.specs.Prelude.{◌≡◌, ◌≤◌, length, take, drop, vec_capacity, None, IsTrue};
 ghost use Rattle.std.specs.List.{AllPass};
-ghost use Rattle.bank.specs.Given.{NeverFalls};
+ghost use Rattle.block_answers.specs.bank_Given.{NeverFalls};
 ghost use Rattle.block_answers.specs.views_Moving.{Grows};
-ghost use Rattle.script.specs.Script.{is_within_limits, may_ask, are_in_turn};
+ghost use Rattle.block_answers.specs.script_Script.{is_within_limits, may_ask, are_in_turn};
 ghost use Rattle.block_answers.specs.lanes_Pace.{AnswersSteps, asked_by};
 ghost use Rattle.block_answers.specs.Shown.{longest_reply};
 ghost use Rattle.block_answers.specs.run_laws_States.{histories_in, bank_in, RunsOwn, IsFitBank, IsNamed};
@@ -12,15 +12,13 @@ ghost use Rattle.run_sessions.specs.Sessions.{IsEndNow, IsRepliedOrNot, IsStep, 
 ghost use Rattle.block_answers.specs.run_laws_Ended.{IsRunKept};
 ghost use Rattle.block_answers.specs.run_laws_Making.{setting_of};
 ghost use Rattle.block_answers.specs.run_laws_Replies.{IsEnd};
-ghost use Rattle.script.specs.declared.reply.Lane.TheVariants.{Script as InScript};
+ghost use Rattle.block_answers.specs.script_the_Lane_TheVariants.{Script as InScript};
 
 use crate::blocks::{block_length, perform_block};
-use bank::Bank;
 use block_answers::{
-    Answered, LineReply, Pace, State, answer, entry_of, is_answer_refused, put_text,
+    Answered, Bank, Lane, LineReply, NoMemory, Numbered, Pace, State, answer, entry_of,
+    is_answer_refused, put_text,
 };
-use md_base::NoMemory;
-use script::{Lane, Numbered};
 use std::alloc::Global;
 use std::sync::Wait;
 use std::thread::Threads;

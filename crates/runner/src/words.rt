@@ -1,9 +1,9 @@
 //! A whole run, from the words of the command.
 
 ghost use Rattle.std.specs.Prelude.{◌≡◌, ◌⊎◌, ◌<◌, ◌≤◌, ◌+◌, ◌-◌, true, length, map, string_bytes, Option, Some, None, Ok, IfSome};
-ghost use Rattle.bank.specs.Given.{NeverFalls};
+ghost use Rattle.script_runs.specs.bank_Given.{NeverFalls};
 ghost use Rattle.script_runs.specs.views_Moving.{Grows};
-ghost use Rattle.text_io.specs.Causes.{HasRisen};
+ghost use Rattle.script_runs.specs.text_io_Causes.{HasRisen};
 ghost use Rattle.command_words.specs.Words.{asked_by as asked_of, command_in, is_parsed, slots_for, backup_in, demo_for, demo_in, IsDemoSize};
 ghost use Rattle.script_runs.specs.lanes_Pace.{AnswersSteps, asked_by};
 ghost use Rattle.script_runs.specs.run_laws_Ended.{AreLegal, AreRight};
@@ -12,13 +12,11 @@ ghost use Rattle.script_runs.specs.run_laws_Making.{setting_of};
 ghost use Rattle.script_runs.specs.Runs.{IsAfterLines, IsBeforeLines, IsNothing, sunk_of, IsScriptPerformed, IsScriptBad, AreLossesFailed, AreEndedAt};
 ghost use Rattle.script_runs.specs.run_laws_States.{IsFitBank};
 
-use bank::Bank;
 use command_words::{Command, command_of};
-use script_runs::{Pace, Report, nothing_done, run_script};
+use script_runs::{Bank, Pace, Report, Sink, Source, nothing_done, run_script};
 use std::alloc::Global;
 use std::sync::Wait;
 use std::thread::Threads;
-use text_io::{Sink, Source};
 
 const BAD_WORDS: u8 = 2;
 

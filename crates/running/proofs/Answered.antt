@@ -1,26 +1,26 @@
 -- The answer to a request for steps, by the state, and what is next to do.
 use Rattle.std.proofs.Common.{◌≡◌, ◌≢◌, inl, inr, ℕ, ◌<◌, Bool, true, false, cond, Option, Some, None, List, [], ◌∷◌, refl, sym, ◌∙◌, ap, subst, arith}
 use Rattle.std.specs.Prelude.{MatchBool, MatchOption, ⊤}
-use Rattle.md_base.specs.declared.answers.Refusal.{Refusal}
-use Rattle.md_base.specs.declared.answers.Refusal.TheVariants.{Nothing}
-use Rattle.md_base.specs.declared.answers.Who.{Who}
-use Rattle.md_base.specs.declared.places.Shape.{Shape}
-use Rattle.md_base.specs.declared.wishes.Phase.{Phase}
-use Rattle.md_base.specs.declared.wishes.Phase.TheVariants.{Reshape, UpTo6, DownTo5}
-use Rattle.grow_plan.specs.Plans.{phases_steps}
-use Rattle.bank.specs.declared.bank.Operation.{Operation}
-use Rattle.bank.specs.Given.{Given}
-use Rattle.superblocks.specs.declared.members.Members.{Members}
-use Rattle.superblocks.specs.Reading.{is_reshaping, shape_of}
-use Rattle.superblocks.specs.Reads.{has_spare}
-use Rattle.flat_history.specs.declared.events.Event.{Event}
-use Rattle.flat_history.specs.declared.events.Event.TheVariants.{Refused, Stepped}
-use Rattle.flat_history.specs.Plain.{entries_of}
+use Rattle.growing.specs.md_base_the_Refusal.{Refusal}
+use Rattle.growing.specs.md_base_the_Refusal_TheVariants.{Nothing}
+use Rattle.growing.specs.md_base_the_Who.{Who}
+use Rattle.growing.specs.md_base_the_Shape.{Shape}
+use Rattle.growing.specs.md_base_the_Phase.{Phase}
+use Rattle.growing.specs.md_base_the_Phase_TheVariants.{Reshape, UpTo6, DownTo5}
+use Rattle.takeover.specs.grow_plan_Plans.{phases_steps}
+use Rattle.growing.specs.bank_the_Operation.{Operation}
+use Rattle.growing.specs.bank_Given.{Given}
+use Rattle.takeover.specs.superblocks_the_Members.{Members}
+use Rattle.takeover.specs.superblocks_Reading.{is_reshaping, shape_of}
+use Rattle.takeover.specs.superblocks_Reads.{has_spare}
+use Rattle.takeover.specs.flat_history_the_Event.{Event}
+use Rattle.takeover.specs.flat_history_the_Event_TheVariants.{Refused, Stepped}
+use Rattle.takeover.specs.flat_history_Plain.{entries_of}
 use Rattle.growing.specs.views_Rebuilding.{Held}
 use Rattle.growing.specs.views_Status.{left_of}
 use Rattle.growing.specs.views_the_Work.{Work}
-use Rattle.grow_asked.specs.declared.window.PhasesLeft.{PhasesLeft}
-use Rattle.grow_asked.specs.Left.{phases_of}
+use Rattle.takeover.specs.grow_asked_the_PhasesLeft.{PhasesLeft}
+use Rattle.takeover.specs.grow_asked_Left.{phases_of}
 use Rattle.growing.proofs.Idle.{some-steps}
 use Rattle.growing.specs.running_words_Parts.{RunningParts, left_in, still_left}
 use Rattle.growing.specs.running_words_Calls.{IsCalled}

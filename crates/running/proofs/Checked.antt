@@ -3,11 +3,11 @@ use Rattle.std.proofs.Common.{◌≡◌, ◌≢◌, ℕ, zero, suc, ◌<◌, ◌
 use Rattle.std.specs.List.{list_any}
 use Rattle.std.specs.Prelude.{IfSome}
 use Rattle.std.proofs.lemmas.Bool.Decides.{nat_tests}
-use Rattle.bank.specs.Given.{Given}
-use Rattle.superblocks.specs.declared.members.Members.{Members}
-use Rattle.superblocks.specs.Reading.{Scope}
-use Rattle.superblocks.specs.Reads.{has_spare}
-use Rattle.superblocks.specs.Update.{is_held_by}
+use Rattle.growing.specs.bank_Given.{Given}
+use Rattle.takeover.specs.superblocks_the_Members.{Members}
+use Rattle.takeover.specs.superblocks_Reading.{Scope}
+use Rattle.takeover.specs.superblocks_Reads.{has_spare}
+use Rattle.takeover.specs.superblocks_Update.{is_held_by}
 use Rattle.growing.proofs.shape_views_Headers.{backup-is}
 use Rattle.growing.proofs.shape_changes_Without.{live-is}
 use Rattle.growing.specs.views_Rebuilding.{Held}

@@ -1,23 +1,23 @@
 -- What one of the two states says is what the words of both say.
 use Rattle.std.proofs.Common.{◌≡◌, ℕ, ◌+◌, inl, inr, Bool, true, false, List, [], ◌∷◌, ◌++◌, MatchBool, Result, Ok, Err, OnOk, OnErr, All, refl, sym, ap, subst, length, arith}
 use Rattle.std.proofs.lemmas.List.Elements.{All-nil, All-cons, All-head, All-tail}
-use Rattle.md_base.specs.Sectors.{Sector}
-use Rattle.md_base.specs.declared.answers.Fault.{Fault}
-use Rattle.md_base.specs.declared.answers.Fault.TheVariants.{Refused as IsRefusedWith, NoMemory}
-use Rattle.md_base.specs.declared.answers.Refusal.TheVariants.{BackupFault}
-use Rattle.md_base.specs.declared.answers.Who.{Who}
-use Rattle.md_base.specs.declared.places.Shape.{Shape}
-use Rattle.bank.specs.declared.bank.Operation.{Operation}
-use Rattle.superblocks.specs.declared.members.Members.{Members}
-use Rattle.superblocks.specs.Reading.{is_reshaping, shape_of}
-use Rattle.flat_history.specs.declared.events.Entry.{Entry}
-use Rattle.flat_history.specs.declared.events.Event.{Event}
-use Rattle.flat_history.specs.declared.events.Event.TheVariants.{Wrote, Refused}
-use Rattle.flat_history.specs.declared.events.Request.{Request}
-use Rattle.flat_history.specs.declared.events.Request.TheVariants.{Write as AsksWrite}
-use Rattle.flat_history.specs.Growing.{EndBy}
-use Rattle.flat_history.specs.OneShape.{IsOfCall}
-use Rattle.flat_history.specs.Plain.{entries_of}
+use Rattle.growing.specs.md_base_Sectors.{Sector}
+use Rattle.growing.specs.md_base_the_Fault.{Fault}
+use Rattle.growing.specs.md_base_the_Fault_TheVariants.{Refused as IsRefusedWith, NoMemory}
+use Rattle.growing.specs.md_base_the_Refusal_TheVariants.{BackupFault}
+use Rattle.growing.specs.md_base_the_Who.{Who}
+use Rattle.growing.specs.md_base_the_Shape.{Shape}
+use Rattle.growing.specs.bank_the_Operation.{Operation}
+use Rattle.takeover.specs.superblocks_the_Members.{Members}
+use Rattle.takeover.specs.superblocks_Reading.{is_reshaping, shape_of}
+use Rattle.takeover.specs.flat_history_the_Entry.{Entry}
+use Rattle.takeover.specs.flat_history_the_Event.{Event}
+use Rattle.takeover.specs.flat_history_the_Event_TheVariants.{Wrote, Refused}
+use Rattle.takeover.specs.flat_history_the_Request.{Request}
+use Rattle.takeover.specs.flat_history_the_Request_TheVariants.{Write as AsksWrite}
+use Rattle.takeover.specs.flat_history_Growing.{EndBy}
+use Rattle.takeover.specs.flat_history_OneShape.{IsOfCall}
+use Rattle.takeover.specs.flat_history_Plain.{entries_of}
 use Rattle.growing.specs.views_Lacking.{IsUnread, IsUnwritten, are_mended, mended_rows}
 use Rattle.growing.specs.array_kept_Calls.{IsRefusedFor, IsCausedBy, IsAnswered, IsEntered, IsReplied, StandsInside}
 use Rattle.growing.specs.region_mends_Mends.{relied_sector}

@@ -1,27 +1,27 @@
 -- Where all is done in an array at rest, no plan is open: what keeps that over each call.
 use Rattle.std.proofs.Common.{◌≡◌, ◌≢◌, inl, inr, ℕ, ◌<◌, ◌==◌, max, Bool, true, false, not, Option, Some, None, Result, Ok, Err, List, [], ◌∷◌, ◌++◌, append_assoc, refl, sym, ◌∙◌, ap, subst, arith}
 use Rattle.std.specs.Prelude.{is_some, MatchOption, unwrap_or}
-use Rattle.md_base.specs.declared.answers.Fault.{Fault}
-use Rattle.md_base.specs.declared.answers.Fault.TheVariants.{Refused as IsRefusedWith, NoMemory}
-use Rattle.md_base.specs.declared.answers.Refusal.{Refusal}
-use Rattle.md_base.specs.declared.answers.Refusal.TheVariants.{PastEnd}
-use Rattle.md_base.specs.declared.answers.Who.{Who}
-use Rattle.md_base.specs.declared.places.Shape.{Shape}
-use Rattle.md_base.specs.declared.status.Role.{Role}
-use Rattle.md_base.specs.declared.status.Role.TheVariants.{Whole, Recovering, Missing}
-use Rattle.md_base.specs.declared.wishes.Phase.{Phase}
-use Rattle.bank.specs.Given.{Given}
-use Rattle.grow_plan.specs.Plans.{phases_steps}
-use Rattle.superblocks.specs.declared.members.Members.{Members}
-use Rattle.superblocks.specs.Reading.{is_whole, shape_of, final_shape, role_count, role_state, holder, list_length}
+use Rattle.growing.specs.md_base_the_Fault.{Fault}
+use Rattle.growing.specs.md_base_the_Fault_TheVariants.{Refused as IsRefusedWith, NoMemory}
+use Rattle.growing.specs.md_base_the_Refusal.{Refusal}
+use Rattle.growing.specs.md_base_the_Refusal_TheVariants.{PastEnd}
+use Rattle.growing.specs.md_base_the_Who.{Who}
+use Rattle.growing.specs.md_base_the_Shape.{Shape}
+use Rattle.growing.specs.md_base_the_Role.{Role}
+use Rattle.growing.specs.md_base_the_Role_TheVariants.{Whole, Recovering, Missing}
+use Rattle.growing.specs.md_base_the_Phase.{Phase}
+use Rattle.growing.specs.bank_Given.{Given}
+use Rattle.takeover.specs.grow_plan_Plans.{phases_steps}
+use Rattle.takeover.specs.superblocks_the_Members.{Members}
+use Rattle.takeover.specs.superblocks_Reading.{is_whole, shape_of, final_shape, role_count, role_state, holder, list_length}
 use Rattle.growing.specs.row_io_Rows.{reading_of}
-use Rattle.flat_history.specs.declared.events.Entry.{Entry}
-use Rattle.flat_history.specs.declared.events.Event.{Event}
-use Rattle.flat_history.specs.declared.events.Event.TheVariants.{Step, Rebuilt}
-use Rattle.flat_history.specs.declared.events.StepKind.{StepKind}
-use Rattle.flat_history.specs.declared.events.StepKind.TheVariants.{Finished, TakenOver, RebuildEnded}
-use Rattle.flat_history.specs.Plain.{entries_of}
-use Rattle.flat_history.specs.Reshaped.{is_done, open_plans}
+use Rattle.takeover.specs.flat_history_the_Entry.{Entry}
+use Rattle.takeover.specs.flat_history_the_Event.{Event}
+use Rattle.takeover.specs.flat_history_the_Event_TheVariants.{Step, Rebuilt}
+use Rattle.takeover.specs.flat_history_the_StepKind.{StepKind}
+use Rattle.takeover.specs.flat_history_the_StepKind_TheVariants.{Finished, TakenOver, RebuildEnded}
+use Rattle.takeover.specs.flat_history_Plain.{entries_of}
+use Rattle.takeover.specs.flat_history_Reshaped.{is_done, open_plans}
 use Rattle.growing.specs.views_Placed.{is_vacant, AreWhole, IsPlaced}
 use Rattle.growing.specs.views_Lacking.{AreTooMany}
 use Rattle.growing.specs.views_Status.{left_of}
@@ -31,7 +31,7 @@ use Rattle.growing.specs.call_entries_Losing.{losses_of}
 use Rattle.growing.proofs.call_entries_LosingLaws.{entries-both}
 use Rattle.growing.specs.array_kept_Calls.{IsBehind, IsFailedFor, IsRefusedFor, IsFaultFor, IsCausedBy, IsUnmendable, IsRebuildStepped}
 use Rattle.growing.specs.kept_history_Recorded.{entry_of}
-use Rattle.grow_asked.specs.Left.{phases_of}
+use Rattle.takeover.specs.grow_asked_Left.{phases_of}
 use Rattle.growing.specs.running_words_Parts.{RunningParts, still_left}
 use Rattle.growing.specs.running_words_Calls.{IsStepTaken}
 use Rattle.growing.specs.still_steps_Resyncing.{is_at_end, IsUnmended}

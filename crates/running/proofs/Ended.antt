@@ -1,18 +1,18 @@
 -- A step that is refused, and one that ends a reshape: what a reply may tell of it.
 use Rattle.std.proofs.Common.{◌≡◌, ◌≢◌, inl, inr, ℕ, ◌+◌, ◌-◌, nat_lt, Bool, true, false, Option, Some, None, Result, Ok, Err, List, [], ◌∷◌, refl, sym, ◌∙◌, ap, subst}
 use Rattle.std.specs.Prelude.{if◌then◌else◌, is_some, MatchBool, MatchOption}
-use Rattle.md_base.specs.declared.answers.Fault.{Fault}
-use Rattle.md_base.specs.declared.answers.Fault.TheVariants.{Refused as IsRefusedWith, NoMemory}
-use Rattle.md_base.specs.declared.answers.Refusal.{Refusal}
-use Rattle.md_base.specs.declared.answers.Who.{Who}
-use Rattle.md_base.specs.declared.places.Shape.{Shape}
-use Rattle.md_base.specs.declared.wishes.Phase.{Phase}
-use Rattle.md_base.specs.declared.wishes.Phase.TheVariants.{Reshape, UpTo6, DownTo5}
-use Rattle.sb1.specs.declared.sb.Sb.{Sb}
-use Rattle.superblocks.specs.declared.members.Members.{Members}
-use Rattle.superblocks.specs.Reading.{is_reshaping, shape_of, final_shape, list_length, next_window}
-use Rattle.flat_history.specs.declared.events.Entry.{Entry}
-use Rattle.flat_history.specs.declared.events.StepKind.{StepKind}
+use Rattle.growing.specs.md_base_the_Fault.{Fault}
+use Rattle.growing.specs.md_base_the_Fault_TheVariants.{Refused as IsRefusedWith, NoMemory}
+use Rattle.growing.specs.md_base_the_Refusal.{Refusal}
+use Rattle.growing.specs.md_base_the_Who.{Who}
+use Rattle.growing.specs.md_base_the_Shape.{Shape}
+use Rattle.growing.specs.md_base_the_Phase.{Phase}
+use Rattle.growing.specs.md_base_the_Phase_TheVariants.{Reshape, UpTo6, DownTo5}
+use Rattle.takeover.specs.sb1_the_Sb.{Sb}
+use Rattle.takeover.specs.superblocks_the_Members.{Members}
+use Rattle.takeover.specs.superblocks_Reading.{is_reshaping, shape_of, final_shape, list_length, next_window}
+use Rattle.takeover.specs.flat_history_the_Entry.{Entry}
+use Rattle.takeover.specs.flat_history_the_StepKind.{StepKind}
 use Rattle.growing.specs.views_the_Work.{Work}
 use Rattle.growing.proofs.shape_views_Alike.{for-both}
 use Rattle.growing.specs.views_Placed.{IsInForce}
@@ -20,10 +20,10 @@ use Rattle.growing.specs.views_Lacking.{AreTooMany}
 use Rattle.growing.specs.region_mends_the_Stripe.{Stripe}
 use Rattle.growing.specs.region_mends_Mends.{low_end, low_shape, high_shape, low_stripes, high_stripe, mend_shape, IsNotMended}
 use Rattle.growing.specs.array_kept_Calls.{by_answer, IsCausedBy}
-use Rattle.grow_asked.specs.declared.window.PhasesLeft.{PhasesLeft}
-use Rattle.grow_asked.specs.declared.window.Window.{Window}
-use Rattle.grow_asked.specs.declared.window.Window.TheVariants.{Closed, Entered, Unsure}
-use Rattle.grow_asked.specs.Left.{phases_of, stripes_in, zeroed_by}
+use Rattle.takeover.specs.grow_asked_the_PhasesLeft.{PhasesLeft}
+use Rattle.takeover.specs.grow_asked_the_Window.{Window}
+use Rattle.takeover.specs.grow_asked_the_Window_TheVariants.{Closed, Entered, Unsure}
+use Rattle.takeover.specs.grow_asked_Left.{phases_of, stripes_in, zeroed_by}
 use Rattle.growing.specs.moving_state_Due.{due_in, due_of}
 use Rattle.growing.specs.moving_state_the_Due.{Due}
 use Rattle.growing.specs.moving_state_the_Due_TheVariants.{Copy, Record, Mend, EndResync, Enter, Zero, Finish}

@@ -4,25 +4,25 @@ use Rattle.std.specs.List.{list_any, All}
 use Rattle.std.specs.Prelude.{IfOk, IfErr}
 use Rattle.std.proofs.lemmas.List.Elements.{All-head, All-tail}
 use Rattle.std.proofs.lemmas.List.Folds.{list_any-append}
-use Rattle.md_base.specs.Sectors.{Sector}
-use Rattle.md_base.specs.declared.answers.Fault.{Fault}
-use Rattle.md_base.specs.declared.answers.Fault.TheVariants.{Refused as IsRefusedWith, NoMemory}
-use Rattle.md_base.specs.declared.answers.Refusal.TheVariants.{BackupFault}
-use Rattle.md_base.specs.declared.answers.NoMemory.{NoMemory as WantsMemory}
-use Rattle.md_base.specs.declared.answers.Who.{Who}
-use Rattle.md_base.specs.declared.status.Status.{Status}
-use Rattle.bank.specs.declared.bank.Operation.{Operation}
-use Rattle.superblocks.specs.declared.members.Members.{Members}
-use Rattle.flat_history.specs.declared.events.Entry.{Entry}
-use Rattle.flat_history.specs.declared.events.Event.{Event}
-use Rattle.flat_history.specs.declared.events.Event.TheVariants.{Planned, Refused, Resized, Shown, Step}
-use Rattle.flat_history.specs.declared.events.Request.{Request}
-use Rattle.flat_history.specs.declared.events.StepKind.{StepKind}
-use Rattle.flat_history.specs.declared.events.StepKind.TheVariants.{Finished, Begun, TakenOver, RebuildEnded}
-use Rattle.flat_history.specs.OneShape.{IsOfCall}
-use Rattle.flat_history.specs.Plain.{entries_of}
-use Rattle.flat_history.specs.Reshaped.{is_planned}
-use Rattle.flat_history.specs.World.{World}
+use Rattle.growing.specs.md_base_Sectors.{Sector}
+use Rattle.growing.specs.md_base_the_Fault.{Fault}
+use Rattle.growing.specs.md_base_the_Fault_TheVariants.{Refused as IsRefusedWith, NoMemory}
+use Rattle.growing.specs.md_base_the_Refusal_TheVariants.{BackupFault}
+use Rattle.growing.specs.md_base_the_NoMemory.{NoMemory as WantsMemory}
+use Rattle.growing.specs.md_base_the_Who.{Who}
+use Rattle.growing.specs.md_base_the_Status.{Status}
+use Rattle.growing.specs.bank_the_Operation.{Operation}
+use Rattle.takeover.specs.superblocks_the_Members.{Members}
+use Rattle.takeover.specs.flat_history_the_Entry.{Entry}
+use Rattle.takeover.specs.flat_history_the_Event.{Event}
+use Rattle.takeover.specs.flat_history_the_Event_TheVariants.{Planned, Refused, Resized, Shown, Step}
+use Rattle.takeover.specs.flat_history_the_Request.{Request}
+use Rattle.takeover.specs.flat_history_the_StepKind.{StepKind}
+use Rattle.takeover.specs.flat_history_the_StepKind_TheVariants.{Finished, Begun, TakenOver, RebuildEnded}
+use Rattle.takeover.specs.flat_history_OneShape.{IsOfCall}
+use Rattle.takeover.specs.flat_history_Plain.{entries_of}
+use Rattle.takeover.specs.flat_history_Reshaped.{is_planned}
+use Rattle.takeover.specs.flat_history_World.{World}
 use Rattle.growing.specs.views_the_Work.{Work}
 use Rattle.growing.specs.call_entries_Losing.{losses_of}
 use Rattle.growing.proofs.call_entries_LosingLaws.{entries-both}

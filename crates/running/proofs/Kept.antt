@@ -5,28 +5,28 @@ use Rattle.std.proofs.lemmas.Bool.Decides.{nat_tests}
 use Rattle.std.proofs.lemmas.List.Folds.{list_any-append}
 use Rattle.std.specs.List.{list_any}
 use Rattle.std.specs.Prelude.{if◌then◌else◌, Result, Ok, Err, OnOk, OnErr, IsTrue, MatchOption, ⊤}
-use Rattle.md_base.specs.declared.answers.Fault.{Fault}
-use Rattle.md_base.specs.declared.answers.Fault.TheVariants.{Refused as IsRefusedWith, NoMemory}
-use Rattle.md_base.specs.declared.answers.Refusal.{Refusal}
-use Rattle.md_base.specs.declared.answers.Refusal.TheVariants.{NoSuchSlot, SlotFault, SlotTaken}
-use Rattle.md_base.specs.declared.places.Shape.{Shape}
-use Rattle.md_base.specs.declared.wishes.Phase.{Phase}
-use Rattle.md_base.specs.declared.wishes.Phase.TheVariants.{Reshape, UpTo6, DownTo5}
-use Rattle.md_base.specs.declared.answers.Who.{Who}
-use Rattle.bank.specs.Given.{Given}
-use Rattle.bank.specs.declared.bank.Operation.{Operation}
-use Rattle.grow_plan.specs.Plans.{phase_window, last_shape}
-use Rattle.superblocks.specs.declared.members.Members.{Members}
-use Rattle.superblocks.specs.Reading.{Reading, is_backup, is_reshaping, shape_of, final_shape}
-use Rattle.superblocks.specs.Reads.{has_spare}
-use Rattle.flat_history.specs.declared.events.Entry.{Entry}
-use Rattle.flat_history.specs.declared.events.Epoch.{Epoch}
-use Rattle.flat_history.specs.declared.events.Event.TheVariants.{Refused}
-use Rattle.flat_history.specs.Epochs.{world_of}
-use Rattle.flat_history.specs.Growing.{grown}
-use Rattle.flat_history.specs.Plain.{entries_of}
-use Rattle.flat_history.specs.Reshaped.{open_plans}
-use Rattle.flat_history.specs.World.{World}
+use Rattle.growing.specs.md_base_the_Fault.{Fault}
+use Rattle.growing.specs.md_base_the_Fault_TheVariants.{Refused as IsRefusedWith, NoMemory}
+use Rattle.growing.specs.md_base_the_Refusal.{Refusal}
+use Rattle.growing.specs.md_base_the_Refusal_TheVariants.{NoSuchSlot, SlotFault, SlotTaken}
+use Rattle.growing.specs.md_base_the_Shape.{Shape}
+use Rattle.growing.specs.md_base_the_Phase.{Phase}
+use Rattle.growing.specs.md_base_the_Phase_TheVariants.{Reshape, UpTo6, DownTo5}
+use Rattle.growing.specs.md_base_the_Who.{Who}
+use Rattle.growing.specs.bank_Given.{Given}
+use Rattle.growing.specs.bank_the_Operation.{Operation}
+use Rattle.takeover.specs.grow_plan_Plans.{phase_window, last_shape}
+use Rattle.takeover.specs.superblocks_the_Members.{Members}
+use Rattle.takeover.specs.superblocks_Reading.{Reading, is_backup, is_reshaping, shape_of, final_shape}
+use Rattle.takeover.specs.superblocks_Reads.{has_spare}
+use Rattle.takeover.specs.flat_history_the_Entry.{Entry}
+use Rattle.takeover.specs.flat_history_the_Epoch.{Epoch}
+use Rattle.takeover.specs.flat_history_the_Event_TheVariants.{Refused}
+use Rattle.takeover.specs.flat_history_Epochs.{world_of}
+use Rattle.takeover.specs.flat_history_Growing.{grown}
+use Rattle.takeover.specs.flat_history_Plain.{entries_of}
+use Rattle.takeover.specs.flat_history_Reshaped.{open_plans}
+use Rattle.takeover.specs.flat_history_World.{World}
 use Rattle.growing.specs.views_Moving.{Grows}
 use Rattle.growing.proofs.views_MovedLaws.{grows-none}
 use Rattle.growing.specs.views_Rebuilding.{Held, MayHold}
@@ -36,8 +36,8 @@ use Rattle.growing.specs.array_kept_Kept.{scope_in}
 use Rattle.growing.specs.array_kept_Calls.{AreHeldOrSpare, IsAddedFor, IsUnaddable}
 use Rattle.growing.proofs.kept_history_Growing.{reading-grown}
 use Rattle.growing.proofs.kept_history_Tests.{neither}
-use Rattle.grow_asked.specs.declared.window.PhasesLeft.{PhasesLeft}
-use Rattle.grow_asked.specs.Left.{phases_of}
+use Rattle.takeover.specs.grow_asked_the_PhasesLeft.{PhasesLeft}
+use Rattle.takeover.specs.grow_asked_Left.{phases_of}
 use Rattle.growing.specs.running_words_Adding.{IsAddCalled}
 use Rattle.growing.specs.running_words_Parts.{RunningParts}
 use Rattle.growing.specs.running_words_Calls.{moving_world, IsCalled, IsSameReshape}

@@ -36,3 +36,5 @@ pub use Rattle.growing.proofs.Idle as growing_Idle
 pub use Rattle.growing.proofs.PlanLaws as growing_PlanLaws
 pub use Rattle.growing.proofs.Replied as growing_Replied
 pub use Rattle.growing.proofs.Windows as growing_Windows
+pub use Rattle.growing.proofs.bank_Causes
+pub use Rattle.growing.proofs.md_base_Tabulated

@@ -1,22 +1,22 @@
 -- What the calls of a running array tell of it, by whether a reshape is active in it.
 use Rattle.std.specs.Prelude.{◌≡◌, ◌≢◌, ℕ, ◌+◌, ◌<◌, true, false, List, ◌∷◌, if◌then◌else◌, MatchBool, MatchOption, Result, Ok, Err, ⊤}
-use Rattle.md_base.specs.declared.answers.Fault.{Fault}
-use Rattle.md_base.specs.declared.answers.Fault.TheVariants.{Refused as IsRefusedWith, NoMemory}
-use Rattle.md_base.specs.declared.answers.Refusal.{Refusal}
-use Rattle.md_base.specs.declared.answers.Refusal.TheVariants.{Nothing as IsDone}
-use Rattle.md_base.specs.declared.wishes.Phase.{Phase}
-use Rattle.md_base.specs.declared.wishes.Phase.TheVariants.{Reshape}
-use Rattle.md_base.specs.declared.status.Status.{Status}
-use Rattle.superblocks.specs.declared.members.Members.{Members}
-use Rattle.superblocks.specs.Reading.{is_reshaping, shape_of}
-use Rattle.flat_history.specs.World.{World}
-use Rattle.flat_history.specs.declared.events.Entry.{Entry}
-use Rattle.flat_history.specs.declared.events.Event.{Event}
-use Rattle.flat_history.specs.declared.events.Event.TheVariants.{Refused, Stepped}
+use Rattle.growing.specs.md_base_the_Fault.{Fault}
+use Rattle.growing.specs.md_base_the_Fault_TheVariants.{Refused as IsRefusedWith, NoMemory}
+use Rattle.growing.specs.md_base_the_Refusal.{Refusal}
+use Rattle.growing.specs.md_base_the_Refusal_TheVariants.{Nothing as IsDone}
+use Rattle.growing.specs.md_base_the_Phase.{Phase}
+use Rattle.growing.specs.md_base_the_Phase_TheVariants.{Reshape}
+use Rattle.growing.specs.md_base_the_Status.{Status}
+use Rattle.takeover.specs.superblocks_the_Members.{Members}
+use Rattle.takeover.specs.superblocks_Reading.{is_reshaping, shape_of}
+use Rattle.takeover.specs.flat_history_World.{World}
+use Rattle.takeover.specs.flat_history_the_Entry.{Entry}
+use Rattle.takeover.specs.flat_history_the_Event.{Event}
+use Rattle.takeover.specs.flat_history_the_Event_TheVariants.{Refused, Stepped}
 use Rattle.growing.specs.views_Lacking.{IsUnread, IsUnwritten, are_mended, mended_rows}
 use Rattle.growing.specs.region_mends_Mends.{relied_sector}
 use Rattle.growing.specs.views_Status.{left_of}
-use Rattle.grow_asked.specs.Left.{phases_of}
+use Rattle.takeover.specs.grow_asked_Left.{phases_of}
 use Rattle.growing.specs.kept_history_Safe.{IsFilledRight}
 use Rattle.growing.specs.history_calls_Reliable.{IsReliable}
 use Rattle.growing.specs.running_words_Parts.{RunningParts, left_in, still_left}

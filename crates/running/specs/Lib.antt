@@ -46,17 +46,17 @@ pub use Rattle.growing.specs.views_the_Work
 pub use Rattle.growing.specs.kept_history_Recorded
 pub use Rattle.growing.specs.kept_history_Safe
 pub use Rattle.growing.specs.shape_views_Regions
-pub use Rattle.grow_asked.specs.Left as grow_asked_Left
-pub use Rattle.grow_asked.specs.declared.window.PhasesLeft as grow_asked_the_PhasesLeft
-pub use Rattle.grow_asked.specs.declared.window.Window as grow_asked_the_Window
-pub use Rattle.grow_asked.specs.declared.window.Window.TheVariants as grow_asked_the_Window_TheVariants
-pub use Rattle.superblocks.specs.Reading as superblocks_Reading
-pub use Rattle.superblocks.specs.declared.change.Change as superblocks_the_Change
-pub use Rattle.superblocks.specs.declared.change.Give as superblocks_the_Give
-pub use Rattle.superblocks.specs.declared.members.Members as superblocks_the_Members
-pub use Rattle.superblocks.specs.Outcome as superblocks_Outcome
-pub use Rattle.superblocks.specs.Reads as superblocks_Reads
-pub use Rattle.superblocks.specs.Update as superblocks_Update
+pub use Rattle.takeover.specs.grow_asked_Left
+pub use Rattle.takeover.specs.grow_asked_the_PhasesLeft
+pub use Rattle.takeover.specs.grow_asked_the_Window
+pub use Rattle.takeover.specs.grow_asked_the_Window_TheVariants
+pub use Rattle.takeover.specs.superblocks_Reading
+pub use Rattle.takeover.specs.superblocks_the_Change
+pub use Rattle.takeover.specs.superblocks_the_Give
+pub use Rattle.takeover.specs.superblocks_the_Members
+pub use Rattle.takeover.specs.superblocks_Outcome
+pub use Rattle.takeover.specs.superblocks_Reads
+pub use Rattle.takeover.specs.superblocks_Update
 pub use Rattle.growing.specs.row_io_Rows
 pub use Rattle.growing.specs.shape_changes_Marking
 pub use Rattle.growing.specs.Plans as growing_Plans
@@ -64,3 +64,31 @@ pub use Rattle.growing.specs.Replied as growing_Replied
 pub use Rattle.growing.specs.safe_updates_First
 pub use Rattle.growing.specs.course_kept_Laws
 pub use Rattle.growing.specs.still_kept_Still
+pub use Rattle.growing.specs.bank_Given
+pub use Rattle.growing.specs.bank_the_Operation
+pub use Rattle.growing.specs.md_base_Search
+pub use Rattle.growing.specs.md_base_Shapes
+pub use Rattle.growing.specs.md_base_the_Fault
+pub use Rattle.growing.specs.md_base_the_Fault_TheVariants
+pub use Rattle.growing.specs.md_base_the_Phase
+pub use Rattle.growing.specs.md_base_the_Phase_TheVariants
+pub use Rattle.growing.specs.md_base_the_Refusal
+pub use Rattle.growing.specs.md_base_the_Refusal_TheVariants
+pub use Rattle.growing.specs.md_base_the_Role_TheVariants
+pub use Rattle.growing.specs.md_base_the_Shape
+pub use Rattle.growing.specs.md_base_the_Who
+pub use Rattle.takeover.specs.flat_history_Fits
+pub use Rattle.takeover.specs.flat_history_Flat
+pub use Rattle.takeover.specs.flat_history_Legal
+pub use Rattle.takeover.specs.flat_history_OneShape
+pub use Rattle.takeover.specs.flat_history_Plain
+pub use Rattle.takeover.specs.flat_history_Reshaped
+pub use Rattle.takeover.specs.flat_history_World
+pub use Rattle.takeover.specs.flat_history_the_Entry
+pub use Rattle.takeover.specs.flat_history_the_Event
+pub use Rattle.takeover.specs.flat_history_the_Event_TheVariants
+pub use Rattle.takeover.specs.flat_history_the_LostCause_TheVariants
+pub use Rattle.takeover.specs.flat_history_the_Request_TheVariants
+pub use Rattle.takeover.specs.flat_history_the_StepKind
+pub use Rattle.takeover.specs.flat_history_the_StepKind_TheVariants
+pub use Rattle.takeover.specs.sb1_the_Sb

@@ -1,20 +1,20 @@
 -- What a running array keeps, by whether a reshape is active in it.
 use Rattle.std.specs.Prelude.{◌≡◌, ℕ, ◌+◌, ◌*◌, ◌<◌, ◌≤◌, true, false, List, [], ◌∷◌, length, Option, Some, None, IfSome, ⊤}
-use Rattle.md_base.specs.declared.places.Shape.{Shape}
-use Rattle.md_base.specs.declared.wishes.Phase.{Phase}
-use Rattle.md_base.specs.declared.wishes.Phase.TheVariants.{Reshape}
-use Rattle.bank.specs.Given.{Given}
-use Rattle.bank.specs.declared.bank.Operation.{Operation}
-use Rattle.grow_plan.specs.Plans.{phase_shape, phase_window}
-use Rattle.superblocks.specs.Reading.{is_reshaping, shape_of, list_length}
-use Rattle.superblocks.specs.Reads.{has_spare}
-use Rattle.flat_history.specs.Flat.{length_of, limit_of}
-use Rattle.flat_history.specs.Growing.{EndBy}
-use Rattle.flat_history.specs.Legal.{told_left}
-use Rattle.flat_history.specs.Reshaped.{open_plans}
+use Rattle.growing.specs.md_base_the_Shape.{Shape}
+use Rattle.growing.specs.md_base_the_Phase.{Phase}
+use Rattle.growing.specs.md_base_the_Phase_TheVariants.{Reshape}
+use Rattle.growing.specs.bank_Given.{Given}
+use Rattle.growing.specs.bank_the_Operation.{Operation}
+use Rattle.takeover.specs.grow_plan_Plans.{phase_shape, phase_window}
+use Rattle.takeover.specs.superblocks_Reading.{is_reshaping, shape_of, list_length}
+use Rattle.takeover.specs.superblocks_Reads.{has_spare}
+use Rattle.takeover.specs.flat_history_Flat.{length_of, limit_of}
+use Rattle.takeover.specs.flat_history_Growing.{EndBy}
+use Rattle.takeover.specs.flat_history_Legal.{told_left}
+use Rattle.takeover.specs.flat_history_Reshaped.{open_plans}
 use Rattle.growing.specs.views_Placed.{AreWhole}
 use Rattle.growing.specs.views_Rebuilding.{Held}
-use Rattle.grow_asked.specs.Left.{phases_of}
+use Rattle.takeover.specs.grow_asked_Left.{phases_of}
 use Rattle.growing.specs.course_kept_Laws.{closed}
 use Rattle.growing.specs.running_words_Parts.{RunningParts}
 use Rattle.growing.specs.running_words_Calls.{moving_world}

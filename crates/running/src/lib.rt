@@ -4,9 +4,9 @@
 mod state;
 
 pub use growing::{
-    Course, Moving, Opened, PlannedGrow, Room, Still, enter_all_absent, final_in, found_numbers,
-    list_sectors, plan_grow, refuse_grow, refuse_limit, room_for, shape_in, write as write_moving,
-    zeros,
+    Bank, Course, Fault, Moving, NoMemory, Opened, PlannedGrow, Refusal, Room, Shape, Still, Who,
+    enter_all_absent, final_in, found_numbers, list_sectors, plan_grow, refuse_grow, refuse_limit,
+    room_for, shape_in, write as write_moving, zeros,
 };
 pub use state::{Next, Running, State, check_moving, check_still};
-pub use takeover::{add as add_still, read as read_still, write as write_still};
+pub use takeover::{Event, Pieces, add as add_still, read as read_still, write as write_still};

@@ -1,10 +1,10 @@
 //! A running array, with a reshape active in it or without one.
 
 ghost use Rattle.std.specs.Prelude.{◌≡◌, ◌<◌, true, [], IsSome};
-ghost use Rattle.superblocks.specs.Reading.{is_reshaping};
-ghost use Rattle.flat_history.specs.Reshaped.{open_plans};
+ghost use Rattle.takeover.specs.superblocks_Reading.{is_reshaping};
+ghost use Rattle.takeover.specs.flat_history_Reshaped.{open_plans};
 ghost use Rattle.growing.specs.views_Placed.{IsPlaced};
-ghost use Rattle.grow_asked.specs.Left.{phases_of};
+ghost use Rattle.takeover.specs.grow_asked_Left.{phases_of};
 ghost use Rattle.growing.specs.running_words_Parts.{left_in};
 ghost use Rattle.growing.specs.running_words_Calls.{moving_world};
 ghost use Rattle.growing.specs.running_words_Plans.{KeepsShape};
@@ -20,10 +20,9 @@ mod rooms;
 mod stepping;
 mod taking;
 
-use bank::Bank;
 pub use choosing::Next;
 use core::mem::replace_with;
-use growing::{Moving, Still};
+use growing::{Bank, Moving, Still};
 use std::alloc::Global;
 use std::marker::Model;
 

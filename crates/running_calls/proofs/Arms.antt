@@ -1,13 +1,13 @@
 -- What a request was answered, by which request it is.
 use Rattle.std.proofs.Common.{◌≡◌, Result, Ok, Err, List, sym, subst}
 use Rattle.std.specs.Prelude.{IfOk, IfErr}
-use Rattle.md_base.specs.declared.answers.Who.{Who}
-use Rattle.md_base.specs.declared.answers.Fault.{Fault}
-use Rattle.md_base.specs.declared.answers.Fault.TheVariants.{Refused as IsRefusedWith, NoMemory as WantsMemory}
-use Rattle.md_base.specs.declared.answers.NoMemory.{NoMemory}
-use Rattle.flat_history.specs.declared.events.Entry.{Entry}
-use Rattle.flat_history.specs.declared.events.Event.{Event}
-use Rattle.flat_history.specs.declared.events.Request.{Request}
+use Rattle.array_kept.specs.md_base_the_Who.{Who}
+use Rattle.array_kept.specs.md_base_the_Fault.{Fault}
+use Rattle.array_kept.specs.md_base_the_Fault_TheVariants.{Refused as IsRefusedWith, NoMemory as WantsMemory}
+use Rattle.bank.specs.md_base_the_NoMemory.{NoMemory}
+use Rattle.call_entries.specs.flat_history_the_Entry.{Entry}
+use Rattle.call_entries.specs.flat_history_the_Event.{Event}
+use Rattle.call_entries.specs.flat_history_the_Request.{Request}
 use Rattle.openings.specs.array_kept_Calls.{OnNoMemory}
 use Rattle.openings.specs.running_words_Parts.{RunningParts}
 use Rattle.running_calls.specs.Entered.{RestsBehind}

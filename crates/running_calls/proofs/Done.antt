@@ -1,11 +1,11 @@
 -- What a request leaves that was done.
 use Rattle.std.proofs.Common.{◌≡◌, ◌≤◌, List, [], ◌∷◌, ◌++◌, length, ◌∙◌, ap, arith, length-append}
-use Rattle.md_base.specs.declared.answers.Who.{Who}
+use Rattle.array_kept.specs.md_base_the_Who.{Who}
 use Rattle.openings.specs.superblocks_Reading.{list_length}
-use Rattle.flat_history.specs.declared.events.Entry.{Entry}
-use Rattle.flat_history.specs.declared.events.Event.{Event}
-use Rattle.flat_history.specs.declared.events.Request.{Request}
-use Rattle.flat_history.specs.declared.events.Request.TheVariants.{Read as AsksRead, Write as AsksWrite, Flush as AsksFlush, Fail as AsksFail, Add as AsksAdd, Visible as AsksVisible, Grow as AsksGrow, Steps as AsksSteps, Show as AsksShow}
+use Rattle.call_entries.specs.flat_history_the_Entry.{Entry}
+use Rattle.call_entries.specs.flat_history_the_Event.{Event}
+use Rattle.call_entries.specs.flat_history_the_Request.{Request}
+use Rattle.call_entries.specs.flat_history_the_Request_TheVariants.{Read as AsksRead, Write as AsksWrite, Flush as AsksFlush, Fail as AsksFail, Add as AsksAdd, Visible as AsksVisible, Grow as AsksGrow, Steps as AsksSteps, Show as AsksShow}
 use Rattle.call_entries.proofs.PlainLaws.{one}
 use Rattle.openings.specs.running_words_Parts.{RunningParts}
 use Rattle.openings.specs.running_replies_Replies.{IsAnsweredWith}

@@ -4,26 +4,26 @@ use Rattle.std.proofs.lemmas.Bool.Decides.{nat_tests}
 use Rattle.std.proofs.lemmas.List.Sums.{fold-append}
 use Rattle.std.specs.Prelude.{IsTrue}
 use Rattle.std.specs.List.{list_any}
-use Rattle.md_base.specs.Shapes.{data_disks}
-use Rattle.md_base.specs.declared.answers.Who.{Who}
-use Rattle.md_base.specs.declared.answers.Fault.{Fault}
-use Rattle.md_base.specs.declared.answers.Fault.TheVariants.{Refused as IsRefusedWith, NoMemory as WantsMemory}
-use Rattle.md_base.specs.declared.answers.Refusal.TheVariants.{SlotFault}
-use Rattle.md_base.specs.declared.status.Status.{Status}
+use Rattle.array_kept.specs.md_base_Shapes.{data_disks}
+use Rattle.array_kept.specs.md_base_the_Who.{Who}
+use Rattle.array_kept.specs.md_base_the_Fault.{Fault}
+use Rattle.array_kept.specs.md_base_the_Fault_TheVariants.{Refused as IsRefusedWith, NoMemory as WantsMemory}
+use Rattle.array_kept.specs.md_base_the_Refusal_TheVariants.{SlotFault}
+use Rattle.array_kept.specs.md_base_the_Status.{Status}
 use Rattle.bank.specs.declared.bank.Operation.{Operation}
 use Rattle.bank.specs.Given.{Given, NeverFalls}
 use Rattle.openings.specs.superblocks_the_Members.{Members}
 use Rattle.openings.specs.superblocks_Reading.{is_reshaping, shape_of, final_shape, list_length}
 use Rattle.openings.specs.superblocks_Reads.{has_spare}
-use Rattle.flat_history.specs.declared.events.Entry.{Entry}
-use Rattle.flat_history.specs.declared.events.Event.{Event}
-use Rattle.flat_history.specs.declared.events.Event.TheVariants.{Added, Refused, Shown}
-use Rattle.flat_history.specs.declared.events.Request.{Request}
-use Rattle.flat_history.specs.declared.events.Request.TheVariants.{Add as AsksAdd}
-use Rattle.flat_history.specs.Flat.{length_of, length_after}
-use Rattle.flat_history.specs.Legal.{call_before}
-use Rattle.flat_history.specs.Reshaped.{is_planned}
-use Rattle.flat_history.specs.World.{World}
+use Rattle.call_entries.specs.flat_history_the_Entry.{Entry}
+use Rattle.call_entries.specs.flat_history_the_Event.{Event}
+use Rattle.call_entries.specs.flat_history_the_Event_TheVariants.{Added, Refused, Shown}
+use Rattle.call_entries.specs.flat_history_the_Request.{Request}
+use Rattle.call_entries.specs.flat_history_the_Request_TheVariants.{Add as AsksAdd}
+use Rattle.call_entries.specs.flat_history_Flat.{length_of, length_after}
+use Rattle.call_entries.specs.flat_history_Legal.{call_before}
+use Rattle.call_entries.specs.flat_history_Reshaped.{is_planned}
+use Rattle.call_entries.specs.flat_history_World.{World}
 use Rattle.call_entries.proofs.PlainLaws.{one}
 use Rattle.openings.specs.views_Moving.{Grows}
 use Rattle.openings.specs.views_Placed.{AreStillHeld}

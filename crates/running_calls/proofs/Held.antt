@@ -9,11 +9,11 @@ use Rattle.bank.specs.Given.{NeverFalls}
 use Rattle.bank.proofs.Causes.{faulted_longer}
 use Rattle.openings.specs.superblocks_the_Members.{Members}
 use Rattle.openings.specs.superblocks_Reads.{has_spare}
-use Rattle.flat_history.specs.declared.events.Entry.{Entry}
-use Rattle.flat_history.specs.declared.events.Event.{Event}
-use Rattle.flat_history.specs.declared.events.Event.TheVariants.{Lost, SpareLost}
-use Rattle.flat_history.specs.declared.events.LostCause.{LostCause}
-use Rattle.flat_history.specs.declared.events.LostCause.TheVariants.{Absent, Recovering, Command, Fault}
+use Rattle.call_entries.specs.flat_history_the_Entry.{Entry}
+use Rattle.call_entries.specs.flat_history_the_Event.{Event}
+use Rattle.call_entries.specs.flat_history_the_Event_TheVariants.{Lost, SpareLost}
+use Rattle.call_entries.specs.flat_history_the_LostCause.{LostCause}
+use Rattle.call_entries.specs.flat_history_the_LostCause_TheVariants.{Absent, Recovering, Command, Fault}
 use Rattle.openings.specs.views_Placed.{AreStillHeld}
 use Rattle.openings.specs.views_Rebuilding.{Held}
 use Rattle.openings.specs.array_kept_Calls.{IsRoleLossBy, IsLossBy, WasSpare, AreLossesBy}

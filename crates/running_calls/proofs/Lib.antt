@@ -22,3 +22,7 @@ pub use Rattle.openings.proofs.history_laws_OneShapeGrowing
 pub use Rattle.openings.proofs.history_laws_ReshapedLaws
 pub use Rattle.openings.proofs.history_laws_GrowingLaws
 mod Arms
+pub use Rattle.array_kept.proofs.md_base_SectorLaws
+pub use Rattle.array_kept.proofs.md_base_Tabulated
+pub use Rattle.bank.proofs.Images as bank_Images
+pub use Rattle.bank.proofs.Laws as bank_Laws

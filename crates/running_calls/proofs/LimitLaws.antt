@@ -1,22 +1,22 @@
 -- A running array keeps what it keeps over a request to limit its list, done or refused.
 use Rattle.std.proofs.Common.{◌≡◌, ℕ, Bool, true, false, Option, Some, Result, Ok, Err, List, [], ◌∷◌, refl, sym, ◌∙◌, ap, subst}
 use Rattle.std.specs.Prelude.{if◌then◌else◌, IsErr}
-use Rattle.md_base.specs.declared.answers.Fault.{Fault}
-use Rattle.md_base.specs.declared.answers.Fault.TheVariants.{Refused as IsRefusedWith, NoMemory}
-use Rattle.md_base.specs.declared.answers.BusyKind.TheVariants.{Reshape}
-use Rattle.md_base.specs.declared.answers.Refusal.{Refusal}
-use Rattle.md_base.specs.declared.answers.Refusal.TheVariants.{Busy}
-use Rattle.md_base.specs.declared.answers.Who.{Who}
+use Rattle.array_kept.specs.md_base_the_Fault.{Fault}
+use Rattle.array_kept.specs.md_base_the_Fault_TheVariants.{Refused as IsRefusedWith, NoMemory}
+use Rattle.array_kept.specs.md_base_the_BusyKind_TheVariants.{Reshape}
+use Rattle.array_kept.specs.md_base_the_Refusal.{Refusal}
+use Rattle.array_kept.specs.md_base_the_Refusal_TheVariants.{Busy}
+use Rattle.array_kept.specs.md_base_the_Who.{Who}
 use Rattle.bank.specs.Given.{Given}
 use Rattle.bank.specs.declared.bank.Operation.{Operation}
 use Rattle.openings.specs.superblocks_the_Members.{Members}
 use Rattle.openings.specs.superblocks_Reading.{is_reshaping, shape_of, final_shape}
-use Rattle.flat_history.specs.declared.events.Entry.{Entry}
-use Rattle.flat_history.specs.declared.events.Event.{Event}
-use Rattle.flat_history.specs.declared.events.Event.TheVariants.{Visible, Refused}
-use Rattle.flat_history.specs.declared.events.Request.TheVariants.{Visible as AsksVisible}
-use Rattle.flat_history.specs.Plain.{entries_of}
-use Rattle.flat_history.specs.World.{World}
+use Rattle.call_entries.specs.flat_history_the_Entry.{Entry}
+use Rattle.call_entries.specs.flat_history_the_Event.{Event}
+use Rattle.call_entries.specs.flat_history_the_Event_TheVariants.{Visible, Refused}
+use Rattle.call_entries.specs.flat_history_the_Request_TheVariants.{Visible as AsksVisible}
+use Rattle.call_entries.specs.flat_history_Plain.{entries_of}
+use Rattle.call_entries.specs.flat_history_World.{World}
 use Rattle.openings.specs.views_the_Work.{Work}
 use Rattle.openings.specs.views_Placed.{AreWhole}
 use Rattle.openings.specs.array_kept_Calls.{by_answer}

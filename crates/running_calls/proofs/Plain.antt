@@ -4,22 +4,22 @@ use Rattle.std.proofs.lemmas.List.Elements.{All-nil, All-cons, All-head, All-tai
 use Rattle.std.proofs.lemmas.Bool.Decides.{nat_tests}
 use Rattle.std.specs.Prelude.{IfOk, MatchBool, nat_lt}
 use Rattle.std.specs.List.{All}
-use Rattle.md_base.specs.declared.answers.Who.{Who}
-use Rattle.md_base.specs.declared.answers.Fault.{Fault}
-use Rattle.md_base.specs.declared.answers.Fault.TheVariants.{Refused as IsRefusedWith, NoMemory as WantsMemory}
-use Rattle.md_base.specs.declared.answers.NoMemory.{NoMemory}
-use Rattle.md_base.specs.declared.answers.Refusal.TheVariants.{BackupFault}
-use Rattle.flat_history.specs.declared.events.Entry.{Entry}
-use Rattle.flat_history.specs.declared.events.Event.{Event}
-use Rattle.flat_history.specs.declared.events.Event.TheVariants.{Wrote, Refused}
-use Rattle.flat_history.specs.declared.events.Request.{Request}
-use Rattle.flat_history.specs.declared.events.Request.TheVariants.{Write as AsksWrite}
-use Rattle.flat_history.specs.Fits.{IsWriteRefused, AreTornOf}
-use Rattle.flat_history.specs.Flat.{next_number, visible_of}
-use Rattle.flat_history.specs.Legal.{MayBeInner}
-use Rattle.flat_history.specs.OneShape.{IsOfCall, OneShapeFits}
-use Rattle.flat_history.specs.Plain.{entries_of}
-use Rattle.flat_history.specs.Transfers.{IsPastEnd}
+use Rattle.array_kept.specs.md_base_the_Who.{Who}
+use Rattle.array_kept.specs.md_base_the_Fault.{Fault}
+use Rattle.array_kept.specs.md_base_the_Fault_TheVariants.{Refused as IsRefusedWith, NoMemory as WantsMemory}
+use Rattle.bank.specs.md_base_the_NoMemory.{NoMemory}
+use Rattle.array_kept.specs.md_base_the_Refusal_TheVariants.{BackupFault}
+use Rattle.call_entries.specs.flat_history_the_Entry.{Entry}
+use Rattle.call_entries.specs.flat_history_the_Event.{Event}
+use Rattle.call_entries.specs.flat_history_the_Event_TheVariants.{Wrote, Refused}
+use Rattle.call_entries.specs.flat_history_the_Request.{Request}
+use Rattle.call_entries.specs.flat_history_the_Request_TheVariants.{Write as AsksWrite}
+use Rattle.call_entries.specs.flat_history_Fits.{IsWriteRefused, AreTornOf}
+use Rattle.call_entries.specs.flat_history_Flat.{next_number, visible_of}
+use Rattle.call_entries.specs.flat_history_Legal.{MayBeInner}
+use Rattle.call_entries.specs.flat_history_OneShape.{IsOfCall, OneShapeFits}
+use Rattle.call_entries.specs.flat_history_Plain.{entries_of}
+use Rattle.call_entries.specs.flat_history_Transfers.{IsPastEnd}
 use Rattle.call_entries.proofs.PlainLaws.{one}
 use Rattle.call_entries.proofs.LosingLaws.{entries-both}
 use Rattle.openings.specs.array_kept_Calls.{StandsInside, IsReplied, IsAnswered}

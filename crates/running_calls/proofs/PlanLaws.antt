@@ -1,26 +1,26 @@
 -- A running array keeps what it keeps over a request to grow, planned or refused.
 use Rattle.std.proofs.Common.{◌≡◌, inl, ◌*◌, ◌≤◌, ◌==◌, ℕ, Bool, true, false, cond, Option, None, Ok, Err, List, [], ◌∷◌, ◌++◌, refl, sym, ◌∙◌, ap, subst, arith}
 use Rattle.std.specs.Prelude.{if◌then◌else◌}
-use Rattle.md_base.specs.declared.answers.Fault.{Fault}
-use Rattle.md_base.specs.declared.answers.Fault.TheVariants.{Refused as IsRefusedWith, NoMemory}
-use Rattle.md_base.specs.declared.answers.Who.{Who}
-use Rattle.md_base.specs.declared.places.Shape.{Shape}
-use Rattle.md_base.specs.declared.wishes.Phase.{Phase}
-use Rattle.md_base.specs.declared.wishes.Phase.TheVariants.{Reshape, UpTo6, DownTo5}
-use Rattle.md_base.specs.declared.wishes.Wish.{Wish}
+use Rattle.array_kept.specs.md_base_the_Fault.{Fault}
+use Rattle.array_kept.specs.md_base_the_Fault_TheVariants.{Refused as IsRefusedWith, NoMemory}
+use Rattle.array_kept.specs.md_base_the_Who.{Who}
+use Rattle.array_kept.specs.md_base_the_Shape.{Shape}
+use Rattle.array_kept.specs.md_base_the_Phase.{Phase}
+use Rattle.array_kept.specs.md_base_the_Phase_TheVariants.{Reshape, UpTo6, DownTo5}
+use Rattle.bank.specs.md_base_the_Wish.{Wish}
 use Rattle.bank.specs.Given.{Given}
 use Rattle.bank.specs.declared.bank.Operation.{Operation}
-use Rattle.grow_plan.specs.Plans.{AreSound, phases_steps, phases_to, largest_window, target, wished_level, is_same_shape, taken_up, before_down}
+use Rattle.call_entries.specs.grow_plan_Plans.{AreSound, phases_steps, phases_to, largest_window, target, wished_level, is_same_shape, taken_up, before_down}
 use Rattle.openings.specs.superblocks_the_Members.{Members}
 use Rattle.openings.specs.superblocks_Reading.{is_reshaping, shape_of, final_shape, list_length}
 use Rattle.openings.specs.superblocks_Reads.{has_spare}
-use Rattle.flat_history.specs.declared.events.Entry.{Entry}
-use Rattle.flat_history.specs.declared.events.Event.{Event}
-use Rattle.flat_history.specs.declared.events.Event.TheVariants.{Planned, Refused}
-use Rattle.flat_history.specs.declared.events.Request.TheVariants.{Grow as AsksGrow}
-use Rattle.flat_history.specs.Flat.{next_number, visible_of}
-use Rattle.flat_history.specs.Plain.{entries_of}
-use Rattle.flat_history.specs.World.{World}
+use Rattle.call_entries.specs.flat_history_the_Entry.{Entry}
+use Rattle.call_entries.specs.flat_history_the_Event.{Event}
+use Rattle.call_entries.specs.flat_history_the_Event_TheVariants.{Planned, Refused}
+use Rattle.call_entries.specs.flat_history_the_Request_TheVariants.{Grow as AsksGrow}
+use Rattle.call_entries.specs.flat_history_Flat.{next_number, visible_of}
+use Rattle.call_entries.specs.flat_history_Plain.{entries_of}
+use Rattle.call_entries.specs.flat_history_World.{World}
 use Rattle.openings.specs.views_the_Work.{Work}
 use Rattle.openings.specs.views_Placed.{AreWhole}
 use Rattle.openings.specs.views_Rebuilding.{Held}

@@ -2,16 +2,16 @@
 use Rattle.std.proofs.Common.{◌≡◌, ◌⊎◌, inl, inr, ℕ, ◌+◌, min, List, ◌++◌, length, sym, ◌∙◌, ap, subst}
 use Rattle.std.proofs.lemmas.List.Sums.{fold-append}
 use Rattle.std.specs.Option.{option_map_or}
-use Rattle.md_base.specs.declared.answers.Refusal.TheVariants.{TooManyMissing, NoSuchRole, NoSuchSlot, SlotTaken, SlotTooSmall, SlotFault, Nothing}
-use Rattle.flat_history.specs.declared.events.Entry.{Entry}
-use Rattle.flat_history.specs.declared.events.Event.{Event}
-use Rattle.flat_history.specs.declared.events.Event.TheVariants.{Stepped, Refused}
-use Rattle.flat_history.specs.declared.events.Request.{Request}
-use Rattle.flat_history.specs.declared.events.Request.TheVariants.{Read as AsksRead, Write as AsksWrite, Flush as AsksFlush, Fail as AsksFail, Add as AsksAdd, Visible as AsksVisible, Grow as AsksGrow, Steps as AsksSteps, Show as AsksShow}
-use Rattle.flat_history.specs.Fits.{IsReadRefused, IsWriteRefused}
-use Rattle.flat_history.specs.Flat.{length_after, length_of, limit_of, visible_of}
-use Rattle.flat_history.specs.Legal.{call_before}
-use Rattle.flat_history.specs.Transfers.{IsRefusedAt}
+use Rattle.array_kept.specs.md_base_the_Refusal_TheVariants.{TooManyMissing, NoSuchRole, NoSuchSlot, SlotTaken, SlotTooSmall, SlotFault, Nothing}
+use Rattle.call_entries.specs.flat_history_the_Entry.{Entry}
+use Rattle.call_entries.specs.flat_history_the_Event.{Event}
+use Rattle.call_entries.specs.flat_history_the_Event_TheVariants.{Stepped, Refused}
+use Rattle.call_entries.specs.flat_history_the_Request.{Request}
+use Rattle.call_entries.specs.flat_history_the_Request_TheVariants.{Read as AsksRead, Write as AsksWrite, Flush as AsksFlush, Fail as AsksFail, Add as AsksAdd, Visible as AsksVisible, Grow as AsksGrow, Steps as AsksSteps, Show as AsksShow}
+use Rattle.call_entries.specs.flat_history_Fits.{IsReadRefused, IsWriteRefused}
+use Rattle.call_entries.specs.flat_history_Flat.{length_after, length_of, limit_of, visible_of}
+use Rattle.call_entries.specs.flat_history_Legal.{call_before}
+use Rattle.call_entries.specs.flat_history_Transfers.{IsRefusedAt}
 use Rattle.openings.specs.running_replies_Replies.{MayRefuseGrow, MayRefuseLimit, RunningAnswers, RunningFits}
 use Rattle.running_calls.proofs.Leaving.{tells-or-leaves}
 

@@ -4,22 +4,22 @@ use Rattle.std.proofs.lemmas.List.Elements.{All-nil, All-cons, All-push, All-wea
 use Rattle.std.specs.Prelude.{nat_lt, MatchBool, MatchOption, IfSome, IsSome}
 use Rattle.bank.specs.Given.{Given, IsFaulted}
 use Rattle.bank.specs.declared.bank.Operation.{Operation}
-use Rattle.md_base.specs.declared.answers.Who.{Who}
-use Rattle.md_base.specs.declared.answers.Fault.{Fault}
-use Rattle.md_base.specs.declared.answers.Fault.TheVariants.{Refused as IsRefusedWith, NoMemory as WantsMemory}
-use Rattle.md_base.specs.declared.answers.Refusal.{Refusal}
-use Rattle.md_base.specs.declared.answers.Refusal.TheVariants.{TooManyMissing, NotResynced, BackupFault, NoSuchRole, SlotFault}
+use Rattle.array_kept.specs.md_base_the_Who.{Who}
+use Rattle.array_kept.specs.md_base_the_Fault.{Fault}
+use Rattle.array_kept.specs.md_base_the_Fault_TheVariants.{Refused as IsRefusedWith, NoMemory as WantsMemory}
+use Rattle.array_kept.specs.md_base_the_Refusal.{Refusal}
+use Rattle.array_kept.specs.md_base_the_Refusal_TheVariants.{TooManyMissing, NotResynced, BackupFault, NoSuchRole, SlotFault}
 use Rattle.openings.specs.superblocks_the_Members.{Members}
-use Rattle.flat_history.specs.declared.events.Entry.{Entry}
-use Rattle.flat_history.specs.declared.events.Event.{Event}
-use Rattle.flat_history.specs.declared.events.Event.TheVariants.{Wrote, Added, Stepped, Refused}
-use Rattle.flat_history.specs.declared.events.Request.{Request}
-use Rattle.flat_history.specs.declared.events.Request.TheVariants.{Read as AsksRead, Write as AsksWrite, Flush as AsksFlush, Fail as AsksFail, Add as AsksAdd}
-use Rattle.flat_history.specs.Flat.{visible_of}
-use Rattle.flat_history.specs.Fits.{IsReadRefused, IsWriteRefused}
-use Rattle.flat_history.specs.Legal.{call_before}
-use Rattle.flat_history.specs.Transfers.{IsRefusedAt, IsPastEnd}
-use Rattle.flat_history.specs.OneShape.{IsOfCall, EndsIdleSteps}
+use Rattle.call_entries.specs.flat_history_the_Entry.{Entry}
+use Rattle.call_entries.specs.flat_history_the_Event.{Event}
+use Rattle.call_entries.specs.flat_history_the_Event_TheVariants.{Wrote, Added, Stepped, Refused}
+use Rattle.call_entries.specs.flat_history_the_Request.{Request}
+use Rattle.call_entries.specs.flat_history_the_Request_TheVariants.{Read as AsksRead, Write as AsksWrite, Flush as AsksFlush, Fail as AsksFail, Add as AsksAdd}
+use Rattle.call_entries.specs.flat_history_Flat.{visible_of}
+use Rattle.call_entries.specs.flat_history_Fits.{IsReadRefused, IsWriteRefused}
+use Rattle.call_entries.specs.flat_history_Legal.{call_before}
+use Rattle.call_entries.specs.flat_history_Transfers.{IsRefusedAt, IsPastEnd}
+use Rattle.call_entries.specs.flat_history_OneShape.{IsOfCall, EndsIdleSteps}
 use Rattle.call_entries.proofs.PlainLaws.{one}
 use Rattle.openings.specs.array_kept_Calls.{StandsInside, IsAddedFor, IsEntered}
 use Rattle.openings.specs.running_replies_Replies.{RunningAnswers, IsRefusalBy, IsRefusalToldBy, HasToldBy}

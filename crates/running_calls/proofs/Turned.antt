@@ -3,12 +3,12 @@ use Rattle.std.proofs.Common.{◌≡◌, ◌&&◌, ◌||◌, ◌==◌, not, Bool
 use Rattle.std.proofs.lemmas.List.Sums.{fold-append}
 use Rattle.std.proofs.lemmas.List.Elements.{All-head, All-tail, All-weaker}
 use Rattle.std.specs.List.{list_any}
-use Rattle.flat_history.specs.declared.events.Entry.{Entry}
-use Rattle.flat_history.specs.declared.events.Event.{Event}
-use Rattle.flat_history.specs.declared.events.Event.TheVariants.{Planned, Step, Stepped, Shown}
-use Rattle.flat_history.specs.declared.events.StepKind.TheVariants.{Begun}
-use Rattle.flat_history.specs.Legal.{MayBeInner}
-use Rattle.flat_history.specs.Reshaped.{is_planned}
+use Rattle.call_entries.specs.flat_history_the_Entry.{Entry}
+use Rattle.call_entries.specs.flat_history_the_Event.{Event}
+use Rattle.call_entries.specs.flat_history_the_Event_TheVariants.{Planned, Step, Stepped, Shown}
+use Rattle.call_entries.specs.flat_history_the_StepKind_TheVariants.{Begun}
+use Rattle.call_entries.specs.flat_history_Legal.{MayBeInner}
+use Rattle.call_entries.specs.flat_history_Reshaped.{is_planned}
 use Rattle.openings.specs.running_replies_Going.{is_begin}
 use Rattle.running_calls.specs.Turning.{active_after, ahead_after, may_be_active, may_be_ahead}
 

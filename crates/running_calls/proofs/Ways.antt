@@ -3,15 +3,15 @@ use Rattle.std.proofs.Common.{◌≡◌, ℕ, true, false, List, [], ◌∷◌, 
 use Rattle.std.proofs.Math.Seq.{drop-append_seam}
 use Rattle.std.specs.Prelude.{if◌then◌else◌}
 use Rattle.std.specs.List.{list_any}
-use Rattle.md_base.specs.declared.answers.Who.{Who}
-use Rattle.md_base.specs.declared.wishes.Wish.{Wish}
-use Rattle.grow_plan.specs.Plans.{last_shape}
+use Rattle.array_kept.specs.md_base_the_Who.{Who}
+use Rattle.bank.specs.md_base_the_Wish.{Wish}
+use Rattle.call_entries.specs.grow_plan_Plans.{last_shape}
 use Rattle.openings.specs.superblocks_the_Members.{Members}
 use Rattle.openings.specs.superblocks_Reading.{is_reshaping, shape_of, final_shape}
-use Rattle.flat_history.specs.declared.events.Entry.{Entry}
-use Rattle.flat_history.specs.declared.events.Event.TheVariants.{Planned}
-use Rattle.flat_history.specs.declared.events.Request.TheVariants.{Grow as AsksGrow}
-use Rattle.flat_history.specs.Reshaped.{is_planned}
+use Rattle.call_entries.specs.flat_history_the_Entry.{Entry}
+use Rattle.call_entries.specs.flat_history_the_Event_TheVariants.{Planned}
+use Rattle.call_entries.specs.flat_history_the_Request_TheVariants.{Grow as AsksGrow}
+use Rattle.call_entries.specs.flat_history_Reshaped.{is_planned}
 use Rattle.openings.specs.grow_asked_Left.{phases_of}
 use Rattle.call_entries.proofs.PlainLaws.{one}
 use Rattle.openings.specs.running_words_Parts.{RunningParts}

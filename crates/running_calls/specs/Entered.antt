@@ -2,12 +2,12 @@
 use Rattle.std.specs.Prelude.{◌≡◌, ◌++◌, ◌<◌, ◌≤◌, List, ⊤}
 use Rattle.std.specs.List.{All}
 use Rattle.openings.specs.superblocks_Reading.{is_reshaping}
-use Rattle.flat_history.specs.declared.events.Entry.{Entry}
-use Rattle.flat_history.specs.declared.events.Event.{Event}
-use Rattle.flat_history.specs.declared.events.Event.TheVariants.{Stopped, Halted}
-use Rattle.flat_history.specs.declared.events.Request.{Request}
-use Rattle.flat_history.specs.declared.events.Request.TheVariants.{Steps as AsksSteps}
-use Rattle.flat_history.specs.Flat.{next_number}
+use Rattle.call_entries.specs.flat_history_the_Entry.{Entry}
+use Rattle.call_entries.specs.flat_history_the_Event.{Event}
+use Rattle.call_entries.specs.flat_history_the_Event_TheVariants.{Stopped, Halted}
+use Rattle.call_entries.specs.flat_history_the_Request.{Request}
+use Rattle.call_entries.specs.flat_history_the_Request_TheVariants.{Steps as AsksSteps}
+use Rattle.call_entries.specs.flat_history_Flat.{next_number}
 use Rattle.openings.specs.grow_asked_Left.{phases_of}
 use Rattle.openings.specs.running_Calls.{running_left}
 use Rattle.openings.specs.running_replies_Going.{HasNoReshape}

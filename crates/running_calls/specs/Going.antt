@@ -6,11 +6,11 @@ use Rattle.bank.specs.Given.{Given, NeverFalls}
 use Rattle.openings.specs.superblocks_the_Members.{Members}
 use Rattle.openings.specs.superblocks_Reads.{has_spare}
 use Rattle.openings.specs.superblocks_Reading.{is_reshaping, list_length}
-use Rattle.flat_history.specs.declared.events.Entry.{Entry}
-use Rattle.flat_history.specs.declared.events.Event.{Event}
-use Rattle.flat_history.specs.declared.events.Event.TheVariants.{Added}
-use Rattle.flat_history.specs.Flat.{length_of}
-use Rattle.flat_history.specs.Reshaped.{is_planned}
+use Rattle.call_entries.specs.flat_history_the_Entry.{Entry}
+use Rattle.call_entries.specs.flat_history_the_Event.{Event}
+use Rattle.call_entries.specs.flat_history_the_Event_TheVariants.{Added}
+use Rattle.call_entries.specs.flat_history_Flat.{length_of}
+use Rattle.call_entries.specs.flat_history_Reshaped.{is_planned}
 use Rattle.openings.specs.views_Moving.{Grows}
 use Rattle.openings.specs.views_Rebuilding.{Held, MayHold}
 use Rattle.openings.specs.array_kept_Calls.{IsLossBy}

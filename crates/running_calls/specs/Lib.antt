@@ -51,3 +51,22 @@ pub use Rattle.openings.specs.superblocks_Reads
 pub use Rattle.openings.specs.superblocks_Found
 pub use Rattle.openings.specs.grow_asked_the_PhasesLeft
 pub use Rattle.openings.specs.superblocks_Election
+pub use Rattle.array_kept.specs.md_base_Search
+pub use Rattle.array_kept.specs.md_base_Sectors
+pub use Rattle.array_kept.specs.md_base_Shapes
+pub use Rattle.array_kept.specs.md_base_the_BusyKind_TheVariants
+pub use Rattle.array_kept.specs.md_base_the_Fault
+pub use Rattle.array_kept.specs.md_base_the_Fault_TheVariants
+pub use Rattle.array_kept.specs.md_base_the_Phase
+pub use Rattle.array_kept.specs.md_base_the_Refusal
+pub use Rattle.array_kept.specs.md_base_the_Refusal_TheVariants
+pub use Rattle.array_kept.specs.md_base_the_Status
+pub use Rattle.array_kept.specs.md_base_the_Who
+pub use Rattle.bank.specs.Given as bank_Given
+pub use Rattle.bank.specs.Stretches as bank_Stretches
+pub use Rattle.bank.specs.Tape as bank_Tape
+pub use Rattle.bank.specs.declared.bank.BankFault as bank_the_BankFault
+pub use Rattle.bank.specs.declared.bank.Operation as bank_the_Operation
+pub use Rattle.bank.specs.declared.bank.Operation.TheVariants as bank_the_Operation_TheVariants
+pub use Rattle.bank.specs.md_base_the_NoMemory
+pub use Rattle.bank.specs.md_base_the_Wish

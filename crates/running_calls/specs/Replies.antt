@@ -1,17 +1,17 @@
 -- The replies to a caller's requests.
 use Rattle.std.specs.Prelude.{◌≡◌, ℕ, ◌+◌, ◌<◌, ◌≤◌, ◌^◌, ◌++◌, List, [], ◌∷◌, length, Result, Ok, Err, ⊤}
-use Rattle.md_base.specs.declared.answers.Who.{Who}
-use Rattle.md_base.specs.declared.answers.Fault.{Fault}
-use Rattle.md_base.specs.declared.answers.Fault.TheVariants.{Refused as IsRefusedWith, NoMemory as WantsMemory}
-use Rattle.md_base.specs.declared.answers.NoMemory.{NoMemory}
-use Rattle.md_base.specs.declared.status.Status.{Status}
+use Rattle.array_kept.specs.md_base_the_Who.{Who}
+use Rattle.array_kept.specs.md_base_the_Fault.{Fault}
+use Rattle.array_kept.specs.md_base_the_Fault_TheVariants.{Refused as IsRefusedWith, NoMemory as WantsMemory}
+use Rattle.bank.specs.md_base_the_NoMemory.{NoMemory}
+use Rattle.array_kept.specs.md_base_the_Status.{Status}
 use Rattle.openings.specs.superblocks_Reading.{list_length}
-use Rattle.flat_history.specs.declared.events.Entry.{Entry}
-use Rattle.flat_history.specs.declared.events.Event.{Event}
-use Rattle.flat_history.specs.declared.events.Event.TheVariants.{Shown, Refused}
-use Rattle.flat_history.specs.declared.events.Request.{Request}
-use Rattle.flat_history.specs.declared.events.Request.TheVariants.{Read as AsksRead, Write as AsksWrite, Flush as AsksFlush, Fail as AsksFail, Add as AsksAdd, Visible as AsksVisible, Grow as AsksGrow, Steps as AsksSteps, Show as AsksShow}
-use Rattle.flat_history.specs.Flat.{length_of, limit_of}
+use Rattle.call_entries.specs.flat_history_the_Entry.{Entry}
+use Rattle.call_entries.specs.flat_history_the_Event.{Event}
+use Rattle.call_entries.specs.flat_history_the_Event_TheVariants.{Shown, Refused}
+use Rattle.call_entries.specs.flat_history_the_Request.{Request}
+use Rattle.call_entries.specs.flat_history_the_Request_TheVariants.{Read as AsksRead, Write as AsksWrite, Flush as AsksFlush, Fail as AsksFail, Add as AsksAdd, Visible as AsksVisible, Grow as AsksGrow, Steps as AsksSteps, Show as AsksShow}
+use Rattle.call_entries.specs.flat_history_Flat.{length_of, limit_of}
 use Rattle.openings.specs.running_words_Parts.{RunningParts}
 use Rattle.openings.specs.running_replies_Replies.{IsAnsweredWith}
 use Rattle.openings.specs.running_Calls.{running_left, IsShownAs}

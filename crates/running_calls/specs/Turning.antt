@@ -1,10 +1,10 @@
 -- Whether a reshape may be active in an array, or ahead of it, by the entries of its history alone: no bank is asked.
 use Rattle.std.specs.Prelude.{◌≡◌, ℕ, Bool, true, false, not, ◌&&◌, ◌||◌, ◌==◌, is_some, List, [], take, slice_get, fold, MatchOption, IsTrue}
-use Rattle.md_base.specs.declared.wishes.Phase.{Phase}
-use Rattle.flat_history.specs.declared.events.Entry.{Entry}
-use Rattle.flat_history.specs.declared.events.Event.{Event}
-use Rattle.flat_history.specs.declared.events.Event.TheVariants.{Planned, Step, Stepped, Shown}
-use Rattle.flat_history.specs.declared.events.StepKind.TheVariants.{Begun}
+use Rattle.array_kept.specs.md_base_the_Phase.{Phase}
+use Rattle.call_entries.specs.flat_history_the_Entry.{Entry}
+use Rattle.call_entries.specs.flat_history_the_Event.{Event}
+use Rattle.call_entries.specs.flat_history_the_Event_TheVariants.{Planned, Step, Stepped, Shown}
+use Rattle.call_entries.specs.flat_history_the_StepKind_TheVariants.{Begun}
 use Rattle.openings.specs.running_replies_Replies.{MayTellBy}
 
 -- A reshape may be active from when a status tells one, as that of an opening does which found one, or a step that one began, until an answer to a request for steps tells that none is left.

@@ -3,16 +3,16 @@
 ghost use Rattle.std.specs.Prelude.{◌≡◌, ◌≢◌, OnOk};
 ghost use Rattle.openings.specs.superblocks_Reading.{is_reshaping, is_clean, list_length};
 ghost use Rattle.openings.specs.row_io_Rows.{present};
-ghost use Rattle.flat_history.specs.Flat.{next_number};
-ghost use Rattle.flat_history.specs.declared.events.Event.TheVariants.{Added};
-ghost use Rattle.flat_history.specs.declared.events.Request.TheVariants.{Add as AsksAdd};
+ghost use Rattle.call_entries.specs.flat_history_Flat.{next_number};
+ghost use Rattle.call_entries.specs.flat_history_the_Event_TheVariants.{Added};
+ghost use Rattle.call_entries.specs.flat_history_the_Request_TheVariants.{Add as AsksAdd};
 ghost use Rattle.openings.specs.shape_changes_Marking.{AreOthersPresent};
 ghost use Rattle.openings.specs.views_Lacking.{HaveRolesFailed};
 ghost use Rattle.openings.specs.array_kept_Calls.{IsAddedFor, IsAddedAs, AreNumbersBorne, IsAnswered, OnNoMemory};
 ghost use Rattle.openings.specs.running_words_Adding.{IsAddCalled};
 
+use array_kept::{Fault, Who};
 use bank::Bank;
-use md_base::{Fault, Who};
 use openings::{Running, State, check_moving, check_still};
 
 /// Makes a slot a spare, which in a reshape gets no role until that is over: flushes it, and writes its superblock, with the

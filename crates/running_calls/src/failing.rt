@@ -3,15 +3,15 @@
 ghost use Rattle.std.specs.Prelude.{◌≡◌, ◌≢◌};
 ghost use Rattle.openings.specs.superblocks_Reading.{is_reshaping, is_clean, list_length};
 ghost use Rattle.openings.specs.row_io_Rows.{present};
-ghost use Rattle.flat_history.specs.Flat.{next_number};
-ghost use Rattle.flat_history.specs.declared.events.Event.TheVariants.{Failed};
-ghost use Rattle.flat_history.specs.declared.events.Request.TheVariants.{Fail as AsksFail};
+ghost use Rattle.call_entries.specs.flat_history_Flat.{next_number};
+ghost use Rattle.call_entries.specs.flat_history_the_Event_TheVariants.{Failed};
+ghost use Rattle.call_entries.specs.flat_history_the_Request_TheVariants.{Fail as AsksFail};
 ghost use Rattle.openings.specs.shape_changes_Marking.{AreOthersPresent};
 ghost use Rattle.openings.specs.array_kept_Calls.{IsAnswered, IsFailedFor, OnNoMemory};
 ghost use Rattle.openings.specs.running_words_Calls.{IsCalled};
 
+use array_kept::{Fault, Who};
 use bank::Bank;
-use md_base::{Fault, Who};
 use openings::{Running, State, check_moving, check_still};
 
 /// Takes the slot of this role out of the array, and names the role missing in the superblocks of the others. Refusals:

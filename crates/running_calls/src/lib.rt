@@ -13,9 +13,13 @@ mod showing;
 mod writing;
 
 pub use adding::add;
+pub use array_kept::{Fault, NoMemory, Refusal, Who};
+pub use bank::{Bank, BankFault, Wish};
 pub use failing::fail;
 pub use limiting::set_visible;
-pub use openings::{CreateSpec, Running, create_array, examine, halt, open_running, steps, stop};
+pub use openings::{
+    CreateSpec, Running, create_array, examine, halt, open_running, read_superblock, steps, stop,
+};
 pub use performing::{perform, tells_sizes};
 pub use planning::plan_grow;
 pub use reading::read;

@@ -1,12 +1,12 @@
 //! How much of a running array's list can be read and written.
 
 ghost use Rattle.std.specs.Prelude.{◌≡◌, ◌≢◌, Some, length, IsErr};
-ghost use Rattle.md_base.specs.declared.answers.Refusal.TheVariants.{Busy};
-ghost use Rattle.md_base.specs.declared.answers.BusyKind.TheVariants.{Reshape};
+ghost use Rattle.array_kept.specs.md_base_the_Refusal_TheVariants.{Busy};
+ghost use Rattle.array_kept.specs.md_base_the_BusyKind_TheVariants.{Reshape};
 ghost use Rattle.openings.specs.superblocks_Reading.{list_length};
-ghost use Rattle.flat_history.specs.Flat.{next_number};
-ghost use Rattle.flat_history.specs.declared.events.Event.TheVariants.{Visible, Refused};
-ghost use Rattle.flat_history.specs.declared.events.Request.TheVariants.{Visible as AsksVisible};
+ghost use Rattle.call_entries.specs.flat_history_Flat.{next_number};
+ghost use Rattle.call_entries.specs.flat_history_the_Event_TheVariants.{Visible, Refused};
+ghost use Rattle.call_entries.specs.flat_history_the_Request_TheVariants.{Visible as AsksVisible};
 ghost use Rattle.openings.specs.array_kept_Calls.{OnNoMemory, IsEndOf, by_answer};
 ghost use Rattle.openings.specs.grow_asked_Left.{phases_of};
 ghost use Rattle.openings.specs.running_words_Parts.{visible_in};
@@ -17,9 +17,9 @@ ghost use Rattle.openings.specs.running_replies_Replies.{IsRepliedWith};
 ghost use Rattle.openings.specs.running_replies_Limits.{limit_refusal};
 ghost use Rattle.openings.specs.growing_Planned.{IsJudged, IsReplied};
 
+use array_kept::{Fault, Who};
 use bank::Bank;
 use core::mem::replace_with;
-use md_base::{Fault, Who};
 use openings::{Moving, Running, State, check_moving, check_still, refuse_limit};
 
 // Refuses the limit of a caller, in a reshape.

@@ -2,8 +2,8 @@
 
 ghost use Rattle.std.specs.Prelude.{◌≡◌, ◌≢◌, IfOk, IfErr};
 ghost use Rattle.openings.specs.superblocks_Reading.{list_length};
-ghost use Rattle.flat_history.specs.Flat.{next_number};
-ghost use Rattle.flat_history.specs.declared.events.Request.TheVariants.{Read as AsksRead, Write as AsksWrite, Flush as AsksFlush, Fail as AsksFail, Add as AsksAdd, Visible as AsksVisible, Grow as AsksGrow};
+ghost use Rattle.call_entries.specs.flat_history_Flat.{next_number};
+ghost use Rattle.call_entries.specs.flat_history_the_Request_TheVariants.{Read as AsksRead, Write as AsksWrite, Flush as AsksFlush, Fail as AsksFail, Add as AsksAdd, Visible as AsksVisible, Grow as AsksGrow};
 ghost use Rattle.openings.specs.array_kept_Calls.{IsEndOf};
 ghost use Rattle.openings.specs.running_replies_Replies.{IsAnsweredWith};
 ghost use Rattle.running_calls.specs.Entered.{HasEntered, RestsBehind};
@@ -11,9 +11,9 @@ ghost use Rattle.running_calls.specs.Going.{HasGoneOn};
 ghost use Rattle.running_calls.specs.Replies.{IsAskable, TellsSizes, told_by, IsShownBy, IsPerformed, IsRepliedBy, IsCountedBy, OnReply};
 
 use crate::reply::Reply;
-use bank::Bank;
-use flat_history::{Event, Request};
-use md_base::{Fault, NoMemory, Sectors, Who, Wish};
+use array_kept::{Fault, NoMemory, Sectors, Who};
+use bank::{Bank, Wish};
+use call_entries::{Event, Request};
 use openings::{Running, steps};
 use std::alloc::Global;
 

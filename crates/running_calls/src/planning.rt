@@ -1,12 +1,12 @@
 //! Requests to grow a running array.
 
 ghost use Rattle.std.specs.Prelude.{◌≡◌, ◌≢◌, ◌*◌, ◌≤◌, length, OnOk, OnErr, IsErr, IfOk};
-ghost use Rattle.md_base.specs.declared.answers.Refusal.TheVariants.{Busy};
-ghost use Rattle.md_base.specs.declared.answers.BusyKind.TheVariants.{Reshape};
-ghost use Rattle.grow_plan.specs.Plans.{largest_window};
+ghost use Rattle.array_kept.specs.md_base_the_Refusal_TheVariants.{Busy};
+ghost use Rattle.array_kept.specs.md_base_the_BusyKind_TheVariants.{Reshape};
+ghost use Rattle.call_entries.specs.grow_plan_Plans.{largest_window};
 ghost use Rattle.openings.specs.superblocks_Reading.{shape_of, list_length};
-ghost use Rattle.flat_history.specs.Flat.{next_number, visible_of};
-ghost use Rattle.flat_history.specs.declared.events.Event.TheVariants.{Planned, Refused};
+ghost use Rattle.call_entries.specs.flat_history_Flat.{next_number, visible_of};
+ghost use Rattle.call_entries.specs.flat_history_the_Event_TheVariants.{Planned, Refused};
 ghost use Rattle.openings.specs.array_kept_Calls.{OnNoMemory, IsEndOf};
 ghost use Rattle.openings.specs.grow_asked_Left.{phases_of};
 ghost use Rattle.openings.specs.running_words_Parts.{visible_in, still_left};
@@ -17,9 +17,9 @@ ghost use Rattle.openings.specs.growing_Plans.{GoesTo};
 ghost use Rattle.openings.specs.growing_Replied.{IsGrowReplied};
 ghost use Rattle.openings.specs.running_Calls.{running_left};
 
-use bank::Bank;
+use array_kept::{Fault, Who};
+use bank::{Bank, Wish};
 use core::mem::replace_with;
-use md_base::{Fault, Who, Wish};
 use openings::{
     Moving, PlannedGrow, Running, State, Still, check_moving, check_still, refuse_grow,
 };

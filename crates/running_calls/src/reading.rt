@@ -1,14 +1,14 @@
 //! Reads of a running array.
 
 ghost use Rattle.std.specs.Prelude.{◌≡◌, ◌≢◌, ◌+◌, ◌/◌, ◌^◌, ◌<◌, false, length, OnOk, OnErr};
-ghost use Rattle.md_base.specs.Sectors.{IsWhole, sectors_of};
+ghost use Rattle.array_kept.specs.md_base_Sectors.{IsWhole, sectors_of};
 ghost use Rattle.bank.specs.Tape.{AreSectors};
 ghost use Rattle.openings.specs.superblocks_Reading.{is_reshaping, is_clean, shape_of, list_length};
 ghost use Rattle.openings.specs.row_io_Rows.{present};
-ghost use Rattle.flat_history.specs.Flat.{next_number, now};
-ghost use Rattle.flat_history.specs.World.{opening_list};
-ghost use Rattle.flat_history.specs.declared.events.Event.TheVariants.{Read};
-ghost use Rattle.flat_history.specs.declared.events.Request.TheVariants.{Read as AsksRead};
+ghost use Rattle.call_entries.specs.flat_history_Flat.{next_number, now};
+ghost use Rattle.call_entries.specs.flat_history_World.{opening_list};
+ghost use Rattle.call_entries.specs.flat_history_the_Event_TheVariants.{Read};
+ghost use Rattle.call_entries.specs.flat_history_the_Request_TheVariants.{Read as AsksRead};
 ghost use Rattle.openings.specs.shape_changes_Marking.{AreOthersPresent};
 ghost use Rattle.openings.specs.views_Lacking.{HaveRolesFailed, mended_rows};
 ghost use Rattle.openings.specs.views_Placed.{AreWhole};
@@ -18,8 +18,8 @@ ghost use Rattle.openings.specs.running_words_Parts.{visible_in};
 ghost use Rattle.openings.specs.running_words_Calls.{moving_world, IsCalled};
 ghost use Rattle.openings.specs.running_Calls.{IsReadRight, IsReadLacked};
 
+use array_kept::{Fault, Who};
 use bank::Bank;
-use md_base::{Fault, Who};
 use openings::{Running, State, check_moving, check_still};
 
 /// Fills `into`, of whole sectors, with those of the list from `at` on; what a missing member held is filled in from the

@@ -1,6 +1,6 @@
 //! The answer to a request.
 
-use flat_history::Event;
+use call_entries::Event;
 
 /// The place of the reply's entry and a copy of its event; or memory was short, and nothing was done.
 #[derive(Drop)]

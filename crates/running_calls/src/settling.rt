@@ -3,16 +3,16 @@
 ghost use Rattle.std.specs.Prelude.{◌≡◌, ◌≢◌, true, None, OnOk};
 ghost use Rattle.openings.specs.superblocks_Reading.{is_reshaping, is_clean, list_length};
 ghost use Rattle.openings.specs.row_io_Rows.{reading_of, present};
-ghost use Rattle.flat_history.specs.Flat.{next_number};
-ghost use Rattle.flat_history.specs.declared.events.Event.TheVariants.{Flushed};
-ghost use Rattle.flat_history.specs.declared.events.Request.TheVariants.{Flush as AsksFlush};
+ghost use Rattle.call_entries.specs.flat_history_Flat.{next_number};
+ghost use Rattle.call_entries.specs.flat_history_the_Event_TheVariants.{Flushed};
+ghost use Rattle.call_entries.specs.flat_history_the_Request_TheVariants.{Flush as AsksFlush};
 ghost use Rattle.openings.specs.shape_changes_Marking.{AreOthersPresent};
 ghost use Rattle.openings.specs.views_Lacking.{HaveRolesFailed, AreHoldersFlushed, AreTooMany};
 ghost use Rattle.openings.specs.array_kept_Calls.{IsAnswered, IsCausedBy, OnNoMemory};
 ghost use Rattle.openings.specs.running_words_Calls.{IsCalled};
 
+use array_kept::{Fault, Who};
 use bank::Bank;
-use md_base::{Fault, Who};
 use openings::{Running, State, check_moving, check_still};
 
 /// Makes what was written durable, and marks the array clean, unless a resync is pending. Refusals: `TooManyMissing`.

@@ -1,14 +1,14 @@
 //! What a running array tells of itself, entered in its history.
 
 ghost use Rattle.std.specs.Prelude.{◌≡◌, ◌≢◌, ◌≤◌, [], ◌∷◌, length, IfOk, IfErr};
-ghost use Rattle.flat_history.specs.Flat.{next_number};
-ghost use Rattle.flat_history.specs.declared.events.Event.TheVariants.{Shown};
+ghost use Rattle.call_entries.specs.flat_history_Flat.{next_number};
+ghost use Rattle.call_entries.specs.flat_history_the_Event_TheVariants.{Shown};
 ghost use Rattle.openings.specs.array_kept_Calls.{IsEntered, IsEndOf};
 ghost use Rattle.openings.specs.running_words_Calls.{moving_world, IsSameReshape};
 ghost use Rattle.openings.specs.running_Calls.{IsShownAs};
 
+use array_kept::{NoMemory, Status, Who};
 use bank::Bank;
-use md_base::{NoMemory, Status, Who};
 use openings::{Running, State, check_moving, check_still};
 
 /// What the array tells of itself, entered in its history. It makes no device call.

@@ -1,15 +1,15 @@
 //! Writes to a running array.
 
 ghost use Rattle.std.specs.Prelude.{◌≡◌, ◌≢◌, ◌+◌, ◌/◌, ◌^◌, ◌<◌, ◌≤◌, true, false, length, Err, IfSome, OnOk, OnErr, IsFalse, IsSome};
-ghost use Rattle.md_base.specs.Sectors.{IsWhole, sectors_of};
-ghost use Rattle.md_base.specs.declared.answers.Fault.TheVariants.{Refused as IsRefusedWith};
-ghost use Rattle.md_base.specs.declared.answers.Refusal.TheVariants.{BackupFault};
+ghost use Rattle.array_kept.specs.md_base_Sectors.{IsWhole, sectors_of};
+ghost use Rattle.array_kept.specs.md_base_the_Fault_TheVariants.{Refused as IsRefusedWith};
+ghost use Rattle.array_kept.specs.md_base_the_Refusal_TheVariants.{BackupFault};
 ghost use Rattle.bank.specs.Given.{IsFaulted};
 ghost use Rattle.openings.specs.superblocks_Reading.{is_reshaping, is_clean, shape_of, list_length};
 ghost use Rattle.openings.specs.row_io_Rows.{present};
-ghost use Rattle.flat_history.specs.Flat.{next_number};
-ghost use Rattle.flat_history.specs.declared.events.Event.TheVariants.{Wrote};
-ghost use Rattle.flat_history.specs.declared.events.Request.TheVariants.{Write as AsksWrite};
+ghost use Rattle.call_entries.specs.flat_history_Flat.{next_number};
+ghost use Rattle.call_entries.specs.flat_history_the_Event_TheVariants.{Wrote};
+ghost use Rattle.call_entries.specs.flat_history_the_Request_TheVariants.{Write as AsksWrite};
 ghost use Rattle.openings.specs.shape_changes_Marking.{AreOthersPresent};
 ghost use Rattle.openings.specs.views_Lacking.{HaveRolesFailed, are_mended, mended_rows};
 ghost use Rattle.openings.specs.safe_updates_First.{write_refusal, call_refusal, IsFirstRefused};
@@ -20,8 +20,8 @@ ghost use Rattle.openings.specs.running_words_Calls.{IsCalled};
 ghost use Rattle.openings.specs.moving_laws_Writing.{TouchesWindow, IsWriteEntered, IsWriteReplied};
 ghost use Rattle.openings.specs.running_Calls.{IsWriteLackedIn};
 
+use array_kept::{Fault, Who};
 use bank::Bank;
-use md_base::{Fault, Who};
 use openings::{Running, State, check_moving, check_still};
 
 /// Makes the list hold `from`, of 1 to 128 whole sectors, from `at` on. Where some lie in the open window of a reshape, that is

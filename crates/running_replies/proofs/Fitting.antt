@@ -1,8 +1,8 @@
 -- A reply of an array of one shape is one of a running array.
 use Rattle.std.proofs.Common.{inl, inr, ℕ, ◌+◌, Bool, true, false, Some, None, List, length}
 use Rattle.std.specs.Prelude.{MatchBool, nat_lt}
-use Rattle.md_base.specs.declared.answers.Refusal.{Refusal}
-use Rattle.md_base.specs.declared.answers.Refusal.TheVariants.{BackupFault, Degraded, NeedSpares, Nothing}
+use Rattle.bank.specs.md_base_the_Refusal.{Refusal}
+use Rattle.bank.specs.md_base_the_Refusal_TheVariants.{BackupFault, Degraded, NeedSpares, Nothing}
 use Rattle.running_words.specs.flat_history_the_Entry.{Entry}
 use Rattle.running_words.specs.flat_history_the_Event.{Event}
 use Rattle.running_words.specs.flat_history_the_Event_TheVariants.{Resized, Stepped, Refused}

@@ -8,8 +8,8 @@ use Rattle.std.specs.List.{list_any}
 use Rattle.bank.specs.declared.bank.Operation.{Operation}
 use Rattle.bank.specs.Given.{Given, IsFaulted, NeverFalls}
 use Rattle.bank.proofs.Causes.{faulted_longer}
-use Rattle.md_base.specs.declared.answers.Refusal.{Refusal}
-use Rattle.md_base.specs.declared.answers.Refusal.TheVariants.{SlotFault, BackupFault}
+use Rattle.bank.specs.md_base_the_Refusal.{Refusal}
+use Rattle.bank.specs.md_base_the_Refusal_TheVariants.{SlotFault, BackupFault}
 use Rattle.running_words.specs.superblocks_the_Members.{Members}
 use Rattle.running_words.specs.superblocks_Reading.{list_length}
 use Rattle.running_words.specs.superblocks_Reads.{has_spare}

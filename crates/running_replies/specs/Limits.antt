@@ -1,8 +1,8 @@
 -- A request to limit how much of a running array's list can be read and written: what speaks against it.
 use Rattle.std.specs.Prelude.{ℕ, if◌then◌else◌, Option, Some}
-use Rattle.md_base.specs.declared.answers.BusyKind.TheVariants.{Reshape}
-use Rattle.md_base.specs.declared.answers.Refusal.{Refusal}
-use Rattle.md_base.specs.declared.answers.Refusal.TheVariants.{Busy}
+use Rattle.bank.specs.md_base_the_BusyKind_TheVariants.{Reshape}
+use Rattle.bank.specs.md_base_the_Refusal.{Refusal}
+use Rattle.bank.specs.md_base_the_Refusal_TheVariants.{Busy}
 use Rattle.running_words.specs.superblocks_Reading.{is_reshaping}
 use Rattle.running_words.specs.Parts.{RunningParts}
 use Rattle.running_words.specs.Visible.{still_refusal}

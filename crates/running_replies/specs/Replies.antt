@@ -2,12 +2,12 @@
 -- entries before the reply, and `call` are those of its call directly before it.
 use Rattle.std.specs.Prelude.{◌≡◌, ◌⊎◌, ℕ, ◌+◌, ◌<◌, ◌≤◌, ◌++◌, Bool, true, false, List, [], ◌∷◌, length, count_by, Option, MatchOption, IfSome, IsSome, IsTrue, Result, Ok, Err, ⊤}
 use Rattle.std.specs.List.{list_any, All}
-use Rattle.md_base.specs.declared.answers.Refusal.{Refusal}
-use Rattle.md_base.specs.declared.answers.Refusal.TheVariants.{TooManyMissing, NotResynced, BackupFault, SlotFault, PastSize, Busy, Degraded, SameShape, BadShape, SizeNotMultiple, NeedSpares, NeedBackup, BackupTooSmall, ArraySizeFirst, Nothing}
-use Rattle.md_base.specs.declared.answers.BusyKind.TheVariants.{Reshape as WithReshape, Plan as WithPlan}
-use Rattle.md_base.specs.declared.answers.Fault.{Fault}
-use Rattle.md_base.specs.declared.answers.Fault.TheVariants.{Refused as IsRefusedWith, NoMemory}
-use Rattle.md_base.specs.declared.answers.Who.{Who}
+use Rattle.bank.specs.md_base_the_Refusal.{Refusal}
+use Rattle.bank.specs.md_base_the_Refusal_TheVariants.{TooManyMissing, NotResynced, BackupFault, SlotFault, PastSize, Busy, Degraded, SameShape, BadShape, SizeNotMultiple, NeedSpares, NeedBackup, BackupTooSmall, ArraySizeFirst, Nothing}
+use Rattle.bank.specs.md_base_the_BusyKind_TheVariants.{Reshape as WithReshape, Plan as WithPlan}
+use Rattle.bank.specs.md_base_the_Fault.{Fault}
+use Rattle.bank.specs.md_base_the_Fault_TheVariants.{Refused as IsRefusedWith, NoMemory}
+use Rattle.bank.specs.md_base_the_Who.{Who}
 use Rattle.bank.specs.Given.{IsFaulted}
 use Rattle.running_words.specs.flat_history_the_Entry.{Entry}
 use Rattle.running_words.specs.flat_history_the_Event.{Event}

@@ -5,18 +5,18 @@ use Rattle.std.proofs.lemmas.Bool.Decides.{nat_tests}
 use Rattle.std.proofs.lemmas.List.{get_or_past}
 use Rattle.std.proofs.lemmas.List.Elements.{All-nil, All-cons}
 use Rattle.std.specs.Prelude.{nat_lt, IsSome}
-use Rattle.md_base.specs.Search.{tabulate}
-use Rattle.md_base.specs.Shapes.{data_disks, has_slot}
-use Rattle.md_base.specs.declared.answers.Refusal.{Refusal}
-use Rattle.md_base.specs.declared.answers.Who.{Who}
-use Rattle.md_base.specs.declared.places.Shape.{Shape}
-use Rattle.md_base.specs.declared.status.Role.TheVariants.{Missing}
-use Rattle.md_base.specs.declared.wishes.Phase.{Phase}
-use Rattle.md_base.specs.declared.wishes.Phase.TheVariants.{Reshape}
-use Rattle.md_base.proofs.Tabulated.{length-tabulate, get_or-tabulate}
-use Rattle.bank.specs.declared.bank.Operation.{Operation}
-use Rattle.bank.specs.Given.{Given, NeverFalls}
-use Rattle.sb1.specs.declared.sb.Sb.{Sb}
+use Rattle.running.specs.md_base_Search.{tabulate}
+use Rattle.running.specs.md_base_Shapes.{data_disks, has_slot}
+use Rattle.running.specs.md_base_the_Refusal.{Refusal}
+use Rattle.running.specs.md_base_the_Who.{Who}
+use Rattle.running.specs.md_base_the_Shape.{Shape}
+use Rattle.running.specs.md_base_the_Role_TheVariants.{Missing}
+use Rattle.running.specs.md_base_the_Phase.{Phase}
+use Rattle.running.specs.md_base_the_Phase_TheVariants.{Reshape}
+use Rattle.running.proofs.md_base_Tabulated.{length-tabulate, get_or-tabulate}
+use Rattle.running.specs.bank_the_Operation.{Operation}
+use Rattle.running.specs.bank_Given.{Given, NeverFalls}
+use Rattle.running.specs.sb1_the_Sb.{Sb}
 use Rattle.running.specs.superblocks_the_Change.{Change}
 use Rattle.running.specs.superblocks_the_Give.{Give}
 use Rattle.running.specs.superblocks_the_Members.{Members}
@@ -26,12 +26,12 @@ use Rattle.running.specs.superblocks_Reads.{has_spare}
 use Rattle.running.specs.superblocks_Update.{give_of, planned_role, is_planned_spare}
 use Rattle.running.proofs.superblock_reads_SaidLists.{role-holder}
 use Rattle.running.proofs.superblock_reads_SaidSlots.{has-slots_below}
-use Rattle.flat_history.specs.declared.events.Entry.{Entry}
-use Rattle.flat_history.specs.declared.events.Event.{Event}
-use Rattle.flat_history.specs.declared.events.Event.TheVariants.{Resized, Step, Refused}
-use Rattle.flat_history.specs.declared.events.StepKind.TheVariants.{Begun}
-use Rattle.flat_history.specs.Flat.{length_of}
-use Rattle.flat_history.specs.Plain.{entries_of}
+use Rattle.running.specs.flat_history_the_Entry.{Entry}
+use Rattle.running.specs.flat_history_the_Event.{Event}
+use Rattle.running.specs.flat_history_the_Event_TheVariants.{Resized, Step, Refused}
+use Rattle.running.specs.flat_history_the_StepKind_TheVariants.{Begun}
+use Rattle.running.specs.flat_history_Flat.{length_of}
+use Rattle.running.specs.flat_history_Plain.{entries_of}
 use Rattle.running.specs.call_entries_Losing.{losses_of}
 use Rattle.running.proofs.call_entries_PlainLaws.{one}
 use Rattle.running.proofs.shape_changes_PlannedRoles.{planned-holds}

@@ -3,12 +3,12 @@ use Rattle.std.proofs.Common.{◌≡◌, inl, inr, ℕ, ◌+◌, ◌||◌, ◌++
 use Rattle.std.specs.Prelude.{IfSome}
 use Rattle.std.specs.List.{list_any}
 use Rattle.std.proofs.lemmas.List.Folds.{list_any-append}
-use Rattle.md_base.specs.declared.answers.Refusal.{Refusal}
-use Rattle.md_base.specs.declared.answers.Who.{Who}
-use Rattle.bank.specs.declared.bank.Operation.{Operation}
-use Rattle.bank.specs.Given.{Given}
+use Rattle.running.specs.md_base_the_Refusal.{Refusal}
+use Rattle.running.specs.md_base_the_Who.{Who}
+use Rattle.running.specs.bank_the_Operation.{Operation}
+use Rattle.running.specs.bank_Given.{Given}
 use Rattle.running.specs.superblocks_Reading.{is_reshaping}
-use Rattle.flat_history.specs.declared.events.Entry.{Entry}
+use Rattle.running.specs.flat_history_the_Entry.{Entry}
 use Rattle.running.specs.array_kept_Calls.{IsEndOf}
 use Rattle.running.specs.kept_history_Recorded.{IsCallGoing}
 use Rattle.running.specs.running_words_Parts.{RunningParts}

@@ -4,21 +4,21 @@ use Rattle.std.proofs.Math.Nat.{min-le_right}
 use Rattle.std.proofs.lemmas.Bool.Decides.{nat_tests}
 use Rattle.std.specs.Prelude.{nat_lt, if◌then◌else◌, IsTrue}
 use Rattle.std.specs.List.{list_any}
-use Rattle.md_base.specs.Shapes.{data_disks}
-use Rattle.md_base.specs.declared.answers.Who.{Who}
-use Rattle.bank.specs.declared.bank.Operation.{Operation}
-use Rattle.bank.specs.Given.{Given}
-use Rattle.sb1.specs.declared.sb.Sb.{Sb}
+use Rattle.running.specs.md_base_Shapes.{data_disks}
+use Rattle.running.specs.md_base_the_Who.{Who}
+use Rattle.running.specs.bank_the_Operation.{Operation}
+use Rattle.running.specs.bank_Given.{Given}
+use Rattle.running.specs.sb1_the_Sb.{Sb}
 use Rattle.running.specs.superblocks_the_Members.{Members}
 use Rattle.running.specs.superblocks_Reading.{is_reshaping, shape_of, final_shape, list_length}
 use Rattle.running.specs.superblocks_Reads.{has_spare}
-use Rattle.flat_history.specs.declared.events.Entry.{Entry}
-use Rattle.flat_history.specs.declared.events.Event.{Event}
-use Rattle.flat_history.specs.declared.events.Event.TheVariants.{Lost, SpareLost, Resized, Step}
-use Rattle.flat_history.specs.declared.events.LostCause.TheVariants.{Fault}
-use Rattle.flat_history.specs.declared.events.StepKind.TheVariants.{Finished}
-use Rattle.flat_history.specs.Flat.{length_of}
-use Rattle.flat_history.specs.Plain.{entries_of}
+use Rattle.running.specs.flat_history_the_Entry.{Entry}
+use Rattle.running.specs.flat_history_the_Event.{Event}
+use Rattle.running.specs.flat_history_the_Event_TheVariants.{Lost, SpareLost, Resized, Step}
+use Rattle.running.specs.flat_history_the_LostCause_TheVariants.{Fault}
+use Rattle.running.specs.flat_history_the_StepKind_TheVariants.{Finished}
+use Rattle.running.specs.flat_history_Flat.{length_of}
+use Rattle.running.specs.flat_history_Plain.{entries_of}
 use Rattle.running.specs.call_entries_Losing.{losses_of}
 use Rattle.running.proofs.call_entries_CallLaws.{losses-are, length-losses}
 use Rattle.running.specs.views_Placed.{AreStillHeld}

@@ -1,11 +1,11 @@
 -- The step of a reshape that is due, but for its end; and the end that is refused.
 use Rattle.std.proofs.Common.{◌≡◌, ◌≢◌, inl, ℕ, ◌+◌, true, false, List, refl, sym, ◌∙◌, subst, arith}
-use Rattle.md_base.specs.declared.answers.Refusal.{Refusal}
-use Rattle.md_base.specs.declared.answers.Who.{Who}
-use Rattle.bank.specs.declared.bank.Operation.{Operation}
-use Rattle.bank.specs.Given.{Given}
+use Rattle.running.specs.md_base_the_Refusal.{Refusal}
+use Rattle.running.specs.md_base_the_Who.{Who}
+use Rattle.running.specs.bank_the_Operation.{Operation}
+use Rattle.running.specs.bank_Given.{Given}
 use Rattle.running.specs.superblocks_Reading.{is_reshaping}
-use Rattle.flat_history.specs.declared.events.Event.TheVariants.{Step, Refused}
+use Rattle.running.specs.flat_history_the_Event_TheVariants.{Step, Refused}
 use Rattle.running.proofs.call_entries_PlainLaws.{one}
 use Rattle.running.specs.views_Lacking.{AreTooMany}
 use Rattle.running.specs.views_Rebuilding.{Held}

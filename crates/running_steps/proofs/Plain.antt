@@ -2,18 +2,18 @@
 use Rattle.std.proofs.Common.{◌≡◌, inl, ℕ, ◌<◌, ◌++◌, Bool, true, false, cond, List, [], ◌∷◌, MatchBool, refl, sym, ◌∙◌, ap, subst, arith, append-nil}
 use Rattle.std.proofs.lemmas.List.Elements.{All-nil, All-weaker}
 use Rattle.std.specs.List.{All, list_any}
-use Rattle.md_base.specs.declared.answers.Refusal.{Refusal}
-use Rattle.md_base.specs.declared.answers.Who.{Who}
-use Rattle.bank.specs.declared.bank.Operation.{Operation}
-use Rattle.bank.specs.Given.{Given, NeverFalls}
+use Rattle.running.specs.md_base_the_Refusal.{Refusal}
+use Rattle.running.specs.md_base_the_Who.{Who}
+use Rattle.running.specs.bank_the_Operation.{Operation}
+use Rattle.running.specs.bank_Given.{Given, NeverFalls}
 use Rattle.running.specs.superblocks_Reading.{is_reshaping, list_length}
-use Rattle.flat_history.specs.declared.events.Entry.{Entry}
-use Rattle.flat_history.specs.declared.events.Event.{Event}
-use Rattle.flat_history.specs.declared.events.Event.TheVariants.{Refused}
-use Rattle.flat_history.specs.Flat.{next_number}
-use Rattle.flat_history.specs.OneShape.{IsOfCall}
-use Rattle.flat_history.specs.Plain.{entries_of}
-use Rattle.flat_history.specs.Reshaped.{is_done}
+use Rattle.running.specs.flat_history_the_Entry.{Entry}
+use Rattle.running.specs.flat_history_the_Event.{Event}
+use Rattle.running.specs.flat_history_the_Event_TheVariants.{Refused}
+use Rattle.running.specs.flat_history_Flat.{next_number}
+use Rattle.running.specs.flat_history_OneShape.{IsOfCall}
+use Rattle.running.specs.flat_history_Plain.{entries_of}
+use Rattle.running.specs.flat_history_Reshaped.{is_done}
 use Rattle.running.specs.call_entries_Losing.{losses_of}
 use Rattle.running.specs.views_Moving.{Grows}
 use Rattle.running.specs.views_Rebuilding.{MayHold}

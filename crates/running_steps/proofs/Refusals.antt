@@ -1,12 +1,12 @@
 -- Why a step is refused: each refusal may end a request for steps, and has its cause.
 use Rattle.std.proofs.Common.{◌≡◌, ◌≢◌, inl, inr, ℕ, Bool, true, false, cond, Option, Some, None, [], Err, MatchBool, refl, sym, ◌∙◌, ap, subst, arith}
 use Rattle.std.specs.Prelude.{nat_lt, is_some, IfSome, IsSome, MatchOption}
-use Rattle.md_base.specs.declared.answers.Fault.TheVariants.{Refused as IsRefusedWith}
-use Rattle.md_base.specs.declared.answers.Refusal.{Refusal}
-use Rattle.md_base.specs.declared.answers.Refusal.TheVariants.{PastEnd, TooManyMissing, NotResynced, BackupFault, Degraded, NeedSpares}
-use Rattle.md_base.specs.declared.places.Shape.{Shape}
-use Rattle.bank.specs.Given.{IsFaulted}
-use Rattle.sb1.specs.declared.sb.Sb.{Sb}
+use Rattle.running.specs.md_base_the_Fault_TheVariants.{Refused as IsRefusedWith}
+use Rattle.running.specs.md_base_the_Refusal.{Refusal}
+use Rattle.running.specs.md_base_the_Refusal_TheVariants.{PastEnd, TooManyMissing, NotResynced, BackupFault, Degraded, NeedSpares}
+use Rattle.running.specs.md_base_the_Shape.{Shape}
+use Rattle.running.specs.bank_Given.{IsFaulted}
+use Rattle.running.specs.sb1_the_Sb.{Sb}
 use Rattle.running.specs.superblocks_the_Members.{Members}
 use Rattle.running.specs.superblocks_Reading.{is_reshaping, shape_of, next_window}
 use Rattle.running.specs.views_the_Work.{Work}

@@ -8,27 +8,27 @@ use Rattle.std.proofs.lemmas.List.Folds.{list_any-append}
 use Rattle.std.proofs.lemmas.List.Sums.{fold-append}
 use Rattle.std.specs.Prelude.{reverse, count_by, IfSome, IsSome, IsTrue, MatchOption, ⊤}
 use Rattle.std.specs.List.{All, list_any}
-use Rattle.md_base.specs.declared.answers.Fault.TheVariants.{Refused as IsRefusedWith}
-use Rattle.md_base.specs.declared.answers.Refusal.{Refusal}
-use Rattle.md_base.specs.declared.answers.Refusal.TheVariants.{Nothing}
-use Rattle.md_base.specs.declared.answers.Who.{Who}
-use Rattle.bank.specs.declared.bank.Operation.{Operation}
-use Rattle.bank.specs.Given.{Given, NeverFalls}
+use Rattle.running.specs.md_base_the_Fault_TheVariants.{Refused as IsRefusedWith}
+use Rattle.running.specs.md_base_the_Refusal.{Refusal}
+use Rattle.running.specs.md_base_the_Refusal_TheVariants.{Nothing}
+use Rattle.running.specs.md_base_the_Who.{Who}
+use Rattle.running.specs.bank_the_Operation.{Operation}
+use Rattle.running.specs.bank_Given.{Given, NeverFalls}
 use Rattle.running.specs.superblocks_the_Members.{Members}
 use Rattle.running.specs.superblocks_Reading.{is_reshaping, list_length}
 use Rattle.running.specs.superblocks_Reads.{has_spare}
-use Rattle.flat_history.specs.declared.events.Entry.{Entry}
-use Rattle.flat_history.specs.declared.events.Event.{Event}
-use Rattle.flat_history.specs.declared.events.Event.TheVariants.{Lost, SpareLost, Rebuilt, Resized, Step, Stepped, Refused}
-use Rattle.flat_history.specs.declared.events.LostCause.TheVariants.{Fault}
-use Rattle.flat_history.specs.declared.events.Request.TheVariants.{Steps as AsksSteps}
-use Rattle.flat_history.specs.declared.events.StepKind.TheVariants.{Finished}
-use Rattle.flat_history.specs.Fits.{IsTornOf, AreTornOf, is_step_event, is_lost_event}
-use Rattle.flat_history.specs.Flat.{rest_of_call, next_number, length_of, length_after}
-use Rattle.flat_history.specs.Legal.{MayBeInner, call_before}
-use Rattle.flat_history.specs.OneShape.{IsOfCall}
-use Rattle.flat_history.specs.Plain.{entries_of}
-use Rattle.flat_history.specs.Reshaped.{is_planned}
+use Rattle.running.specs.flat_history_the_Entry.{Entry}
+use Rattle.running.specs.flat_history_the_Event.{Event}
+use Rattle.running.specs.flat_history_the_Event_TheVariants.{Lost, SpareLost, Rebuilt, Resized, Step, Stepped, Refused}
+use Rattle.running.specs.flat_history_the_LostCause_TheVariants.{Fault}
+use Rattle.running.specs.flat_history_the_Request_TheVariants.{Steps as AsksSteps}
+use Rattle.running.specs.flat_history_the_StepKind_TheVariants.{Finished}
+use Rattle.running.specs.flat_history_Fits.{IsTornOf, AreTornOf, is_step_event, is_lost_event}
+use Rattle.running.specs.flat_history_Flat.{rest_of_call, next_number, length_of, length_after}
+use Rattle.running.specs.flat_history_Legal.{MayBeInner, call_before}
+use Rattle.running.specs.flat_history_OneShape.{IsOfCall}
+use Rattle.running.specs.flat_history_Plain.{entries_of}
+use Rattle.running.specs.flat_history_Reshaped.{is_planned}
 use Rattle.running.proofs.call_entries_PlainLaws.{one}
 use Rattle.running.proofs.call_entries_CallLaws.{torn-reverse}
 use Rattle.running.specs.views_the_Work.{Work}

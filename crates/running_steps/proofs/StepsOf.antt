@@ -5,14 +5,14 @@ use Rattle.std.proofs.lemmas.List.Elements.{All-nil, All-append}
 use Rattle.std.proofs.lemmas.List.Folds.{list_any-append}
 use Rattle.std.specs.Prelude.{IsTrue}
 use Rattle.std.specs.List.{All, list_any}
-use Rattle.md_base.specs.declared.answers.Refusal.{Refusal}
-use Rattle.md_base.specs.declared.answers.Who.{Who}
-use Rattle.flat_history.specs.declared.events.Entry.{Entry}
-use Rattle.flat_history.specs.declared.events.Event.{Event}
-use Rattle.flat_history.specs.declared.events.Event.TheVariants.{Refused}
-use Rattle.flat_history.specs.Fits.{is_step_event, is_lost_event}
-use Rattle.flat_history.specs.OneShape.{IsOfCall}
-use Rattle.flat_history.specs.Plain.{entries_of}
+use Rattle.running.specs.md_base_the_Refusal.{Refusal}
+use Rattle.running.specs.md_base_the_Who.{Who}
+use Rattle.running.specs.flat_history_the_Entry.{Entry}
+use Rattle.running.specs.flat_history_the_Event.{Event}
+use Rattle.running.specs.flat_history_the_Event_TheVariants.{Refused}
+use Rattle.running.specs.flat_history_Fits.{is_step_event, is_lost_event}
+use Rattle.running.specs.flat_history_OneShape.{IsOfCall}
+use Rattle.running.specs.flat_history_Plain.{entries_of}
 use Rattle.running.specs.call_entries_Losing.{losses_of}
 use Rattle.running.proofs.call_entries_PlainLaws.{one}
 use Rattle.running.specs.array_kept_Calls.{IsBehind}

@@ -3,23 +3,23 @@ use Rattle.std.proofs.Common.{◌≡◌, ◌⊎◌, inl, inr, ℕ, Bool, true, f
 use Rattle.std.specs.Prelude.{MatchBool}
 use Rattle.std.specs.List.{All, list_any}
 use Rattle.std.proofs.lemmas.List.Elements.{All-nil, All-cons, All-weaker}
-use Rattle.md_base.specs.declared.answers.Refusal.{Refusal}
-use Rattle.md_base.specs.declared.answers.Who.{Who}
-use Rattle.md_base.specs.declared.places.Shape.{Shape}
-use Rattle.md_base.specs.declared.wishes.Phase.{Phase}
-use Rattle.md_base.specs.declared.wishes.Phase.TheVariants.{UpTo6, DownTo5}
-use Rattle.bank.specs.declared.bank.Operation.{Operation}
-use Rattle.bank.specs.Given.{Given, NeverFalls}
+use Rattle.running.specs.md_base_the_Refusal.{Refusal}
+use Rattle.running.specs.md_base_the_Who.{Who}
+use Rattle.running.specs.md_base_the_Shape.{Shape}
+use Rattle.running.specs.md_base_the_Phase.{Phase}
+use Rattle.running.specs.md_base_the_Phase_TheVariants.{UpTo6, DownTo5}
+use Rattle.running.specs.bank_the_Operation.{Operation}
+use Rattle.running.specs.bank_Given.{Given, NeverFalls}
 use Rattle.running.specs.superblocks_the_Members.{Members}
 use Rattle.running.specs.superblocks_Reading.{is_reshaping, list_length}
 use Rattle.running.specs.superblocks_Reads.{has_spare}
-use Rattle.flat_history.specs.declared.events.Entry.{Entry}
-use Rattle.flat_history.specs.declared.events.Event.{Event}
-use Rattle.flat_history.specs.declared.events.Event.TheVariants.{Step, Refused}
-use Rattle.flat_history.specs.declared.events.StepKind.TheVariants.{TakenOver}
-use Rattle.flat_history.specs.OneShape.{IsOfCall}
-use Rattle.flat_history.specs.Plain.{entries_of}
-use Rattle.flat_history.specs.Reshaped.{is_done}
+use Rattle.running.specs.flat_history_the_Entry.{Entry}
+use Rattle.running.specs.flat_history_the_Event.{Event}
+use Rattle.running.specs.flat_history_the_Event_TheVariants.{Step, Refused}
+use Rattle.running.specs.flat_history_the_StepKind_TheVariants.{TakenOver}
+use Rattle.running.specs.flat_history_OneShape.{IsOfCall}
+use Rattle.running.specs.flat_history_Plain.{entries_of}
+use Rattle.running.specs.flat_history_Reshaped.{is_done}
 use Rattle.running.specs.takeover_updates_TakingOver.{taken_plan}
 use Rattle.running.specs.takeover_TakenOver.{IsTakeoverNext, IsUntaken, IsLevelTaken, IsUntouched, StaysItself}
 use Rattle.running.proofs.takeover_TakenFrom.{WasSpareOrHeld, plan-may, taken-roles, taken-spares}

@@ -3,12 +3,12 @@ use Rattle.std.proofs.Common.{◌≡◌, inl, inr, ℕ, ◌++◌, ◌||◌, Bool
 use Rattle.std.proofs.Math.Seq.{drop-append_seam}
 use Rattle.std.proofs.lemmas.List.Folds.{list_any-append}
 use Rattle.std.specs.List.{list_any}
-use Rattle.bank.specs.Given.{NeverFalls}
-use Rattle.bank.proofs.Causes.{faulted_longer}
+use Rattle.running.specs.bank_Given.{NeverFalls}
+use Rattle.running.proofs.bank_Causes.{faulted_longer}
 use Rattle.running.specs.superblocks_the_Members.{Members}
 use Rattle.running.specs.superblocks_Reading.{is_reshaping, shape_of, final_shape}
-use Rattle.flat_history.specs.declared.events.Entry.{Entry}
-use Rattle.flat_history.specs.World.{World}
+use Rattle.running.specs.flat_history_the_Entry.{Entry}
+use Rattle.running.specs.flat_history_World.{World}
 use Rattle.running.specs.views_Lacking.{HaveRolesFailed}
 use Rattle.running.specs.views_Rebuilding.{Held}
 use Rattle.running.specs.running_words_Parts.{RunningParts}

@@ -2,15 +2,15 @@
 use Rattle.std.proofs.Common.{◌≡◌, inl, ℕ, ◌*◌, ◌++◌, min, true, List, [], ◌∷◌, subst}
 use Rattle.std.proofs.lemmas.List.Elements.{All-head, All-tail}
 use Rattle.std.specs.List.{All}
-use Rattle.md_base.specs.Shapes.{data_disks}
+use Rattle.running.specs.md_base_Shapes.{data_disks}
 use Rattle.running.specs.superblocks_the_Members.{Members}
 use Rattle.running.specs.superblocks_Reading.{list_length}
 use Rattle.running.specs.superblocks_Reads.{has_spare}
-use Rattle.flat_history.specs.declared.events.Entry.{Entry}
-use Rattle.flat_history.specs.declared.events.Event.{Event}
-use Rattle.flat_history.specs.declared.events.Event.TheVariants.{Lost, SpareLost}
-use Rattle.flat_history.specs.declared.events.LostCause.TheVariants.{Fault, Command}
-use Rattle.flat_history.specs.World.{World}
+use Rattle.running.specs.flat_history_the_Entry.{Entry}
+use Rattle.running.specs.flat_history_the_Event.{Event}
+use Rattle.running.specs.flat_history_the_Event_TheVariants.{Lost, SpareLost}
+use Rattle.running.specs.flat_history_the_LostCause_TheVariants.{Fault, Command}
+use Rattle.running.specs.flat_history_World.{World}
 use Rattle.running.specs.views_Placed.{AreStillHeld}
 use Rattle.running.specs.views_Rebuilding.{Held, MayHold}
 use Rattle.running.specs.array_kept_Calls.{AreHeldOrSpare, AreSparesFewer, IsLossBy, AreLossesBy}

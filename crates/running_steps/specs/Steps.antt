@@ -1,20 +1,20 @@
 -- The background steps of an array that may be in a reshape: one of them, and as many as a caller asks for.
 use Rattle.std.specs.Prelude.{◌≡◌, ◌⊎◌, ℕ, ◌+◌, ◌<◌, ◌≤◌, ◌++◌, Bool, true, false, List, length, drop, count_by, Option, Some, None, MatchBool, Result, Ok, Err, ⊤}
 use Rattle.std.specs.List.{list_any, All}
-use Rattle.md_base.specs.declared.answers.Fault.{Fault}
-use Rattle.md_base.specs.declared.answers.Fault.TheVariants.{Refused as IsRefusedWith, NoMemory}
-use Rattle.md_base.specs.declared.answers.Refusal.{Refusal}
-use Rattle.md_base.specs.declared.answers.Refusal.TheVariants.{Nothing}
-use Rattle.md_base.specs.declared.answers.Who.{Who}
-use Rattle.bank.specs.declared.bank.Operation.{Operation}
-use Rattle.bank.specs.Given.{Given}
+use Rattle.running.specs.md_base_the_Fault.{Fault}
+use Rattle.running.specs.md_base_the_Fault_TheVariants.{Refused as IsRefusedWith, NoMemory}
+use Rattle.running.specs.md_base_the_Refusal.{Refusal}
+use Rattle.running.specs.md_base_the_Refusal_TheVariants.{Nothing}
+use Rattle.running.specs.md_base_the_Who.{Who}
+use Rattle.running.specs.bank_the_Operation.{Operation}
+use Rattle.running.specs.bank_Given.{Given}
 use Rattle.running.specs.superblocks_Reading.{is_reshaping, shape_of, final_shape}
-use Rattle.flat_history.specs.declared.events.Entry.{Entry}
-use Rattle.flat_history.specs.declared.events.Event.{Event}
-use Rattle.flat_history.specs.declared.events.Event.TheVariants.{Step, Stepped, Refused}
-use Rattle.flat_history.specs.declared.events.StepKind.TheVariants.{Begun, Finished, TakenOver}
-use Rattle.flat_history.specs.Fits.{is_step_event, is_lost_event}
-use Rattle.flat_history.specs.OneShape.{IsOfCall}
+use Rattle.running.specs.flat_history_the_Entry.{Entry}
+use Rattle.running.specs.flat_history_the_Event.{Event}
+use Rattle.running.specs.flat_history_the_Event_TheVariants.{Step, Stepped, Refused}
+use Rattle.running.specs.flat_history_the_StepKind_TheVariants.{Begun, Finished, TakenOver}
+use Rattle.running.specs.flat_history_Fits.{is_step_event, is_lost_event}
+use Rattle.running.specs.flat_history_OneShape.{IsOfCall}
 use Rattle.running.specs.views_Lacking.{HaveRolesFailed}
 use Rattle.running.specs.array_kept_Calls.{IsBehind, IsEndOf, AreStepsFewer, TellNoLoss}
 use Rattle.running.specs.kept_history_Recorded.{MayGoOn, IsCallGoing}

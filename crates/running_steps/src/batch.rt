@@ -2,8 +2,8 @@
 
 ghost use Rattle.std.specs.Prelude.{◌≡◌, ◌≢◌, ◌⊎◌, ◌+◌, ◌<◌, ◌≤◌, ◌^◌, [], true, false, None, IfOk, IfErr, IfSome, MatchOption, ⊤};
 ghost use Rattle.running.specs.superblocks_Reading.{is_reshaping, list_length};
-ghost use Rattle.flat_history.specs.Flat.{next_number};
-ghost use Rattle.flat_history.specs.declared.events.Request.TheVariants.{Steps as AsksSteps};
+ghost use Rattle.running.specs.flat_history_Flat.{next_number};
+ghost use Rattle.running.specs.flat_history_the_Request_TheVariants.{Steps as AsksSteps};
 ghost use Rattle.running.specs.array_kept_Calls.{IsEndOf, TellNoLoss, TellNoRoleLoss};
 ghost use Rattle.running.specs.grow_asked_Left.{phases_of};
 ghost use Rattle.running.specs.kept_history_Recorded.{IsCallGoing};
@@ -15,11 +15,8 @@ ghost use Rattle.running_steps.specs.Steps.{IsOpenFor, KeepsItsWay, AreStepsOf, 
 
 use crate::stepping::take_step;
 use crate::turns::{own_step, take};
-use bank::Bank;
 use core::mem::replace_with;
-use flat_history::Event;
-use md_base::{NoMemory, Refusal, Who};
-use running::{Next, Running};
+use running::{Bank, Event, Next, NoMemory, Refusal, Running, Who};
 
 // How many steps were done, and what refused the next one.
 #[derive(Clone, Copy)]

@@ -7,8 +7,8 @@ mod turns;
 
 pub use batch::steps;
 pub use running::{
-    Course, Moving, Opened, PlannedGrow, Room, Running, State, Still, add_still, check_moving,
-    check_still, enter_all_absent, final_in, found_numbers, list_sectors, plan_grow, read_still,
-    refuse_grow, refuse_limit, room_for, shape_in, write_moving, write_still, zeros,
+    Course, Moving, Opened, Pieces, PlannedGrow, Room, Running, State, Still, add_still,
+    check_moving, check_still, enter_all_absent, final_in, found_numbers, list_sectors, plan_grow,
+    read_still, refuse_grow, refuse_limit, room_for, shape_in, write_moving, write_still, zeros,
 };
 pub use stepping::step;

@@ -1,18 +1,15 @@
 //! One background step of an array that may be in a reshape.
 
 ghost use Rattle.std.specs.Prelude.{◌≡◌, ◌≢◌, ◌+◌, ◌<◌, ◌≤◌, false, Err, IfOk};
-ghost use Rattle.md_base.specs.declared.answers.Fault.TheVariants.{NoMemory as WantsMemory};
+ghost use Rattle.running.specs.md_base_the_Fault_TheVariants.{NoMemory as WantsMemory};
 ghost use Rattle.running.specs.array_kept_Calls.{IsEndOf};
 ghost use Rattle.running.specs.running_replies_Going.{HasRunOn};
 ghost use Rattle.running.specs.Calls.{running_left};
 ghost use Rattle.running_steps.specs.Steps.{IsOpenFor, IsStepTaken, IsStepAnswered, IsNothingRight};
 
 use crate::turns::{begin, finish, move_step, own_step, take};
-use bank::Bank;
 use core::mem::replace_with;
-use flat_history::Event;
-use md_base::{Fault, Refusal, Who};
-use running::{Next, Running};
+use running::{Bank, Event, Fault, Next, Refusal, Running, Who};
 
 // A step, of which one is left and for which there is room. Ok tells whether a reshape ended by it.
 pub(crate) fn take_step<B: Bank>(array: &mut Running<B>, who: Who) -> Result<bool, Refusal>

@@ -1,10 +1,10 @@
 //! The kinds of background steps, each by what it leaves: without a reshape, a reshape begins, in it, and it ends; and a takeover.
 
 ghost use Rattle.std.specs.Prelude.{◌≡◌, ◌≢◌, ◌+◌, ◌<◌, ◌≤◌, ◌∷◌, List, true, false, Ok};
-ghost use Rattle.md_base.specs.declared.wishes.Phase.{Phase};
-ghost use Rattle.md_base.specs.declared.wishes.Phase.TheVariants.{Reshape};
+ghost use Rattle.running.specs.md_base_the_Phase.{Phase};
+ghost use Rattle.running.specs.md_base_the_Phase_TheVariants.{Reshape};
 ghost use Rattle.running.specs.superblocks_Reading.{is_reshaping};
-ghost use Rattle.flat_history.specs.declared.events.StepKind.TheVariants.{RebuildEnded as EndsRebuild};
+ghost use Rattle.running.specs.flat_history_the_StepKind_TheVariants.{RebuildEnded as EndsRebuild};
 ghost use Rattle.running.specs.views_Status.{left_of};
 ghost use Rattle.running.specs.grow_asked_Left.{phases_of};
 ghost use Rattle.running.specs.kept_history_Recorded.{IsCallGoing};
@@ -15,9 +15,7 @@ ghost use Rattle.running.specs.turning_Begun.{HasKeptLength};
 ghost use Rattle.running.specs.takeover_TakenOver.{IsTakeoverNext};
 ghost use Rattle.running_steps.specs.Steps.{IsStepTaken};
 
-use bank::Bank;
-use md_base::{Fault, Refusal, Shape, Who};
-use running::Running;
+use running::{Bank, Fault, Refusal, Running, Shape, Who};
 
 // The next step without a reshape.
 pub(crate) fn own_step<B: Bank>(array: &mut Running<B>, who: Who) -> Result<bool, Refusal>

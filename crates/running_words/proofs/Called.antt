@@ -3,10 +3,10 @@ use Rattle.std.proofs.Common.{◌≡◌, ◌≢◌, ℕ, ◌≤◌, ◌==◌, Op
 use Rattle.std.proofs.lemmas.List.Elements.{All-nil, All-cons}
 use Rattle.std.specs.Prelude.{IsFalse, MatchOption, ⊤}
 use Rattle.std.proofs.lemmas.Bool.Decides.{nat_tests}
-use Rattle.bank.specs.declared.bank.Operation.{Operation}
-use Rattle.bank.specs.Given.{Given, NeverFalls}
-use Rattle.md_base.specs.declared.answers.Refusal.{Refusal}
-use Rattle.md_base.specs.declared.answers.Who.{Who}
+use Rattle.moving_state.specs.bank_the_Operation.{Operation}
+use Rattle.moving_state.specs.bank_Given.{Given, NeverFalls}
+use Rattle.history_calls.specs.md_base_the_Refusal.{Refusal}
+use Rattle.history_calls.specs.md_base_the_Who.{Who}
 use Rattle.moving_state.specs.superblocks_the_Members.{Members}
 use Rattle.moving_state.specs.flat_history_the_Entry.{Entry}
 use Rattle.moving_state.specs.flat_history_the_Event.{Event}

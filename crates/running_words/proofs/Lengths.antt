@@ -1,9 +1,9 @@
 -- Entries of a call that leave the length of the list, and how much of it is visible.
 use Rattle.std.proofs.Common.{◌≡◌, ℕ, Bool, true, false, Option, List, [], ◌∷◌, ◌++◌, refl, sym, ◌∙◌, subst, append_assoc}
 use Rattle.std.specs.Prelude.{fold}
-use Rattle.md_base.specs.Sectors.{Sector}
-use Rattle.md_base.specs.declared.answers.Refusal.{Refusal}
-use Rattle.md_base.specs.declared.answers.Who.{Who}
+use Rattle.moving_state.specs.md_base_Sectors.{Sector}
+use Rattle.history_calls.specs.md_base_the_Refusal.{Refusal}
+use Rattle.history_calls.specs.md_base_the_Who.{Who}
 use Rattle.moving_state.specs.flat_history_the_Entry.{Entry}
 use Rattle.moving_state.specs.flat_history_the_Event.{Event}
 use Rattle.moving_state.specs.flat_history_the_Event_TheVariants.{Torn, Refused}

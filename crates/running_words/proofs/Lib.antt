@@ -26,3 +26,8 @@ pub use Rattle.moving_state.proofs.array_kept_ReplyLaws
 pub use Rattle.moving_state.proofs.reshape_updates_NewRoles
 pub use Rattle.moving_state.proofs.safe_updates_RefusingLaws
 pub use Rattle.moving_state.proofs.safe_updates_Unused
+pub use Rattle.calls_kept.proofs.md_base_SectorLaws
+pub use Rattle.history_calls.proofs.call_entries_LeftLaws
+pub use Rattle.moving_state.proofs.call_entries_CallLaws
+pub use Rattle.moving_state.proofs.call_entries_LosingLaws
+pub use Rattle.moving_state.proofs.call_entries_PlainLaws

@@ -1,8 +1,8 @@
 -- A slot that is taken out of an array, and the naming of what is missing then: what is lost of the members, and how it stands in the history.
 use Rattle.std.proofs.Common.{◌≡◌, ◌⊎◌, inl, inr, ℕ, ◌<◌, ◌==◌, true, Some, List, [], ◌∷◌, ◌++◌, sym, ◌∙◌, ap, append_assoc}
-use Rattle.md_base.specs.Shapes.{has_slot}
-use Rattle.md_base.specs.declared.answers.Who.{Who}
-use Rattle.bank.specs.Given.{Given}
+use Rattle.moving_state.specs.md_base_Shapes.{has_slot}
+use Rattle.history_calls.specs.md_base_the_Who.{Who}
+use Rattle.moving_state.specs.bank_Given.{Given}
 use Rattle.moving_state.specs.superblocks_the_Members.{Members}
 use Rattle.moving_state.specs.superblocks_Reading.{role_count, role_state, holder}
 use Rattle.moving_state.specs.row_io_Rows.{reading_of, is_missing, members_without}

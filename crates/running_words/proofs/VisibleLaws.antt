@@ -4,7 +4,7 @@ use Rattle.std.proofs.Math.Nat.{min-le_right}
 use Rattle.std.proofs.lemmas.List.Sums.{fold-append}
 use Rattle.std.specs.Prelude.{fold}
 use Rattle.std.specs.Option.{option_map_or}
-use Rattle.md_base.specs.declared.answers.Who.{Who}
+use Rattle.history_calls.specs.md_base_the_Who.{Who}
 use Rattle.moving_state.specs.flat_history_the_Entry.{Entry}
 use Rattle.moving_state.specs.flat_history_the_Event_TheVariants.{Visible}
 use Rattle.moving_state.specs.flat_history_Flat.{length_of, limit_of, limit_after, visible_of}

@@ -1,7 +1,7 @@
 -- What a call leaves that makes a slot a spare.
 use Rattle.std.specs.Prelude.{◌≡◌, ◌⊎◌, ℕ, true, List}
-use Rattle.bank.specs.declared.bank.Operation.{Operation}
-use Rattle.bank.specs.Given.{Given, NeverFalls}
+use Rattle.moving_state.specs.bank_the_Operation.{Operation}
+use Rattle.moving_state.specs.bank_Given.{Given, NeverFalls}
 use Rattle.moving_state.specs.superblocks_the_Members.{Members}
 use Rattle.moving_state.specs.superblocks_Reads.{has_spare}
 use Rattle.moving_state.specs.views_Placed.{AreStillHeld}

@@ -1,15 +1,15 @@
 -- What the calls of an array in a reshape tell of it, and what none of them changes.
 use Rattle.std.specs.Prelude.{◌≡◌, ℕ, ◌<◌, ◌≤◌, Bool, List, length, Option, Some, None, Result, Ok, Err, ◌⊎◌, true, IfSome}
-use Rattle.md_base.specs.declared.answers.Fault.{Fault}
-use Rattle.md_base.specs.declared.answers.Fault.TheVariants.{Refused as IsRefusedWith, NoMemory}
-use Rattle.md_base.specs.declared.answers.Refusal.{Refusal}
-use Rattle.md_base.specs.declared.answers.Refusal.TheVariants.{BackupFault}
-use Rattle.md_base.specs.declared.answers.Who.{Who}
-use Rattle.md_base.specs.declared.places.Span.{Span}
-use Rattle.md_base.specs.declared.status.Status.{Status}
-use Rattle.geometry.specs.Geometry.{stripes, zeroed_stripes, is_critical}
-use Rattle.bank.specs.Given.{Given, IsFaulted, NeverFalls}
-use Rattle.bank.specs.declared.bank.Operation.{Operation}
+use Rattle.moving_state.specs.md_base_the_Fault.{Fault}
+use Rattle.calls_kept.specs.md_base_the_Fault_TheVariants.{Refused as IsRefusedWith, NoMemory}
+use Rattle.history_calls.specs.md_base_the_Refusal.{Refusal}
+use Rattle.history_calls.specs.md_base_the_Refusal_TheVariants.{BackupFault}
+use Rattle.history_calls.specs.md_base_the_Who.{Who}
+use Rattle.moving_state.specs.md_base_the_Span.{Span}
+use Rattle.moving_state.specs.md_base_the_Status.{Status}
+use Rattle.moving_state.specs.geometry_Geometry.{stripes, zeroed_stripes, is_critical}
+use Rattle.moving_state.specs.bank_Given.{Given, IsFaulted, NeverFalls}
+use Rattle.moving_state.specs.bank_the_Operation.{Operation}
 use Rattle.moving_state.specs.superblocks_the_Members.{Members}
 use Rattle.moving_state.specs.superblocks_Reading.{is_backward, is_clean, shape_of, final_shape, list_length, next_window}
 use Rattle.moving_state.specs.flat_history_the_Entry.{Entry}

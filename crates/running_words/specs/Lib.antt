@@ -47,3 +47,15 @@ pub use Rattle.moving_state.specs.superblocks_Reads
 pub use Rattle.moving_state.specs.superblocks_Reading
 pub use Rattle.moving_state.specs.flat_history_Growing
 pub use Rattle.moving_state.specs.flat_history_Seen
+pub use Rattle.calls_kept.specs.md_base_the_Fault_TheVariants
+pub use Rattle.calls_kept.specs.md_base_the_Refusal_TheVariants
+pub use Rattle.history_calls.specs.md_base_the_Refusal
+pub use Rattle.history_calls.specs.md_base_the_Shape
+pub use Rattle.history_calls.specs.md_base_the_Who
+pub use Rattle.moving_state.specs.call_entries_Losing
+pub use Rattle.moving_state.specs.md_base_Sectors
+pub use Rattle.moving_state.specs.md_base_Shapes
+pub use Rattle.moving_state.specs.md_base_the_Fault
+pub use Rattle.moving_state.specs.md_base_the_Phase
+pub use Rattle.moving_state.specs.md_base_the_Span
+pub use Rattle.moving_state.specs.md_base_the_Status

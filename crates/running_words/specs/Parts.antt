@@ -1,6 +1,6 @@
 -- What contracts see of an array, whether a reshape is active in it or not.
 use Rattle.std.specs.Prelude.{ℕ, ◌+◌, Option}
-use Rattle.grow_plan.specs.Plans.{phases_steps}
+use Rattle.moving_state.specs.grow_plan_Plans.{phases_steps}
 use Rattle.moving_state.specs.superblocks_the_Members.{Members}
 use Rattle.moving_state.specs.superblocks_Reading.{shape_of, list_length}
 use Rattle.moving_state.specs.views_the_Work.{Work}

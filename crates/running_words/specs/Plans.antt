@@ -1,8 +1,8 @@
 -- Where the plans of an array go that are open, and which histories tell neither a limit nor a reshape.
 use Rattle.std.specs.Prelude.{◌≡◌, Bool, true, false, if◌then◌else◌, List, Some, MatchOption, ⊤}
 use Rattle.std.specs.List.{list_any, All}
-use Rattle.md_base.specs.declared.places.Shape.{Shape}
-use Rattle.grow_plan.specs.Plans.{last_shape}
+use Rattle.history_calls.specs.md_base_the_Shape.{Shape}
+use Rattle.moving_state.specs.grow_plan_Plans.{last_shape}
 use Rattle.moving_state.specs.superblocks_Reading.{is_reshaping, shape_of, final_shape}
 use Rattle.moving_state.specs.flat_history_the_Entry.{Entry}
 use Rattle.moving_state.specs.flat_history_the_Event.{Event}

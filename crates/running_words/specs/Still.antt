@@ -1,9 +1,9 @@
 -- What the calls of an array without a reshape tell of it.
 use Rattle.std.specs.Prelude.{◌≡◌, ◌≢◌, ℕ, false, List, [], ◌∷◌, length, drop, Some, None}
-use Rattle.md_base.specs.declared.status.Status.{Status}
-use Rattle.bank.specs.declared.bank.Operation.{Operation}
-use Rattle.bank.specs.Given.{Given}
-use Rattle.bank.specs.Tape.{disk}
+use Rattle.moving_state.specs.md_base_the_Status.{Status}
+use Rattle.moving_state.specs.bank_the_Operation.{Operation}
+use Rattle.moving_state.specs.bank_Given.{Given}
+use Rattle.moving_state.specs.bank_Tape.{disk}
 use Rattle.moving_state.specs.superblocks_the_Members.{Members}
 use Rattle.moving_state.specs.superblocks_Reading.{is_clean, shape_of, list_length, role_state, holder}
 use Rattle.moving_state.specs.row_io_Rows.{reading_of, present}

@@ -1,12 +1,12 @@
 -- A request to limit how much of a list can be read and written: what is answered, and what it leaves.
 use Rattle.std.specs.Prelude.{◌≡◌, ℕ, ◌<◌, ◌++◌, nat_lt, if◌then◌else◌, List, [], ◌∷◌, length, Option, Some, None, Result, Ok, Err, ⊤}
 use Rattle.std.specs.Option.{option_map_or}
-use Rattle.md_base.specs.declared.answers.BusyKind.TheVariants.{Plan}
-use Rattle.md_base.specs.declared.answers.Fault.{Fault}
-use Rattle.md_base.specs.declared.answers.Fault.TheVariants.{Refused as IsRefusedWith, NoMemory}
-use Rattle.md_base.specs.declared.answers.Refusal.{Refusal}
-use Rattle.md_base.specs.declared.answers.Refusal.TheVariants.{PastSize, Busy}
-use Rattle.md_base.specs.declared.answers.Who.{Who}
+use Rattle.moving_state.specs.md_base_the_BusyKind_TheVariants.{Plan}
+use Rattle.moving_state.specs.md_base_the_Fault.{Fault}
+use Rattle.calls_kept.specs.md_base_the_Fault_TheVariants.{Refused as IsRefusedWith, NoMemory}
+use Rattle.history_calls.specs.md_base_the_Refusal.{Refusal}
+use Rattle.history_calls.specs.md_base_the_Refusal_TheVariants.{PastSize, Busy}
+use Rattle.history_calls.specs.md_base_the_Who.{Who}
 use Rattle.moving_state.specs.superblocks_Reading.{list_length}
 use Rattle.moving_state.specs.flat_history_the_Entry.{Entry}
 use Rattle.moving_state.specs.flat_history_the_Event.{Event}

@@ -1,6 +1,7 @@
 //! What contracts say of the calls of an array, whether a reshape is active in it or not. Definitions alone.
 #![tactic(auto)]
 
+pub use calls_kept::{check_number, enter};
 pub use moving_state::asking::{visible, visible_of};
 pub use moving_state::refusing::{unread_from, unwritten_from};
 pub use moving_state::reshape::{

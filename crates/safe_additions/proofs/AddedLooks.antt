@@ -3,13 +3,13 @@ use Rattle.std.proofs.Common.{◌≡◌, ◌⊎◌, inl, inr, ℕ, ◌<◌, fals
 use Rattle.std.specs.Prelude.{OnOk, IsOk}
 use Rattle.std.specs.Result.{is_err}
 use Rattle.std.proofs.lemmas.List.{length-drop, get_or-drop}
-use Rattle.md_base.specs.Sectors.{Sector}
-use Rattle.bank.specs.declared.bank.Operation.{Operation}
-use Rattle.bank.specs.declared.bank.Operation.TheVariants.{Flush}
-use Rattle.bank.specs.Tape.{Contents, contents, disk, value_after, AreSectors, IsIn}
-use Rattle.bank.proofs.Laws.{value_after-append, disk-flushed}
-use Rattle.sb1.specs.Superblock.{two_by_two}
-use Rattle.views.specs.Numbers.{AreSecondEntries}
+use Rattle.safe_updates.specs.md_base_Sectors.{Sector}
+use Rattle.safe_updates.specs.bank_the_Operation.{Operation}
+use Rattle.safe_updates.specs.bank_the_Operation_TheVariants.{Flush}
+use Rattle.safe_updates.specs.bank_Tape.{Contents, contents, disk, value_after, AreSectors, IsIn}
+use Rattle.safe_updates.proofs.bank_Laws.{value_after-append, disk-flushed}
+use Rattle.safe_updates.specs.sb1_Superblock.{two_by_two}
+use Rattle.safe_updates.specs.views_Numbers.{AreSecondEntries}
 
 pub done-ok : {T E : Type 0} {Fact : Type 0} (answer : Result T E) → is_err answer ≡ false → OnOk answer Fact → Fact
 done-ok (Ok x) none fact = fact

@@ -1,26 +1,26 @@
 -- Superblocks of which each lost slot is named are held as the members say.
 use Rattle.std.proofs.Common.{◌≡◌, ℕ, ◌||◌, ◌&&◌, Bool, true, false, not, nat_lt, bit_or, map, List, refl, sym, ◌∙◌, ap, subst}
 use Rattle.std.specs.List.{list_any}
-use Rattle.md_base.specs.Sectors.{Sector}
-use Rattle.md_base.specs.Shapes.{has_slot}
-use Rattle.md_base.specs.declared.status.Role.{Role}
-use Rattle.bank.specs.Given.{Given}
-use Rattle.superblocks.specs.declared.members.Members.{Members}
-use Rattle.superblocks.specs.Reading.{Scope}
-use Rattle.superblocks.specs.Reads.{has_spare}
-use Rattle.superblocks.specs.Update.{is_held_by}
-use Rattle.superblocks.specs.Outcome.{live_set}
-use Rattle.superblocks.specs.Held.{AreHeld}
-use Rattle.superblocks.specs.Stages.{AreLeft}
+use Rattle.safe_updates.specs.md_base_Sectors.{Sector}
+use Rattle.safe_updates.specs.md_base_Shapes.{has_slot}
+use Rattle.safe_updates.specs.md_base_the_Role.{Role}
+use Rattle.safe_updates.specs.bank_Given.{Given}
+use Rattle.safe_updates.specs.superblocks_the_Members.{Members}
+use Rattle.safe_updates.specs.superblocks_Reading.{Scope}
+use Rattle.safe_updates.specs.superblocks_Reads.{has_spare}
+use Rattle.safe_updates.specs.superblocks_Update.{is_held_by}
+use Rattle.safe_updates.specs.superblocks_Outcome.{live_set}
+use Rattle.safe_updates.specs.superblocks_Held.{AreHeld}
+use Rattle.safe_updates.specs.superblocks_Stages.{AreLeft}
 use Rattle.safe_updates.proofs.superblock_reads_StageReads.{held-reads}
 use Rattle.safe_updates.proofs.superblock_reads_RoundsRead.{more-held}
 use Rattle.safe_updates.specs.row_io_Rows.{role_without, members_without}
 use Rattle.safe_updates.specs.shape_changes_Held.{IsHeldBy}
-use Rattle.views.specs.Lacking.{AreUnnamed}
+use Rattle.safe_updates.specs.views_Lacking.{AreUnnamed}
 use Rattle.safe_updates.specs.shape_changes_Marking.{marking}
-use Rattle.views.specs.Placed.{IsPlaced}
+use Rattle.safe_updates.specs.views_Placed.{IsPlaced}
 use Rattle.safe_updates.specs.shape_changes_Steady.{AreUnlost, IsSteady, IsNamedNow}
-use Rattle.views.specs.Rebuilding.{AreSparesFree}
+use Rattle.safe_updates.specs.views_Rebuilding.{AreSparesFree}
 use Rattle.safe_updates.specs.shape_views_Views.{Ledger}
 use Rattle.safe_updates.proofs.RolesNamed.{unnamed-named}
 use Rattle.safe_updates.proofs.shape_changes_Without.{in-both, any-holds, live-is}

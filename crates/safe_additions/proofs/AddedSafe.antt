@@ -5,58 +5,58 @@ use Rattle.std.specs.Prelude.{⊤, bytes_eq}
 use Rattle.std.specs.List.{list_any}
 use Rattle.std.proofs.lemmas.Bool.{cases_eq, cases_lt}
 use Rattle.std.proofs.lemmas.Bool.Decides.{nat_tests}
-use Rattle.md_base.specs.Sectors.{Sector}
-use Rattle.md_base.specs.Shapes.{has_slot}
-use Rattle.md_base.specs.declared.status.Role.{Role}
-use Rattle.md_base.specs.declared.status.Role.TheVariants.{Missing}
-use Rattle.sb1.specs.declared.sb.Sb.{Sb}
-use Rattle.bank.specs.declared.bank.Operation.{Operation}
-use Rattle.bank.specs.Given.{Given}
-use Rattle.bank.specs.Tape.{Contents, IsIn, disk}
-use Rattle.bank.proofs.Laws.{kept_in}
-use Rattle.superblocks.specs.declared.members.Members.{Members}
-use Rattle.superblocks.specs.Reading.{Scope, Reading, reading, reading_by, is_seen, is_whole, role_state, holder}
-use Rattle.superblocks.specs.Update.{own_in, planned, give_of, is_held_by}
-use Rattle.superblocks.specs.Updating.{IsSomeLeft}
-use Rattle.superblocks.specs.Outcome.{live_set, with_added, IsStored, IsPlannedOwn, is_in_update, is_left}
-use Rattle.superblocks.specs.Crash.{IsWithin}
+use Rattle.safe_updates.specs.md_base_Sectors.{Sector}
+use Rattle.safe_updates.specs.md_base_Shapes.{has_slot}
+use Rattle.safe_updates.specs.md_base_the_Role.{Role}
+use Rattle.safe_updates.specs.md_base_the_Role_TheVariants.{Missing}
+use Rattle.safe_updates.specs.sb1_the_Sb.{Sb}
+use Rattle.safe_updates.specs.bank_the_Operation.{Operation}
+use Rattle.safe_updates.specs.bank_Given.{Given}
+use Rattle.safe_updates.specs.bank_Tape.{Contents, IsIn, disk}
+use Rattle.safe_updates.proofs.bank_Laws.{kept_in}
+use Rattle.safe_updates.specs.superblocks_the_Members.{Members}
+use Rattle.safe_updates.specs.superblocks_Reading.{Scope, Reading, reading, reading_by, is_seen, is_whole, role_state, holder}
+use Rattle.safe_updates.specs.superblocks_Update.{own_in, planned, give_of, is_held_by}
+use Rattle.safe_updates.specs.superblocks_Updating.{IsSomeLeft}
+use Rattle.safe_updates.specs.superblocks_Outcome.{live_set, with_added, IsStored, IsPlannedOwn, is_in_update, is_left}
+use Rattle.safe_updates.specs.superblocks_Crash.{IsWithin}
 use Rattle.safe_updates.specs.row_io_Rows.{reading_of, members_without}
-use Rattle.views.specs.Placed.{IsPlaced, AreLess}
-use Rattle.views.specs.Rebuilding.{with_spare, AreSparesFree}
+use Rattle.safe_updates.specs.views_Placed.{IsPlaced, AreLess}
+use Rattle.safe_updates.specs.views_Rebuilding.{with_spare, AreSparesFree}
 use Rattle.safe_updates.specs.shape_changes_Steady.{AreUnlost, AreGoneTold, with_number, IsSteady, IsSpent, IsSafeStretch, AreViewsRight}
-use Rattle.views.specs.Lacking.{AreUnnamed}
+use Rattle.safe_updates.specs.views_Lacking.{AreUnnamed}
 use Rattle.safe_updates.specs.shape_changes_Marking.{adding, marking}
-use Rattle.views.specs.Numbers.{IsSpareSb, IsOfScope}
-use Rattle.views.specs.Moving.{IsMoved}
+use Rattle.safe_updates.specs.views_Numbers.{IsSpareSb, IsOfScope}
+use Rattle.safe_updates.specs.views_Moving.{IsMoved}
 use Rattle.safe_updates.specs.shape_views_Regions.{IsReadOf}
 use Rattle.safe_updates.specs.shape_views_Views.{Disk, Ledger, IsViewRight}
 use Rattle.safe_updates.specs.shape_views_Windows.{IsUpdating}
 use Rattle.safe_updates.proofs.shape_views_Alike.{backup-alike}
 use Rattle.safe_updates.proofs.shape_views_WindowLaws.{updating-right}
-use Rattle.sb1.specs.Superblock.{checksum}
-use Rattle.superblocks.specs.declared.change.Give.{Give}
-use Rattle.superblocks.specs.declared.change.Give.TheVariants.{Same}
-use Rattle.superblocks.specs.Reads.{SaysSame, has_spare, IsReadAs}
-use Rattle.superblocks.specs.Held.{IsStamped, IsSecondHalf, AreDrawn, said_by}
-use Rattle.superblocks.specs.Stages.{AreLeft, AreKept}
-use Rattle.superblocks.specs.Rounds.{round_at}
+use Rattle.safe_updates.specs.sb1_Superblock.{checksum}
+use Rattle.safe_updates.specs.superblocks_the_Give.{Give}
+use Rattle.safe_updates.specs.superblocks_the_Give_TheVariants.{Same}
+use Rattle.safe_updates.specs.superblocks_Reads.{SaysSame, has_spare, IsReadAs}
+use Rattle.safe_updates.specs.superblocks_Held.{IsStamped, IsSecondHalf, AreDrawn, said_by}
+use Rattle.safe_updates.specs.superblocks_Stages.{AreLeft, AreKept}
+use Rattle.safe_updates.specs.superblocks_Rounds.{round_at}
 use Rattle.safe_updates.specs.superblock_reads_Following.{AreHeldAlone}
 use Rattle.safe_updates.specs.superblock_reads_Said.{AreSaid}
 use Rattle.safe_updates.proofs.superblock_reads_Following.{next-held}
 use Rattle.safe_updates.proofs.superblock_reads_RoundReads.{left_set, left-are}
-use Rattle.superblocks.proofs.SlotSets.{has-set_of, none_there}
+use Rattle.safe_updates.proofs.superblocks_SlotSets.{has-set_of, none_there}
 use Rattle.safe_updates.proofs.superblock_reads_StageReads.{held-reads}
-use Rattle.superblocks.specs.Adding.{IsReadAsPlannedBut, IsReadInAdding, IsReadyToAdd}
-use Rattle.superblocks.proofs.ReadAlike.{count-same, tabulate-same}
-use Rattle.superblocks.proofs.ReadLists.{by_bool}
-use Rattle.superblocks.proofs.HeldReads.{known_at}
+use Rattle.safe_updates.specs.superblocks_Adding.{IsReadAsPlannedBut, IsReadInAdding, IsReadyToAdd}
+use Rattle.safe_updates.proofs.superblocks_ReadAlike.{count-same, tabulate-same}
+use Rattle.safe_updates.proofs.superblocks_ReadLists.{by_bool}
+use Rattle.safe_updates.proofs.superblocks_HeldReads.{known_at}
 use Rattle.safe_updates.proofs.superblock_reads_UpTo.{rounds-parts, end-room}
 use Rattle.safe_updates.proofs.superblock_laws_AddedReads.{added-before, added-fit}
 use Rattle.safe_updates.proofs.superblock_laws_AddedRounds.{in-first-reads, rounds-read, rounds-end, wider}
 use Rattle.safe_updates.specs.shape_changes_Held.{IsHeldBy}
 use Rattle.safe_updates.specs.shape_changes_Carried.{AreCarried}
 use Rattle.safe_updates.specs.shape_changes_Safety.{HasMarkRoom}
-use Rattle.views.proofs.AddedMembers.{own-here, own-other, live-with, placed-with}
+use Rattle.safe_updates.proofs.views_AddedMembers.{own-here, own-other, live-with, placed-with}
 use Rattle.safe_additions.proofs.AddedNamed.{named-held}
 use Rattle.safe_additions.proofs.AddedSaid.{said-added, roles-are, spares-are}
 use Rattle.safe_additions.proofs.AddedStarts.{says-later, slot-unknown, live-known, starts as adding-starts}
@@ -65,9 +65,9 @@ use Rattle.safe_updates.proofs.MissingLaws.{missing-more}
 use Rattle.safe_additions.proofs.SaidReads.{read-of}
 use Rattle.safe_additions.proofs.AddedUpdates.{IsAddedBy, added-less, added-spares, added-moved, left-in-adding}
 use Rattle.safe_updates.proofs.shape_changes_Carried.{IsRewritable, known-rewritable, numbers-touched}
-use Rattle.views.proofs.MarkEnds.{some-or-none as mark-left}
+use Rattle.safe_updates.proofs.views_MarkEnds.{some-or-none as mark-left}
 use Rattle.safe_updates.proofs.shape_changes_Without.{state-without, without-none, in-both, any-without, live-is}
-use Rattle.views.proofs.SafeStretch.{gone-before}
+use Rattle.safe_updates.proofs.views_SafeStretch.{gone-before}
 use Rattle.safe_updates.proofs.shape_changes_Stretch.{seen-own}
 use Rattle.safe_updates.proofs.shape_changes_ChangeViews.{known-read, placed-less}
 use Rattle.safe_updates.proofs.shape_changes_Drawn.{disk-somewhere, views-right}

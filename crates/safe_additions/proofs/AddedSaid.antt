@@ -7,53 +7,53 @@ use Rattle.std.proofs.lemmas.Bool.{cases_eq, cases_lt}
 use Rattle.std.proofs.lemmas.Bool.Decides.{nat_tests}
 use Rattle.std.proofs.lemmas.List.{get_or_past}
 use Rattle.std.proofs.lemmas.Nat.Bits.{bit_at_and}
-use Rattle.md_base.specs.Sectors.{Sector}
-use Rattle.md_base.specs.Search.{tabulate}
-use Rattle.md_base.specs.Shapes.{has_slot}
-use Rattle.md_base.specs.declared.status.Role.{Role}
-use Rattle.md_base.specs.declared.status.Role.TheVariants.{Whole, Recovering, Missing}
-use Rattle.md_base.proofs.Tabulated.{length-tabulate, get_or-tabulate}
-use Rattle.sb1.specs.declared.sb.Sb.{Sb}
-use Rattle.bank.specs.Given.{Given}
-use Rattle.bank.specs.Tape.{IsIn}
-use Rattle.superblocks.specs.declared.change.Give.{Give}
-use Rattle.superblocks.specs.declared.change.Give.TheVariants.{Same}
-use Rattle.superblocks.specs.declared.members.Members.{Members}
-use Rattle.superblocks.specs.Reading.{Scope, is_reshaping, is_recovering, is_fresh, role_count, role_state, rows_held, entry_of, state_of, holder, holder_from, own_of}
-use Rattle.superblocks.specs.Update.{planned, give_of, own_in, is_held_by, planned_role, is_planned_spare, slot_entry, entry_for, with_entries, faulty_role, with_roles}
-use Rattle.superblocks.specs.Updating.{planned_newest, IsLater, AreNamed}
-use Rattle.superblocks.specs.Outcome.{is_in_update, is_same, live_set, planned_spares, with_added}
-use Rattle.superblocks.specs.Reads.{SaysSame, held_in, spare_in, has_spare}
-use Rattle.superblocks.specs.Held.{IsKnown, Shows, AreHeld, known_of, said_by}
-use Rattle.superblocks.specs.Plans.{IsFitChange}
+use Rattle.safe_updates.specs.md_base_Sectors.{Sector}
+use Rattle.safe_updates.specs.md_base_Search.{tabulate}
+use Rattle.safe_updates.specs.md_base_Shapes.{has_slot}
+use Rattle.safe_updates.specs.md_base_the_Role.{Role}
+use Rattle.safe_updates.specs.md_base_the_Role_TheVariants.{Whole, Recovering, Missing}
+use Rattle.safe_updates.proofs.md_base_Tabulated.{length-tabulate, get_or-tabulate}
+use Rattle.safe_updates.specs.sb1_the_Sb.{Sb}
+use Rattle.safe_updates.specs.bank_Given.{Given}
+use Rattle.safe_updates.specs.bank_Tape.{IsIn}
+use Rattle.safe_updates.specs.superblocks_the_Give.{Give}
+use Rattle.safe_updates.specs.superblocks_the_Give_TheVariants.{Same}
+use Rattle.safe_updates.specs.superblocks_the_Members.{Members}
+use Rattle.safe_updates.specs.superblocks_Reading.{Scope, is_reshaping, is_recovering, is_fresh, role_count, role_state, rows_held, entry_of, state_of, holder, holder_from, own_of}
+use Rattle.safe_updates.specs.superblocks_Update.{planned, give_of, own_in, is_held_by, planned_role, is_planned_spare, slot_entry, entry_for, with_entries, faulty_role, with_roles}
+use Rattle.safe_updates.specs.superblocks_Updating.{planned_newest, IsLater, AreNamed}
+use Rattle.safe_updates.specs.superblocks_Outcome.{is_in_update, is_same, live_set, planned_spares, with_added}
+use Rattle.safe_updates.specs.superblocks_Reads.{SaysSame, held_in, spare_in, has_spare}
+use Rattle.safe_updates.specs.superblocks_Held.{IsKnown, Shows, AreHeld, known_of, said_by}
+use Rattle.safe_updates.specs.superblocks_Plans.{IsFitChange}
 use Rattle.safe_updates.specs.superblock_reads_Said.{AreSaid, AreSparesFit, AreSaidAsPlanned}
-use Rattle.superblocks.specs.Stages.{AreLeft, AreKept}
-use Rattle.superblocks.specs.Crash.{IsWithin}
-use Rattle.superblocks.specs.Adding.{IsReadyToAdd}
-use Rattle.superblocks.proofs.ReadLists.{by_bool, holder-same, spares-at}
-use Rattle.superblocks.proofs.ReadAlike.{tabulate-same}
-use Rattle.superblocks.proofs.HeldReads.{known_at}
-use Rattle.superblocks.proofs.PlannedSb.{planned-of}
+use Rattle.safe_updates.specs.superblocks_Stages.{AreLeft, AreKept}
+use Rattle.safe_updates.specs.superblocks_Crash.{IsWithin}
+use Rattle.safe_updates.specs.superblocks_Adding.{IsReadyToAdd}
+use Rattle.safe_updates.proofs.superblocks_ReadLists.{by_bool, holder-same, spares-at}
+use Rattle.safe_updates.proofs.superblocks_ReadAlike.{tabulate-same}
+use Rattle.safe_updates.proofs.superblocks_HeldReads.{known_at}
+use Rattle.safe_updates.proofs.superblocks_PlannedSb.{planned-of}
 use Rattle.safe_updates.proofs.superblock_reads_SaidSlots.{holder-own, listed, roles-count}
-use Rattle.superblocks.proofs.SlotSets.{has-set_of, slots-same, with_here, with_other, none_above}
+use Rattle.safe_updates.proofs.superblocks_SlotSets.{has-set_of, slots-same, with_here, with_other, none_above}
 use Rattle.safe_updates.proofs.superblock_reads_RoundReads.{left_set, left-are, planned_list, planned-in, kept-of}
 use Rattle.safe_updates.proofs.superblock_laws_AddedReads.{put, put_ninth, of_put, none_read, known_put}
-use Rattle.superblocks.proofs.UpdateReads.{fresh_less}
+use Rattle.safe_updates.proofs.superblocks_UpdateReads.{fresh_less}
 use Rattle.safe_updates.proofs.superblock_reads_Tied.{IsPlannedNewest, planned-said, held-other}
 use Rattle.safe_updates.specs.row_io_Rows.{reading_of, role_without, members_without}
 use Rattle.safe_updates.specs.shape_changes_Held.{IsHeldBy}
 use Rattle.safe_updates.specs.shape_changes_Marking.{adding}
-use Rattle.views.specs.Numbers.{IsSpareSb}
-use Rattle.views.specs.Placed.{IsPlaced}
-use Rattle.views.specs.Rebuilding.{with_spare}
-use Rattle.views.proofs.AddedMembers.{own-here, own-other, lost-with}
+use Rattle.safe_updates.specs.views_Numbers.{IsSpareSb}
+use Rattle.safe_updates.specs.views_Placed.{IsPlaced}
+use Rattle.safe_updates.specs.views_Rebuilding.{with_spare}
+use Rattle.safe_updates.proofs.views_AddedMembers.{own-here, own-other, lost-with}
 use Rattle.safe_additions.proofs.AddedStarts.{says-still, says-later, count-still}
-use Rattle.views.proofs.MarkLaws.{roles-kept}
+use Rattle.safe_updates.proofs.views_MarkLaws.{roles-kept}
 use Rattle.safe_updates.proofs.shape_changes_Kept.{give_of-same}
 use Rattle.safe_additions.proofs.Planned.{apart, small}
 use Rattle.safe_additions.proofs.Ready.{gone-lost}
 use Rattle.safe_updates.proofs.shape_changes_Without.{any-without, from-without, without-twice}
-use Rattle.superblocks.proofs.ValidFields.{few-roles as valid-few}
+use Rattle.safe_updates.proofs.superblocks_ValidFields.{few-roles as valid-few}
 use Rattle.safe_updates.proofs.shape_changes_UpdateViews.{said-recovering}
 use Rattle.safe_additions.proofs.SaidReads.{IsSaidOf}
 

@@ -10,32 +10,32 @@ use Rattle.std.proofs.lemmas.Bool.Decides.{nat_tests}
 use Rattle.std.proofs.lemmas.List.{get_or_append_left, get_or-take, length-take-le}
 use Rattle.std.proofs.lemmas.Nat.{and_assoc}
 use Rattle.std.proofs.lemmas.Nat.Bits.{bit_at_and, bit_at-lt}
-use Rattle.md_base.specs.Sectors.{Sector}
-use Rattle.md_base.specs.Shapes.{has_slot}
-use Rattle.md_base.specs.declared.status.Role.TheVariants.{Missing}
-use Rattle.sb1.specs.declared.sb.Sb.{Sb}
-use Rattle.sb1.specs.Features.{refused_bits}
-use Rattle.bank.specs.Given.{Given, Sizes}
-use Rattle.bank.specs.Tape.{IsIn}
-use Rattle.superblocks.specs.declared.change.Give.{Give}
-use Rattle.superblocks.specs.declared.change.Give.TheVariants.{Same}
-use Rattle.superblocks.specs.declared.members.Members.{Members}
-use Rattle.superblocks.specs.Reading.{Scope, role_count, is_negative, is_zero, lies_within, entry_of, holder}
-use Rattle.superblocks.specs.Verdict.{judged_fields, is_role}
-use Rattle.superblocks.specs.Update.{give_of, is_held_by, is_recovery, planned_role, is_planned_spare}
-use Rattle.superblocks.specs.Updating.{IsLater, planned_newest}
-use Rattle.superblocks.specs.Outcome.{is_in_update, live_set, with_added}
-use Rattle.superblocks.specs.Reads.{SaysSame, HasNoLateRoles, IsSuited, has_spare}
-use Rattle.superblocks.specs.Held.{IsSecondHalf, Shows, AreHeld}
-use Rattle.superblocks.specs.Plans.{KeepsRecovery, IsFitChange}
-use Rattle.superblocks.specs.Stages.{AreLeft}
-use Rattle.superblocks.specs.Adding.{IsNewcomer, IsReadyToAdd}
-use Rattle.superblocks.proofs.ValidFields.{few-events}
-use Rattle.superblocks.proofs.ReadAlike.{count-same, fields-kept}
-use Rattle.superblocks.proofs.PlannedSb.{planned-of}
+use Rattle.safe_updates.specs.md_base_Sectors.{Sector}
+use Rattle.safe_updates.specs.md_base_Shapes.{has_slot}
+use Rattle.safe_updates.specs.md_base_the_Role_TheVariants.{Missing}
+use Rattle.safe_updates.specs.sb1_the_Sb.{Sb}
+use Rattle.safe_updates.specs.sb1_Features.{refused_bits}
+use Rattle.safe_updates.specs.bank_Given.{Given, Sizes}
+use Rattle.safe_updates.specs.bank_Tape.{IsIn}
+use Rattle.safe_updates.specs.superblocks_the_Give.{Give}
+use Rattle.safe_updates.specs.superblocks_the_Give_TheVariants.{Same}
+use Rattle.safe_updates.specs.superblocks_the_Members.{Members}
+use Rattle.safe_updates.specs.superblocks_Reading.{Scope, role_count, is_negative, is_zero, lies_within, entry_of, holder}
+use Rattle.safe_updates.specs.superblocks_Verdict.{judged_fields, is_role}
+use Rattle.safe_updates.specs.superblocks_Update.{give_of, is_held_by, is_recovery, planned_role, is_planned_spare}
+use Rattle.safe_updates.specs.superblocks_Updating.{IsLater, planned_newest}
+use Rattle.safe_updates.specs.superblocks_Outcome.{is_in_update, live_set, with_added}
+use Rattle.safe_updates.specs.superblocks_Reads.{SaysSame, HasNoLateRoles, IsSuited, has_spare}
+use Rattle.safe_updates.specs.superblocks_Held.{IsSecondHalf, Shows, AreHeld}
+use Rattle.safe_updates.specs.superblocks_Plans.{KeepsRecovery, IsFitChange}
+use Rattle.safe_updates.specs.superblocks_Stages.{AreLeft}
+use Rattle.safe_updates.specs.superblocks_Adding.{IsNewcomer, IsReadyToAdd}
+use Rattle.safe_updates.proofs.superblocks_ValidFields.{few-events}
+use Rattle.safe_updates.proofs.superblocks_ReadAlike.{count-same, fields-kept}
+use Rattle.safe_updates.proofs.superblocks_PlannedSb.{planned-of}
 use Rattle.safe_updates.proofs.superblock_reads_SaidLists.{role-holder}
 use Rattle.safe_updates.proofs.superblock_reads_SaidSlots.{role-below}
-use Rattle.superblocks.proofs.SlotSets.{has-set_of, none_above}
+use Rattle.safe_updates.proofs.superblocks_SlotSets.{has-set_of, none_above}
 use Rattle.safe_updates.proofs.superblock_reads_RoundReads.{left_set, left-are}
 use Rattle.safe_updates.proofs.superblock_reads_RoundsRead.{more-held}
 use Rattle.safe_updates.proofs.superblock_laws_AddingStarts.{adding-ready}
@@ -43,10 +43,10 @@ use Rattle.safe_updates.specs.row_io_Rows.{role_without, members_without}
 use Rattle.safe_updates.specs.shape_changes_Held.{IsHeldBy}
 use Rattle.safe_updates.specs.shape_changes_Marking.{adding, marking}
 use Rattle.safe_updates.specs.shape_changes_Carried.{AreCarried}
-use Rattle.views.specs.Numbers.{IsSpareSb, IsOfScope, spare_sb}
-use Rattle.views.specs.Placed.{IsPlaced}
-use Rattle.views.specs.Rebuilding.{AreSparesFree, with_spare}
-use Rattle.views.proofs.AddedMembers.{lost-with, live-here}
+use Rattle.safe_updates.specs.views_Numbers.{IsSpareSb, IsOfScope, spare_sb}
+use Rattle.safe_updates.specs.views_Placed.{IsPlaced}
+use Rattle.safe_updates.specs.views_Rebuilding.{AreSparesFree, with_spare}
+use Rattle.safe_updates.proofs.views_AddedMembers.{lost-with, live-here}
 use Rattle.safe_updates.proofs.shape_changes_Kept.{give_of-same}
 use Rattle.safe_updates.proofs.shape_changes_Without.{state-without, any-holds, live-is, live-without}
 use Rattle.safe_additions.proofs.Planned.{without-holder}

@@ -3,46 +3,46 @@ use Rattle.std.proofs.Common.{◌≡◌, ◌⊎◌, inl, inr, ⊎_elim, ℕ, ◌
 use Rattle.std.specs.Prelude.{pos, ◌-ℤ◌, MatchOption, ⊤}
 use Rattle.std.specs.Option.{option_map_or}
 use Rattle.std.proofs.lemmas.Bool.Decides.{nat_tests}
-use Rattle.md_base.specs.Sectors.{Sector}
-use Rattle.md_base.specs.Shapes.{has_slot}
-use Rattle.sb1.specs.declared.sb.Sb.{Sb}
-use Rattle.sb1.specs.Superblock.{checksum}
-use Rattle.bank.specs.declared.bank.Operation.{Operation}
-use Rattle.bank.specs.Given.{Given}
-use Rattle.bank.specs.Tape.{EachMark, IsIn, disk}
-use Rattle.bank.proofs.Laws.{kept_in}
-use Rattle.superblocks.specs.declared.change.Give.{Give}
-use Rattle.superblocks.specs.declared.change.Give.TheVariants.{Same}
-use Rattle.superblocks.specs.declared.members.Members.{Members}
-use Rattle.superblocks.specs.Reading.{count_of, is_reshaping, shape_of, final_shape, is_backward, role_count}
-use Rattle.superblocks.specs.Reads.{SaysSame, has_spare}
-use Rattle.superblocks.specs.Update.{planned, give_of, own_in, is_planned_spare}
-use Rattle.superblocks.specs.Updating.{IsUpdate, IsWrittenBy, AreLosses, AreNamed, IsLater, IsSomeLeft, RisesByOperations, planned_newest}
-use Rattle.superblocks.specs.Outcome.{AreLive, AreStored, IsPlannedOwn, live_set, is_left, planned_roles, planned_spares, with_added}
-use Rattle.superblocks.specs.Rounds.{round_at, IsInRounds, ArePast}
-use Rattle.superblocks.proofs.PlannedSb.{planned-of}
-use Rattle.superblocks.proofs.SlotSets.{slots-same}
+use Rattle.safe_updates.specs.md_base_Sectors.{Sector}
+use Rattle.safe_updates.specs.md_base_Shapes.{has_slot}
+use Rattle.safe_updates.specs.sb1_the_Sb.{Sb}
+use Rattle.safe_updates.specs.sb1_Superblock.{checksum}
+use Rattle.safe_updates.specs.bank_the_Operation.{Operation}
+use Rattle.safe_updates.specs.bank_Given.{Given}
+use Rattle.safe_updates.specs.bank_Tape.{EachMark, IsIn, disk}
+use Rattle.safe_updates.proofs.bank_Laws.{kept_in}
+use Rattle.safe_updates.specs.superblocks_the_Give.{Give}
+use Rattle.safe_updates.specs.superblocks_the_Give_TheVariants.{Same}
+use Rattle.safe_updates.specs.superblocks_the_Members.{Members}
+use Rattle.safe_updates.specs.superblocks_Reading.{count_of, is_reshaping, shape_of, final_shape, is_backward, role_count}
+use Rattle.safe_updates.specs.superblocks_Reads.{SaysSame, has_spare}
+use Rattle.safe_updates.specs.superblocks_Update.{planned, give_of, own_in, is_planned_spare}
+use Rattle.safe_updates.specs.superblocks_Updating.{IsUpdate, IsWrittenBy, AreLosses, AreNamed, IsLater, IsSomeLeft, RisesByOperations, planned_newest}
+use Rattle.safe_updates.specs.superblocks_Outcome.{AreLive, AreStored, IsPlannedOwn, live_set, is_left, planned_roles, planned_spares, with_added}
+use Rattle.safe_updates.specs.superblocks_Rounds.{round_at, IsInRounds, ArePast}
+use Rattle.safe_updates.proofs.superblocks_PlannedSb.{planned-of}
+use Rattle.safe_updates.proofs.superblocks_SlotSets.{slots-same}
 use Rattle.safe_updates.specs.row_io_Rows.{reading_of}
-use Rattle.views.specs.Placed.{IsPlaced, AreLess, HaveSameReshape}
+use Rattle.safe_updates.specs.views_Placed.{IsPlaced, AreLess, HaveSameReshape}
 use Rattle.safe_updates.specs.shape_changes_Steady.{AreUnlost}
-use Rattle.views.specs.Flushing.{AreHolders}
-use Rattle.views.specs.Lacking.{HaveFailedSince}
+use Rattle.safe_updates.specs.views_Flushing.{AreHolders}
+use Rattle.safe_updates.specs.views_Lacking.{HaveFailedSince}
 use Rattle.safe_updates.specs.shape_changes_Marking.{adding, marking}
-use Rattle.views.specs.Moving.{IsMoved}
-use Rattle.views.specs.Rebuilding.{AreSparesFree, IfOwn, with_spare}
-use Rattle.views.specs.Under.{IsRestKept}
+use Rattle.safe_updates.specs.views_Moving.{IsMoved}
+use Rattle.safe_updates.specs.views_Rebuilding.{AreSparesFree, IfOwn, with_spare}
+use Rattle.safe_updates.specs.views_Under.{IsRestKept}
 use Rattle.safe_updates.specs.shape_changes_Safety.{HasLiveSlot, IsRisen}
-use Rattle.views.proofs.AddedMembers.{own-here, spares-with, live-with}
-use Rattle.views.proofs.HeldRows.{rows-same}
-use Rattle.views.proofs.LackingLaws.{since-less}
-use Rattle.views.proofs.MarkEnds.{left-in-mark}
-use Rattle.views.proofs.MarkLaws.{roles-kept, few-planned}
+use Rattle.safe_updates.proofs.views_AddedMembers.{own-here, spares-with, live-with}
+use Rattle.safe_updates.proofs.views_HeldRows.{rows-same}
+use Rattle.safe_updates.proofs.views_LackingLaws.{since-less}
+use Rattle.safe_updates.proofs.views_MarkEnds.{left-in-mark}
+use Rattle.safe_updates.proofs.views_MarkLaws.{roles-kept, few-planned}
 use Rattle.safe_updates.proofs.shape_changes_Kept.{give_of-same}
-use Rattle.views.proofs.MarkedSafe.{told-marks}
-use Rattle.views.proofs.MovedLaws.{moved-less}
-use Rattle.views.proofs.PlacedLaws.{placed-less, less-unlost}
+use Rattle.safe_updates.proofs.views_MarkedSafe.{told-marks}
+use Rattle.safe_updates.proofs.views_MovedLaws.{moved-less}
+use Rattle.safe_updates.proofs.views_PlacedLaws.{placed-less, less-unlost}
 use Rattle.safe_updates.proofs.SparesLaws.{spare-left, spare-stays, free-told, told-were}
-use Rattle.views.proofs.Fit.{reshape-said}
+use Rattle.safe_updates.proofs.views_Fit.{reshape-said}
 
 is-below : (a b : ℕ) → a < b → nat_lt a b ≡ true
 is-below a b lt = grind (arith, nat_tests)

@@ -1,20 +1,20 @@
 -- Views with a new spare, and with roles that are lost, have no more than others.
 use Rattle.std.proofs.Common.{◌≡◌, ℕ, not, List, length, get_or, Some, refl, sym, ◌∙◌, ap}
 use Rattle.std.proofs.lemmas.List.{length-map}
-use Rattle.md_base.specs.declared.status.Role.{Role}
-use Rattle.md_base.specs.declared.status.Role.TheVariants.{Missing}
-use Rattle.sb1.specs.declared.sb.Sb.{Sb}
-use Rattle.superblocks.specs.declared.members.Members.{Members}
-use Rattle.superblocks.specs.Reading.{is_whole, role_state, holder}
-use Rattle.superblocks.specs.Reads.{SaysSame}
+use Rattle.safe_updates.specs.md_base_the_Role.{Role}
+use Rattle.safe_updates.specs.md_base_the_Role_TheVariants.{Missing}
+use Rattle.safe_updates.specs.sb1_the_Sb.{Sb}
+use Rattle.safe_updates.specs.superblocks_the_Members.{Members}
+use Rattle.safe_updates.specs.superblocks_Reading.{is_whole, role_state, holder}
+use Rattle.safe_updates.specs.superblocks_Reads.{SaysSame}
 use Rattle.safe_updates.specs.row_io_Rows.{reading_of, role_without}
 use Rattle.safe_updates.specs.shape_changes_Updates.{IsLessView}
 use Rattle.safe_updates.proofs.shape_changes_ChangeViews.{says-itself}
 use Rattle.safe_updates.proofs.shape_changes_Kept.{still-missing}
 use Rattle.safe_updates.proofs.shape_changes_Without.{without-holder, state-without}
-use Rattle.views.specs.Placed.{AreLess}
-use Rattle.views.specs.Rebuilding.{with_spare}
-use Rattle.views.proofs.AddedRows.{offset-with, rows-as}
+use Rattle.safe_updates.specs.views_Placed.{AreLess}
+use Rattle.safe_updates.specs.views_Rebuilding.{with_spare}
+use Rattle.safe_updates.proofs.views_AddedRows.{offset-with, rows-as}
 
 -- a slot that holds no role has no part in the view
 pub with-less : (m : Members) (slot : ℕ) (sb : Sb) → ((role : ℕ) → holder (role_state (reading_of m) role) ≡ Some slot → ⊥) → IsLessView m (with_spare slot sb m)

@@ -4,12 +4,12 @@ use Rattle.std.specs.Prelude.{slice_index, if◌then◌else◌}
 use Rattle.std.proofs.lemmas.Bool.{cases_eq, cases_lt}
 use Rattle.std.proofs.lemmas.Bool.Decides.{nat_tests}
 use Rattle.std.proofs.lemmas.List.{get_or-set_same, get_or-set_other, ext_get_or}
-use Rattle.md_base.specs.Shapes.{has_slot}
-use Rattle.md_base.specs.Search.{tabulate}
-use Rattle.md_base.proofs.Tabulated.{length-tabulate, get_or-tabulate}
-use Rattle.superblocks.specs.Outcome.{set_of}
-use Rattle.superblocks.proofs.SlotSets.{none_above, is-set_of}
-use Rattle.views.specs.Numbers.{bearers}
+use Rattle.safe_updates.specs.md_base_Shapes.{has_slot}
+use Rattle.safe_updates.specs.md_base_Search.{tabulate}
+use Rattle.safe_updates.proofs.md_base_Tabulated.{length-tabulate, get_or-tabulate}
+use Rattle.safe_updates.specs.superblocks_Outcome.{set_of}
+use Rattle.safe_updates.proofs.superblocks_SlotSets.{none_above, is-set_of}
+use Rattle.safe_updates.specs.views_Numbers.{bearers}
 
 -- ---- one number
 

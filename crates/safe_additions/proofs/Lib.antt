@@ -10,10 +10,10 @@ pub mod SaidReads
 pub mod Planned
 pub mod Ready
 pub use Rattle.safe_updates.proofs.RefusingLaws as safe_updates_RefusingLaws
-pub use Rattle.views.proofs.Fit as views_Fit
-pub use Rattle.views.proofs.Still as views_Still
-pub use Rattle.views.proofs.Flushed as views_Flushed
-pub use Rattle.views.proofs.WholeLaws as views_WholeLaws
+pub use Rattle.safe_updates.proofs.views_Fit
+pub use Rattle.safe_updates.proofs.views_Still
+pub use Rattle.safe_updates.proofs.views_Flushed
+pub use Rattle.safe_updates.proofs.views_WholeLaws
 pub use Rattle.safe_updates.proofs.shape_views_Stands
 pub use Rattle.safe_updates.proofs.list_io_FullLaws
 pub use Rattle.safe_updates.proofs.list_io_Parities
@@ -27,3 +27,5 @@ pub use Rattle.safe_updates.proofs.superblock_reads_Accepted
 pub use Rattle.safe_updates.proofs.superblock_reads_SaidSlots
 pub use Rattle.safe_updates.proofs.superblock_reads_FoundHeld
 pub use Rattle.safe_updates.proofs.superblock_reads_StageReads
+pub use Rattle.safe_updates.proofs.row_io_Tables
+pub use Rattle.safe_updates.proofs.superblocks_SlotSets

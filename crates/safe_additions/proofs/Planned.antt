@@ -1,16 +1,16 @@
 -- Roles without lost slots, by what the known superblocks say: no slot holds two of them.
 use Rattle.std.proofs.Common.{◌≡◌, ℕ, ◌<◌, ◌==◌, ◌&&◌, Bool, true, false, cond, List, get_or, Option, Some, None, refl, sym, ◌∙◌, ap, arith}
 use Rattle.std.proofs.lemmas.Bool.Decides.{nat_tests}
-use Rattle.md_base.specs.Sectors.{Sector}
-use Rattle.md_base.specs.Shapes.{has_slot}
-use Rattle.md_base.specs.declared.status.Role.{Role}
-use Rattle.md_base.specs.declared.status.Role.TheVariants.{Whole, Recovering, Missing}
-use Rattle.md_base.proofs.Tabulated.{get_or-tabulate}
-use Rattle.sb1.specs.declared.sb.Sb.{Sb}
-use Rattle.superblocks.specs.declared.members.Members.{Members}
-use Rattle.superblocks.specs.Reading.{Scope, is_fresh, entry_of, holds_role, state_of, role_count, holder, holder_from}
-use Rattle.superblocks.specs.Reads.{held_in}
-use Rattle.superblocks.specs.Held.{known_of}
+use Rattle.safe_updates.specs.md_base_Sectors.{Sector}
+use Rattle.safe_updates.specs.md_base_Shapes.{has_slot}
+use Rattle.safe_updates.specs.md_base_the_Role.{Role}
+use Rattle.safe_updates.specs.md_base_the_Role_TheVariants.{Whole, Recovering, Missing}
+use Rattle.safe_updates.proofs.md_base_Tabulated.{get_or-tabulate}
+use Rattle.safe_updates.specs.sb1_the_Sb.{Sb}
+use Rattle.safe_updates.specs.superblocks_the_Members.{Members}
+use Rattle.safe_updates.specs.superblocks_Reading.{Scope, is_fresh, entry_of, holds_role, state_of, role_count, holder, holder_from}
+use Rattle.safe_updates.specs.superblocks_Reads.{held_in}
+use Rattle.safe_updates.specs.superblocks_Held.{known_of}
 use Rattle.safe_updates.proofs.superblock_reads_SaidLists.{state-here}
 use Rattle.safe_updates.proofs.superblock_reads_SaidSlots.{role-said, role-below, role-known}
 use Rattle.safe_updates.specs.row_io_Rows.{role_without}

@@ -4,20 +4,20 @@ use Rattle.std.specs.Prelude.{find}
 use Rattle.std.specs.List.{list_any}
 use Rattle.std.specs.Option.{option_or}
 use Rattle.std.proofs.lemmas.Bool.Decides.{nat_tests}
-use Rattle.md_base.specs.Sectors.{Sector}
-use Rattle.md_base.specs.Shapes.{has_slot}
-use Rattle.md_base.specs.declared.answers.Refusal.{Refusal}
-use Rattle.md_base.specs.declared.answers.Refusal.TheVariants.{BadField}
-use Rattle.sb1.specs.declared.sb.Sb.{Sb}
-use Rattle.superblocks.specs.declared.change.Give.TheVariants.{Same}
-use Rattle.superblocks.specs.declared.change.Change.{Change}
-use Rattle.superblocks.specs.declared.members.Members.{Members}
-use Rattle.superblocks.specs.Reading.{Scope}
-use Rattle.superblocks.specs.Verdict.{judged_fields, bad_field, first_bad_entry}
-use Rattle.superblocks.specs.Update.{is_held_by}
-use Rattle.superblocks.specs.Outcome.{live_set}
-use Rattle.superblocks.specs.Reads.{has_spare}
-use Rattle.superblocks.proofs.ReadLists.{by_bool}
+use Rattle.safe_updates.specs.md_base_Sectors.{Sector}
+use Rattle.safe_updates.specs.md_base_Shapes.{has_slot}
+use Rattle.safe_updates.specs.md_base_the_Refusal.{Refusal}
+use Rattle.safe_updates.specs.md_base_the_Refusal_TheVariants.{BadField}
+use Rattle.safe_updates.specs.sb1_the_Sb.{Sb}
+use Rattle.safe_updates.specs.superblocks_the_Give_TheVariants.{Same}
+use Rattle.safe_updates.specs.superblocks_the_Change.{Change}
+use Rattle.safe_updates.specs.superblocks_the_Members.{Members}
+use Rattle.safe_updates.specs.superblocks_Reading.{Scope}
+use Rattle.safe_updates.specs.superblocks_Verdict.{judged_fields, bad_field, first_bad_entry}
+use Rattle.safe_updates.specs.superblocks_Update.{is_held_by}
+use Rattle.safe_updates.specs.superblocks_Outcome.{live_set}
+use Rattle.safe_updates.specs.superblocks_Reads.{has_spare}
+use Rattle.safe_updates.proofs.superblocks_ReadLists.{by_bool}
 use Rattle.safe_updates.proofs.superblock_reads_SaidSlots.{role-known, spare-known}
 use Rattle.safe_updates.specs.row_io_Rows.{members_without}
 use Rattle.safe_updates.specs.shape_changes_Marking.{marking}

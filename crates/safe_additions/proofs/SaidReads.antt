@@ -1,14 +1,14 @@
 -- An image that reads as superblocks say that say what members do is read of these members.
 use Rattle.std.proofs.Common.{◌≡◌, ℕ, Bool, true, cond, List, get_or, Option, Some, refl, sym, ◌∙◌, ap, ap₂}
 use Rattle.std.specs.Option.{option_map_or}
-use Rattle.md_base.specs.declared.status.Role.{Role}
-use Rattle.md_base.specs.declared.status.Role.TheVariants.{Whole, Recovering, Missing}
-use Rattle.sb1.specs.declared.sb.Sb.{Sb}
-use Rattle.bank.specs.Tape.{Contents}
-use Rattle.superblocks.specs.declared.members.Members.{Members}
-use Rattle.superblocks.specs.Reading.{Scope, Reading, is_recovering, role_state, rows_held, holder, own_of, data_offset_of}
-use Rattle.superblocks.specs.Reads.{SaysSame, IsReadAs, roles_refusal}
-use Rattle.superblocks.proofs.ReadAlike.{refused-same}
+use Rattle.safe_updates.specs.md_base_the_Role.{Role}
+use Rattle.safe_updates.specs.md_base_the_Role_TheVariants.{Whole, Recovering, Missing}
+use Rattle.safe_updates.specs.sb1_the_Sb.{Sb}
+use Rattle.safe_updates.specs.bank_Tape.{Contents}
+use Rattle.safe_updates.specs.superblocks_the_Members.{Members}
+use Rattle.safe_updates.specs.superblocks_Reading.{Scope, Reading, is_recovering, role_state, rows_held, holder, own_of, data_offset_of}
+use Rattle.safe_updates.specs.superblocks_Reads.{SaysSame, IsReadAs, roles_refusal}
+use Rattle.safe_updates.proofs.superblocks_ReadAlike.{refused-same}
 use Rattle.safe_updates.proofs.superblock_reads_SaidSlots.{read-own}
 use Rattle.safe_updates.specs.row_io_Rows.{reading_of}
 use Rattle.safe_updates.specs.shape_views_Regions.{IsReadOf}

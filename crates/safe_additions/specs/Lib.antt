@@ -1,12 +1,12 @@
 pub use Rattle.safe_updates.specs.First as safe_updates_First
-pub use Rattle.views.specs.Flushing as views_Flushing
-pub use Rattle.views.specs.Placed as views_Placed
-pub use Rattle.views.specs.Numbers as views_Numbers
-pub use Rattle.views.specs.Whole as views_Whole
-pub use Rattle.views.specs.Rows as views_Rows
-pub use Rattle.views.specs.Parts as views_Parts
-pub use Rattle.views.specs.Lacking as views_Lacking
-pub use Rattle.views.specs.Rebuilding as views_Rebuilding
+pub use Rattle.safe_updates.specs.views_Flushing
+pub use Rattle.safe_updates.specs.views_Placed
+pub use Rattle.safe_updates.specs.views_Numbers
+pub use Rattle.safe_updates.specs.views_Whole
+pub use Rattle.safe_updates.specs.views_Rows
+pub use Rattle.safe_updates.specs.views_Parts
+pub use Rattle.safe_updates.specs.views_Lacking
+pub use Rattle.safe_updates.specs.views_Rebuilding
 pub use Rattle.safe_updates.specs.shape_changes_Held
 pub use Rattle.safe_updates.specs.shape_changes_Steady
 pub use Rattle.safe_updates.specs.shape_changes_Marking
@@ -29,3 +29,7 @@ pub use Rattle.safe_updates.specs.flat_history_the_Event
 pub use Rattle.safe_updates.specs.flat_history_Same
 pub use Rattle.safe_updates.specs.row_io_Rows
 pub use Rattle.safe_updates.specs.row_io_Writes
+pub use Rattle.safe_updates.specs.superblocks_Reads
+pub use Rattle.safe_updates.specs.superblocks_Update
+pub use Rattle.safe_updates.specs.superblocks_Verdict
+pub use Rattle.safe_updates.specs.views_Status

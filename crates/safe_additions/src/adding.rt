@@ -1,34 +1,30 @@
 //! A slot is made a spare.
 
 ghost use Rattle.std.specs.Prelude.{◌≡◌, ◌≤◌, ◌<◌, ◌^◌, ℕ, true, false, drop, length, slice_index, IfSome, IfNone};
-ghost use Rattle.bank.specs.Given.{NeverFalls, IsFaulted};
-ghost use Rattle.bank.specs.Tape.{IsIn, disk};
-ghost use Rattle.md_base.specs.Sectors.{Sector};
-ghost use Rattle.md_base.specs.Shapes.{has_slot};
-ghost use Rattle.superblocks.specs.Reading.{is_clean, data_offset_of};
-ghost use Rattle.superblocks.specs.Reads.{has_spare};
-ghost use Rattle.superblocks.specs.Held.{IsSecondHalf};
+ghost use Rattle.safe_updates.specs.bank_Given.{NeverFalls, IsFaulted};
+ghost use Rattle.safe_updates.specs.bank_Tape.{IsIn, disk};
+ghost use Rattle.safe_updates.specs.md_base_Sectors.{Sector};
+ghost use Rattle.safe_updates.specs.md_base_Shapes.{has_slot};
+ghost use Rattle.safe_updates.specs.superblocks_Reading.{is_clean, data_offset_of};
+ghost use Rattle.safe_updates.specs.superblocks_Reads.{has_spare};
+ghost use Rattle.safe_updates.specs.superblocks_Held.{IsSecondHalf};
 ghost use Rattle.safe_updates.specs.row_io_Rows.{reading_of, present};
 ghost use Rattle.safe_updates.specs.flat_history_World.{World};
-ghost use Rattle.views.specs.Placed.{IsPlaced};
+ghost use Rattle.safe_updates.specs.views_Placed.{IsPlaced};
 ghost use Rattle.safe_updates.specs.shape_changes_Steady.{AreUnlost, IsSafeOver, KeepsSafe, AreGoneTold, IsUncleanTold, with_number};
 ghost use Rattle.safe_updates.specs.shape_changes_Marking.{adding, AreOthersPresent};
-ghost use Rattle.views.specs.Flushing.{OnlyFlushesAdded};
-ghost use Rattle.views.specs.Moving.{Grows, IsMoved};
+ghost use Rattle.safe_updates.specs.views_Flushing.{OnlyFlushesAdded};
+ghost use Rattle.safe_updates.specs.views_Moving.{Grows, IsMoved};
 ghost use Rattle.safe_updates.specs.shape_changes_Safety.{HasLiveSlot, HasRoomLeft, IsRisen};
-ghost use Rattle.views.specs.Lacking.{HaveFailedSince, AreUnnamed};
-ghost use Rattle.views.specs.Under.{IsRestKept};
-ghost use Rattle.sb1.specs.Superblock.{two_by_two};
-ghost use Rattle.views.specs.Numbers.{IsSpareSb, IsOfScope, AreSecondEntries};
-ghost use Rattle.views.specs.Rebuilding.{MayHold, AreSparesFree, IfOwn, with_spare};
+ghost use Rattle.safe_updates.specs.views_Lacking.{HaveFailedSince, AreUnnamed};
+ghost use Rattle.safe_updates.specs.views_Under.{IsRestKept};
+ghost use Rattle.safe_updates.specs.sb1_Superblock.{two_by_two};
+ghost use Rattle.safe_updates.specs.views_Numbers.{IsSpareSb, IsOfScope, AreSecondEntries};
+ghost use Rattle.safe_updates.specs.views_Rebuilding.{MayHold, AreSparesFree, IfOwn, with_spare};
 ghost use Rattle.safe_updates.specs.shape_views_Views.{Ledger};
 
-use bank::Bank;
 use safe_updates::flushes::holders;
-use sb1::{Sb, fields_of};
-use superblock_updates::update;
-use superblocks::sets::without;
-use superblocks::{Change, Give, Members};
+use safe_updates::{Bank, Change, Give, Members, Sb, fields_of, update, without};
 
 /// The first sector of a superblock.
 const SUPERBLOCK: u64 = 8;

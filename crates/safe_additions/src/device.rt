@@ -1,13 +1,10 @@
 //! The superblock of a device that is new to an array.
 
 ghost use Rattle.std.specs.Prelude.{◌≡◌, ◌≤◌, ◌++◌, ◌<◌, ◌-◌, take, drop, length, IfSome};
-ghost use Rattle.views.specs.Numbers.{bearers, bearing, device_uuid, spare_sb, free_number};
+ghost use Rattle.safe_updates.specs.views_Numbers.{bearers, bearing, device_uuid, spare_sb, free_number};
 
-use sb1::{Features, Sb};
-use superblocks::says::entry_of;
-use superblocks::sets::{with, without};
+use safe_updates::{Features, Sb, Work, entry_of, with, without};
 use uuid::Uuid;
-use views::Work;
 
 // The bits of the feature map that an array's superblocks share.
 const SHARED_BITS: u32 = Features::RESHAPE_ACTIVE.0 | Features::RESHAPE_BACKWARDS.0;

@@ -5,6 +5,6 @@ pub mod adding;
 pub mod device;
 
 pub use device::device_uuid;
-pub use safe_updates::flush_slots;
 pub use safe_updates::refusing::{too_many, unread, unwritten};
 pub use safe_updates::roles::{is_spare, is_vacant, list_length, shape_in};
+pub use safe_updates::{Work, flush_slots, is_clean, with};

@@ -3,14 +3,14 @@ use Rattle.std.proofs.Common.{◌≡◌, ℕ, ◌*◌, ◌≤◌, true, List, �
 use Rattle.std.proofs.lemmas.List.{take-append-le}
 use Rattle.std.specs.Prelude.{MatchOption, OnOk, ⊤, false, Option, Some, None, is_some, Result, Ok, Err}
 use Rattle.std.specs.Result.{is_err}
-use Rattle.md_base.specs.declared.places.Shape.{Shape}
-use Rattle.bank.specs.Given.{Given}
-use Rattle.superblocks.specs.declared.members.Members.{Members}
-use Rattle.superblocks.specs.Reading.{Reading}
-use Rattle.row_io.specs.Rows.{reading_of, members_without}
-use Rattle.list_io.specs.declared.outcome.Unavailable.{Unavailable}
-use Rattle.list_io.specs.declared.outcome.Unavailable.TheVariants.{TooManyMissing, NotResynced}
-use Rattle.list_io.specs.Calls.{IsAnswer}
+use Rattle.safe_updates.specs.md_base_the_Shape.{Shape}
+use Rattle.safe_updates.specs.bank_Given.{Given}
+use Rattle.safe_updates.specs.superblocks_the_Members.{Members}
+use Rattle.safe_updates.specs.superblocks_Reading.{Reading}
+use Rattle.safe_updates.specs.row_io_Rows.{reading_of, members_without}
+use Rattle.safe_updates.specs.list_io_the_Unavailable.{Unavailable}
+use Rattle.safe_updates.specs.list_io_the_Unavailable_TheVariants.{TooManyMissing, NotResynced}
+use Rattle.safe_updates.specs.list_io_Calls.{IsAnswer}
 use Rattle.safe_updates.specs.views_Placed.{IsPlaced, IsInForce}
 use Rattle.safe_updates.specs.views_Lacking.{LacksTooMany, refused_by}
 use Rattle.safe_updates.proofs.views_Fit.{disks-within}

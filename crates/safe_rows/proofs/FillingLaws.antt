@@ -1,34 +1,34 @@
 -- A row of a role that is filled in on the slot that recovers it.
 use Rattle.std.proofs.Common.{◌≡◌, ◌⊎◌, inl, inr, ℕ, ◌+◌, ◌-◌, ◌*◌, ◌<◌, ◌≤◌, ◌==◌, ◌&&◌, eqb-true, eq-eqb, Bool, true, false, if◌then◌else◌, List, [], ◌∷◌, ◌++◌, length, take, drop, Result, refl, sym, ◌∙◌, ap, ap₂, subst, arith}
-use Rattle.md_base.specs.declared.places.Shape.{Shape}
-use Rattle.md_base.specs.declared.places.Place.{Place}
-use Rattle.md_base.specs.declared.status.Role.{Role}
-use Rattle.md_base.specs.declared.status.Role.TheVariants.{Recovering}
-use Rattle.md_base.specs.Sectors.{Sector}
-use Rattle.md_base.specs.Shapes.{is_valid_shape}
-use Rattle.bank.specs.Given.{Given}
-use Rattle.bank.specs.declared.bank.Operation.{Operation}
-use Rattle.bank.specs.declared.bank.Operation.TheVariants.{Write}
-use Rattle.bank.specs.Tape.{Contents, EachMark, Did, disk, run}
+use Rattle.safe_updates.specs.md_base_the_Shape.{Shape}
+use Rattle.safe_updates.specs.md_base_the_Place.{Place}
+use Rattle.safe_updates.specs.md_base_the_Role.{Role}
+use Rattle.safe_updates.specs.md_base_the_Role_TheVariants.{Recovering}
+use Rattle.safe_updates.specs.md_base_Sectors.{Sector}
+use Rattle.safe_updates.specs.md_base_Shapes.{is_valid_shape}
+use Rattle.safe_updates.specs.bank_Given.{Given}
+use Rattle.safe_updates.specs.bank_the_Operation.{Operation}
+use Rattle.safe_updates.specs.bank_the_Operation_TheVariants.{Write}
+use Rattle.safe_updates.specs.bank_Tape.{Contents, EachMark, Did, disk, run}
 use Rattle.std.proofs.lemmas.Bool.{cases_eq}
 use Rattle.std.specs.Prelude.{slice_index}
-use Rattle.bank.proofs.Calls.{did_marks}
-use Rattle.bank.proofs.Marks.{each_mark-map, each_mark-then, each_mark-told}
-use Rattle.bank.proofs.Laws.{disk-append}
-use Rattle.layout.specs.Layout.{row_roles, IsParity}
-use Rattle.layout.proofs.Places.{parity-or_sector}
-use Rattle.parity.specs.Rows.{sector_of}
-use Rattle.superblocks.specs.declared.members.Members.{Members}
-use Rattle.superblocks.specs.Reading.{role_state, rows_held, holder, data_offset_of}
-use Rattle.row_io.specs.Rows.{reading_of, present}
-use Rattle.row_io.specs.Writes.{new_sector}
-use Rattle.row_io.proofs.Turns.{marks_last}
-use Rattle.row_io.proofs.Written.{present-is, present-same}
-use Rattle.list_io.specs.Full.{full_sector}
-use Rattle.list_io.specs.Writing.{AreDataOf, AreSuperblocksKept, HasFull}
-use Rattle.list_io.specs.Buffers.{buffered, AreDistinct}
-use Rattle.list_io.proofs.FullLaws.{full-data, new-full}
-use Rattle.list_io.proofs.PartBytes.{sector-part}
+use Rattle.safe_updates.proofs.bank_Calls.{did_marks}
+use Rattle.safe_updates.proofs.bank_Marks.{each_mark-map, each_mark-then, each_mark-told}
+use Rattle.safe_updates.proofs.bank_Laws.{disk-append}
+use Rattle.safe_updates.specs.layout_Layout.{row_roles, IsParity}
+use Rattle.safe_updates.proofs.layout_Places.{parity-or_sector}
+use Rattle.safe_updates.specs.parity_Rows.{sector_of}
+use Rattle.safe_updates.specs.superblocks_the_Members.{Members}
+use Rattle.safe_updates.specs.superblocks_Reading.{role_state, rows_held, holder, data_offset_of}
+use Rattle.safe_updates.specs.row_io_Rows.{reading_of, present}
+use Rattle.safe_updates.specs.row_io_Writes.{new_sector}
+use Rattle.safe_updates.proofs.row_io_Turns.{marks_last}
+use Rattle.safe_updates.proofs.row_io_Written.{present-is, present-same}
+use Rattle.safe_updates.specs.list_io_Full.{full_sector}
+use Rattle.safe_updates.specs.list_io_Writing.{AreDataOf, AreSuperblocksKept, HasFull}
+use Rattle.safe_updates.specs.list_io_Buffers.{buffered, AreDistinct}
+use Rattle.safe_updates.proofs.list_io_FullLaws.{full-data, new-full}
+use Rattle.safe_updates.proofs.list_io_PartBytes.{sector-part}
 use Rattle.safe_updates.specs.views_Placed.{IsPlaced}
 use Rattle.safe_updates.specs.views_Rebuilding.{IsUnheld, IsFilling, IsFilledAmong}
 use Rattle.safe_updates.specs.Named.{AreDataKept}

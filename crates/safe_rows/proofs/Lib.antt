@@ -20,3 +20,17 @@ pub use Rattle.safe_updates.proofs.shape_views_UnderWay
 pub use Rattle.safe_updates.proofs.views_MendedParts
 pub mod CallLaws
 pub mod RefusedLaws
+pub use Rattle.safe_updates.proofs.geometry_ClosedForms
+pub use Rattle.safe_updates.proofs.geometry_Divisions
+pub use Rattle.safe_updates.proofs.geometry_Valid
+pub use Rattle.safe_updates.proofs.layout_Limits
+pub use Rattle.safe_updates.proofs.layout_Places
+pub use Rattle.safe_updates.proofs.list_io_BufferLaws
+pub use Rattle.safe_updates.proofs.list_io_FullLaws
+pub use Rattle.safe_updates.proofs.list_io_ListLaws
+pub use Rattle.safe_updates.proofs.list_io_LossLaws
+pub use Rattle.safe_updates.proofs.region_laws_RegionLaws
+pub use Rattle.safe_updates.proofs.row_io_Losses
+pub use Rattle.safe_updates.proofs.row_io_RowBytes
+pub use Rattle.safe_updates.proofs.row_io_Written
+pub use Rattle.safe_updates.proofs.superblocks_FeatureBits

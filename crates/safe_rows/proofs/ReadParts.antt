@@ -2,21 +2,21 @@
 use Rattle.std.proofs.Common.{◌≡◌, ◌⊎◌, inl, inr, ℕ, ◌+◌, ◌-◌, ◌*◌, ◌<◌, ◌++◌, true, false, List, length, take, drop, sym, ◌∙◌, ap, ap₂, subst, arith}
 use Rattle.std.proofs.Math.Seq.{drop-append-add}
 use Rattle.std.proofs.lemmas.List.{drop-append-le, take-append-le, length-drop}
-use Rattle.md_base.specs.Sectors.{Sector}
-use Rattle.md_base.specs.Shapes.{is_valid_shape, is_multiple, data_disks}
-use Rattle.md_base.specs.declared.places.Shape.{Shape}
-use Rattle.bank.specs.Given.{Given}
-use Rattle.bank.specs.Tape.{Contents}
-use Rattle.layout.specs.Layout.{place}
-use Rattle.layout.proofs.Places.{place-role_below, place-row_below}
-use Rattle.parity.specs.Rows.{sector_of}
-use Rattle.superblocks.specs.declared.members.Members.{Members}
-use Rattle.superblocks.specs.Reading.{role_count}
-use Rattle.row_io.specs.Rows.{reading_of, is_held, members_without}
-use Rattle.row_io.proofs.Lacks.{lacking-missing}
-use Rattle.list_io.specs.Calls.{IsListed}
-use Rattle.list_io.specs.Full.{DataStands, RowStands}
-use Rattle.list_io.proofs.ListLaws.{listed_since, lacks_by}
+use Rattle.safe_updates.specs.md_base_Sectors.{Sector}
+use Rattle.safe_updates.specs.md_base_Shapes.{is_valid_shape, is_multiple, data_disks}
+use Rattle.safe_updates.specs.md_base_the_Shape.{Shape}
+use Rattle.safe_updates.specs.bank_Given.{Given}
+use Rattle.safe_updates.specs.bank_Tape.{Contents}
+use Rattle.safe_updates.specs.layout_Layout.{place}
+use Rattle.safe_updates.proofs.layout_Places.{place-role_below, place-row_below}
+use Rattle.safe_updates.specs.parity_Rows.{sector_of}
+use Rattle.safe_updates.specs.superblocks_the_Members.{Members}
+use Rattle.safe_updates.specs.superblocks_Reading.{role_count}
+use Rattle.safe_updates.specs.row_io_Rows.{reading_of, is_held, members_without}
+use Rattle.safe_updates.proofs.row_io_Lacks.{lacking-missing}
+use Rattle.safe_updates.specs.list_io_Calls.{IsListed}
+use Rattle.safe_updates.specs.list_io_Full.{DataStands, RowStands}
+use Rattle.safe_updates.proofs.list_io_ListLaws.{listed_since, lacks_by}
 use Rattle.safe_updates.specs.views_Placed.{AreWhole, IsPlaced, IsInForce}
 use Rattle.safe_updates.proofs.views_Fit.{force-valid, force-multiple, force-disks}
 

@@ -1,9 +1,9 @@
 -- What a write is refused for.
 use Rattle.std.proofs.Common.{◌≡◌, ℕ, ◌+◌, ◌^◌, ◌<◌, ◌≤◌, Bool, true, false, inl, arith}
 use Rattle.std.specs.Prelude.{MatchOption, ⊤, Option, Some, None}
-use Rattle.md_base.specs.declared.answers.Refusal.{Refusal}
-use Rattle.md_base.specs.declared.places.Shape.{Shape}
-use Rattle.superblocks.specs.declared.members.Members.{Members}
+use Rattle.safe_updates.specs.md_base_the_Refusal.{Refusal}
+use Rattle.safe_updates.specs.md_base_the_Shape.{Shape}
+use Rattle.safe_updates.specs.superblocks_the_Members.{Members}
 use Rattle.safe_updates.specs.views_Lacking.{LacksTooMany, IsUnwritten}
 
 -- rows are unwritten where too many are missing

@@ -1,9 +1,9 @@
 -- Reads leave nothing new of any slot, and the names that follow nothing new of slots without a part in the array.
 use Rattle.std.proofs.Common.{◌≡◌, List, sym, subst}
-use Rattle.bank.specs.declared.bank.Operation.{Operation}
-use Rattle.bank.specs.Given.{Given}
-use Rattle.bank.specs.Tape.{Contents, disk}
-use Rattle.superblocks.specs.declared.members.Members.{Members}
+use Rattle.safe_updates.specs.bank_the_Operation.{Operation}
+use Rattle.safe_updates.specs.bank_Given.{Given}
+use Rattle.safe_updates.specs.bank_Tape.{Contents, disk}
+use Rattle.safe_updates.specs.superblocks_the_Members.{Members}
 use Rattle.safe_updates.specs.views_Moving.{IsMoved}
 use Rattle.safe_updates.specs.views_Under.{IsRestKept}
 use Rattle.safe_updates.specs.Unused.{IsUnusedKept}

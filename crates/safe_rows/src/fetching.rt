@@ -1,34 +1,31 @@
 //! Reads of an array that may lack members.
 
 ghost use Rattle.std.specs.Prelude.{◌≡◌, ◌⊎◌, ◌+◌, ◌*◌, ◌/◌, ◌^◌, ◌<◌, ◌≤◌, ℕ, false, length, None, Some, OnOk, MatchOption, IsTrue, ⊤};
-ghost use Rattle.bank.specs.Given.{NeverFalls};
-ghost use Rattle.md_base.specs.Sectors.{Sector, IsWhole};
-ghost use Rattle.md_base.specs.Shapes.{is_multiple, data_disks};
-ghost use Rattle.layout.specs.Layout.{place};
-ghost use Rattle.parity.specs.Rows.{sector_of};
-ghost use Rattle.superblocks.specs.Reading.{is_clean};
-ghost use Rattle.row_io.specs.Rows.{reading_of, present};
-ghost use Rattle.list_io.specs.Calls.{AreLost, IsAnswer};
+ghost use Rattle.safe_updates.specs.bank_Given.{NeverFalls};
+ghost use Rattle.safe_updates.specs.md_base_Sectors.{Sector, IsWhole};
+ghost use Rattle.safe_updates.specs.md_base_Shapes.{is_multiple, data_disks};
+ghost use Rattle.safe_updates.specs.layout_Layout.{place};
+ghost use Rattle.safe_updates.specs.parity_Rows.{sector_of};
+ghost use Rattle.safe_updates.specs.superblocks_Reading.{is_clean};
+ghost use Rattle.safe_updates.specs.row_io_Rows.{reading_of, present};
+ghost use Rattle.safe_updates.specs.list_io_Calls.{AreLost, IsAnswer};
 ghost use Rattle.safe_updates.specs.views_Placed.{AreWhole, IsPlaced, IsInForce};
 ghost use Rattle.safe_updates.specs.shape_changes_Steady.{AreUnlost, IsSafeOver, KeepsSafe, AreGoneTold, IsUncleanTold};
 ghost use Rattle.safe_updates.specs.views_Rebuilding.{AreSparesFree};
 ghost use Rattle.safe_updates.specs.shape_changes_Marking.{AreOthersPresent};
 ghost use Rattle.safe_updates.specs.views_Moving.{Grows, IsMoved};
-ghost use Rattle.list_io.specs.Buffers.{IsTouched};
-ghost use Rattle.list_io.specs.Full.{DataStands, RowStands};
+ghost use Rattle.safe_updates.specs.list_io_Buffers.{IsTouched};
+ghost use Rattle.safe_updates.specs.list_io_Full.{DataStands, RowStands};
 ghost use Rattle.safe_updates.specs.views_Lacking.{HaveFailedSince, IsAskedBeyond, IsUnread, DataStandsAmong, RowsStandAmong};
 ghost use Rattle.safe_updates.specs.First.{read_refusal};
 ghost use Rattle.safe_updates.specs.flat_history_World.{World};
 ghost use Rattle.safe_updates.specs.shape_changes_Safety.{HasRoomLeft, IsRisen};
 ghost use Rattle.safe_updates.specs.shape_views_Views.{Ledger};
 
-use bank::Bank;
-use list_io::{Outcome, read_list};
-use md_base::{Refusal, Shape};
 use safe_updates::naming::name_missing;
 use safe_updates::refusing::unread;
 use safe_updates::roles::list_length;
-use superblocks::Members;
+use safe_updates::{Bank, Members, Outcome, Refusal, Shape, read_list};
 
 /// The spares that were lost in a read, and why it wasn't done.
 #[derive(Clone, Copy)]

@@ -1,17 +1,17 @@
 //! A stripe of a role is rebuilt on the slot that recovers it.
 
 ghost use Rattle.std.specs.Prelude.{◌≡◌, ◌⊎◌, ◌+◌, ◌*◌, ◌^◌, ◌<◌, ◌≤◌, ℕ, true, false, length, slice_index, vec_capacity, Contains, None, MatchOption, IfSome, IfNone, IsTrue, ⊤};
-ghost use Rattle.bank.specs.Given.{NeverFalls, IsFaulted};
-ghost use Rattle.bank.specs.Tape.{EachMark, disk};
-ghost use Rattle.md_base.specs.Sectors.{Sector};
-ghost use Rattle.md_base.specs.Shapes.{is_valid_shape, data_disks};
-ghost use Rattle.md_base.specs.declared.status.Role.TheVariants.{Recovering as IsRecovering};
-ghost use Rattle.parity.specs.Rows.{IsRowOf, sector_of};
-ghost use Rattle.superblocks.specs.Reading.{is_reshaping, shape_of, is_clean, role_state, rows_held, data_offset_of};
-ghost use Rattle.row_io.specs.Rows.{reading_of, present};
-ghost use Rattle.list_io.specs.Full.{full_sector};
-ghost use Rattle.list_io.specs.Buffers.{AreDistinct, IsTouched};
-ghost use Rattle.list_io.specs.Writing.{AreDataOf, AreDataFrom, AreSuperblocksKept, HasFull};
+ghost use Rattle.safe_updates.specs.bank_Given.{NeverFalls, IsFaulted};
+ghost use Rattle.safe_updates.specs.bank_Tape.{EachMark, disk};
+ghost use Rattle.safe_updates.specs.md_base_Sectors.{Sector};
+ghost use Rattle.safe_updates.specs.md_base_Shapes.{is_valid_shape, data_disks};
+ghost use Rattle.safe_updates.specs.md_base_the_Role_TheVariants.{Recovering as IsRecovering};
+ghost use Rattle.safe_updates.specs.parity_Rows.{IsRowOf, sector_of};
+ghost use Rattle.safe_updates.specs.superblocks_Reading.{is_reshaping, shape_of, is_clean, role_state, rows_held, data_offset_of};
+ghost use Rattle.safe_updates.specs.row_io_Rows.{reading_of, present};
+ghost use Rattle.safe_updates.specs.list_io_Full.{full_sector};
+ghost use Rattle.safe_updates.specs.list_io_Buffers.{AreDistinct, IsTouched};
+ghost use Rattle.safe_updates.specs.list_io_Writing.{AreDataOf, AreDataFrom, AreSuperblocksKept, HasFull};
 ghost use Rattle.safe_updates.specs.flat_history_World.{World};
 ghost use Rattle.safe_updates.specs.views_Placed.{IsPlaced};
 ghost use Rattle.safe_updates.specs.shape_changes_Steady.{AreUnlost, IsSafeOver, KeepsSafe, AreGoneTold, IsUncleanTold};
@@ -24,16 +24,13 @@ ghost use Rattle.safe_updates.specs.Named.{AreNamedMissing};
 ghost use Rattle.safe_rows.specs.Filled.{IsNamedFirst};
 ghost use Rattle.safe_updates.specs.shape_views_Views.{Ledger};
 
-use bank::{Bank, write_sector};
-use layout::row_of;
-use list_io::{ROW_BYTES, read_touched};
-use md_base::{Refusal, Role, Shape};
-use parity::syndromes;
-use row_io::lose_slot;
 use safe_updates::naming::name_missing;
 use safe_updates::refusing::{refused_by, too_many_of};
 use safe_updates::roles::list_length;
-use superblocks::Members;
+use safe_updates::{
+    Bank, Members, ROW_BYTES, Refusal, Role, Shape, lose_slot, read_touched, row_of, syndromes,
+    write_sector,
+};
 
 /// The rows that are read and filled in at a time.
 const ROWS: u64 = 128;

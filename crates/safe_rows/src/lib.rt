@@ -9,3 +9,8 @@ pub mod putting;
 pub use safe_updates::naming::{name_missing, raise};
 pub use safe_updates::refusing::{too_many, too_many_of, unread, unwritten};
 pub use safe_updates::roles::{final_in, list_length, shape_in};
+pub use safe_updates::{
+    Bank, Features, Members, Outcome, Refusal, Role, Sb, Shape, Side, Span, Unavailable,
+    are_too_many, data_offset, is_reshaping, list_length as superblocks_list_length, lose_slot,
+    place, read_touched, side, stripe_sectors,
+};

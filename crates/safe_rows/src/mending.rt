@@ -1,15 +1,15 @@
 //! The parity of stripes is made to fit their data.
 
 ghost use Rattle.std.specs.Prelude.{◌≡◌, ◌/◌, ◌<◌, ◌≤◌, ℕ, true, false, length, vec_capacity, None, Some, MatchOption, IfSome, IsTrue, ⊤};
-ghost use Rattle.bank.specs.Given.{NeverFalls};
-ghost use Rattle.bank.specs.Tape.{disk};
-ghost use Rattle.md_base.specs.Sectors.{Sector};
-ghost use Rattle.md_base.specs.Shapes.{is_valid_shape, is_multiple};
-ghost use Rattle.md_base.specs.declared.status.Role.TheVariants.{Recovering as IsRecovering};
-ghost use Rattle.superblocks.specs.Reading.{shape_of, is_clean, role_state};
-ghost use Rattle.row_io.specs.Rows.{reading_of, present};
-ghost use Rattle.list_io.specs.Full.{AreWholeIn, RowStands};
-ghost use Rattle.list_io.specs.Writing.{HasFull};
+ghost use Rattle.safe_updates.specs.bank_Given.{NeverFalls};
+ghost use Rattle.safe_updates.specs.bank_Tape.{disk};
+ghost use Rattle.safe_updates.specs.md_base_Sectors.{Sector};
+ghost use Rattle.safe_updates.specs.md_base_Shapes.{is_valid_shape, is_multiple};
+ghost use Rattle.safe_updates.specs.md_base_the_Role_TheVariants.{Recovering as IsRecovering};
+ghost use Rattle.safe_updates.specs.superblocks_Reading.{shape_of, is_clean, role_state};
+ghost use Rattle.safe_updates.specs.row_io_Rows.{reading_of, present};
+ghost use Rattle.safe_updates.specs.list_io_Full.{AreWholeIn, RowStands};
+ghost use Rattle.safe_updates.specs.list_io_Writing.{HasFull};
 ghost use Rattle.safe_updates.specs.views_Placed.{IsPlaced, IsInForce};
 ghost use Rattle.safe_updates.specs.shape_changes_Steady.{AreUnlost, IsSafeOver, KeepsSafe, AreGoneTold, AreWritesAllowed};
 ghost use Rattle.safe_updates.specs.views_Rebuilding.{AreSparesFree};
@@ -25,10 +25,8 @@ ghost use Rattle.safe_updates.specs.flat_history_Sound.{OpensFit};
 ghost use Rattle.safe_updates.specs.shape_views_Views.{Ledger, IsTailZero};
 
 use crate::putting::put;
-use bank::Bank;
-use md_base::{Refusal, Shape};
 use safe_updates::roles::{list_length, shape_in};
-use superblocks::Members;
+use safe_updates::{Bank, Members, Refusal, Shape};
 
 /// The rows that are read and rewritten at a time.
 const ROWS: u64 = 128;

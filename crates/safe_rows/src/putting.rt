@@ -1,16 +1,16 @@
 //! Writes of an array that may lack members.
 
 ghost use Rattle.std.specs.Prelude.{◌≡◌, ◌⊎◌, ◌+◌, ◌*◌, ◌/◌, ◌^◌, ◌<◌, ◌≤◌, ℕ, true, false, length, slice_index, Contains, vec_capacity, None, Some, MatchOption, ⊤};
-ghost use Rattle.bank.specs.Given.{NeverFalls};
-ghost use Rattle.bank.specs.Tape.{disk};
-ghost use Rattle.md_base.specs.Sectors.{Sector, IsWhole};
-ghost use Rattle.md_base.specs.declared.status.Role.TheVariants.{Recovering as IsRecovering};
-ghost use Rattle.superblocks.specs.Reading.{is_clean, role_state};
-ghost use Rattle.row_io.specs.Rows.{reading_of, present};
-ghost use Rattle.list_io.specs.Buffers.{buffered, AreDistinct, AreStanding, AreTouched, IsTouched};
-ghost use Rattle.list_io.specs.Full.{AreWholeIn, RowStands};
-ghost use Rattle.list_io.specs.Writing.{IsWritten, AreDataFrom, HasFull};
-ghost use Rattle.md_base.specs.Shapes.{data_disks};
+ghost use Rattle.safe_updates.specs.bank_Given.{NeverFalls};
+ghost use Rattle.safe_updates.specs.bank_Tape.{disk};
+ghost use Rattle.safe_updates.specs.md_base_Sectors.{Sector, IsWhole};
+ghost use Rattle.safe_updates.specs.md_base_the_Role_TheVariants.{Recovering as IsRecovering};
+ghost use Rattle.safe_updates.specs.superblocks_Reading.{is_clean, role_state};
+ghost use Rattle.safe_updates.specs.row_io_Rows.{reading_of, present};
+ghost use Rattle.safe_updates.specs.list_io_Buffers.{buffered, AreDistinct, AreStanding, AreTouched, IsTouched};
+ghost use Rattle.safe_updates.specs.list_io_Full.{AreWholeIn, RowStands};
+ghost use Rattle.safe_updates.specs.list_io_Writing.{IsWritten, AreDataFrom, HasFull};
+ghost use Rattle.safe_updates.specs.md_base_Shapes.{data_disks};
 ghost use Rattle.safe_updates.specs.views_Placed.{AreWhole, IsPlaced, IsInForce};
 ghost use Rattle.safe_updates.specs.shape_changes_Steady.{AreUnlost, IsSafeOver, KeepsSafe, AreGoneTold, AreWritesAllowed};
 ghost use Rattle.safe_updates.specs.views_Rebuilding.{AreSparesFree};
@@ -25,12 +25,9 @@ ghost use Rattle.safe_updates.specs.flat_history_World.{World};
 ghost use Rattle.safe_updates.specs.flat_history_Sound.{OpensFit};
 ghost use Rattle.safe_updates.specs.shape_views_Views.{Ledger, IsTailZero};
 
-use bank::Bank;
-use list_io::{read_touched, write_touched};
-use md_base::{Refusal, Shape};
 use safe_updates::naming::{name_missing, raise};
 use safe_updates::refusing::{refused_by, too_many_of, unwritten};
-use superblocks::Members;
+use safe_updates::{Bank, Members, Refusal, Shape, read_touched, write_touched};
 
 // The first row that isn't written, and why the rows weren't all written.
 #[derive(Clone, Copy)]

@@ -5,25 +5,25 @@ use Rattle.std.specs.List.{list_any}
 use Rattle.std.specs.Option.{option_map_or}
 use Rattle.std.proofs.lemmas.Bool.{cases_eq}
 use Rattle.std.proofs.lemmas.Bool.Decides.{nat_tests}
-use Rattle.md_base.specs.Shapes.{has_slot}
-use Rattle.md_base.specs.declared.status.Role.{Role}
-use Rattle.md_base.specs.declared.status.Role.TheVariants.{Whole, Recovering, Missing}
-use Rattle.sb1.specs.declared.sb.Sb.{Sb}
-use Rattle.sb1.specs.Superblock.{checksum}
-use Rattle.bank.specs.Given.{Given, IsFaulted}
-use Rattle.superblocks.specs.declared.change.Give.{Give}
-use Rattle.superblocks.specs.declared.change.Give.TheVariants.{Same}
-use Rattle.superblocks.specs.declared.change.Give.TheVariants as give
-use Rattle.superblocks.specs.declared.members.Members.{Members}
-use Rattle.superblocks.specs.Reading.{count_of, is_reshaping, shape_of, final_shape, is_backward, role_count, role_state, holder, is_whole, data_offset_of}
-use Rattle.superblocks.specs.Reads.{SaysSame, has_spare}
-use Rattle.superblocks.specs.Update.{own_in, planned, give_of, is_held_by, is_live, is_planned_spare}
-use Rattle.superblocks.specs.Updating.{IsLater, AreLosses, planned_newest}
-use Rattle.superblocks.specs.Outcome.{live_set, is_left, AreLive, AreStored, IsPlannedOwn, planned_roles, planned_spares}
-use Rattle.superblocks.proofs.ReadLists.{by_bool}
-use Rattle.superblocks.proofs.PlannedSb.{planned-of}
+use Rattle.layout.specs.md_base_Shapes.{has_slot}
+use Rattle.layout.specs.md_base_the_Role.{Role}
+use Rattle.layout.specs.md_base_the_Role_TheVariants.{Whole, Recovering, Missing}
+use Rattle.superblock_updates.specs.sb1_the_Sb.{Sb}
+use Rattle.superblock_updates.specs.sb1_Superblock.{checksum}
+use Rattle.superblock_updates.specs.bank_Given.{Given, IsFaulted}
+use Rattle.superblock_updates.specs.superblocks_the_Give.{Give}
+use Rattle.superblock_updates.specs.superblocks_the_Give_TheVariants.{Same}
+use Rattle.superblock_updates.specs.superblocks_the_Give_TheVariants as give
+use Rattle.superblock_updates.specs.superblocks_the_Members.{Members}
+use Rattle.superblock_updates.specs.superblocks_Reading.{count_of, is_reshaping, shape_of, final_shape, is_backward, role_count, role_state, holder, is_whole, data_offset_of}
+use Rattle.superblock_updates.specs.superblocks_Reads.{SaysSame, has_spare}
+use Rattle.superblock_updates.specs.superblocks_Update.{own_in, planned, give_of, is_held_by, is_live, is_planned_spare}
+use Rattle.superblock_updates.specs.superblocks_Updating.{IsLater, AreLosses, planned_newest}
+use Rattle.superblock_updates.specs.superblocks_Outcome.{live_set, is_left, AreLive, AreStored, IsPlannedOwn, planned_roles, planned_spares}
+use Rattle.superblock_updates.proofs.superblocks_ReadLists.{by_bool}
+use Rattle.superblock_updates.proofs.superblocks_PlannedSb.{planned-of}
 use Rattle.views.proofs.superblock_reads_SaidSlots.{has-slots_below}
-use Rattle.row_io.specs.Rows.{reading_of, is_missing, role_without}
+use Rattle.views.specs.row_io_Rows.{reading_of, is_missing, role_without}
 use Rattle.views.specs.Flushing.{AreHolders}
 use Rattle.views.specs.Placed.{IsPlaced, AreLess, HaveSameReshape}
 use Rattle.views.specs.shape_changes_Steady.{AreUnlost}

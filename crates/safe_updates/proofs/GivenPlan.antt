@@ -3,21 +3,21 @@ use Rattle.std.proofs.Common.{◌≡◌, inl, inr, ℕ, ◌<◌, ◌||◌, Bool,
 use Rattle.std.specs.List.{list_any}
 use Rattle.std.specs.Option.{option_map_or}
 use Rattle.std.proofs.lemmas.Bool.{cases_eq}
-use Rattle.md_base.proofs.Tabulated.{get_or-tabulate}
-use Rattle.md_base.specs.declared.status.Role.{Role}
-use Rattle.md_base.specs.declared.status.Role.TheVariants.{Whole, Recovering, Missing}
-use Rattle.sb1.specs.declared.sb.Sb.{Sb}
-use Rattle.bank.specs.Given.{Given}
-use Rattle.superblocks.specs.declared.change.Give.{Give}
-use Rattle.superblocks.specs.declared.change.Give.TheVariants.{Same}
-use Rattle.superblocks.specs.declared.change.Change.{Change}
-use Rattle.superblocks.specs.declared.members.Members.{Members}
-use Rattle.superblocks.specs.Reading.{is_whole, shape_of, role_count, role_state, rows_held, holder}
-use Rattle.superblocks.specs.Reads.{has_spare}
-use Rattle.superblocks.specs.Update.{with_give, with_recovery, give_of, own_in, is_held_by}
-use Rattle.superblocks.specs.Outcome.{is_in_update, AreLive, AreGivesOfLive, planned_roles}
-use Rattle.superblocks.proofs.ReadAlike.{shape-same}
-use Rattle.row_io.specs.Rows.{reading_of, role_without}
+use Rattle.layout.proofs.md_base_Tabulated.{get_or-tabulate}
+use Rattle.layout.specs.md_base_the_Role.{Role}
+use Rattle.layout.specs.md_base_the_Role_TheVariants.{Whole, Recovering, Missing}
+use Rattle.superblock_updates.specs.sb1_the_Sb.{Sb}
+use Rattle.superblock_updates.specs.bank_Given.{Given}
+use Rattle.superblock_updates.specs.superblocks_the_Give.{Give}
+use Rattle.superblock_updates.specs.superblocks_the_Give_TheVariants.{Same}
+use Rattle.superblock_updates.specs.superblocks_the_Change.{Change}
+use Rattle.superblock_updates.specs.superblocks_the_Members.{Members}
+use Rattle.superblock_updates.specs.superblocks_Reading.{is_whole, shape_of, role_count, role_state, rows_held, holder}
+use Rattle.superblock_updates.specs.superblocks_Reads.{has_spare}
+use Rattle.superblock_updates.specs.superblocks_Update.{with_give, with_recovery, give_of, own_in, is_held_by}
+use Rattle.superblock_updates.specs.superblocks_Outcome.{is_in_update, AreLive, AreGivesOfLive, planned_roles}
+use Rattle.superblock_updates.proofs.superblocks_ReadAlike.{shape-same}
+use Rattle.views.specs.row_io_Rows.{reading_of, role_without}
 use Rattle.views.specs.Placed.{is_vacant, IsPlaced, HaveSameReshape}
 use Rattle.views.specs.Rebuilding.{AreSparesFree}
 use Rattle.views.specs.shape_changes_Marking.{giving}

@@ -1,11 +1,11 @@
 -- What an update did, where its change gives a role to a slot.
 use Rattle.std.proofs.Common.{◌≡◌, ℕ, List, Option, subst}
-use Rattle.bank.specs.declared.bank.Operation.{Operation}
-use Rattle.bank.specs.Given.{Given}
-use Rattle.superblocks.specs.declared.change.Change.{Change}
-use Rattle.superblocks.specs.declared.members.Members.{Members}
-use Rattle.superblocks.specs.Updating.{AreLosses}
-use Rattle.superblocks.specs.Outcome.{with_added, live_set}
+use Rattle.superblock_updates.specs.bank_the_Operation.{Operation}
+use Rattle.superblock_updates.specs.bank_Given.{Given}
+use Rattle.superblock_updates.specs.superblocks_the_Change.{Change}
+use Rattle.superblock_updates.specs.superblocks_the_Members.{Members}
+use Rattle.superblock_updates.specs.superblocks_Updating.{AreLosses}
+use Rattle.superblock_updates.specs.superblocks_Outcome.{with_added, live_set}
 use Rattle.views.specs.shape_changes_Marking.{giving}
 use Rattle.views.specs.shape_changes_Changing.{IsChanged}
 use Rattle.safe_updates.proofs.GivenMoved.{IsGiven}

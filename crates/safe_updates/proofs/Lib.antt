@@ -79,25 +79,54 @@ pub use Rattle.views.proofs.superblock_reads_UpTo
 pub use Rattle.views.proofs.superblock_reads_SaidSlots
 pub use Rattle.views.proofs.superblock_reads_Tied
 pub use Rattle.views.proofs.superblock_reads_SaidLists
-pub use Rattle.row_io.proofs.Losses as row_io_Losses
+pub use Rattle.views.proofs.row_io_Losses
 pub use Rattle.views.proofs.superblock_reads_PlanFits
-pub use Rattle.row_io.proofs.Turns as row_io_Turns
-pub use Rattle.row_io.proofs.RowBytes as row_io_RowBytes
-pub use Rattle.list_io.proofs.FullLaws as list_io_FullLaws
-pub use Rattle.list_io.proofs.Parities as list_io_Parities
+pub use Rattle.views.proofs.row_io_Turns
+pub use Rattle.views.proofs.row_io_RowBytes
+pub use Rattle.views.proofs.list_io_FullLaws
+pub use Rattle.views.proofs.list_io_Parities
 pub use Rattle.views.proofs.flat_history_GivenLaws
 pub use Rattle.views.proofs.flat_history_SameLaws
 pub use Rattle.views.proofs.flat_history_SettledLaws
-pub use Rattle.row_io.proofs.NewRow as row_io_NewRow
-pub use Rattle.row_io.proofs.Apart as row_io_Apart
+pub use Rattle.views.proofs.row_io_NewRow
+pub use Rattle.views.proofs.row_io_Apart
 pub use Rattle.views.proofs.superblock_reads_Accepted
 pub use Rattle.views.proofs.superblock_reads_FoundHeld
-pub use Rattle.row_io.proofs.Written as row_io_Written
+pub use Rattle.views.proofs.row_io_Written
 pub use Rattle.views.proofs.superblock_laws_Laws
 pub use Rattle.views.proofs.flat_history_SoundLaws
 pub use Rattle.views.proofs.flat_history_LegalLaws
 pub use Rattle.views.proofs.flat_history_OneShapeGone
 pub use Rattle.views.proofs.flat_history_OneShapeLegal
 pub use Rattle.views.proofs.flat_history_GoneCounts
-pub use Rattle.row_io.proofs.Lacks as row_io_Lacks
-pub use Rattle.row_io.proofs.Tables as row_io_Tables
+pub use Rattle.views.proofs.row_io_Lacks
+pub use Rattle.views.proofs.row_io_Tables
+pub use Rattle.layout.proofs.Limits as layout_Limits
+pub use Rattle.layout.proofs.Places as layout_Places
+pub use Rattle.layout.proofs.md_base_Least
+pub use Rattle.layout.proofs.md_base_Tabulated
+pub use Rattle.superblock_updates.proofs.bank_Calls
+pub use Rattle.superblock_updates.proofs.bank_Causes
+pub use Rattle.superblock_updates.proofs.bank_Laws
+pub use Rattle.superblock_updates.proofs.bank_Marks
+pub use Rattle.superblock_updates.proofs.geometry_ClosedForms
+pub use Rattle.superblock_updates.proofs.geometry_Divisions
+pub use Rattle.superblock_updates.proofs.geometry_Rows
+pub use Rattle.superblock_updates.proofs.geometry_Valid
+pub use Rattle.superblock_updates.proofs.sb1_SuperblockLaws
+pub use Rattle.superblock_updates.proofs.superblocks_FeatureBits
+pub use Rattle.superblock_updates.proofs.superblocks_HeldReads
+pub use Rattle.superblock_updates.proofs.superblocks_PlannedSb
+pub use Rattle.superblock_updates.proofs.superblocks_ReadAlike
+pub use Rattle.superblock_updates.proofs.superblocks_ReadLists
+pub use Rattle.superblock_updates.proofs.superblocks_Searches
+pub use Rattle.superblock_updates.proofs.superblocks_SlotSets
+pub use Rattle.superblock_updates.proofs.superblocks_UpdateReads
+pub use Rattle.superblock_updates.proofs.superblocks_ValidFields
+pub use Rattle.views.proofs.WholeLaws as views_WholeLaws
+pub use Rattle.views.proofs.list_io_BufferLaws
+pub use Rattle.views.proofs.list_io_ListLaws
+pub use Rattle.views.proofs.list_io_LossLaws
+pub use Rattle.views.proofs.list_io_PartBytes
+pub use Rattle.views.proofs.list_io_PutLaws
+pub use Rattle.views.proofs.region_laws_RegionLaws

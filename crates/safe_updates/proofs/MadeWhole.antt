@@ -4,29 +4,29 @@ use Rattle.std.specs.Prelude.{⊤}
 use Rattle.std.specs.List.{list_any}
 use Rattle.std.proofs.lemmas.Bool.{cases_eq}
 use Rattle.std.proofs.lemmas.Bool.Decides.{nat_tests}
-use Rattle.md_base.specs.Sectors.{Sector}
-use Rattle.md_base.specs.Shapes.{has_slot}
-use Rattle.md_base.specs.declared.status.Role.{Role}
-use Rattle.md_base.specs.declared.status.Role.TheVariants.{Whole, Recovering, Missing}
+use Rattle.layout.specs.md_base_Sectors.{Sector}
+use Rattle.layout.specs.md_base_Shapes.{has_slot}
+use Rattle.layout.specs.md_base_the_Role.{Role}
+use Rattle.layout.specs.md_base_the_Role_TheVariants.{Whole, Recovering, Missing}
 use Rattle.layout.specs.Layout.{place}
-use Rattle.sb1.specs.declared.sb.Sb.{Sb}
-use Rattle.bank.specs.declared.bank.Operation.{Operation}
-use Rattle.bank.specs.Given.{Given}
-use Rattle.bank.specs.Tape.{Contents, IsIn, IsDrawn, disk, value_after}
-use Rattle.bank.proofs.Laws.{choices-present}
-use Rattle.superblocks.specs.declared.change.Change.{Change}
-use Rattle.superblocks.specs.declared.members.Members.{Members}
-use Rattle.superblocks.specs.Reading.{Scope, is_reshaping, is_whole, shape_of, role_count, role_state, rows_held, holder, data_offset_of}
-use Rattle.superblocks.specs.Reads.{has_spare}
-use Rattle.superblocks.specs.Update.{own_in, is_held_by}
-use Rattle.superblocks.specs.Crash.{IsWithin}
-use Rattle.superblocks.specs.Held.{known_of}
+use Rattle.superblock_updates.specs.sb1_the_Sb.{Sb}
+use Rattle.superblock_updates.specs.bank_the_Operation.{Operation}
+use Rattle.superblock_updates.specs.bank_Given.{Given}
+use Rattle.superblock_updates.specs.bank_Tape.{Contents, IsIn, IsDrawn, disk, value_after}
+use Rattle.superblock_updates.proofs.bank_Laws.{choices-present}
+use Rattle.superblock_updates.specs.superblocks_the_Change.{Change}
+use Rattle.superblock_updates.specs.superblocks_the_Members.{Members}
+use Rattle.superblock_updates.specs.superblocks_Reading.{Scope, is_reshaping, is_whole, shape_of, role_count, role_state, rows_held, holder, data_offset_of}
+use Rattle.superblock_updates.specs.superblocks_Reads.{has_spare}
+use Rattle.superblock_updates.specs.superblocks_Update.{own_in, is_held_by}
+use Rattle.superblock_updates.specs.superblocks_Crash.{IsWithin}
+use Rattle.superblock_updates.specs.superblocks_Held.{known_of}
 use Rattle.views.proofs.superblock_reads_SaidSlots.{role-said, role-known}
 use Rattle.views.specs.superblock_laws_MakingWhole.{without_gives, IsMakingWhole}
-use Rattle.row_io.specs.Rows.{reading_of, present, held_slot, role_without, members_without}
-use Rattle.row_io.proofs.Losses.{holder-of, state_kept, state_after}
-use Rattle.list_io.specs.Full.{RowStands, full_sector}
-use Rattle.list_io.proofs.FullLaws.{places-are-full, standing-is-full}
+use Rattle.views.specs.row_io_Rows.{reading_of, present, held_slot, role_without, members_without}
+use Rattle.views.proofs.row_io_Losses.{holder-of, state_kept, state_after}
+use Rattle.views.specs.list_io_Full.{RowStands, full_sector}
+use Rattle.views.proofs.list_io_FullLaws.{places-are-full, standing-is-full}
 use Rattle.views.specs.Placed.{IsPlaced}
 use Rattle.views.specs.shape_changes_Steady.{AreUnlost, IsSteady, AreGoneTold, AreWritesAllowed, given_back}
 use Rattle.views.specs.shape_changes_Held.{IsHeldBy}
@@ -46,7 +46,7 @@ use Rattle.safe_updates.proofs.GivenPlan.{given-state, given-less}
 use Rattle.views.proofs.GivenMembers.{IsReceiver, W, state-here, state-other, holder-then, offset-same, rows-other, placed-given}
 use Rattle.views.specs.shape_changes_Updates.{planned_view, IsLessView}
 use Rattle.views.specs.shape_changes_Changing.{IsChanged}
-use Rattle.role_changes.specs.Making.{IsMakable}
+use Rattle.views.specs.role_changes_Making.{IsMakable}
 use Rattle.views.proofs.shape_changes_ChangeViews.{placed-less}
 use Rattle.views.proofs.shape_changes_KeptSafe.{planned-fits, planned-backup, told-plan, steady-right}
 use Rattle.views.proofs.shape_changes_LessViews.{less-right}

@@ -1,11 +1,11 @@
 -- What is missing without some slots is missing without more of them.
 use Rattle.std.proofs.Common.{◌≡◌, ℕ, Bool, true, false, not, cond, refl, ap}
-use Rattle.md_base.specs.Shapes.{has_slot}
-use Rattle.md_base.specs.declared.status.Role.{Role}
-use Rattle.md_base.specs.declared.status.Role.TheVariants.{Whole, Recovering, Missing}
-use Rattle.superblocks.specs.Reading.{is_whole}
-use Rattle.superblocks.specs.Crash.{IsWithin}
-use Rattle.row_io.specs.Rows.{role_without}
+use Rattle.layout.specs.md_base_Shapes.{has_slot}
+use Rattle.layout.specs.md_base_the_Role.{Role}
+use Rattle.layout.specs.md_base_the_Role_TheVariants.{Whole, Recovering, Missing}
+use Rattle.superblock_updates.specs.superblocks_Reading.{is_whole}
+use Rattle.superblock_updates.specs.superblocks_Crash.{IsWithin}
+use Rattle.views.specs.row_io_Rows.{role_without}
 
 pub missing-more : (few many : ℕ) → IsWithin few many → (state : Role) → not (is_whole (role_without few state)) ≡ true → not (is_whole (role_without many state)) ≡ true
 missing-more few many more (Whole s) missing = by (has_slot few s) refl missing

@@ -1,21 +1,21 @@
 -- Behind a mark the newest superblock gives no device a role that no slot holds.
 use Rattle.std.proofs.Common.{◌≡◌, ⊎_elim, ℕ, ◌<◌, ◌≤◌, Bool, true, false, not, cond, nat_lt, max, get_or, replicate, List, length, Option, Some, None, is_some, sym, ◌∙◌, ap, arith}
 use Rattle.std.specs.Option.{option_map_or}
-use Rattle.md_base.specs.Shapes.{has_slot}
-use Rattle.md_base.specs.declared.status.Role.{Role}
-use Rattle.md_base.specs.declared.status.Role.TheVariants.{Missing}
-use Rattle.bank.specs.Given.{Given}
-use Rattle.superblocks.proofs.ValidFields.{few-roles}
-use Rattle.sb1.specs.declared.sb.Sb.{Sb}
-use Rattle.superblocks.specs.declared.change.Give.{Give}
-use Rattle.superblocks.specs.declared.change.Give.TheVariants.{Same}
-use Rattle.superblocks.specs.declared.members.Members.{Members}
-use Rattle.superblocks.specs.Reading.{entry_of, role_count, holder}
-use Rattle.superblocks.specs.Update.{give_of, planned_role, is_planned_spare, entry_for, with_roles}
-use Rattle.superblocks.specs.Updating.{AreNamed}
+use Rattle.layout.specs.md_base_Shapes.{has_slot}
+use Rattle.layout.specs.md_base_the_Role.{Role}
+use Rattle.layout.specs.md_base_the_Role_TheVariants.{Missing}
+use Rattle.superblock_updates.specs.bank_Given.{Given}
+use Rattle.superblock_updates.proofs.superblocks_ValidFields.{few-roles}
+use Rattle.superblock_updates.specs.sb1_the_Sb.{Sb}
+use Rattle.superblock_updates.specs.superblocks_the_Give.{Give}
+use Rattle.superblock_updates.specs.superblocks_the_Give_TheVariants.{Same}
+use Rattle.superblock_updates.specs.superblocks_the_Members.{Members}
+use Rattle.superblock_updates.specs.superblocks_Reading.{entry_of, role_count, holder}
+use Rattle.superblock_updates.specs.superblocks_Update.{give_of, planned_role, is_planned_spare, entry_for, with_roles}
+use Rattle.superblock_updates.specs.superblocks_Updating.{AreNamed}
 use Rattle.views.proofs.superblock_reads_PlanFits.{length-any, roles-at, entry-is}
 use Rattle.views.proofs.superblock_reads_SaidLists.{role-holder}
-use Rattle.row_io.specs.Rows.{role_without}
+use Rattle.views.specs.row_io_Rows.{role_without}
 use Rattle.safe_updates.specs.Named.{AreNamedMissing}
 use Rattle.views.specs.shape_changes_Marking.{marking}
 use Rattle.views.specs.Placed.{IsPlaced, AreLess}

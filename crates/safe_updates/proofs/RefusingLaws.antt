@@ -5,20 +5,20 @@ use Rattle.std.specs.Result.{is_err}
 use Rattle.std.specs.Option.{option_or}
 use Rattle.std.proofs.lemmas.Bool.{cases_lt}
 use Rattle.std.proofs.lemmas.Bool.Decides.{nat_tests}
-use Rattle.md_base.specs.Search.{least_below}
-use Rattle.md_base.proofs.Least.{least_below-none}
-use Rattle.md_base.specs.Shapes.{is_valid_shape, is_multiple, tolerance, data_disks}
-use Rattle.md_base.specs.declared.places.Shape.{Shape}
-use Rattle.md_base.specs.declared.answers.Refusal.{Refusal}
-use Rattle.md_base.specs.declared.answers.Refusal.TheVariants.{NotResynced as Unsynced}
+use Rattle.layout.specs.md_base_Search.{least_below}
+use Rattle.layout.proofs.md_base_Least.{least_below-none}
+use Rattle.layout.specs.md_base_Shapes.{is_valid_shape, is_multiple, tolerance, data_disks}
+use Rattle.layout.specs.md_base_the_Shape.{Shape}
+use Rattle.superblock_updates.specs.md_base_the_Refusal.{Refusal}
+use Rattle.superblock_updates.specs.md_base_the_Refusal_TheVariants.{NotResynced as Unsynced}
 use Rattle.layout.specs.Layout.{place, is_parity_only}
 use Rattle.layout.proofs.Places.{place-row_below}
-use Rattle.superblocks.specs.declared.members.Members.{Members}
-use Rattle.row_io.specs.Rows.{reading_of, is_missing}
-use Rattle.list_io.specs.declared.outcome.Unavailable.{Unavailable}
-use Rattle.list_io.specs.declared.outcome.Unavailable.TheVariants.{TooManyMissing, NotResynced}
-use Rattle.list_io.specs.Buffers.{HasData, IsDataWhole}
-use Rattle.list_io.specs.Calls.{IsAnswer}
+use Rattle.superblock_updates.specs.superblocks_the_Members.{Members}
+use Rattle.views.specs.row_io_Rows.{reading_of, is_missing}
+use Rattle.views.specs.list_io_the_Unavailable.{Unavailable}
+use Rattle.views.specs.list_io_the_Unavailable_TheVariants.{TooManyMissing, NotResynced}
+use Rattle.views.specs.list_io_Buffers.{HasData, IsDataWhole}
+use Rattle.views.specs.list_io_Calls.{IsAnswer}
 use Rattle.views.specs.Refusals.{lowest_missing}
 use Rattle.views.specs.Lacking.{lacking, too_many, LacksTooMany, DoesWithout, IsAskedBeyond, IsUnread, IsUnwritten}
 use Rattle.views.proofs.Searching.{least-found, both-parts}

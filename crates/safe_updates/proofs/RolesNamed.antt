@@ -3,21 +3,21 @@ use Rattle.std.proofs.Common.{◌≡◌, ℕ, ◌<◌, ◌==◌, ◌&&◌, Bool,
 use Rattle.std.specs.Option.{option_map_or}
 use Rattle.std.proofs.lemmas.Bool.Decides.{nat_tests}
 use Rattle.std.proofs.lemmas.List.{length-map}
-use Rattle.md_base.specs.Sectors.{Sector}
-use Rattle.md_base.specs.Shapes.{has_slot}
-use Rattle.md_base.specs.declared.status.Role.{Role}
-use Rattle.md_base.proofs.Tabulated.{get_or-tabulate}
-use Rattle.md_base.specs.declared.status.Role.TheVariants.{Missing}
-use Rattle.sb1.specs.declared.sb.Sb.{Sb}
-use Rattle.bank.specs.Given.{Given}
-use Rattle.superblocks.specs.declared.members.Members.{Members}
-use Rattle.superblocks.specs.Reading.{Scope, is_fresh, entry_of, holder, holder_from, role_count, state_of}
-use Rattle.superblocks.specs.Reads.{held_in}
-use Rattle.superblocks.specs.Update.{own_in}
-use Rattle.superblocks.specs.Held.{known_of, IsKnown}
-use Rattle.superblocks.proofs.ReadLists.{held-here}
+use Rattle.layout.specs.md_base_Sectors.{Sector}
+use Rattle.layout.specs.md_base_Shapes.{has_slot}
+use Rattle.layout.specs.md_base_the_Role.{Role}
+use Rattle.layout.proofs.md_base_Tabulated.{get_or-tabulate}
+use Rattle.layout.specs.md_base_the_Role_TheVariants.{Missing}
+use Rattle.superblock_updates.specs.sb1_the_Sb.{Sb}
+use Rattle.superblock_updates.specs.bank_Given.{Given}
+use Rattle.superblock_updates.specs.superblocks_the_Members.{Members}
+use Rattle.superblock_updates.specs.superblocks_Reading.{Scope, is_fresh, entry_of, holder, holder_from, role_count, state_of}
+use Rattle.superblock_updates.specs.superblocks_Reads.{held_in}
+use Rattle.superblock_updates.specs.superblocks_Update.{own_in}
+use Rattle.superblock_updates.specs.superblocks_Held.{known_of, IsKnown}
+use Rattle.superblock_updates.proofs.superblocks_ReadLists.{held-here}
 use Rattle.views.proofs.superblock_reads_SaidSlots.{below-length, role-below, role-known, role-said}
-use Rattle.row_io.specs.Rows.{role_without, members_without}
+use Rattle.views.specs.row_io_Rows.{role_without, members_without}
 use Rattle.views.specs.shape_changes_Held.{IsHeldBy}
 use Rattle.views.specs.Lacking.{IsNamed, AreUnnamed}
 use Rattle.views.specs.Placed.{IsPlaced}

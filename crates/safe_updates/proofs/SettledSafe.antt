@@ -1,13 +1,13 @@
 -- Where the members are flushed, and lost slots are named, the list alone is told.
 use Rattle.std.proofs.Common.{◌≡◌, ◌⊎◌, inl, inr, ℕ, ◌+◌, Bool, true, false, List, [], ◌∷◌, refl, sym, ◌∙◌, ap, subst, arith}
-use Rattle.md_base.specs.Sectors.{Sector}
-use Rattle.bank.specs.declared.bank.Operation.{Operation}
-use Rattle.bank.specs.Given.{Given}
-use Rattle.bank.specs.Tape.{IsIn, disk}
-use Rattle.superblocks.specs.declared.members.Members.{Members}
-use Rattle.superblocks.specs.Reading.{Scope, Reading, is_clean, shape_of, final_shape, data_offset_of}
-use Rattle.row_io.specs.Rows.{reading_of, present, IsTolerated}
-use Rattle.row_io.proofs.Losses.{holder-of}
+use Rattle.layout.specs.md_base_Sectors.{Sector}
+use Rattle.superblock_updates.specs.bank_the_Operation.{Operation}
+use Rattle.superblock_updates.specs.bank_Given.{Given}
+use Rattle.superblock_updates.specs.bank_Tape.{IsIn, disk}
+use Rattle.superblock_updates.specs.superblocks_the_Members.{Members}
+use Rattle.superblock_updates.specs.superblocks_Reading.{Scope, Reading, is_clean, shape_of, final_shape, data_offset_of}
+use Rattle.views.specs.row_io_Rows.{reading_of, present, IsTolerated}
+use Rattle.views.proofs.row_io_Losses.{holder-of}
 use Rattle.views.specs.Placed.{IsPlaced}
 use Rattle.views.specs.shape_views_Regions.{DoWithout}
 use Rattle.views.specs.Lacking.{AreHoldersFlushed}

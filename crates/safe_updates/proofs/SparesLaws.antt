@@ -3,17 +3,17 @@ use Rattle.std.proofs.Common.{◌≡◌, ◌⊎◌, inl, inr, ℕ, ◌<◌, ◌&
 use Rattle.std.specs.Prelude.{None}
 use Rattle.std.specs.List.{list_any}
 use Rattle.std.proofs.lemmas.Bool.Decides.{nat_tests}
-use Rattle.md_base.specs.Shapes.{has_slot}
-use Rattle.bank.specs.Given.{Given}
-use Rattle.superblocks.specs.declared.change.Change.{Change}
-use Rattle.superblocks.specs.declared.change.Give.{Give}
-use Rattle.superblocks.specs.declared.change.Give.TheVariants.{Same}
-use Rattle.superblocks.specs.declared.members.Members.{Members}
-use Rattle.superblocks.specs.Outcome.{live_set, planned_spares}
-use Rattle.superblocks.specs.Reads.{has_spare}
-use Rattle.superblocks.specs.Update.{is_held_by, is_live, is_planned_spare, give_of}
+use Rattle.layout.specs.md_base_Shapes.{has_slot}
+use Rattle.superblock_updates.specs.bank_Given.{Given}
+use Rattle.superblock_updates.specs.superblocks_the_Change.{Change}
+use Rattle.superblock_updates.specs.superblocks_the_Give.{Give}
+use Rattle.superblock_updates.specs.superblocks_the_Give_TheVariants.{Same}
+use Rattle.superblock_updates.specs.superblocks_the_Members.{Members}
+use Rattle.superblock_updates.specs.superblocks_Outcome.{live_set, planned_spares}
+use Rattle.superblock_updates.specs.superblocks_Reads.{has_spare}
+use Rattle.superblock_updates.specs.superblocks_Update.{is_held_by, is_live, is_planned_spare, give_of}
 use Rattle.views.proofs.superblock_reads_SaidSlots.{has-slots_below}
-use Rattle.row_io.specs.Rows.{reading_of}
+use Rattle.views.specs.row_io_Rows.{reading_of}
 use Rattle.views.specs.Flushing.{AreHolders}
 use Rattle.views.specs.shape_changes_Marking.{marking}
 use Rattle.views.specs.Rebuilding.{IsFree}

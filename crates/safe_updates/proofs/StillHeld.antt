@@ -1,12 +1,12 @@
 -- What slots hold of the list of an array of one shape is allowed, by the definitions for one shape or two.
 use Rattle.std.proofs.Common.{◌≡◌, ℕ, ◌+◌, ◌<◌, false, List, Some, refl, sym, subst}
-use Rattle.md_base.specs.declared.places.Shape.{Shape}
-use Rattle.md_base.specs.Sectors.{Sector}
-use Rattle.bank.specs.Tape.{IsIn}
+use Rattle.layout.specs.md_base_the_Shape.{Shape}
+use Rattle.layout.specs.md_base_Sectors.{Sector}
+use Rattle.superblock_updates.specs.bank_Tape.{IsIn}
 use Rattle.layout.specs.Layout.{place}
-use Rattle.superblocks.specs.declared.members.Members.{Members}
-use Rattle.superblocks.specs.Reading.{Scope, Reading, is_reshaping, shape_of, data_offset_of}
-use Rattle.row_io.specs.Rows.{reading_of, held_slot}
+use Rattle.superblock_updates.specs.superblocks_the_Members.{Members}
+use Rattle.superblock_updates.specs.superblocks_Reading.{Scope, Reading, is_reshaping, shape_of, data_offset_of}
+use Rattle.views.specs.row_io_Rows.{reading_of, held_slot}
 use Rattle.views.specs.shape_views_Regions.{backup_of}
 use Rattle.views.specs.shape_views_Views.{Disk, AreHeldAllowed}
 use Rattle.views.proofs.shape_views_Stands.{for-still}

@@ -1,22 +1,22 @@
 -- How the list stands whichever header a stop leaves: on fewer members, and on those of one shape.
 use Rattle.std.proofs.Common.{◌≡◌, inl, inr, ⊎_elim, ℕ, ◌+◌, ◌-◌, ◌<◌, ◌&&◌, ◌||◌, Bool, true, false, cond, nat_lt, List, [], ◌∷◌, Option, Some, None, refl, sym, ◌∙◌, ap, subst, arith, not}
 use Rattle.std.specs.Prelude.{unwrap_or}
-use Rattle.md_base.specs.declared.places.Shape.{Shape}
-use Rattle.md_base.specs.declared.places.Span.{Span}
-use Rattle.md_base.specs.Sectors.{Sector}
-use Rattle.md_base.specs.Shapes.{has_slot}
-use Rattle.bank.specs.Given.{Given}
-use Rattle.bank.specs.Tape.{Contents, IsIn, NoWrite, AreFlushes, choices, disk}
-use Rattle.sb1.specs.declared.sb.Sb.{Sb}
+use Rattle.layout.specs.md_base_the_Shape.{Shape}
+use Rattle.layout.specs.md_base_the_Span.{Span}
+use Rattle.layout.specs.md_base_Sectors.{Sector}
+use Rattle.layout.specs.md_base_Shapes.{has_slot}
+use Rattle.superblock_updates.specs.bank_Given.{Given}
+use Rattle.superblock_updates.specs.bank_Tape.{Contents, IsIn, NoWrite, AreFlushes, choices, disk}
+use Rattle.superblock_updates.specs.sb1_the_Sb.{Sb}
 use Rattle.layout.specs.Layout.{place}
-use Rattle.geometry.specs.Geometry.{window}
-use Rattle.superblocks.specs.declared.members.Members.{Members}
-use Rattle.superblocks.specs.Reading.{Scope, is_reshaping, shape_of, next_window, data_offset_of}
-use Rattle.superblocks.specs.Outcome.{live_set}
-use Rattle.superblocks.proofs.ReadLists.{by_bool}
-use Rattle.row_io.specs.Rows.{reading_of, held_slot, members_without}
-use Rattle.row_io.proofs.Losses.{holder-of}
-use Rattle.list_io.specs.Full.{RowStands}
+use Rattle.superblock_updates.specs.geometry_Geometry.{window}
+use Rattle.superblock_updates.specs.superblocks_the_Members.{Members}
+use Rattle.superblock_updates.specs.superblocks_Reading.{Scope, is_reshaping, shape_of, next_window, data_offset_of}
+use Rattle.superblock_updates.specs.superblocks_Outcome.{live_set}
+use Rattle.superblock_updates.proofs.superblocks_ReadLists.{by_bool}
+use Rattle.views.specs.row_io_Rows.{reading_of, held_slot, members_without}
+use Rattle.views.proofs.row_io_Losses.{holder-of}
+use Rattle.views.specs.list_io_Full.{RowStands}
 use Rattle.views.specs.flat_history_Stands.{shape_for}
 use Rattle.views.specs.flat_history_ActiveSection.{section_for}
 use Rattle.views.specs.shape_views_Regions.{backup_of, open_by, place_by}
@@ -30,12 +30,12 @@ use Rattle.views.specs.shape_changes_Steady.{IsSafeNow}
 use Rattle.views.proofs.shape_changes_Carried.{live-known}
 use Rattle.views.proofs.shape_changes_Stretch.{seen-own}
 use Rattle.std.specs.List.{list_any}
-use Rattle.bank.specs.declared.bank.Operation.{Operation}
-use Rattle.bank.specs.declared.bank.Operation.TheVariants.{Write, Flush}
-use Rattle.bank.proofs.Laws.{choices-kept, choices-append, kept_in}
-use Rattle.superblocks.specs.Updating.{IsTouched}
-use Rattle.superblocks.specs.Update.{is_held_by}
-use Rattle.superblocks.specs.Reads.{has_spare}
+use Rattle.superblock_updates.specs.bank_the_Operation.{Operation}
+use Rattle.superblock_updates.specs.bank_the_Operation_TheVariants.{Write, Flush}
+use Rattle.superblock_updates.proofs.bank_Laws.{choices-kept, choices-append, kept_in}
+use Rattle.superblock_updates.specs.superblocks_Updating.{IsTouched}
+use Rattle.superblock_updates.specs.superblocks_Update.{is_held_by}
+use Rattle.superblock_updates.specs.superblocks_Reads.{has_spare}
 use Rattle.views.specs.Flushing.{OnlyFlushesAdded}
 use Rattle.views.proofs.shape_changes_Without.{live-is, any-without, in-both}
 use Rattle.views.specs.Placed.{IsPlaced, HaveSameReshape}

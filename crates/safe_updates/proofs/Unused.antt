@@ -2,12 +2,12 @@
 use Rattle.std.proofs.Common.{◌≡◌, ◌⊎◌, inl, inr, ℕ, ◌<◌, ◌&&◌, ◌||◌, nat_lt, Bool, true, false, Some, refl, sym, ◌∙◌, arith}
 use Rattle.std.specs.List.{list_any}
 use Rattle.std.proofs.lemmas.Bool.Decides.{nat_tests}
-use Rattle.bank.specs.Given.{Given}
-use Rattle.superblocks.specs.declared.members.Members.{Members}
-use Rattle.superblocks.specs.Reading.{role_state, holder}
-use Rattle.superblocks.specs.Reads.{has_spare}
-use Rattle.superblocks.specs.Update.{is_held_by}
-use Rattle.row_io.specs.Rows.{reading_of}
+use Rattle.superblock_updates.specs.bank_Given.{Given}
+use Rattle.superblock_updates.specs.superblocks_the_Members.{Members}
+use Rattle.superblock_updates.specs.superblocks_Reading.{role_state, holder}
+use Rattle.superblock_updates.specs.superblocks_Reads.{has_spare}
+use Rattle.superblock_updates.specs.superblocks_Update.{is_held_by}
+use Rattle.views.specs.row_io_Rows.{reading_of}
 use Rattle.views.specs.shape_views_Views.{Disk}
 use Rattle.views.proofs.shape_changes_Without.{live-is, any-holds, any-held}
 use Rattle.views.specs.Moving.{IsMoved}

@@ -3,21 +3,21 @@ use Rattle.std.proofs.Common.{◌≡◌, ◌≢◌, inl, inr, ⊎_elim, ℕ, zer
 use Rattle.std.specs.Prelude.{IsOk, is_err}
 use Rattle.std.proofs.lemmas.Bool.{cases_eq}
 use Rattle.std.proofs.lemmas.Bool.Decides.{nat_tests}
-use Rattle.md_base.specs.Sectors.{Sector}
-use Rattle.md_base.specs.Shapes.{has_slot}
-use Rattle.md_base.specs.declared.status.Role.{Role}
-use Rattle.md_base.specs.declared.status.Role.TheVariants.{Recovering, Missing}
-use Rattle.bank.specs.declared.bank.Operation.{Operation}
-use Rattle.bank.specs.declared.bank.Operation.TheVariants.{Flush}
-use Rattle.bank.specs.Given.{Given, IsFaulted, NeverFalls}
-use Rattle.bank.specs.Tape.{Did, AreFlushes, disk, value_after}
-use Rattle.bank.proofs.Causes.{faulted_longer}
-use Rattle.bank.proofs.Laws.{disk-flushed}
-use Rattle.superblocks.specs.declared.members.Members.{Members}
-use Rattle.superblocks.specs.Reading.{shape_of, role_state, holder, is_whole, data_offset_of}
-use Rattle.superblocks.specs.Reads.{has_spare}
-use Rattle.row_io.specs.Rows.{reading_of, present, role_without, members_without}
-use Rattle.row_io.proofs.Losses.{state_after, state_kept}
+use Rattle.layout.specs.md_base_Sectors.{Sector}
+use Rattle.layout.specs.md_base_Shapes.{has_slot}
+use Rattle.layout.specs.md_base_the_Role.{Role}
+use Rattle.layout.specs.md_base_the_Role_TheVariants.{Recovering, Missing}
+use Rattle.superblock_updates.specs.bank_the_Operation.{Operation}
+use Rattle.superblock_updates.specs.bank_the_Operation_TheVariants.{Flush}
+use Rattle.superblock_updates.specs.bank_Given.{Given, IsFaulted, NeverFalls}
+use Rattle.superblock_updates.specs.bank_Tape.{Did, AreFlushes, disk, value_after}
+use Rattle.superblock_updates.proofs.bank_Causes.{faulted_longer}
+use Rattle.superblock_updates.proofs.bank_Laws.{disk-flushed}
+use Rattle.superblock_updates.specs.superblocks_the_Members.{Members}
+use Rattle.superblock_updates.specs.superblocks_Reading.{shape_of, role_state, holder, is_whole, data_offset_of}
+use Rattle.superblock_updates.specs.superblocks_Reads.{has_spare}
+use Rattle.views.specs.row_io_Rows.{reading_of, present, role_without, members_without}
+use Rattle.views.proofs.row_io_Losses.{state_after, state_kept}
 use Rattle.views.specs.Placed.{IsPlaced}
 use Rattle.views.specs.shape_changes_Steady.{AreUnlost}
 use Rattle.views.specs.Flushing.{OnlyFlushesAdded}

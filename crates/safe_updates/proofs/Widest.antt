@@ -1,12 +1,12 @@
 -- The shape in force that has every role of the array, and what the loss of slots leaves by it.
 use Rattle.std.proofs.Common.{◌≡◌, inl, inr, ℕ, max, Bool, true, false, nat_lt, cond, refl, sym, subst, arith}
 use Rattle.std.proofs.lemmas.Bool.Decides.{nat_tests}
-use Rattle.md_base.specs.declared.places.Shape.{Shape}
-use Rattle.sb1.specs.declared.sb.Sb.{Sb}
-use Rattle.bank.specs.Given.{Given, NeverFalls}
-use Rattle.superblocks.specs.declared.members.Members.{Members}
-use Rattle.superblocks.specs.Reading.{shape_of, final_shape, role_count}
-use Rattle.row_io.specs.Rows.{reading_of, members_without, HaveFailed}
+use Rattle.layout.specs.md_base_the_Shape.{Shape}
+use Rattle.superblock_updates.specs.sb1_the_Sb.{Sb}
+use Rattle.superblock_updates.specs.bank_Given.{Given, NeverFalls}
+use Rattle.superblock_updates.specs.superblocks_the_Members.{Members}
+use Rattle.superblock_updates.specs.superblocks_Reading.{shape_of, final_shape, role_count}
+use Rattle.views.specs.row_io_Rows.{reading_of, members_without, HaveFailed}
 use Rattle.views.specs.Placed.{IsPlaced, IsInForce, AreLost}
 use Rattle.views.proofs.MemberLaws.{are_lost}
 

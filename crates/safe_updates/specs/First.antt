@@ -1,15 +1,15 @@
 -- The first refusal of a call, in order.
 use Rattle.std.specs.Prelude.{◌≡◌, ℕ, ◌+◌, ◌&&◌, Bool, nat_lt, nat_le, if◌then◌else◌, Option, Some, None, option_map, Result, Ok, Err, ⊤}
-use Rattle.md_base.specs.Search.{least_below}
-use Rattle.md_base.specs.Shapes.{tolerance}
-use Rattle.md_base.specs.declared.answers.Fault.{Fault}
-use Rattle.md_base.specs.declared.answers.Fault.TheVariants.{Refused as IsRefusedWith, NoMemory}
-use Rattle.md_base.specs.declared.answers.Refusal.{Refusal}
-use Rattle.md_base.specs.declared.answers.Refusal.TheVariants.{PastEnd, NotResynced}
+use Rattle.layout.specs.md_base_Search.{least_below}
+use Rattle.layout.specs.md_base_Shapes.{tolerance}
+use Rattle.layout.specs.md_base_the_Fault.{Fault}
+use Rattle.layout.specs.md_base_the_Fault_TheVariants.{Refused as IsRefusedWith, NoMemory}
+use Rattle.superblock_updates.specs.md_base_the_Refusal.{Refusal}
+use Rattle.superblock_updates.specs.md_base_the_Refusal_TheVariants.{PastEnd, NotResynced}
 use Rattle.layout.specs.Layout.{place}
-use Rattle.superblocks.specs.declared.members.Members.{Members}
-use Rattle.md_base.specs.declared.places.Shape.{Shape}
-use Rattle.row_io.specs.Rows.{reading_of, is_missing}
+use Rattle.superblock_updates.specs.superblocks_the_Members.{Members}
+use Rattle.layout.specs.md_base_the_Shape.{Shape}
+use Rattle.views.specs.row_io_Rows.{reading_of, is_missing}
 use Rattle.views.specs.Lacking.{lacking, too_many}
 use Rattle.views.specs.Refusals.{lowest_missing}
 

@@ -1,10 +1,10 @@
 -- What names and marks leave of the superblocks, and what they don't touch.
 use Rattle.std.specs.Prelude.{◌≡◌, ◌≢◌, ℕ, ◌<◌, true, List}
-use Rattle.md_base.specs.Sectors.{Sector}
-use Rattle.bank.specs.Tape.{Kept}
-use Rattle.superblocks.specs.declared.members.Members.{Members}
-use Rattle.superblocks.specs.Reading.{role_count, entry_of}
-use Rattle.row_io.specs.Rows.{reading_of}
+use Rattle.layout.specs.md_base_Sectors.{Sector}
+use Rattle.superblock_updates.specs.bank_Tape.{Kept}
+use Rattle.superblock_updates.specs.superblocks_the_Members.{Members}
+use Rattle.superblock_updates.specs.superblocks_Reading.{role_count, entry_of}
+use Rattle.views.specs.row_io_Rows.{reading_of}
 use Rattle.views.specs.Placed.{is_vacant}
 
 -- Each role that no slot holds is named missing: by the newest superblock no device, whose numbers are below 128, has it.

@@ -1,10 +1,10 @@
 -- What updates and flushes leave of slots that have no part in the array, as the backup's.
 use Rattle.std.specs.Prelude.{◌≡◌, ℕ, false}
-use Rattle.md_base.specs.Sectors.{Sector}
-use Rattle.md_base.specs.Shapes.{has_slot}
-use Rattle.bank.specs.Tape.{IsIn}
-use Rattle.superblocks.specs.declared.members.Members.{Members}
-use Rattle.superblocks.specs.Outcome.{live_set}
+use Rattle.layout.specs.md_base_Sectors.{Sector}
+use Rattle.layout.specs.md_base_Shapes.{has_slot}
+use Rattle.superblock_updates.specs.bank_Tape.{IsIn}
+use Rattle.superblock_updates.specs.superblocks_the_Members.{Members}
+use Rattle.superblock_updates.specs.superblocks_Outcome.{live_set}
 use Rattle.views.specs.shape_views_Views.{Disk}
 use Rattle.views.specs.shape_changes_Marking.{marking}
 

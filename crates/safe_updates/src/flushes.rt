@@ -1,19 +1,17 @@
 //! The slots of a bank are flushed.
 
 ghost use Rattle.std.specs.Prelude.{◌≡◌, ◌≢◌, ◌<◌, ◌≤◌, ◌^◌, ◌++◌, [], ◌∷◌, ◌||◌, ℕ, true, false, length, Some};
-ghost use Rattle.bank.specs.declared.bank.Operation.TheVariants.{Flush};
-ghost use Rattle.bank.specs.Given.{IsFaulted, NeverFalls};
-ghost use Rattle.md_base.specs.Shapes.{has_slot};
-ghost use Rattle.superblocks.specs.Reading.{role_count, role_state, holder};
-ghost use Rattle.superblocks.specs.Update.{is_held_by};
-ghost use Rattle.row_io.specs.Rows.{reading_of, HaveFailed};
+ghost use Rattle.superblock_updates.specs.bank_the_Operation_TheVariants.{Flush};
+ghost use Rattle.superblock_updates.specs.bank_Given.{IsFaulted, NeverFalls};
+ghost use Rattle.layout.specs.md_base_Shapes.{has_slot};
+ghost use Rattle.superblock_updates.specs.superblocks_Reading.{role_count, role_state, holder};
+ghost use Rattle.superblock_updates.specs.superblocks_Update.{is_held_by};
+ghost use Rattle.views.specs.row_io_Rows.{reading_of, HaveFailed};
 ghost use Rattle.views.specs.Placed.{IsPlaced};
 ghost use Rattle.views.specs.Flushing.{AreTried, OnlyItsSlotsFail, OnlyFlushesAdded, AreMembersFlushed, AreHolders};
 
-use bank::Bank;
-use md_base::Role;
-use superblocks::Members;
-use superblocks::sets::{contains, with, without};
+use layout::Role;
+use superblock_updates::{Bank, Members, contains, with, without};
 
 /// Flushes each slot of the bank but the lost ones, in slot order. A slot that fails is lost too: the lost slots after it.
 pub fn flush_slots<B: Bank>(bank: &mut B, lost: u32) -> u32

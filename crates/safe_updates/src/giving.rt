@@ -1,13 +1,13 @@
 //! A spare gets a role, and a role becomes whole.
 
 ghost use Rattle.std.specs.Prelude.{◌≡◌, ◌≤◌, ◌<◌, ℕ, true, false, length};
-ghost use Rattle.bank.specs.Given.{NeverFalls};
-ghost use Rattle.bank.specs.Tape.{disk};
-ghost use Rattle.md_base.specs.Sectors.{Sector};
-ghost use Rattle.md_base.specs.declared.status.Role.TheVariants.{Whole as IsWhole, Recovering as IsRecovering};
-ghost use Rattle.superblocks.specs.Reading.{is_reshaping, shape_of, is_clean, role_state};
-ghost use Rattle.superblocks.specs.Reads.{has_spare};
-ghost use Rattle.row_io.specs.Rows.{reading_of, present};
+ghost use Rattle.superblock_updates.specs.bank_Given.{NeverFalls};
+ghost use Rattle.superblock_updates.specs.bank_Tape.{disk};
+ghost use Rattle.layout.specs.md_base_Sectors.{Sector};
+ghost use Rattle.layout.specs.md_base_the_Role_TheVariants.{Whole as IsWhole, Recovering as IsRecovering};
+ghost use Rattle.superblock_updates.specs.superblocks_Reading.{is_reshaping, shape_of, is_clean, role_state};
+ghost use Rattle.superblock_updates.specs.superblocks_Reads.{has_spare};
+ghost use Rattle.views.specs.row_io_Rows.{reading_of, present};
 ghost use Rattle.views.specs.flat_history_World.{World};
 ghost use Rattle.views.specs.flat_history_Sound.{OpensFit};
 ghost use Rattle.views.specs.Placed.{is_vacant, IsPlaced};
@@ -22,11 +22,8 @@ ghost use Rattle.views.specs.shape_views_Regions.{DoWithout};
 
 use crate::flushes::holders;
 use crate::naming::name_missing;
-use bank::Bank;
-use row_io::lose_slot;
-use superblock_updates::update;
-use superblocks::sets::{with, without};
-use superblocks::{Change, Give, Members};
+use superblock_updates::{Bank, Change, Give, Members, update, with, without};
+use views::lose_slot;
 
 // The update that makes a slot the holder of a role, which it recovers from this row on, or that is whole.
 fn giving(members: &Members, slot: u32, role: u32, recovery: Option<u64>) -> Change

@@ -10,5 +10,14 @@ pub mod roles;
 pub mod settles;
 
 pub use flushes::{flush_members, flush_slots};
+pub use layout::{Refusal, Role, Shape, Side, place, row_of};
 pub use marks::mark;
 pub use roles::is_spare;
+pub use superblock_updates::{
+    Bank, Change, Features, Give, Lostness, Members, Sb, SlotList, Span, entry_of, fields_of,
+    is_clean, is_reshaping, list_length, side, stripe_sectors, update, with, without, write_sector,
+};
+pub use views::{
+    Outcome, ROW_BYTES, Unavailable, Work, are_too_many, data_offset, lose_slot, read_list,
+    read_touched, syndromes, write_touched,
+};

@@ -1,21 +1,18 @@
 //! The clean mark of the superblocks.
 
 ghost use Rattle.std.specs.Prelude.{◌≡◌, ◌+◌, ◌-◌, ◌^◌, ◌&&◌, ℕ, min, not};
-ghost use Rattle.bank.specs.Given.{NeverFalls};
-ghost use Rattle.bank.specs.Tape.{disk};
-ghost use Rattle.md_base.specs.Shapes.{has_slot};
-ghost use Rattle.superblocks.specs.Reading.{is_clean};
-ghost use Rattle.superblocks.specs.Outcome.{live_set};
-ghost use Rattle.superblocks.specs.Updating.{ArePlanned, AreLosses};
+ghost use Rattle.superblock_updates.specs.bank_Given.{NeverFalls};
+ghost use Rattle.superblock_updates.specs.bank_Tape.{disk};
+ghost use Rattle.layout.specs.md_base_Shapes.{has_slot};
+ghost use Rattle.superblock_updates.specs.superblocks_Reading.{is_clean};
+ghost use Rattle.superblock_updates.specs.superblocks_Outcome.{live_set};
+ghost use Rattle.superblock_updates.specs.superblocks_Updating.{ArePlanned, AreLosses};
 ghost use Rattle.views.specs.Placed.{IsPlaced, AreLess};
 ghost use Rattle.views.specs.shape_changes_Steady.{AreUnlost};
 ghost use Rattle.views.specs.shape_changes_Marking.{marking};
 ghost use Rattle.views.specs.shape_changes_Changing.{IsChanged};
 
-use bank::Bank;
-use sb1::Sb;
-use superblock_updates::update;
-use superblocks::{Change, Give, Lostness, Members};
+use superblock_updates::{Bank, Change, Give, Lostness, Members, Sb, update};
 
 // The update that marks an array clean or dirty.
 fn marking(members: &Members, clean: bool) -> Change

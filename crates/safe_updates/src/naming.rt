@@ -1,10 +1,10 @@
 //! Marks of the superblocks, which name the roles that no slot holds.
 
 ghost use Rattle.std.specs.Prelude.{◌≡◌, ◌<◌, ◌≤◌, ◌^◌, ◌&&◌, ℕ, true, false, nat_lt, not, length};
-ghost use Rattle.bank.specs.Given.{NeverFalls};
-ghost use Rattle.md_base.specs.Shapes.{has_slot};
-ghost use Rattle.superblocks.specs.Reading.{role_count, is_clean};
-ghost use Rattle.row_io.specs.Rows.{reading_of, present};
+ghost use Rattle.superblock_updates.specs.bank_Given.{NeverFalls};
+ghost use Rattle.layout.specs.md_base_Shapes.{has_slot};
+ghost use Rattle.superblock_updates.specs.superblocks_Reading.{role_count, is_clean};
+ghost use Rattle.views.specs.row_io_Rows.{reading_of, present};
 ghost use Rattle.views.specs.Placed.{is_vacant, AreWhole, IsPlaced};
 ghost use Rattle.views.specs.shape_changes_Steady.{AreUnlost, IsSafeOver, IsNamedOver, KeepsSafe, AreGoneTold, IsUncleanTold};
 ghost use Rattle.views.specs.Rebuilding.{AreSparesFree};
@@ -14,7 +14,7 @@ ghost use Rattle.views.specs.Moving.{Grows, IsMoved};
 ghost use Rattle.views.specs.shape_changes_Safety.{HasLiveSlot, HasRoomLeft, IsRisen};
 ghost use Rattle.views.specs.Under.{IsRestKept};
 ghost use Rattle.views.specs.Lacking.{HaveFailedSince, AreHoldersFlushed, IsNamed, AreUnnamed};
-ghost use Rattle.bank.specs.Tape.{EachMark, disk};
+ghost use Rattle.superblock_updates.specs.bank_Tape.{EachMark, disk};
 ghost use Rattle.views.specs.flat_history_World.{World};
 ghost use Rattle.views.specs.flat_history_Sound.{OpensFit};
 ghost use Rattle.views.specs.shape_views_Views.{Ledger};
@@ -23,11 +23,7 @@ ghost use Rattle.views.specs.shape_changes_Kinds.{IsMarkable};
 use crate::flushes::holders;
 use crate::marks::mark;
 use crate::roles::{is_vacant, vacant_roles};
-use bank::Bank;
-use sb1::Sb;
-use superblocks::Members;
-use superblocks::says::{entry_of, is_clean};
-use superblocks::sets::without;
+use superblock_updates::{Bank, Members, Sb, entry_of, is_clean, without};
 
 /// The roles that no slot holds, of so many, and that aren't among these.
 pub fn newly_vacant(members: &Members, disks: u32, before: u32) -> u32

@@ -1,20 +1,18 @@
 //! Why a call of an array that lacks members is refused.
 
 ghost use Rattle.std.specs.Prelude.{◌≡◌, ◌+◌, ◌*◌, ◌^◌, ◌<◌, ◌≤◌, length, MatchOption, IsTrue};
-ghost use Rattle.md_base.specs.Shapes.{is_valid_shape, is_multiple, data_disks};
-ghost use Rattle.superblocks.specs.Reading.{role_count};
-ghost use Rattle.superblocks.specs.Verdict.{AreValidShapes};
+ghost use Rattle.layout.specs.md_base_Shapes.{is_valid_shape, is_multiple, data_disks};
+ghost use Rattle.superblock_updates.specs.superblocks_Reading.{role_count};
+ghost use Rattle.superblock_updates.specs.superblocks_Verdict.{AreValidShapes};
 ghost use Rattle.views.specs.shape_views_Regions.{DoWithout};
 ghost use Rattle.views.specs.Refusals.{lowest_missing};
 ghost use Rattle.safe_updates.specs.First.{first_lacking, read_refusal, write_refusal};
 ghost use Rattle.views.specs.Lacking.{DoesWithout, LacksTooMany, AreTooMany, refusal_for, refused_by};
 
 use crate::roles::{final_in, shape_in};
-use layout::{parity_only, place};
-use list_io::{Unavailable, tolerance};
-use md_base::{Refusal, Shape};
-use row_io::{is_missing, missing_count};
-use superblocks::Members;
+use layout::{Refusal, Shape, parity_only, place};
+use superblock_updates::Members;
+use views::{Unavailable, is_missing, missing_count, tolerance};
 
 /// The refusal where more roles of a shape are missing than it tolerates.
 pub fn too_many_of(members: &Members, shape: &Shape) -> Option<Refusal>

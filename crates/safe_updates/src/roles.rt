@@ -1,16 +1,14 @@
 //! The shape of an array, and the roles that no slot holds.
 
 ghost use Rattle.std.specs.Prelude.{◌≡◌, ◌*◌, ◌^◌, ◌<◌, ◌≤◌, ◌&&◌, ℕ, nat_lt, length, IsTrue};
-ghost use Rattle.md_base.specs.Shapes.{has_slot, is_valid_shape, data_disks};
-ghost use Rattle.superblocks.specs.Reading.{shape_of, final_shape};
-ghost use Rattle.superblocks.specs.Reads.{has_spare};
-ghost use Rattle.row_io.specs.Rows.{reading_of};
+ghost use Rattle.layout.specs.md_base_Shapes.{has_slot, is_valid_shape, data_disks};
+ghost use Rattle.superblock_updates.specs.superblocks_Reading.{shape_of, final_shape};
+ghost use Rattle.superblock_updates.specs.superblocks_Reads.{has_spare};
+ghost use Rattle.views.specs.row_io_Rows.{reading_of};
 ghost use Rattle.views.specs.Placed.{is_vacant};
 
-use md_base::{Role, Shape};
-use superblocks::Members;
-use superblocks::says::{shape_of, target_of};
-use superblocks::sets::with;
+use layout::{Role, Shape};
+use superblock_updates::{Members, shape_of, target_of, with};
 
 /// The shape of the array, by its newest superblock.
 pub fn shape_in(members: &Members) -> Shape

@@ -1,11 +1,11 @@
 //! A flush of the members, and the clean mark behind it.
 
 ghost use Rattle.std.specs.Prelude.{◌≡◌, ◌<◌, ◌≤◌, ℕ, length, true, false, Some, None, MatchOption, ⊤};
-ghost use Rattle.bank.specs.Given.{NeverFalls};
-ghost use Rattle.bank.specs.Tape.{disk};
-ghost use Rattle.md_base.specs.Sectors.{Sector};
-ghost use Rattle.superblocks.specs.Reading.{is_clean, role_count, role_state, holder};
-ghost use Rattle.row_io.specs.Rows.{reading_of, present};
+ghost use Rattle.superblock_updates.specs.bank_Given.{NeverFalls};
+ghost use Rattle.superblock_updates.specs.bank_Tape.{disk};
+ghost use Rattle.layout.specs.md_base_Sectors.{Sector};
+ghost use Rattle.superblock_updates.specs.superblocks_Reading.{is_clean, role_count, role_state, holder};
+ghost use Rattle.views.specs.row_io_Rows.{reading_of, present};
 ghost use Rattle.views.specs.Placed.{AreWhole, IsPlaced};
 ghost use Rattle.views.specs.shape_changes_Steady.{AreUnlost, IsSafeOver, IsNamedOver, KeepsSafe, AreGoneTold, IsUncleanTold, AreWritesAllowed, settled_ledger};
 ghost use Rattle.views.specs.Rebuilding.{AreSparesFree};
@@ -20,16 +20,14 @@ ghost use Rattle.views.specs.flat_history_World.{World};
 ghost use Rattle.views.specs.flat_history_Sound.{OpensFit};
 ghost use Rattle.views.specs.shape_views_Views.{Ledger};
 ghost use Rattle.views.specs.shape_views_Regions.{DoWithout};
-ghost use Rattle.superblocks.specs.Verdict.{AreValidShapes};
+ghost use Rattle.superblock_updates.specs.superblocks_Verdict.{AreValidShapes};
 
 use crate::flushes::{flush_members, holders};
 use crate::naming::{mark_members, name_missing};
 use crate::refusing::too_many;
-use bank::Bank;
-use md_base::Refusal;
-use row_io::lose_slots;
-use superblocks::Members;
-use superblocks::says::is_clean;
+use layout::Refusal;
+use superblock_updates::{Bank, Members, is_clean};
+use views::lose_slots;
 
 /// The spares that were lost in a flush, and why it wasn't done.
 #[derive(Clone, Copy)]

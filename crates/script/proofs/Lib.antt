@@ -5,3 +5,8 @@ pub mod ScriptLaws
 pub mod SeedLaws
 pub mod LimitLaws
 pub mod TurnLaws
+pub use Rattle.flat_history.proofs.LegalLaws as flat_history_LegalLaws
+pub use Rattle.flat_history.proofs.OneShapeLegal as flat_history_OneShapeLegal
+pub use Rattle.flat_history.proofs.SoundLaws as flat_history_SoundLaws
+pub use Rattle.flat_history.proofs.StretchLaws as flat_history_StretchLaws
+pub use Rattle.flat_history.proofs.grow_plan_Sound

@@ -5,8 +5,8 @@ use Rattle.std.specs.List.{list_all}
 use Rattle.std.specs.Option.{option_and_then}
 use Rattle.uuid.specs.Text.{parsed}
 use lib.Chars.{codes}
-use Rattle.md_base.specs.declared.places.Shape.{Shape}
-use Rattle.md_base.specs.declared.wishes.Wish.{Wish}
+use Rattle.flat_history.specs.md_base_the_Shape.{Shape}
+use Rattle.flat_history.specs.md_base_the_Wish.{Wish}
 use Rattle.line_words.specs.Keys.{has_key}
 use Rattle.line_words.specs.Numbers.{words_of, number_below}
 use Rattle.line_words.specs.Shapes.{shape_of}

@@ -6,7 +6,7 @@ use Rattle.std.proofs.lemmas.List.Elements.{filter_map-append}
 use Rattle.std.proofs.lemmas.List.Sums.{sum_by-append, fold_more}
 use Rattle.std.specs.List.{enumerate_from, filter_map, cons_option, fold, scan, AllPass}
 use Rattle.std.specs.Option.{option_to_list}
-use Rattle.md_base.specs.Search.{least_below}
+use Rattle.flat_history.specs.md_base_Search.{least_below}
 use Rattle.script.proofs.TurnLaws.{outside_lane, asked_within_limits, asked_by_lanes, asked_in_turn}
 use Rattle.line_words.proofs.LeastLaws.{least_below-reached, least_below-passed}
 use Rattle.script.specs.Grammar.{meaning_of}

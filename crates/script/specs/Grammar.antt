@@ -3,7 +3,7 @@ use Rattle.std.specs.Prelude.{ℕ, ◌+◌, ◌^◌, Bool, ◌&&◌, ◌||◌, n
 use Rattle.std.specs.List.{list_all}
 use Rattle.std.specs.Option.{option_and_then}
 use Rattle.uuid.specs.Text.{parsed}
-use Rattle.md_base.specs.declared.places.Shape.{Shape}
+use Rattle.flat_history.specs.md_base_the_Shape.{Shape}
 use Rattle.line_words.specs.Keys.{has_key, given_number}
 use Rattle.line_words.specs.Numbers.{is_space, words_of, number_below}
 use Rattle.line_words.specs.Shapes.{shape_of}

@@ -3,16 +3,16 @@ use Rattle.std.specs.Prelude.{ℕ, ◌+◌, Bool, true, false, ◌==◌, if◌th
 use Rattle.std.specs.List.{flat_map}
 use Rattle.std.specs.Str.{bytes_eq}
 use Rattle.hex.specs.Hex.{encode_lower}
-use Rattle.md_base.specs.Sectors.{Sector, zero_sector}
-use Rattle.md_base.specs.Bytes.{little}
-use Rattle.md_base.specs.declared.answers.Refusal.{Refusal}
-use Rattle.md_base.specs.declared.answers.Refusal.TheVariants.{PastEnd, TooManyMissing, NotResynced, BackupFault, NoSuchRole, SlotTaken, SlotTooSmall, PastSize, SlotFault, Busy, Degraded, SameShape, BadShape, SizeNotMultiple, NeedSpares, NeedBackup, BackupTooSmall, ArraySizeFirst, Nothing, NoSuperblock, Unsupported, BadField, TwoHolders, MembersMissing, DirtyDegraded, PositionNotOnUnit, BackupAbsent, NotRunning, Running, NoSuchSlot, UuidInUse}
-use Rattle.md_base.specs.declared.answers.BusyKind.{BusyKind}
-use Rattle.md_base.specs.declared.answers.BusyKind.TheVariants.{Reshape, Resync, Rebuild, Plan}
-use Rattle.md_base.specs.declared.answers.ShapeField.{ShapeField}
-use Rattle.md_base.specs.declared.answers.ShapeField.TheVariants.{Level, Layout, Chunk, Disks, Size, Offset}
-use Rattle.md_base.specs.declared.places.Shape.{Shape}
-use Rattle.md_base.specs.declared.status.Status.{Status}
+use Rattle.flat_history.specs.md_base_Sectors.{Sector, zero_sector}
+use Rattle.flat_history.specs.md_base_Bytes.{little}
+use Rattle.flat_history.specs.md_base_the_Refusal.{Refusal}
+use Rattle.flat_history.specs.md_base_the_Refusal_TheVariants.{PastEnd, TooManyMissing, NotResynced, BackupFault, NoSuchRole, SlotTaken, SlotTooSmall, PastSize, SlotFault, Busy, Degraded, SameShape, BadShape, SizeNotMultiple, NeedSpares, NeedBackup, BackupTooSmall, ArraySizeFirst, Nothing, NoSuperblock, Unsupported, BadField, TwoHolders, MembersMissing, DirtyDegraded, PositionNotOnUnit, BackupAbsent, NotRunning, Running, NoSuchSlot, UuidInUse}
+use Rattle.flat_history.specs.md_base_the_BusyKind.{BusyKind}
+use Rattle.flat_history.specs.md_base_the_BusyKind_TheVariants.{Reshape, Resync, Rebuild, Plan}
+use Rattle.flat_history.specs.md_base_the_ShapeField.{ShapeField}
+use Rattle.flat_history.specs.md_base_the_ShapeField_TheVariants.{Level, Layout, Chunk, Disks, Size, Offset}
+use Rattle.flat_history.specs.md_base_the_Shape.{Shape}
+use Rattle.flat_history.specs.md_base_the_Status.{Status}
 use Rattle.flat_history.specs.declared.events.Event.{Event}
 use Rattle.flat_history.specs.declared.events.Event.TheVariants.{Read, Wrote, Flushed, Added, Failed, Visible, Planned, Stepped, Stopped, Halted, Refused}
 use Rattle.script.specs.declared.reply.Lane.{Lane}

@@ -4,19 +4,19 @@ use Rattle.std.specs.Prelude.{MatchOption, slice_get, unwrap_or}
 use Rattle.std.specs.Global.{Vec}
 use Rattle.std.proofs.lemmas.List.{length-map}
 use Rattle.std.proofs.lemmas.List.Elements.{All-nil, All-cons}
-use Rattle.bank.specs.Given.{Given, NeverFalls}
-use Rattle.flat_history.specs.declared.events.Entry.{Entry}
-use Rattle.flat_history.specs.declared.events.Epoch.{Epoch}
-use Rattle.flat_history.specs.declared.events.Event.TheVariants.{Halted}
-use Rattle.flat_history.specs.Flat.{next_number, last_of}
-use Rattle.md_base.specs.declared.answers.Who.{Who}
+use Rattle.reopened_laws.specs.bank_Given.{Given, NeverFalls}
+use Rattle.reopened_laws.specs.flat_history_the_Entry.{Entry}
+use Rattle.reopened_laws.specs.flat_history_the_Epoch.{Epoch}
+use Rattle.reopened_laws.specs.flat_history_the_Event_TheVariants.{Halted}
+use Rattle.reopened_laws.specs.flat_history_Flat.{next_number, last_of}
+use Rattle.reopened_laws.specs.md_base_the_Who.{Who}
 use Rattle.run_sessions.specs.array_kept_Calls.{IsEntered}
 use Rattle.run_sessions.specs.running_words_Parts.{RunningParts}
 use Rattle.run_sessions.specs.superblocks_Reading.{list_length}
-use Rattle.script.specs.declared.lines.Line.TheVariants.{Halt}
-use Rattle.script.specs.declared.lines.Numbered.{Numbered}
-use Rattle.script.specs.declared.reply.Lane.{Lane}
-use Rattle.script.specs.declared.reply.Lane.TheVariants.{Script as InScript, A as InA, B as InB, Worker as InWorker}
+use Rattle.demo_script.specs.script_the_Line_TheVariants.{Halt}
+use Rattle.demo_script.specs.script_the_Numbered.{Numbered}
+use Rattle.demo_script.specs.script_the_Lane.{Lane}
+use Rattle.demo_script.specs.script_the_Lane_TheVariants.{Script as InScript, A as InA, B as InB, Worker as InWorker}
 use Rattle.run_sessions.specs.declared.sessions.Session.{Session}
 use Rattle.run_sessions.specs.declared.sessions.Stop.{Stop}
 use Rattle.run_sessions.specs.declared.sessions.Stop.TheVariants.{WriteFault, NoMemory as WantsMemory}
@@ -24,7 +24,7 @@ use Rattle.run_sessions.specs.run_laws_the_State_TheVariants.{Idle, Running}
 use Rattle.run_sessions.specs.run_laws_Asked.{script_who, IsAskedAt}
 use Rattle.run_sessions.specs.run_laws_Histories.{History, history_of, histories_of, is_end}
 use Rattle.run_sessions.specs.run_laws_Making.{Setting, setting_of}
-use Rattle.bank.specs.declared.bank.Operation.{Operation}
+use Rattle.reopened_laws.specs.bank_the_Operation.{Operation}
 use Rattle.run_sessions.specs.run_laws_Replies.{Course, at_rest, course_of}
 use Rattle.script_runs.specs.Runs.{status_for, stop_of, IsHalted, AreLinesPerformed, AreLossesFailed, IsEnded}
 use Rattle.run_sessions.specs.Sessions.{counted, IsCourse, IsCutIn, IsInBlock, IsCourseBehind, taken_whole, IsTaken, IsPerformed, IsShownTo}

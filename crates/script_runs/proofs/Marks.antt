@@ -3,25 +3,25 @@ use Rattle.std.proofs.Common.{◌≡◌, ℕ, zero, suc, ◌+◌, ◌<◌, ◌�
 use Rattle.std.proofs.lemmas.Bool.{cases_eq}
 use Rattle.std.proofs.lemmas.List.Elements.{All-nil, All-cons, All-head, All-tail}
 use Rattle.std.specs.Prelude.{slice_index_or, slice_set, ⊤, slice_get}
-use Rattle.flat_history.specs.declared.events.Epoch.{Epoch}
+use Rattle.reopened_laws.specs.flat_history_the_Epoch.{Epoch}
 use Rattle.run_sessions.specs.run_laws_Histories.{History, history_of, histories_of}
-use Rattle.bank.specs.Given.{Given, sizes}
-use Rattle.bank.specs.declared.bank.Operation.{Operation}
-use Rattle.flat_history.specs.Legal.{IsLegal}
-use Rattle.flat_history.specs.Reshaped.{IsReshaped}
+use Rattle.reopened_laws.specs.bank_Given.{Given, sizes}
+use Rattle.reopened_laws.specs.bank_the_Operation.{Operation}
+use Rattle.reopened_laws.specs.flat_history_Legal.{IsLegal}
+use Rattle.reopened_laws.specs.flat_history_Reshaped.{IsReshaped}
 use Rattle.run_sessions.specs.history_calls_Reliable.{IsReliable}
 use Rattle.run_sessions.specs.running_words_Plans.{KeepsShape}
 use Rattle.run_sessions.specs.still_laws_Plain.{AreToldPlainly}
-use Rattle.flat_history.specs.Epochs.{world_of}
-use Rattle.flat_history.specs.OneShape.{opening_in, IsOneShapeLegal}
-use Rattle.flat_history.proofs.OneShapeLegal.{found-in, one_shape-legal}
+use Rattle.reopened_laws.specs.flat_history_Epochs.{world_of}
+use Rattle.reopened_laws.specs.flat_history_OneShape.{opening_in, IsOneShapeLegal}
+use Rattle.reopened_laws.proofs.flat_history_OneShapeLegal.{found-in, one_shape-legal}
 use Rattle.run_sessions.proofs.run_laws_Plain.{kept-fills}
 use Rattle.run_sessions.specs.run_laws_the_State.{State}
-use Rattle.flat_history.specs.World.{World}
-use Rattle.flat_history.specs.CrashSafe.{IsCrashSafe}
-use Rattle.flat_history.specs.Growing.{EndBy}
-use Rattle.flat_history.specs.Reopened.{OpensAccepted}
-use Rattle.flat_history.specs.Sound.{OpensFit, FillsRight, StaysSound}
+use Rattle.reopened_laws.specs.flat_history_World.{World}
+use Rattle.reopened_laws.specs.flat_history_CrashSafe.{IsCrashSafe}
+use Rattle.reopened_laws.specs.flat_history_Growing.{EndBy}
+use Rattle.reopened_laws.specs.flat_history_Reopened.{OpensAccepted}
+use Rattle.reopened_laws.specs.flat_history_Sound.{OpensFit, FillsRight, StaysSound}
 use Rattle.run_sessions.specs.run_laws_Making.{Setting}
 use Rattle.run_sessions.specs.run_laws_Ended.{IsLegalEpoch, AreLegal, IsSafeEpoch, AreSafe, AreRising, AreFormer, IsRightEpoch, AreRight, next_mark}
 use Rattle.script_runs.specs.Runs.{AreHalted, IsEnded, mark_behind, AreEndedBelow, AreEndedAt}

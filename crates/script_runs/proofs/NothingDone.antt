@@ -1,8 +1,8 @@
 use Rattle.std.proofs.Common.{◌≡◌, ℕ, ◌≤◌, List, Option, [], inl, inr, sym, subst, arith}
 use Rattle.std.proofs.lemmas.List.Elements.{All-nil}
-use Rattle.bank.specs.Given.{Given}
-use Rattle.bank.specs.declared.bank.Operation.{Operation}
-use Rattle.flat_history.specs.declared.events.Epoch.{Epoch}
+use Rattle.reopened_laws.specs.bank_Given.{Given}
+use Rattle.reopened_laws.specs.bank_the_Operation.{Operation}
+use Rattle.reopened_laws.specs.flat_history_the_Epoch.{Epoch}
 use Rattle.run_sessions.specs.run_laws_Histories.{history_of}
 use Rattle.run_sessions.specs.run_laws_Making.{Setting}
 use Rattle.run_sessions.specs.run_laws_States.{AreLossesBehind}

@@ -3,19 +3,19 @@ use Rattle.std.proofs.Common.{◌≡◌, ℕ, suc, ◌≤◌, Bool, false, inr, 
 use Rattle.std.specs.Prelude.{if◌then◌else◌}
 use Rattle.std.specs.Option.{option_map_or}
 use Rattle.std.proofs.lemmas.List.Elements.{All-head, All-tail}
-use Rattle.bank.specs.Given.{Given}
-use Rattle.bank.specs.declared.bank.Operation.{Operation}
-use Rattle.flat_history.specs.declared.events.Entry.{Entry}
-use Rattle.flat_history.specs.declared.events.Epoch.{Epoch}
-use Rattle.flat_history.specs.declared.events.Event.{Event}
-use Rattle.flat_history.specs.declared.events.Event.TheVariants.{Resized}
-use Rattle.flat_history.specs.CrashSafe.{is_resized, last_resized}
-use Rattle.flat_history.specs.Epochs.{world_of}
-use Rattle.flat_history.specs.Flat.{rest_of_call}
-use Rattle.flat_history.specs.Growing.{EndBy}
-use Rattle.flat_history.specs.OneShape.{ShapeOpening, opening_in, IsOneShapeEvent, AreOneShape}
-use Rattle.flat_history.specs.Reopened.{IsFoundLater}
-use Rattle.flat_history.proofs.ReopenedLaws.{settled-found}
+use Rattle.reopened_laws.specs.bank_Given.{Given}
+use Rattle.reopened_laws.specs.bank_the_Operation.{Operation}
+use Rattle.reopened_laws.specs.flat_history_the_Entry.{Entry}
+use Rattle.reopened_laws.specs.flat_history_the_Epoch.{Epoch}
+use Rattle.reopened_laws.specs.flat_history_the_Event.{Event}
+use Rattle.reopened_laws.specs.flat_history_the_Event_TheVariants.{Resized}
+use Rattle.reopened_laws.specs.flat_history_CrashSafe.{is_resized, last_resized}
+use Rattle.reopened_laws.specs.flat_history_Epochs.{world_of}
+use Rattle.reopened_laws.specs.flat_history_Flat.{rest_of_call}
+use Rattle.reopened_laws.specs.flat_history_Growing.{EndBy}
+use Rattle.reopened_laws.specs.flat_history_OneShape.{ShapeOpening, opening_in, IsOneShapeEvent, AreOneShape}
+use Rattle.reopened_laws.specs.flat_history_Reopened.{IsFoundLater}
+use Rattle.reopened_laws.proofs.flat_history_ReopenedLaws.{settled-found}
 use Rattle.reopened_laws.proofs.Settled.{settled-found-later}
 use Rattle.run_sessions.specs.run_laws_Ended.{IsLegalEpoch, IsSafeEpoch, AreFormer}
 use Rattle.run_sessions.proofs.run_laws_Plain.{kept-fills}

@@ -1,15 +1,15 @@
 -- What an array leaves is what the next one opens with.
 use Rattle.std.specs.Prelude.{ℕ, List, [], ◌∷◌, Option, ⊤}
-use Rattle.bank.specs.Given.{Given}
-use Rattle.bank.specs.Tape.{contents, OnlyFlushesBetween}
-use Rattle.bank.specs.declared.bank.Operation.{Operation}
-use Rattle.flat_history.specs.declared.events.Epoch.{Epoch}
-use Rattle.flat_history.specs.Epochs.{world_of, HasRoomForEvents}
-use Rattle.flat_history.specs.Opened.{OpensSound}
-use Rattle.flat_history.specs.Reopened.{EndsSettled, OpensWith, IsSameArray}
-use Rattle.flat_history.specs.Sound.{OpensFit}
-use Rattle.flat_history.specs.Transfers.{last_end_from}
-use Rattle.flat_history.specs.World.{opening_list}
+use Rattle.reopened_laws.specs.bank_Given.{Given}
+use Rattle.reopened_laws.specs.bank_Tape.{contents, OnlyFlushesBetween}
+use Rattle.reopened_laws.specs.bank_the_Operation.{Operation}
+use Rattle.reopened_laws.specs.flat_history_the_Epoch.{Epoch}
+use Rattle.reopened_laws.specs.flat_history_Epochs.{world_of, HasRoomForEvents}
+use Rattle.reopened_laws.specs.flat_history_Opened.{OpensSound}
+use Rattle.reopened_laws.specs.flat_history_Reopened.{EndsSettled, OpensWith, IsSameArray}
+use Rattle.reopened_laws.specs.flat_history_Sound.{OpensFit}
+use Rattle.reopened_laws.specs.flat_history_Transfers.{last_end_from}
+use Rattle.reopened_laws.specs.flat_history_World.{opening_list}
 use Rattle.run_sessions.specs.run_laws_Ended.{IfReliable, IfShapeKept, IfFilledRight}
 use Rattle.reopened_laws.specs.Later.{IsLengthKept}
 

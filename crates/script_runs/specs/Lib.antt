@@ -6,3 +6,5 @@ pub use Rattle.run_sessions.specs.lanes_Pace
 pub use Rattle.run_sessions.specs.run_laws_Ended
 pub use Rattle.run_sessions.specs.run_laws_Making
 pub use Rattle.run_sessions.specs.run_laws_States
+pub use Rattle.reopened_laws.specs.bank_Given
+pub use Rattle.run_sessions.specs.text_io_Causes

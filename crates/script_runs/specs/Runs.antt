@@ -2,12 +2,12 @@
 use Rattle.std.specs.Prelude.{◌≡◌, ◌⊎◌, ℕ, ◌+◌, ◌-◌, ◌<◌, ◌≤◌, ◌==◌, Bool, true, false, if◌then◌else◌, List, [], length, take, drop, slice_get, slice_index_or, Option, Some, None, MatchOption, Err, Ok, IsTrue}
 use Rattle.std.specs.List.{All}
 use Rattle.std.specs.Option.{option_map_or}
-use Rattle.flat_history.specs.declared.events.Epoch.{Epoch}
-use Rattle.flat_history.specs.declared.events.Event.TheVariants.{Halted}
-use Rattle.flat_history.specs.Flat.{last_of}
-use Rattle.script.specs.Script.{script_with}
-use Rattle.script.specs.declared.lines.Numbered.{Numbered}
-use Rattle.script.specs.declared.reply.Lane.TheVariants.{Script as InScript}
+use Rattle.reopened_laws.specs.flat_history_the_Epoch.{Epoch}
+use Rattle.reopened_laws.specs.flat_history_the_Event_TheVariants.{Halted}
+use Rattle.reopened_laws.specs.flat_history_Flat.{last_of}
+use Rattle.demo_script.specs.script_Script.{script_with}
+use Rattle.demo_script.specs.script_the_Numbered.{Numbered}
+use Rattle.demo_script.specs.script_the_Lane_TheVariants.{Script as InScript}
 use Rattle.run_sessions.specs.run_laws_the_LineReply.{LineReply}
 use Rattle.run_sessions.specs.declared.sessions.Stop.{Stop}
 use Rattle.run_sessions.specs.declared.sessions.Stop.TheVariants.{WriteFault, NoMemory as WantsMemory}

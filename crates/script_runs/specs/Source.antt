@@ -1,6 +1,6 @@
 -- The text of a script: what is read from a source, or that of a demo.
 use Rattle.std.specs.Prelude.{◌≡◌, ℕ, ◌+◌, ◌≤◌, List, [], ◌++◌, length, Option, Some, None}
-use Rattle.text_io.specs.Causes.{HasRisen}
+use Rattle.run_sessions.specs.text_io_Causes.{HasRisen}
 use Rattle.demo_script.specs.Demo.{demo_text}
 use Rattle.script_runs.specs.declared.text.TextFault.{TextFault}
 use Rattle.script_runs.specs.declared.text.TextFault.TheVariants.{Failed}

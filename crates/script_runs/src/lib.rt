@@ -5,7 +5,8 @@ mod report;
 mod runs;
 mod text;
 
+pub use reopened_laws::Bank;
 pub use report::Report;
-pub use run_sessions::{Made, Pace, Session, Stop, perform};
+pub use run_sessions::{Made, Pace, Session, Sink, Source, Stop, perform};
 pub use runs::{nothing_done, run_script};
 pub use text::{LONGEST_TEXT, TextFault, read_text};

@@ -1,6 +1,6 @@
 //! What a run reports.
 
-use flat_history::Epoch;
+use reopened_laws::Epoch;
 use run_sessions::LineReply;
 
 /// How a run ended: the status that the program ends with, the first bad line where one was bad, the bank, the epochs of

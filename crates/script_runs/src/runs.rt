@@ -2,11 +2,11 @@
 
 ghost use Rattle.std.specs.Prelude.{◌≡◌, ◌≢◌, ◌⊎◌, ◌<◌, ◌≤◌, ◌+◌, ◌-◌, [], length, Option, Some, None, Ok, IfSome, IsTrue};
 ghost use Rattle.std.specs.List.{AllPass};
-ghost use Rattle.bank.specs.Given.{NeverFalls};
+ghost use Rattle.reopened_laws.specs.bank_Given.{NeverFalls};
 ghost use Rattle.run_sessions.specs.views_Moving.{Grows};
-ghost use Rattle.text_io.specs.Causes.{HasRisen};
-ghost use Rattle.script.specs.Script.{is_within_limits, may_ask, are_in_turn};
-ghost use Rattle.script.specs.declared.reply.Lane.TheVariants.{Script as InScript};
+ghost use Rattle.run_sessions.specs.text_io_Causes.{HasRisen};
+ghost use Rattle.demo_script.specs.script_Script.{is_within_limits, may_ask, are_in_turn};
+ghost use Rattle.demo_script.specs.script_the_Lane_TheVariants.{Script as InScript};
 ghost use Rattle.run_sessions.specs.lanes_Pace.{AnswersSteps, asked_by};
 ghost use Rattle.run_sessions.specs.run_laws_Ended.{IsRunKept, AreLegal, AreRight, AreRising, AreFormer};
 ghost use Rattle.run_sessions.specs.run_laws_Histories.{history_of, histories_of};
@@ -20,14 +20,12 @@ ghost use Rattle.run_sessions.specs.run_laws_Written.{IsWritten};
 
 use crate::report::Report;
 use crate::text::{TextFault, script_text};
-use bank::Bank;
-use flat_history::Epoch;
-use run_sessions::{Pace, Session, State, Stop, perform, script_call};
-use script::{Numbered, ScriptFault, read_script_with_blocks};
+use demo_script::{Numbered, ScriptFault, read_script_with_blocks};
+use reopened_laws::{Bank, Epoch};
+use run_sessions::{Pace, Session, Sink, Source, State, Stop, perform, script_call};
 use std::alloc::Global;
 use std::sync::Wait;
 use std::thread::Threads;
-use text_io::{Sink, Source};
 
 const DONE: u8 = 0;
 

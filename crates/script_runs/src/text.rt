@@ -3,8 +3,8 @@ ghost use Rattle.std.specs.Prelude.{◌≡◌, ◌<◌, ◌≤◌, length, IfOk,
 ghost use Rattle.script_runs.specs.Source.{IsDemoSize, IsTextOf, IsTextFor, IsPiece, IsCaused};
 
 use demo_script::demo_text;
+use run_sessions::Source;
 use std::alloc::Global;
-use text_io::Source;
 use thiserror::Error;
 
 #[derive(Clone, Copy, Debug, PartialEq, Eq, Error)]

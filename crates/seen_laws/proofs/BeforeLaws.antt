@@ -4,8 +4,8 @@ use Rattle.std.specs.Option.{option_map_or}
 use Rattle.std.specs.List.{All}
 use Rattle.std.proofs.lemmas.List.Elements.{All-head, All-tail}
 use Rattle.std.proofs.Math.Seq.{drop-append_seam}
-use Rattle.md_base.specs.declared.answers.Who.{Who}
-use Rattle.bank.specs.declared.bank.Operation.{Operation}
+use Rattle.history_laws.specs.md_base_the_Who.{Who}
+use Rattle.history_laws.specs.bank_the_Operation.{Operation}
 use Rattle.running_replies.specs.flat_history_the_Entry.{Entry}
 use Rattle.running_replies.specs.flat_history_Flat.{last_of}
 use Rattle.running_replies.specs.flat_history_Transfers.{last_end_from}

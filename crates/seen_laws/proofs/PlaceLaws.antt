@@ -8,7 +8,7 @@ use Rattle.std.proofs.lemmas.List.Elements.{All-nil, All-cons, All-append, All-h
 use Rattle.std.proofs.lemmas.Bool.Decides.{nat_tests}
 use Rattle.std.proofs.lemmas.Option.{slice_get_within}
 use Rattle.std.proofs.Math.Seq.{drop-append_seam, drop-length, take-append_seam}
-use Rattle.md_base.specs.declared.answers.Who.{Who}
+use Rattle.history_laws.specs.md_base_the_Who.{Who}
 use Rattle.running_replies.specs.flat_history_the_Entry.{Entry}
 use Rattle.running_replies.specs.flat_history_the_Request.{Request}
 use Rattle.running_replies.specs.flat_history_Flat.{is_same_call, rest_of_call, last_of, number_after, next_number}

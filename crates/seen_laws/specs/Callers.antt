@@ -1,7 +1,7 @@
 -- What callers that share an array have seen of its history, and which calls they have made in it.
 use Rattle.std.specs.Prelude.{◌≡◌, ◌≢◌, ℕ, ◌+◌, ◌-◌, ◌≤◌, true, List, [], ◌∷◌, ◌++◌, length, map, take, drop, slice_get, MatchOption, ⊤}
 use Rattle.std.specs.List.{All}
-use Rattle.md_base.specs.declared.answers.Who.{Who}
+use Rattle.history_laws.specs.md_base_the_Who.{Who}
 use Rattle.running_replies.specs.flat_history_the_Entry.{Entry}
 use Rattle.running_replies.specs.flat_history_the_Event.{Event}
 use Rattle.running_replies.specs.flat_history_the_Event_TheVariants.{Shown}

@@ -4,6 +4,8 @@
 ghost use Rattle.std.specs.Prelude.{⊤};
 ghost use Rattle.seen_laws.specs.Callers.{NoneHasCalled, CallsAreCounted, CallsAreOnesOwn, CallsComeLater, SeenGoesOn, ShorterIsBefore};
 
+pub use history_laws::{Event, Request};
+
 /// Nobody has called before the first call.
 pub fn none_has_called()
     ensures { NoneHasCalled }

@@ -1,14 +1,14 @@
 -- Rows of a role that are written to the slot that recovers it, where it doesn't hold them yet, keep an array safe: no view has them.
 use Rattle.std.proofs.Common.{◌≡◌, ◌⊎◌, inl, inr, ℕ, ◌+◌, ◌<◌, ◌≤◌, Bool, true, false, cond, nat_lt, List, Option, Some, None, refl, sym, ◌∙◌, ap, subst, arith}
 use Rattle.std.proofs.lemmas.Bool.Decides.{nat_tests}
-use Rattle.md_base.specs.Sectors.{Sector}
-use Rattle.md_base.specs.Shapes.{has_slot}
-use Rattle.md_base.specs.declared.status.Role.{Role}
-use Rattle.md_base.specs.declared.status.Role.TheVariants.{Whole, Recovering, Missing}
-use Rattle.bank.specs.Given.{Given}
-use Rattle.bank.specs.Tape.{IsIn, disk}
+use Rattle.shape_views.specs.md_base_Sectors.{Sector}
+use Rattle.shape_views.specs.md_base_Shapes.{has_slot}
+use Rattle.shape_views.specs.md_base_the_Role.{Role}
+use Rattle.shape_views.specs.md_base_the_Role_TheVariants.{Whole, Recovering, Missing}
+use Rattle.shape_views.specs.bank_Given.{Given}
+use Rattle.shape_views.specs.bank_Tape.{IsIn, disk}
 use Rattle.shape_views.specs.superblocks_the_Members.{Members}
-use Rattle.layout.specs.Layout.{place}
+use Rattle.shape_views.specs.layout_Layout.{place}
 use Rattle.shape_views.specs.superblocks_Reading.{Scope, final_shape, role_state, rows_held, holder, data_offset_of}
 use Rattle.shape_views.specs.row_io_Rows.{reading_of, held_slot, role_without, members_without}
 use Rattle.shape_views.proofs.row_io_Losses.{holder-of, state_after}

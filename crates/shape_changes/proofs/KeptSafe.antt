@@ -1,20 +1,20 @@
 -- Updates in which each slot stays what it is keep an array safe: the mark, and the record of a position.
 use Rattle.std.proofs.Common.{◌≡◌, inl, ℕ, ◌-◌, ◌^◌, ◌<◌, ◌==◌, ◌||◌, Bool, true, false, not, cond, List, length, Some, None, refl, sym, ◌∙◌, ap, subst, arith}
 use Rattle.std.specs.Prelude.{⊤}
-use Rattle.md_base.specs.declared.places.Span.{Span}
-use Rattle.md_base.specs.declared.status.Role.{Role}
-use Rattle.sb1.specs.declared.sb.Sb.{Sb}
-use Rattle.bank.specs.declared.bank.Operation.{Operation}
-use Rattle.bank.specs.Given.{Given}
-use Rattle.bank.specs.Tape.{disk}
+use Rattle.shape_views.specs.md_base_the_Span.{Span}
+use Rattle.shape_views.specs.md_base_the_Role.{Role}
+use Rattle.superblock_laws.specs.sb1_the_Sb.{Sb}
+use Rattle.shape_views.specs.bank_the_Operation.{Operation}
+use Rattle.shape_views.specs.bank_Given.{Given}
+use Rattle.shape_views.specs.bank_Tape.{disk}
 use Rattle.shape_views.specs.superblocks_the_Give.{Give}
 use Rattle.shape_views.specs.superblocks_the_Give_TheVariants.{Same}
 use Rattle.shape_views.specs.superblocks_the_Give_TheVariants as give
 use Rattle.shape_views.specs.superblocks_the_Change.{Change}
 use Rattle.shape_views.specs.superblocks_the_Members.{Members}
-use Rattle.md_base.specs.declared.answers.Refusal.TheVariants.{PositionNotOnUnit}
-use Rattle.md_base.specs.Shapes.{is_multiple, is_valid_shape}
-use Rattle.geometry.specs.Geometry.{unit, is_size}
+use Rattle.shape_views.specs.md_base_the_Refusal_TheVariants.{PositionNotOnUnit}
+use Rattle.shape_views.specs.md_base_Shapes.{is_multiple, is_valid_shape}
+use Rattle.shape_views.specs.geometry_Geometry.{unit, is_size}
 use Rattle.shape_views.specs.superblocks_Reading.{Scope, shape_of, final_shape, role_count}
 use Rattle.shape_views.specs.superblocks_Reads.{SaysSame}
 use Rattle.shape_views.specs.superblocks_Verdict.{off_unit}

@@ -1,16 +1,16 @@
 -- Views that lose roles, and updates of which an image reads as before or as planned.
 use Rattle.std.proofs.Common.{◌≡◌, inl, inr, ℕ, zero, suc, ◌+◌, ◌-◌, ◌<◌, ◌≤◌, nat_lt, nat_le, Bool, true, false, cond, List, Option, Some, None, refl, sym, ◌∙◌, ap, ap₂, subst, arith}
 use Rattle.std.proofs.lemmas.Bool.Decides.{nat_tests}
-use Rattle.md_base.specs.declared.places.Shape.{Shape}
-use Rattle.md_base.specs.declared.places.Span.{Span}
-use Rattle.md_base.specs.declared.places.Side.TheVariants.{Old, New}
-use Rattle.md_base.specs.declared.status.Role.{Role}
-use Rattle.md_base.specs.Search.{count_below}
-use Rattle.md_base.specs.Sectors.{Sector}
-use Rattle.bank.specs.Tape.{Contents, IsIn}
-use Rattle.layout.specs.Layout.{place, stripe_of}
-use Rattle.geometry.specs.Geometry.{side}
-use Rattle.sb1.specs.declared.sb.Sb.{Sb}
+use Rattle.shape_views.specs.md_base_the_Shape.{Shape}
+use Rattle.shape_views.specs.md_base_the_Span.{Span}
+use Rattle.shape_views.specs.md_base_the_Side_TheVariants.{Old, New}
+use Rattle.shape_views.specs.md_base_the_Role.{Role}
+use Rattle.shape_views.specs.md_base_Search.{count_below}
+use Rattle.shape_views.specs.md_base_Sectors.{Sector}
+use Rattle.shape_views.specs.bank_Tape.{Contents, IsIn}
+use Rattle.shape_views.specs.layout_Layout.{place, stripe_of}
+use Rattle.shape_views.specs.geometry_Geometry.{side}
+use Rattle.superblock_laws.specs.sb1_the_Sb.{Sb}
 use Rattle.shape_views.specs.superblocks_the_Members.{Members}
 use Rattle.shape_views.specs.superblocks_Reading.{Scope, is_clean, is_backward, shape_of, final_shape, list_length, role_state, rows_held, holder, data_offset_of}
 use Rattle.shape_views.specs.superblocks_Reads.{SaysSame}

@@ -1,11 +1,11 @@
 -- A view that places the list where another does is as right.
 use Rattle.std.proofs.Common.{◌≡◌, ℕ, ◌+◌, ◌<◌, Option, Some, sym, ◌∙◌, ap, ap₂, subst, arith}
-use Rattle.md_base.specs.declared.places.Shape.{Shape}
-use Rattle.md_base.specs.declared.places.Span.{Span}
-use Rattle.md_base.specs.Sectors.{Sector}
-use Rattle.bank.specs.Tape.{Contents, IsIn}
-use Rattle.layout.specs.Layout.{place}
-use Rattle.layout.proofs.Places.{place-role_below}
+use Rattle.shape_views.specs.md_base_the_Shape.{Shape}
+use Rattle.shape_views.specs.md_base_the_Span.{Span}
+use Rattle.shape_views.specs.md_base_Sectors.{Sector}
+use Rattle.shape_views.specs.bank_Tape.{Contents, IsIn}
+use Rattle.shape_views.specs.layout_Layout.{place}
+use Rattle.shape_views.proofs.layout_Places.{place-role_below}
 use Rattle.shape_views.specs.superblocks_the_Members.{Members}
 use Rattle.shape_views.specs.superblocks_Reading.{Scope, final_shape, list_length}
 use Rattle.shape_views.specs.row_io_Rows.{reading_of, held_slot}

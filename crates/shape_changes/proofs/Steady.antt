@@ -1,13 +1,13 @@
 -- An array that is safe is seen right, and it stays safe where slots are lost, where more is told, and where a stop may leave less.
 use Rattle.std.proofs.Common.{◌≡◌, inl, inr, ℕ, ◌==◌, ◌||◌, Bool, true, false, cond, take, List, [], ◌∷◌, refl, sym, ◌∙◌, arith}
 use Rattle.std.specs.Prelude.{⊤}
-use Rattle.md_base.specs.Sectors.{Sector}
-use Rattle.md_base.specs.Shapes.{has_slot}
-use Rattle.bank.specs.declared.bank.Operation.{Operation}
-use Rattle.bank.specs.declared.bank.Operation.TheVariants.{Write, Flush}
-use Rattle.bank.specs.Given.{Given}
-use Rattle.bank.specs.Tape.{Contents, IsIn, disk, run, AreFlushes}
-use Rattle.bank.proofs.Marks.{Along, each_mark-along}
+use Rattle.shape_views.specs.md_base_Sectors.{Sector}
+use Rattle.shape_views.specs.md_base_Shapes.{has_slot}
+use Rattle.shape_views.specs.bank_the_Operation.{Operation}
+use Rattle.shape_views.specs.bank_the_Operation_TheVariants.{Write, Flush}
+use Rattle.shape_views.specs.bank_Given.{Given}
+use Rattle.shape_views.specs.bank_Tape.{Contents, IsIn, disk, run, AreFlushes}
+use Rattle.shape_views.proofs.bank_Marks.{Along, each_mark-along}
 use Rattle.shape_views.specs.superblocks_the_Members.{Members}
 use Rattle.shape_views.specs.superblocks_Reading.{Scope, list_length}
 use Rattle.shape_views.specs.row_io_Rows.{members_without}

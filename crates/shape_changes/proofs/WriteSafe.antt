@@ -1,9 +1,9 @@
 -- Rows of one region that are written in a dirty array keep it safe: a place of the list gets its sector of the list, which is allowed.
 use Rattle.std.proofs.Common.{◌≡◌, ◌⊎◌, inl, inr, ℕ, false, List, Contains, refl, sym, subst, arith}
-use Rattle.md_base.specs.declared.places.Shape.{Shape}
-use Rattle.md_base.specs.Sectors.{Sector}
-use Rattle.bank.specs.Given.{Given}
-use Rattle.bank.specs.Tape.{IsIn}
+use Rattle.shape_views.specs.md_base_the_Shape.{Shape}
+use Rattle.shape_views.specs.md_base_Sectors.{Sector}
+use Rattle.shape_views.specs.bank_Given.{Given}
+use Rattle.shape_views.specs.bank_Tape.{IsIn}
 use Rattle.shape_views.specs.superblocks_the_Members.{Members}
 use Rattle.shape_views.specs.superblocks_Reading.{Scope, is_clean}
 use Rattle.shape_views.specs.row_io_Rows.{reading_of, members_without}

@@ -1,11 +1,11 @@
 -- Views that place the list where others do, and the update that gives a vacant role to a spare, which recovers it from the first row on.
 use Rattle.std.specs.Prelude.{◌≡◌, ℕ, ◌<◌, ◌≤◌, true, List, slice_index_or, Some, ⊤}
-use Rattle.md_base.specs.Sectors.{Sector}
-use Rattle.md_base.specs.declared.places.Span.{Span}
-use Rattle.md_base.specs.declared.status.Role.TheVariants.{Missing}
-use Rattle.bank.specs.declared.bank.Operation.{Operation}
-use Rattle.bank.specs.Given.{Given}
-use Rattle.bank.specs.Tape.{IsIn, disk}
+use Rattle.shape_views.specs.md_base_Sectors.{Sector}
+use Rattle.shape_views.specs.md_base_the_Span.{Span}
+use Rattle.shape_views.specs.md_base_the_Role_TheVariants.{Missing}
+use Rattle.shape_views.specs.bank_the_Operation.{Operation}
+use Rattle.shape_views.specs.bank_Given.{Given}
+use Rattle.shape_views.specs.bank_Tape.{IsIn, disk}
 use Rattle.shape_views.specs.superblocks_the_Members.{Members}
 use Rattle.shape_views.specs.superblocks_Reading.{Scope, is_clean, is_reshaping, final_shape, list_length, role_count, holder, data_offset_of}
 use Rattle.shape_views.specs.superblocks_Reads.{has_spare}

@@ -1,11 +1,11 @@
 -- Kinds of updates, by what each owes of its change and of the view that it plans.
 use Rattle.std.specs.Prelude.{◌≡◌, ◌⊎◌, ℕ, ◌+◌, ◌^◌, ◌<◌, ◌≤◌, Bool, true, false, List, replicate, slice_index_or, Option, Some, None, ⊤}
-use Rattle.md_base.specs.declared.places.Span.{Span}
-use Rattle.bank.specs.declared.bank.Operation.{Operation}
-use Rattle.bank.specs.Given.{Given}
-use Rattle.bank.specs.Tape.{disk}
-use Rattle.md_base.specs.Shapes.{has_slot}
-use Rattle.md_base.specs.declared.status.Role.TheVariants.{Whole, Missing}
+use Rattle.shape_views.specs.md_base_the_Span.{Span}
+use Rattle.shape_views.specs.bank_the_Operation.{Operation}
+use Rattle.shape_views.specs.bank_Given.{Given}
+use Rattle.shape_views.specs.bank_Tape.{disk}
+use Rattle.shape_views.specs.md_base_Shapes.{has_slot}
+use Rattle.shape_views.specs.md_base_the_Role_TheVariants.{Whole, Missing}
 use Rattle.shape_views.specs.superblocks_the_Give_TheVariants.{Same, Spare}
 use Rattle.shape_views.specs.superblocks_the_Give_TheVariants as give
 use Rattle.shape_views.specs.superblocks_the_Change.{Change}

@@ -1,12 +1,12 @@
 -- What is kept of an array of one shape or two that loses members, between and in the calls that write its superblocks and its rows.
 use Rattle.std.specs.Prelude.{◌≡◌, ◌⊎◌, ℕ, ◌+◌, ◌<◌, ◌≤◌, ◌++◌, Bool, true, false, not, ◌&&◌, ◌||◌, ◌==◌, List, [], ◌∷◌, Contains, Some, ⊤}
-use Rattle.md_base.specs.Sectors.{Sector}
-use Rattle.md_base.specs.Shapes.{has_slot}
-use Rattle.md_base.specs.declared.places.Shape.{Shape}
-use Rattle.md_base.specs.declared.status.Role.TheVariants.{Recovering}
-use Rattle.bank.specs.declared.bank.Operation.{Operation}
-use Rattle.bank.specs.Given.{Given}
-use Rattle.bank.specs.Tape.{Contents, EachMark, IsIn, AreFlushes, disk}
+use Rattle.shape_views.specs.md_base_Sectors.{Sector}
+use Rattle.shape_views.specs.md_base_Shapes.{has_slot}
+use Rattle.shape_views.specs.md_base_the_Shape.{Shape}
+use Rattle.shape_views.specs.md_base_the_Role_TheVariants.{Recovering}
+use Rattle.shape_views.specs.bank_the_Operation.{Operation}
+use Rattle.shape_views.specs.bank_Given.{Given}
+use Rattle.shape_views.specs.bank_Tape.{Contents, EachMark, IsIn, AreFlushes, disk}
 use Rattle.shape_views.specs.superblocks_the_Members.{Members}
 use Rattle.shape_views.specs.superblocks_Reading.{Scope, Reading, reading, is_seen, is_clean, list_length, role_count, role_state, rows_held, holder, data_offset_of}
 use Rattle.shape_views.specs.row_io_Rows.{reading_of, is_missing, members_without, IsHolder}

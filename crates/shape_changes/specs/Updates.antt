@@ -1,14 +1,14 @@
 -- What an update makes of the members, whatever it changes of the array and gives to its slots, and what is read of an image in it.
 use Rattle.std.specs.Prelude.{◌≡◌, ◌⊎◌, ℕ, ◌+◌, ◌<◌, ◌≤◌, true, false, List, length, if◌then◌else◌, Option, Some, None, option_map}
-use Rattle.md_base.specs.Search.{tabulate}
-use Rattle.md_base.specs.Shapes.{has_slot}
-use Rattle.sb1.specs.declared.sb.Sb.{Sb}
-use Rattle.bank.specs.Given.{Given}
-use Rattle.bank.specs.Tape.{Contents}
+use Rattle.shape_views.specs.md_base_Search.{tabulate}
+use Rattle.shape_views.specs.md_base_Shapes.{has_slot}
+use Rattle.superblock_laws.specs.sb1_the_Sb.{Sb}
+use Rattle.shape_views.specs.bank_Given.{Given}
+use Rattle.shape_views.specs.bank_Tape.{Contents}
 use Rattle.shape_views.specs.superblocks_the_Give.{Give}
 use Rattle.shape_views.specs.superblocks_the_Change.{Change}
 use Rattle.shape_views.specs.superblocks_the_Members.{Members}
-use Rattle.md_base.specs.Sectors.{Sector}
+use Rattle.shape_views.specs.md_base_Sectors.{Sector}
 use Rattle.shape_views.specs.superblocks_Reading.{Scope, Reading, reading, is_reshaping, is_backward, shape_of, final_shape, list_length, role_state, rows_held, holder, data_offset_of}
 use Rattle.shape_views.specs.superblocks_Update.{with_give, give_of, own_in, planned_role}
 use Rattle.shape_views.specs.superblocks_Updating.{planned_newest}
@@ -18,10 +18,10 @@ use Rattle.shape_views.specs.superblock_reads_Said.{AreSaidAsPlanned}
 use Rattle.shape_views.specs.superblocks_Reads.{SaysSame}
 use Rattle.shape_views.specs.row_io_Rows.{reading_of, is_missing, held_slot}
 use Rattle.shape_views.specs.flat_history_Stands.{shape_for}
-use Rattle.md_base.specs.declared.places.Span.{Span}
-use Rattle.geometry.specs.Geometry as geometry
+use Rattle.shape_views.specs.md_base_the_Span.{Span}
+use Rattle.shape_views.specs.geometry_Geometry as geometry
 use Rattle.shape_views.specs.superblocks_Reading.{next_window}
-use Rattle.backup.specs.Section.{names_span}
+use Rattle.shape_views.specs.backup_Section.{names_span}
 use Rattle.shape_views.specs.Regions.{open_by, ArePlaced, IsReadOf}
 use Rattle.shape_views.specs.Views.{Disk, Ledger, IsViewRight, IsSeenRight}
 use Rattle.shape_views.specs.Windows.{IsSomewhere, IsWrittenAt, IsUpdating, moved_past, ListStands, RowsStand}

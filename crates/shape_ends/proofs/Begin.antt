@@ -6,19 +6,19 @@ use Rattle.std.proofs.lemmas.Bool.{cases_lt}
 use Rattle.std.proofs.lemmas.Bool.Decides.{nat_tests}
 use Rattle.std.proofs.lemmas.List.{get_or_past}
 use Rattle.std.proofs.Math.Nat.{mul-le-mul_right}
-use Rattle.md_base.specs.Search.{tabulate, least_below, count_below}
-use Rattle.md_base.specs.Shapes.{has_slot, data_disks}
-use Rattle.md_base.specs.Sectors.{Sector}
-use Rattle.md_base.specs.declared.places.Shape.{Shape}
-use Rattle.md_base.specs.declared.places.Span.{Span}
-use Rattle.md_base.specs.declared.status.Role.{Role}
-use Rattle.md_base.specs.declared.status.Role.TheVariants.{Whole, Recovering, Missing}
-use Rattle.md_base.proofs.Tabulated.{length-tabulate, get_or-tabulate}
-use Rattle.sb1.specs.declared.sb.Sb.{Sb}
-use Rattle.geometry.specs.Geometry.{side, window}
-use Rattle.bank.specs.declared.bank.Operation.{Operation}
-use Rattle.bank.specs.Given.{Given}
-use Rattle.bank.specs.Tape.{Contents, disk}
+use Rattle.shape_changes.specs.md_base_Search.{tabulate, least_below, count_below}
+use Rattle.shape_changes.specs.md_base_Shapes.{has_slot, data_disks}
+use Rattle.shape_changes.specs.md_base_Sectors.{Sector}
+use Rattle.shape_changes.specs.md_base_the_Shape.{Shape}
+use Rattle.shape_changes.specs.md_base_the_Span.{Span}
+use Rattle.shape_changes.specs.md_base_the_Role.{Role}
+use Rattle.shape_changes.specs.md_base_the_Role_TheVariants.{Whole, Recovering, Missing}
+use Rattle.shape_changes.proofs.md_base_Tabulated.{length-tabulate, get_or-tabulate}
+use Rattle.shape_changes.specs.sb1_the_Sb.{Sb}
+use Rattle.shape_changes.specs.geometry_Geometry.{side, window}
+use Rattle.shape_changes.specs.bank_the_Operation.{Operation}
+use Rattle.shape_changes.specs.bank_Given.{Given}
+use Rattle.shape_changes.specs.bank_Tape.{Contents, disk}
 use Rattle.shape_changes.specs.superblocks_the_Give.{Give}
 use Rattle.shape_changes.specs.superblocks_the_Give_TheVariants.{Same, Spare}
 use Rattle.shape_changes.specs.superblocks_the_Give_TheVariants as give

@@ -2,19 +2,19 @@
 use Rattle.std.proofs.Common.{◌≡◌, ◌⊎◌, inl, inr, ℕ, ◌-◌, ◌<◌, ◌≤◌, ◌&&◌, nat_lt, nat_le, Bool, true, false, cond, Option, Some, None, refl, sym, ◌∙◌, ap, subst, arith}
 use Rattle.std.proofs.lemmas.Bool.{and_parts}
 use Rattle.std.proofs.lemmas.Bool.Decides.{nat_tests}
-use Rattle.md_base.specs.declared.places.Shape.{Shape}
-use Rattle.md_base.specs.declared.places.Span.{Span}
-use Rattle.md_base.specs.declared.places.Side.TheVariants.{Old, New}
-use Rattle.md_base.specs.Sectors.{Sector}
-use Rattle.md_base.specs.Shapes.{has_slot}
-use Rattle.bank.specs.Given.{Given}
-use Rattle.bank.specs.Tape.{Contents, IsIn}
-use Rattle.geometry.specs.Geometry.{window, side, beyond}
-use Rattle.region_laws.proofs.RegionLaws.{forward-is, backward-is, new-ahead, new-behind}
-use Rattle.geometry.proofs.Valid.{bounded_pair}
+use Rattle.shape_changes.specs.md_base_the_Shape.{Shape}
+use Rattle.shape_changes.specs.md_base_the_Span.{Span}
+use Rattle.shape_changes.specs.md_base_the_Side_TheVariants.{Old, New}
+use Rattle.shape_changes.specs.md_base_Sectors.{Sector}
+use Rattle.shape_changes.specs.md_base_Shapes.{has_slot}
+use Rattle.shape_changes.specs.bank_Given.{Given}
+use Rattle.shape_changes.specs.bank_Tape.{Contents, IsIn}
+use Rattle.shape_changes.specs.geometry_Geometry.{window, side, beyond}
+use Rattle.shape_changes.proofs.region_laws_RegionLaws.{forward-is, backward-is, new-ahead, new-behind}
+use Rattle.shape_changes.proofs.geometry_Valid.{bounded_pair}
 use Rattle.shape_changes.specs.superblocks_the_Members.{Members}
 use Rattle.shape_changes.specs.superblocks_Reading.{Scope, is_reshaping, is_backward, shape_of, final_shape, next_window}
-use Rattle.backup.specs.Section.{is_header_of, names_span, has_section}
+use Rattle.shape_changes.specs.backup_Section.{is_header_of, names_span, has_section}
 use Rattle.shape_changes.specs.flat_history_ActiveSection.{section_for}
 use Rattle.shape_changes.specs.shape_views_Regions.{backup_of, open_by}
 use Rattle.shape_changes.specs.shape_views_Views.{Disk, Ledger, IsHeaderFit, IsSeenRight}

@@ -3,23 +3,23 @@ use Rattle.std.proofs.Common.{◌≡◌, ℕ, zero, suc, ◌+◌, ◌*◌, ◌<�
 use Rattle.std.proofs.lemmas.Bool.{and_parts}
 use Rattle.std.proofs.lemmas.Bool.Decides.{nat_tests}
 use Rattle.std.proofs.Math.Nat.{mul-le-mul_right}
-use Rattle.md_base.specs.declared.places.Shape.{Shape}
-use Rattle.md_base.specs.declared.places.Place.{Place}
-use Rattle.md_base.specs.declared.places.Span.{Span}
-use Rattle.md_base.specs.Search.{count_below}
-use Rattle.md_base.specs.Sectors.{Sector}
-use Rattle.md_base.specs.Shapes.{data_disks, has_slot}
-use Rattle.bank.specs.Given.{Given}
-use Rattle.bank.specs.Tape.{Contents, IsIn}
-use Rattle.layout.specs.Layout.{row_roles}
-use Rattle.geometry.specs.Geometry.{window}
-use Rattle.sb1.specs.declared.sb.Sb.{Sb}
+use Rattle.shape_changes.specs.md_base_the_Shape.{Shape}
+use Rattle.shape_changes.specs.md_base_the_Place.{Place}
+use Rattle.shape_changes.specs.md_base_the_Span.{Span}
+use Rattle.shape_changes.specs.md_base_Search.{count_below}
+use Rattle.shape_changes.specs.md_base_Sectors.{Sector}
+use Rattle.shape_changes.specs.md_base_Shapes.{data_disks, has_slot}
+use Rattle.shape_changes.specs.bank_Given.{Given}
+use Rattle.shape_changes.specs.bank_Tape.{Contents, IsIn}
+use Rattle.shape_changes.specs.layout_Layout.{row_roles}
+use Rattle.shape_changes.specs.geometry_Geometry.{window}
+use Rattle.shape_changes.specs.sb1_the_Sb.{Sb}
 use Rattle.shape_changes.specs.superblocks_the_Members.{Members}
 use Rattle.shape_changes.specs.superblocks_Reading.{Scope, is_clean, is_reshaping, is_backward, shape_of, final_shape, list_length, next_window, data_offset_of}
 use Rattle.shape_changes.specs.row_io_Rows.{reading_of, is_missing, held_slot, IsTolerated}
 use Rattle.shape_changes.specs.row_io_Writes.{is_parity}
 use Rattle.shape_changes.specs.list_io_Full.{full_sector, RowStands}
-use Rattle.backup.specs.Section.{is_header_of, names_span, has_section}
+use Rattle.shape_changes.specs.backup_Section.{is_header_of, names_span, has_section}
 use Rattle.shape_changes.specs.flat_history_ActiveSection.{section_for}
 use Rattle.shape_changes.specs.flat_history_Flat.{resized}
 use Rattle.shape_changes.specs.flat_history_Stands.{shape_for, covers}

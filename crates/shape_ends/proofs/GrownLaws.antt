@@ -5,21 +5,21 @@ use Rattle.std.proofs.lemmas.Bool.{cases_lt}
 use Rattle.std.proofs.lemmas.Bool.Decides.{nat_tests}
 use Rattle.std.proofs.lemmas.List.{length-replicate, get_or-replicate, get_or_past}
 use Rattle.std.proofs.Math.Nat.{mul-le-mul_right, div-div-eq-div-mul}
-use Rattle.md_base.specs.declared.places.Shape.{Shape}
-use Rattle.md_base.specs.declared.places.Place.{Place}
-use Rattle.md_base.specs.Sectors.{Sector, zero_sector}
-use Rattle.md_base.specs.Shapes.{data_disks, is_valid_shape, stripe_sectors}
-use Rattle.bank.specs.Given.{Given}
-use Rattle.bank.specs.Tape.{Contents, IsDrawn, IsIn}
-use Rattle.layout.specs.Layout.{place, stripe_of}
-use Rattle.layout.proofs.Places.{stripe_of-row, place-role_below, chunk_some, data_some}
-use Rattle.geometry.specs.Geometry.{window, unit, list_end, rows, ceiling}
-use Rattle.region_laws.specs.Regions.{IsDirected}
-use Rattle.geometry.proofs.Divisions.{quotient, next_multiple, ceiling_le, floor_grows}
-use Rattle.geometry.proofs.Valid.{bounded}
-use Rattle.geometry.proofs.Rows.{rows_hold}
-use Rattle.sb1.specs.declared.sb.Sb.{Sb}
-use Rattle.md_base.specs.Sectors.{IsSector}
+use Rattle.shape_changes.specs.md_base_the_Shape.{Shape}
+use Rattle.shape_changes.specs.md_base_the_Place.{Place}
+use Rattle.shape_changes.specs.md_base_Sectors.{Sector, zero_sector}
+use Rattle.shape_changes.specs.md_base_Shapes.{data_disks, is_valid_shape, stripe_sectors}
+use Rattle.shape_changes.specs.bank_Given.{Given}
+use Rattle.shape_changes.specs.bank_Tape.{Contents, IsDrawn, IsIn}
+use Rattle.shape_changes.specs.layout_Layout.{place, stripe_of}
+use Rattle.shape_changes.proofs.layout_Places.{stripe_of-row, place-role_below, chunk_some, data_some}
+use Rattle.shape_changes.specs.geometry_Geometry.{window, unit, list_end, rows, ceiling}
+use Rattle.shape_changes.specs.region_laws_Regions.{IsDirected}
+use Rattle.shape_changes.proofs.geometry_Divisions.{quotient, next_multiple, ceiling_le, floor_grows}
+use Rattle.shape_changes.proofs.geometry_Valid.{bounded}
+use Rattle.shape_changes.proofs.geometry_Rows.{rows_hold}
+use Rattle.shape_changes.specs.sb1_the_Sb.{Sb}
+use Rattle.shape_changes.specs.md_base_Sectors.{IsSector}
 use Rattle.shape_changes.specs.superblocks_the_Members.{Members}
 use Rattle.shape_changes.specs.superblocks_Reading.{Scope, is_clean, is_reshaping, is_backward, shape_of, final_shape, list_length, next_window, data_offset_of}
 use Rattle.shape_changes.specs.row_io_Rows.{reading_of, held_slot}

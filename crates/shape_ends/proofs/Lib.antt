@@ -23,3 +23,4 @@ pub use Rattle.shape_changes.proofs.Kept as shape_changes_Kept
 pub use Rattle.shape_changes.proofs.shape_views_Alike
 pub use Rattle.shape_changes.proofs.superblock_reads_SaidLists
 pub use Rattle.shape_changes.proofs.superblock_reads_SaidSlots
+pub use Rattle.shape_changes.proofs.backup_WrittenLaws

@@ -2,20 +2,20 @@
 use Rattle.std.proofs.Common.{◌≡◌, ◌≢◌, ℕ, ◌-◌, ◌<◌, ◌&&◌, Bool, true, false, cond, Option, Some, None, refl, sym, ◌∙◌, ap, arith}
 use Rattle.std.proofs.lemmas.Bool.{and_parts, eqb-true}
 use Rattle.std.proofs.Math.Nat.{div-add-mod'}
-use Rattle.md_base.specs.declared.places.Shape.{Shape}
-use Rattle.md_base.specs.declared.places.Span.{Span}
-use Rattle.md_base.specs.Bytes.{field}
-use Rattle.md_base.specs.Sectors.{Sector}
-use Rattle.md_base.specs.Shapes.{has_slot}
-use Rattle.layout.specs.Layout.{place}
-use Rattle.geometry.specs.Geometry.{window, unit, beyond}
-use Rattle.region_laws.proofs.RegionLaws.{forward-is, backward-is}
-use Rattle.geometry.proofs.Rows.{rows_hold}
-use Rattle.geometry.proofs.Valid.{bounded_pair}
+use Rattle.shape_changes.specs.md_base_the_Shape.{Shape}
+use Rattle.shape_changes.specs.md_base_the_Span.{Span}
+use Rattle.shape_changes.specs.md_base_Bytes.{field}
+use Rattle.shape_changes.specs.md_base_Sectors.{Sector}
+use Rattle.shape_changes.specs.md_base_Shapes.{has_slot}
+use Rattle.shape_changes.specs.layout_Layout.{place}
+use Rattle.shape_changes.specs.geometry_Geometry.{window, unit, beyond}
+use Rattle.shape_changes.proofs.region_laws_RegionLaws.{forward-is, backward-is}
+use Rattle.shape_changes.proofs.geometry_Rows.{rows_hold}
+use Rattle.shape_changes.proofs.geometry_Valid.{bounded_pair}
 use Rattle.shape_changes.specs.superblocks_the_Members.{Members}
-use Rattle.bank.specs.Given.{Given}
+use Rattle.shape_changes.specs.bank_Given.{Given}
 use Rattle.shape_changes.specs.superblocks_Reading.{Scope, is_reshaping, is_backward, shape_of, final_shape, list_length, next_window}
-use Rattle.backup.specs.Section.{names_span, has_section}
+use Rattle.shape_changes.specs.backup_Section.{names_span, has_section}
 use Rattle.shape_changes.specs.flat_history_ActiveSection.{section_for}
 use Rattle.shape_changes.specs.shape_views_Regions.{backup_of, place_by, ArePlaced}
 use Rattle.shape_changes.specs.shape_views_Views.{Disk}

@@ -1,11 +1,11 @@
 -- The planned view of a takeover is right.
 use Rattle.std.proofs.Common.{◌≡◌, ◌⊎◌, inl, inr, ℕ, suc, ◌+◌, ◌*◌, ◌≤◌, Bool, true, false, cond, sym, ◌∙◌, ap, subst, arith}
 use Rattle.std.specs.Prelude.{IsTrue}
-use Rattle.sb1.specs.declared.sb.Sb.{Sb}
-use Rattle.md_base.specs.declared.places.Shape.{Shape}
-use Rattle.md_base.specs.Search.{count_below}
-use Rattle.md_base.specs.Shapes.{data_disks, tolerance, tolerance_of, is_valid_shape}
-use Rattle.grow_plan.specs.Plans.{taken_up}
+use Rattle.shape_changes.specs.sb1_the_Sb.{Sb}
+use Rattle.shape_changes.specs.md_base_the_Shape.{Shape}
+use Rattle.shape_changes.specs.md_base_Search.{count_below}
+use Rattle.shape_changes.specs.md_base_Shapes.{data_disks, tolerance, tolerance_of, is_valid_shape}
+use Rattle.shape_changes.specs.grow_plan_Plans.{taken_up}
 use Rattle.shape_changes.specs.superblocks_the_Members.{Members}
 use Rattle.shape_changes.specs.superblocks_Reading.{is_reshaping, shape_of, list_length}
 use Rattle.shape_changes.specs.row_io_Rows.{reading_of, is_missing, IsTolerated}

@@ -1,9 +1,9 @@
 -- The rows of a window are copied and flushed, and it is recorded: whether its section is active, as it is in a critical window or was found by an opening, or it isn't critical.
 use Rattle.std.specs.Prelude.{◌≡◌, ℕ, Some, None}
-use Rattle.md_base.specs.declared.places.Span.{Span}
-use Rattle.md_base.specs.Sectors.{Sector}
-use Rattle.bank.specs.Given.{Given}
-use Rattle.bank.specs.Tape.{Contents}
+use Rattle.shape_changes.specs.md_base_the_Span.{Span}
+use Rattle.shape_changes.specs.md_base_Sectors.{Sector}
+use Rattle.shape_changes.specs.bank_Given.{Given}
+use Rattle.shape_changes.specs.bank_Tape.{Contents}
 use Rattle.shape_changes.specs.superblocks_the_Members.{Members}
 use Rattle.shape_changes.specs.superblocks_Reading.{Scope, next_window}
 use Rattle.shape_changes.specs.shape_views_Regions.{open_by, ArePlaced}

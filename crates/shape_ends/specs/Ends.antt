@@ -1,17 +1,17 @@
 -- The updates that change the shape: a reshape begins or ends, or a level is taken over. What the plan of each has to keep, so that its view is right.
 use Rattle.std.specs.Prelude.{◌≡◌, ◌⊎◌, ℕ, ◌+◌, ◌<◌, ◌≤◌, ◌&&◌, true, false, List, [], ◌∷◌, Some, None}
-use Rattle.md_base.specs.declared.places.Shape.{Shape}
-use Rattle.md_base.specs.declared.places.Span.{Span}
-use Rattle.md_base.specs.Sectors.{Sector, zero_sector}
-use Rattle.bank.specs.Given.{Given}
-use Rattle.bank.specs.Tape.{Contents, IsIn}
-use Rattle.layout.specs.Layout.{place}
-use Rattle.geometry.specs.Geometry.{rows}
+use Rattle.shape_changes.specs.md_base_the_Shape.{Shape}
+use Rattle.shape_changes.specs.md_base_the_Span.{Span}
+use Rattle.shape_changes.specs.md_base_Sectors.{Sector, zero_sector}
+use Rattle.shape_changes.specs.bank_Given.{Given}
+use Rattle.shape_changes.specs.bank_Tape.{Contents, IsIn}
+use Rattle.shape_changes.specs.layout_Layout.{place}
+use Rattle.shape_changes.specs.geometry_Geometry.{rows}
 use Rattle.shape_changes.specs.superblocks_the_Members.{Members}
 use Rattle.shape_changes.specs.superblocks_Reading.{Scope, is_reshaping, is_backward, shape_of, final_shape, list_length, data_offset_of}
 use Rattle.shape_changes.specs.row_io_Rows.{reading_of, is_missing, held_slot}
 use Rattle.shape_changes.specs.list_io_Full.{full_sector, AreWholeIn}
-use Rattle.backup.specs.Section.{is_header_of, names_span}
+use Rattle.shape_changes.specs.backup_Section.{is_header_of, names_span}
 use Rattle.shape_changes.specs.flat_history_the_Event_TheVariants.{Resized}
 use Rattle.shape_changes.specs.flat_history_Flat.{values_after}
 use Rattle.shape_changes.specs.flat_history_Stands.{shape_for}

@@ -1,16 +1,16 @@
 -- A critical window from its section to its record, by what a stop may leave at each of its marks.
 use Rattle.std.specs.Prelude.{◌≡◌, ℕ, ◌+◌, ◌-◌, ◌<◌, ◌≤◌, true, Some}
-use Rattle.md_base.specs.declared.places.Span.{Span}
-use Rattle.md_base.specs.Sectors.{Sector}
-use Rattle.bank.specs.Given.{Given}
-use Rattle.bank.specs.Tape.{Contents, IsIn}
-use Rattle.geometry.specs.Geometry.{rows}
-use Rattle.geometry.specs.Geometry as geometry
+use Rattle.shape_changes.specs.md_base_the_Span.{Span}
+use Rattle.shape_changes.specs.md_base_Sectors.{Sector}
+use Rattle.shape_changes.specs.bank_Given.{Given}
+use Rattle.shape_changes.specs.bank_Tape.{Contents, IsIn}
+use Rattle.shape_changes.specs.geometry_Geometry.{rows}
+use Rattle.shape_changes.specs.geometry_Geometry as geometry
 use Rattle.shape_changes.specs.superblocks_the_Members.{Members}
 use Rattle.shape_changes.specs.superblocks_Reading.{Scope, is_clean, final_shape, list_length, next_window}
 use Rattle.shape_changes.specs.row_io_Rows.{reading_of}
 use Rattle.shape_changes.specs.list_io_Full.{DataStands, RowStands}
-use Rattle.backup.specs.Section.{names_span}
+use Rattle.shape_changes.specs.backup_Section.{names_span}
 use Rattle.shape_changes.specs.shape_views_Regions.{backup_of, open_by, DoWithout}
 use Rattle.shape_changes.specs.shape_views_Views.{Disk, Ledger, IsTailZero, IsViewRight, IsSeenRight}
 use Rattle.shape_changes.specs.shape_views_Windows.{IsSomewhere, AreFewer, HasNoSection, IsStoring, IsNaming, IsCopying, IsUpdating, ListStands, RowsStand, AreHoldersFlushed, moved_past}

@@ -13,6 +13,8 @@ ghost use Rattle.shape_ends.specs.Grown.{GrownStands, GrownDoesWithout, ResizedI
 ghost use Rattle.shape_ends.specs.Takeovers.{TakenUpIsPlacedAlike, TakeoversPlaceAlike, TakeoversAreRight, TakeoversAreSeenRight};
 ghost use Rattle.shape_ends.specs.Plans.{PlansKeepRoles, PlannedIsBegun, PlannedIsEnded, PlannedIsTakenUp, PlannedIsTakenDown, LessIsPlaced, PlannedIsSeen, FlushedIsZeroed, PlannedIsPlaced};
 
+pub use shape_changes::{SectionFault, clear_section, write_section};
+
 /// A view stays right through each stretch of a critical window.
 pub fn windows_stay_right()
     ensures { WindowsStayRight ⊤ }

@@ -4,15 +4,15 @@ use Rattle.std.specs.Prelude.{option_to_list, find, IsTrue, ◌-ℤ◌, pos}
 use Rattle.std.specs.List.{list_any}
 use Rattle.std.proofs.lemmas.Bool.{and_parts}
 use Rattle.std.proofs.Math.Nat.{mul-le-mul_right}
-use Rattle.md_base.specs.declared.places.Shape.{Shape}
-use Rattle.md_base.specs.declared.places.Side.{Side}
-use Rattle.md_base.specs.declared.places.Side.TheVariants.{Old, New}
-use Rattle.md_base.specs.declared.answers.Refusal.TheVariants.{BackupAbsent}
-use Rattle.md_base.specs.Shapes.{data_disks, is_valid_shape, is_multiple}
-use Rattle.sb1.specs.declared.sb.Sb.{Sb}
-use Rattle.layout.specs.Layout.{place}
-use Rattle.layout.proofs.Places.{place-row_below, place-role_below}
-use Rattle.geometry.specs.Geometry.{unit, window, side, is_size}
+use Rattle.flat_history.specs.md_base_the_Shape.{Shape}
+use Rattle.flat_history.specs.md_base_the_Side.{Side}
+use Rattle.flat_history.specs.md_base_the_Side_TheVariants.{Old, New}
+use Rattle.flat_history.specs.md_base_the_Refusal_TheVariants.{BackupAbsent}
+use Rattle.flat_history.specs.md_base_Shapes.{data_disks, is_valid_shape, is_multiple}
+use Rattle.flat_history.specs.sb1_the_Sb.{Sb}
+use Rattle.flat_history.specs.layout_Layout.{place}
+use Rattle.list_io.proofs.layout_Places.{place-row_below, place-role_below}
+use Rattle.flat_history.specs.geometry_Geometry.{unit, window, side, is_size}
 use Rattle.flat_history.specs.superblocks_Reading.{Scope, is_reshaping, is_backward, shape_of, target_of, final_shape, role_count, list_length, next_window, count_of}
 use Rattle.flat_history.specs.superblocks_Reads.{SaysSame}
 use Rattle.flat_history.specs.Stands.{shape_at, shape_for, has_room, backup_absent}

@@ -2,21 +2,21 @@
 use Rattle.std.proofs.Common.{◌≡◌, ◌≢◌, ◌⊎◌, inl, inr, ℕ, ◌+◌, ◌-◌, ◌/◌, ◌<◌, ◌≤◌, ◌&&◌, nat_le, Bool, true, false, cond, List, [], ◌∷◌, length, take, Option, Some, None, refl, sym, ◌∙◌, ap, subst, arith}
 use Rattle.std.proofs.lemmas.Bool.{and_parts, cases_eq, cases_lt}
 use Rattle.std.proofs.lemmas.Bool.Decides.{nat_tests}
-use Rattle.md_base.specs.declared.places.Span.{Span}
-use Rattle.md_base.specs.Sectors.{Sector}
-use Rattle.md_base.specs.Shapes.{has_slot}
-use Rattle.bank.specs.Tape.{IsIn, Kept, run}
-use Rattle.bank.specs.declared.bank.Operation.TheVariants.{Write}
-use Rattle.bank.proofs.Laws.{kept_in}
-use Rattle.sb1.specs.declared.sb.Sb.{Sb}
+use Rattle.flat_history.specs.md_base_the_Span.{Span}
+use Rattle.flat_history.specs.md_base_Sectors.{Sector}
+use Rattle.flat_history.specs.md_base_Shapes.{has_slot}
+use Rattle.flat_history.specs.bank_Tape.{IsIn, Kept, run}
+use Rattle.flat_history.specs.bank_the_Operation_TheVariants.{Write}
+use Rattle.flat_history.proofs.bank_Laws.{kept_in}
+use Rattle.flat_history.specs.sb1_the_Sb.{Sb}
 use Rattle.flat_history.specs.superblocks_Reading.{Scope, next_window}
 use Rattle.flat_history.specs.ActiveSection.{section_for}
-use Rattle.backup.specs.Section.{is_header_of, names_span, has_section}
-use Rattle.backup.specs.Written.{header_of, cleared_header, IsHeaderFor}
-use Rattle.backup.specs.Storing as backup
-use Rattle.backup.specs.Storing.{nth_sector, IsSectionAlone}
-use Rattle.backup.proofs.StoringLaws.{wrote-beside, wrote-here}
-use Rattle.backup.proofs.WrittenLaws.{headers-named, cleared-none}
+use Rattle.flat_history.specs.backup_Section.{is_header_of, names_span, has_section}
+use Rattle.flat_history.specs.backup_Written.{header_of, cleared_header, IsHeaderFor}
+use Rattle.flat_history.specs.backup_Storing as backup
+use Rattle.flat_history.specs.backup_Storing.{nth_sector, IsSectionAlone}
+use Rattle.flat_history.proofs.backup_StoringLaws.{wrote-beside, wrote-here}
+use Rattle.flat_history.proofs.backup_WrittenLaws.{headers-named, cleared-none}
 use Rattle.shape_views.specs.Regions.{backup_of, open_by}
 use Rattle.shape_views.specs.Views.{Disk, IsHeaderFit, IsViewRight}
 use Rattle.shape_views.specs.Windows.{IsSomewhere, IsStoring}

@@ -4,24 +4,24 @@ use Rattle.std.specs.Prelude.{◌^◌}
 use Rattle.std.proofs.lemmas.Bool.{and_parts, eqb-true, leb-true}
 use Rattle.std.proofs.lemmas.Bool.Decides.{nat_tests}
 use Rattle.std.proofs.Math.Nat.{mul-le-mul_right}
-use Rattle.md_base.specs.declared.places.Shape.{Shape}
-use Rattle.md_base.specs.declared.places.Span.{Span}
-use Rattle.md_base.specs.declared.places.Side.TheVariants.{Old, New}
-use Rattle.md_base.specs.Bytes.{field}
-use Rattle.md_base.specs.Sectors.{Sector}
-use Rattle.md_base.specs.Shapes.{data_disks}
-use Rattle.layout.proofs.Limits.{limited}
-use Rattle.geometry.specs.Geometry.{window, side, beyond}
-use Rattle.geometry.specs.Geometry as geometry
-use Rattle.geometry.proofs.Divisions.{quotient}
-use Rattle.geometry.proofs.Valid.{the_unit}
+use Rattle.flat_history.specs.md_base_the_Shape.{Shape}
+use Rattle.flat_history.specs.md_base_the_Span.{Span}
+use Rattle.flat_history.specs.md_base_the_Side_TheVariants.{Old, New}
+use Rattle.flat_history.specs.md_base_Bytes.{field}
+use Rattle.flat_history.specs.md_base_Sectors.{Sector}
+use Rattle.flat_history.specs.md_base_Shapes.{data_disks}
+use Rattle.list_io.proofs.layout_Limits.{limited}
+use Rattle.flat_history.specs.geometry_Geometry.{window, side, beyond}
+use Rattle.flat_history.specs.geometry_Geometry as geometry
+use Rattle.region_laws.proofs.geometry_Divisions.{quotient}
+use Rattle.flat_history.proofs.geometry_Valid.{the_unit}
 use Rattle.region_laws.specs.Regions.{IsUnderWay}
 use Rattle.region_laws.proofs.RegionLaws.{forward-is, backward-is}
-use Rattle.sb1.specs.declared.sb.Sb.{Sb}
+use Rattle.flat_history.specs.sb1_the_Sb.{Sb}
 use Rattle.flat_history.specs.superblocks_Reading.{Scope, is_backward, shape_of, final_shape, next_window}
-use Rattle.backup.specs.Section.{is_header_of, names_span}
-use Rattle.backup.specs.Written.{header_of}
-use Rattle.backup.proofs.WrittenLaws.{headers-named}
+use Rattle.flat_history.specs.backup_Section.{is_header_of, names_span}
+use Rattle.flat_history.specs.backup_Written.{header_of}
+use Rattle.flat_history.proofs.backup_WrittenLaws.{headers-named}
 use Rattle.shape_views.specs.Regions.{backup_of, AreShapesFit}
 use Rattle.shape_views.specs.Views.{IsHeaderFit}
 use Rattle.shape_views.specs.Windows.{NextHeadersFit}

@@ -3,21 +3,21 @@ use Rattle.std.proofs.Common.{◌≡◌, zero, suc, ℕ, ◌+◌, ◌-◌, ◌<�
 use Rattle.std.specs.Prelude.{find, slice_index_or}
 use Rattle.std.specs.Option.{option_or}
 use Rattle.std.proofs.lemmas.Bool.Decides.{nat_tests}
-use Rattle.md_base.specs.declared.answers.Refusal.TheVariants.{MembersMissing, DirtyDegraded}
-use Rattle.md_base.specs.declared.places.Shape.{Shape}
-use Rattle.md_base.specs.declared.places.Span.{Span}
-use Rattle.md_base.specs.Sectors.{Sector}
-use Rattle.md_base.specs.declared.status.Role.{Role}
-use Rattle.md_base.specs.declared.status.Role.TheVariants.{Whole, Recovering, Missing}
-use Rattle.md_base.specs.Search.{least_below}
-use Rattle.md_base.specs.Shapes.{tolerance}
-use Rattle.bank.specs.Given.{Given}
-use Rattle.bank.specs.Tape.{Contents, IsDrawn, IsIn}
-use Rattle.bank.proofs.Images.{image-drawn}
-use Rattle.layout.specs.Layout.{row_roles, is_parity_only}
-use Rattle.layout.proofs.Limits.{limited}
-use Rattle.layout.proofs.OnlyParity.{parity_only-all}
-use Rattle.parity.specs.Parity.{fill}
+use Rattle.flat_history.specs.md_base_the_Refusal_TheVariants.{MembersMissing, DirtyDegraded}
+use Rattle.flat_history.specs.md_base_the_Shape.{Shape}
+use Rattle.flat_history.specs.md_base_the_Span.{Span}
+use Rattle.flat_history.specs.md_base_Sectors.{Sector}
+use Rattle.flat_history.specs.md_base_the_Role.{Role}
+use Rattle.flat_history.specs.md_base_the_Role_TheVariants.{Whole, Recovering, Missing}
+use Rattle.flat_history.specs.md_base_Search.{least_below}
+use Rattle.flat_history.specs.md_base_Shapes.{tolerance}
+use Rattle.flat_history.specs.bank_Given.{Given}
+use Rattle.flat_history.specs.bank_Tape.{Contents, IsDrawn, IsIn}
+use Rattle.flat_history.proofs.bank_Images.{image-drawn}
+use Rattle.flat_history.specs.layout_Layout.{row_roles, is_parity_only}
+use Rattle.list_io.proofs.layout_Limits.{limited}
+use Rattle.list_io.proofs.layout_OnlyParity.{parity_only-all}
+use Rattle.flat_history.specs.parity_Parity.{fill}
 use Rattle.flat_history.specs.superblocks_the_Members.{Members}
 use Rattle.flat_history.specs.superblocks_Reading.{is_clean, shape_of, target_of, final_shape, shapes_in_force, role_count, list_length, data_offset_of, role_state, holder, is_whole}
 use Rattle.flat_history.specs.superblocks_Verdict.{dirty_degraded, missing_count, too_many, holds_data}

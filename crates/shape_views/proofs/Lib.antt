@@ -41,3 +41,28 @@ pub use Rattle.flat_history.proofs.superblock_reads_FoundHeld
 pub use Rattle.flat_history.proofs.GivenLaws as flat_history_GivenLaws
 pub use Rattle.flat_history.proofs.SettledLaws as flat_history_SettledLaws
 pub use Rattle.flat_history.proofs.OneShapeGone as flat_history_OneShapeGone
+pub use Rattle.flat_history.proofs.backup_WrittenLaws
+pub use Rattle.flat_history.proofs.bank_Causes
+pub use Rattle.flat_history.proofs.bank_Images
+pub use Rattle.flat_history.proofs.bank_Laws
+pub use Rattle.flat_history.proofs.bank_Marks
+pub use Rattle.flat_history.proofs.geometry_Valid
+pub use Rattle.flat_history.proofs.md_base_Least
+pub use Rattle.flat_history.proofs.md_base_Tabulated
+pub use Rattle.flat_history.proofs.parity_Columns
+pub use Rattle.flat_history.proofs.parity_Contents
+pub use Rattle.flat_history.proofs.parity_Totals
+pub use Rattle.list_io.proofs.BufferLaws as list_io_BufferLaws
+pub use Rattle.list_io.proofs.ListLaws as list_io_ListLaws
+pub use Rattle.list_io.proofs.LossLaws as list_io_LossLaws
+pub use Rattle.list_io.proofs.Parities as list_io_Parities
+pub use Rattle.list_io.proofs.PartBytes as list_io_PartBytes
+pub use Rattle.list_io.proofs.PutLaws as list_io_PutLaws
+pub use Rattle.list_io.proofs.layout_Limits
+pub use Rattle.list_io.proofs.layout_Places
+pub use Rattle.list_io.proofs.row_io_Lacks
+pub use Rattle.list_io.proofs.row_io_RowBytes
+pub use Rattle.list_io.proofs.row_io_Turns
+pub use Rattle.region_laws.proofs.RegionLaws as region_laws_RegionLaws
+pub use Rattle.region_laws.proofs.geometry_Divisions
+pub use Rattle.region_laws.proofs.geometry_Rows

@@ -3,22 +3,22 @@ use Rattle.std.proofs.Common.{◌≡◌, ◌⊎◌, inl, inr, ℕ, ◌+◌, ◌-
 use Rattle.std.specs.Prelude.{IsTrue, find}
 use Rattle.std.specs.Option.{option_or, option_map_or}
 use Rattle.std.proofs.lemmas.Bool.Decides.{nat_tests}
-use Rattle.md_base.specs.declared.answers.Refusal.TheVariants.{MembersMissing, DirtyDegraded}
-use Rattle.md_base.specs.declared.places.Shape.{Shape}
-use Rattle.md_base.specs.declared.places.Span.{Span}
-use Rattle.md_base.specs.Sectors.{Sector, zero_sector}
-use Rattle.md_base.specs.Search.{least_below}
-use Rattle.md_base.specs.Shapes.{is_valid_shape, tolerance}
-use Rattle.bank.specs.Given.{Given}
-use Rattle.bank.specs.Tape.{Contents, IsDrawn}
-use Rattle.layout.specs.Layout.{place, stripe_of, row_roles, is_parity_only}
-use Rattle.layout.proofs.Places.{place-role_below}
-use Rattle.layout.proofs.OnlyParity.{parity_only-all}
-use Rattle.parity.specs.Fills.{IsGoodBut}
-use Rattle.parity.specs.Parity.{Row, lacking_in, AreEquationsMet, fill}
-use Rattle.parity.specs.Rows.{parity_count, row_without}
-use Rattle.parity.proofs.Columns.{tabulate-same}
-use Rattle.parity.proofs.OwnFills.{good-rows-stay-good}
+use Rattle.flat_history.specs.md_base_the_Refusal_TheVariants.{MembersMissing, DirtyDegraded}
+use Rattle.flat_history.specs.md_base_the_Shape.{Shape}
+use Rattle.flat_history.specs.md_base_the_Span.{Span}
+use Rattle.flat_history.specs.md_base_Sectors.{Sector, zero_sector}
+use Rattle.flat_history.specs.md_base_Search.{least_below}
+use Rattle.flat_history.specs.md_base_Shapes.{is_valid_shape, tolerance}
+use Rattle.flat_history.specs.bank_Given.{Given}
+use Rattle.flat_history.specs.bank_Tape.{Contents, IsDrawn}
+use Rattle.flat_history.specs.layout_Layout.{place, stripe_of, row_roles, is_parity_only}
+use Rattle.list_io.proofs.layout_Places.{place-role_below}
+use Rattle.list_io.proofs.layout_OnlyParity.{parity_only-all}
+use Rattle.flat_history.specs.parity_Fills.{IsGoodBut}
+use Rattle.flat_history.specs.parity_Parity.{Row, lacking_in, AreEquationsMet, fill}
+use Rattle.flat_history.specs.parity_Rows.{parity_count, row_without}
+use Rattle.flat_history.proofs.parity_Columns.{tabulate-same}
+use Rattle.flat_history.proofs.parity_OwnFills.{good-rows-stay-good}
 use Rattle.flat_history.specs.superblocks_the_Members.{Members}
 use Rattle.flat_history.specs.superblocks_Reading.{Scope, Reading, reading, is_clean, is_backward, shape_of, target_of, final_shape, shapes_in_force, role_count, list_length, next_window, data_offset_of}
 use Rattle.flat_history.specs.superblocks_Verdict.{missing_count, too_many, holds_data}
@@ -34,7 +34,7 @@ use Rattle.flat_history.specs.Opened.{IsSound, HasGoodRows}
 use Rattle.flat_history.specs.Reshaped.{IsGoodRow}
 use Rattle.flat_history.specs.Stands.{verdict, shape_for, covers, held_sector, held_row, placed_sector}
 use Rattle.flat_history.specs.ActiveSection.{section_for}
-use Rattle.geometry.specs.Geometry.{window, side, unit, list_end}
+use Rattle.flat_history.specs.geometry_Geometry.{window, side, unit, list_end}
 use Rattle.shape_views.specs.Regions.{header_in, open_by, place_by, ArePlaced, DoWithout, IsReadOf, refusal_for}
 use Rattle.shape_views.specs.Views.{Disk, Ledger, IsTail, IsOutside, IsSettled, IsViewRight}
 use Rattle.shape_views.specs.Sound.{RightViewsAreSound}

@@ -2,19 +2,19 @@
 use Rattle.std.proofs.Common.{◌≡◌, ℕ, ◌+◌, ◌-◌, ◌<◌, nat_lt, Bool, true, false, cond, List, [], length, get_or, Option, Some, None, unwrap_or, option_map, refl, sym, ◌∙◌, ap, ap₂}
 use Rattle.std.specs.Prelude.{slice_index_or}
 use Rattle.std.specs.Option.{option_or, option_map_or}
-use Rattle.md_base.specs.declared.answers.Refusal.{Refusal}
-use Rattle.md_base.specs.declared.answers.Refusal.TheVariants.{NoSuperblock}
-use Rattle.md_base.specs.declared.places.Shape.{Shape}
-use Rattle.md_base.specs.declared.places.Span.{Span}
-use Rattle.md_base.specs.declared.status.Role.{Role}
-use Rattle.md_base.specs.declared.status.Role.TheVariants.{Missing}
-use Rattle.md_base.specs.Sectors.{Sector}
-use Rattle.md_base.proofs.Tabulated.{length-tabulate, get_or-tabulate}
-use Rattle.bank.specs.Given.{Given}
-use Rattle.bank.specs.Tape.{Contents}
-use Rattle.layout.specs.Layout.{row_roles}
-use Rattle.parity.specs.Parity.{Row, fill}
-use Rattle.parity.proofs.Columns.{tabulate-same}
+use Rattle.flat_history.specs.md_base_the_Refusal.{Refusal}
+use Rattle.flat_history.specs.md_base_the_Refusal_TheVariants.{NoSuperblock}
+use Rattle.flat_history.specs.md_base_the_Shape.{Shape}
+use Rattle.flat_history.specs.md_base_the_Span.{Span}
+use Rattle.flat_history.specs.md_base_the_Role.{Role}
+use Rattle.flat_history.specs.md_base_the_Role_TheVariants.{Missing}
+use Rattle.flat_history.specs.md_base_Sectors.{Sector}
+use Rattle.flat_history.proofs.md_base_Tabulated.{length-tabulate, get_or-tabulate}
+use Rattle.flat_history.specs.bank_Given.{Given}
+use Rattle.flat_history.specs.bank_Tape.{Contents}
+use Rattle.flat_history.specs.layout_Layout.{row_roles}
+use Rattle.flat_history.specs.parity_Parity.{Row, fill}
+use Rattle.flat_history.proofs.parity_Columns.{tabulate-same}
 use Rattle.flat_history.specs.superblocks_the_Members.{Members}
 use Rattle.flat_history.specs.superblocks_Reading.{Scope, Reading, reading, list_length, next_window, role_state, rows_held, holder, data_offset_of}
 use Rattle.flat_history.specs.superblocks_Verdict.{members_missing, dirty_degraded}
@@ -22,7 +22,7 @@ use Rattle.flat_history.specs.superblocks_Reads.{roles_refusal}
 use Rattle.flat_history.proofs.superblocks_ReadAlike.{refused-same}
 use Rattle.list_io.specs.row_io_Rows.{reading_of}
 use Rattle.list_io.specs.row_io_Rows as rows
-use Rattle.backup.specs.Section.{section_sector}
+use Rattle.flat_history.specs.backup_Section.{section_sector}
 use Rattle.flat_history.specs.ActiveSection.{section_for, active_section}
 use Rattle.flat_history.specs.Stands.{stands, verdict, refusal_of, held_sector, placed_sector, shape_for, standing_sector, covers}
 use Rattle.flat_history.proofs.SameLaws.{stands-is}

@@ -5,26 +5,26 @@ use Rattle.std.proofs.lemmas.Bool.{cases_lt, eq-eqb}
 use Rattle.std.proofs.lemmas.Bool.Decides.{nat_tests}
 use Rattle.std.proofs.lemmas.Nat.{mod_below}
 use Rattle.std.proofs.Math.Nat.{div-add-mod', div-mul_cancel}
-use Rattle.md_base.specs.declared.places.Shape.{Shape}
-use Rattle.md_base.specs.declared.places.Place.{Place}
-use Rattle.md_base.specs.declared.places.Span.{Span}
-use Rattle.md_base.specs.declared.places.Side.{Side}
-use Rattle.md_base.specs.declared.places.Side.TheVariants.{Old, New}
-use Rattle.md_base.specs.declared.answers.Refusal.{Refusal}
-use Rattle.md_base.specs.declared.answers.Refusal.TheVariants.{PositionNotOnUnit}
-use Rattle.md_base.specs.Sectors.{Sector}
-use Rattle.md_base.specs.Shapes.{data_disks, is_valid_shape, is_multiple}
-use Rattle.bank.specs.Given.{Given}
-use Rattle.bank.specs.Tape.{Contents, IsIn}
-use Rattle.sb1.specs.declared.sb.Sb.{Sb}
-use Rattle.layout.specs.Layout.{place}
-use Rattle.layout.proofs.Places.{chunk_some, data_some, place-sector, place-sector_below, place-role_below, sector_at}
-use Rattle.geometry.specs.Geometry.{rows, side, window, beyond, unit, IsOnUnit}
-use Rattle.geometry.specs.Geometry as geometry
+use Rattle.flat_history.specs.md_base_the_Shape.{Shape}
+use Rattle.flat_history.specs.md_base_the_Place.{Place}
+use Rattle.flat_history.specs.md_base_the_Span.{Span}
+use Rattle.flat_history.specs.md_base_the_Side.{Side}
+use Rattle.flat_history.specs.md_base_the_Side_TheVariants.{Old, New}
+use Rattle.flat_history.specs.md_base_the_Refusal.{Refusal}
+use Rattle.flat_history.specs.md_base_the_Refusal_TheVariants.{PositionNotOnUnit}
+use Rattle.flat_history.specs.md_base_Sectors.{Sector}
+use Rattle.flat_history.specs.md_base_Shapes.{data_disks, is_valid_shape, is_multiple}
+use Rattle.flat_history.specs.bank_Given.{Given}
+use Rattle.flat_history.specs.bank_Tape.{Contents, IsIn}
+use Rattle.flat_history.specs.sb1_the_Sb.{Sb}
+use Rattle.flat_history.specs.layout_Layout.{place}
+use Rattle.list_io.proofs.layout_Places.{chunk_some, data_some, place-sector, place-sector_below, place-role_below, sector_at}
+use Rattle.flat_history.specs.geometry_Geometry.{rows, side, window, beyond, unit, IsOnUnit}
+use Rattle.flat_history.specs.geometry_Geometry as geometry
 use Rattle.region_laws.specs.Regions.{IsUnderWay}
-use Rattle.geometry.proofs.GoingOn.{keeps_the_unit}
+use Rattle.flat_history.proofs.geometry_GoingOn.{keeps_the_unit}
 use Rattle.region_laws.proofs.RegionLaws.{forward-is, backward-is, new-ahead, old-ahead, new-behind, old-behind}
-use Rattle.geometry.proofs.Rows.{rows_hold}
+use Rattle.region_laws.proofs.geometry_Rows.{rows_hold}
 use Rattle.flat_history.specs.superblocks_the_Members.{Members}
 use Rattle.flat_history.specs.superblocks_Reading.{Scope, is_reshaping, is_backward, shape_of, final_shape, list_length, next_window, data_offset_of}
 use Rattle.flat_history.specs.superblocks_Verdict.{off_unit, unit_of}

@@ -2,19 +2,19 @@
 use Rattle.std.proofs.Common.{◌≡◌, ◌≢◌, ◌⊎◌, inl, inr, ℕ, ◌+◌, ◌-◌, ◌==◌, ◌&&◌, Bool, true, false, cond, List, Option, Some, None, unwrap_or, refl, sym, ◌∙◌, ap, subst, arith}
 use Rattle.std.specs.Prelude.{Contains}
 use Rattle.std.proofs.lemmas.Bool.Decides.{nat_tests}
-use Rattle.md_base.specs.declared.places.Shape.{Shape}
-use Rattle.md_base.specs.declared.places.Span.{Span}
-use Rattle.md_base.specs.Sectors.{Sector}
-use Rattle.md_base.specs.Shapes.{has_slot}
-use Rattle.bank.specs.Given.{Given}
-use Rattle.bank.specs.Tape.{Contents, IsIn, IsDrawn}
-use Rattle.sb1.specs.declared.sb.Sb.{Sb}
+use Rattle.flat_history.specs.md_base_the_Shape.{Shape}
+use Rattle.flat_history.specs.md_base_the_Span.{Span}
+use Rattle.flat_history.specs.md_base_Sectors.{Sector}
+use Rattle.flat_history.specs.md_base_Shapes.{has_slot}
+use Rattle.flat_history.specs.bank_Given.{Given}
+use Rattle.flat_history.specs.bank_Tape.{Contents, IsIn, IsDrawn}
+use Rattle.flat_history.specs.sb1_the_Sb.{Sb}
 use Rattle.flat_history.specs.superblocks_the_Members.{Members}
 use Rattle.flat_history.specs.superblocks_Reading.{Scope, next_window, final_shape, role_state, holder, data_offset_of}
 use Rattle.list_io.specs.row_io_Rows.{reading_of, held_slot}
 use Rattle.list_io.proofs.row_io_Losses.{holder-of}
 use Rattle.list_io.specs.Full.{RowStands}
-use Rattle.backup.specs.Section.{has_section}
+use Rattle.flat_history.specs.backup_Section.{has_section}
 use Rattle.flat_history.specs.ActiveSection.{section_for}
 use Rattle.flat_history.specs.Stands.{shape_for, covers}
 use Rattle.shape_views.specs.Regions.{backup_of, header_in, open_by, place_by, ArePlaced}
@@ -23,8 +23,8 @@ use Rattle.shape_views.specs.Windows.{IsSomewhere, IsLess, IsWrittenAt, FewerSta
 use Rattle.list_io.specs.Full.{full_sector}
 use Rattle.list_io.proofs.FullLaws.{places-are-full}
 use Rattle.region_laws.proofs.RegionLaws.{regions-apart}
-use Rattle.md_base.specs.declared.places.Side.TheVariants.{Old, New}
-use Rattle.layout.specs.Layout.{place}
+use Rattle.flat_history.specs.md_base_the_Side_TheVariants.{Old, New}
+use Rattle.flat_history.specs.layout_Layout.{place}
 use Rattle.flat_history.specs.superblocks_Reading.{is_backward, shape_of}
 use Rattle.shape_views.proofs.Alike.{valid-for}
 use Rattle.shape_views.proofs.Headers.{backup-is}

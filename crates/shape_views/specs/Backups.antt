@@ -1,16 +1,16 @@
 -- What the calls on the backup leave of a view: a section is stored and named, a header is written.
 use Rattle.std.specs.Prelude.{◌≡◌, ◌⊎◌, ℕ, ◌+◌, ◌-◌, ◌/◌, ◌^◌, ◌<◌, ◌≤◌, Bool, true, if◌then◌else◌, List, [], ◌∷◌, length, Some, None}
-use Rattle.md_base.specs.declared.places.Span.{Span}
-use Rattle.md_base.specs.Sectors.{Sector}
-use Rattle.md_base.specs.Shapes.{has_slot}
-use Rattle.bank.specs.Given.{Given}
-use Rattle.bank.specs.Tape.{Contents, IsIn}
-use Rattle.sb1.specs.declared.sb.Sb.{Sb}
+use Rattle.flat_history.specs.md_base_the_Span.{Span}
+use Rattle.flat_history.specs.md_base_Sectors.{Sector}
+use Rattle.flat_history.specs.md_base_Shapes.{has_slot}
+use Rattle.flat_history.specs.bank_Given.{Given}
+use Rattle.flat_history.specs.bank_Tape.{Contents, IsIn}
+use Rattle.flat_history.specs.sb1_the_Sb.{Sb}
 use Rattle.flat_history.specs.superblocks_the_Members.{Members}
 use Rattle.flat_history.specs.superblocks_Reading.{Scope, next_window}
-use Rattle.backup.specs.Section.{has_section}
-use Rattle.backup.specs.Written.{header_of, cleared_header}
-use Rattle.backup.specs.Storing.{nth_sector, IsStoring, IsNaming, IsStoringOrNaming, IsHeading, IsNamed, IsHeaded}
+use Rattle.flat_history.specs.backup_Section.{has_section}
+use Rattle.flat_history.specs.backup_Written.{header_of, cleared_header}
+use Rattle.flat_history.specs.backup_Storing.{nth_sector, IsStoring, IsNaming, IsStoringOrNaming, IsHeading, IsNamed, IsHeaded}
 use Rattle.shape_views.specs.Regions.{backup_of, header_in, open_by}
 use Rattle.shape_views.specs.Views.{Disk, Ledger, IsViewRight}
 use Rattle.shape_views.specs.Windows.{IsSomewhere, HasNoSection}

@@ -1,16 +1,16 @@
 -- What a stop may leave of an array of one shape or two: each image is read as some view of it, and each view is right.
 use Rattle.std.specs.Prelude.{◌≡◌, ◌⊎◌, ℕ, ◌+◌, ◌-◌, ◌<◌, ◌≤◌, ◌&&◌, Bool, true, false, List, length, Some, IsTrue}
-use Rattle.md_base.specs.declared.places.Span.{Span}
-use Rattle.md_base.specs.Sectors.{Sector, zero_sector}
-use Rattle.bank.specs.Given.{Given, sizes}
-use Rattle.bank.specs.Tape.{Contents, IsDrawn, IsIn}
-use Rattle.sb1.specs.declared.sb.Sb.{Sb}
-use Rattle.layout.specs.Layout.{place, stripe_of}
+use Rattle.flat_history.specs.md_base_the_Span.{Span}
+use Rattle.flat_history.specs.md_base_Sectors.{Sector, zero_sector}
+use Rattle.flat_history.specs.bank_Given.{Given, sizes}
+use Rattle.flat_history.specs.bank_Tape.{Contents, IsDrawn, IsIn}
+use Rattle.flat_history.specs.sb1_the_Sb.{Sb}
+use Rattle.flat_history.specs.layout_Layout.{place, stripe_of}
 use Rattle.flat_history.specs.superblocks_the_Members.{Members}
 use Rattle.flat_history.specs.superblocks_Reading.{Scope, Reading, reading, is_clean, is_reshaping, is_backward, final_shape, role_count, list_length, next_window, data_offset_of}
 use Rattle.list_io.specs.row_io_Rows.{reading_of, is_missing, held_slot}
 use Rattle.list_io.specs.Full.{RowStands}
-use Rattle.backup.specs.Section.{is_header_of, names_span}
+use Rattle.flat_history.specs.backup_Section.{is_header_of, names_span}
 use Rattle.flat_history.specs.declared.events.Entry.{Entry}
 use Rattle.flat_history.specs.World.{World, opening_list, may_hold}
 use Rattle.flat_history.specs.Flat.{values_of, length_of}

@@ -1,20 +1,20 @@
 -- What the steps of a window leave of a view: its section is stored, its stripes are copied, and it is recorded.
 use Rattle.std.specs.Prelude.{◌≡◌, ◌≢◌, ◌⊎◌, ◌↔◌, ℕ, ◌+◌, ◌-◌, ◌<◌, ◌≤◌, true, false, List, [], ◌∷◌, Option, Some, None, Contains}
-use Rattle.md_base.specs.declared.places.Span.{Span}
-use Rattle.md_base.specs.Sectors.{Sector}
-use Rattle.bank.specs.Given.{Given}
-use Rattle.bank.specs.Tape.{Contents, IsIn}
-use Rattle.sb1.specs.declared.sb.Sb.{Sb}
-use Rattle.layout.specs.Layout.{place}
-use Rattle.geometry.specs.Geometry.{rows, beyond, is_critical}
-use Rattle.geometry.specs.Geometry as geometry
+use Rattle.flat_history.specs.md_base_the_Span.{Span}
+use Rattle.flat_history.specs.md_base_Sectors.{Sector}
+use Rattle.flat_history.specs.bank_Given.{Given}
+use Rattle.flat_history.specs.bank_Tape.{Contents, IsIn}
+use Rattle.flat_history.specs.sb1_the_Sb.{Sb}
+use Rattle.flat_history.specs.layout_Layout.{place}
+use Rattle.flat_history.specs.geometry_Geometry.{rows, beyond, is_critical}
+use Rattle.flat_history.specs.geometry_Geometry as geometry
 use Rattle.flat_history.specs.superblocks_the_Members.{Members}
 use Rattle.flat_history.specs.superblocks_Reading.{Scope, is_clean, is_reshaping, is_backward, shape_of, final_shape, list_length, next_window, role_count, role_state, holder, data_offset_of}
 use Rattle.list_io.specs.row_io_Rows.{reading_of, is_missing, held_slot}
 use Rattle.list_io.specs.Full.{DataStands, RowStands}
 use Rattle.list_io.specs.Writing.{IsPutting}
-use Rattle.md_base.specs.declared.places.Shape.{Shape}
-use Rattle.backup.specs.Section.{names_span}
+use Rattle.flat_history.specs.md_base_the_Shape.{Shape}
+use Rattle.flat_history.specs.backup_Section.{names_span}
 use Rattle.flat_history.specs.Stands.{shape_for, covers}
 use Rattle.shape_views.specs.Regions.{backup_of, open_by, place_by, DoWithout, ArePlaced}
 use Rattle.shape_views.specs.Views.{Disk, Ledger, IsHeaderFit, AreHeadersFit, IsTail, IsTailZero, IsViewRight}

@@ -9,6 +9,12 @@ ghost use Rattle.shape_views.specs.Sound.{RightViewsAreSound};
 ghost use Rattle.shape_views.specs.Windows.{FewerStayRight, StoringStaysRight, NamingStaysRight, CopyingStaysRight, UpdatingStaysRight, PuttingStaysRight, RegionRowsAreOne, StillStands, MovedStands, MovedRowsStand, MovedIsPlaced, MovedTailsStand, NextHeadersFit, FlushedIsRight};
 ghost use Rattle.shape_views.specs.Backups.{SectionsStayRight, ClearingStaysRight, NamedSectionsAreOpen, ClearedHeadersAreShut, StoredIsClosed, NamingIsUnsure, NamedIsOpen, ClearedIsClosed, FoundIsOpen};
 
+pub use flat_history::{SectionFault, clear_section, syndromes, write_section};
+pub use list_io::{
+    Outcome, ROW_BYTES, Unavailable, are_too_many, data_offset, is_missing, lose_slot, lose_slots,
+    missing_count, read_list, read_touched, tolerance, write_touched,
+};
+
 /// An image that is read as members say is refused where a shape in force misses more roles than are tolerated, or where a missing role holds
 /// data while the array is dirty, and for nothing else.
 pub fn refused_for_missing()

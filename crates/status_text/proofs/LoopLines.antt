@@ -1,7 +1,7 @@
 -- Lines that a loop appends, one after another.
 use Rattle.std.proofs.Common.{◌≡◌, ℕ, ◌+◌, ◌<◌, ◌≤◌, List, [], ◌∷◌, ◌++◌, length, get_or, drop, codes, decimal, ap, sym, ◌∙◌, arith, length-append, append-nil, append_assoc, Vec, vec_capacity, Ok, Err}
 use Rattle.std.proofs.lemmas.List.{drop_more, drop_all}
-use Rattle.md_base.specs.declared.status.Role.{Role}
+use Rattle.script.specs.md_base_the_Role.{Role}
 use Rattle.script.specs.Appends.{Appends}
 use Rattle.status_text.specs.Texts.{holder, role_lines, spare_lines}
 

@@ -2,12 +2,12 @@
 use Rattle.std.specs.Prelude.{ℕ, ◌+◌, Bool, true, false, ◌==◌, if◌then◌else◌, List, [], ◌∷◌, ◌++◌, length, Option, Some, None, codes, count_by, decimal}
 use Rattle.std.specs.List.{flat_map}
 use Rattle.uuid.specs.Text.{hyphenated_text, lower}
-use Rattle.md_base.specs.declared.places.Shape.{Shape}
-use Rattle.md_base.specs.declared.status.Role.{Role}
-use Rattle.md_base.specs.declared.status.Role.TheVariants.{Whole, Recovering, Missing}
-use Rattle.md_base.specs.declared.status.Status.{Status}
-use Rattle.sb1.specs.declared.sb.Sb.{Sb}
-use Rattle.superblocks.specs.Reading.{entry_of, is_clean}
+use Rattle.script.specs.md_base_the_Shape.{Shape}
+use Rattle.script.specs.md_base_the_Role.{Role}
+use Rattle.script.specs.md_base_the_Role_TheVariants.{Whole, Recovering, Missing}
+use Rattle.script.specs.md_base_the_Status.{Status}
+use Rattle.script.specs.sb1_the_Sb.{Sb}
+use Rattle.script.specs.superblocks_Reading.{entry_of, is_clean}
 use Rattle.script.specs.Texts.{layout_text}
 
 -- words with a number behind them

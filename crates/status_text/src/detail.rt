@@ -7,7 +7,7 @@ ghost use Rattle.status_text.specs.Texts.{counted, detail_text, holder, reshape_
 use crate::words::{
     clean_name, push_counted, push_counted_line, push_layout, push_progress, push_words,
 };
-use md_base::{Role, Shape, Status};
+use script::{Role, Shape, Status};
 use std::alloc::AllocError;
 
 /// Appends the state of an array in lines, less the end of the last one.

@@ -6,9 +6,8 @@ ghost use Rattle.script.specs.Appends.{Appends, AppendsFew};
 ghost use Rattle.status_text.specs.Texts.{entry_text, examined_text, fields_text, found_text, owner_text};
 
 use crate::words::{clean_name, push_counted, push_number, push_words};
-use sb1::Sb;
+use script::{Sb, entry_of, is_clean};
 use std::alloc::AllocError;
-use superblocks::says::{entry_of, is_clean};
 use uuid::Uuid;
 
 /// Appends what was found in a slot, in one line, less its end.

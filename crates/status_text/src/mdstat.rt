@@ -5,7 +5,7 @@ ghost use Rattle.script.specs.Appends.{Appends, AppendsFew};
 ghost use Rattle.status_text.specs.Texts.{is_whole, left_in_brief, marks, mdstat_text, reshape_in_brief, roles_in_brief};
 
 use crate::words::{push_counted, push_progress, push_words};
-use md_base::{Role, Status};
+use script::{Role, Status};
 use std::alloc::AllocError;
 
 /// Appends the state of an array in one line, less its end.

@@ -5,8 +5,7 @@ ghost use Rattle.script.specs.Texts.{layout_text};
 ghost use Rattle.script.specs.Appends.{Appends, AppendsFew};
 ghost use Rattle.status_text.specs.Texts.{counted, clean_word, line, progress};
 
-use line_words::layout_name;
-use md_base::Status;
+use script::{Status, layout_name};
 use std::alloc::AllocError;
 
 pub fn push_words(text: &mut Vec<u8>, words: &str) -> Result<(), AllocError>

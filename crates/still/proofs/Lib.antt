@@ -19,7 +19,7 @@ pub use Rattle.still_laws.proofs.array_kept_StepsLeft
 pub use Rattle.still_laws.proofs.history_calls_Behind
 pub use Rattle.still_laws.proofs.history_calls_Plans
 pub use Rattle.still_laws.proofs.running_words_VisibleLaws
-pub use Rattle.call_entries.proofs.CallLaws as call_entries_CallLaws
+pub use Rattle.array_state.proofs.call_entries_CallLaws
 pub use Rattle.still_laws.proofs.shape_changes_PlannedRoles
 pub use Rattle.still_laws.proofs.shape_changes_Kept
 pub use Rattle.still_laws.proofs.shape_views_Stands
@@ -36,7 +36,7 @@ pub use Rattle.still_laws.proofs.PlainSteps as still_laws_PlainSteps
 pub use Rattle.array_state.proofs.UnmendableLaws as array_state_UnmendableLaws
 pub use Rattle.still_laws.proofs.calls_kept_MendLaws
 pub use Rattle.still_laws.proofs.still_kept_Resync
-pub use Rattle.layout.proofs.Limits as layout_Limits
+pub use Rattle.election.proofs.layout_Limits
 pub use Rattle.still_laws.proofs.calls_kept_RebuildGiven
 pub use Rattle.still_laws.proofs.still_kept_Rebuilding
 pub use Rattle.still_laws.proofs.RebuildLaws as still_laws_RebuildLaws
@@ -61,3 +61,20 @@ pub use Rattle.still_laws.proofs.calls_kept_AddedKept
 pub use Rattle.still_laws.proofs.calls_kept_AddedLosses
 pub use Rattle.still_laws.proofs.still_kept_Writing
 pub use Rattle.still_laws.proofs.Writing as still_laws_Writing
+pub use Rattle.array_state.proofs.call_entries_PlainLaws
+pub use Rattle.array_state.proofs.md_base_SectorLaws
+pub use Rattle.election.proofs.superblocks_Searches
+pub use Rattle.election.proofs.superblocks_ValidFields
+pub use Rattle.pieces.proofs.views_BearerLaws
+pub use Rattle.pieces.proofs.views_Fit
+pub use Rattle.pieces.proofs.views_Flushed
+pub use Rattle.pieces.proofs.views_GivenMembers
+pub use Rattle.pieces.proofs.views_HeldRows
+pub use Rattle.pieces.proofs.views_LackingLaws
+pub use Rattle.pieces.proofs.views_LackingLists
+pub use Rattle.pieces.proofs.views_LiveLeft
+pub use Rattle.pieces.proofs.views_MarkLaws
+pub use Rattle.pieces.proofs.views_MemberLaws
+pub use Rattle.pieces.proofs.views_MovedLaws
+pub use Rattle.pieces.proofs.views_SafeStretch
+pub use Rattle.pieces.proofs.views_Still

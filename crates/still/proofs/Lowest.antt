@@ -1,8 +1,8 @@
 -- The lowest number that passes a test.
 use Rattle.std.proofs.Common.{◌≡◌, ◌⊎◌, inl, inr, ℕ, zero, suc, ◌+◌, ◌<◌, Bool, true, false, cond, Option, Some, None, refl, sym, ◌∙◌, ap, ap₂, subst, arith, eq-or-lt_of_le, le_of_suc-le-suc}
 use Rattle.std.specs.Option.{option_or}
-use Rattle.md_base.specs.Search.{least_below, count_below}
-use Rattle.md_base.proofs.Least.{least_below-none}
+use Rattle.array_state.specs.md_base_Search.{least_below, count_below}
+use Rattle.array_state.proofs.md_base_Least.{least_below-none}
 
 -- it is the one that is reached, where each before it fails
 pub lowest-reached : (n : ℕ) (test : ℕ → Bool) (k : ℕ) → k < n → ((j : ℕ) → j < k → test j ≡ false) → test k ≡ true → least_below n test ≡ Some k

@@ -3,24 +3,24 @@ use Rattle.std.proofs.Common.{◌≡◌, inl, ℕ, ◌+◌, ◌-◌, ◌*◌, �
 use Rattle.std.specs.Prelude.{◌^◌}
 use Rattle.std.proofs.Math.Nat.{div-le_self, le_trans}
 use Rattle.std.proofs.lemmas.List.Elements.{All-nil}
-use Rattle.md_base.specs.declared.places.Shape.{Shape}
-use Rattle.bank.specs.declared.bank.Operation.{Operation}
-use Rattle.bank.specs.Given.{Given}
-use Rattle.grow_plan.specs.Plans.{AreSound}
-use Rattle.superblocks.specs.declared.members.Members.{Members}
-use Rattle.superblocks.specs.Reading.{shape_of}
-use Rattle.superblocks.proofs.ValidFields.{few-roles}
-use Rattle.flat_history.specs.declared.events.Entry.{Entry}
-use Rattle.views.specs.declared.work.Work.{Work}
-use Rattle.views.specs.Moving.{IsMoved}
-use Rattle.views.specs.Placed.{IsPlaced}
-use Rattle.views.specs.Rebuilding.{Held}
-use Rattle.views.specs.Status.{stripes_of}
-use Rattle.views.specs.shape_changes_Steady.{AreUnlost}
-use Rattle.views.proofs.Fit.{short, disks-within, force-disks, count-alike}
-use Rattle.views.proofs.MovedLaws.{grows-none, moved-same}
-use Rattle.grow_asked.specs.declared.window.PhasesLeft.{PhasesLeft}
-use Rattle.grow_asked.specs.Left.{phases_of}
+use Rattle.array_state.specs.md_base_the_Shape.{Shape}
+use Rattle.election.specs.bank_the_Operation.{Operation}
+use Rattle.election.specs.bank_Given.{Given}
+use Rattle.pieces.specs.grow_plan_Plans.{AreSound}
+use Rattle.election.specs.superblocks_the_Members.{Members}
+use Rattle.election.specs.superblocks_Reading.{shape_of}
+use Rattle.election.proofs.superblocks_ValidFields.{few-roles}
+use Rattle.pieces.specs.flat_history_the_Entry.{Entry}
+use Rattle.pieces.specs.views_the_Work.{Work}
+use Rattle.pieces.specs.views_Moving.{IsMoved}
+use Rattle.pieces.specs.views_Placed.{IsPlaced}
+use Rattle.pieces.specs.views_Rebuilding.{Held}
+use Rattle.pieces.specs.views_Status.{stripes_of}
+use Rattle.still_laws.specs.shape_changes_Steady.{AreUnlost}
+use Rattle.pieces.proofs.views_Fit.{short, disks-within, force-disks, count-alike}
+use Rattle.pieces.proofs.views_MovedLaws.{grows-none, moved-same}
+use Rattle.pieces.specs.grow_asked_the_PhasesLeft.{PhasesLeft}
+use Rattle.pieces.specs.grow_asked_Left.{phases_of}
 use Rattle.still_laws.specs.Steps.{IsStepped}
 use Rattle.still_laws.specs.array_kept_Calls.{IsLossBy, WasSpare, IsEndOf, AreLossesOf}
 use Rattle.still_laws.specs.running_words_Calls.{IsCalled}

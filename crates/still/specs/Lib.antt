@@ -10,12 +10,12 @@ pub use Rattle.still_laws.specs.array_kept_Calls
 pub use Rattle.still_laws.specs.array_kept_Kept
 pub use Rattle.still_laws.specs.history_calls_Reliable
 pub use Rattle.still_laws.specs.course_kept_Laws as still_kept_course_kept_Laws
-pub use Rattle.call_entries.specs.Losing as call_entries_Losing
-pub use Rattle.views.specs.Lacking as views_Lacking
-pub use Rattle.views.specs.Placed as views_Placed
-pub use Rattle.views.specs.Rebuilding as views_Rebuilding
-pub use Rattle.views.specs.Status as views_Status
-pub use Rattle.views.specs.declared.work.Work as views_the_Work
+pub use Rattle.array_state.specs.call_entries_Losing
+pub use Rattle.pieces.specs.views_Lacking
+pub use Rattle.pieces.specs.views_Placed
+pub use Rattle.pieces.specs.views_Rebuilding
+pub use Rattle.pieces.specs.views_Status
+pub use Rattle.pieces.specs.views_the_Work
 pub use Rattle.still_laws.specs.kept_history_Recorded
 pub use Rattle.still_laws.specs.shape_views_Regions
 pub use Rattle.still_laws.specs.shape_ends_Ends
@@ -26,18 +26,60 @@ pub use Rattle.still_laws.specs.shape_changes_Safety
 pub use Rattle.still_laws.specs.shape_changes_Steady
 pub use Rattle.still_laws.specs.shape_changes_Changing
 pub use Rattle.still_laws.specs.shape_views_Views
-pub use Rattle.flat_history.specs.World as flat_history_World
-pub use Rattle.flat_history.specs.Flat as flat_history_Flat
-pub use Rattle.flat_history.specs.Sound as flat_history_Sound
-pub use Rattle.flat_history.specs.declared.events.StepKind.TheVariants as flat_history_the_StepKind_TheVariants
-pub use Rattle.flat_history.specs.declared.events.Event as flat_history_the_Event
-pub use Rattle.flat_history.specs.declared.events.Event.TheVariants as flat_history_the_Event_TheVariants
-pub use Rattle.flat_history.specs.declared.events.StepKind as flat_history_the_StepKind
-pub use Rattle.flat_history.specs.declared.events.Entry as flat_history_the_Entry
-pub use Rattle.flat_history.specs.declared.events.LostCause as flat_history_the_LostCause
-pub use Rattle.flat_history.specs.declared.events.LostCause.TheVariants as flat_history_the_LostCause_TheVariants
-pub use Rattle.flat_history.specs.Plain as flat_history_Plain
-pub use Rattle.row_io.specs.Rows as row_io_Rows
+pub use Rattle.pieces.specs.flat_history_World
+pub use Rattle.pieces.specs.flat_history_Flat
+pub use Rattle.pieces.specs.flat_history_Sound
+pub use Rattle.pieces.specs.flat_history_the_StepKind_TheVariants
+pub use Rattle.pieces.specs.flat_history_the_Event
+pub use Rattle.pieces.specs.flat_history_the_Event_TheVariants
+pub use Rattle.pieces.specs.flat_history_the_StepKind
+pub use Rattle.pieces.specs.flat_history_the_Entry
+pub use Rattle.pieces.specs.flat_history_the_LostCause
+pub use Rattle.pieces.specs.flat_history_the_LostCause_TheVariants
+pub use Rattle.pieces.specs.flat_history_Plain
+pub use Rattle.pieces.specs.row_io_Rows
 pub use Rattle.still_laws.specs.safe_updates_First
 pub use Rattle.still_laws.specs.list_io_Writing
 pub use Rattle.still_laws.specs.safe_updates_Named
+pub use Rattle.array_state.specs.md_base_Sectors
+pub use Rattle.array_state.specs.md_base_Shapes
+pub use Rattle.array_state.specs.md_base_the_Fault
+pub use Rattle.array_state.specs.md_base_the_Fault_TheVariants
+pub use Rattle.array_state.specs.md_base_the_Refusal
+pub use Rattle.array_state.specs.md_base_the_Refusal_TheVariants
+pub use Rattle.array_state.specs.md_base_the_Role
+pub use Rattle.array_state.specs.md_base_the_Role_TheVariants
+pub use Rattle.array_state.specs.md_base_the_Shape
+pub use Rattle.array_state.specs.md_base_the_Who
+pub use Rattle.election.specs.bank_Given
+pub use Rattle.election.specs.bank_Tape
+pub use Rattle.election.specs.bank_the_Operation
+pub use Rattle.election.specs.sb1_the_Sb
+pub use Rattle.election.specs.superblocks_Outcome
+pub use Rattle.election.specs.superblocks_Reading
+pub use Rattle.election.specs.superblocks_Reads
+pub use Rattle.election.specs.superblocks_Update
+pub use Rattle.election.specs.superblocks_the_Change
+pub use Rattle.election.specs.superblocks_the_Give
+pub use Rattle.election.specs.superblocks_the_Give_TheVariants
+pub use Rattle.election.specs.superblocks_the_Members
+pub use Rattle.pieces.specs.flat_history_Epochs
+pub use Rattle.pieces.specs.flat_history_Fits
+pub use Rattle.pieces.specs.flat_history_Growing
+pub use Rattle.pieces.specs.flat_history_Legal
+pub use Rattle.pieces.specs.flat_history_OneShape
+pub use Rattle.pieces.specs.flat_history_Reshaped
+pub use Rattle.pieces.specs.flat_history_Transfers
+pub use Rattle.pieces.specs.flat_history_the_Epoch
+pub use Rattle.pieces.specs.flat_history_the_Request
+pub use Rattle.pieces.specs.flat_history_the_Request_TheVariants
+pub use Rattle.pieces.specs.grow_asked_Asked
+pub use Rattle.pieces.specs.grow_asked_Left
+pub use Rattle.pieces.specs.grow_asked_the_PhasesLeft
+pub use Rattle.pieces.specs.grow_asked_the_Window
+pub use Rattle.pieces.specs.grow_asked_the_Window_TheVariants
+pub use Rattle.pieces.specs.grow_plan_Plans
+pub use Rattle.pieces.specs.views_Moving
+pub use Rattle.pieces.specs.views_Numbers
+pub use Rattle.pieces.specs.views_Rows
+pub use Rattle.pieces.specs.views_Whole

@@ -1,22 +1,22 @@
 -- The next step of a rebuild: of the lowest role that a slot recovers, or else of the lowest that no slot holds, where there is a spare.
 use Rattle.std.specs.Prelude.{◌≡◌, ℕ, ◌+◌, ◌⊎◌, Bool, true, false, nat_lt, if◌then◌else◌, List, [], ◌∷◌, Option, Some, MatchOption, IsSome, unwrap_or}
 use Rattle.std.specs.Option.{option_map_or}
-use Rattle.md_base.specs.Search.{least_below}
-use Rattle.md_base.specs.declared.status.Role.{Role}
-use Rattle.md_base.specs.declared.status.Role.TheVariants.{Recovering}
-use Rattle.superblocks.specs.declared.members.Members.{Members}
-use Rattle.superblocks.specs.Reading.{shape_of, role_state}
-use Rattle.superblocks.specs.Reads.{has_spare}
-use Rattle.row_io.specs.Rows.{reading_of}
-use Rattle.flat_history.specs.declared.events.Event.{Event}
-use Rattle.flat_history.specs.declared.events.Event.TheVariants.{Step, Rebuilt}
-use Rattle.flat_history.specs.declared.events.StepKind.{StepKind}
-use Rattle.flat_history.specs.declared.events.StepKind.TheVariants.{RebuildTaken, RebuildStripe, RebuildEnded}
-use Rattle.views.specs.declared.work.Work.{Work}
-use Rattle.views.specs.Placed.{is_vacant}
-use Rattle.views.specs.Status.{stripes_of, rebuilt_of}
+use Rattle.array_state.specs.md_base_Search.{least_below}
+use Rattle.array_state.specs.md_base_the_Role.{Role}
+use Rattle.array_state.specs.md_base_the_Role_TheVariants.{Recovering}
+use Rattle.election.specs.superblocks_the_Members.{Members}
+use Rattle.election.specs.superblocks_Reading.{shape_of, role_state}
+use Rattle.election.specs.superblocks_Reads.{has_spare}
+use Rattle.pieces.specs.row_io_Rows.{reading_of}
+use Rattle.pieces.specs.flat_history_the_Event.{Event}
+use Rattle.pieces.specs.flat_history_the_Event_TheVariants.{Step, Rebuilt}
+use Rattle.pieces.specs.flat_history_the_StepKind.{StepKind}
+use Rattle.pieces.specs.flat_history_the_StepKind_TheVariants.{RebuildTaken, RebuildStripe, RebuildEnded}
+use Rattle.pieces.specs.views_the_Work.{Work}
+use Rattle.pieces.specs.views_Placed.{is_vacant}
+use Rattle.pieces.specs.views_Status.{stripes_of, rebuilt_of}
 use Rattle.still_laws.specs.array_kept_Calls.{IsRecoveredOrLost, with_rebuilt}
-use Rattle.views.specs.Rebuilding.{Held}
+use Rattle.pieces.specs.views_Rebuilding.{Held}
 
 -- a slot recovers the role
 abbrev pub recovers : Role → Bool

@@ -1,12 +1,12 @@
 //! Which role is rebuilt, and on which spare.
 
 ghost use Rattle.std.specs.Prelude.{◌≡◌, ◌≤◌, length};
-ghost use Rattle.superblocks.specs.Reading.{shape_of};
+ghost use Rattle.election.specs.superblocks_Reading.{shape_of};
 ghost use Rattle.still.specs.Rebuilding.{first_recovering, first_vacant, first_spare};
 
-use md_base::Role;
+use array_state::Role;
+use election::Members;
 use still_laws::is_spare;
-use superblocks::Members;
 
 /// The lowest role that a slot recovers, of so many.
 pub fn first_recovering(members: &Members, disks: u32) -> Option<u32>

@@ -9,8 +9,15 @@ pub use array_state::asking::{steps_left, visible};
 pub use array_state::refusing::{are_mended, unmended};
 pub use array_state::room::zeros;
 pub use array_state::work::set_rebuilt;
-pub use array_state::{add_member, bear, free_number, look_at};
+pub use array_state::{
+    Fault, Refusal, Sectors, Shape, Who, add_member, bear, check_number, enter, enter_behind,
+    enter_failure, enter_lost, free_number, look_at,
+};
 pub use choosing::{first_recovering, first_spare, first_vacant};
+pub use election::{Bank, Members, contains, with, without};
+pub use pieces::{
+    Entries, Epoch, Event, PhasesLeft, Pieces, StepKind, Work, is_missing, planned_left,
+};
 pub use state::{Opened, Still, all_left, check_going};
 pub use still_laws::{
     Filled, fetch, fill, flush_and_record, give_role, has_unnamed, is_spare, is_vacant, mend,

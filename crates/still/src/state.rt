@@ -1,12 +1,12 @@
 //! An array without an active reshape.
 
 ghost use Rattle.std.specs.Prelude.{◌≡◌, ◌≤◌, ◌^◌, length, IfSome, IsTrue};
-ghost use Rattle.md_base.specs.Shapes.{is_valid_shape};
-ghost use Rattle.grow_plan.specs.Plans.{AreSound};
-ghost use Rattle.superblocks.specs.Reading.{shape_of};
-ghost use Rattle.flat_history.specs.Flat.{next_number};
-ghost use Rattle.views.specs.Status.{stripes_of};
-ghost use Rattle.grow_asked.specs.Left.{phases_of};
+ghost use Rattle.array_state.specs.md_base_Shapes.{is_valid_shape};
+ghost use Rattle.pieces.specs.grow_plan_Plans.{AreSound};
+ghost use Rattle.election.specs.superblocks_Reading.{shape_of};
+ghost use Rattle.pieces.specs.flat_history_Flat.{next_number};
+ghost use Rattle.pieces.specs.views_Status.{stripes_of};
+ghost use Rattle.pieces.specs.grow_asked_Left.{phases_of};
 ghost use Rattle.still_laws.specs.running_words_Parts.{still_left};
 
 mod adopting;
@@ -21,15 +21,12 @@ mod steps;
 
 pub use adopting::Opened;
 use array_state::asking::steps_left;
-use bank::Bank;
-use flat_history::Epoch;
-use grow_asked::{PhasesLeft, planned_left};
+use election::{Bank, Members};
+use pieces::{Epoch, PhasesLeft, Work, planned_left};
 use std::alloc::Global;
 use std::marker::Model;
 pub use steps::check_going;
 use still_laws::shape_in;
-use superblocks::Members;
-use views::Work;
 
 /// An array over slots of a bank whose superblocks tell no active reshape, whether one was before or not. `ahead` are the phases of a
 /// plan that hasn't begun; only the sectors of the list below `limit` can be read and written, or all of them without one.

@@ -20,3 +20,10 @@ pub use Rattle.still.proofs.still_laws_Left
 pub use Rattle.still.proofs.array_kept_ReadyLaws
 pub use Rattle.still.proofs.still_laws_Kept
 pub use Rattle.still.proofs.still_laws_Going
+pub use Rattle.still.proofs.superblocks_Searches
+pub use Rattle.still.proofs.superblocks_ValidFields
+pub use Rattle.still.proofs.views_Fit
+pub use Rattle.still.proofs.views_HeldRows
+pub use Rattle.still.proofs.views_LiveLeft
+pub use Rattle.still.proofs.views_MarkLaws
+pub use Rattle.still.proofs.views_Still

@@ -1,31 +1,27 @@
 //! Slots that are made spares.
 
 ghost use Rattle.std.specs.Prelude.{◌≡◌, ◌≢◌, ◌⊎◌, ◌<◌, ℕ, true, false, Some, OnOk};
-ghost use Rattle.md_base.specs.Shapes.{has_slot};
-ghost use Rattle.md_base.specs.declared.answers.Refusal.{Refusal};
-ghost use Rattle.superblocks.specs.Reading.{is_clean, list_length};
-ghost use Rattle.superblocks.specs.Reads.{has_spare};
-ghost use Rattle.row_io.specs.Rows.{present};
-ghost use Rattle.flat_history.specs.Flat.{next_number};
-ghost use Rattle.flat_history.specs.declared.events.Event.TheVariants.{Added};
-ghost use Rattle.flat_history.specs.declared.events.Request.TheVariants.{Add as AsksAdd};
+ghost use Rattle.still.specs.md_base_Shapes.{has_slot};
+ghost use Rattle.still.specs.md_base_the_Refusal.{Refusal};
+ghost use Rattle.still.specs.superblocks_Reading.{is_clean, list_length};
+ghost use Rattle.still.specs.superblocks_Reads.{has_spare};
+ghost use Rattle.still.specs.row_io_Rows.{present};
+ghost use Rattle.still.specs.flat_history_Flat.{next_number};
+ghost use Rattle.still.specs.flat_history_the_Event_TheVariants.{Added};
+ghost use Rattle.still.specs.flat_history_the_Request_TheVariants.{Add as AsksAdd};
 ghost use Rattle.still.specs.shape_changes_Marking.{AreOthersPresent};
-ghost use Rattle.views.specs.Lacking.{AreUnnamed};
-ghost use Rattle.views.specs.Numbers.{free_number};
-ghost use Rattle.views.specs.Placed.{AreWhole, AreStillHeld};
-ghost use Rattle.views.specs.Rebuilding.{Held};
+ghost use Rattle.still.specs.views_Lacking.{AreUnnamed};
+ghost use Rattle.still.specs.views_Numbers.{free_number};
+ghost use Rattle.still.specs.views_Placed.{AreWhole, AreStillHeld};
+ghost use Rattle.still.specs.views_Rebuilding.{Held};
 ghost use Rattle.still.specs.array_kept_Calls.{IsUnaddable, IsAddedFor, IsAddedAs, IsWorkAdded, AreNumbersBorne, IsAnswered, OnNoMemory};
 ghost use Rattle.still.specs.still_laws_Steps.{IsStepped};
 
-use bank::Bank;
-use call_entries::calls::{check_number, enter, enter_behind};
-use flat_history::Event;
-use md_base::{Fault, Refusal, Who};
 use still::{
-    Still, add_member, bear, free_number, has_unnamed, look_at, newly_vacant, shape_in, spare_for,
-    unaddable, vacant_roles,
+    Bank, Event, Fault, Refusal, Still, Who, add_member, bear, check_number, contains, enter,
+    enter_behind, free_number, has_unnamed, look_at, newly_vacant, shape_in, spare_for, unaddable,
+    vacant_roles, with, without,
 };
-use superblocks::sets::{contains, with, without};
 
 // Whether the slot was lost without a failure of its own, and the superblocks still name a role that no slot holds.
 fn is_held_up<B: Bank>(still: &Still<B>, slot: u32) -> bool

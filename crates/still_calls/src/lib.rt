@@ -7,5 +7,8 @@ mod writing;
 
 pub use adding::add;
 pub use reading::read;
-pub use still::{Still, first_spare, set_rebuilt, steps_left, vacant_roles};
+pub use still::{
+    Bank, Entries, Epoch, Event, Members, PhasesLeft, Pieces, StepKind, Still, Work, first_spare,
+    is_missing, planned_left, set_rebuilt, steps_left, vacant_roles,
+};
 pub use writing::write;

@@ -1,34 +1,29 @@
 //! Reads of an array without an active reshape.
 
 ghost use Rattle.std.specs.Prelude.{◌≡◌, ◌≢◌, ◌+◌, ◌/◌, ◌^◌, ◌<◌, ◌≤◌, false, length, OnOk, OnErr, IfSome, IsTrue};
-ghost use Rattle.md_base.specs.Sectors.{IsWhole, sectors_of};
-ghost use Rattle.md_base.specs.Shapes.{is_valid_shape, is_multiple};
-ghost use Rattle.bank.specs.Tape.{AreSectors};
-ghost use Rattle.superblocks.specs.Reading.{is_reshaping, is_clean, shape_of, list_length};
-ghost use Rattle.row_io.specs.Rows.{present};
-ghost use Rattle.flat_history.specs.Flat.{next_number, now};
-ghost use Rattle.flat_history.specs.World.{opening_list};
-ghost use Rattle.flat_history.specs.declared.events.Event.TheVariants.{Read};
-ghost use Rattle.flat_history.specs.declared.events.Request.TheVariants.{Read as AsksRead};
+ghost use Rattle.still.specs.md_base_Sectors.{IsWhole, sectors_of};
+ghost use Rattle.still.specs.md_base_Shapes.{is_valid_shape, is_multiple};
+ghost use Rattle.still.specs.bank_Tape.{AreSectors};
+ghost use Rattle.still.specs.superblocks_Reading.{is_reshaping, is_clean, shape_of, list_length};
+ghost use Rattle.still.specs.row_io_Rows.{present};
+ghost use Rattle.still.specs.flat_history_Flat.{next_number, now};
+ghost use Rattle.still.specs.flat_history_World.{opening_list};
+ghost use Rattle.still.specs.flat_history_the_Event_TheVariants.{Read};
+ghost use Rattle.still.specs.flat_history_the_Request_TheVariants.{Read as AsksRead};
 ghost use Rattle.still.specs.shape_changes_Marking.{AreOthersPresent};
-ghost use Rattle.views.specs.Lacking.{HaveRolesFailed, IsUnread, mended_rows};
-ghost use Rattle.views.specs.Placed.{AreWhole};
-ghost use Rattle.views.specs.Status.{stripes_of};
+ghost use Rattle.still.specs.views_Lacking.{HaveRolesFailed, IsUnread, mended_rows};
+ghost use Rattle.still.specs.views_Placed.{AreWhole};
+ghost use Rattle.still.specs.views_Status.{stripes_of};
 ghost use Rattle.still.specs.safe_updates_First.{read_refusal, call_refusal, IsFirstRefused};
 ghost use Rattle.still.specs.array_kept_Calls.{IsAnswered, IsCausedBy, IsRefusalOf, OnNoMemory};
 ghost use Rattle.still.specs.kept_history_Safe.{IsFilledRight};
 ghost use Rattle.still.specs.running_words_Calls.{moving_world, IsCalled};
 ghost use Rattle.still.specs.running_words_Parts.{visible_size, visible_in};
 
-use bank::Bank;
-use call_entries::calls::{check_number, enter, enter_behind};
-use flat_history::Event;
-use md_base::{Fault, Refusal, Sectors, Who};
 use still::{
-    Still, fetch, mended_rows, newly_vacant, shape_in, unread, vacant_roles, visible, visible_of,
-    zeros,
+    Bank, Event, Fault, Members, Refusal, Sectors, Still, Who, check_number, enter, enter_behind,
+    fetch, mended_rows, newly_vacant, shape_in, unread, vacant_roles, visible, visible_of, zeros,
 };
-use superblocks::Members;
 
 // Why so many sectors from one on aren't read, before any is: the first of `PastEnd`, `TooManyMissing` and `NotResynced`.
 fn unread_here(

@@ -1,30 +1,27 @@
 //! Writes to an array without an active reshape.
 
 ghost use Rattle.std.specs.Prelude.{◌≡◌, ◌≢◌, ◌+◌, ◌/◌, ◌^◌, ◌<◌, ◌≤◌, false, length, OnOk, OnErr, IfSome, IsFalse, IsTrue};
-ghost use Rattle.md_base.specs.Sectors.{IsWhole, sectors_of};
-ghost use Rattle.md_base.specs.Shapes.{is_valid_shape, is_multiple};
-ghost use Rattle.superblocks.specs.Reading.{is_reshaping, is_clean, shape_of, list_length};
-ghost use Rattle.row_io.specs.Rows.{present};
-ghost use Rattle.flat_history.specs.Flat.{next_number};
-ghost use Rattle.flat_history.specs.declared.events.Event.TheVariants.{Wrote};
-ghost use Rattle.flat_history.specs.declared.events.Request.TheVariants.{Write as AsksWrite};
+ghost use Rattle.still.specs.md_base_Sectors.{IsWhole, sectors_of};
+ghost use Rattle.still.specs.md_base_Shapes.{is_valid_shape, is_multiple};
+ghost use Rattle.still.specs.superblocks_Reading.{is_reshaping, is_clean, shape_of, list_length};
+ghost use Rattle.still.specs.row_io_Rows.{present};
+ghost use Rattle.still.specs.flat_history_Flat.{next_number};
+ghost use Rattle.still.specs.flat_history_the_Event_TheVariants.{Wrote};
+ghost use Rattle.still.specs.flat_history_the_Request_TheVariants.{Write as AsksWrite};
 ghost use Rattle.still.specs.shape_changes_Marking.{AreOthersPresent};
-ghost use Rattle.views.specs.Lacking.{HaveRolesFailed, IsUnwritten, are_mended, mended_rows};
-ghost use Rattle.views.specs.Placed.{AreWhole};
-ghost use Rattle.views.specs.Status.{stripes_of};
+ghost use Rattle.still.specs.views_Lacking.{HaveRolesFailed, IsUnwritten, are_mended, mended_rows};
+ghost use Rattle.still.specs.views_Placed.{AreWhole};
+ghost use Rattle.still.specs.views_Status.{stripes_of};
 ghost use Rattle.still.specs.safe_updates_First.{write_refusal, call_refusal, IsFirstRefused};
 ghost use Rattle.still.specs.array_kept_Calls.{IsAnswered, IsCausedBy, IsRefusalOf, OnNoMemory, has_torn};
 ghost use Rattle.still.specs.running_words_Calls.{IsCalled};
 ghost use Rattle.still.specs.running_words_Parts.{visible_size, visible_in};
 
-use bank::Bank;
-use call_entries::calls::{check_number, enter, enter_behind, enter_failure};
-use flat_history::Event;
-use md_base::{Fault, Refusal, Sectors, Who};
 use still::{
-    Still, are_mended, newly_vacant, put, shape_in, unwritten, vacant_roles, visible, visible_of,
+    Bank, Event, Fault, Members, Refusal, Sectors, Still, Who, are_mended, check_number, enter,
+    enter_behind, enter_failure, newly_vacant, put, shape_in, unwritten, vacant_roles, visible,
+    visible_of,
 };
-use superblocks::Members;
 
 // Why so many sectors from one on aren't written, before any row is read: the first of `PastEnd`, `TooManyMissing` and `NotResynced`.
 fn unwritten_here(

@@ -1,13 +1,13 @@
 -- The end of a rebuild: the role is whole on the slot that recovered it, from what `flush_and_record` leaves; or that slot was lost in it.
 use Rattle.std.proofs.Common.{◌≡◌, inl, inr, ℕ, ◌+◌, ◌<◌, ◌≤◌, ◌==◌, true, false, not, Option, Some, None, List, [], ◌∷◌, ◌++◌, length, append-nil, refl, sym, ◌∙◌, ap, subst, arith}
 use Rattle.std.specs.Prelude.{IsFalse, IfSome, ⊤}
-use Rattle.md_base.specs.Sectors.{Sector}
-use Rattle.md_base.specs.declared.answers.Who.{Who}
-use Rattle.md_base.specs.declared.places.Shape.{Shape}
-use Rattle.md_base.specs.declared.status.Role.{Role}
-use Rattle.md_base.specs.declared.status.Role.TheVariants.{Recovering}
-use Rattle.bank.specs.declared.bank.Operation.{Operation}
-use Rattle.bank.specs.Given.{Given}
+use Rattle.moving_kept.specs.md_base_Sectors.{Sector}
+use Rattle.moving_kept.specs.md_base_the_Who.{Who}
+use Rattle.moving_kept.specs.md_base_the_Shape.{Shape}
+use Rattle.moving_kept.specs.md_base_the_Role.{Role}
+use Rattle.moving_kept.specs.md_base_the_Role_TheVariants.{Recovering}
+use Rattle.moving_kept.specs.bank_the_Operation.{Operation}
+use Rattle.moving_kept.specs.bank_Given.{Given}
 use Rattle.moving_kept.specs.superblocks_the_Members.{Members}
 use Rattle.moving_kept.specs.superblocks_Reading.{Scope, is_clean, is_whole, shape_of, role_count, role_state}
 use Rattle.moving_kept.specs.row_io_Rows.{reading_of, present, is_missing}
@@ -58,7 +58,7 @@ use Rattle.moving_kept.proofs.history_calls_Behind.{AreLostOrMissing, IsAmong, e
 use Rattle.still_kept.specs.Still.{AreAtRest, HasListStood, IsStill}
 use Rattle.std.proofs.Common.{append_assoc}
 use Rattle.moving_kept.specs.superblocks_Reading.{list_length}
-use Rattle.md_base.specs.declared.status.Role.TheVariants.{Whole}
+use Rattle.moving_kept.specs.md_base_the_Role_TheVariants.{Whole}
 use Rattle.moving_kept.specs.flat_history_the_Event_TheVariants.{Rebuilt}
 use Rattle.moving_kept.specs.flat_history_the_StepKind_TheVariants.{RebuildEnded}
 use Rattle.moving_kept.specs.flat_history_Legal.{told_left}

@@ -1,10 +1,10 @@
 -- What a call leaves of the record, from what it leaves of the history.
 use Rattle.std.proofs.Common.{◌≡◌, ℕ, ◌≤◌, List, length, sym, ◌∙◌, ap, subst}
 use Rattle.std.specs.Prelude.{IfSome, IsSome, is_some, false, ⊤}
-use Rattle.md_base.specs.Sectors.{Sector}
-use Rattle.md_base.specs.Shapes.{tolerance_of}
-use Rattle.bank.specs.declared.bank.Operation.{Operation}
-use Rattle.bank.specs.Given.{Given}
+use Rattle.moving_kept.specs.md_base_Sectors.{Sector}
+use Rattle.moving_kept.specs.md_base_Shapes.{tolerance_of}
+use Rattle.moving_kept.specs.bank_the_Operation.{Operation}
+use Rattle.moving_kept.specs.bank_Given.{Given}
 use Rattle.moving_kept.specs.superblocks_the_Members.{Members}
 use Rattle.moving_kept.specs.superblocks_Reading.{Scope, is_clean, shape_of, list_length}
 use Rattle.moving_kept.specs.row_io_Rows.{present}
@@ -25,7 +25,7 @@ use Rattle.moving_kept.specs.views_Numbers.{bears}
 use Rattle.moving_kept.specs.views_Status.{stripes_of}
 use Rattle.std.specs.List.{list_any}
 use Rattle.std.proofs.lemmas.List.Folds.{list_any-append}
-use Rattle.md_base.specs.declared.answers.Who.{Who}
+use Rattle.moving_kept.specs.md_base_the_Who.{Who}
 use Rattle.moving_kept.specs.superblocks_Reading.{role_count}
 use Rattle.moving_kept.specs.row_io_Rows.{reading_of, is_missing}
 use Rattle.moving_kept.specs.flat_history_the_Event.{Event}

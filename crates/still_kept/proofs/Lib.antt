@@ -101,3 +101,8 @@ pub use Rattle.moving_kept.proofs.row_io_Tables
 pub use Rattle.moving_kept.proofs.superblocks_SlotSets
 pub use Rattle.moving_kept.proofs.superblock_reads_SaidLists
 pub use Rattle.moving_kept.proofs.superblock_reads_SaidSlots
+pub use Rattle.calls_kept.proofs.md_base_Least
+pub use Rattle.calls_kept.proofs.md_base_SectorLaws
+pub use Rattle.calls_kept.proofs.md_base_Tabulated
+pub use Rattle.moving_kept.proofs.layout_Limits
+pub use Rattle.moving_kept.proofs.layout_Places

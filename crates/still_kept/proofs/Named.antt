@@ -3,13 +3,13 @@ use Rattle.std.proofs.Common.{◌≡◌, ℕ, ◌<◌, ◌==◌, ◌&&◌, Bool,
 use Rattle.std.specs.Option.{option_map_or}
 use Rattle.std.proofs.lemmas.Bool.Decides.{nat_tests}
 use Rattle.std.proofs.lemmas.List.{length-map}
-use Rattle.md_base.specs.Sectors.{Sector}
-use Rattle.md_base.specs.Shapes.{has_slot}
-use Rattle.md_base.specs.declared.status.Role.{Role}
-use Rattle.md_base.proofs.Tabulated.{get_or-tabulate}
-use Rattle.md_base.specs.declared.status.Role.TheVariants.{Missing}
-use Rattle.sb1.specs.declared.sb.Sb.{Sb}
-use Rattle.bank.specs.Given.{Given}
+use Rattle.moving_kept.specs.md_base_Sectors.{Sector}
+use Rattle.moving_kept.specs.md_base_Shapes.{has_slot}
+use Rattle.moving_kept.specs.md_base_the_Role.{Role}
+use Rattle.calls_kept.proofs.md_base_Tabulated.{get_or-tabulate}
+use Rattle.moving_kept.specs.md_base_the_Role_TheVariants.{Missing}
+use Rattle.moving_kept.specs.sb1_the_Sb.{Sb}
+use Rattle.moving_kept.specs.bank_Given.{Given}
 use Rattle.moving_kept.specs.superblocks_the_Members.{Members}
 use Rattle.moving_kept.specs.superblocks_Reading.{Scope, is_fresh, entry_of, holder, holder_from, role_count, state_of}
 use Rattle.moving_kept.specs.superblocks_Reads.{held_in}

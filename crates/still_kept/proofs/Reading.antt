@@ -4,19 +4,19 @@ use Rattle.std.specs.Prelude.{IsFalse, IsSome, slice_index_or, min}
 use Rattle.std.specs.Option.{option_map_or}
 use Rattle.std.proofs.lemmas.Bool.Decides.{nat_tests}
 use Rattle.std.proofs.lemmas.List.Sums.{fold-append}
-use Rattle.md_base.specs.Sectors.{Sector, sectors_of}
-use Rattle.md_base.specs.Shapes.{data_disks, stripe_sectors}
-use Rattle.md_base.specs.declared.answers.Refusal.{Refusal}
-use Rattle.md_base.specs.declared.answers.Refusal.TheVariants.{NotResynced as Unsynced}
-use Rattle.md_base.specs.declared.answers.Who.{Who}
-use Rattle.md_base.specs.declared.places.Shape.{Shape}
-use Rattle.md_base.proofs.SectorLaws.{length-sectors_of}
-use Rattle.bank.specs.declared.bank.Operation.{Operation}
-use Rattle.bank.specs.Given.{Given}
-use Rattle.layout.specs.Layout.{place}
-use Rattle.layout.proofs.Places.{place-role_below}
-use Rattle.parity.specs.Rows.{sector_of}
-use Rattle.sb1.specs.declared.sb.Sb.{Sb}
+use Rattle.moving_kept.specs.md_base_Sectors.{Sector, sectors_of}
+use Rattle.moving_kept.specs.md_base_Shapes.{data_disks, stripe_sectors}
+use Rattle.moving_kept.specs.md_base_the_Refusal.{Refusal}
+use Rattle.calls_kept.specs.md_base_the_Refusal_TheVariants.{NotResynced as Unsynced}
+use Rattle.moving_kept.specs.md_base_the_Who.{Who}
+use Rattle.moving_kept.specs.md_base_the_Shape.{Shape}
+use Rattle.calls_kept.proofs.md_base_SectorLaws.{length-sectors_of}
+use Rattle.moving_kept.specs.bank_the_Operation.{Operation}
+use Rattle.moving_kept.specs.bank_Given.{Given}
+use Rattle.moving_kept.specs.layout_Layout.{place}
+use Rattle.moving_kept.proofs.layout_Places.{place-role_below}
+use Rattle.moving_kept.specs.parity_Rows.{sector_of}
+use Rattle.moving_kept.specs.sb1_the_Sb.{Sb}
 use Rattle.moving_kept.specs.superblocks_the_Members.{Members}
 use Rattle.moving_kept.specs.superblocks_Reading.{Scope, shape_of, list_length}
 use Rattle.moving_kept.specs.row_io_Rows.{reading_of, present, is_missing}

@@ -1,14 +1,14 @@
 -- A slot that is made a spare: it may be one now, or was lost in this.
 use Rattle.std.proofs.Common.{◌≡◌, inl, inr, ℕ, ◌/◌, ◌<◌, ◌≤◌, ◌==◌, false, Option, Some, None, List, [], ◌∷◌, ◌++◌, length, refl, sym, ◌∙◌, subst, arith}
 use Rattle.std.specs.Prelude.{IsFalse, IfSome, ⊤}
-use Rattle.md_base.specs.Sectors.{Sector}
-use Rattle.md_base.specs.declared.answers.Refusal.TheVariants.{SlotFault}
-use Rattle.md_base.specs.declared.answers.Who.{Who}
-use Rattle.bank.specs.declared.bank.Operation.{Operation}
-use Rattle.bank.specs.Given.{Given}
-use Rattle.bank.specs.Tape.{Contents, IsIn, disk}
-use Rattle.bank.proofs.Marks.{each_mark-map}
-use Rattle.sb1.specs.declared.sb.Sb.{Sb}
+use Rattle.moving_kept.specs.md_base_Sectors.{Sector}
+use Rattle.calls_kept.specs.md_base_the_Refusal_TheVariants.{SlotFault}
+use Rattle.moving_kept.specs.md_base_the_Who.{Who}
+use Rattle.moving_kept.specs.bank_the_Operation.{Operation}
+use Rattle.moving_kept.specs.bank_Given.{Given}
+use Rattle.moving_kept.specs.bank_Tape.{Contents, IsIn, disk}
+use Rattle.moving_kept.proofs.bank_Marks.{each_mark-map}
+use Rattle.moving_kept.specs.sb1_the_Sb.{Sb}
 use Rattle.moving_kept.specs.superblocks_the_Members.{Members}
 use Rattle.moving_kept.specs.superblocks_Held.{IsSecondHalf}
 use Rattle.moving_kept.specs.superblocks_Reading.{Scope, shape_of, role_state, holder}

@@ -2,14 +2,14 @@
 use Rattle.std.proofs.Common.{◌≡◌, inl, ℕ, ◌*◌, ◌/◌, ◌%◌, ◌<◌, true, Option, Some, None, [], refl, sym, ◌∙◌, ap, subst, arith}
 use Rattle.std.proofs.lemmas.Nat.{mod_below}
 use Rattle.std.proofs.Math.Nat.{div-add-mod'}
-use Rattle.md_base.specs.Sectors.{Sector}
-use Rattle.md_base.specs.Shapes.{is_multiple}
-use Rattle.md_base.specs.declared.places.Place.{Place}
-use Rattle.md_base.specs.declared.places.Shape.{Shape}
-use Rattle.bank.specs.Given.{Given, sizes}
-use Rattle.bank.specs.Tape.{Contents}
-use Rattle.layout.specs.Layout.{place}
-use Rattle.layout.proofs.Places.{chunk_some, data_some, place-sector, place-sector_below, place-row_below, sector_at}
+use Rattle.moving_kept.specs.md_base_Sectors.{Sector}
+use Rattle.moving_kept.specs.md_base_Shapes.{is_multiple}
+use Rattle.calls_kept.specs.md_base_the_Place.{Place}
+use Rattle.moving_kept.specs.md_base_the_Shape.{Shape}
+use Rattle.moving_kept.specs.bank_Given.{Given, sizes}
+use Rattle.moving_kept.specs.bank_Tape.{Contents}
+use Rattle.moving_kept.specs.layout_Layout.{place}
+use Rattle.moving_kept.proofs.layout_Places.{chunk_some, data_some, place-sector, place-sector_below, place-row_below, sector_at}
 use Rattle.moving_kept.specs.superblocks_the_Members.{Members}
 use Rattle.moving_kept.specs.superblocks_Reading.{Scope, shape_of, list_length, role_count}
 use Rattle.moving_kept.specs.row_io_Rows.{reading_of}

@@ -1,7 +1,7 @@
 -- Where no entry takes a role's holder, no role is missing.
 use Rattle.std.proofs.Common.{◌≡◌, ℕ, Bool, true, false, List, [], ◌++◌, refl, sym, ◌∙◌, ap, subst, append_assoc}
 use Rattle.std.specs.List.{list_any}
-use Rattle.md_base.specs.declared.answers.Who.{Who}
+use Rattle.moving_kept.specs.md_base_the_Who.{Who}
 use Rattle.moving_kept.specs.superblocks_the_Members.{Members}
 use Rattle.moving_kept.specs.row_io_Rows.{reading_of, is_missing}
 use Rattle.moving_kept.specs.flat_history_the_Entry.{Entry}

@@ -3,16 +3,16 @@ use Rattle.std.proofs.Common.{◌≡◌, ◌⊎◌, inl, inr, ℕ, ◌+◌, ◌-
 use Rattle.std.specs.Prelude.{IsFalse, IfSome, is_some, slice_index_or, ⊤}
 use Rattle.std.specs.List.{list_any}
 use Rattle.std.proofs.lemmas.List.Folds.{list_any-append}
-use Rattle.md_base.specs.Sectors.{Sector, IsWhole, sectors_of}
-use Rattle.md_base.specs.Shapes.{tolerance, tolerance_of}
-use Rattle.md_base.specs.declared.answers.Refusal.{Refusal}
-use Rattle.md_base.specs.declared.answers.Who.{Who}
-use Rattle.md_base.specs.declared.places.Shape.{Shape}
-use Rattle.md_base.specs.declared.status.Role.TheVariants.{Recovering as IsRecovering}
-use Rattle.md_base.proofs.SectorLaws.{length-sectors_of}
-use Rattle.bank.specs.declared.bank.Operation.{Operation}
-use Rattle.bank.specs.Given.{Given}
-use Rattle.bank.specs.Tape.{IsIn}
+use Rattle.moving_kept.specs.md_base_Sectors.{Sector, IsWhole, sectors_of}
+use Rattle.moving_kept.specs.md_base_Shapes.{tolerance, tolerance_of}
+use Rattle.moving_kept.specs.md_base_the_Refusal.{Refusal}
+use Rattle.moving_kept.specs.md_base_the_Who.{Who}
+use Rattle.moving_kept.specs.md_base_the_Shape.{Shape}
+use Rattle.moving_kept.specs.md_base_the_Role_TheVariants.{Recovering as IsRecovering}
+use Rattle.calls_kept.proofs.md_base_SectorLaws.{length-sectors_of}
+use Rattle.moving_kept.specs.bank_the_Operation.{Operation}
+use Rattle.moving_kept.specs.bank_Given.{Given}
+use Rattle.moving_kept.specs.bank_Tape.{IsIn}
 use Rattle.moving_kept.specs.superblocks_the_Members.{Members}
 use Rattle.moving_kept.specs.superblocks_Reading.{Scope, is_clean, shape_of, list_length, role_state}
 use Rattle.moving_kept.specs.row_io_Rows.{reading_of, present}

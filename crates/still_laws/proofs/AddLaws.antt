@@ -1,15 +1,15 @@
 -- A slot that is made a spare, from what `add_member` leaves, or isn't; and a bank of which only counts of faults have risen.
 use Rattle.std.specs.Prelude.{⊤}
 use Rattle.std.proofs.Common.{◌≡◌, ◌≢◌, inl, ℕ, ◌+◌, ◌≤◌, true, false, Option, List, [], ◌∷◌, ◌++◌, length, refl, sym, ◌∙◌, ap₂, subst, arith}
-use Rattle.md_base.specs.Sectors.{Sector}
-use Rattle.md_base.specs.Shapes.{has_slot}
-use Rattle.md_base.specs.declared.answers.Refusal.{Refusal}
-use Rattle.md_base.specs.declared.answers.Refusal.TheVariants.{NoSuchSlot, SlotTaken, TooManyMissing, SlotTooSmall, SlotFault}
-use Rattle.md_base.specs.declared.answers.Who.{Who}
-use Rattle.bank.specs.declared.bank.Operation.{Operation}
-use Rattle.bank.specs.Given.{Given}
-use Rattle.bank.specs.Tape.{IsIn, disk}
-use Rattle.sb1.specs.declared.sb.Sb.{Sb}
+use Rattle.still_kept.specs.md_base_Sectors.{Sector}
+use Rattle.still_kept.specs.md_base_Shapes.{has_slot}
+use Rattle.running_words.specs.md_base_the_Refusal.{Refusal}
+use Rattle.running_words.specs.md_base_the_Refusal_TheVariants.{NoSuchSlot, SlotTaken, TooManyMissing, SlotTooSmall, SlotFault}
+use Rattle.still_kept.specs.md_base_the_Who.{Who}
+use Rattle.still_kept.specs.bank_the_Operation.{Operation}
+use Rattle.still_kept.specs.bank_Given.{Given}
+use Rattle.still_kept.specs.bank_Tape.{IsIn, disk}
+use Rattle.still_kept.specs.sb1_the_Sb.{Sb}
 use Rattle.still_kept.specs.superblocks_the_Members.{Members}
 use Rattle.still_kept.specs.superblocks_Held.{IsSecondHalf}
 use Rattle.still_kept.specs.superblocks_Reading.{Scope}

@@ -1,9 +1,9 @@
 -- What an array of one shape keeps is what one without an active reshape keeps that has no plan.
 use Rattle.std.proofs.Common.{◌≡◌, inl, ℕ, ◌≤◌, None, List, [], ◌∷◌, refl, sym, subst, arith}
 use Rattle.std.proofs.lemmas.List.Elements.{All-nil, All-cons}
-use Rattle.md_base.specs.declared.answers.Who.{Who}
-use Rattle.bank.specs.declared.bank.Operation.{Operation}
-use Rattle.bank.specs.Given.{Given}
+use Rattle.still_kept.specs.md_base_the_Who.{Who}
+use Rattle.still_kept.specs.bank_the_Operation.{Operation}
+use Rattle.still_kept.specs.bank_Given.{Given}
 use Rattle.still_kept.specs.superblocks_the_Members.{Members}
 use Rattle.still_kept.specs.superblocks_Reading.{Scope, shape_of}
 use Rattle.still_kept.specs.row_io_Rows.{reading_of}

@@ -2,11 +2,11 @@
 use Rattle.std.proofs.Common.{◌≡◌, ◌≢◌, inl, inr, ℕ, ◌==◌, Bool, true, false, Option, Some, None, List, [], ◌∷◌, ◌++◌, length, refl, sym, ◌∙◌, arith}
 use Rattle.std.proofs.lemmas.Bool.Decides.{nat_tests}
 use Rattle.std.specs.Prelude.{IfSome, MatchOption, ⊤}
-use Rattle.md_base.specs.declared.answers.Refusal.{Refusal}
-use Rattle.md_base.specs.declared.answers.Refusal.TheVariants.{Degraded, NeedSpares, BackupFault, Nothing}
-use Rattle.md_base.specs.declared.answers.Who.{Who}
-use Rattle.bank.specs.declared.bank.Operation.{Operation}
-use Rattle.bank.specs.Given.{Given}
+use Rattle.running_words.specs.md_base_the_Refusal.{Refusal}
+use Rattle.running_words.specs.md_base_the_Refusal_TheVariants.{Degraded, NeedSpares, BackupFault, Nothing}
+use Rattle.still_kept.specs.md_base_the_Who.{Who}
+use Rattle.still_kept.specs.bank_the_Operation.{Operation}
+use Rattle.still_kept.specs.bank_Given.{Given}
 use Rattle.still_kept.specs.superblocks_the_Members.{Members}
 use Rattle.still_kept.specs.superblocks_Reading.{Scope, shape_of}
 use Rattle.still_kept.specs.flat_history_the_Entry.{Entry}

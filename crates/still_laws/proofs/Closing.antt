@@ -4,10 +4,10 @@ use Rattle.std.specs.Prelude.{if◌then◌else◌}
 use Rattle.std.specs.List.{All}
 use Rattle.std.proofs.lemmas.Bool.Decides.{nat_tests}
 use Rattle.std.proofs.lemmas.List.Elements.{All-head, All-tail}
-use Rattle.md_base.specs.declared.places.Shape.{Shape}
-use Rattle.md_base.specs.declared.wishes.Phase.{Phase}
-use Rattle.md_base.specs.declared.wishes.Phase.TheVariants.{Reshape, UpTo6, DownTo5}
-use Rattle.grow_plan.specs.Plans.{phase_steps, phases_steps, last_shape}
+use Rattle.still_kept.specs.md_base_the_Shape.{Shape}
+use Rattle.running_words.specs.md_base_the_Phase.{Phase}
+use Rattle.still_kept.specs.md_base_the_Phase_TheVariants.{Reshape, UpTo6, DownTo5}
+use Rattle.still_kept.specs.grow_plan_Plans.{phase_steps, phases_steps, last_shape}
 use Rattle.still_kept.specs.superblocks_the_Members.{Members}
 use Rattle.still_kept.specs.superblocks_Reading.{is_reshaping, shape_of, final_shape}
 use Rattle.still_kept.specs.flat_history_the_Entry.{Entry}

@@ -5,7 +5,7 @@ use Rattle.std.specs.List.{All}
 use Rattle.std.proofs.lemmas.Bool.Decides.{nat_tests}
 use Rattle.std.proofs.lemmas.List.Elements.{All-nil, All-cons, All-head, All-tail}
 use Rattle.std.proofs.lemmas.List.Sums.{fold-append}
-use Rattle.md_base.specs.declared.answers.Who.{Who}
+use Rattle.still_kept.specs.md_base_the_Who.{Who}
 use Rattle.still_kept.specs.flat_history_the_Entry.{Entry}
 use Rattle.still_kept.specs.flat_history_the_Event.{Event}
 use Rattle.still_kept.specs.flat_history_the_Event_TheVariants.{Resized}

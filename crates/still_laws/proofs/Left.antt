@@ -2,12 +2,12 @@
 use Rattle.std.proofs.Common.{◌≡◌, ℕ, zero, suc, ◌+◌, ◌*◌, ◌^◌, ◌≤◌, min, Option, Some, None, [], ap₂, arith}
 use Rattle.std.specs.Prelude.{IsTrue}
 use Rattle.std.proofs.Math.Nat.{div-le_self, mul-le-mul_right, min-le_left, le_trans, suc-mul}
-use Rattle.md_base.specs.Shapes.{is_valid_shape}
-use Rattle.md_base.specs.declared.status.Role.{Role}
-use Rattle.md_base.specs.declared.status.Role.TheVariants.{Whole, Recovering, Missing}
-use Rattle.layout.proofs.Limits.{limited}
-use Rattle.bank.specs.Given.{Given}
-use Rattle.grow_plan.specs.Plans.{phases_steps}
+use Rattle.still_kept.specs.md_base_Shapes.{is_valid_shape}
+use Rattle.still_kept.specs.md_base_the_Role.{Role}
+use Rattle.still_kept.specs.md_base_the_Role_TheVariants.{Whole, Recovering, Missing}
+use Rattle.still_kept.proofs.layout_Limits.{limited}
+use Rattle.still_kept.specs.bank_Given.{Given}
+use Rattle.still_kept.specs.grow_plan_Plans.{phases_steps}
 use Rattle.still_kept.specs.superblocks_the_Members.{Members}
 use Rattle.still_kept.specs.superblocks_Reading.{shape_of, role_state}
 use Rattle.still_kept.specs.row_io_Rows.{reading_of}

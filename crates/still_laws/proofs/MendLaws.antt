@@ -1,12 +1,12 @@
 -- The steps of a pending resync, from what `mend` of `safe_rows` and `settle` of `safe_updates` leave: what is kept, done or refused.
 use Rattle.std.proofs.Common.{◌≡◌, ◌≢◌, inr, ℕ, ◌+◌, ◌-◌, ◌*◌, ◌<◌, min, false, Some, None, List, [], ◌∷◌, ◌++◌, length, refl, subst, arith}
-use Rattle.md_base.specs.Sectors.{Sector}
-use Rattle.md_base.specs.declared.answers.Refusal.{Refusal}
-use Rattle.md_base.specs.declared.answers.Who.{Who}
-use Rattle.md_base.specs.declared.places.Shape.{Shape}
-use Rattle.bank.specs.declared.bank.Operation.{Operation}
-use Rattle.bank.specs.Given.{Given}
-use Rattle.grow_plan.specs.Plans.{phases_steps}
+use Rattle.still_kept.specs.md_base_Sectors.{Sector}
+use Rattle.running_words.specs.md_base_the_Refusal.{Refusal}
+use Rattle.still_kept.specs.md_base_the_Who.{Who}
+use Rattle.still_kept.specs.md_base_the_Shape.{Shape}
+use Rattle.still_kept.specs.bank_the_Operation.{Operation}
+use Rattle.still_kept.specs.bank_Given.{Given}
+use Rattle.still_kept.specs.grow_plan_Plans.{phases_steps}
 use Rattle.still_kept.specs.superblocks_the_Members.{Members}
 use Rattle.still_kept.specs.superblocks_Reading.{Scope, shape_of}
 use Rattle.still_kept.specs.row_io_Rows.{reading_of, present}

@@ -5,21 +5,21 @@ use Rattle.std.specs.List.{list_any}
 use Rattle.std.proofs.Math.Nat.{suc-mul, le-min, le_trans}
 use Rattle.std.proofs.lemmas.Bool.{cases_lt}
 use Rattle.std.proofs.lemmas.List.Elements.{All-nil, All-cons}
-use Rattle.md_base.specs.Search.{count_below}
-use Rattle.md_base.specs.Sectors.{Sector, sectors_of}
-use Rattle.md_base.specs.Shapes.{tolerance}
-use Rattle.md_base.specs.declared.answers.Refusal.{Refusal}
-use Rattle.md_base.specs.declared.answers.Refusal.TheVariants.{TooManyMissing, BackupFault, Nothing}
-use Rattle.md_base.specs.declared.answers.Who.{Who}
-use Rattle.md_base.specs.declared.places.Shape.{Shape}
-use Rattle.md_base.specs.declared.status.Role.{Role}
-use Rattle.md_base.specs.declared.status.Role.TheVariants.{Whole, Recovering, Missing}
-use Rattle.md_base.specs.declared.status.Status.{Status}
-use Rattle.md_base.proofs.SectorLaws.{length-sectors_of}
-use Rattle.bank.specs.declared.bank.Operation.{Operation}
-use Rattle.bank.specs.Given.{Given}
-use Rattle.layout.proofs.Limits.{limited}
-use Rattle.parity.specs.Rows.{sector_of}
+use Rattle.still_kept.specs.md_base_Search.{count_below}
+use Rattle.still_kept.specs.md_base_Sectors.{Sector, sectors_of}
+use Rattle.still_kept.specs.md_base_Shapes.{tolerance}
+use Rattle.running_words.specs.md_base_the_Refusal.{Refusal}
+use Rattle.running_words.specs.md_base_the_Refusal_TheVariants.{TooManyMissing, BackupFault, Nothing}
+use Rattle.still_kept.specs.md_base_the_Who.{Who}
+use Rattle.still_kept.specs.md_base_the_Shape.{Shape}
+use Rattle.still_kept.specs.md_base_the_Role.{Role}
+use Rattle.still_kept.specs.md_base_the_Role_TheVariants.{Whole, Recovering, Missing}
+use Rattle.running_words.specs.md_base_the_Status.{Status}
+use Rattle.running_words.proofs.md_base_SectorLaws.{length-sectors_of}
+use Rattle.still_kept.specs.bank_the_Operation.{Operation}
+use Rattle.still_kept.specs.bank_Given.{Given}
+use Rattle.still_kept.proofs.layout_Limits.{limited}
+use Rattle.still_kept.specs.parity_Rows.{sector_of}
 use Rattle.still_kept.specs.superblocks_the_Members.{Members}
 use Rattle.still_kept.specs.superblocks_Reading.{Scope, shape_of, list_length, role_state, is_whole, holder}
 use Rattle.still_kept.specs.superblocks_Reads.{has_spare}

@@ -5,15 +5,15 @@ use Rattle.std.specs.List.{list_any, All}
 use Rattle.std.proofs.lemmas.List.Elements.{All-nil, All-cons, All-head, All-tail}
 use Rattle.std.proofs.lemmas.List.Folds.{list_any-append}
 use Rattle.std.proofs.lemmas.List.Sums.{fold-append}
-use Rattle.md_base.specs.declared.answers.Fault.{Fault}
-use Rattle.md_base.specs.declared.answers.Fault.TheVariants.{Refused as IsRefusedWith, NoMemory}
-use Rattle.md_base.specs.declared.answers.Who.{Who}
-use Rattle.md_base.specs.declared.places.Shape.{Shape}
-use Rattle.md_base.specs.declared.wishes.Phase.{Phase}
-use Rattle.md_base.specs.declared.wishes.Phase.TheVariants.{Reshape}
-use Rattle.bank.specs.declared.bank.Operation.{Operation}
-use Rattle.bank.specs.Given.{Given}
-use Rattle.grow_plan.specs.Plans.{last_shape}
+use Rattle.running_words.specs.md_base_the_Fault.{Fault}
+use Rattle.running_words.specs.md_base_the_Fault_TheVariants.{Refused as IsRefusedWith, NoMemory}
+use Rattle.still_kept.specs.md_base_the_Who.{Who}
+use Rattle.still_kept.specs.md_base_the_Shape.{Shape}
+use Rattle.running_words.specs.md_base_the_Phase.{Phase}
+use Rattle.still_kept.specs.md_base_the_Phase_TheVariants.{Reshape}
+use Rattle.still_kept.specs.bank_the_Operation.{Operation}
+use Rattle.still_kept.specs.bank_Given.{Given}
+use Rattle.still_kept.specs.grow_plan_Plans.{last_shape}
 use Rattle.still_kept.specs.superblocks_Reading.{is_reshaping, shape_of, final_shape}
 use Rattle.still_kept.specs.flat_history_the_Entry.{Entry}
 use Rattle.still_kept.specs.flat_history_the_Event.{Event}

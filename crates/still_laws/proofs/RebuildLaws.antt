@@ -3,15 +3,15 @@ use Rattle.std.proofs.Common.{◌≡◌, ◌≢◌, inl, inr, ℕ, zero, suc, �
 use Rattle.std.specs.List.{Contains}
 use Rattle.std.proofs.lemmas.Bool.{cases_lt}
 use Rattle.std.proofs.lemmas.List.Elements.{All-nil}
-use Rattle.md_base.specs.Sectors.{Sector}
-use Rattle.md_base.specs.declared.answers.Refusal.{Refusal}
-use Rattle.md_base.specs.declared.answers.Who.{Who}
-use Rattle.md_base.specs.declared.places.Shape.{Shape}
-use Rattle.md_base.specs.declared.status.Role.{Role}
-use Rattle.md_base.specs.declared.status.Role.TheVariants.{Whole, Recovering}
-use Rattle.bank.specs.declared.bank.Operation.{Operation}
-use Rattle.bank.specs.Given.{Given}
-use Rattle.grow_plan.specs.Plans.{phases_steps}
+use Rattle.still_kept.specs.md_base_Sectors.{Sector}
+use Rattle.running_words.specs.md_base_the_Refusal.{Refusal}
+use Rattle.still_kept.specs.md_base_the_Who.{Who}
+use Rattle.still_kept.specs.md_base_the_Shape.{Shape}
+use Rattle.still_kept.specs.md_base_the_Role.{Role}
+use Rattle.still_kept.specs.md_base_the_Role_TheVariants.{Whole, Recovering}
+use Rattle.still_kept.specs.bank_the_Operation.{Operation}
+use Rattle.still_kept.specs.bank_Given.{Given}
+use Rattle.still_kept.specs.grow_plan_Plans.{phases_steps}
 use Rattle.still_kept.specs.superblocks_the_Members.{Members}
 use Rattle.still_kept.specs.superblocks_Reading.{Scope, shape_of, role_count, role_state, holder, rows_held}
 use Rattle.still_kept.proofs.superblocks_ValidFields.{few-roles}

@@ -4,11 +4,11 @@ use Rattle.std.specs.Prelude.{IsFalse, is_some}
 use Rattle.std.proofs.Math.Seq.{drop-append_seam}
 use Rattle.std.proofs.lemmas.Bool.{cases_lt}
 use Rattle.std.proofs.lemmas.List.{get_or_past}
-use Rattle.md_base.specs.declared.answers.Who.{Who}
-use Rattle.md_base.specs.declared.status.Role.{Role}
-use Rattle.md_base.specs.declared.status.Role.TheVariants.{Whole, Recovering, Missing}
-use Rattle.bank.specs.declared.bank.Operation.{Operation}
-use Rattle.bank.specs.Given.{Given}
+use Rattle.still_kept.specs.md_base_the_Who.{Who}
+use Rattle.still_kept.specs.md_base_the_Role.{Role}
+use Rattle.still_kept.specs.md_base_the_Role_TheVariants.{Whole, Recovering, Missing}
+use Rattle.still_kept.specs.bank_the_Operation.{Operation}
+use Rattle.still_kept.specs.bank_Given.{Given}
 use Rattle.still_kept.specs.superblocks_the_Members.{Members}
 use Rattle.still_kept.specs.superblocks_Reading.{Scope, role_count, role_state, holder}
 use Rattle.still_kept.specs.row_io_Rows.{reading_of}

@@ -3,12 +3,12 @@ use Rattle.std.proofs.Common.{◌≡◌, ◌≢◌, inl, inr, ℕ, ◌+◌, ◌�
 use Rattle.std.specs.List.{All}
 use Rattle.std.specs.Prelude.{MatchOption, ⊤}
 use Rattle.std.proofs.lemmas.List.Elements.{All-nil, All-cons, All-head, All-tail}
-use Rattle.bank.specs.declared.bank.Operation.{Operation}
-use Rattle.bank.specs.Given.{Given, NeverFalls}
-use Rattle.grow_plan.specs.Plans.{phases_steps}
-use Rattle.md_base.specs.declared.answers.Refusal.{Refusal}
-use Rattle.md_base.specs.declared.answers.Who.{Who}
-use Rattle.sb1.specs.declared.sb.Sb.{Sb}
+use Rattle.still_kept.specs.bank_the_Operation.{Operation}
+use Rattle.still_kept.specs.bank_Given.{Given, NeverFalls}
+use Rattle.still_kept.specs.grow_plan_Plans.{phases_steps}
+use Rattle.running_words.specs.md_base_the_Refusal.{Refusal}
+use Rattle.still_kept.specs.md_base_the_Who.{Who}
+use Rattle.still_kept.specs.sb1_the_Sb.{Sb}
 use Rattle.still_kept.specs.superblocks_Reading.{Scope, is_backward, shape_of, final_shape}
 use Rattle.still_kept.specs.superblocks_the_Members.{Members}
 use Rattle.still_kept.specs.flat_history_the_Entry.{Entry}

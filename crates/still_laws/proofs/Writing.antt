@@ -2,16 +2,16 @@
 use Rattle.std.proofs.Common.{◌≡◌, ◌⊎◌, inl, inr, ℕ, ◌+◌, ◌*◌, ◌/◌, ◌<◌, ◌≤◌, ◌==◌, Bool, true, false, Option, List, [], ◌++◌, length, refl, sym, ◌∙◌, ap₂, subst, arith}
 use Rattle.std.specs.Prelude.{IsFalse}
 use Rattle.std.proofs.lemmas.Bool.Decides.{nat_tests}
-use Rattle.md_base.specs.Sectors.{Sector, sectors_of}
-use Rattle.md_base.specs.Shapes.{data_disks}
-use Rattle.md_base.specs.declared.answers.Refusal.{Refusal}
-use Rattle.md_base.specs.declared.answers.Who.{Who}
-use Rattle.md_base.specs.declared.places.Shape.{Shape}
-use Rattle.md_base.specs.declared.status.Role.TheVariants.{Recovering}
-use Rattle.bank.specs.declared.bank.Operation.{Operation}
-use Rattle.bank.specs.Given.{Given}
-use Rattle.bank.specs.Tape.{Contents}
-use Rattle.layout.proofs.Places.{place-row_below}
+use Rattle.still_kept.specs.md_base_Sectors.{Sector, sectors_of}
+use Rattle.still_kept.specs.md_base_Shapes.{data_disks}
+use Rattle.running_words.specs.md_base_the_Refusal.{Refusal}
+use Rattle.still_kept.specs.md_base_the_Who.{Who}
+use Rattle.still_kept.specs.md_base_the_Shape.{Shape}
+use Rattle.still_kept.specs.md_base_the_Role_TheVariants.{Recovering}
+use Rattle.still_kept.specs.bank_the_Operation.{Operation}
+use Rattle.still_kept.specs.bank_Given.{Given}
+use Rattle.still_kept.specs.bank_Tape.{Contents}
+use Rattle.still_kept.proofs.layout_Places.{place-row_below}
 use Rattle.still_kept.specs.superblocks_the_Members.{Members}
 use Rattle.still_kept.specs.superblocks_Reading.{Scope, is_clean, shape_of, list_length, role_state}
 use Rattle.still_kept.specs.row_io_Rows.{reading_of, present}

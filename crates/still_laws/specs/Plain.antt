@@ -1,10 +1,10 @@
 -- What an array keeps besides as long as its history keeps its shape: what a history of one shape says of it, which tells more of an epoch without a reshape.
 use Rattle.std.specs.Prelude.{◌≡◌, ℕ, List, length, Option, IfSome, ⊤}
 use Rattle.std.specs.List.{All}
-use Rattle.md_base.specs.Shapes.{tolerance}
-use Rattle.md_base.specs.declared.answers.Refusal.TheVariants.{BackupFault}
-use Rattle.bank.specs.declared.bank.Operation.{Operation}
-use Rattle.bank.specs.Given.{Given}
+use Rattle.still_kept.specs.md_base_Shapes.{tolerance}
+use Rattle.running_words.specs.md_base_the_Refusal_TheVariants.{BackupFault}
+use Rattle.still_kept.specs.bank_the_Operation.{Operation}
+use Rattle.still_kept.specs.bank_Given.{Given}
 use Rattle.still_kept.specs.superblocks_the_Members.{Members}
 use Rattle.still_kept.specs.superblocks_Reading.{shape_of}
 use Rattle.still_kept.specs.flat_history_the_Entry.{Entry}

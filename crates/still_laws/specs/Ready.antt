@@ -1,10 +1,10 @@
 -- What an array without an active reshape keeps between its calls.
 use Rattle.std.specs.Prelude.{◌≡◌, ◌⊎◌, ℕ, ◌*◌, ◌<◌, ◌≤◌, true, false, List, [], Option}
 use Rattle.std.specs.List.{list_any}
-use Rattle.md_base.specs.Shapes.{has_slot}
-use Rattle.bank.specs.declared.bank.Operation.{Operation}
-use Rattle.bank.specs.Given.{Given}
-use Rattle.grow_plan.specs.Plans.{AreSound}
+use Rattle.still_kept.specs.md_base_Shapes.{has_slot}
+use Rattle.still_kept.specs.bank_the_Operation.{Operation}
+use Rattle.still_kept.specs.bank_Given.{Given}
+use Rattle.still_kept.specs.grow_plan_Plans.{AreSound}
 use Rattle.still_kept.specs.superblocks_the_Members.{Members}
 use Rattle.still_kept.specs.superblocks_Reading.{Scope, shape_of, list_length}
 use Rattle.still_kept.specs.flat_history_the_Entry.{Entry}

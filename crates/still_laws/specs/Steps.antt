@@ -1,10 +1,10 @@
 -- What the steps of an array without an active reshape leave, besides their answers.
 use Rattle.std.specs.Prelude.{◌≡◌, ◌≢◌, ◌⊎◌, ℕ, List, [], None, MatchOption, ⊤}
-use Rattle.md_base.specs.declared.answers.Refusal.{Refusal}
-use Rattle.md_base.specs.declared.answers.Refusal.TheVariants.{Degraded, NeedSpares, BackupFault, Nothing}
-use Rattle.md_base.specs.declared.answers.Who.{Who}
-use Rattle.bank.specs.Given.{Given, NeverFalls}
-use Rattle.bank.specs.declared.bank.Operation.{Operation}
+use Rattle.running_words.specs.md_base_the_Refusal.{Refusal}
+use Rattle.running_words.specs.md_base_the_Refusal_TheVariants.{Degraded, NeedSpares, BackupFault, Nothing}
+use Rattle.still_kept.specs.md_base_the_Who.{Who}
+use Rattle.still_kept.specs.bank_Given.{Given, NeverFalls}
+use Rattle.still_kept.specs.bank_the_Operation.{Operation}
 use Rattle.still_kept.specs.superblocks_the_Members.{Members}
 use Rattle.still_kept.specs.flat_history_the_Entry.{Entry}
 use Rattle.still_kept.specs.flat_history_the_Event.{Event}

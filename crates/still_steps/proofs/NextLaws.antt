@@ -3,15 +3,15 @@ use Rattle.std.proofs.Common.{◌≡◌, inl, inr, ℕ, zero, suc, ◌+◌, ◌*
 use Rattle.std.proofs.Math.Nat.{min-le_left, min-le_right}
 use Rattle.std.specs.Prelude.{IsSome, IsTrue, MatchOption, nat_lt}
 use Rattle.std.specs.Option.{option_map_or}
-use Rattle.md_base.specs.declared.answers.Fault.{Fault}
-use Rattle.md_base.specs.declared.answers.Refusal.{Refusal}
-use Rattle.md_base.specs.declared.status.Role.{Role}
-use Rattle.md_base.specs.declared.status.Role.TheVariants.{Whole, Recovering, Missing}
-use Rattle.bank.specs.Given.{Given}
-use Rattle.bank.specs.declared.bank.Operation.{Operation}
-use Rattle.superblocks.specs.declared.members.Members.{Members}
-use Rattle.superblocks.specs.Reading.{shape_of, role_state}
-use Rattle.superblocks.specs.Reads.{has_spare}
+use Rattle.still.specs.md_base_the_Fault.{Fault}
+use Rattle.still.specs.md_base_the_Refusal.{Refusal}
+use Rattle.still.specs.md_base_the_Role.{Role}
+use Rattle.still.specs.md_base_the_Role_TheVariants.{Whole, Recovering, Missing}
+use Rattle.still.specs.bank_Given.{Given}
+use Rattle.still.specs.bank_the_Operation.{Operation}
+use Rattle.still.specs.superblocks_the_Members.{Members}
+use Rattle.still.specs.superblocks_Reading.{shape_of, role_state}
+use Rattle.still.specs.superblocks_Reads.{has_spare}
 use Rattle.still.specs.row_io_Rows.{reading_of}
 use Rattle.still.specs.flat_history_the_StepKind.{StepKind}
 use Rattle.still.specs.flat_history_the_StepKind_TheVariants.{RebuildTaken, RebuildStripe, RebuildEnded, ResyncStripe, ResyncEnded}

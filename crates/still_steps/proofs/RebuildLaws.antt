@@ -4,16 +4,16 @@ use Rattle.std.proofs.lemmas.Bool.Decides.{nat_tests}
 use Rattle.std.proofs.lemmas.List.Elements.{All-weaker}
 use Rattle.std.specs.Prelude.{fold, IsSome, unwrap_or, OnOk, MatchOption}
 use Rattle.std.specs.Option.{option_map_or}
-use Rattle.md_base.specs.Sectors.{Sector}
-use Rattle.md_base.specs.declared.answers.Who.{Who}
-use Rattle.md_base.specs.declared.answers.Fault.{Fault}
-use Rattle.md_base.specs.declared.answers.Refusal.{Refusal}
-use Rattle.md_base.specs.declared.answers.Fault.TheVariants.{Refused as IsRefusedWith, NoMemory}
-use Rattle.md_base.specs.declared.status.Role.{Role}
-use Rattle.md_base.specs.declared.status.Role.TheVariants.{Whole, Recovering, Missing}
-use Rattle.superblocks.specs.declared.members.Members.{Members}
-use Rattle.superblocks.specs.Reading.{shape_of, final_shape, role_state}
-use Rattle.superblocks.specs.Reads.{has_spare}
+use Rattle.still.specs.md_base_Sectors.{Sector}
+use Rattle.still.specs.md_base_the_Who.{Who}
+use Rattle.still.specs.md_base_the_Fault.{Fault}
+use Rattle.still.specs.md_base_the_Refusal.{Refusal}
+use Rattle.still.specs.md_base_the_Fault_TheVariants.{Refused as IsRefusedWith, NoMemory}
+use Rattle.still.specs.md_base_the_Role.{Role}
+use Rattle.still.specs.md_base_the_Role_TheVariants.{Whole, Recovering, Missing}
+use Rattle.still.specs.superblocks_the_Members.{Members}
+use Rattle.still.specs.superblocks_Reading.{shape_of, final_shape, role_state}
+use Rattle.still.specs.superblocks_Reads.{has_spare}
 use Rattle.still.specs.row_io_Rows.{reading_of}
 use Rattle.still.specs.flat_history_the_Entry.{Entry}
 use Rattle.still.specs.flat_history_the_Event.{Event}

@@ -1,9 +1,9 @@
 -- What a step of a rebuild asks for and leaves, by its kind and its role.
 use Rattle.std.proofs.Common.{◌≡◌, ℕ, ◌<◌, ◌≤◌, Result, Ok, Err, length, sym, ◌∙◌, ap, subst, arith}
 use Rattle.std.specs.Prelude.{OnOk}
-use Rattle.md_base.specs.declared.answers.Fault.{Fault}
-use Rattle.superblocks.specs.declared.members.Members.{Members}
-use Rattle.superblocks.specs.Reading.{shape_of}
+use Rattle.still.specs.md_base_the_Fault.{Fault}
+use Rattle.still.specs.superblocks_the_Members.{Members}
+use Rattle.still.specs.superblocks_Reading.{shape_of}
 use Rattle.still.specs.flat_history_the_StepKind.{StepKind}
 use Rattle.still.specs.flat_history_the_StepKind_TheVariants.{RebuildTaken, RebuildStripe, RebuildEnded}
 use Rattle.still.specs.views_the_Work.{Work}

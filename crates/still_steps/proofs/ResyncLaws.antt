@@ -1,11 +1,11 @@
 -- What a step of a resync leaves as it is.
 use Rattle.std.proofs.Common.{◌≡◌, ℕ, ◌==◌, Bool, Option, Some, None, Result, Ok, Err, OnOk, List, [], ◌∷◌, ◌++◌, refl, sym, ◌∙◌, ap, subst}
 use Rattle.std.specs.Option.{option_eq}
-use Rattle.md_base.specs.Sectors.{Sector}
-use Rattle.md_base.specs.declared.answers.Who.{Who}
-use Rattle.md_base.specs.declared.answers.Fault.{Fault}
-use Rattle.md_base.specs.declared.answers.Fault.TheVariants.{Refused as IsRefusedWith, NoMemory}
-use Rattle.superblocks.specs.declared.members.Members.{Members}
+use Rattle.still.specs.md_base_Sectors.{Sector}
+use Rattle.still.specs.md_base_the_Who.{Who}
+use Rattle.still.specs.md_base_the_Fault.{Fault}
+use Rattle.still.specs.md_base_the_Fault_TheVariants.{Refused as IsRefusedWith, NoMemory}
+use Rattle.still.specs.superblocks_the_Members.{Members}
 use Rattle.still.specs.flat_history_the_Entry.{Entry}
 use Rattle.still.specs.flat_history_the_Event.{Event}
 use Rattle.still.specs.flat_history_the_Event_TheVariants.{Step, Refused}

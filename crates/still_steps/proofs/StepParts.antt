@@ -2,10 +2,10 @@
 use Rattle.std.proofs.Common.{◌≡◌, ◌≢◌, ℕ, Bool, true, false, Option, Some, None, Result, Ok, Err, List, is_some, refl, sym, ◌∙◌, ap, subst}
 use Rattle.std.specs.Prelude.{IsSome, IsTrue, OnOk, MatchOption, if◌then◌else◌}
 use Rattle.std.specs.Option.{option_map_or}
-use Rattle.md_base.specs.declared.answers.Fault.{Fault}
-use Rattle.md_base.specs.declared.answers.Fault.TheVariants.{NoMemory}
-use Rattle.md_base.specs.declared.answers.Who.{Who}
-use Rattle.superblocks.specs.declared.members.Members.{Members}
+use Rattle.still.specs.md_base_the_Fault.{Fault}
+use Rattle.still.specs.md_base_the_Fault_TheVariants.{NoMemory}
+use Rattle.still.specs.md_base_the_Who.{Who}
+use Rattle.still.specs.superblocks_the_Members.{Members}
 use Rattle.still.specs.flat_history_the_Entry.{Entry}
 use Rattle.still.specs.flat_history_the_StepKind.{StepKind}
 use Rattle.still.specs.flat_history_the_StepKind_TheVariants.{RebuildTaken, RebuildEnded}

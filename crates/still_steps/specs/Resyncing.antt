@@ -1,7 +1,7 @@
 -- The next step of a pending resync.
 use Rattle.std.specs.Prelude.{ℕ, ◌==◌, Bool, true, false, if◌then◌else◌, Option, Some, None}
-use Rattle.md_base.specs.declared.answers.Refusal.{Refusal}
-use Rattle.superblocks.specs.declared.members.Members.{Members}
+use Rattle.still.specs.md_base_the_Refusal.{Refusal}
+use Rattle.still.specs.superblocks_the_Members.{Members}
 use Rattle.still.specs.flat_history_the_StepKind.{StepKind}
 use Rattle.still.specs.flat_history_the_StepKind_TheVariants.{ResyncStripe, ResyncEnded}
 use Rattle.still.specs.views_Status.{stripes_of}

@@ -1,10 +1,10 @@
 -- The next step of an array without a reshape: the resync's, where one is pending, or else a rebuild's.
 use Rattle.std.specs.Prelude.{◌≡◌, ◌⊎◌, ℕ, List, Some, MatchOption, Result, ⊤}
 use Rattle.std.specs.Option.{option_map_or}
-use Rattle.md_base.specs.declared.answers.Fault.{Fault}
-use Rattle.md_base.specs.declared.answers.Refusal.{Refusal}
-use Rattle.md_base.specs.declared.answers.Who.{Who}
-use Rattle.superblocks.specs.declared.members.Members.{Members}
+use Rattle.still.specs.md_base_the_Fault.{Fault}
+use Rattle.still.specs.md_base_the_Refusal.{Refusal}
+use Rattle.still.specs.md_base_the_Who.{Who}
+use Rattle.still.specs.superblocks_the_Members.{Members}
 use Rattle.still.specs.flat_history_the_Entry.{Entry}
 use Rattle.still.specs.flat_history_the_StepKind.{StepKind}
 use Rattle.still.specs.flat_history_the_StepKind_TheVariants.{ResyncEnded, RebuildTaken, RebuildEnded}

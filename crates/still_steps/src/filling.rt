@@ -1,20 +1,20 @@
 //! The steps of a rebuild.
 
 ghost use Rattle.std.specs.Prelude.{◌≡◌, ◌≢◌, ◌+◌, ◌<◌, ◌≤◌, ◌∷◌, [], true, None, Err, OnOk, OnErr};
-ghost use Rattle.md_base.specs.declared.answers.Fault.TheVariants.{NoMemory as WantsMemory};
-ghost use Rattle.superblocks.specs.Reading.{shape_of, is_clean, list_length};
-ghost use Rattle.superblocks.specs.Reads.{has_spare};
-ghost use Rattle.row_io.specs.Rows.{reading_of, present};
-ghost use Rattle.flat_history.specs.Flat.{now};
-ghost use Rattle.flat_history.specs.Sound.{OpensFit};
-ghost use Rattle.flat_history.specs.World.{opening_list};
-ghost use Rattle.flat_history.specs.declared.events.Event.TheVariants.{Step, Rebuilt as IsRebuilt};
-ghost use Rattle.flat_history.specs.declared.events.StepKind.TheVariants.{RebuildTaken as TakesRole, RebuildStripe as FillsStripe, RebuildEnded as EndsRebuild};
+ghost use Rattle.still.specs.md_base_the_Fault_TheVariants.{NoMemory as WantsMemory};
+ghost use Rattle.still.specs.superblocks_Reading.{shape_of, is_clean, list_length};
+ghost use Rattle.still.specs.superblocks_Reads.{has_spare};
+ghost use Rattle.still.specs.row_io_Rows.{reading_of, present};
+ghost use Rattle.still.specs.flat_history_Flat.{now};
+ghost use Rattle.still.specs.flat_history_Sound.{OpensFit};
+ghost use Rattle.still.specs.flat_history_World.{opening_list};
+ghost use Rattle.still.specs.flat_history_the_Event_TheVariants.{Step, Rebuilt as IsRebuilt};
+ghost use Rattle.still.specs.flat_history_the_StepKind_TheVariants.{RebuildTaken as TakesRole, RebuildStripe as FillsStripe, RebuildEnded as EndsRebuild};
 ghost use Rattle.still.specs.shape_views_Regions.{DoWithout};
-ghost use Rattle.views.specs.Lacking.{AreTooMany, RowsStand};
-ghost use Rattle.views.specs.Placed.{is_vacant, AreStillHeld};
-ghost use Rattle.views.specs.Rebuilding.{Held};
-ghost use Rattle.views.specs.Status.{rebuilt_of};
+ghost use Rattle.still.specs.views_Lacking.{AreTooMany, RowsStand};
+ghost use Rattle.still.specs.views_Placed.{is_vacant, AreStillHeld};
+ghost use Rattle.still.specs.views_Rebuilding.{Held};
+ghost use Rattle.still.specs.views_Status.{rebuilt_of};
 ghost use Rattle.still.specs.array_kept_Calls.{AreSparesFewer, IsHeldOrGiven, AreHeldOrSpare, HasStripeUnbuilt, AreStripesRebuilt, IsWholeOrLost, IsRecoveredOrLost, with_rebuilt, by_answer, AreStepsFewer, AreStepsKept, IsRebuildStepped, IsCausedBy};
 ghost use Rattle.still.specs.kept_history_Recorded.{IsCallGoing};
 ghost use Rattle.still.specs.running_words_Parts.{still_left};
@@ -24,15 +24,11 @@ ghost use Rattle.still.specs.still_laws_Steps.{IsStepped, IsClosable, IsCallUnbr
 
 use crate::naming::{fill_and_name, give_and_name, record_and_name};
 use crate::refusing::refuse_step;
-use bank::Bank;
-use call_entries::calls::{enter, enter_behind, enter_lost};
-use flat_history::{Event, StepKind};
-use md_base::{Fault, Who};
 use still::{
-    Still, all_left, check_going, is_vacant, newly_vacant, recovering_slot, set_rebuilt, shape_in,
-    too_many, vacant_roles,
+    Bank, Event, Fault, StepKind, Still, Who, all_left, check_going, enter, enter_behind,
+    enter_lost, is_vacant, newly_vacant, recovering_slot, set_rebuilt, shape_in, too_many,
+    vacant_roles, with, without,
 };
-use superblocks::sets::{with, without};
 
 /// The first step of a rebuild: gives a role that no slot holds to a spare, which recovers it from the first row on.
 /// Where that slot is lost in it, so is the role. Refusals: `TooManyMissing`. It takes no memory.

@@ -1,16 +1,16 @@
 //! The steps of a pending resync.
 
 ghost use Rattle.std.specs.Prelude.{◌≡◌, ◌≢◌, ◌+◌, ◌≤◌, true, false, None, OnOk, OnErr};
-ghost use Rattle.superblocks.specs.Reading.{shape_of, is_clean, list_length};
-ghost use Rattle.row_io.specs.Rows.{reading_of, present};
-ghost use Rattle.flat_history.specs.Flat.{now};
-ghost use Rattle.flat_history.specs.Sound.{OpensFit};
-ghost use Rattle.flat_history.specs.World.{opening_list};
-ghost use Rattle.flat_history.specs.declared.events.StepKind.TheVariants.{ResyncStripe as MendsStripe, ResyncEnded as EndsResync};
-ghost use Rattle.views.specs.Lacking.{AreHoldersFlushed, AreTooMany, RowsStand};
+ghost use Rattle.still.specs.superblocks_Reading.{shape_of, is_clean, list_length};
+ghost use Rattle.still.specs.row_io_Rows.{reading_of, present};
+ghost use Rattle.still.specs.flat_history_Flat.{now};
+ghost use Rattle.still.specs.flat_history_Sound.{OpensFit};
+ghost use Rattle.still.specs.flat_history_World.{opening_list};
+ghost use Rattle.still.specs.flat_history_the_StepKind_TheVariants.{ResyncStripe as MendsStripe, ResyncEnded as EndsResync};
+ghost use Rattle.still.specs.views_Lacking.{AreHoldersFlushed, AreTooMany, RowsStand};
 ghost use Rattle.still.specs.shape_views_Regions.{DoWithout};
-ghost use Rattle.views.specs.Placed.{AreStillHeld};
-ghost use Rattle.views.specs.Rebuilding.{Held};
+ghost use Rattle.still.specs.views_Placed.{AreStillHeld};
+ghost use Rattle.still.specs.views_Rebuilding.{Held};
 ghost use Rattle.still.specs.safe_updates_First.{write_refusal, IsFirstRefused};
 ghost use Rattle.still.specs.array_kept_Calls.{AreSparesFewer, HasStripeLeft, IsAllMended, one_more, AreStepsFewer, AreStepsKept, by_answer, IsCausedBy, IsUnmendable};
 ghost use Rattle.still.specs.kept_history_Recorded.{IsCallGoing};
@@ -20,13 +20,9 @@ ghost use Rattle.still.specs.running_words_Plans.{ArePlansKept};
 ghost use Rattle.still.specs.still_laws_Steps.{IsStepped, IsClosable};
 
 use crate::refusing::refuse_step;
-use bank::Bank;
-use call_entries::calls::enter_behind;
-use flat_history::{Event, StepKind};
-use md_base::{Fault, Who};
 use still::{
-    Still, all_left, check_going, mend, newly_vacant, settle, shape_in, too_many, unmended,
-    vacant_roles,
+    Bank, Event, Fault, StepKind, Still, Who, all_left, check_going, enter_behind, mend,
+    newly_vacant, settle, shape_in, too_many, unmended, vacant_roles,
 };
 
 /// A step of the pending resync: makes the parity of its next stripe fit the data. Every role that has data must be there.

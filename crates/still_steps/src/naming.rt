@@ -1,31 +1,30 @@
 //! The steps of a rebuild, behind which each role that no slot holds is named.
 
 ghost use Rattle.std.specs.Prelude.{◌≡◌, ◌≤◌, ◌<◌, ℕ, true, false, length, None, vec_capacity, MatchOption, ⊤};
-ghost use Rattle.bank.specs.Given.{NeverFalls};
-ghost use Rattle.md_base.specs.Sectors.{Sector};
-ghost use Rattle.md_base.specs.declared.status.Role.TheVariants.{Whole as IsWhole, Recovering as IsRecovering};
-ghost use Rattle.superblocks.specs.Reading.{is_reshaping, shape_of, is_clean, role_state, rows_held};
-ghost use Rattle.superblocks.specs.Reads.{has_spare};
-ghost use Rattle.row_io.specs.Rows.{reading_of, present};
+ghost use Rattle.still.specs.bank_Given.{NeverFalls};
+ghost use Rattle.still.specs.md_base_Sectors.{Sector};
+ghost use Rattle.still.specs.md_base_the_Role_TheVariants.{Whole as IsWhole, Recovering as IsRecovering};
+ghost use Rattle.still.specs.superblocks_Reading.{is_reshaping, shape_of, is_clean, role_state, rows_held};
+ghost use Rattle.still.specs.superblocks_Reads.{has_spare};
+ghost use Rattle.still.specs.row_io_Rows.{reading_of, present};
 ghost use Rattle.still.specs.list_io_Writing.{HasFull};
-ghost use Rattle.flat_history.specs.World.{World};
-ghost use Rattle.flat_history.specs.Sound.{OpensFit};
+ghost use Rattle.still.specs.flat_history_World.{World};
+ghost use Rattle.still.specs.flat_history_Sound.{OpensFit};
 ghost use Rattle.still.specs.shape_views_Regions.{DoWithout};
 ghost use Rattle.still.specs.shape_views_Views.{Ledger};
 ghost use Rattle.still.specs.shape_changes_Marking.{AreOthersPresent};
 ghost use Rattle.still.specs.shape_changes_Safety.{HasLiveSlot, HasRoomLeft, IsRisen};
 ghost use Rattle.still.specs.shape_changes_Steady.{AreUnlost, IsSafeOver, KeepsSafe, AreGoneTold, IsUncleanTold, AreWritesAllowed, given_back};
-ghost use Rattle.views.specs.Lacking.{HaveFailedSince, RowsStand, LacksTooMany, DataStandsAmong, RowsStandAmong, IsOfStripe};
-ghost use Rattle.views.specs.Moving.{Grows, IsMoved};
-ghost use Rattle.views.specs.Placed.{is_vacant, IsPlaced};
-ghost use Rattle.views.specs.Rebuilding.{AreSparesFree, with_recovering, with_whole, AreRowsFull, IsFilledAmong};
-ghost use Rattle.views.specs.Status.{stripes_of};
+ghost use Rattle.still.specs.views_Lacking.{HaveFailedSince, RowsStand, LacksTooMany, DataStandsAmong, RowsStandAmong, IsOfStripe};
+ghost use Rattle.still.specs.views_Moving.{Grows, IsMoved};
+ghost use Rattle.still.specs.views_Placed.{is_vacant, IsPlaced};
+ghost use Rattle.still.specs.views_Rebuilding.{AreSparesFree, with_recovering, with_whole, AreRowsFull, IsFilledAmong};
+ghost use Rattle.still.specs.views_Status.{stripes_of};
 ghost use Rattle.still.specs.safe_updates_Named.{AreNamedMissing};
 
-use bank::Bank;
-use md_base::Shape;
-use still::{Filled, fill, flush_and_record, give_role, is_vacant, name_missing};
-use superblocks::Members;
+use still::{
+    Bank, Filled, Members, Shape, fill, flush_and_record, give_role, is_vacant, name_missing,
+};
 
 // Gives a role that no slot holds to a spare, which has nothing of it yet, and names the roles that no slot holds. The other spares
 // that were lost in this.

@@ -1,8 +1,8 @@
 //! The next step of a rebuild.
 
 ghost use Rattle.std.specs.Prelude.{◌≡◌, ◌≢◌, ◌+◌, ◌≤◌, None, Err, OnOk, OnErr};
-ghost use Rattle.md_base.specs.declared.answers.Fault.TheVariants.{NoMemory as WantsMemory};
-ghost use Rattle.superblocks.specs.Reading.{is_clean, list_length};
+ghost use Rattle.still.specs.md_base_the_Fault_TheVariants.{NoMemory as WantsMemory};
+ghost use Rattle.still.specs.superblocks_Reading.{is_clean, list_length};
 ghost use Rattle.still.specs.row_io_Rows.{present};
 ghost use Rattle.still.specs.flat_history_World.{opening_list};
 ghost use Rattle.still.specs.flat_history_Flat.{now};
@@ -19,9 +19,7 @@ ghost use Rattle.still.specs.still_laws_Steps.{IsStepped, IsClosable, IsCallUnbr
 ghost use Rattle.still.specs.Rebuilding.{rebuilt_role, rebuild_kind, rebuild_events, after_rebuild, IsRebuildNext, IsGivenToSpare, IsHeldOrNext};
 
 use crate::filling::{end_rebuild, fill_stripe, take_role};
-use bank::Bank;
-use md_base::{Fault, Who};
-use still::{Still, first_recovering, first_spare, first_vacant};
+use still::{Bank, Fault, Still, Who, first_recovering, first_spare, first_vacant};
 
 // Does the next step of a rebuild: of the lowest role that a slot recovers, its next stripe, or, where all are rebuilt, its
 // end; or else gives the lowest role that no slot holds to the lowest spare. Where the slot that is rebuilt is lost, this

@@ -1,20 +1,16 @@
 //! A step that is refused before anything was done.
 
 ghost use Rattle.std.specs.Prelude.{◌≡◌, ◌≢◌, ◌+◌, ◌≤◌, None};
-ghost use Rattle.flat_history.specs.declared.events.Event.TheVariants.{Refused};
-ghost use Rattle.views.specs.Placed.{AreStillHeld};
-ghost use Rattle.views.specs.Rebuilding.{Held};
-ghost use Rattle.views.specs.Lacking.{AreTooMany};
+ghost use Rattle.still.specs.flat_history_the_Event_TheVariants.{Refused};
+ghost use Rattle.still.specs.views_Placed.{AreStillHeld};
+ghost use Rattle.still.specs.views_Rebuilding.{Held};
+ghost use Rattle.still.specs.views_Lacking.{AreTooMany};
 ghost use Rattle.still.specs.array_kept_Calls.{IsBehind, IsUnmendable, AreSparesFewer, AreStepsKept};
 ghost use Rattle.still.specs.kept_history_Recorded.{IsCallGoing};
 ghost use Rattle.still.specs.running_words_Parts.{still_left};
 ghost use Rattle.still.specs.still_laws_Steps.{IsStepped};
 
-use bank::Bank;
-use call_entries::calls::enter;
-use flat_history::Event;
-use md_base::{Refusal, Who};
-use still::{Still, check_going};
+use still::{Bank, Event, Refusal, Still, Who, check_going, enter};
 
 // Enters that a step is refused, before anything was done.
 pub(crate) fn refuse_step<B: Bank>(still: &mut Still<B>, who: Who, refusal: Refusal)

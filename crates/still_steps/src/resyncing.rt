@@ -1,7 +1,7 @@
 //! The next step of a pending resync.
 
 ghost use Rattle.std.specs.Prelude.{◌≡◌, ◌≢◌, ◌+◌, ◌≤◌, OnOk, OnErr, IsSome, IsTrue};
-ghost use Rattle.superblocks.specs.Reading.{is_clean, list_length};
+ghost use Rattle.still.specs.superblocks_Reading.{is_clean, list_length};
 ghost use Rattle.still.specs.row_io_Rows.{reading_of, present};
 ghost use Rattle.still.specs.flat_history_World.{opening_list};
 ghost use Rattle.still.specs.flat_history_Flat.{now};
@@ -19,9 +19,7 @@ ghost use Rattle.still.specs.still_laws_Steps.{IsStepped, IsClosable};
 ghost use Rattle.still_steps.specs.Resyncing.{is_at_end, next_kind, after_step, IsUnmended};
 
 use crate::mending::{end_resync, mend_stripe};
-use bank::Bank;
-use md_base::{Fault, Who};
-use still::Still;
+use still::{Bank, Fault, Still, Who};
 
 // Does the next step of the pending resync: mends its next stripe, or, where every stripe is mended, flushes the members and marks
 // the array clean. Refusals: `TooManyMissing`, and at a stripe `NotResynced`. It takes no memory.

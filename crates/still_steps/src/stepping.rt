@@ -1,8 +1,8 @@
 //! The next step of an array without a reshape.
 
 ghost use Rattle.std.specs.Prelude.{◌≡◌, ◌≢◌, ◌+◌, ◌<◌, ◌≤◌, is_some, if◌then◌else◌, Err, OnOk, OnErr, IsTrue};
-ghost use Rattle.md_base.specs.declared.answers.Fault.TheVariants.{NoMemory as WantsMemory};
-ghost use Rattle.superblocks.specs.Reading.{is_clean, list_length};
+ghost use Rattle.still.specs.md_base_the_Fault_TheVariants.{NoMemory as WantsMemory};
+ghost use Rattle.still.specs.superblocks_Reading.{is_clean, list_length};
 ghost use Rattle.still.specs.row_io_Rows.{reading_of, present};
 ghost use Rattle.still.specs.flat_history_World.{opening_list};
 ghost use Rattle.still.specs.flat_history_Flat.{now};
@@ -23,9 +23,7 @@ ghost use Rattle.still_steps.specs.Stepping.{IsUndone, IsEnd, IsStepEntered, nex
 
 use crate::rebuilding::rebuild_step;
 use crate::resyncing::resync_step;
-use bank::Bank;
-use md_base::{Fault, Who};
-use still::Still;
+use still::{Bank, Fault, Still, Who};
 
 /// Does the next step of an array without a reshape, of which one is left besides those of the phases ahead: of the resync where one is
 /// pending, or else of a rebuild. Where the slot that is rebuilt is lost, only the loss is entered. Refusals: `TooManyMissing`, and at a

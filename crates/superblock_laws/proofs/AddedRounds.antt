@@ -1,9 +1,9 @@
 -- A whole update that makes a slot a spare, by what images read.
 use Rattle.std.proofs.Common.{◌≡◌, ◌⊎◌, inl, inr, ⊎_elim, ℕ, zero, suc, ◌+◌, ◌^◌, ◌<◌, true, false, List, Option, sym, ◌∙◌, ap, subst, arith}
-use Rattle.md_base.specs.Sectors.{Sector}
-use Rattle.md_base.specs.Shapes.{has_slot}
-use Rattle.sb1.specs.declared.sb.Sb.{Sb}
-use Rattle.bank.specs.Tape.{Contents, IsIn}
+use Rattle.superblock_reads.specs.md_base_Sectors.{Sector}
+use Rattle.superblock_reads.specs.md_base_Shapes.{has_slot}
+use Rattle.superblock_reads.specs.sb1_the_Sb.{Sb}
+use Rattle.superblock_reads.specs.bank_Tape.{Contents, IsIn}
 use Rattle.superblock_reads.specs.superblocks_the_Give.{Give}
 use Rattle.superblock_reads.specs.superblocks_the_Change.{Change}
 use Rattle.superblock_reads.specs.superblocks_the_Members.{Members}

@@ -1,6 +1,6 @@
 -- The laws of a whole update, whichever slots are lost in it.
 use Rattle.std.proofs.Common.{inl, inr, sym, ◌∙◌}
-use Rattle.md_base.specs.Shapes.{has_slot}
+use Rattle.superblock_reads.specs.md_base_Shapes.{has_slot}
 use Rattle.superblock_reads.proofs.Following.{next-held}
 use Rattle.superblock_reads.proofs.RoundReads.{fit-of, kept-of, named_left, and_first, and_second, wider, left_set, left-are}
 use Rattle.superblock_reads.proofs.RoundsRead.{before-reads}

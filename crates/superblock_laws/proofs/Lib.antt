@@ -14,3 +14,5 @@ pub mod MakingReads
 pub mod MakingEnds
 pub mod MadeWholeSaid
 pub mod Laws
+pub use Rattle.superblock_reads.proofs.sb1_RoleTable
+pub use Rattle.superblock_reads.proofs.sb1_SuperblockLaws

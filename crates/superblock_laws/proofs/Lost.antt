@@ -1,10 +1,10 @@
 -- The first round, in which the slot that gets a recovery offset is lost in its own write, by what images read.
 use Rattle.std.proofs.Common.{◌≡◌, ◌≢◌, inl, inr, ⊎_elim, ℕ, ◌<◌, true, false, not, ◌&&◌, List, Option, Some, None, refl, sym, ◌∙◌, ap, subst}
-use Rattle.md_base.specs.Sectors.{Sector}
-use Rattle.md_base.specs.declared.status.Role.{Role}
-use Rattle.md_base.specs.Shapes.{has_slot}
-use Rattle.sb1.specs.declared.sb.Sb.{Sb}
-use Rattle.bank.specs.Tape.{Contents, IsIn}
+use Rattle.superblock_reads.specs.md_base_Sectors.{Sector}
+use Rattle.superblock_reads.specs.md_base_the_Role.{Role}
+use Rattle.superblock_reads.specs.md_base_Shapes.{has_slot}
+use Rattle.superblock_reads.specs.sb1_the_Sb.{Sb}
+use Rattle.superblock_reads.specs.bank_Tape.{Contents, IsIn}
 use Rattle.superblock_reads.specs.superblocks_the_Give.{Give}
 use Rattle.superblock_reads.specs.superblocks_the_Give_TheVariants.{Same, Spare}
 use Rattle.superblock_reads.specs.superblocks_the_Give_TheVariants as give

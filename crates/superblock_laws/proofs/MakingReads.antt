@@ -1,10 +1,10 @@
 -- What images read while an update makes a recovering slot whole.
 use Rattle.std.proofs.Common.{◌≡◌, ◌≢◌, ◌⊎◌, inl, inr, ⊎_elim, ℕ, zero, suc, ◌+◌, ◌^◌, ◌<◌, ◌≤◌, Bool, true, false, length, List, [], ◌∷◌, replicate, Option, refl, sym, ◌∙◌, ap, subst, arith}
 use Rattle.std.proofs.lemmas.Bool.{cases_eq}
-use Rattle.md_base.specs.Sectors.{Sector}
-use Rattle.md_base.specs.Shapes.{has_slot}
-use Rattle.sb1.specs.declared.sb.Sb.{Sb}
-use Rattle.bank.specs.Tape.{Contents, IsIn}
+use Rattle.superblock_reads.specs.md_base_Sectors.{Sector}
+use Rattle.superblock_reads.specs.md_base_Shapes.{has_slot}
+use Rattle.superblock_reads.specs.sb1_the_Sb.{Sb}
+use Rattle.superblock_reads.specs.bank_Tape.{Contents, IsIn}
 use Rattle.superblock_reads.specs.superblocks_the_Give_TheVariants.{Same}
 use Rattle.superblock_reads.specs.superblocks_the_Change.{Change}
 use Rattle.superblock_reads.specs.superblocks_the_Members.{Members}

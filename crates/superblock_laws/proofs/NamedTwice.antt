@@ -2,8 +2,8 @@
 use Rattle.std.proofs.Common.{◌≡◌, ◌≢◌, inl, inr, ℕ, zero, suc, ◌<◌, Bool, true, false, cond, nat_lt, List, [], ◌∷◌, ◌++◌, take, drop, map, set, Option, Some, None, refl, sym, ◌∙◌, ap, ap₂, arith}
 use Rattle.std.proofs.lemmas.Bool.{cases_eq}
 use Rattle.std.proofs.lemmas.Bool.Decides.{nat_tests}
-use Rattle.md_base.specs.Shapes.{has_slot}
-use Rattle.sb1.specs.declared.sb.Sb.{Sb}
+use Rattle.superblock_reads.specs.md_base_Shapes.{has_slot}
+use Rattle.superblock_reads.specs.sb1_the_Sb.{Sb}
 use Rattle.superblock_reads.specs.superblocks_the_Change.{Change}
 use Rattle.superblock_reads.specs.superblocks_the_Members.{Members}
 use Rattle.superblock_reads.specs.superblocks_Update.{give_of, own_in, planned_role, is_planned_spare, slot_entry, entry_for, with_entry, with_entries, with_roles, faulty_role}

@@ -1,9 +1,9 @@
 -- Once slots were brought to the newest event count, and more slots are lost: what is held, and the plan that names them.
 use Rattle.std.proofs.Common.{◌≡◌, inl, inr, ⊎_elim, ℕ, ◌<◌, ◌≤◌, true, false, not, ◌&&◌, nat_lt, List, replicate, Some, refl, sym, ◌∙◌, ap, subst, le_refl, arith}
 use Rattle.std.proofs.lemmas.Bool.Decides.{nat_tests}
-use Rattle.md_base.specs.Sectors.{Sector}
-use Rattle.md_base.specs.Shapes.{has_slot}
-use Rattle.sb1.specs.declared.sb.Sb.{Sb}
+use Rattle.superblock_reads.specs.md_base_Sectors.{Sector}
+use Rattle.superblock_reads.specs.md_base_Shapes.{has_slot}
+use Rattle.superblock_reads.specs.sb1_the_Sb.{Sb}
 use Rattle.superblock_reads.specs.superblocks_the_Give.{Give}
 use Rattle.superblock_reads.specs.superblocks_the_Give_TheVariants.{Same}
 use Rattle.superblock_reads.specs.superblocks_the_Change.{Change}

@@ -1,9 +1,9 @@
 -- An update that makes a recovering slot whole, by what images read.
 use Rattle.std.specs.Prelude.{◌≡◌, ◌≢◌, ◌⊎◌, ℕ, ◌^◌, ◌<◌, List, replicate, Option, Some, None, true, false}
-use Rattle.md_base.specs.Sectors.{Sector}
-use Rattle.md_base.specs.Shapes.{has_slot}
-use Rattle.sb1.specs.declared.sb.Sb.{Sb}
-use Rattle.bank.specs.Tape.{Contents}
+use Rattle.superblock_reads.specs.md_base_Sectors.{Sector}
+use Rattle.superblock_reads.specs.md_base_Shapes.{has_slot}
+use Rattle.superblock_reads.specs.sb1_the_Sb.{Sb}
+use Rattle.superblock_reads.specs.bank_Tape.{Contents}
 use Rattle.superblock_reads.specs.superblocks_the_Give_TheVariants.{Same}
 use Rattle.superblock_reads.specs.superblocks_the_Give_TheVariants as give
 use Rattle.superblock_reads.specs.superblocks_the_Change.{Change}

@@ -1,6 +1,6 @@
 -- A whole update, by what images read, in which the slot that gets a recovery offset may be lost in its own write.
 use Rattle.std.specs.Prelude.{ℕ, ◌^◌, ◌<◌, List}
-use Rattle.md_base.specs.Sectors.{Sector}
+use Rattle.superblock_reads.specs.md_base_Sectors.{Sector}
 use Rattle.superblock_reads.specs.superblocks_the_Change.{Change}
 use Rattle.superblock_reads.specs.superblocks_the_Members.{Members}
 use Rattle.superblock_reads.specs.superblocks_Reading.{Scope}

@@ -5,11 +5,11 @@ use Rattle.std.specs.Option.{option_or}
 use Rattle.std.specs.List.{list_any}
 use Rattle.std.proofs.lemmas.Bool.{cases_lt}
 use Rattle.std.proofs.lemmas.Bool.Decides.{nat_tests}
-use Rattle.md_base.proofs.Least.{least_below-none}
-use Rattle.md_base.specs.declared.answers.Refusal.{Refusal}
-use Rattle.md_base.specs.declared.answers.Refusal.TheVariants.{BadField, TwoHolders}
-use Rattle.sb1.specs.declared.sb.Sb.{Sb}
-use Rattle.sb1.specs.Features.{refused_bits}
+use Rattle.superblocks.proofs.md_base_Least.{least_below-none}
+use Rattle.superblocks.specs.md_base_the_Refusal.{Refusal}
+use Rattle.superblocks.specs.md_base_the_Refusal_TheVariants.{BadField, TwoHolders}
+use Rattle.superblocks.specs.sb1_the_Sb.{Sb}
+use Rattle.superblocks.specs.sb1_Features.{refused_bits}
 use Rattle.superblocks.specs.Reading.{reading_by, is_fresh, entry_of, lies_within, role_count}
 use Rattle.superblocks.specs.Verdict.{members_refusal, members_missing, dirty_degraded, off_unit, first_of_all, unsupported, bad_field, judged_fields, is_bad_entry, is_late_entry, first_bad_entry, is_role, is_holder, fresh_from, two_holders, shared_dev, has_dev, lower}
 use Rattle.superblocks.proofs.ReadLists.{Own}

@@ -7,16 +7,16 @@ use Rattle.std.proofs.lemmas.Bool.{cases_lt, cases_eq}
 use Rattle.std.proofs.lemmas.Bool.Decides.{nat_tests}
 use Rattle.std.proofs.lemmas.List.{get_or_past}
 use Rattle.std.proofs.Math.Seq.{drop-append_seam}
-use Rattle.md_base.specs.Sectors.{Sector}
-use Rattle.md_base.specs.Shapes.{has_slot}
-use Rattle.md_base.specs.Search.{tabulate, any_below}
-use Rattle.md_base.specs.declared.status.Role.{Role}
-use Rattle.md_base.specs.declared.status.Role.TheVariants.{Whole, Recovering, Missing}
-use Rattle.md_base.proofs.Tabulated.{length-tabulate, get_or-tabulate}
-use Rattle.sb1.specs.declared.sb.Sb.{Sb}
-use Rattle.sb1.specs.Superblock.{superblock_in, is_valid, sb_of, two_by_two}
-use Rattle.sb1.proofs.SuperblockLaws.{length-dev_roles, others-stand}
-use Rattle.bank.specs.Tape.{Contents, IsIn}
+use Rattle.superblocks.specs.md_base_Sectors.{Sector}
+use Rattle.superblocks.specs.md_base_Shapes.{has_slot}
+use Rattle.superblocks.specs.md_base_Search.{tabulate, any_below}
+use Rattle.superblocks.specs.md_base_the_Role.{Role}
+use Rattle.superblocks.specs.md_base_the_Role_TheVariants.{Whole, Recovering, Missing}
+use Rattle.superblocks.proofs.md_base_Tabulated.{length-tabulate, get_or-tabulate}
+use Rattle.superblocks.specs.sb1_the_Sb.{Sb}
+use Rattle.superblocks.specs.sb1_Superblock.{superblock_in, is_valid, sb_of, two_by_two}
+use Rattle.superblocks.proofs.sb1_SuperblockLaws.{length-dev_roles, others-stand}
+use Rattle.superblocks.specs.bank_Tape.{Contents, IsIn}
 use Rattle.superblocks.specs.declared.members.Members.{Members}
 use Rattle.superblocks.specs.Reading.{Scope, reading_by, superblocks, newest_of, is_seen, of_array, is_fresh, entry_of, holds_role, state_of, is_spare, lies_within, is_recovering, role_count, holder, holder_from, spares_from}
 use Rattle.superblocks.specs.Verdict.{is_role, is_bad_entry}

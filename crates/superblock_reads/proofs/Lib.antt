@@ -23,3 +23,9 @@ pub use Rattle.superblocks.proofs.HeldReads as superblocks_HeldReads
 pub use Rattle.superblocks.proofs.SameLaws as superblocks_SameLaws
 pub use Rattle.superblocks.proofs.WrittenReads as superblocks_WrittenReads
 pub use Rattle.superblocks.proofs.StoredSlots as superblocks_StoredSlots
+pub use Rattle.superblocks.proofs.Searches as superblocks_Searches
+pub use Rattle.superblocks.proofs.layout_Limits
+pub use Rattle.superblocks.proofs.layout_Places
+pub use Rattle.superblocks.proofs.md_base_Tabulated
+pub use Rattle.superblocks.proofs.sb1_RoleTable
+pub use Rattle.superblocks.proofs.sb1_SuperblockLaws

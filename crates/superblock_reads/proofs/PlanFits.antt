@@ -5,12 +5,12 @@ use Rattle.std.specs.Option.{option_or}
 use Rattle.std.proofs.lemmas.Bool.{cases_lt, cases_eq}
 use Rattle.std.proofs.lemmas.Bool.Decides.{nat_tests}
 use Rattle.std.proofs.lemmas.List.{length-take-le, get_or-take, get_or-drop, get_or_append_left, get_or-append_right}
-use Rattle.md_base.specs.Sectors.{Sector}
-use Rattle.md_base.specs.Shapes.{has_slot}
-use Rattle.md_base.specs.Search.{any_below}
-use Rattle.md_base.specs.declared.answers.Refusal.TheVariants.{BadField}
-use Rattle.md_base.proofs.Least.{least_below-none}
-use Rattle.sb1.specs.declared.sb.Sb.{Sb}
+use Rattle.superblocks.specs.md_base_Sectors.{Sector}
+use Rattle.superblocks.specs.md_base_Shapes.{has_slot}
+use Rattle.superblocks.specs.md_base_Search.{any_below}
+use Rattle.superblocks.specs.md_base_the_Refusal_TheVariants.{BadField}
+use Rattle.superblocks.proofs.md_base_Least.{least_below-none}
+use Rattle.superblocks.specs.sb1_the_Sb.{Sb}
 use Rattle.superblocks.specs.declared.change.Give.{Give}
 use Rattle.superblocks.specs.declared.change.Give.TheVariants.{Same, Spare}
 use Rattle.superblocks.specs.declared.change.Give.TheVariants as give

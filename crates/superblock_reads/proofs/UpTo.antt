@@ -1,10 +1,10 @@
 -- A mark of an update that ends with these slots lost and this event count: it is one of those whose images the laws read, with room in the
 -- event count.
 use Rattle.std.proofs.Common.{◌≡◌, ◌⊎◌, inl, inr, ⊎_elim, ℕ, zero, suc, ◌+◌, ◌-◌, ◌^◌, ◌<◌, ◌≤◌, min, true, List, sym, ◌∙◌, ap, subst, arith}
-use Rattle.md_base.specs.Sectors.{Sector}
-use Rattle.md_base.specs.Shapes.{has_slot}
-use Rattle.sb1.specs.declared.sb.Sb.{Sb}
-use Rattle.bank.specs.Tape.{IsIn}
+use Rattle.superblocks.specs.md_base_Sectors.{Sector}
+use Rattle.superblocks.specs.md_base_Shapes.{has_slot}
+use Rattle.superblocks.specs.sb1_the_Sb.{Sb}
+use Rattle.superblocks.specs.bank_Tape.{IsIn}
 use Rattle.superblocks.specs.declared.change.Change.{Change}
 use Rattle.superblocks.specs.declared.members.Members.{Members}
 use Rattle.superblocks.specs.Update.{give_of, own_in, is_recovery}

@@ -20,3 +20,15 @@ pub use Rattle.superblocks.specs.Plans as superblocks_Plans
 pub use Rattle.superblocks.specs.Found as superblocks_Found
 pub use Rattle.superblocks.specs.Same as superblocks_Same
 pub use Rattle.superblocks.specs.Verdict as superblocks_Verdict
+pub use Rattle.superblocks.specs.Election as superblocks_Election
+pub use Rattle.superblocks.specs.bank_Tape
+pub use Rattle.superblocks.specs.layout_Layout
+pub use Rattle.superblocks.specs.md_base_Search
+pub use Rattle.superblocks.specs.md_base_Sectors
+pub use Rattle.superblocks.specs.md_base_Shapes
+pub use Rattle.superblocks.specs.md_base_the_Role
+pub use Rattle.superblocks.specs.md_base_the_Role_TheVariants
+pub use Rattle.superblocks.specs.sb1_Features
+pub use Rattle.superblocks.specs.sb1_Superblock
+pub use Rattle.superblocks.specs.sb1_Writable
+pub use Rattle.superblocks.specs.sb1_the_Sb

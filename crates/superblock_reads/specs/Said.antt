@@ -1,8 +1,8 @@
 -- Members that say what the stored superblocks do, also after an update.
 use Rattle.std.specs.Prelude.{◌≡◌, ℕ, true, false, List, Option, Some, None}
-use Rattle.md_base.specs.Sectors.{Sector}
-use Rattle.md_base.specs.Shapes.{has_slot}
-use Rattle.sb1.specs.declared.sb.Sb.{Sb}
+use Rattle.superblocks.specs.md_base_Sectors.{Sector}
+use Rattle.superblocks.specs.md_base_Shapes.{has_slot}
+use Rattle.superblocks.specs.sb1_the_Sb.{Sb}
 use Rattle.superblocks.specs.declared.change.Change.{Change}
 use Rattle.superblocks.specs.declared.members.Members.{Members}
 use Rattle.superblocks.specs.Reading.{Scope, is_recovering, data_offset_of}

@@ -8,6 +8,10 @@ ghost use Rattle.superblock_reads.specs.Said.{MembersStaySaid, MembersStaySaidIn
 ghost use Rattle.superblocks.specs.Losing.{RecoveriesRead};
 ghost use Rattle.superblock_reads.specs.Following.{UpdateMayFollow};
 
+pub use superblocks::Sb;
+pub use superblocks::says::{entry_of, is_clean};
+pub use superblocks::sets::contains;
+
 /// What is written elsewhere doesn't change the reading.
 pub fn reading_is_of_superblocks()
     ensures { ReadingIsOfSuperblocks }

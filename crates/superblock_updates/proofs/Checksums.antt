@@ -3,11 +3,11 @@ use Rattle.std.proofs.Common.{◌≡◌, ℕ, zero, suc, ◌+◌, ◌-◌, ◌*�
 use Rattle.std.specs.Prelude.{pos, negsuc}
 use Rattle.std.proofs.lemmas.List.{length-drop, length-take, take-take, take-append-drop, drop-drop}
 use Rattle.std.proofs.lemmas.Slice.{between_is}
-use Rattle.md_base.specs.Bytes.{little, field}
-use Rattle.sb1.specs.declared.sb.Sb.{Sb}
-use Rattle.sb1.specs.Kept.{KeptBefore, KeptFrom}
-use Rattle.sb1.specs.Superblock.{signed, two_by_two, sb_of, checksum}
-use Rattle.sb1.proofs.Encoded.{checksum-kept}
+use Rattle.bank.specs.md_base_Bytes.{little, field}
+use Rattle.superblocks.specs.sb1_the_Sb.{Sb}
+use Rattle.superblocks.specs.sb1_Kept.{KeptBefore, KeptFrom}
+use Rattle.superblocks.specs.sb1_Superblock.{signed, two_by_two, sb_of, checksum}
+use Rattle.superblocks.proofs.sb1_Encoded.{checksum-kept}
 
 abbrev pub AreBytes : List ℕ → Type 0
 AreBytes bytes = (i : ℕ) → get_or bytes i 0 < 256

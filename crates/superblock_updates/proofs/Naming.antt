@@ -4,7 +4,7 @@ use Rattle.std.specs.Int.{bit_at, w32}
 use Rattle.std.proofs.lemmas.Bool.{cases_eq, cases_lt, eqb-true}
 use Rattle.std.proofs.lemmas.Nat.{and_le_l}
 use Rattle.std.proofs.lemmas.Nat.Bits.{bit_at_and, bit_at_not, bit_at-lt, bit_at-zero, bit_at_above, same_from_bits}
-use Rattle.md_base.specs.Shapes.{has_slot}
+use Rattle.superblocks.specs.md_base_Shapes.{has_slot}
 use Rattle.superblocks.specs.Updating.{IsSomeLeft}
 use Rattle.superblock_updates.proofs.Passes.{slot_below}
 use Rattle.superblocks.proofs.SlotSets.{same_set, none_above, none_there}

@@ -1,9 +1,9 @@
 -- Rounds that name lost slots, one after the other.
 use Rattle.std.proofs.Common.{◌≡◌, inl, inr, ⊎_elim, ℕ, suc, ◌<◌, ◌≤◌, true, false, List, Option, [], append-nil, refl, sym, ◌∙◌, subst, le_refl, arith}
 use Rattle.std.proofs.Math.Nat.{le_trans}
-use Rattle.md_base.specs.Sectors.{Sector}
-use Rattle.md_base.specs.Shapes.{has_slot}
-use Rattle.sb1.specs.declared.sb.Sb.{Sb}
+use Rattle.bank.specs.md_base_Sectors.{Sector}
+use Rattle.superblocks.specs.md_base_Shapes.{has_slot}
+use Rattle.superblocks.specs.sb1_the_Sb.{Sb}
 use Rattle.bank.specs.declared.bank.Operation.{Operation}
 use Rattle.bank.specs.Tape.{IsIn, disk, EachMark}
 use Rattle.bank.proofs.Marks.{each_mark-along, each_mark-map, each_mark-then}

@@ -1,10 +1,10 @@
 -- The number of roles of what an update plans is that of the fields that it takes.
 use Rattle.std.proofs.Common.{◌≡◌, ℕ, ◌+◌, ◌-◌, ◌^◌, ◌<◌, ◌==◌, Bool, if◌then◌else◌, max, min, bit_and, ◌∙◌, ap, arith}
 use Rattle.std.specs.Prelude.{pos, ◌-ℤ◌, Option, Some, None, unwrap_or}
-use Rattle.md_base.specs.declared.places.Shape.{Shape}
+use Rattle.superblocks.specs.md_base_the_Shape.{Shape}
 use Rattle.std.specs.Int.{bit_at}
 use Rattle.std.proofs.lemmas.Nat.Bits.{bit_at_and, bit_at_or, bit_at-lt}
-use Rattle.sb1.specs.declared.sb.Sb.{Sb}
+use Rattle.superblocks.specs.sb1_the_Sb.{Sb}
 use Rattle.superblocks.specs.Reading.{count_of, is_reshaping, role_count}
 use Rattle.superblocks.specs.Update.{with_shared}
 use Rattle.superblocks.specs.Updating.{IsLater, planned_newest}

@@ -2,11 +2,11 @@
 use Rattle.std.proofs.Common.{◌≡◌, ℕ, suc, ◌+◌, ◌<◌, ◌≤◌, true, false, List, [], ◌∷◌, ◌++◌, length, take, get_or, set, Option, refl, sym, ◌∙◌, ap, arith}
 use Rattle.std.specs.Option.{option_map_or}
 use Rattle.std.proofs.lemmas.List.{ext_get_or, get_or-take, length-take-le, take_more_set}
-use Rattle.md_base.specs.declared.status.Role.{Role}
-use Rattle.md_base.specs.declared.status.Role.TheVariants.{Missing}
-use Rattle.md_base.specs.Search.{tabulate}
-use Rattle.md_base.proofs.Least.{least_below-none}
-use Rattle.md_base.proofs.Tabulated.{length-tabulate, get_or-tabulate}
+use Rattle.bank.specs.md_base_the_Role.{Role}
+use Rattle.bank.specs.md_base_the_Role_TheVariants.{Missing}
+use Rattle.superblocks.specs.md_base_Search.{tabulate}
+use Rattle.bank.proofs.md_base_Least.{least_below-none}
+use Rattle.bank.proofs.md_base_Tabulated.{length-tabulate, get_or-tabulate}
 use Rattle.superblocks.specs.declared.change.Give.{Give}
 use Rattle.superblocks.specs.Update.{give_of}
 use Rattle.superblocks.specs.Outcome.{is_planned_holder, held_state, planned_state}

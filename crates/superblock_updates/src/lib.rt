@@ -6,4 +6,12 @@ mod plan;
 mod recording;
 mod writing;
 
+pub use bank::{Bank, Role, SlotList, Span, write_sector};
 pub use recording::update;
+pub use superblocks::roles::role_of;
+pub use superblocks::says::{entry_of, is_clean, is_reshaping, list_length, shape_of, target_of};
+pub use superblocks::sets::{contains, with, without};
+pub use superblocks::{
+    Change, Features, Give, Lostness, Members, Sb, Shape, data_disks, fields_of, list_end, side,
+    stripe_sectors,
+};

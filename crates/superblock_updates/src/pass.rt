@@ -5,16 +5,15 @@ ghost use Rattle.bank.specs.declared.bank.Operation.{Operation};
 ghost use Rattle.bank.specs.declared.bank.Operation.TheVariants.{Write, Flush};
 ghost use Rattle.bank.specs.Given.{IsPlace, HasCause, IsFaulted, NeverFalls};
 ghost use Rattle.bank.specs.Tape.{Did, EachMark, disk};
-ghost use Rattle.md_base.specs.Shapes.{has_slot};
-ghost use Rattle.sb1.specs.Writable.{IsWritable};
+ghost use Rattle.superblocks.specs.md_base_Shapes.{has_slot};
+ghost use Rattle.superblocks.specs.sb1_Writable.{IsWritable};
 ghost use Rattle.superblocks.specs.Update.{is_recovery, is_part, is_due, give_of, own_in, planned};
 ghost use Rattle.superblocks.specs.Writing.{IsMember, IsFirstSector, IsTurn, IsPlanned, IsWriting, AreMembers, AreWritten, AreLost, plan_of};
 
 use crate::plan::planned;
 use bank::{Bank, BankFault, write_sector};
-use sb1::{Sb, sectors_of};
 use superblocks::sets::{contains, with};
-use superblocks::{Give, Members, Part};
+use superblocks::{Give, Members, Part, Sb, sectors_of};
 
 /// The first sector of a superblock.
 const SUPERBLOCK: u64 = 8;

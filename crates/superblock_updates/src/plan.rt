@@ -3,8 +3,7 @@
 ghost use Rattle.std.specs.Prelude.{◌≡◌, ◌++◌, take, drop};
 ghost use Rattle.superblocks.specs.Update.{with_shared, with_recovery, with_give, planned};
 
-use sb1::{Features, Sb};
-use superblocks::Give;
+use superblocks::{Features, Give, Sb};
 
 const SHARED_BITS: u32 = 4 + 32;
 

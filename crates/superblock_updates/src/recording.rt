@@ -3,7 +3,7 @@
 ghost use Rattle.std.specs.Prelude.{◌≡◌, ◌<◌, ◌≤◌, ◌+◌, ◌-◌, ◌^◌, ◌&&◌, ◌||◌, ℕ, true, false, not, min, length, IfSome};
 ghost use Rattle.bank.specs.Given.{NeverFalls};
 ghost use Rattle.bank.specs.Tape.{EachMark, disk};
-ghost use Rattle.md_base.specs.Shapes.{has_slot};
+ghost use Rattle.superblocks.specs.md_base_Shapes.{has_slot};
 ghost use Rattle.superblocks.specs.Reading.{role_count};
 ghost use Rattle.superblocks.specs.Update.{IsRoleGive, give_of, is_live, is_added};
 ghost use Rattle.superblocks.specs.Updating.{IsUpdate, AreLosses, IsLater, ArePlanned, AreNamed, planned_newest, IsSomeLeft, IsWrittenBy, RisesByOperations};

@@ -11,16 +11,15 @@ ghost use Rattle.superblocks.specs.Stages.{AreLeft, AreFirstKept, IsLevelled, Is
 ghost use Rattle.superblocks.specs.Rounds.{round_at, AreStill, IsInNamingUpTo, IsInRounds, ArePast};
 ghost use Rattle.superblocks.specs.Losing.{AreTakenInTurn, IsPastTurns, IsInTurns, IsNamedSince, ArePastTurns};
 ghost use Rattle.bank.specs.Tape.{EachMark};
-ghost use Rattle.md_base.specs.Shapes.{has_slot};
+ghost use Rattle.superblocks.specs.md_base_Shapes.{has_slot};
 ghost use Rattle.superblocks.specs.declared.change.Give.TheVariants.{Same};
 
 use crate::pass::write_slots;
 use crate::plan::with_shared;
 use bank::Bank;
-use sb1::Sb;
 use superblocks::roles::enter_roles;
 use superblocks::sets::without;
-use superblocks::{Change, Give, Members, Part};
+use superblocks::{Change, Give, Members, Part, Sb};
 
 // Brings each live slot whose event count is behind to the newest's.
 fn catch_up<B: Bank>(bank: &mut B, members: &mut Members, live: u32)

@@ -2,9 +2,9 @@
 use Rattle.std.proofs.Common.{◌≡◌, ◌≢◌, inl, inr, ℕ, ◌<◌, ◌≤◌, true, false, cond, List, get_or, Option, Some, None, refl, sym, ◌∙◌, ap, subst, arith}
 use Rattle.std.proofs.lemmas.Bool.{cases_lt}
 use Rattle.std.proofs.lemmas.List.{get_or_past}
-use Rattle.md_base.specs.Shapes.{has_slot}
-use Rattle.md_base.specs.Search.{tabulate}
-use Rattle.md_base.proofs.Tabulated.{length-tabulate, get_or-tabulate}
+use Rattle.geometry.specs.md_base_Shapes.{has_slot}
+use Rattle.geometry.specs.md_base_Search.{tabulate}
+use Rattle.bank.proofs.md_base_Tabulated.{length-tabulate, get_or-tabulate}
 use Rattle.sb1.specs.declared.sb.Sb.{Sb}
 use Rattle.bank.specs.Tape.{Contents}
 use Rattle.superblocks.specs.Reading.{Scope, reading, reading_by, is_fresh}

@@ -4,10 +4,10 @@ use Rattle.std.specs.List.{list_any}
 use Rattle.std.specs.Option.{is_some, option_or, option_map_or}
 use Rattle.std.proofs.lemmas.Bool.{eqb-true}
 use Rattle.std.proofs.lemmas.List.Folds.{list_any-append}
-use Rattle.md_base.specs.declared.status.Role.{Role}
-use Rattle.md_base.specs.declared.status.Role.TheVariants.{Whole, Recovering, Missing}
-use Rattle.md_base.specs.Search.{tabulate, least_below}
-use Rattle.md_base.specs.Shapes.{has_slot}
+use Rattle.bank.specs.md_base_the_Role.{Role}
+use Rattle.bank.specs.md_base_the_Role_TheVariants.{Whole, Recovering, Missing}
+use Rattle.geometry.specs.md_base_Search.{tabulate, least_below}
+use Rattle.geometry.specs.md_base_Shapes.{has_slot}
 use Rattle.sb1.specs.declared.sb.Sb.{Sb}
 use Rattle.sb1.specs.Superblock.{sb_of, checksum}
 use Rattle.sb1.specs.Writable.{IsWritable}

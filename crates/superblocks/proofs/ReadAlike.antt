@@ -5,16 +5,16 @@ use Rattle.std.specs.Option.{option_or}
 use Rattle.std.specs.List.{list_any}
 use Rattle.std.proofs.lemmas.Bool.{cases_lt}
 use Rattle.std.proofs.lemmas.Bool.Decides.{nat_tests}
-use Rattle.md_base.specs.declared.places.Shape.{Shape}
-use Rattle.md_base.specs.declared.status.Role.{Role}
-use Rattle.md_base.specs.declared.answers.Refusal.{Refusal}
-use Rattle.md_base.specs.declared.answers.Refusal.TheVariants.{BadField, TwoHolders, MembersMissing, DirtyDegraded, PositionNotOnUnit}
-use Rattle.md_base.specs.Shapes.{data_disks, tolerance, is_level, is_layout, is_chunk, is_disk_count, is_multiple, has_slot}
-use Rattle.md_base.specs.Search.{tabulate, least_below, any_below}
-use Rattle.md_base.proofs.Least.{least_below-none}
-use Rattle.md_base.proofs.Tabulated.{length-tabulate, get_or-tabulate}
+use Rattle.geometry.specs.md_base_the_Shape.{Shape}
+use Rattle.bank.specs.md_base_the_Role.{Role}
+use Rattle.geometry.specs.md_base_the_Refusal.{Refusal}
+use Rattle.geometry.specs.md_base_the_Refusal_TheVariants.{BadField, TwoHolders, MembersMissing, DirtyDegraded, PositionNotOnUnit}
+use Rattle.geometry.specs.md_base_Shapes.{data_disks, tolerance, is_level, is_layout, is_chunk, is_disk_count, is_multiple, has_slot}
+use Rattle.geometry.specs.md_base_Search.{tabulate, least_below, any_below}
+use Rattle.bank.proofs.md_base_Least.{least_below-none}
+use Rattle.bank.proofs.md_base_Tabulated.{length-tabulate, get_or-tabulate}
 use Rattle.std.proofs.lemmas.List.{get_or_past}
-use Rattle.md_base.specs.declared.status.Role.TheVariants.{Missing}
+use Rattle.bank.specs.md_base_the_Role_TheVariants.{Missing}
 use Rattle.sb1.specs.declared.sb.Sb.{Sb}
 use Rattle.sb1.specs.Features.{refused_bits}
 use Rattle.geometry.specs.Geometry.{unit}

@@ -1,7 +1,7 @@
 -- Tables of role entries, one entry more.
 use Rattle.std.proofs.Common.{◌≡◌, ℕ, zero, suc, ◌+◌, ◌<◌, List, [], ◌∷◌, ◌++◌, length, take, drop, map, set, get_or, Option, Some, if◌then◌else◌, refl, ap, ◌∙◌, arith}
 use Rattle.std.proofs.lemmas.List.{drop_more}
-use Rattle.md_base.specs.declared.status.Role.{Role}
+use Rattle.bank.specs.md_base_the_Role.{Role}
 use Rattle.sb1.specs.declared.sb.Sb.{Sb}
 use Rattle.superblocks.specs.Update.{is_held_by, role_from, with_entry, with_entries, own_in}
 

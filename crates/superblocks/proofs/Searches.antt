@@ -1,8 +1,8 @@
 -- The least number that passes a test, and whether some number does.
 use Rattle.std.proofs.Common.{◌≡◌, ℕ, zero, suc, ◌<◌, inl, inr, Bool, true, false, cond, ◌||◌, refl, ap₂, ◌∙◌, subst, arith, Some, None, eq-or-lt_of_le, le_of_suc-le-suc}
 use Rattle.std.specs.Option.{option_or}
-use Rattle.md_base.specs.Search.{least_below, any_below}
-use Rattle.md_base.proofs.Least.{least_below-none}
+use Rattle.geometry.specs.md_base_Search.{least_below, any_below}
+use Rattle.bank.proofs.md_base_Least.{least_below-none}
 
 -- the first one that passes
 pub least_below-first : (n : ℕ) (test : ℕ → Bool) (k : ℕ) → k < n → test k ≡ true → ((j : ℕ) → j < k → test j ≡ false) → least_below n test ≡ Some k

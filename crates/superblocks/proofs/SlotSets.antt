@@ -6,8 +6,8 @@ use Rattle.std.specs.Option.{is_some}
 use Rattle.std.proofs.lemmas.Bool.{cases_eq, cases_lt}
 use Rattle.std.proofs.lemmas.Bool.Decides.{nat_tests}
 use Rattle.std.proofs.lemmas.Nat.Bits.{bit_at_or, bit_at-lt, bit_at-zero, bit_at_above, bit_at-pow_same, bit_at-pow_other, same_from_bits}
-use Rattle.md_base.specs.Shapes.{has_slot}
-use Rattle.md_base.specs.declared.status.Role.{Role}
+use Rattle.geometry.specs.md_base_Shapes.{has_slot}
+use Rattle.bank.specs.md_base_the_Role.{Role}
 use Rattle.superblocks.specs.Update.{is_held_by, role_from}
 use Rattle.superblocks.specs.Outcome.{set_of, slots_below}
 

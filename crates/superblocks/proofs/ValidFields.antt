@@ -4,10 +4,10 @@ use Rattle.std.specs.Prelude.{not, find, pos, ◌-ℤ◌}
 use Rattle.std.specs.Option.{option_or}
 use Rattle.std.proofs.lemmas.Bool.{leb-true}
 use Rattle.std.proofs.lemmas.Bool.Decides.{nat_tests}
-use Rattle.md_base.specs.declared.places.Shape.{Shape}
-use Rattle.md_base.specs.declared.answers.Refusal.{Refusal}
-use Rattle.md_base.specs.declared.answers.Refusal.TheVariants.{BadField}
-use Rattle.md_base.specs.Shapes.{is_level, is_layout, is_chunk, is_disk_count, is_valid_shape}
+use Rattle.geometry.specs.md_base_the_Shape.{Shape}
+use Rattle.geometry.specs.md_base_the_Refusal.{Refusal}
+use Rattle.geometry.specs.md_base_the_Refusal_TheVariants.{BadField}
+use Rattle.geometry.specs.md_base_Shapes.{is_level, is_layout, is_chunk, is_disk_count, is_valid_shape}
 use Rattle.sb1.specs.declared.sb.Sb.{Sb}
 use Rattle.superblocks.specs.Reading.{is_reshaping, shape_of, final_shape, role_count, count_of}
 use Rattle.superblocks.specs.Verdict.{judged_fields, bad_field, first_bad_entry, AreValidShapes}

@@ -3,7 +3,7 @@ use Rattle.std.proofs.Common.{◌≡◌, ℕ, suc, ◌+◌, ◌-◌, ◌*◌, �
 use Rattle.std.specs.Prelude.{bytes_eq}
 use Rattle.std.proofs.lemmas.Bool.{le-leb}
 use Rattle.std.proofs.lemmas.List.{get_or-drop}
-use Rattle.md_base.specs.Sectors.{Sector}
+use Rattle.bank.specs.md_base_Sectors.{Sector}
 use Rattle.sb1.specs.declared.sb.Sb.{Sb}
 use Rattle.sb1.specs.Superblock.{two_by_two, is_valid, sb_of}
 use Rattle.sb1.proofs.SuperblockLaws.{others-stand}

@@ -1,11 +1,11 @@
 -- Which superblocks an election looks at, and what it answers.
 use Rattle.std.specs.Prelude.{◌≡◌, ◌≢◌, ℕ, ◌-◌, ◌^◌, ◌≤◌, Bool, ◌&&◌, not, nat_lt, IsTrue, IsFalse, List, [], length, take, drop, replicate, Option, Some, None, unwrap_or, Result, Ok, Err, IsErr}
 use Rattle.std.specs.Option.{option_or}
-use Rattle.md_base.specs.declared.status.Role.{Role}
-use Rattle.md_base.specs.declared.answers.Fault.{Fault}
-use Rattle.md_base.specs.declared.answers.Fault.TheVariants.{Refused, NoMemory}
-use Rattle.md_base.specs.Search.{tabulate}
-use Rattle.md_base.specs.Shapes.{has_slot}
+use Rattle.bank.specs.md_base_the_Role.{Role}
+use Rattle.bank.specs.md_base_the_Fault.{Fault}
+use Rattle.bank.specs.md_base_the_Fault_TheVariants.{Refused, NoMemory}
+use Rattle.geometry.specs.md_base_Search.{tabulate}
+use Rattle.geometry.specs.md_base_Shapes.{has_slot}
 use Rattle.sb1.specs.declared.sb.Sb.{Sb}
 use Rattle.bank.specs.Given.{Given, sizes, IsFaulted}
 use Rattle.bank.specs.Tape.{Contents}

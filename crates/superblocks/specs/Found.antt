@@ -1,6 +1,6 @@
 -- What is asked of the superblocks that an opening finds, besides that they are refused for nothing.
 use Rattle.std.specs.Prelude.{List, Option, ◌≡◌, ℕ, ◌<◌, length, slice_index, Some}
-use Rattle.md_base.specs.Sectors.{Sector}
+use Rattle.bank.specs.md_base_Sectors.{Sector}
 use Rattle.sb1.specs.declared.sb.Sb.{Sb}
 use Rattle.bank.specs.Tape.{Contents}
 use Rattle.superblocks.specs.Update.{own_in}

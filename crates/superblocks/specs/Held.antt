@@ -1,8 +1,8 @@
 -- What the slots of a running array hold between updates of its superblocks.
 use Rattle.std.specs.Prelude.{◌≡◌, ◌≢◌, ◌⊎◌, ℕ, ◌<◌, ◌≤◌, true, false, List, drop, length, slice_index, if◌then◌else◌, Option, Some, None, bytes_eq}
-use Rattle.md_base.specs.Sectors.{Sector}
-use Rattle.md_base.specs.Shapes.{has_slot}
-use Rattle.md_base.specs.Search.{tabulate}
+use Rattle.bank.specs.md_base_Sectors.{Sector}
+use Rattle.geometry.specs.md_base_Shapes.{has_slot}
+use Rattle.geometry.specs.md_base_Search.{tabulate}
 use Rattle.sb1.specs.declared.sb.Sb.{Sb}
 use Rattle.sb1.specs.Superblock.{superblock_in, two_by_two}
 use Rattle.bank.specs.Tape.{Contents, IsIn}

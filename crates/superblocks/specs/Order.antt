@@ -1,7 +1,7 @@
 -- The order of the writes of an update: a recovery offset is on its disk before another slot names the role.
 use Rattle.std.specs.Prelude.{◌≡◌, ◌⊎◌, ℕ, true, false, List, replicate, Option}
-use Rattle.md_base.specs.Sectors.{Sector}
-use Rattle.md_base.specs.Shapes.{has_slot}
+use Rattle.bank.specs.md_base_Sectors.{Sector}
+use Rattle.geometry.specs.md_base_Shapes.{has_slot}
 use Rattle.sb1.specs.declared.sb.Sb.{Sb}
 use Rattle.bank.specs.Tape.{IsIn}
 use Rattle.superblocks.specs.declared.change.Give.{Give}

@@ -1,13 +1,13 @@
 -- Which changes make a plan that fits.
 use Rattle.std.specs.Prelude.{◌≡◌, ℕ, ◌<◌, true, false, find, List, [], Some, None}
-use Rattle.md_base.specs.Shapes.{has_slot}
+use Rattle.geometry.specs.md_base_Shapes.{has_slot}
 use Rattle.sb1.specs.declared.sb.Sb.{Sb}
 use Rattle.superblocks.specs.declared.change.Give.{Give}
 use Rattle.superblocks.specs.declared.change.Give.TheVariants.{Same, Spare}
 use Rattle.superblocks.specs.declared.change.Give.TheVariants as give
 use Rattle.superblocks.specs.declared.change.Change.{Change}
 use Rattle.superblocks.specs.declared.members.Members.{Members}
-use Rattle.md_base.specs.Sectors.{Sector}
+use Rattle.bank.specs.md_base_Sectors.{Sector}
 use Rattle.superblocks.specs.Reading.{Scope, is_recovering, role_count}
 use Rattle.superblocks.specs.Verdict.{judged_fields}
 use Rattle.superblocks.specs.Update.{give_of, own_in, is_recovery, planned_role, is_planned_spare, with_roles}

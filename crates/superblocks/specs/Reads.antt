@@ -1,9 +1,9 @@
 -- When the superblocks of an image say the same as others.
 use Rattle.std.specs.Prelude.{◌≡◌, ◌≢◌, ℕ, ◌<◌, ◌≤◌, Bool, true, false, ◌==◌, List, [], ◌∷◌, length, slice_index_or, Option, Some, None, if◌then◌else◌}
 use Rattle.std.specs.List.{list_any}
-use Rattle.md_base.specs.declared.status.Role.{Role}
-use Rattle.md_base.specs.declared.answers.Refusal.{Refusal}
-use Rattle.md_base.specs.Shapes.{has_slot}
+use Rattle.bank.specs.md_base_the_Role.{Role}
+use Rattle.geometry.specs.md_base_the_Refusal.{Refusal}
+use Rattle.geometry.specs.md_base_Shapes.{has_slot}
 use Rattle.sb1.specs.declared.sb.Sb.{Sb}
 use Rattle.sb1.specs.Features.{refused_bits}
 use Rattle.bank.specs.Tape.{Contents}

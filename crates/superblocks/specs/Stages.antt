@@ -1,8 +1,8 @@
 -- What a stop may leave while an update brings slots to the newest event count, and then writes what
 -- is planned. d is what a stop may leave before the update, and e now.
 use Rattle.std.specs.Prelude.{◌≡◌, ◌⊎◌, ℕ, ◌+◌, ◌<◌, true, false, not, ◌&&◌, List, length, Option, Some, None}
-use Rattle.md_base.specs.Sectors.{Sector}
-use Rattle.md_base.specs.Shapes.{has_slot}
+use Rattle.bank.specs.md_base_Sectors.{Sector}
+use Rattle.geometry.specs.md_base_Shapes.{has_slot}
 use Rattle.sb1.specs.declared.sb.Sb.{Sb}
 use Rattle.bank.specs.Tape.{IsIn}
 use Rattle.superblocks.specs.declared.change.Give.{Give}

@@ -1,9 +1,9 @@
 -- What an update of the superblocks plans for each slot.
 use Rattle.std.specs.Prelude.{ℕ, zero, suc, ◌+◌, ◌-◌, ◌^◌, ◌<◌, Bool, true, false, not, ◌&&◌, ◌||◌, ◌==◌, nat_lt, if◌then◌else◌, max, List, [], ◌∷◌, ◌++◌, take, drop, map, slice_index_or, slice_set, bit_and, bit_or, Option, Some, None}
 use Rattle.std.specs.List.{list_any}
-use Rattle.md_base.specs.declared.status.Role.{Role}
-use Rattle.md_base.specs.declared.status.Role.TheVariants.{Whole, Recovering, Missing}
-use Rattle.md_base.specs.Shapes.{has_slot}
+use Rattle.bank.specs.md_base_the_Role.{Role}
+use Rattle.bank.specs.md_base_the_Role_TheVariants.{Whole, Recovering, Missing}
+use Rattle.geometry.specs.md_base_Shapes.{has_slot}
 use Rattle.sb1.specs.declared.sb.Sb.{Sb}
 use Rattle.superblocks.specs.declared.change.Give.{Give}
 use Rattle.superblocks.specs.declared.change.Give.TheVariants.{Same, Spare}

@@ -2,13 +2,13 @@
 use Rattle.std.specs.Prelude.{ℕ, ◌+◌, ◌*◌, ◌^◌, Bool, not, ◌&&◌, ◌||◌, ◌==◌, nat_le, nat_lt, if◌then◌else◌, min, List, [], ◌∷◌, find, Option, Some, None, option_map, slice_index_or, IsTrue}
 use Rattle.std.specs.Option.{option_map_or, option_or}
 use Rattle.std.specs.List.{list_any}
-use Rattle.md_base.specs.declared.places.Shape.{Shape}
-use Rattle.md_base.specs.declared.status.Role.{Role}
-use Rattle.md_base.specs.declared.status.Role.TheVariants.{Missing}
-use Rattle.md_base.specs.declared.answers.Refusal.{Refusal}
-use Rattle.md_base.specs.declared.answers.Refusal.TheVariants.{NoSuperblock, Unsupported, BadField, TwoHolders, MembersMissing, DirtyDegraded, PositionNotOnUnit}
-use Rattle.md_base.specs.Shapes.{tolerance, is_level, is_layout, is_chunk, is_disk_count, is_multiple, is_valid_shape}
-use Rattle.md_base.specs.Search.{least_below, count_below, any_below}
+use Rattle.geometry.specs.md_base_the_Shape.{Shape}
+use Rattle.bank.specs.md_base_the_Role.{Role}
+use Rattle.bank.specs.md_base_the_Role_TheVariants.{Missing}
+use Rattle.geometry.specs.md_base_the_Refusal.{Refusal}
+use Rattle.geometry.specs.md_base_the_Refusal_TheVariants.{NoSuperblock, Unsupported, BadField, TwoHolders, MembersMissing, DirtyDegraded, PositionNotOnUnit}
+use Rattle.geometry.specs.md_base_Shapes.{tolerance, is_level, is_layout, is_chunk, is_disk_count, is_multiple, is_valid_shape}
+use Rattle.geometry.specs.md_base_Search.{least_below, count_below, any_below}
 use Rattle.sb1.specs.declared.sb.Sb.{Sb}
 use Rattle.sb1.specs.Features.{refused_bits}
 use Rattle.layout.specs.Layout.{is_parity_only}

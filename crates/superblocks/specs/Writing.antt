@@ -1,7 +1,7 @@
 -- What a stop may leave while superblocks are written to sector 8 of some slots, one slot after the other.
 use Rattle.std.specs.Prelude.{◌≡◌, ◌≢◌, ◌⊎◌, ℕ, ◌<◌, Bool, true, false, List, [], ◌∷◌, length, take, slice_index_or, Option, Some, None}
-use Rattle.md_base.specs.Sectors.{Sector}
-use Rattle.md_base.specs.Shapes.{has_slot}
+use Rattle.bank.specs.md_base_Sectors.{Sector}
+use Rattle.geometry.specs.md_base_Shapes.{has_slot}
 use Rattle.sb1.specs.declared.sb.Sb.{Sb}
 use Rattle.sb1.specs.Superblock.{sb_of, checksum, is_valid}
 use Rattle.sb1.specs.Writable.{IsWritable}

@@ -1,6 +1,6 @@
 //! The superblocks of a running array, as the bank's slots hold them.
 
-use md_base::{RoleList, SlotList};
+use bank::{RoleList, SlotList};
 use sb1::Sb;
 use std::alloc::{AllocError, Global};
 use std::marker::Model;

@@ -1,13 +1,13 @@
 //! The role entries that an update records.
 
 ghost use Rattle.std.specs.Prelude.{◌≡◌, ◌<◌, ◌≤◌, ◌^◌, ◌++◌, ℕ, map, take, drop, length, IfSome};
-ghost use Rattle.md_base.specs.Shapes.{has_slot};
+ghost use Rattle.geometry.specs.md_base_Shapes.{has_slot};
 ghost use Rattle.superblocks.specs.Update.{is_held_by, role_from, is_added, planned_role, is_planned_spare, slot_entry, entry_for, with_entry, with_entries, faulty_role, with_roles, give_of, own_in, IsRoleGive};
 
 use crate::change::{Change, Give};
 use crate::members::{Members, SbList};
 use crate::sets::contains;
-use md_base::{Role, RoleList, SlotList};
+use bank::{Role, RoleList, SlotList};
 use sb1::Sb;
 
 const SPARE: u16 = 0xffff;

@@ -1,7 +1,7 @@
 //! What the newest superblock says of the array, be its fields within their limits or not.
 
 ghost use Rattle.std.specs.Prelude.{◌≡◌, ◌<◌, ◌^◌};
-ghost use Rattle.md_base.specs.Shapes.{tolerance_of, data_disks};
+ghost use Rattle.geometry.specs.md_base_Shapes.{tolerance_of, data_disks};
 ghost use Rattle.superblocks.specs.Reading.{
   is_reshaping,
   is_recovering,
@@ -15,7 +15,7 @@ ghost use Rattle.superblocks.specs.Reading.{
   entry_of,
 };
 
-use md_base::Shape;
+use geometry::Shape;
 use sb1::{Features, Sb};
 
 /// Whether a reshape is active.

@@ -5,35 +5,35 @@ use Rattle.std.specs.Option.{option_map_or}
 use Rattle.std.proofs.lemmas.Bool.{cases_lt, and_parts}
 use Rattle.std.proofs.lemmas.Bool.Decides.{nat_tests}
 use Rattle.std.proofs.lemmas.List.{get_or_past}
-use Rattle.md_base.specs.Search.{least_below}
-use Rattle.md_base.specs.Shapes.{has_slot, is_valid_shape}
-use Rattle.md_base.specs.declared.places.Shape.{Shape}
-use Rattle.md_base.specs.declared.status.Role.{Role}
-use Rattle.md_base.specs.declared.status.Role.TheVariants.{Whole, Recovering, Missing}
-use Rattle.md_base.proofs.Tabulated.{length-tabulate, get_or-tabulate}
-use Rattle.bank.specs.Given.{Given, IsFaulted}
-use Rattle.layout.proofs.Limits.{limited}
-use Rattle.superblocks.specs.declared.change.Change.{Change}
-use Rattle.superblocks.specs.declared.change.Give.{Give}
-use Rattle.superblocks.specs.declared.members.Members.{Members}
-use Rattle.superblocks.specs.Outcome.{is_planned_holder, held_state, planned_state}
-use Rattle.superblocks.specs.Reading.{is_reshaping, is_whole, shape_of, role_count, role_state, holder}
-use Rattle.superblocks.specs.Update.{give_of, is_held_by, planned_role}
+use Rattle.takeover_kept.specs.md_base_Search.{least_below}
+use Rattle.takeover_kept.specs.md_base_Shapes.{has_slot, is_valid_shape}
+use Rattle.takeover_kept.specs.md_base_the_Shape.{Shape}
+use Rattle.takeover_kept.specs.md_base_the_Role.{Role}
+use Rattle.takeover_kept.specs.md_base_the_Role_TheVariants.{Whole, Recovering, Missing}
+use Rattle.takeover_kept.proofs.md_base_Tabulated.{length-tabulate, get_or-tabulate}
+use Rattle.still_calls.specs.bank_Given.{Given, IsFaulted}
+use Rattle.takeover_updates.proofs.layout_Limits.{limited}
+use Rattle.still_calls.specs.superblocks_the_Change.{Change}
+use Rattle.still_calls.specs.superblocks_the_Give.{Give}
+use Rattle.still_calls.specs.superblocks_the_Members.{Members}
+use Rattle.still_calls.specs.superblocks_Outcome.{is_planned_holder, held_state, planned_state}
+use Rattle.still_calls.specs.superblocks_Reading.{is_reshaping, is_whole, shape_of, role_count, role_state, holder}
+use Rattle.still_calls.specs.superblocks_Update.{give_of, is_held_by, planned_role}
 use Rattle.still_calls.proofs.superblock_reads_SaidLists.{held-holder}
 use Rattle.still_calls.proofs.superblock_reads_SaidSlots.{below-length}
-use Rattle.superblocks.proofs.ValidFields.{few-roles}
-use Rattle.row_io.specs.Rows.{reading_of, is_missing}
+use Rattle.still_calls.proofs.superblocks_ValidFields.{few-roles}
+use Rattle.still_calls.specs.row_io_Rows.{reading_of, is_missing}
 use Rattle.still_calls.specs.shape_changes_Safety.{HasLiveSlot}
 use Rattle.still_calls.specs.shape_changes_Steady.{AreUnlost}
 use Rattle.still_calls.proofs.shape_changes_PlannedRoles.{planned-held, held-planned}
-use Rattle.views.specs.Lacking.{AreLostSince, HaveFailedSince}
-use Rattle.views.specs.Moving.{IsMoved}
-use Rattle.views.specs.Placed.{is_vacant, IsPlaced}
-use Rattle.views.specs.Rebuilding.{AreSparesFree}
-use Rattle.views.proofs.Fit.{roles-still}
-use Rattle.views.proofs.LiveLeft.{holder-left}
-use Rattle.views.proofs.MarkLaws.{role_from-found}
-use Rattle.views.proofs.Still.{count-still}
+use Rattle.still_calls.specs.views_Lacking.{AreLostSince, HaveFailedSince}
+use Rattle.still_calls.specs.views_Moving.{IsMoved}
+use Rattle.still_calls.specs.views_Placed.{is_vacant, IsPlaced}
+use Rattle.still_calls.specs.views_Rebuilding.{AreSparesFree}
+use Rattle.still_calls.proofs.views_Fit.{roles-still}
+use Rattle.still_calls.proofs.views_LiveLeft.{holder-left}
+use Rattle.still_calls.proofs.views_MarkLaws.{role_from-found}
+use Rattle.still_calls.proofs.views_Still.{count-still}
 use Rattle.still_calls.proofs.history_calls_Behind.{IsAmong}
 use Rattle.takeover_updates.specs.TakingOver.{CanTakeUp, CanTakeOver, taking_over, taken_plan}
 use Rattle.takeover_updates.proofs.TakenPlan.{count, gives-or, live, one-holder}

@@ -1,16 +1,16 @@
 -- The next phase of a plan is a takeover: which way it goes, and that the array's level can be taken over so.
 use Rattle.std.proofs.Common.{◌≡◌, ◌⊎◌, inl, inr, ℕ, not, false, List, [], ◌∷◌, refl, sym, ◌∙◌, ap, subst, arith}
 use Rattle.std.specs.Prelude.{IsTrue}
-use Rattle.md_base.specs.Shapes.{is_valid_shape}
-use Rattle.md_base.specs.declared.places.Shape.{Shape}
-use Rattle.md_base.specs.declared.status.Role.{Role}
-use Rattle.md_base.specs.declared.status.Role.TheVariants.{Whole, Recovering, Missing}
-use Rattle.md_base.specs.declared.wishes.Phase.{Phase}
-use Rattle.md_base.specs.declared.wishes.Phase.TheVariants.{UpTo6, DownTo5}
-use Rattle.grow_plan.specs.Plans.{AreSound, taken_up}
-use Rattle.superblocks.specs.declared.members.Members.{Members}
-use Rattle.superblocks.specs.Reading.{is_whole, shape_of}
-use Rattle.superblocks.specs.Reads.{has_spare}
+use Rattle.takeover_kept.specs.md_base_Shapes.{is_valid_shape}
+use Rattle.takeover_kept.specs.md_base_the_Shape.{Shape}
+use Rattle.takeover_kept.specs.md_base_the_Role.{Role}
+use Rattle.takeover_kept.specs.md_base_the_Role_TheVariants.{Whole, Recovering, Missing}
+use Rattle.takeover_kept.specs.md_base_the_Phase.{Phase}
+use Rattle.takeover_kept.specs.md_base_the_Phase_TheVariants.{UpTo6, DownTo5}
+use Rattle.still_calls.specs.grow_plan_Plans.{AreSound, taken_up}
+use Rattle.still_calls.specs.superblocks_the_Members.{Members}
+use Rattle.still_calls.specs.superblocks_Reading.{is_whole, shape_of}
+use Rattle.still_calls.specs.superblocks_Reads.{has_spare}
 use Rattle.takeover_updates.specs.TakingOver.{CanTakeOver}
 use Rattle.still_calls.proofs.still_Lowest.{lowest-found}
 use Rattle.takeover.specs.TakenOver.{IsTakeoverNext, IsTakenSlot}

@@ -5,28 +5,28 @@ use Rattle.std.specs.List.{list_any}
 use Rattle.std.proofs.Math.Seq.{drop-append_seam}
 use Rattle.std.proofs.lemmas.Bool.{cases_lt}
 use Rattle.std.proofs.lemmas.List.Folds.{list_any-append}
-use Rattle.md_base.specs.Search.{count_below}
-use Rattle.md_base.specs.Shapes.{has_slot}
-use Rattle.md_base.specs.declared.answers.Who.{Who}
-use Rattle.md_base.specs.declared.places.Shape.{Shape}
-use Rattle.md_base.specs.declared.status.Role.{Role}
-use Rattle.md_base.specs.declared.status.Role.TheVariants.{Whole, Recovering, Missing}
-use Rattle.md_base.proofs.Least.{least_below-none}
-use Rattle.superblocks.specs.declared.members.Members.{Members}
-use Rattle.superblocks.specs.Reading.{is_reshaping, is_whole, shape_of, final_shape, role_state, holder}
-use Rattle.row_io.specs.Rows.{reading_of, is_missing, IsTolerated}
-use Rattle.flat_history.specs.declared.events.Entry.{Entry}
-use Rattle.flat_history.specs.declared.events.Event.{Event}
-use Rattle.flat_history.specs.declared.events.Event.TheVariants.{Lost}
-use Rattle.flat_history.specs.declared.events.LostCause.TheVariants.{Fault}
-use Rattle.flat_history.specs.Plain.{entries_of}
+use Rattle.takeover_kept.specs.md_base_Search.{count_below}
+use Rattle.takeover_kept.specs.md_base_Shapes.{has_slot}
+use Rattle.takeover_kept.specs.md_base_the_Who.{Who}
+use Rattle.takeover_kept.specs.md_base_the_Shape.{Shape}
+use Rattle.takeover_kept.specs.md_base_the_Role.{Role}
+use Rattle.takeover_kept.specs.md_base_the_Role_TheVariants.{Whole, Recovering, Missing}
+use Rattle.takeover_kept.proofs.md_base_Least.{least_below-none}
+use Rattle.still_calls.specs.superblocks_the_Members.{Members}
+use Rattle.still_calls.specs.superblocks_Reading.{is_reshaping, is_whole, shape_of, final_shape, role_state, holder}
+use Rattle.still_calls.specs.row_io_Rows.{reading_of, is_missing, IsTolerated}
+use Rattle.still_calls.specs.flat_history_the_Entry.{Entry}
+use Rattle.still_calls.specs.flat_history_the_Event.{Event}
+use Rattle.still_calls.specs.flat_history_the_Event_TheVariants.{Lost}
+use Rattle.still_calls.specs.flat_history_the_LostCause_TheVariants.{Fault}
+use Rattle.still_calls.specs.flat_history_Plain.{entries_of}
 use Rattle.still_calls.specs.shape_views_Regions.{DoWithout}
 use Rattle.still_calls.proofs.shape_views_Stands.{final-still}
-use Rattle.views.specs.declared.work.Work.{Work}
-use Rattle.views.specs.Placed.{is_vacant}
-use Rattle.views.specs.Status.{stripes_of, rebuilt_of, vacant_count, spare_count, resync_left, role_left, recovery_left, left_of}
-use Rattle.views.proofs.Still.{count-still}
-use Rattle.call_entries.specs.Losing.{role_loss, role_losses, spare_losses, losses_of}
+use Rattle.still_calls.specs.views_the_Work.{Work}
+use Rattle.still_calls.specs.views_Placed.{is_vacant}
+use Rattle.still_calls.specs.views_Status.{stripes_of, rebuilt_of, vacant_count, spare_count, resync_left, role_left, recovery_left, left_of}
+use Rattle.still_calls.proofs.views_Still.{count-still}
+use Rattle.takeover_kept.specs.call_entries_Losing.{role_loss, role_losses, spare_losses, losses_of}
 use Rattle.still_calls.proofs.array_kept_StepsLeft.{recovery-more}
 use Rattle.still_calls.specs.still_kept_Still.{AreNoneMissing}
 use Rattle.still_calls.proofs.still_Lowest.{none-counted}

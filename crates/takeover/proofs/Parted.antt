@@ -1,11 +1,11 @@
 -- What is told of an array by its parts is told of the array.
 use Rattle.std.proofs.Common.{◌≡◌, ℕ, ◌*◌, ◌<◌, ◌≤◌, List, sym, ◌∙◌, ap, subst, arith}
-use Rattle.md_base.specs.declared.answers.Refusal.{Refusal}
-use Rattle.md_base.specs.declared.answers.Who.{Who}
-use Rattle.md_base.specs.declared.places.Shape.{Shape}
-use Rattle.bank.specs.declared.bank.Operation.{Operation}
-use Rattle.bank.specs.Given.{Given}
-use Rattle.grow_asked.specs.declared.window.PhasesLeft.{PhasesLeft}
+use Rattle.takeover_kept.specs.md_base_the_Refusal.{Refusal}
+use Rattle.takeover_kept.specs.md_base_the_Who.{Who}
+use Rattle.takeover_kept.specs.md_base_the_Shape.{Shape}
+use Rattle.still_calls.specs.bank_the_Operation.{Operation}
+use Rattle.still_calls.specs.bank_Given.{Given}
+use Rattle.still_calls.specs.grow_asked_the_PhasesLeft.{PhasesLeft}
 use Rattle.still_calls.specs.running_words_Parts.{RunningParts}
 use Rattle.takeover.specs.TakenOver.{IsUntaken, IsUntouched, IsLevelTaken}
 

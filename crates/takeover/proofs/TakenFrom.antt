@@ -2,27 +2,27 @@
 use Rattle.std.proofs.Common.{◌≡◌, ◌≢◌, ◌⊎◌, inl, inr, ℕ, ◌-◌, ◌==◌, ◌&&◌, ◌||◌, nat_lt, Bool, true, false, not, cond, replicate, slice_set, Option, Some, None, refl, sym, ◌∙◌, ap, arith}
 use Rattle.std.proofs.lemmas.Bool.{cases_eq, cases_lt, and_parts}
 use Rattle.std.proofs.lemmas.List.{length-replicate, length-set, get_or-set_same, get_or-set_other, get_or_past}
-use Rattle.md_base.specs.Search.{tabulate}
-use Rattle.md_base.specs.Shapes.{has_slot}
-use Rattle.md_base.specs.declared.places.Shape.{Shape}
-use Rattle.md_base.specs.declared.status.Role.TheVariants.{Missing}
-use Rattle.md_base.proofs.Tabulated.{length-tabulate, get_or-tabulate}
-use Rattle.superblocks.specs.declared.change.Change.{Change}
-use Rattle.superblocks.specs.declared.change.Give.{Give}
-use Rattle.superblocks.specs.declared.change.Give.TheVariants.{Same, Spare}
-use Rattle.superblocks.specs.declared.change.Give.TheVariants as give
-use Rattle.superblocks.specs.declared.members.Members.{Members}
-use Rattle.superblocks.specs.Outcome.{planned_state}
-use Rattle.superblocks.specs.Reading.{role_count, holder}
-use Rattle.superblocks.specs.Reads.{has_spare}
-use Rattle.superblocks.specs.Update.{give_of, planned_role, is_planned_spare}
+use Rattle.takeover_kept.specs.md_base_Search.{tabulate}
+use Rattle.takeover_kept.specs.md_base_Shapes.{has_slot}
+use Rattle.takeover_kept.specs.md_base_the_Shape.{Shape}
+use Rattle.takeover_kept.specs.md_base_the_Role_TheVariants.{Missing}
+use Rattle.takeover_kept.proofs.md_base_Tabulated.{length-tabulate, get_or-tabulate}
+use Rattle.still_calls.specs.superblocks_the_Change.{Change}
+use Rattle.still_calls.specs.superblocks_the_Give.{Give}
+use Rattle.still_calls.specs.superblocks_the_Give_TheVariants.{Same, Spare}
+use Rattle.still_calls.specs.superblocks_the_Give_TheVariants as give
+use Rattle.still_calls.specs.superblocks_the_Members.{Members}
+use Rattle.still_calls.specs.superblocks_Outcome.{planned_state}
+use Rattle.still_calls.specs.superblocks_Reading.{role_count, holder}
+use Rattle.still_calls.specs.superblocks_Reads.{has_spare}
+use Rattle.still_calls.specs.superblocks_Update.{give_of, planned_role, is_planned_spare}
 use Rattle.still_calls.proofs.superblock_reads_SaidLists.{role-holder}
 use Rattle.still_calls.proofs.superblock_reads_SaidSlots.{has-slots_below}
 use Rattle.still_calls.proofs.shape_changes_Kept.{give_of-same}
 use Rattle.still_calls.proofs.shape_changes_PlannedRoles.{planned-holds}
 use Rattle.takeover_updates.specs.TakingOver.{level_give, taking_over, taken_plan}
-use Rattle.views.specs.Placed.{AreStillHeld}
-use Rattle.views.specs.Rebuilding.{Held, MayHold}
+use Rattle.still_calls.specs.views_Placed.{AreStillHeld}
+use Rattle.still_calls.specs.views_Rebuilding.{Held, MayHold}
 use Rattle.still_calls.specs.array_kept_Calls.{AreSparesFewer}
 use Rattle.still_calls.proofs.still_Lowest.{lowest-found}
 use Rattle.takeover.specs.TakenOver.{IsTakenSlot}

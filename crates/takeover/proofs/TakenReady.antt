@@ -4,31 +4,31 @@ use Rattle.std.specs.Prelude.{if◌then◌else◌}
 use Rattle.std.specs.List.{list_any, All}
 use Rattle.std.proofs.lemmas.List.{get_or-set_same}
 use Rattle.std.proofs.lemmas.List.Elements.{All-nil, All-cons}
-use Rattle.md_base.specs.Shapes.{has_slot}
-use Rattle.md_base.specs.declared.answers.Who.{Who}
-use Rattle.md_base.specs.declared.places.Shape.{Shape}
-use Rattle.md_base.specs.declared.status.Role.TheVariants.{Recovering}
-use Rattle.md_base.specs.declared.wishes.Phase.{Phase}
-use Rattle.md_base.specs.declared.wishes.Phase.TheVariants.{UpTo6, DownTo5}
-use Rattle.bank.specs.declared.bank.Operation.{Operation}
-use Rattle.bank.specs.Given.{Given, NeverFalls}
-use Rattle.layout.proofs.Limits.{limited}
-use Rattle.grow_plan.specs.Plans.{AreSound, last_shape, phases_steps}
-use Rattle.superblocks.specs.declared.members.Members.{Members}
-use Rattle.superblocks.specs.Reading.{Scope, is_reshaping, shape_of, final_shape, list_length, role_count, role_state}
-use Rattle.row_io.specs.Rows.{reading_of, present, is_missing}
-use Rattle.flat_history.specs.declared.events.Entry.{Entry}
-use Rattle.flat_history.specs.declared.events.Event.{Event}
-use Rattle.flat_history.specs.declared.events.Event.TheVariants.{Lost, Step}
-use Rattle.flat_history.specs.declared.events.LostCause.TheVariants.{Fault}
-use Rattle.flat_history.specs.declared.events.StepKind.TheVariants.{TakenOver}
-use Rattle.flat_history.specs.Fits.{is_lost_event}
-use Rattle.flat_history.specs.Flat.{length_of}
-use Rattle.flat_history.specs.Legal.{disturbs}
-use Rattle.flat_history.specs.Plain.{entries_of}
-use Rattle.flat_history.specs.Reshaped.{open_plans}
-use Rattle.flat_history.specs.Sound.{OpensFit}
-use Rattle.flat_history.specs.World.{World}
+use Rattle.takeover_kept.specs.md_base_Shapes.{has_slot}
+use Rattle.takeover_kept.specs.md_base_the_Who.{Who}
+use Rattle.takeover_kept.specs.md_base_the_Shape.{Shape}
+use Rattle.takeover_kept.specs.md_base_the_Role_TheVariants.{Recovering}
+use Rattle.takeover_kept.specs.md_base_the_Phase.{Phase}
+use Rattle.takeover_kept.specs.md_base_the_Phase_TheVariants.{UpTo6, DownTo5}
+use Rattle.still_calls.specs.bank_the_Operation.{Operation}
+use Rattle.still_calls.specs.bank_Given.{Given, NeverFalls}
+use Rattle.takeover_updates.proofs.layout_Limits.{limited}
+use Rattle.still_calls.specs.grow_plan_Plans.{AreSound, last_shape, phases_steps}
+use Rattle.still_calls.specs.superblocks_the_Members.{Members}
+use Rattle.still_calls.specs.superblocks_Reading.{Scope, is_reshaping, shape_of, final_shape, list_length, role_count, role_state}
+use Rattle.still_calls.specs.row_io_Rows.{reading_of, present, is_missing}
+use Rattle.still_calls.specs.flat_history_the_Entry.{Entry}
+use Rattle.still_calls.specs.flat_history_the_Event.{Event}
+use Rattle.still_calls.specs.flat_history_the_Event_TheVariants.{Lost, Step}
+use Rattle.still_calls.specs.flat_history_the_LostCause_TheVariants.{Fault}
+use Rattle.still_calls.specs.flat_history_the_StepKind_TheVariants.{TakenOver}
+use Rattle.still_calls.specs.flat_history_Fits.{is_lost_event}
+use Rattle.still_calls.specs.flat_history_Flat.{length_of}
+use Rattle.still_calls.specs.flat_history_Legal.{disturbs}
+use Rattle.still_calls.specs.flat_history_Plain.{entries_of}
+use Rattle.still_calls.specs.flat_history_Reshaped.{open_plans}
+use Rattle.still_calls.specs.flat_history_Sound.{OpensFit}
+use Rattle.still_calls.specs.flat_history_World.{World}
 use Rattle.still_calls.specs.shape_views_Views.{Ledger}
 use Rattle.still_calls.specs.shape_changes_Changing.{IsSafeChange}
 use Rattle.still_calls.specs.shape_changes_Marking.{AreOthersPresent}
@@ -39,22 +39,22 @@ use Rattle.still_calls.specs.shape_ends_Takeovers.{IsTakenUp, IsTakenDown}
 use Rattle.takeover_updates.specs.TakingOver.{IsTakenTo, CanTakeUp, CanTakeOver, taking_over, taken_plan}
 use Rattle.takeover_kept.proofs.TakenMembers.{taken-then, taken-long}
 use Rattle.takeover_kept.proofs.TakenStill.{IsTakenBy, taken-keeps}
-use Rattle.views.specs.declared.work.Work.{Work}
-use Rattle.views.specs.Lacking.{AreLostSince, HaveFailedSince}
-use Rattle.views.specs.Moving.{Grows, IsMoved}
-use Rattle.views.specs.Numbers.{bears}
-use Rattle.views.specs.Placed.{is_vacant}
-use Rattle.views.specs.Rebuilding.{AreSparesFree, Held}
-use Rattle.views.specs.Status.{left_of, resync_left, rebuilt_of, stripes_of}
-use Rattle.views.proofs.HeldRows.{missing-moved}
-use Rattle.views.proofs.MarkLaws.{few-planned}
-use Rattle.call_entries.specs.Losing.{losses_of}
-use Rattle.call_entries.proofs.CallLaws.{all-losses}
-use Rattle.call_entries.proofs.PlainLaws.{one}
+use Rattle.still_calls.specs.views_the_Work.{Work}
+use Rattle.still_calls.specs.views_Lacking.{AreLostSince, HaveFailedSince}
+use Rattle.still_calls.specs.views_Moving.{Grows, IsMoved}
+use Rattle.still_calls.specs.views_Numbers.{bears}
+use Rattle.still_calls.specs.views_Placed.{is_vacant}
+use Rattle.still_calls.specs.views_Rebuilding.{AreSparesFree, Held}
+use Rattle.still_calls.specs.views_Status.{left_of, resync_left, rebuilt_of, stripes_of}
+use Rattle.still_calls.proofs.views_HeldRows.{missing-moved}
+use Rattle.still_calls.proofs.views_MarkLaws.{few-planned}
+use Rattle.takeover_kept.specs.call_entries_Losing.{losses_of}
+use Rattle.takeover_kept.proofs.call_entries_CallLaws.{all-losses}
+use Rattle.takeover_kept.proofs.call_entries_PlainLaws.{one}
 use Rattle.still_calls.specs.array_kept_Calls.{AreLossesOf, AreStepsFewer, IsLossBy, WasSpare, with_rebuilt}
 use Rattle.still_calls.proofs.array_kept_NowLaws.{length-more}
-use Rattle.grow_asked.specs.declared.window.PhasesLeft.{PhasesLeft}
-use Rattle.grow_asked.specs.Left.{phases_of}
+use Rattle.still_calls.specs.grow_asked_the_PhasesLeft.{PhasesLeft}
+use Rattle.still_calls.specs.grow_asked_Left.{phases_of}
 use Rattle.still_calls.specs.kept_history_Recorded.{IsCallGoing}
 use Rattle.still_calls.specs.kept_history_Safe.{world_in}
 use Rattle.still_calls.specs.history_calls_Reliable.{IsReliable}

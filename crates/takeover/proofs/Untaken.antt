@@ -1,16 +1,16 @@
 -- A takeover that is refused leaves the array as it was.
 use Rattle.std.proofs.Common.{◌≡◌, ◌≢◌, inl, inr, ℕ, Option, List, [], ◌∷◌, ◌++◌, length, refl, sym, subst}
-use Rattle.md_base.specs.declared.answers.Refusal.{Refusal}
-use Rattle.md_base.specs.declared.answers.Who.{Who}
-use Rattle.md_base.specs.declared.places.Shape.{Shape}
-use Rattle.bank.specs.declared.bank.Operation.{Operation}
-use Rattle.bank.specs.Given.{Given}
-use Rattle.superblocks.specs.declared.members.Members.{Members}
-use Rattle.superblocks.specs.Reading.{Scope}
-use Rattle.flat_history.specs.declared.events.Entry.{Entry}
-use Rattle.flat_history.specs.declared.events.Event.TheVariants.{Refused}
-use Rattle.flat_history.specs.Plain.{entries_of}
-use Rattle.views.specs.declared.work.Work.{Work}
+use Rattle.takeover_kept.specs.md_base_the_Refusal.{Refusal}
+use Rattle.takeover_kept.specs.md_base_the_Who.{Who}
+use Rattle.takeover_kept.specs.md_base_the_Shape.{Shape}
+use Rattle.still_calls.specs.bank_the_Operation.{Operation}
+use Rattle.still_calls.specs.bank_Given.{Given}
+use Rattle.still_calls.specs.superblocks_the_Members.{Members}
+use Rattle.still_calls.specs.superblocks_Reading.{Scope}
+use Rattle.still_calls.specs.flat_history_the_Entry.{Entry}
+use Rattle.still_calls.specs.flat_history_the_Event_TheVariants.{Refused}
+use Rattle.still_calls.specs.flat_history_Plain.{entries_of}
+use Rattle.still_calls.specs.views_the_Work.{Work}
 use Rattle.still_calls.proofs.array_kept_KeptLaws.{left-lost}
 use Rattle.still_calls.specs.kept_history_Recorded.{IsCallGoing}
 use Rattle.still_calls.specs.kept_history_Safe.{world_in}

@@ -1,33 +1,33 @@
 -- A level is taken over: when, and what it leaves.
 use Rattle.std.specs.Prelude.{◌≡◌, ◌⊎◌, ℕ, ◌+◌, ◌-◌, ◌<◌, ◌++◌, ◌==◌, true, List, [], ◌∷◌, Some, None, if◌then◌else◌}
-use Rattle.md_base.specs.Shapes.{has_slot}
-use Rattle.md_base.specs.declared.answers.Refusal.{Refusal}
-use Rattle.md_base.specs.declared.answers.Refusal.TheVariants.{Degraded, NeedSpares}
-use Rattle.md_base.specs.declared.answers.Who.{Who}
-use Rattle.md_base.specs.declared.places.Shape.{Shape}
-use Rattle.md_base.specs.declared.status.Role.TheVariants.{Whole}
-use Rattle.md_base.specs.declared.wishes.Phase.{Phase}
-use Rattle.md_base.specs.declared.wishes.Phase.TheVariants.{UpTo6, DownTo5}
-use Rattle.bank.specs.declared.bank.Operation.{Operation}
-use Rattle.bank.specs.Given.{Given, NeverFalls}
-use Rattle.superblocks.specs.declared.members.Members.{Members}
-use Rattle.superblocks.specs.Reading.{list_length, role_count, role_state}
-use Rattle.superblocks.specs.Reads.{has_spare}
-use Rattle.row_io.specs.Rows.{reading_of, present}
-use Rattle.flat_history.specs.declared.events.Entry.{Entry}
-use Rattle.flat_history.specs.declared.events.Event.TheVariants.{Step, Refused}
-use Rattle.flat_history.specs.declared.events.StepKind.TheVariants.{TakenOver}
-use Rattle.flat_history.specs.Plain.{entries_of}
+use Rattle.takeover_kept.specs.md_base_Shapes.{has_slot}
+use Rattle.takeover_kept.specs.md_base_the_Refusal.{Refusal}
+use Rattle.takeover_kept.specs.md_base_the_Refusal_TheVariants.{Degraded, NeedSpares}
+use Rattle.takeover_kept.specs.md_base_the_Who.{Who}
+use Rattle.takeover_kept.specs.md_base_the_Shape.{Shape}
+use Rattle.takeover_kept.specs.md_base_the_Role_TheVariants.{Whole}
+use Rattle.takeover_kept.specs.md_base_the_Phase.{Phase}
+use Rattle.takeover_kept.specs.md_base_the_Phase_TheVariants.{UpTo6, DownTo5}
+use Rattle.still_calls.specs.bank_the_Operation.{Operation}
+use Rattle.still_calls.specs.bank_Given.{Given, NeverFalls}
+use Rattle.still_calls.specs.superblocks_the_Members.{Members}
+use Rattle.still_calls.specs.superblocks_Reading.{list_length, role_count, role_state}
+use Rattle.still_calls.specs.superblocks_Reads.{has_spare}
+use Rattle.still_calls.specs.row_io_Rows.{reading_of, present}
+use Rattle.still_calls.specs.flat_history_the_Entry.{Entry}
+use Rattle.still_calls.specs.flat_history_the_Event_TheVariants.{Step, Refused}
+use Rattle.still_calls.specs.flat_history_the_StepKind_TheVariants.{TakenOver}
+use Rattle.still_calls.specs.flat_history_Plain.{entries_of}
 use Rattle.still_calls.specs.shape_changes_Marking.{AreOthersPresent}
 use Rattle.takeover_updates.specs.TakingOver.{IsTakenTo, taken_plan}
-use Rattle.views.specs.declared.work.Work.{Work}
-use Rattle.views.specs.Lacking.{HaveRolesFailed}
-use Rattle.views.specs.Moving.{Grows}
-use Rattle.views.specs.Placed.{is_vacant, AreStillHeld}
-use Rattle.call_entries.specs.Losing.{losses_of}
+use Rattle.still_calls.specs.views_the_Work.{Work}
+use Rattle.still_calls.specs.views_Lacking.{HaveRolesFailed}
+use Rattle.still_calls.specs.views_Moving.{Grows}
+use Rattle.still_calls.specs.views_Placed.{is_vacant, AreStillHeld}
+use Rattle.takeover_kept.specs.call_entries_Losing.{losses_of}
 use Rattle.still_calls.specs.array_kept_Calls.{AreLossesOf, AreSparesFewer, AreStepsFewer, IsEndOf, with_rebuilt}
-use Rattle.grow_asked.specs.declared.window.PhasesLeft.{PhasesLeft}
-use Rattle.grow_asked.specs.Asked.{lowest_missing}
+use Rattle.still_calls.specs.grow_asked_the_PhasesLeft.{PhasesLeft}
+use Rattle.still_calls.specs.grow_asked_Asked.{lowest_missing}
 use Rattle.still_calls.specs.running_words_Parts.{RunningParts, still_left}
 use Rattle.still_calls.specs.still_kept_Still.{AreNoneMissing}
 use Rattle.still_calls.specs.still_kept_course_kept_Laws.{closed}

@@ -1,16 +1,14 @@
 //! Which slot a takeover changes, or why it isn't done.
 
 ghost use Rattle.std.specs.Prelude.{◌≡◌, ◌⊎◌, ◌<◌, ◌≤◌, length, MatchOption, Some, IfOk, IfErr};
-ghost use Rattle.superblocks.specs.Reading.{role_count, role_state};
-ghost use Rattle.row_io.specs.Rows.{reading_of};
-ghost use Rattle.grow_asked.specs.Asked.{lowest_missing};
+ghost use Rattle.still_calls.specs.superblocks_Reading.{role_count, role_state};
+ghost use Rattle.still_calls.specs.row_io_Rows.{reading_of};
+ghost use Rattle.still_calls.specs.grow_asked_Asked.{lowest_missing};
 ghost use Rattle.still_calls.specs.still_kept_Still.{AreNoneMissing};
 ghost use Rattle.takeover.specs.TakenOver.{IsTakenSlot, IsUntaken};
 
-use md_base::{Refusal, Role, Shape};
-use row_io::is_missing;
-use still_calls::first_spare;
-use superblocks::Members;
+use still_calls::{Members, first_spare, is_missing};
+use takeover_kept::{Refusal, Role, Shape};
 
 // The lowest role that isn't whole.
 fn lowest_missing(members: &Members) -> Option<u32>

@@ -4,5 +4,5 @@
 mod choosing;
 mod taking;
 
-pub use still_calls::{add, read, write};
+pub use still_calls::{Epoch, Event, Members, PhasesLeft, Pieces, add, read, write};
 pub use taking::take_over;

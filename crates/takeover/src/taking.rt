@@ -2,20 +2,20 @@
 
 ghost use Rattle.std.specs.Prelude.{◌≡◌, ◌≢◌, ◌+◌, ◌⊎◌, ◌≤◌, ◌<◌, ◌^◌, ◌++◌, ◌∷◌, ◌&&◌, [], ℕ, nat_lt, true, length, vec_capacity, IfOk, IfErr, IsTrue, IfSome};
 ghost use Rattle.std.specs.List.{list_any};
-ghost use Rattle.md_base.specs.Shapes.{has_slot, is_valid_shape};
-ghost use Rattle.md_base.specs.declared.places.Shape.{Shape as AShape};
-ghost use Rattle.grow_plan.specs.Plans.{AreSound};
-ghost use Rattle.superblocks.specs.Reading.{shape_of, role_count};
-ghost use Rattle.row_io.specs.Rows.{reading_of};
-ghost use Rattle.flat_history.specs.declared.events.Event.TheVariants.{Step, Refused};
-ghost use Rattle.flat_history.specs.declared.events.StepKind.TheVariants.{TakenOver as HasTaken};
-ghost use Rattle.flat_history.specs.Plain.{entries_of};
+ghost use Rattle.takeover_kept.specs.md_base_Shapes.{has_slot, is_valid_shape};
+ghost use Rattle.takeover_kept.specs.md_base_the_Shape.{Shape as AShape};
+ghost use Rattle.still_calls.specs.grow_plan_Plans.{AreSound};
+ghost use Rattle.still_calls.specs.superblocks_Reading.{shape_of, role_count};
+ghost use Rattle.still_calls.specs.row_io_Rows.{reading_of};
+ghost use Rattle.still_calls.specs.flat_history_the_Event_TheVariants.{Step, Refused};
+ghost use Rattle.still_calls.specs.flat_history_the_StepKind_TheVariants.{TakenOver as HasTaken};
+ghost use Rattle.still_calls.specs.flat_history_Plain.{entries_of};
 ghost use Rattle.still_calls.specs.shape_views_Regions.{AreShapesFit};
-ghost use Rattle.views.specs.Placed.{is_vacant};
-ghost use Rattle.views.specs.Status.{left_of, stripes_of};
-ghost use Rattle.call_entries.specs.Losing.{losses_of};
+ghost use Rattle.still_calls.specs.views_Placed.{is_vacant};
+ghost use Rattle.still_calls.specs.views_Status.{left_of, stripes_of};
+ghost use Rattle.takeover_kept.specs.call_entries_Losing.{losses_of};
 ghost use Rattle.still_calls.specs.array_kept_Kept.{scope_in};
-ghost use Rattle.grow_asked.specs.Left.{phases_of};
+ghost use Rattle.still_calls.specs.grow_asked_Left.{phases_of};
 ghost use Rattle.still_calls.specs.kept_history_Recorded.{IsCallGoing};
 ghost use Rattle.still_calls.specs.running_words_Calls.{moving_world};
 ghost use Rattle.still_calls.specs.running_words_Parts.{RunningParts, still_left};
@@ -25,16 +25,12 @@ ghost use Rattle.still_calls.specs.still_kept_course_kept_Laws.{closed};
 ghost use Rattle.takeover.specs.TakenOver.{IsTakeoverNext, IsUntaken, IsUntouched, IsLevelTaken, work_then};
 
 use crate::choosing::taken_slot;
-use bank::Bank;
-use call_entries::calls::{enter, enter_lost};
-use flat_history::{Entries, Epoch, Event, StepKind};
-use grow_asked::{PhasesLeft, planned_left};
-use md_base::{Refusal, Shape, Who};
-use pieces::Pieces;
-use still_calls::{Still, set_rebuilt, steps_left, vacant_roles};
-use superblocks::Members;
+use still_calls::{
+    Bank, Entries, Epoch, Event, Members, PhasesLeft, Pieces, StepKind, Still, Work, planned_left,
+    set_rebuilt, steps_left, vacant_roles,
+};
+use takeover_kept::{Refusal, Shape, Who, enter, enter_lost};
 use takeover_updates::take_over as take_level;
-use views::Work;
 
 // The number of a call that goes on is at most the number of entries.
 fn check_going(entries: &Entries, who: Who)

@@ -2,12 +2,12 @@
 use Rattle.std.proofs.Common.{◌≡◌, ◌⊎◌, inl, inr, ℕ, ◌+◌, ◌*◌, ◌<◌, false, sym, ◌∙◌, ap, refl, arith, None}
 use Rattle.std.specs.Prelude.{IsTrue}
 use Rattle.std.proofs.lemmas.Bool.{cases_lt}
-use Rattle.md_base.specs.Sectors.{Sector}
-use Rattle.md_base.specs.Shapes.{data_disks, is_valid_shape}
-use Rattle.md_base.specs.declared.places.Shape.{Shape}
-use Rattle.bank.specs.Given.{Given}
-use Rattle.bank.specs.Tape.{Contents}
-use Rattle.grow_plan.specs.Plans.{taken_up}
+use Rattle.still_kept.specs.md_base_Sectors.{Sector}
+use Rattle.still_kept.specs.md_base_Shapes.{data_disks, is_valid_shape}
+use Rattle.still_kept.specs.md_base_the_Shape.{Shape}
+use Rattle.still_kept.specs.bank_Given.{Given}
+use Rattle.still_kept.specs.bank_Tape.{Contents}
+use Rattle.still_kept.specs.grow_plan_Plans.{taken_up}
 use Rattle.still_kept.specs.superblocks_the_Members.{Members}
 use Rattle.still_kept.specs.superblocks_Reading.{Scope, is_reshaping, shape_of, list_length, role_count}
 use Rattle.still_kept.specs.shape_views_Regions.{ArePlaced}

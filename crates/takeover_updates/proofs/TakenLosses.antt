@@ -3,22 +3,22 @@ use Rattle.std.proofs.Common.{◌≡◌, ◌⊎◌, inl, inr, ℕ, ◌<◌, ◌&
 use Rattle.std.specs.Prelude.{IsTrue}
 use Rattle.std.specs.List.{list_any}
 use Rattle.std.proofs.lemmas.Bool.Decides.{nat_tests}
-use Rattle.md_base.specs.Shapes.{has_slot, is_valid_shape}
-use Rattle.md_base.specs.declared.places.Shape.{Shape}
-use Rattle.md_base.specs.declared.status.Role.{Role}
-use Rattle.md_base.specs.declared.status.Role.TheVariants.{Missing}
-use Rattle.md_base.proofs.Tabulated.{length-tabulate, get_or-tabulate}
-use Rattle.bank.specs.declared.bank.Operation.{Operation}
-use Rattle.bank.specs.Given.{Given, IsFaulted}
-use Rattle.superblocks.specs.declared.change.Change.{Change}
-use Rattle.superblocks.specs.declared.change.Give.{Give}
-use Rattle.superblocks.specs.declared.members.Members.{Members}
-use Rattle.superblocks.specs.Reading.{is_reshaping, shape_of, role_count, role_state, holder}
-use Rattle.superblocks.specs.Reads.{has_spare}
-use Rattle.superblocks.specs.Update.{give_of, is_held_by, is_live, role_from, planned_role, is_planned_spare}
-use Rattle.superblocks.specs.Updating.{AreLosses}
-use Rattle.superblocks.specs.Outcome.{live_set, planned_state, planned_roles}
-use Rattle.superblocks.proofs.SlotSets.{some_role}
+use Rattle.reshape_ends.specs.md_base_Shapes.{has_slot, is_valid_shape}
+use Rattle.reshape_ends.specs.md_base_the_Shape.{Shape}
+use Rattle.reshape_ends.specs.md_base_the_Role.{Role}
+use Rattle.reshape_ends.specs.md_base_the_Role_TheVariants.{Missing}
+use Rattle.reshape_ends.proofs.md_base_Tabulated.{length-tabulate, get_or-tabulate}
+use Rattle.reshape_ends.specs.bank_the_Operation.{Operation}
+use Rattle.reshape_ends.specs.bank_Given.{Given, IsFaulted}
+use Rattle.reshape_ends.specs.superblocks_the_Change.{Change}
+use Rattle.reshape_ends.specs.superblocks_the_Give.{Give}
+use Rattle.reshape_ends.specs.superblocks_the_Members.{Members}
+use Rattle.reshape_ends.specs.superblocks_Reading.{is_reshaping, shape_of, role_count, role_state, holder}
+use Rattle.reshape_ends.specs.superblocks_Reads.{has_spare}
+use Rattle.reshape_ends.specs.superblocks_Update.{give_of, is_held_by, is_live, role_from, planned_role, is_planned_spare}
+use Rattle.reshape_ends.specs.superblocks_Updating.{AreLosses}
+use Rattle.reshape_ends.specs.superblocks_Outcome.{live_set, planned_state, planned_roles}
+use Rattle.reshape_ends.proofs.superblocks_SlotSets.{some_role}
 use Rattle.reshape_ends.proofs.superblock_reads_SaidSlots.{below-length}
 use Rattle.reshape_ends.specs.row_io_Rows.{reading_of}
 use Rattle.reshape_ends.specs.shape_changes_Changing.{IsChanged}

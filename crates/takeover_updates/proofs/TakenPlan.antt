@@ -3,28 +3,28 @@ use Rattle.std.proofs.Common.{◌≡◌, ◌≢◌, ◌⊎◌, inl, inr, ℕ, �
 use Rattle.std.specs.Prelude.{pos, ◌-ℤ◌, IsTrue}
 use Rattle.std.proofs.lemmas.Bool.{cases_eq, cases_lt}
 use Rattle.std.proofs.lemmas.List.{length-replicate, get_or-set_same, get_or-set_other, get_or_past}
-use Rattle.md_base.specs.Shapes.{has_slot, is_valid_shape, is_multiple}
-use Rattle.md_base.specs.declared.places.Shape.{Shape}
-use Rattle.md_base.specs.declared.answers.Refusal.TheVariants.{PositionNotOnUnit}
-use Rattle.md_base.specs.declared.status.Role.TheVariants.{Whole, Missing}
-use Rattle.bank.specs.declared.bank.Operation.{Operation}
-use Rattle.bank.specs.Given.{Given}
-use Rattle.sb1.specs.declared.sb.Sb.{Sb}
-use Rattle.geometry.specs.Geometry.{is_size}
-use Rattle.layout.proofs.Limits.{limited}
-use Rattle.grow_plan.specs.Plans.{taken_up}
-use Rattle.superblocks.specs.declared.change.Give.{Give}
-use Rattle.superblocks.specs.declared.change.Give.TheVariants.{Same, Spare}
-use Rattle.superblocks.specs.declared.change.Give.TheVariants as give
-use Rattle.superblocks.specs.declared.change.Change.{Change}
-use Rattle.superblocks.specs.declared.members.Members.{Members}
-use Rattle.superblocks.specs.Reading.{Scope, is_reshaping, shape_of, final_shape, role_count, list_length, role_state, holder, count_of}
-use Rattle.superblocks.specs.Reads.{SaysSame, has_spare}
-use Rattle.superblocks.specs.Verdict.{unit_of}
-use Rattle.superblocks.specs.Update.{IsRoleGive, give_of, is_recovery, role_from, planned_role, is_planned_spare}
-use Rattle.superblocks.specs.Updating.{planned_newest}
-use Rattle.superblocks.specs.Outcome.{AreGivesOfLive}
-use Rattle.superblocks.proofs.SlotSets.{some_role}
+use Rattle.reshape_ends.specs.md_base_Shapes.{has_slot, is_valid_shape, is_multiple}
+use Rattle.reshape_ends.specs.md_base_the_Shape.{Shape}
+use Rattle.reshape_ends.specs.md_base_the_Refusal_TheVariants.{PositionNotOnUnit}
+use Rattle.reshape_ends.specs.md_base_the_Role_TheVariants.{Whole, Missing}
+use Rattle.reshape_ends.specs.bank_the_Operation.{Operation}
+use Rattle.reshape_ends.specs.bank_Given.{Given}
+use Rattle.reshape_ends.specs.sb1_the_Sb.{Sb}
+use Rattle.reshape_ends.specs.geometry_Geometry.{is_size}
+use Rattle.reshape_ends.proofs.layout_Limits.{limited}
+use Rattle.reshape_ends.specs.grow_plan_Plans.{taken_up}
+use Rattle.reshape_ends.specs.superblocks_the_Give.{Give}
+use Rattle.reshape_ends.specs.superblocks_the_Give_TheVariants.{Same, Spare}
+use Rattle.reshape_ends.specs.superblocks_the_Give_TheVariants as give
+use Rattle.reshape_ends.specs.superblocks_the_Change.{Change}
+use Rattle.reshape_ends.specs.superblocks_the_Members.{Members}
+use Rattle.reshape_ends.specs.superblocks_Reading.{Scope, is_reshaping, shape_of, final_shape, role_count, list_length, role_state, holder, count_of}
+use Rattle.reshape_ends.specs.superblocks_Reads.{SaysSame, has_spare}
+use Rattle.reshape_ends.specs.superblocks_Verdict.{unit_of}
+use Rattle.reshape_ends.specs.superblocks_Update.{IsRoleGive, give_of, is_recovery, role_from, planned_role, is_planned_spare}
+use Rattle.reshape_ends.specs.superblocks_Updating.{planned_newest}
+use Rattle.reshape_ends.specs.superblocks_Outcome.{AreGivesOfLive}
+use Rattle.reshape_ends.proofs.superblocks_SlotSets.{some_role}
 use Rattle.reshape_ends.proofs.superblock_reads_SaidLists.{role-holder}
 use Rattle.reshape_ends.proofs.superblock_reads_SaidSlots.{below-length}
 use Rattle.reshape_ends.specs.row_io_Rows.{reading_of}

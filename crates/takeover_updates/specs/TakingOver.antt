@@ -1,16 +1,16 @@
 -- The change that takes a level over, and what the superblocks say then.
 use Rattle.std.specs.Prelude.{◌≡◌, ◌⊎◌, ℕ, ◌-◌, ◌==◌, true, false, replicate, slice_set, if◌then◌else◌, Some, None}
-use Rattle.md_base.specs.declared.places.Shape.{Shape}
-use Rattle.md_base.specs.declared.status.Role.TheVariants.{Whole}
-use Rattle.sb1.specs.declared.sb.Sb.{Sb}
-use Rattle.grow_plan.specs.Plans.{taken_up}
-use Rattle.superblocks.specs.declared.change.Give.{Give}
-use Rattle.superblocks.specs.declared.change.Give.TheVariants.{Same, Spare}
-use Rattle.superblocks.specs.declared.change.Give.TheVariants as give
-use Rattle.superblocks.specs.declared.change.Change.{Change}
-use Rattle.superblocks.specs.declared.members.Members.{Members}
-use Rattle.superblocks.specs.Reading.{is_reshaping, shape_of, role_state}
-use Rattle.superblocks.specs.Reads.{has_spare}
+use Rattle.reshape_ends.specs.md_base_the_Shape.{Shape}
+use Rattle.reshape_ends.specs.md_base_the_Role_TheVariants.{Whole}
+use Rattle.reshape_ends.specs.sb1_the_Sb.{Sb}
+use Rattle.reshape_ends.specs.grow_plan_Plans.{taken_up}
+use Rattle.reshape_ends.specs.superblocks_the_Give.{Give}
+use Rattle.reshape_ends.specs.superblocks_the_Give_TheVariants.{Same, Spare}
+use Rattle.reshape_ends.specs.superblocks_the_Give_TheVariants as give
+use Rattle.reshape_ends.specs.superblocks_the_Change.{Change}
+use Rattle.reshape_ends.specs.superblocks_the_Members.{Members}
+use Rattle.reshape_ends.specs.superblocks_Reading.{is_reshaping, shape_of, role_state}
+use Rattle.reshape_ends.specs.superblocks_Reads.{has_spare}
 use Rattle.reshape_ends.specs.row_io_Rows.{reading_of}
 use Rattle.reshape_ends.specs.shape_changes_Updates.{planned_view}
 

@@ -1,11 +1,11 @@
 //! A level is taken over: 5 to 6, or 6 to 5.
 
 ghost use Rattle.std.specs.Prelude.{◌≡◌, ◌⊎◌, ◌<◌, ◌≤◌, ◌^◌, ℕ, true, false, length, Some, IsTrue};
-ghost use Rattle.bank.specs.Given.{NeverFalls};
-ghost use Rattle.md_base.specs.Shapes.{has_slot, is_valid_shape};
-ghost use Rattle.superblocks.specs.Reading.{is_reshaping, role_state, holder};
-ghost use Rattle.superblocks.specs.Reads.{has_spare};
-ghost use Rattle.superblocks.specs.Update.{give_of, planned_role};
+ghost use Rattle.reshape_ends.specs.bank_Given.{NeverFalls};
+ghost use Rattle.reshape_ends.specs.md_base_Shapes.{has_slot, is_valid_shape};
+ghost use Rattle.reshape_ends.specs.superblocks_Reading.{is_reshaping, role_state, holder};
+ghost use Rattle.reshape_ends.specs.superblocks_Reads.{has_spare};
+ghost use Rattle.reshape_ends.specs.superblocks_Update.{give_of, planned_role};
 ghost use Rattle.reshape_ends.specs.row_io_Rows.{present, reading_of};
 ghost use Rattle.reshape_ends.specs.flat_history_World.{World};
 ghost use Rattle.reshape_ends.specs.flat_history_Sound.{OpensFit};
@@ -23,13 +23,7 @@ ghost use Rattle.reshape_ends.specs.views_Rebuilding.{AreSparesFree};
 ghost use Rattle.reshape_ends.specs.safe_updates_Named.{AreNamedMissing};
 ghost use Rattle.takeover_updates.specs.TakingOver.{with_level, IsTakenTo, CanTakeOver, level_give, taking_over, taken_plan};
 
-use bank::Bank;
-use md_base::Shape;
-use reshape_ends::holders;
-use sb1::Sb;
-use superblock_updates::update;
-use superblocks::sets::{with, without};
-use superblocks::{Change, Give, Members};
+use reshape_ends::{Bank, Change, Give, Members, Sb, Shape, holders, update, with, without};
 
 // The superblock with the level, the layout and the disk count of this shape.
 fn with_level(sb: &Sb, to: &Shape) -> Sb

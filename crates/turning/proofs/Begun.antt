@@ -6,35 +6,35 @@ use Rattle.std.proofs.lemmas.Bool.Decides.{nat_tests}
 use Rattle.std.proofs.lemmas.List.Elements.{All-nil, All-cons}
 use Rattle.std.proofs.lemmas.List.Folds.{list_any-append}
 use Rattle.std.proofs.lemmas.List.Sums.{fold-append}
-use Rattle.md_base.specs.Shapes.{has_slot, data_disks}
-use Rattle.md_base.specs.declared.answers.Refusal.{Refusal}
-use Rattle.md_base.specs.declared.answers.Refusal.TheVariants.{BackupAbsent}
-use Rattle.md_base.specs.declared.answers.Who.{Who}
-use Rattle.md_base.specs.declared.places.Shape.{Shape}
-use Rattle.md_base.specs.declared.wishes.Phase.{Phase}
-use Rattle.md_base.specs.declared.wishes.Phase.TheVariants.{Reshape}
-use Rattle.bank.specs.declared.bank.Operation.{Operation}
-use Rattle.bank.specs.Given.{Given, NeverFalls}
-use Rattle.bank.specs.Tape.{disk}
-use Rattle.sb1.specs.declared.sb.Sb.{Sb}
-use Rattle.geometry.specs.Geometry.{AreInForce, list_end}
-use Rattle.grow_plan.specs.Plans.{AreSound, phase_window, phases_steps}
-use Rattle.superblocks.specs.declared.members.Members.{Members}
-use Rattle.superblocks.specs.Reading.{Scope, is_reshaping, is_backward, shape_of, final_shape, list_length, role_count}
-use Rattle.superblocks.proofs.ValidFields.{few-roles}
-use Rattle.row_io.specs.Rows.{reading_of, present, is_missing}
-use Rattle.flat_history.specs.declared.events.Entry.{Entry}
-use Rattle.flat_history.specs.declared.events.Event.{Event}
-use Rattle.flat_history.specs.declared.events.Event.TheVariants.{Step, Resized}
-use Rattle.flat_history.specs.declared.events.StepKind.TheVariants.{Begun}
-use Rattle.flat_history.specs.Flat.{length_of, length_after, limit_after}
-use Rattle.flat_history.specs.Legal.{told_left}
-use Rattle.flat_history.specs.Losses.{is_unsynced, loses}
-use Rattle.flat_history.specs.OneShape.{is_lost}
-use Rattle.flat_history.specs.Plain.{entries_of}
-use Rattle.flat_history.specs.Sound.{OpensFit}
-use Rattle.flat_history.specs.Stands.{reach_of}
-use Rattle.flat_history.specs.World.{World}
+use Rattle.moving_steps.specs.md_base_Shapes.{has_slot, data_disks}
+use Rattle.moving_steps.specs.md_base_the_Refusal.{Refusal}
+use Rattle.moving_steps.specs.md_base_the_Refusal_TheVariants.{BackupAbsent}
+use Rattle.moving_steps.specs.md_base_the_Who.{Who}
+use Rattle.moving_steps.specs.md_base_the_Shape.{Shape}
+use Rattle.moving_steps.specs.md_base_the_Phase.{Phase}
+use Rattle.moving_steps.specs.md_base_the_Phase_TheVariants.{Reshape}
+use Rattle.moving_steps.specs.bank_the_Operation.{Operation}
+use Rattle.moving_steps.specs.bank_Given.{Given, NeverFalls}
+use Rattle.moving_steps.specs.bank_Tape.{disk}
+use Rattle.moving_steps.specs.sb1_the_Sb.{Sb}
+use Rattle.moving_steps.specs.geometry_Geometry.{AreInForce, list_end}
+use Rattle.moving_steps.specs.grow_plan_Plans.{AreSound, phase_window, phases_steps}
+use Rattle.moving_steps.specs.superblocks_the_Members.{Members}
+use Rattle.moving_steps.specs.superblocks_Reading.{Scope, is_reshaping, is_backward, shape_of, final_shape, list_length, role_count}
+use Rattle.moving_steps.proofs.superblocks_ValidFields.{few-roles}
+use Rattle.moving_steps.specs.row_io_Rows.{reading_of, present, is_missing}
+use Rattle.moving_steps.specs.flat_history_the_Entry.{Entry}
+use Rattle.moving_steps.specs.flat_history_the_Event.{Event}
+use Rattle.moving_steps.specs.flat_history_the_Event_TheVariants.{Step, Resized}
+use Rattle.moving_steps.specs.flat_history_the_StepKind_TheVariants.{Begun}
+use Rattle.moving_steps.specs.flat_history_Flat.{length_of, length_after, limit_after}
+use Rattle.moving_steps.specs.flat_history_Legal.{told_left}
+use Rattle.moving_steps.specs.flat_history_Losses.{is_unsynced, loses}
+use Rattle.moving_steps.specs.flat_history_OneShape.{is_lost}
+use Rattle.moving_steps.specs.flat_history_Plain.{entries_of}
+use Rattle.moving_steps.specs.flat_history_Sound.{OpensFit}
+use Rattle.moving_steps.specs.flat_history_Stands.{reach_of}
+use Rattle.moving_steps.specs.flat_history_World.{World}
 use Rattle.moving_steps.specs.shape_views_Regions.{ArePlaced}
 use Rattle.moving_steps.specs.shape_views_Views.{Ledger}
 use Rattle.moving_steps.proofs.shape_views_Stands.{final-still}
@@ -45,25 +45,25 @@ use Rattle.moving_steps.specs.shape_ends_Ends.{IsCleared, IsToldWith}
 use Rattle.moving_steps.specs.reshape_updates_Beginning.{HasBegun, goes_back, with_reshape, beginning}
 use Rattle.moving_steps.proofs.reshape_updates_BegunNewest.{has-begun}
 use Rattle.moving_steps.specs.reshape_ends_Begun.{IsBackupOf, IsBegunBehind, begun_plan}
-use Rattle.views.specs.declared.work.Work.{Work}
-use Rattle.views.specs.Lacking.{AreLostSince, HaveFailedSince}
-use Rattle.views.specs.Moving.{Grows, IsMoved}
-use Rattle.views.specs.Numbers.{bears}
-use Rattle.views.specs.Placed.{is_vacant, AreWhole}
-use Rattle.views.specs.Rebuilding.{AreSparesFree, Held}
-use Rattle.views.specs.Status.{left_of, resync_left}
-use Rattle.views.proofs.MarkLaws.{few-planned}
-use Rattle.views.proofs.Still.{placed-two, backup-still}
-use Rattle.call_entries.specs.Losing.{losses_of}
-use Rattle.call_entries.proofs.CallLaws.{all-losses}
-use Rattle.call_entries.proofs.PlainLaws.{one}
+use Rattle.moving_steps.specs.views_the_Work.{Work}
+use Rattle.moving_steps.specs.views_Lacking.{AreLostSince, HaveFailedSince}
+use Rattle.moving_steps.specs.views_Moving.{Grows, IsMoved}
+use Rattle.moving_steps.specs.views_Numbers.{bears}
+use Rattle.moving_steps.specs.views_Placed.{is_vacant, AreWhole}
+use Rattle.moving_steps.specs.views_Rebuilding.{AreSparesFree, Held}
+use Rattle.moving_steps.specs.views_Status.{left_of, resync_left}
+use Rattle.moving_steps.proofs.views_MarkLaws.{few-planned}
+use Rattle.moving_steps.proofs.views_Still.{placed-two, backup-still}
+use Rattle.moving_steps.specs.call_entries_Losing.{losses_of}
+use Rattle.moving_steps.proofs.call_entries_CallLaws.{all-losses}
+use Rattle.moving_steps.proofs.call_entries_PlainLaws.{one}
 use Rattle.moving_steps.specs.array_kept_Calls.{AreLossesOf, IsLossBy, WasSpare}
 use Rattle.moving_steps.specs.array_kept_Kept.{scope_in}
 use Rattle.moving_steps.proofs.array_kept_NowLaws.{length-more}
-use Rattle.grow_asked.specs.declared.window.PhasesLeft.{PhasesLeft}
-use Rattle.grow_asked.specs.declared.window.Window.TheVariants.{Closed}
-use Rattle.grow_asked.specs.Left.{IsAtStartOf, IsReshapeUnderWay, phases_of, grow_left, reshape_left, steps_from}
-use Rattle.grow_asked.proofs.LeftLaws.{beginning as beginning-left}
+use Rattle.moving_steps.specs.grow_asked_the_PhasesLeft.{PhasesLeft}
+use Rattle.moving_steps.specs.grow_asked_the_Window_TheVariants.{Closed}
+use Rattle.moving_steps.specs.grow_asked_Left.{IsAtStartOf, IsReshapeUnderWay, phases_of, grow_left, reshape_left, steps_from}
+use Rattle.moving_steps.proofs.grow_asked_LeftLaws.{beginning as beginning-left}
 use Rattle.moving_steps.specs.kept_history_Recorded.{IsOpenBehind, IsLengthKept as IsResizeKept}
 use Rattle.moving_steps.specs.kept_history_Safe.{world_in, TakesNone}
 use Rattle.moving_steps.proofs.kept_history_Entered.{lost-taken}

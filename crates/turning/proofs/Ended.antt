@@ -5,35 +5,35 @@ use Rattle.std.specs.List.{list_any, All}
 use Rattle.std.proofs.lemmas.Bool.{cases_lt, and_parts}
 use Rattle.std.proofs.lemmas.Bool.Decides.{nat_tests}
 use Rattle.std.proofs.lemmas.List.Elements.{All-nil, All-cons}
-use Rattle.md_base.specs.Shapes.{has_slot}
-use Rattle.md_base.specs.declared.answers.Who.{Who}
-use Rattle.md_base.specs.declared.places.Shape.{Shape}
-use Rattle.bank.specs.declared.bank.Operation.{Operation}
-use Rattle.bank.specs.Given.{Given, IsFaulted}
-use Rattle.grow_plan.specs.Plans.{AreSound, last_shape}
-use Rattle.superblocks.specs.declared.members.Members.{Members}
-use Rattle.superblocks.specs.Reading.{Scope, is_reshaping, shape_of, final_shape, list_length, role_state, holder}
-use Rattle.row_io.specs.Rows.{reading_of}
-use Rattle.flat_history.specs.declared.events.Entry.{Entry}
-use Rattle.flat_history.specs.declared.events.Event.{Event}
-use Rattle.flat_history.specs.declared.events.Event.TheVariants.{Step, Resized}
-use Rattle.flat_history.specs.declared.events.StepKind.TheVariants.{Finished}
-use Rattle.flat_history.specs.Losses.{is_unsynced}
-use Rattle.flat_history.specs.Plain.{entries_of}
-use Rattle.flat_history.specs.Reshaped.{open_plans}
+use Rattle.moving_steps.specs.md_base_Shapes.{has_slot}
+use Rattle.moving_steps.specs.md_base_the_Who.{Who}
+use Rattle.moving_steps.specs.md_base_the_Shape.{Shape}
+use Rattle.moving_steps.specs.bank_the_Operation.{Operation}
+use Rattle.moving_steps.specs.bank_Given.{Given, IsFaulted}
+use Rattle.moving_steps.specs.grow_plan_Plans.{AreSound, last_shape}
+use Rattle.moving_steps.specs.superblocks_the_Members.{Members}
+use Rattle.moving_steps.specs.superblocks_Reading.{Scope, is_reshaping, shape_of, final_shape, list_length, role_state, holder}
+use Rattle.moving_steps.specs.row_io_Rows.{reading_of}
+use Rattle.moving_steps.specs.flat_history_the_Entry.{Entry}
+use Rattle.moving_steps.specs.flat_history_the_Event.{Event}
+use Rattle.moving_steps.specs.flat_history_the_Event_TheVariants.{Step, Resized}
+use Rattle.moving_steps.specs.flat_history_the_StepKind_TheVariants.{Finished}
+use Rattle.moving_steps.specs.flat_history_Losses.{is_unsynced}
+use Rattle.moving_steps.specs.flat_history_Plain.{entries_of}
+use Rattle.moving_steps.specs.flat_history_Reshaped.{open_plans}
 use Rattle.moving_steps.specs.shape_changes_Updates.{IsAtEnd}
 use Rattle.moving_steps.specs.reshape_ends_Finished.{AreLostInEnd}
-use Rattle.views.specs.declared.work.Work.{Work}
-use Rattle.views.specs.Numbers.{bears}
-use Rattle.views.specs.Placed.{is_vacant}
-use Rattle.views.specs.Rebuilding.{Held}
-use Rattle.call_entries.specs.Losing.{losses_of}
-use Rattle.call_entries.proofs.CallLaws.{all-losses}
-use Rattle.call_entries.proofs.LosingLaws.{entries-both}
-use Rattle.call_entries.proofs.PlainLaws.{one}
+use Rattle.moving_steps.specs.views_the_Work.{Work}
+use Rattle.moving_steps.specs.views_Numbers.{bears}
+use Rattle.moving_steps.specs.views_Placed.{is_vacant}
+use Rattle.moving_steps.specs.views_Rebuilding.{Held}
+use Rattle.moving_steps.specs.call_entries_Losing.{losses_of}
+use Rattle.moving_steps.proofs.call_entries_CallLaws.{all-losses}
+use Rattle.moving_steps.proofs.call_entries_LosingLaws.{entries-both}
+use Rattle.moving_steps.proofs.call_entries_PlainLaws.{one}
 use Rattle.moving_steps.specs.array_kept_Calls.{IsLossBy, AreLossesBy}
-use Rattle.grow_asked.specs.declared.window.PhasesLeft.{PhasesLeft}
-use Rattle.grow_asked.specs.Left.{phases_of, zeroed_by}
+use Rattle.moving_steps.specs.grow_asked_the_PhasesLeft.{PhasesLeft}
+use Rattle.moving_steps.specs.grow_asked_Left.{phases_of, zeroed_by}
 use Rattle.moving_steps.specs.kept_history_Recorded.{IsCallGoing}
 use Rattle.moving_steps.specs.kept_history_Safe.{world_in}
 use Rattle.moving_steps.specs.course_kept_the_Course.{Course}

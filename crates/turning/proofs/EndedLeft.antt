@@ -3,31 +3,31 @@ use Rattle.std.proofs.Common.{◌≡◌, ◌⊎◌, inl, inr, ℕ, zero, suc, �
 use Rattle.std.specs.List.{list_any}
 use Rattle.std.proofs.lemmas.Bool.{cases_eq}
 use Rattle.std.proofs.lemmas.List.Folds.{list_any-append}
-use Rattle.md_base.specs.Search.{count_below}
-use Rattle.md_base.specs.declared.answers.Who.{Who}
-use Rattle.md_base.specs.declared.places.Shape.{Shape}
-use Rattle.md_base.specs.declared.status.Role.{Role}
-use Rattle.md_base.specs.declared.status.Role.TheVariants.{Whole, Recovering, Missing}
-use Rattle.grow_plan.specs.Plans.{phases_steps}
-use Rattle.superblocks.specs.declared.members.Members.{Members}
-use Rattle.superblocks.specs.Reading.{is_reshaping, is_whole, shape_of, final_shape, role_count, role_state, holder, next_window}
-use Rattle.row_io.specs.Rows.{reading_of, is_missing}
-use Rattle.flat_history.specs.declared.events.Event.{Event}
-use Rattle.flat_history.specs.declared.events.Event.TheVariants.{Lost}
-use Rattle.flat_history.specs.Legal.{disturbs}
-use Rattle.flat_history.specs.Plain.{entries_of, loses_role}
+use Rattle.moving_steps.specs.md_base_Search.{count_below}
+use Rattle.moving_steps.specs.md_base_the_Who.{Who}
+use Rattle.moving_steps.specs.md_base_the_Shape.{Shape}
+use Rattle.moving_steps.specs.md_base_the_Role.{Role}
+use Rattle.moving_steps.specs.md_base_the_Role_TheVariants.{Whole, Recovering, Missing}
+use Rattle.moving_steps.specs.grow_plan_Plans.{phases_steps}
+use Rattle.moving_steps.specs.superblocks_the_Members.{Members}
+use Rattle.moving_steps.specs.superblocks_Reading.{is_reshaping, is_whole, shape_of, final_shape, role_count, role_state, holder, next_window}
+use Rattle.moving_steps.specs.row_io_Rows.{reading_of, is_missing}
+use Rattle.moving_steps.specs.flat_history_the_Event.{Event}
+use Rattle.moving_steps.specs.flat_history_the_Event_TheVariants.{Lost}
+use Rattle.moving_steps.specs.flat_history_Legal.{disturbs}
+use Rattle.moving_steps.specs.flat_history_Plain.{entries_of, loses_role}
 use Rattle.moving_steps.proofs.shape_views_Stands.{final-still}
 use Rattle.moving_steps.specs.shape_ends_Plans.{HasNoneRecovering}
 use Rattle.moving_steps.specs.reshape_ends_Finished.{IsOver}
-use Rattle.views.specs.declared.work.Work.{Work}
-use Rattle.views.specs.Placed.{is_vacant, AreWhole}
-use Rattle.views.specs.Status.{left_of, resync_left, recovery_left, role_left, rebuilt_of, stripes_of, spare_count, vacant_count}
-use Rattle.views.proofs.Still.{count-still}
-use Rattle.call_entries.specs.Losing.{losses_of}
-use Rattle.grow_asked.specs.declared.window.PhasesLeft.{PhasesLeft}
-use Rattle.grow_asked.specs.declared.window.Window.TheVariants.{Closed}
-use Rattle.grow_asked.specs.Left.{IsReshapeUnderWay, phases_of, grow_left, reshape_left, zeroed_by}
-use Rattle.grow_asked.proofs.LeftLaws.{ending as ending-left}
+use Rattle.moving_steps.specs.views_the_Work.{Work}
+use Rattle.moving_steps.specs.views_Placed.{is_vacant, AreWhole}
+use Rattle.moving_steps.specs.views_Status.{left_of, resync_left, recovery_left, role_left, rebuilt_of, stripes_of, spare_count, vacant_count}
+use Rattle.moving_steps.proofs.views_Still.{count-still}
+use Rattle.moving_steps.specs.call_entries_Losing.{losses_of}
+use Rattle.moving_steps.specs.grow_asked_the_PhasesLeft.{PhasesLeft}
+use Rattle.moving_steps.specs.grow_asked_the_Window_TheVariants.{Closed}
+use Rattle.moving_steps.specs.grow_asked_Left.{IsReshapeUnderWay, phases_of, grow_left, reshape_left, zeroed_by}
+use Rattle.moving_steps.proofs.grow_asked_LeftLaws.{ending as ending-left}
 use Rattle.moving_steps.proofs.history_calls_Behind.{IsAmong}
 use Rattle.moving_steps.specs.course_kept_Laws.{closed}
 use Rattle.moving_ends.proofs.Ended.{IsStepped}

@@ -7,27 +7,27 @@ use Rattle.std.proofs.lemmas.Bool.{and_parts}
 use Rattle.std.proofs.lemmas.Bool.Decides.{nat_tests}
 use Rattle.std.proofs.lemmas.List.Folds.{list_any-append}
 use Rattle.std.proofs.lemmas.List.Sums.{fold-append}
-use Rattle.md_base.specs.Sectors.{Sector}
-use Rattle.md_base.specs.Shapes.{has_slot, data_disks}
-use Rattle.md_base.specs.declared.answers.Who.{Who}
-use Rattle.md_base.specs.declared.places.Shape.{Shape}
-use Rattle.bank.specs.declared.bank.Operation.{Operation}
-use Rattle.bank.specs.Given.{Given, NeverFalls}
-use Rattle.superblocks.specs.declared.members.Members.{Members}
-use Rattle.superblocks.specs.Reading.{Scope, shape_of, final_shape, list_length, role_count, role_state, holder, data_offset_of}
-use Rattle.superblocks.proofs.ValidFields.{few-roles}
-use Rattle.row_io.specs.Rows.{reading_of, present, is_missing}
-use Rattle.flat_history.specs.declared.events.Entry.{Entry}
-use Rattle.flat_history.specs.declared.events.Event.{Event}
-use Rattle.flat_history.specs.declared.events.Event.TheVariants.{Lost, SpareLost, Step}
-use Rattle.flat_history.specs.declared.events.LostCause.TheVariants.{Fault}
-use Rattle.flat_history.specs.declared.events.StepKind.TheVariants.{Finished}
-use Rattle.flat_history.specs.Flat.{length_of, length_after, limit_after}
-use Rattle.flat_history.specs.Legal.{left_after, told_left}
-use Rattle.flat_history.specs.Losses.{is_resync_end, is_unsynced, loses}
-use Rattle.flat_history.specs.Plain.{entries_of}
-use Rattle.flat_history.specs.Sound.{OpensFit}
-use Rattle.flat_history.specs.World.{World}
+use Rattle.moving_steps.specs.md_base_Sectors.{Sector}
+use Rattle.moving_steps.specs.md_base_Shapes.{has_slot, data_disks}
+use Rattle.moving_steps.specs.md_base_the_Who.{Who}
+use Rattle.moving_steps.specs.md_base_the_Shape.{Shape}
+use Rattle.moving_steps.specs.bank_the_Operation.{Operation}
+use Rattle.moving_steps.specs.bank_Given.{Given, NeverFalls}
+use Rattle.moving_steps.specs.superblocks_the_Members.{Members}
+use Rattle.moving_steps.specs.superblocks_Reading.{Scope, shape_of, final_shape, list_length, role_count, role_state, holder, data_offset_of}
+use Rattle.moving_steps.proofs.superblocks_ValidFields.{few-roles}
+use Rattle.moving_steps.specs.row_io_Rows.{reading_of, present, is_missing}
+use Rattle.moving_steps.specs.flat_history_the_Entry.{Entry}
+use Rattle.moving_steps.specs.flat_history_the_Event.{Event}
+use Rattle.moving_steps.specs.flat_history_the_Event_TheVariants.{Lost, SpareLost, Step}
+use Rattle.moving_steps.specs.flat_history_the_LostCause_TheVariants.{Fault}
+use Rattle.moving_steps.specs.flat_history_the_StepKind_TheVariants.{Finished}
+use Rattle.moving_steps.specs.flat_history_Flat.{length_of, length_after, limit_after}
+use Rattle.moving_steps.specs.flat_history_Legal.{left_after, told_left}
+use Rattle.moving_steps.specs.flat_history_Losses.{is_resync_end, is_unsynced, loses}
+use Rattle.moving_steps.specs.flat_history_Plain.{entries_of}
+use Rattle.moving_steps.specs.flat_history_Sound.{OpensFit}
+use Rattle.moving_steps.specs.flat_history_World.{World}
 use Rattle.moving_steps.specs.shape_views_Regions.{ArePlaced}
 use Rattle.moving_steps.specs.shape_views_Views.{Ledger}
 use Rattle.moving_steps.proofs.shape_views_Stands.{final-still}
@@ -39,17 +39,17 @@ use Rattle.moving_steps.specs.shape_changes_Updates.{IsAtEnd}
 use Rattle.moving_steps.specs.shape_ends_Plans.{HasNoneRecovering}
 use Rattle.moving_steps.specs.reshape_updates_Ending.{ending}
 use Rattle.moving_steps.specs.reshape_ends_Finished.{IsOver, IsEndedBehind, AreLostInEnd, IsFinishable}
-use Rattle.views.specs.declared.work.Work.{Work}
-use Rattle.views.specs.Moving.{Grows}
-use Rattle.views.specs.Numbers.{bears}
-use Rattle.views.specs.Placed.{is_vacant, AreWhole, IsPlaced}
-use Rattle.views.specs.Rebuilding.{AreSparesFree}
-use Rattle.views.proofs.MarkLaws.{few-planned}
-use Rattle.views.proofs.Still.{count-still}
-use Rattle.call_entries.specs.Losing.{losses_of}
-use Rattle.call_entries.proofs.CallLaws.{AreLossEvents, losses-are, ends-losses, limit-losses}
-use Rattle.grow_asked.specs.declared.window.PhasesLeft.{PhasesLeft}
-use Rattle.grow_asked.specs.Left.{zeroed_by}
+use Rattle.moving_steps.specs.views_the_Work.{Work}
+use Rattle.moving_steps.specs.views_Moving.{Grows}
+use Rattle.moving_steps.specs.views_Numbers.{bears}
+use Rattle.moving_steps.specs.views_Placed.{is_vacant, AreWhole, IsPlaced}
+use Rattle.moving_steps.specs.views_Rebuilding.{AreSparesFree}
+use Rattle.moving_steps.proofs.views_MarkLaws.{few-planned}
+use Rattle.moving_steps.proofs.views_Still.{count-still}
+use Rattle.moving_steps.specs.call_entries_Losing.{losses_of}
+use Rattle.moving_steps.proofs.call_entries_CallLaws.{AreLossEvents, losses-are, ends-losses, limit-losses}
+use Rattle.moving_steps.specs.grow_asked_the_PhasesLeft.{PhasesLeft}
+use Rattle.moving_steps.specs.grow_asked_Left.{zeroed_by}
 use Rattle.moving_steps.specs.kept_history_Recorded.{IsCallGoing}
 use Rattle.moving_steps.specs.kept_history_Safe.{world_in, TakesNone, KeepsLevel}
 use Rattle.moving_steps.proofs.kept_history_Entered.{lost-taken}

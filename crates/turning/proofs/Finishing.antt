@@ -7,32 +7,32 @@ use Rattle.std.proofs.lemmas.Bool.Decides.{nat_tests}
 use Rattle.std.proofs.Math.Seq.{drop-append_seam}
 use Rattle.std.proofs.lemmas.List.{get_or_past, get_or-drop}
 use Rattle.std.proofs.lemmas.List.Folds.{list_any-append}
-use Rattle.md_base.specs.Shapes.{has_slot}
-use Rattle.md_base.proofs.Tabulated.{get_or-tabulate}
-use Rattle.md_base.specs.declared.answers.Refusal.{Refusal}
-use Rattle.md_base.specs.declared.answers.Who.{Who}
-use Rattle.md_base.specs.declared.places.Shape.{Shape}
-use Rattle.md_base.specs.declared.status.Role.TheVariants.{Missing}
-use Rattle.bank.specs.declared.bank.Operation.{Operation}
-use Rattle.bank.specs.Given.{Given}
-use Rattle.bank.specs.Tape.{disk}
-use Rattle.sb1.specs.declared.sb.Sb.{Sb}
-use Rattle.superblocks.specs.declared.change.Give.{Give}
-use Rattle.superblocks.specs.declared.change.Give.TheVariants.{Same, Spare}
-use Rattle.superblocks.specs.declared.members.Members.{Members}
-use Rattle.superblocks.specs.Reading.{Scope, is_clean, is_reshaping, shape_of, final_shape, role_count, role_state, holder}
-use Rattle.superblocks.specs.Reads.{has_spare}
-use Rattle.superblocks.specs.Update.{give_of, is_planned_spare}
-use Rattle.superblocks.proofs.SlotSets.{none_there}
-use Rattle.superblocks.proofs.ValidFields.{few-roles}
-use Rattle.row_io.specs.Rows.{reading_of, present, is_missing}
-use Rattle.flat_history.specs.declared.events.Entry.{Entry}
-use Rattle.flat_history.specs.declared.events.Event.{Event}
-use Rattle.flat_history.specs.declared.events.Event.TheVariants.{Step, Refused}
-use Rattle.flat_history.specs.declared.events.StepKind.TheVariants.{Finished}
-use Rattle.flat_history.specs.Legal.{disturbs}
-use Rattle.flat_history.specs.Plain.{entries_of}
-use Rattle.flat_history.specs.World.{World}
+use Rattle.moving_steps.specs.md_base_Shapes.{has_slot}
+use Rattle.moving_steps.proofs.md_base_Tabulated.{get_or-tabulate}
+use Rattle.moving_steps.specs.md_base_the_Refusal.{Refusal}
+use Rattle.moving_steps.specs.md_base_the_Who.{Who}
+use Rattle.moving_steps.specs.md_base_the_Shape.{Shape}
+use Rattle.moving_steps.specs.md_base_the_Role_TheVariants.{Missing}
+use Rattle.moving_steps.specs.bank_the_Operation.{Operation}
+use Rattle.moving_steps.specs.bank_Given.{Given}
+use Rattle.moving_steps.specs.bank_Tape.{disk}
+use Rattle.moving_steps.specs.sb1_the_Sb.{Sb}
+use Rattle.moving_steps.specs.superblocks_the_Give.{Give}
+use Rattle.moving_steps.specs.superblocks_the_Give_TheVariants.{Same, Spare}
+use Rattle.moving_steps.specs.superblocks_the_Members.{Members}
+use Rattle.moving_steps.specs.superblocks_Reading.{Scope, is_clean, is_reshaping, shape_of, final_shape, role_count, role_state, holder}
+use Rattle.moving_steps.specs.superblocks_Reads.{has_spare}
+use Rattle.moving_steps.specs.superblocks_Update.{give_of, is_planned_spare}
+use Rattle.moving_steps.proofs.superblocks_SlotSets.{none_there}
+use Rattle.moving_steps.proofs.superblocks_ValidFields.{few-roles}
+use Rattle.moving_steps.specs.row_io_Rows.{reading_of, present, is_missing}
+use Rattle.moving_steps.specs.flat_history_the_Entry.{Entry}
+use Rattle.moving_steps.specs.flat_history_the_Event.{Event}
+use Rattle.moving_steps.specs.flat_history_the_Event_TheVariants.{Step, Refused}
+use Rattle.moving_steps.specs.flat_history_the_StepKind_TheVariants.{Finished}
+use Rattle.moving_steps.specs.flat_history_Legal.{disturbs}
+use Rattle.moving_steps.specs.flat_history_Plain.{entries_of}
+use Rattle.moving_steps.specs.flat_history_World.{World}
 use Rattle.moving_steps.specs.shape_views_Regions.{AreShapesFit, DoWithout}
 use Rattle.moving_steps.specs.shape_views_Views.{Ledger}
 use Rattle.moving_steps.specs.shape_changes_Marking.{AreOthersPresent}
@@ -44,19 +44,19 @@ use Rattle.moving_steps.specs.reshape_updates_Ending.{holds_from, dropped_give, 
 use Rattle.moving_steps.proofs.reshape_updates_EndedPlan.{disks-are}
 use Rattle.moving_steps.specs.reshape_ends_Finished.{AreLostInEnd, IsEndedBehind, IsOver}
 use Rattle.moving_steps.proofs.reshape_ends_Made.{spare-planned}
-use Rattle.views.specs.declared.work.Work.{Work}
-use Rattle.views.specs.Lacking.{AreLostSince, AreTooMany, HaveFailedSince}
-use Rattle.views.specs.Moving.{Grows, IsMoved}
-use Rattle.views.specs.Placed.{is_vacant, AreWhole, IsPlaced}
-use Rattle.views.specs.Rebuilding.{AreSparesFree}
-use Rattle.views.proofs.Still.{count-still}
+use Rattle.moving_steps.specs.views_the_Work.{Work}
+use Rattle.moving_steps.specs.views_Lacking.{AreLostSince, AreTooMany, HaveFailedSince}
+use Rattle.moving_steps.specs.views_Moving.{Grows, IsMoved}
+use Rattle.moving_steps.specs.views_Placed.{is_vacant, AreWhole, IsPlaced}
+use Rattle.moving_steps.specs.views_Rebuilding.{AreSparesFree}
+use Rattle.moving_steps.proofs.views_Still.{count-still}
 use Rattle.moving_steps.specs.safe_updates_Unused.{IsUnusedKept}
 use Rattle.moving_steps.specs.window_steps_Zeroing.{IsThrough}
 use Rattle.moving_steps.specs.region_mends_Mends.{mend_stripes}
-use Rattle.call_entries.specs.Losing.{losses_of}
+use Rattle.moving_steps.specs.call_entries_Losing.{losses_of}
 use Rattle.moving_steps.specs.array_kept_Calls.{TellNoLoss}
-use Rattle.grow_asked.specs.declared.window.PhasesLeft.{PhasesLeft}
-use Rattle.grow_asked.specs.Left.{zeroed_by}
+use Rattle.moving_steps.specs.grow_asked_the_PhasesLeft.{PhasesLeft}
+use Rattle.moving_steps.specs.grow_asked_Left.{zeroed_by}
 use Rattle.moving_steps.specs.kept_history_Recorded.{IsCallGoing}
 use Rattle.moving_steps.specs.kept_history_Safe.{world_in}
 use Rattle.moving_steps.proofs.history_calls_Behind.{IsAmong}

@@ -1,32 +1,32 @@
 -- An array without a reshape whose backup failed as one was to begin goes on as it was: nothing but the backup's header was tried.
 use Rattle.std.proofs.Common.{◌≡◌, ◌≢◌, ◌⊎◌, inl, inr, ℕ, ◌+◌, true, false, Option, Some, Result, Ok, Err, List, [], ◌∷◌, ◌++◌, length, refl, sym, ◌∙◌, subst, arith}
 use Rattle.std.specs.Prelude.{IsErr, OnErr}
-use Rattle.md_base.specs.Sectors.{Sector}
-use Rattle.md_base.specs.declared.answers.Refusal.{Refusal}
-use Rattle.md_base.specs.declared.answers.Refusal.TheVariants.{BackupFault, PastEnd, TooManyMissing, NotResynced}
-use Rattle.md_base.specs.declared.answers.Who.{Who}
-use Rattle.md_base.specs.declared.places.Shape.{Shape}
-use Rattle.md_base.specs.declared.wishes.Phase.{Phase}
-use Rattle.bank.specs.declared.bank.Operation.{Operation}
-use Rattle.bank.specs.Given.{Given}
-use Rattle.bank.specs.Tape.{Contents}
-use Rattle.superblocks.specs.declared.members.Members.{Members}
-use Rattle.superblocks.specs.Reading.{Scope, role_state, holder, data_offset_of}
-use Rattle.row_io.specs.Rows.{reading_of, present}
-use Rattle.row_io.proofs.Losses.{holder-of}
-use Rattle.flat_history.specs.declared.events.Entry.{Entry}
-use Rattle.flat_history.specs.declared.events.Event.TheVariants.{Refused}
-use Rattle.flat_history.specs.Flat.{now}
-use Rattle.flat_history.specs.Plain.{entries_of}
-use Rattle.flat_history.specs.Sound.{OpensFit}
-use Rattle.flat_history.specs.World.{World, opening_list}
+use Rattle.moving_steps.specs.md_base_Sectors.{Sector}
+use Rattle.moving_steps.specs.md_base_the_Refusal.{Refusal}
+use Rattle.moving_steps.specs.md_base_the_Refusal_TheVariants.{BackupFault, PastEnd, TooManyMissing, NotResynced}
+use Rattle.moving_steps.specs.md_base_the_Who.{Who}
+use Rattle.moving_steps.specs.md_base_the_Shape.{Shape}
+use Rattle.moving_steps.specs.md_base_the_Phase.{Phase}
+use Rattle.moving_steps.specs.bank_the_Operation.{Operation}
+use Rattle.moving_steps.specs.bank_Given.{Given}
+use Rattle.moving_steps.specs.bank_Tape.{Contents}
+use Rattle.moving_steps.specs.superblocks_the_Members.{Members}
+use Rattle.moving_steps.specs.superblocks_Reading.{Scope, role_state, holder, data_offset_of}
+use Rattle.moving_steps.specs.row_io_Rows.{reading_of, present}
+use Rattle.moving_steps.proofs.row_io_Losses.{holder-of}
+use Rattle.moving_steps.specs.flat_history_the_Entry.{Entry}
+use Rattle.moving_steps.specs.flat_history_the_Event_TheVariants.{Refused}
+use Rattle.moving_steps.specs.flat_history_Flat.{now}
+use Rattle.moving_steps.specs.flat_history_Plain.{entries_of}
+use Rattle.moving_steps.specs.flat_history_Sound.{OpensFit}
+use Rattle.moving_steps.specs.flat_history_World.{World, opening_list}
 use Rattle.moving_steps.specs.shape_views_Views.{Ledger}
 use Rattle.moving_steps.specs.shape_changes_Safety.{HasLiveSlot, IsRisen}
 use Rattle.moving_steps.specs.shape_changes_Steady.{IsSafeOver, KeepsSafe}
 use Rattle.moving_steps.specs.shape_ends_Plans.{HasNoneRecovering}
-use Rattle.views.specs.declared.work.Work.{Work}
-use Rattle.views.specs.Moving.{Grows}
-use Rattle.views.proofs.MovedLaws.{moved-same}
+use Rattle.moving_steps.specs.views_the_Work.{Work}
+use Rattle.moving_steps.specs.views_Moving.{Grows}
+use Rattle.moving_steps.proofs.views_MovedLaws.{moved-same}
 use Rattle.moving_steps.proofs.array_kept_KeptLaws.{left-lost}
 use Rattle.moving_steps.specs.kept_history_Recorded.{IsCallGoing}
 use Rattle.moving_steps.specs.kept_history_Safe.{world_in}

@@ -25,17 +25,17 @@ pub use Rattle.still_steps.proofs.still_laws_Plain
 pub use Rattle.still_steps.proofs.still_laws_PlainBehind
 pub use Rattle.still_steps.proofs.still_laws_PlansKept
 pub use Rattle.still_steps.proofs.still_laws_StepLaws
-pub use Rattle.views.proofs.LiveLeft as views_LiveLeft
-pub use Rattle.views.proofs.MemberLaws as views_MemberLaws
-pub use Rattle.views.proofs.MovedLaws as views_MovedLaws
+pub use Rattle.moving_steps.proofs.views_LiveLeft
+pub use Rattle.moving_steps.proofs.views_MemberLaws
+pub use Rattle.moving_steps.proofs.views_MovedLaws
 pub use Rattle.moving_steps.proofs.kept_history_Records
 pub use Rattle.moving_steps.proofs.kept_history_Turned
 pub use Rattle.moving_steps.proofs.kept_history_Lengths
 pub use Rattle.moving_steps.proofs.kept_history_Growing
 pub use Rattle.moving_steps.proofs.shape_changes_Steady
 pub use Rattle.moving_steps.proofs.shape_views_Alike
-pub use Rattle.views.proofs.Fit as views_Fit
-pub use Rattle.views.proofs.LackingLaws as views_LackingLaws
+pub use Rattle.moving_steps.proofs.views_Fit
+pub use Rattle.moving_steps.proofs.views_LackingLaws
 pub use Rattle.moving_steps.proofs.kept_history_Marks
 pub use Rattle.moving_steps.proofs.kept_history_Tests
 pub use Rattle.moving_steps.proofs.shape_changes_Without
@@ -45,8 +45,16 @@ pub use Rattle.moving_steps.proofs.shape_views_Stands
 pub use Rattle.moving_steps.proofs.kept_history_Opened
 pub use Rattle.moving_steps.proofs.superblock_reads_SaidLists
 pub use Rattle.moving_steps.proofs.superblock_reads_SaidSlots
-pub use Rattle.row_io.proofs.Losses as row_io_Losses
+pub use Rattle.moving_steps.proofs.row_io_Losses
 pub use Rattle.moving_steps.proofs.history_laws_OneShapeGrowing
 pub use Rattle.moving_steps.proofs.history_laws_ReshapedLaws
 pub use Rattle.moving_steps.proofs.history_laws_GrowingLaws
 mod Parted
+pub use Rattle.moving_steps.proofs.flat_history_OneShapeReplies
+pub use Rattle.moving_steps.proofs.geometry_Valid
+pub use Rattle.moving_steps.proofs.grow_asked_FirstLaws
+pub use Rattle.moving_steps.proofs.grow_asked_FitLaws
+pub use Rattle.moving_steps.proofs.grow_asked_PlanLaws
+pub use Rattle.moving_steps.proofs.grow_plan_Sound
+pub use Rattle.moving_steps.proofs.layout_Limits
+pub use Rattle.moving_steps.proofs.superblocks_ValidFields

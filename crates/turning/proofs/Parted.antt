@@ -1,12 +1,12 @@
 -- What is told of an array by its parts is told of the array.
 use Rattle.std.proofs.Common.{◌≡◌, ℕ, ◌+◌, ◌-◌, ◌*◌, ◌<◌, ◌≤◌, List, sym, ◌∙◌, ap, subst, arith, inl, inr}
-use Rattle.md_base.specs.declared.answers.Refusal.{Refusal}
-use Rattle.md_base.specs.declared.answers.Who.{Who}
-use Rattle.md_base.specs.declared.places.Shape.{Shape}
-use Rattle.bank.specs.declared.bank.Operation.{Operation}
-use Rattle.bank.specs.Given.{Given, NeverFalls}
-use Rattle.superblocks.specs.declared.members.Members.{Members}
-use Rattle.views.specs.Moving.{Grows}
+use Rattle.moving_steps.specs.md_base_the_Refusal.{Refusal}
+use Rattle.moving_steps.specs.md_base_the_Who.{Who}
+use Rattle.moving_steps.specs.md_base_the_Shape.{Shape}
+use Rattle.moving_steps.specs.bank_the_Operation.{Operation}
+use Rattle.moving_steps.specs.bank_Given.{Given, NeverFalls}
+use Rattle.moving_steps.specs.superblocks_the_Members.{Members}
+use Rattle.moving_steps.specs.views_Moving.{Grows}
 use Rattle.moving_steps.specs.running_words_Parts.{RunningParts}
 use Rattle.turning.specs.Begun.{IsGivenBack, IsPlain, IsUnbegun}
 

@@ -5,23 +5,23 @@ use Rattle.std.specs.Option.{option_map_or}
 use Rattle.std.proofs.lemmas.Bool.{cases_lt, and_parts}
 use Rattle.std.proofs.lemmas.Bool.Decides.{nat_tests}
 use Rattle.std.proofs.lemmas.List.{get_or_past}
-use Rattle.md_base.specs.Search.{tabulate, least_below}
-use Rattle.md_base.specs.Shapes.{has_slot}
-use Rattle.md_base.specs.declared.places.Shape.{Shape}
-use Rattle.md_base.specs.declared.status.Role.{Role}
-use Rattle.md_base.specs.declared.status.Role.TheVariants.{Whole, Recovering, Missing}
-use Rattle.md_base.proofs.Tabulated.{length-tabulate, get_or-tabulate}
-use Rattle.bank.specs.Given.{Given, IsFaulted}
-use Rattle.layout.proofs.Limits.{limited}
-use Rattle.geometry.specs.Geometry.{AreInForce}
-use Rattle.superblocks.specs.declared.change.Change.{Change}
-use Rattle.superblocks.specs.declared.change.Give.{Give}
-use Rattle.superblocks.specs.declared.members.Members.{Members}
-use Rattle.superblocks.specs.Outcome.{is_planned_holder, held_state, planned_state}
-use Rattle.superblocks.specs.Reading.{is_reshaping, is_whole, shape_of, role_count, role_state, holder}
-use Rattle.superblocks.specs.Update.{give_of, is_held_by, planned_role}
+use Rattle.moving_steps.specs.md_base_Search.{tabulate, least_below}
+use Rattle.moving_steps.specs.md_base_Shapes.{has_slot}
+use Rattle.moving_steps.specs.md_base_the_Shape.{Shape}
+use Rattle.moving_steps.specs.md_base_the_Role.{Role}
+use Rattle.moving_steps.specs.md_base_the_Role_TheVariants.{Whole, Recovering, Missing}
+use Rattle.moving_steps.proofs.md_base_Tabulated.{length-tabulate, get_or-tabulate}
+use Rattle.moving_steps.specs.bank_Given.{Given, IsFaulted}
+use Rattle.moving_steps.proofs.layout_Limits.{limited}
+use Rattle.moving_steps.specs.geometry_Geometry.{AreInForce}
+use Rattle.moving_steps.specs.superblocks_the_Change.{Change}
+use Rattle.moving_steps.specs.superblocks_the_Give.{Give}
+use Rattle.moving_steps.specs.superblocks_the_Members.{Members}
+use Rattle.moving_steps.specs.superblocks_Outcome.{is_planned_holder, held_state, planned_state}
+use Rattle.moving_steps.specs.superblocks_Reading.{is_reshaping, is_whole, shape_of, role_count, role_state, holder}
+use Rattle.moving_steps.specs.superblocks_Update.{give_of, is_held_by, planned_role}
 use Rattle.moving_steps.proofs.superblock_reads_SaidLists.{held-holder}
-use Rattle.row_io.specs.Rows.{reading_of, is_missing}
+use Rattle.moving_steps.specs.row_io_Rows.{reading_of, is_missing}
 use Rattle.moving_steps.specs.shape_changes_Safety.{HasLiveSlot}
 use Rattle.moving_steps.specs.shape_changes_Steady.{AreUnlost}
 use Rattle.moving_steps.specs.shape_changes_Updates.{HasOneHolder}
@@ -32,14 +32,14 @@ use Rattle.moving_steps.proofs.reshape_updates_BegunPlan.{new-count, taking}
 use Rattle.moving_steps.proofs.reshape_updates_NewRoles.{new-or, new-taken}
 use Rattle.moving_steps.proofs.reshape_updates_Taken.{taking-one}
 use Rattle.moving_steps.specs.reshape_ends_Begun.{begun_plan}
-use Rattle.views.specs.Lacking.{AreLostSince, HaveFailedSince}
-use Rattle.views.specs.Moving.{IsMoved}
-use Rattle.views.specs.Placed.{is_vacant, IsPlaced}
-use Rattle.views.specs.Rebuilding.{AreSparesFree}
-use Rattle.views.proofs.Fit.{count-alike, roles-still}
-use Rattle.views.proofs.LackingLaws.{since-missing}
-use Rattle.views.proofs.LiveLeft.{holder-left}
-use Rattle.views.proofs.MarkLaws.{role_from-found}
+use Rattle.moving_steps.specs.views_Lacking.{AreLostSince, HaveFailedSince}
+use Rattle.moving_steps.specs.views_Moving.{IsMoved}
+use Rattle.moving_steps.specs.views_Placed.{is_vacant, IsPlaced}
+use Rattle.moving_steps.specs.views_Rebuilding.{AreSparesFree}
+use Rattle.moving_steps.proofs.views_Fit.{count-alike, roles-still}
+use Rattle.moving_steps.proofs.views_LackingLaws.{since-missing}
+use Rattle.moving_steps.proofs.views_LiveLeft.{holder-left}
+use Rattle.moving_steps.proofs.views_MarkLaws.{role_from-found}
 use Rattle.moving_steps.proofs.history_calls_Behind.{IsAmong}
 use Rattle.moving_steps.specs.still_kept_Still.{AreNoneMissing}
 use Rattle.moving_steps.proofs.still_kept_Stood.{within-count}

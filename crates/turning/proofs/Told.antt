@@ -1,15 +1,15 @@
 -- What is told of arrays that are known by their parts.
 use Rattle.std.proofs.Common.{◌≡◌, ℕ, List, sym, subst}
-use Rattle.md_base.specs.declared.answers.Refusal.{Refusal}
-use Rattle.md_base.specs.declared.answers.Who.{Who}
-use Rattle.md_base.specs.declared.places.Shape.{Shape}
-use Rattle.bank.specs.declared.bank.Operation.{Operation}
-use Rattle.bank.specs.Given.{Given, NeverFalls}
-use Rattle.flat_history.specs.declared.events.Event.{Event}
-use Rattle.views.specs.Lacking.{AreTooMany}
-use Rattle.views.specs.Moving.{Grows}
+use Rattle.moving_steps.specs.md_base_the_Refusal.{Refusal}
+use Rattle.moving_steps.specs.md_base_the_Who.{Who}
+use Rattle.moving_steps.specs.md_base_the_Shape.{Shape}
+use Rattle.moving_steps.specs.bank_the_Operation.{Operation}
+use Rattle.moving_steps.specs.bank_Given.{Given, NeverFalls}
+use Rattle.moving_steps.specs.flat_history_the_Event.{Event}
+use Rattle.moving_steps.specs.views_Lacking.{AreTooMany}
+use Rattle.moving_steps.specs.views_Moving.{Grows}
 use Rattle.moving_steps.specs.array_kept_Calls.{IsBehind}
-use Rattle.grow_asked.specs.declared.window.PhasesLeft.{PhasesLeft}
+use Rattle.moving_steps.specs.grow_asked_the_PhasesLeft.{PhasesLeft}
 use Rattle.moving_steps.specs.running_words_Calls.{IsCalled}
 use Rattle.moving_steps.specs.running_words_Parts.{RunningParts}
 use Rattle.turning.specs.Begun.{IsReshapeBegun, IsGivenBack, IsBeginRefused}

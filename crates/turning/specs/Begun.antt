@@ -1,38 +1,38 @@
 -- A reshape begins in an array that had none: what is asked of it, and what it leaves.
 use Rattle.std.specs.Prelude.{◌≡◌, ◌≢◌, ◌⊎◌, ℕ, ◌+◌, ◌-◌, ◌<◌, ◌≤◌, ◌++◌, Bool, true, false, List, [], ◌∷◌, Option, Some, IfSome, if◌then◌else◌, ⊤}
 use Rattle.std.specs.List.{list_any}
-use Rattle.md_base.specs.declared.answers.Refusal.{Refusal}
-use Rattle.md_base.specs.declared.answers.Refusal.TheVariants.{PastEnd, TooManyMissing, NotResynced, Degraded, NeedSpares, BackupFault}
-use Rattle.md_base.specs.declared.answers.Who.{Who}
-use Rattle.md_base.specs.declared.places.Shape.{Shape}
-use Rattle.md_base.specs.declared.wishes.Phase.TheVariants.{Reshape}
-use Rattle.md_base.specs.Shapes.{has_slot}
-use Rattle.bank.specs.declared.bank.Operation.{Operation}
-use Rattle.bank.specs.Given.{Given, IsFaulted, NeverFalls}
-use Rattle.bank.specs.Tape.{Contents}
-use Rattle.geometry.specs.Geometry.{list_end}
-use Rattle.grow_plan.specs.Plans.{phase_window}
-use Rattle.superblocks.specs.declared.members.Members.{Members}
-use Rattle.superblocks.specs.Reading.{is_clean, shape_of, role_count, role_state, holder, list_length}
-use Rattle.superblocks.specs.Reads.{has_spare}
-use Rattle.row_io.specs.Rows.{reading_of, present}
-use Rattle.flat_history.specs.declared.events.Entry.{Entry}
-use Rattle.flat_history.specs.declared.events.Event.{Event}
-use Rattle.flat_history.specs.declared.events.Event.TheVariants.{Step, Refused, Resized}
-use Rattle.flat_history.specs.declared.events.StepKind.TheVariants.{Begun}
-use Rattle.flat_history.specs.Plain.{entries_of}
-use Rattle.flat_history.specs.Reshaped.{is_done}
-use Rattle.call_entries.specs.Losing.{losses_of}
-use Rattle.views.specs.Placed.{is_vacant, AreStillHeld}
-use Rattle.views.specs.Lacking.{HaveRolesFailed}
-use Rattle.views.specs.Moving.{Grows}
-use Rattle.views.specs.Status.{spare_count}
+use Rattle.moving_steps.specs.md_base_the_Refusal.{Refusal}
+use Rattle.moving_steps.specs.md_base_the_Refusal_TheVariants.{PastEnd, TooManyMissing, NotResynced, Degraded, NeedSpares, BackupFault}
+use Rattle.moving_steps.specs.md_base_the_Who.{Who}
+use Rattle.moving_steps.specs.md_base_the_Shape.{Shape}
+use Rattle.moving_steps.specs.md_base_the_Phase_TheVariants.{Reshape}
+use Rattle.moving_steps.specs.md_base_Shapes.{has_slot}
+use Rattle.moving_steps.specs.bank_the_Operation.{Operation}
+use Rattle.moving_steps.specs.bank_Given.{Given, IsFaulted, NeverFalls}
+use Rattle.moving_steps.specs.bank_Tape.{Contents}
+use Rattle.moving_steps.specs.geometry_Geometry.{list_end}
+use Rattle.moving_steps.specs.grow_plan_Plans.{phase_window}
+use Rattle.moving_steps.specs.superblocks_the_Members.{Members}
+use Rattle.moving_steps.specs.superblocks_Reading.{is_clean, shape_of, role_count, role_state, holder, list_length}
+use Rattle.moving_steps.specs.superblocks_Reads.{has_spare}
+use Rattle.moving_steps.specs.row_io_Rows.{reading_of, present}
+use Rattle.moving_steps.specs.flat_history_the_Entry.{Entry}
+use Rattle.moving_steps.specs.flat_history_the_Event.{Event}
+use Rattle.moving_steps.specs.flat_history_the_Event_TheVariants.{Step, Refused, Resized}
+use Rattle.moving_steps.specs.flat_history_the_StepKind_TheVariants.{Begun}
+use Rattle.moving_steps.specs.flat_history_Plain.{entries_of}
+use Rattle.moving_steps.specs.flat_history_Reshaped.{is_done}
+use Rattle.moving_steps.specs.call_entries_Losing.{losses_of}
+use Rattle.moving_steps.specs.views_Placed.{is_vacant, AreStillHeld}
+use Rattle.moving_steps.specs.views_Lacking.{HaveRolesFailed}
+use Rattle.moving_steps.specs.views_Moving.{Grows}
+use Rattle.moving_steps.specs.views_Status.{spare_count}
 use Rattle.moving_steps.specs.array_kept_Calls.{AreSparesFewer, AreLossesOf, IsEndOf}
 use Rattle.moving_steps.specs.reshape_updates_Beginning.{goes_back}
 use Rattle.moving_steps.specs.reshape_ends_Begun.{begun_plan}
-use Rattle.grow_asked.specs.declared.window.PhasesLeft.{PhasesLeft}
-use Rattle.grow_asked.specs.Left.{IsAtStartOf}
-use Rattle.grow_asked.specs.Asked.{lowest_missing}
+use Rattle.moving_steps.specs.grow_asked_the_PhasesLeft.{PhasesLeft}
+use Rattle.moving_steps.specs.grow_asked_Left.{IsAtStartOf}
+use Rattle.moving_steps.specs.grow_asked_Asked.{lowest_missing}
 use Rattle.moving_steps.specs.kept_history_Recorded.{IsCallGoing}
 use Rattle.moving_steps.specs.course_kept_Laws.{closed}
 use Rattle.moving_steps.specs.still_kept_Still.{AreNoneMissing}

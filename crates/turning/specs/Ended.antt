@@ -1,26 +1,26 @@
 -- A reshape ends: what it leaves.
 use Rattle.std.specs.Prelude.{◌≡◌, ◌⊎◌, ℕ, ◌+◌, ◌*◌, ◌<◌, ◌≤◌, ◌++◌, nat_lt, true, List, [], ◌∷◌, Some, if◌then◌else◌}
-use Rattle.md_base.specs.Shapes.{has_slot, data_disks}
-use Rattle.md_base.specs.declared.answers.Refusal.{Refusal}
-use Rattle.md_base.specs.declared.answers.Who.{Who}
-use Rattle.bank.specs.declared.bank.Operation.{Operation}
-use Rattle.bank.specs.Given.{Given, IsFaulted, NeverFalls}
-use Rattle.superblocks.specs.declared.members.Members.{Members}
-use Rattle.superblocks.specs.Reading.{shape_of, final_shape, list_length, role_state, holder}
-use Rattle.superblocks.specs.Reads.{has_spare}
-use Rattle.row_io.specs.Rows.{reading_of, present}
-use Rattle.flat_history.specs.declared.events.Entry.{Entry}
-use Rattle.flat_history.specs.declared.events.Event.{Event}
-use Rattle.flat_history.specs.declared.events.Event.TheVariants.{Step, Resized}
-use Rattle.flat_history.specs.declared.events.StepKind.TheVariants.{Finished}
-use Rattle.flat_history.specs.Plain.{entries_of}
-use Rattle.call_entries.specs.Losing.{losses_of}
+use Rattle.moving_steps.specs.md_base_Shapes.{has_slot, data_disks}
+use Rattle.moving_steps.specs.md_base_the_Refusal.{Refusal}
+use Rattle.moving_steps.specs.md_base_the_Who.{Who}
+use Rattle.moving_steps.specs.bank_the_Operation.{Operation}
+use Rattle.moving_steps.specs.bank_Given.{Given, IsFaulted, NeverFalls}
+use Rattle.moving_steps.specs.superblocks_the_Members.{Members}
+use Rattle.moving_steps.specs.superblocks_Reading.{shape_of, final_shape, list_length, role_state, holder}
+use Rattle.moving_steps.specs.superblocks_Reads.{has_spare}
+use Rattle.moving_steps.specs.row_io_Rows.{reading_of, present}
+use Rattle.moving_steps.specs.flat_history_the_Entry.{Entry}
+use Rattle.moving_steps.specs.flat_history_the_Event.{Event}
+use Rattle.moving_steps.specs.flat_history_the_Event_TheVariants.{Step, Resized}
+use Rattle.moving_steps.specs.flat_history_the_StepKind_TheVariants.{Finished}
+use Rattle.moving_steps.specs.flat_history_Plain.{entries_of}
+use Rattle.moving_steps.specs.call_entries_Losing.{losses_of}
 use Rattle.moving_steps.specs.shape_changes_Marking.{AreOthersPresent}
 use Rattle.moving_steps.specs.reshape_ends_Finished.{IsOver}
-use Rattle.views.specs.Lacking.{AreTooMany}
-use Rattle.views.specs.Moving.{Grows}
-use Rattle.views.specs.Placed.{is_vacant, AreStillHeld, AreWhole}
-use Rattle.views.specs.Rebuilding.{Held}
+use Rattle.moving_steps.specs.views_Lacking.{AreTooMany}
+use Rattle.moving_steps.specs.views_Moving.{Grows}
+use Rattle.moving_steps.specs.views_Placed.{is_vacant, AreStillHeld, AreWhole}
+use Rattle.moving_steps.specs.views_Rebuilding.{Held}
 use Rattle.moving_steps.specs.array_kept_Calls.{AreLossesBy, IsEndOf, TellNoLoss}
 use Rattle.moving_steps.specs.course_kept_Laws.{closed}
 use Rattle.moving_steps.specs.running_words_Parts.{RunningParts, left_in, still_left}

@@ -28,15 +28,34 @@ pub use Rattle.still_steps.specs.Stepping as still_steps_Stepping
 pub use Rattle.still_steps.specs.still_laws_Plain
 pub use Rattle.still_steps.specs.still_laws_Ready
 pub use Rattle.still_steps.specs.still_laws_Steps
-pub use Rattle.views.specs.Status as views_Status
-pub use Rattle.views.specs.Rebuilding as views_Rebuilding
-pub use Rattle.views.specs.Placed as views_Placed
-pub use Rattle.views.specs.declared.work.Work as views_the_Work
+pub use Rattle.moving_steps.specs.views_Status
+pub use Rattle.moving_steps.specs.views_Rebuilding
+pub use Rattle.moving_steps.specs.views_Placed
+pub use Rattle.moving_steps.specs.views_the_Work
 pub use Rattle.moving_steps.specs.kept_history_Recorded
 pub use Rattle.moving_steps.specs.kept_history_Safe
 pub use Rattle.moving_steps.specs.shape_changes_Safety
-pub use Rattle.views.specs.Lacking as views_Lacking
-pub use Rattle.views.specs.Moving as views_Moving
+pub use Rattle.moving_steps.specs.views_Lacking
+pub use Rattle.moving_steps.specs.views_Moving
 pub use Rattle.moving_steps.specs.shape_changes_Marking
 pub use Rattle.moving_steps.specs.shape_views_Regions
-pub use Rattle.row_io.specs.Rows as row_io_Rows
+pub use Rattle.moving_steps.specs.row_io_Rows
+pub use Rattle.moving_steps.specs.flat_history_Fits
+pub use Rattle.moving_steps.specs.flat_history_Plain
+pub use Rattle.moving_steps.specs.flat_history_Reshaped
+pub use Rattle.moving_steps.specs.flat_history_Stands
+pub use Rattle.moving_steps.specs.flat_history_World
+pub use Rattle.moving_steps.specs.flat_history_the_LostCause_TheVariants
+pub use Rattle.moving_steps.specs.flat_history_the_StepKind
+pub use Rattle.moving_steps.specs.flat_history_the_StepKind_TheVariants
+pub use Rattle.moving_steps.specs.geometry_Geometry
+pub use Rattle.moving_steps.specs.grow_asked_Asked
+pub use Rattle.moving_steps.specs.grow_asked_Fitting
+pub use Rattle.moving_steps.specs.grow_asked_Left
+pub use Rattle.moving_steps.specs.grow_asked_the_PhasesLeft
+pub use Rattle.moving_steps.specs.grow_plan_Plans
+pub use Rattle.moving_steps.specs.sb1_the_Sb
+pub use Rattle.moving_steps.specs.superblocks_Reading
+pub use Rattle.moving_steps.specs.superblocks_Reads
+pub use Rattle.moving_steps.specs.superblocks_Verdict
+pub use Rattle.moving_steps.specs.superblocks_the_Members

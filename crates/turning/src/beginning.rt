@@ -2,24 +2,24 @@
 
 ghost use Rattle.std.specs.Prelude.{◌≡◌, ◌≢◌, ◌⊎◌, ◌+◌, ◌*◌, ◌<◌, ◌≤◌, ◌&&◌, ◌++◌, ◌∷◌, [], ℕ, nat_lt, true, false, length, vec_capacity, Some, IfOk, IfErr};
 ghost use Rattle.std.specs.List.{list_any};
-ghost use Rattle.md_base.specs.Shapes.{has_slot};
-ghost use Rattle.md_base.specs.declared.wishes.Phase.TheVariants.{Reshape};
-ghost use Rattle.md_base.specs.declared.answers.Refusal.TheVariants.{BackupFault};
-ghost use Rattle.bank.specs.Given.{IsFaulted, NeverFalls};
-ghost use Rattle.grow_plan.specs.Plans.{phase_window, AreSound};
-ghost use Rattle.superblocks.specs.Reading.{is_backward, shape_of, final_shape, list_length, role_count};
-ghost use Rattle.row_io.specs.Rows.{reading_of};
-ghost use Rattle.flat_history.specs.declared.events.Event.TheVariants.{Step};
-ghost use Rattle.flat_history.specs.declared.events.StepKind.TheVariants.{Begun};
-ghost use Rattle.flat_history.specs.Plain.{entries_of};
+ghost use Rattle.moving_steps.specs.md_base_Shapes.{has_slot};
+ghost use Rattle.moving_steps.specs.md_base_the_Phase_TheVariants.{Reshape};
+ghost use Rattle.moving_steps.specs.md_base_the_Refusal_TheVariants.{BackupFault};
+ghost use Rattle.moving_steps.specs.bank_Given.{IsFaulted, NeverFalls};
+ghost use Rattle.moving_steps.specs.grow_plan_Plans.{phase_window, AreSound};
+ghost use Rattle.moving_steps.specs.superblocks_Reading.{is_backward, shape_of, final_shape, list_length, role_count};
+ghost use Rattle.moving_steps.specs.row_io_Rows.{reading_of};
+ghost use Rattle.moving_steps.specs.flat_history_the_Event_TheVariants.{Step};
+ghost use Rattle.moving_steps.specs.flat_history_the_StepKind_TheVariants.{Begun};
+ghost use Rattle.moving_steps.specs.flat_history_Plain.{entries_of};
 ghost use Rattle.moving_steps.specs.shape_views_Regions.{AreShapesFit};
-ghost use Rattle.views.specs.Moving.{Grows};
-ghost use Rattle.views.specs.Placed.{is_vacant};
-ghost use Rattle.views.specs.Status.{left_of};
-ghost use Rattle.call_entries.specs.Losing.{losses_of};
+ghost use Rattle.moving_steps.specs.views_Moving.{Grows};
+ghost use Rattle.moving_steps.specs.views_Placed.{is_vacant};
+ghost use Rattle.moving_steps.specs.views_Status.{left_of};
+ghost use Rattle.moving_steps.specs.call_entries_Losing.{losses_of};
 ghost use Rattle.moving_steps.specs.array_kept_Kept.{scope_in};
-ghost use Rattle.grow_asked.specs.declared.window.Window.TheVariants.{Closed};
-ghost use Rattle.grow_asked.specs.Left.{phases_of, grow_left, IsReshapeUnderWay};
+ghost use Rattle.moving_steps.specs.grow_asked_the_Window_TheVariants.{Closed};
+ghost use Rattle.moving_steps.specs.grow_asked_Left.{phases_of, grow_left, IsReshapeUnderWay};
 ghost use Rattle.moving_steps.specs.kept_history_Recorded.{IsCallGoing};
 ghost use Rattle.moving_steps.specs.course_kept_Laws.{closed};
 ghost use Rattle.moving_steps.specs.running_words_Parts.{RunningParts};
@@ -28,17 +28,12 @@ ghost use Rattle.still_steps.specs.still_laws_Ready.{IsReady};
 ghost use Rattle.turning.specs.Begun.{begun_length, HasKeptLength, IsBackupAt, IsPlain, IsReshapeBegun, IsGivenBack, IsBeginRefused};
 
 use crate::refusing::unbegun;
-use bank::Bank;
-use call_entries::calls::{enter, enter_lost};
-use flat_history::{Entries, Epoch, Event, StepKind};
-use grow_asked::shapes::is_backward;
-use grow_asked::{PhasesLeft, Window, planned_left, reshape_left};
-use md_base::{Refusal, Shape, Who};
-use moving_steps::{Course, Moving, begin, list_sectors, vacant_roles};
-use pieces::Pieces;
+use moving_steps::{
+    Bank, Course, Entries, Epoch, Event, Members, Moving, PhasesLeft, Pieces, Refusal, Shape,
+    StepKind, Who, Window, begin, contains, enter, enter_lost, is_backward, list_sectors,
+    planned_left, reshape_left, vacant_roles,
+};
 use still_steps::Still;
-use superblocks::Members;
-use superblocks::sets::contains;
 
 // The number of a call that goes on is at most the number of entries.
 pub(crate) fn check_going(entries: &Entries, who: Who)

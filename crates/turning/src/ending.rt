@@ -1,20 +1,20 @@
 //! A reshape ends in an array that is in one.
 
 ghost use Rattle.std.specs.Prelude.{◌≡◌, ◌≢◌, ◌+◌, ◌*◌, ◌^◌, ◌<◌, ◌≤◌, ◌&&◌, ◌||◌, ◌++◌, ◌∷◌, [], ℕ, true, not, nat_lt, length, Some, IfOk, IfErr, IfSome, IsTrue};
-ghost use Rattle.md_base.specs.Shapes.{has_slot, is_valid_shape, data_disks};
-ghost use Rattle.grow_plan.specs.Plans.{AreSound};
-ghost use Rattle.superblocks.specs.Reading.{shape_of, final_shape, list_length, role_count, role_state, holder};
-ghost use Rattle.row_io.specs.Rows.{reading_of};
-ghost use Rattle.flat_history.specs.declared.events.Event.TheVariants.{Step, Refused};
-ghost use Rattle.flat_history.specs.declared.events.StepKind.TheVariants.{Finished as HasFinished};
-ghost use Rattle.flat_history.specs.Plain.{entries_of};
+ghost use Rattle.moving_steps.specs.md_base_Shapes.{has_slot, is_valid_shape, data_disks};
+ghost use Rattle.moving_steps.specs.grow_plan_Plans.{AreSound};
+ghost use Rattle.moving_steps.specs.superblocks_Reading.{shape_of, final_shape, list_length, role_count, role_state, holder};
+ghost use Rattle.moving_steps.specs.row_io_Rows.{reading_of};
+ghost use Rattle.moving_steps.specs.flat_history_the_Event_TheVariants.{Step, Refused};
+ghost use Rattle.moving_steps.specs.flat_history_the_StepKind_TheVariants.{Finished as HasFinished};
+ghost use Rattle.moving_steps.specs.flat_history_Plain.{entries_of};
 ghost use Rattle.moving_steps.specs.shape_views_Regions.{AreShapesFit};
-ghost use Rattle.views.specs.Lacking.{AreTooMany};
-ghost use Rattle.views.specs.Placed.{is_vacant};
-ghost use Rattle.views.specs.Status.{stripes_of};
-ghost use Rattle.call_entries.specs.Losing.{losses_of};
+ghost use Rattle.moving_steps.specs.views_Lacking.{AreTooMany};
+ghost use Rattle.moving_steps.specs.views_Placed.{is_vacant};
+ghost use Rattle.moving_steps.specs.views_Status.{stripes_of};
+ghost use Rattle.moving_steps.specs.call_entries_Losing.{losses_of};
 ghost use Rattle.moving_steps.specs.array_kept_Calls.{IsBehind};
-ghost use Rattle.grow_asked.specs.Left.{phases_of};
+ghost use Rattle.moving_steps.specs.grow_asked_Left.{phases_of};
 ghost use Rattle.moving_steps.specs.moving_state_Due.{due_of};
 ghost use Rattle.moving_steps.specs.moving_state_the_Due_TheVariants.{Finish};
 ghost use Rattle.moving_steps.specs.kept_history_Recorded.{IsCallGoing};
@@ -24,19 +24,12 @@ ghost use Rattle.moving_steps.specs.running_words_Plans.{ArePlansKept};
 ghost use Rattle.turning.specs.Ended.{ended_length, IsReshapeEnded};
 
 use crate::beginning::check_going;
-use bank::Bank;
-use call_entries::calls::{enter, enter_behind, enter_lost};
-use flat_history::{Epoch, Event, StepKind};
-use grow_asked::{PhasesLeft, planned_left};
-use md_base::{Refusal, Role, Who};
 use moving_steps::{
-    Finished, Moving, final_in, finish, list_length, list_sectors, newly_vacant, shape_in,
-    steps_left, too_many, vacant_roles,
+    Bank, Epoch, Event, Finished, Members, Moving, PhasesLeft, Refusal, Role, StepKind, Who, Work,
+    enter, enter_behind, enter_lost, final_in, finish, list_length, list_sectors, newly_vacant,
+    planned_left, shape_in, steps_left, too_many, vacant_roles, with, without,
 };
 use still_steps::Still;
-use superblocks::Members;
-use superblocks::sets::{with, without};
-use views::Work;
 
 // The slots that hold a role below this one.
 fn holders_below(members: &Members, disks: u32) -> u32

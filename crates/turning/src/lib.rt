@@ -8,7 +8,8 @@ mod refusing;
 pub use beginning::begin_reshape;
 pub use ending::finish_reshape;
 pub use moving_steps::{
-    Course, Due, Moving, Room, answer, due_step, enter_all_absent, found_numbers, holds_role,
-    list_sectors, make_room, room_for, step, steps_left, write, zeros,
+    Course, Due, Event, Members, Moving, PhasesLeft, Room, all_left, answer, contains, due_step,
+    enter_all_absent, found_numbers, holds_role, judge_grow, list_sectors, make_room, plan_of,
+    room_for, step, steps_left, write, zeros,
 };
 pub use still_steps::{Opened, Still, first_recovering, still_step};

@@ -1,17 +1,14 @@
 //! Why a reshape doesn't begin.
 
 ghost use Rattle.std.specs.Prelude.{◌≡◌, ◌≤◌, length, Some, IsTrue, MatchOption};
-ghost use Rattle.md_base.specs.Shapes.{is_valid_shape};
-ghost use Rattle.superblocks.specs.Reading.{shape_of, role_count};
-ghost use Rattle.views.specs.Status.{spare_count};
-ghost use Rattle.grow_asked.specs.Asked.{lowest_missing};
+ghost use Rattle.moving_steps.specs.md_base_Shapes.{is_valid_shape};
+ghost use Rattle.moving_steps.specs.superblocks_Reading.{shape_of, role_count};
+ghost use Rattle.moving_steps.specs.views_Status.{spare_count};
+ghost use Rattle.moving_steps.specs.grow_asked_Asked.{lowest_missing};
 ghost use Rattle.moving_steps.specs.still_kept_Still.{AreNoneMissing};
 ghost use Rattle.turning.specs.Begun.{CanBegin, IsUnbegun};
 
-use md_base::{Refusal, Shape};
-use moving_steps::{is_spare, shape_in};
-use row_io::is_missing;
-use superblocks::Members;
+use moving_steps::{Members, Refusal, Shape, is_missing, is_spare, shape_in};
 
 // The lowest role that isn't whole.
 fn lowest_missing(members: &Members) -> Option<u32>

@@ -5,26 +5,26 @@ use Rattle.std.specs.List.{list_any}
 use Rattle.std.proofs.lemmas.Bool.{cases_eq}
 use Rattle.std.proofs.lemmas.Bool.Decides.{nat_tests}
 use Rattle.std.proofs.lemmas.List.{get_or-set_same}
-use Rattle.md_base.specs.Shapes.{has_slot}
-use Rattle.sb1.specs.declared.sb.Sb.{Sb}
-use Rattle.sb1.specs.Writable.{IsWritable}
-use Rattle.bank.specs.Given.{Given}
-use Rattle.shape_changes.specs.superblocks_the_Members.{Members}
-use Rattle.shape_changes.specs.superblocks_Reading.{role_state, holder, data_offset_of}
-use Rattle.shape_changes.specs.superblocks_Reads.{has_spare}
-use Rattle.shape_changes.specs.superblocks_Update.{own_in, is_held_by, is_live}
-use Rattle.shape_changes.specs.superblocks_Writing.{IsMember}
-use Rattle.shape_changes.specs.superblocks_Outcome.{IsAddable, is_in_update, live_set}
-use Rattle.shape_changes.proofs.superblocks_SlotSets.{has-set_of}
-use Rattle.shape_changes.proofs.superblocks_StoredSlots.{set_apart}
-use Rattle.shape_changes.proofs.superblock_reads_SaidSlots.{has-slots_below}
-use Rattle.shape_changes.specs.row_io_Rows.{reading_of}
+use Rattle.role_changes.specs.md_base_Shapes.{has_slot}
+use Rattle.role_changes.specs.sb1_the_Sb.{Sb}
+use Rattle.role_changes.specs.sb1_Writable.{IsWritable}
+use Rattle.role_changes.specs.bank_Given.{Given}
+use Rattle.role_changes.specs.superblocks_the_Members.{Members}
+use Rattle.role_changes.specs.superblocks_Reading.{role_state, holder, data_offset_of}
+use Rattle.role_changes.specs.superblocks_Reads.{has_spare}
+use Rattle.role_changes.specs.superblocks_Update.{own_in, is_held_by, is_live}
+use Rattle.role_changes.specs.superblocks_Writing.{IsMember}
+use Rattle.role_changes.specs.superblocks_Outcome.{IsAddable, is_in_update, live_set}
+use Rattle.role_changes.proofs.superblocks_SlotSets.{has-set_of}
+use Rattle.role_changes.proofs.superblocks_StoredSlots.{set_apart}
+use Rattle.role_changes.proofs.superblock_reads_SaidSlots.{has-slots_below}
+use Rattle.role_changes.specs.row_io_Rows.{reading_of}
 use Rattle.views.specs.Placed.{IsPlaced}
-use Rattle.shape_changes.specs.Steady.{AreUnlost}
-use Rattle.shape_changes.specs.Marking.{adding, marking}
+use Rattle.role_changes.specs.shape_changes_Steady.{AreUnlost}
+use Rattle.role_changes.specs.shape_changes_Marking.{adding, marking}
 use Rattle.views.specs.Numbers.{IsSpareSb}
 use Rattle.views.specs.Rebuilding.{IsFree, AreSparesFree, with_spare}
-use Rattle.shape_changes.proofs.Without.{live-is}
+use Rattle.role_changes.proofs.shape_changes_Without.{live-is}
 
 -- ---- tests
 

@@ -1,17 +1,17 @@
 -- The list on the members with a slot that is made a spare: it has no part in it.
 use Rattle.std.proofs.Common.{◌≡◌, ◌≢◌, ℕ, ◌+◌, ◌≤◌, nat_lt, cond, if◌then◌else◌, Option, Some, None, refl, sym, ◌∙◌, ap, subst}
 use Rattle.std.specs.Option.{option_map_or}
-use Rattle.md_base.specs.Sectors.{Sector}
-use Rattle.md_base.specs.declared.places.Shape.{Shape}
-use Rattle.md_base.specs.declared.status.Role.{Role}
-use Rattle.md_base.specs.declared.status.Role.TheVariants.{Whole, Recovering, Missing}
-use Rattle.sb1.specs.declared.sb.Sb.{Sb}
-use Rattle.bank.specs.Tape.{Contents}
-use Rattle.shape_changes.specs.superblocks_the_Members.{Members}
-use Rattle.shape_changes.specs.superblocks_Reading.{shape_of, is_reshaping, role_state, rows_held, holder, data_offset_of}
-use Rattle.shape_changes.specs.row_io_Rows.{reading_of, held_slot}
-use Rattle.shape_changes.proofs.row_io_Losses.{holder-of}
-use Rattle.shape_changes.specs.list_io_Full.{DataStands, ParityStands}
+use Rattle.role_changes.specs.md_base_Sectors.{Sector}
+use Rattle.role_changes.specs.md_base_the_Shape.{Shape}
+use Rattle.role_changes.specs.md_base_the_Role.{Role}
+use Rattle.role_changes.specs.md_base_the_Role_TheVariants.{Whole, Recovering, Missing}
+use Rattle.role_changes.specs.sb1_the_Sb.{Sb}
+use Rattle.role_changes.specs.bank_Tape.{Contents}
+use Rattle.role_changes.specs.superblocks_the_Members.{Members}
+use Rattle.role_changes.specs.superblocks_Reading.{shape_of, is_reshaping, role_state, rows_held, holder, data_offset_of}
+use Rattle.role_changes.specs.row_io_Rows.{reading_of, held_slot}
+use Rattle.role_changes.proofs.row_io_Losses.{holder-of}
+use Rattle.role_changes.specs.list_io_Full.{DataStands, ParityStands}
 use Rattle.views.specs.declared.work.Work.{Work}
 use Rattle.views.specs.Lacking.{ListStands, RowsStandAmong}
 use Rattle.views.specs.Rebuilding.{AreRebuilt, with_spare}

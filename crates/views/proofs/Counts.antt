@@ -1,6 +1,6 @@
 -- Counts below a number.
 use Rattle.std.proofs.Common.{◌≡◌, ℕ, zero, suc, ◌+◌, ◌<◌, ◌≤◌, Bool, true, false, cond, refl, arith}
-use Rattle.md_base.specs.Search.{count_below}
+use Rattle.role_changes.specs.md_base_Search.{count_below}
 
 -- where each that the one counts is counted by the other, there are no more
 pub count-implied : (n : ℕ) (f g : ℕ → Bool) → ((k : ℕ) → k < n → f k ≡ true → g k ≡ true) → count_below n f ≤ count_below n g

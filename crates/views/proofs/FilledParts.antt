@@ -3,30 +3,30 @@ use Rattle.std.proofs.Common.{◌≡◌, inl, inr, ℕ, ◌+◌, ◌*◌, ◌<�
 use Rattle.std.specs.Prelude.{Contains, slice_index, IfSome, IfNone, is_some}
 use Rattle.std.proofs.lemmas.Bool.Decides.{nat_tests}
 use Rattle.std.proofs.lemmas.List.{get_or_default}
-use Rattle.md_base.specs.Sectors.{Sector}
-use Rattle.md_base.specs.Shapes.{is_valid_shape, data_disks}
-use Rattle.md_base.specs.declared.places.Shape.{Shape}
-use Rattle.md_base.specs.declared.status.Role.{Role}
-use Rattle.md_base.specs.declared.status.Role.TheVariants.{Recovering}
-use Rattle.bank.specs.Given.{Given}
-use Rattle.bank.specs.declared.bank.Operation.{Operation}
-use Rattle.bank.specs.Tape.{Contents, EachMark, disk}
-use Rattle.shape_changes.specs.superblocks_the_Members.{Members}
-use Rattle.shape_changes.specs.superblocks_Reading.{Scope, role_state, rows_held, holder, data_offset_of}
-use Rattle.shape_changes.specs.row_io_Rows.{reading_of, held_slot}
-use Rattle.shape_changes.proofs.row_io_Losses.{holder-of}
-use Rattle.shape_changes.specs.list_io_Full.{RowStands}
-use Rattle.shape_changes.specs.list_io_Buffers.{AreTouched, IsTouched}
-use Rattle.shape_changes.specs.list_io_Writing.{HasFull}
+use Rattle.role_changes.specs.md_base_Sectors.{Sector}
+use Rattle.role_changes.specs.md_base_Shapes.{is_valid_shape, data_disks}
+use Rattle.role_changes.specs.md_base_the_Shape.{Shape}
+use Rattle.role_changes.specs.md_base_the_Role.{Role}
+use Rattle.role_changes.specs.md_base_the_Role_TheVariants.{Recovering}
+use Rattle.role_changes.specs.bank_Given.{Given}
+use Rattle.role_changes.specs.bank_the_Operation.{Operation}
+use Rattle.role_changes.specs.bank_Tape.{Contents, EachMark, disk}
+use Rattle.role_changes.specs.superblocks_the_Members.{Members}
+use Rattle.role_changes.specs.superblocks_Reading.{Scope, role_state, rows_held, holder, data_offset_of}
+use Rattle.role_changes.specs.row_io_Rows.{reading_of, held_slot}
+use Rattle.role_changes.proofs.row_io_Losses.{holder-of}
+use Rattle.role_changes.specs.list_io_Full.{RowStands}
+use Rattle.role_changes.specs.list_io_Buffers.{AreTouched, IsTouched}
+use Rattle.role_changes.specs.list_io_Writing.{HasFull}
 use Rattle.views.specs.Placed.{IsPlaced}
-use Rattle.shape_changes.specs.Steady.{AreUnlost, IsSafeNow, IsSafeStretch}
-use Rattle.shape_changes.specs.Marking.{AreOthersPresent}
+use Rattle.role_changes.specs.shape_changes_Steady.{AreUnlost, IsSafeNow, IsSafeStretch}
+use Rattle.role_changes.specs.shape_changes_Marking.{AreOthersPresent}
 use Rattle.views.specs.Moving.{IsMoved}
 use Rattle.views.specs.Lacking.{IsOfStripe, DataStandsAmong}
 use Rattle.views.specs.Rebuilding.{IsUnheld, IsFilling, IsFilledAmong}
-use Rattle.shape_changes.specs.shape_views_Views.{Ledger}
-use Rattle.shape_changes.proofs.Steady.{safe-is-seen}
-use Rattle.shape_changes.proofs.FillingSafe.{filling-stays-safe}
+use Rattle.role_changes.specs.shape_views_Views.{Ledger}
+use Rattle.role_changes.proofs.shape_changes_Steady.{safe-is-seen}
+use Rattle.role_changes.proofs.shape_changes_FillingSafe.{filling-stays-safe}
 use Rattle.views.proofs.LackingWrites.{recovering-before}
 use Rattle.views.proofs.MendedParts.{IsInParts}
 use Rattle.views.proofs.HeldRows.{held-moved}

@@ -3,25 +3,25 @@ use Rattle.std.proofs.Common.{◌≡◌, inl, inr, ℕ, ◌*◌, ◌^◌, ◌≤
 use Rattle.std.specs.Prelude.{IsTrue}
 use Rattle.std.proofs.lemmas.Bool.{and_parts}
 use Rattle.std.proofs.lemmas.Bool.Decides.{nat_tests}
-use Rattle.md_base.specs.declared.places.Shape.{Shape}
-use Rattle.md_base.specs.declared.answers.Refusal.{Refusal}
-use Rattle.md_base.specs.declared.answers.Refusal.TheVariants.{PositionNotOnUnit}
-use Rattle.md_base.specs.Shapes.{is_valid_shape, is_multiple, data_disks}
-use Rattle.bank.specs.Given.{Given}
-use Rattle.sb1.specs.declared.sb.Sb.{Sb}
-use Rattle.geometry.specs.Geometry.{is_size, unit, side}
-use Rattle.shape_changes.specs.superblocks_the_Members.{Members}
-use Rattle.shape_changes.specs.superblocks_Reading.{is_reshaping, is_backward, shape_of, final_shape, role_count, list_length}
-use Rattle.shape_changes.specs.flat_history_Stands.{shape_at, shape_for}
-use Rattle.md_base.specs.declared.places.Side.{Side}
-use Rattle.md_base.specs.declared.places.Side.TheVariants.{Old, New}
-use Rattle.shape_changes.specs.superblocks_Reads.{SaysSame}
-use Rattle.shape_changes.proofs.superblocks_ValidFields.{few-roles}
-use Rattle.shape_changes.specs.row_io_Rows.{reading_of}
-use Rattle.shape_changes.specs.list_io_Calls.{HasRows}
-use Rattle.shape_changes.specs.shape_views_Regions.{AreShapesFit}
-use Rattle.shape_changes.proofs.shape_views_Alike.{final-alike}
-use Rattle.shape_changes.proofs.shape_views_Stands.{final-still}
+use Rattle.role_changes.specs.md_base_the_Shape.{Shape}
+use Rattle.role_changes.specs.md_base_the_Refusal.{Refusal}
+use Rattle.role_changes.specs.md_base_the_Refusal_TheVariants.{PositionNotOnUnit}
+use Rattle.role_changes.specs.md_base_Shapes.{is_valid_shape, is_multiple, data_disks}
+use Rattle.role_changes.specs.bank_Given.{Given}
+use Rattle.role_changes.specs.sb1_the_Sb.{Sb}
+use Rattle.role_changes.specs.geometry_Geometry.{is_size, unit, side}
+use Rattle.role_changes.specs.superblocks_the_Members.{Members}
+use Rattle.role_changes.specs.superblocks_Reading.{is_reshaping, is_backward, shape_of, final_shape, role_count, list_length}
+use Rattle.role_changes.specs.flat_history_Stands.{shape_at, shape_for}
+use Rattle.role_changes.specs.md_base_the_Side.{Side}
+use Rattle.role_changes.specs.md_base_the_Side_TheVariants.{Old, New}
+use Rattle.role_changes.specs.superblocks_Reads.{SaysSame}
+use Rattle.role_changes.proofs.superblocks_ValidFields.{few-roles}
+use Rattle.role_changes.specs.row_io_Rows.{reading_of}
+use Rattle.role_changes.specs.list_io_Calls.{HasRows}
+use Rattle.role_changes.specs.shape_views_Regions.{AreShapesFit}
+use Rattle.role_changes.proofs.shape_views_Alike.{final-alike}
+use Rattle.role_changes.proofs.shape_views_Stands.{final-still}
 use Rattle.views.specs.Placed.{IsPlaced, IsInForce, HaveSameReshape}
 
 -- ---- a superblock whose shapes fit

@@ -1,14 +1,14 @@
 -- What flushes leave as it was, and the slots flushed one after another.
 use Rattle.std.proofs.Common.{◌≡◌, ◌≢◌, inl, inr, ℕ, ◌+◌, ◌<◌, ◌≤◌, Bool, true, false, cond, List, [], ◌∷◌, ◌++◌, length, take, refl, sym, ap, ◌∙◌, subst, arith, take_all, le_refl, append_assoc, eqb}
 use Rattle.std.proofs.lemmas.Bool.{cases_eq}
-use Rattle.md_base.specs.Shapes.{has_slot}
-use Rattle.md_base.specs.Sectors.{Sector}
-use Rattle.bank.specs.declared.bank.Operation.{Operation}
-use Rattle.bank.specs.declared.bank.Operation.TheVariants.{Write, Flush}
-use Rattle.bank.specs.Given.{Given, IsFaulted}
-use Rattle.bank.specs.Tape.{Contents, contents, disk, value_after, choices, AreFlushes}
-use Rattle.bank.proofs.Laws.{value_after-append, choices-append, disk-flushed}
-use Rattle.bank.proofs.Causes.{faulted_longer}
+use Rattle.role_changes.specs.md_base_Shapes.{has_slot}
+use Rattle.role_changes.specs.md_base_Sectors.{Sector}
+use Rattle.role_changes.specs.bank_the_Operation.{Operation}
+use Rattle.role_changes.specs.bank_the_Operation_TheVariants.{Write, Flush}
+use Rattle.role_changes.specs.bank_Given.{Given, IsFaulted}
+use Rattle.role_changes.specs.bank_Tape.{Contents, contents, disk, value_after, choices, AreFlushes}
+use Rattle.role_changes.proofs.bank_Laws.{value_after-append, choices-append, disk-flushed}
+use Rattle.role_changes.proofs.bank_Causes.{faulted_longer}
 use Rattle.views.specs.Flushing.{OnlyFlushesAdded, OnlyItsSlotsFail}
 use Rattle.views.specs.Flushing.{AreTried}
 

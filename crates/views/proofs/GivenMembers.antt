@@ -5,23 +5,23 @@ use Rattle.std.specs.Option.{option_map_or}
 use Rattle.std.proofs.lemmas.Bool.{cases_eq, cases_lt}
 use Rattle.std.proofs.lemmas.Bool.Decides.{nat_tests}
 use Rattle.std.proofs.lemmas.List.{length-set, get_or-set_same, get_or-set_other, get_or_past}
-use Rattle.md_base.specs.Shapes.{has_slot}
-use Rattle.md_base.specs.declared.status.Role.{Role}
-use Rattle.md_base.specs.declared.status.Role.TheVariants.{Whole, Recovering, Missing}
-use Rattle.sb1.specs.declared.sb.Sb.{Sb}
-use Rattle.sb1.specs.Writable.{IsWritable}
-use Rattle.bank.specs.Given.{Given}
-use Rattle.shape_changes.specs.superblocks_the_Members.{Members}
-use Rattle.shape_changes.specs.superblocks_Reading.{is_reshaping, role_state, rows_held, holder, data_offset_of}
-use Rattle.shape_changes.specs.superblocks_Reads.{has_spare}
-use Rattle.shape_changes.specs.superblocks_Update.{own_in, with_recovery, is_held_by, is_live}
-use Rattle.shape_changes.specs.superblocks_Writing.{IsMember}
-use Rattle.shape_changes.proofs.superblock_reads_SaidSlots.{has-slots_below}
-use Rattle.shape_changes.specs.row_io_Rows.{reading_of, IsHolder}
+use Rattle.role_changes.specs.md_base_Shapes.{has_slot}
+use Rattle.role_changes.specs.md_base_the_Role.{Role}
+use Rattle.role_changes.specs.md_base_the_Role_TheVariants.{Whole, Recovering, Missing}
+use Rattle.role_changes.specs.sb1_the_Sb.{Sb}
+use Rattle.role_changes.specs.sb1_Writable.{IsWritable}
+use Rattle.role_changes.specs.bank_Given.{Given}
+use Rattle.role_changes.specs.superblocks_the_Members.{Members}
+use Rattle.role_changes.specs.superblocks_Reading.{is_reshaping, role_state, rows_held, holder, data_offset_of}
+use Rattle.role_changes.specs.superblocks_Reads.{has_spare}
+use Rattle.role_changes.specs.superblocks_Update.{own_in, with_recovery, is_held_by, is_live}
+use Rattle.role_changes.specs.superblocks_Writing.{IsMember}
+use Rattle.role_changes.proofs.superblock_reads_SaidSlots.{has-slots_below}
+use Rattle.role_changes.specs.row_io_Rows.{reading_of, IsHolder}
 use Rattle.views.specs.Placed.{IsPlaced}
-use Rattle.shape_changes.specs.Steady.{AreUnlost}
+use Rattle.role_changes.specs.shape_changes_Steady.{AreUnlost}
 use Rattle.views.proofs.HeldRows.{recovered_of}
-use Rattle.shape_changes.proofs.Without.{any-holds, any-held}
+use Rattle.role_changes.proofs.shape_changes_Without.{any-holds, any-held}
 use Rattle.views.proofs.Gives.{state_given, with_given, holder-given, IsGivable}
 
 -- the offset from which a slot recovers; 0 where it is whole

@@ -4,25 +4,25 @@ use Rattle.std.specs.Option.{option_or, option_map_or}
 use Rattle.std.proofs.lemmas.Bool.{cases_eq}
 use Rattle.std.proofs.lemmas.Bool.Decides.{nat_tests}
 use Rattle.std.proofs.lemmas.List.{ext_get_or, length-map, length-set, length-replicate, get_or-set_same, get_or-set_other, map-set, set-get_or}
-use Rattle.md_base.specs.Search.{tabulate, least_below}
-use Rattle.md_base.specs.Shapes.{has_slot}
-use Rattle.md_base.specs.declared.status.Role.{Role}
-use Rattle.md_base.specs.declared.status.Role.TheVariants.{Whole, Recovering, Missing}
-use Rattle.md_base.proofs.Least.{least_below-none, least_below-only}
-use Rattle.md_base.proofs.Tabulated.{length-tabulate, get_or-tabulate}
-use Rattle.shape_changes.specs.superblocks_the_Give.{Give}
-use Rattle.shape_changes.specs.superblocks_the_Give_TheVariants.{Same}
-use Rattle.shape_changes.specs.superblocks_the_Give_TheVariants as give
-use Rattle.shape_changes.specs.superblocks_the_Members.{Members}
-use Rattle.shape_changes.specs.superblocks_Reading.{holder}
-use Rattle.shape_changes.specs.superblocks_Update.{role_from, give_of, planned_role}
-use Rattle.shape_changes.specs.superblocks_Outcome.{is_same, is_planned_holder, held_state, planned_state}
-use Rattle.shape_changes.proofs.superblock_reads_SaidLists.{role-holder}
-use Rattle.shape_changes.specs.row_io_Rows.{role_without}
+use Rattle.role_changes.specs.md_base_Search.{tabulate, least_below}
+use Rattle.role_changes.specs.md_base_Shapes.{has_slot}
+use Rattle.role_changes.specs.md_base_the_Role.{Role}
+use Rattle.role_changes.specs.md_base_the_Role_TheVariants.{Whole, Recovering, Missing}
+use Rattle.role_changes.proofs.md_base_Least.{least_below-none, least_below-only}
+use Rattle.role_changes.proofs.md_base_Tabulated.{length-tabulate, get_or-tabulate}
+use Rattle.role_changes.specs.superblocks_the_Give.{Give}
+use Rattle.role_changes.specs.superblocks_the_Give_TheVariants.{Same}
+use Rattle.role_changes.specs.superblocks_the_Give_TheVariants as give
+use Rattle.role_changes.specs.superblocks_the_Members.{Members}
+use Rattle.role_changes.specs.superblocks_Reading.{holder}
+use Rattle.role_changes.specs.superblocks_Update.{role_from, give_of, planned_role}
+use Rattle.role_changes.specs.superblocks_Outcome.{is_same, is_planned_holder, held_state, planned_state}
+use Rattle.role_changes.proofs.superblock_reads_SaidLists.{role-holder}
+use Rattle.role_changes.specs.row_io_Rows.{role_without}
 use Rattle.views.specs.Rebuilding.{with_state}
 use Rattle.views.proofs.MarkLaws.{Apart, state-kept}
-use Rattle.shape_changes.proofs.Kept.{give_of-same}
-use Rattle.shape_changes.proofs.Without.{state-without}
+use Rattle.role_changes.proofs.shape_changes_Kept.{give_of-same}
+use Rattle.role_changes.proofs.shape_changes_Without.{state-without}
 
 -- ---- what is given
 

@@ -2,22 +2,22 @@
 use Rattle.std.proofs.Common.{◌≡◌, ◌⊎◌, inl, inr, ℕ, ◌+◌, ◌<◌, ◌≤◌, Bool, true, false, not, cond, nat_lt, List, get_or, Option, Some, None, is_some, option_map, refl, sym, ◌∙◌, ap, ap₂, subst, arith}
 use Rattle.std.specs.Option.{option_map_or}
 use Rattle.std.proofs.lemmas.Bool.Decides.{nat_tests}
-use Rattle.md_base.specs.declared.status.Role.{Role}
-use Rattle.md_base.specs.declared.status.Role.TheVariants.{Whole, Recovering, Missing}
-use Rattle.md_base.specs.Sectors.{Sector}
-use Rattle.md_base.specs.declared.places.Shape.{Shape}
-use Rattle.bank.specs.Given.{Given}
-use Rattle.bank.specs.Tape.{Contents}
-use Rattle.shape_changes.specs.superblocks_the_Members.{Members}
-use Rattle.shape_changes.specs.superblocks_Reading.{Reading, shape_of, is_reshaping, is_whole, role_state, rows_held, holder, own_of, data_offset_of, final_shape}
-use Rattle.shape_changes.specs.row_io_Rows.{reading_of, is_held, is_missing, held_slot, held_sector, role_without, missing_count}
-use Rattle.shape_changes.proofs.row_io_Losses.{holder-of, state_kept}
-use Rattle.shape_changes.proofs.row_io_Tables.{get_or-map}
+use Rattle.role_changes.specs.md_base_the_Role.{Role}
+use Rattle.role_changes.specs.md_base_the_Role_TheVariants.{Whole, Recovering, Missing}
+use Rattle.role_changes.specs.md_base_Sectors.{Sector}
+use Rattle.role_changes.specs.md_base_the_Shape.{Shape}
+use Rattle.role_changes.specs.bank_Given.{Given}
+use Rattle.role_changes.specs.bank_Tape.{Contents}
+use Rattle.role_changes.specs.superblocks_the_Members.{Members}
+use Rattle.role_changes.specs.superblocks_Reading.{Reading, shape_of, is_reshaping, is_whole, role_state, rows_held, holder, own_of, data_offset_of, final_shape}
+use Rattle.role_changes.specs.row_io_Rows.{reading_of, is_held, is_missing, held_slot, held_sector, role_without, missing_count}
+use Rattle.role_changes.proofs.row_io_Losses.{holder-of, state_kept}
+use Rattle.role_changes.proofs.row_io_Tables.{get_or-map}
 use Rattle.views.specs.Placed.{is_vacant, AreLess}
 use Rattle.views.specs.Moving.{IsMoved}
 use Rattle.views.specs.Lacking.{DoesWithout}
 use Rattle.views.proofs.Counts.{count-implied}
-use Rattle.shape_changes.specs.shape_views_Regions.{DoWithout}
+use Rattle.role_changes.specs.shape_views_Regions.{DoWithout}
 
 -- ---- by the state of the role
 

@@ -3,39 +3,39 @@ use Rattle.std.proofs.Common.{◌≡◌, ◌⊎◌, inl, inr, ℕ, ◌<◌, ◌&
 use Rattle.std.proofs.lemmas.Bool.{cases_lt}
 use Rattle.std.proofs.lemmas.Bool.Decides.{nat_tests}
 use Rattle.std.specs.Option.{option_map_or}
-use Rattle.md_base.specs.Sectors.{Sector}
-use Rattle.md_base.specs.Shapes.{has_slot, tolerance}
-use Rattle.md_base.specs.declared.places.Shape.{Shape}
-use Rattle.md_base.specs.declared.status.Role.{Role}
-use Rattle.md_base.specs.declared.status.Role.TheVariants.{Missing}
-use Rattle.bank.specs.Given.{Given, IsFaulted, NeverFalls}
-use Rattle.bank.specs.declared.bank.Operation.{Operation}
-use Rattle.bank.specs.Tape.{disk}
-use Rattle.bank.proofs.Causes.{faulted_longer}
-use Rattle.shape_changes.specs.superblocks_the_Members.{Members}
-use Rattle.shape_changes.specs.superblocks_Updating.{IsUpdate}
-use Rattle.shape_changes.specs.superblocks_Reading.{Reading, shape_of, role_state, holder, final_shape, is_reshaping, role_count}
-use Rattle.shape_changes.specs.superblocks_Reads.{has_spare}
-use Rattle.shape_changes.proofs.superblocks_SlotSets.{none_there}
-use Rattle.shape_changes.specs.row_io_Rows.{reading_of, present, is_missing, role_without}
+use Rattle.role_changes.specs.md_base_Sectors.{Sector}
+use Rattle.role_changes.specs.md_base_Shapes.{has_slot, tolerance}
+use Rattle.role_changes.specs.md_base_the_Shape.{Shape}
+use Rattle.role_changes.specs.md_base_the_Role.{Role}
+use Rattle.role_changes.specs.md_base_the_Role_TheVariants.{Missing}
+use Rattle.role_changes.specs.bank_Given.{Given, IsFaulted, NeverFalls}
+use Rattle.role_changes.specs.bank_the_Operation.{Operation}
+use Rattle.role_changes.specs.bank_Tape.{disk}
+use Rattle.role_changes.proofs.bank_Causes.{faulted_longer}
+use Rattle.role_changes.specs.superblocks_the_Members.{Members}
+use Rattle.role_changes.specs.superblocks_Updating.{IsUpdate}
+use Rattle.role_changes.specs.superblocks_Reading.{Reading, shape_of, role_state, holder, final_shape, is_reshaping, role_count}
+use Rattle.role_changes.specs.superblocks_Reads.{has_spare}
+use Rattle.role_changes.proofs.superblocks_SlotSets.{none_there}
+use Rattle.role_changes.specs.row_io_Rows.{reading_of, present, is_missing, role_without}
 use Rattle.views.specs.Placed.{is_vacant, AreStillHeld, AreWhole, IsPlaced, AreLost, AreLess, IsInForce}
 use Rattle.views.specs.Flushing.{AreMembersFlushed}
 use Rattle.views.specs.Moving.{IsMoved, AreFailed}
-use Rattle.shape_changes.proofs.row_io_Losses.{state_kept}
+use Rattle.role_changes.proofs.row_io_Losses.{state_kept}
 use Rattle.views.proofs.HeldRows.{missing-before, vacant-missing}
 use Rattle.views.proofs.MemberLaws.{less-without}
-use Rattle.shape_changes.proofs.Without.{in-both, state-without}
+use Rattle.role_changes.proofs.shape_changes_Without.{in-both, state-without}
 use Rattle.views.specs.Lacking.{HaveFailedSince, AreLostSince, AreHoldersFlushed, AreTooMany, DoesWithout, lacking, refused_by, too_many, LacksTooMany}
 use Rattle.std.specs.Prelude.{MatchOption, ⊤, Result, Ok, Err}
-use Rattle.md_base.specs.declared.answers.Refusal.{Refusal}
-use Rattle.shape_changes.specs.list_io_the_Unavailable.{Unavailable}
-use Rattle.shape_changes.specs.list_io_the_Unavailable_TheVariants.{TooManyMissing, NotResynced}
-use Rattle.shape_changes.specs.list_io_Calls.{IsAnswer}
+use Rattle.role_changes.specs.md_base_the_Refusal.{Refusal}
+use Rattle.role_changes.specs.list_io_the_Unavailable.{Unavailable}
+use Rattle.role_changes.specs.list_io_the_Unavailable_TheVariants.{TooManyMissing, NotResynced}
+use Rattle.role_changes.specs.list_io_Calls.{IsAnswer}
 use Rattle.views.proofs.MovedLaws.{not-whole}
 use Rattle.views.proofs.MarkedLaws.{others-updated, single-kept}
-use Rattle.shape_changes.specs.shape_views_Regions.{DoWithout}
+use Rattle.role_changes.specs.shape_views_Regions.{DoWithout}
 use Rattle.views.proofs.Fit.{count-alike}
-use Rattle.shape_changes.proofs.shape_views_Stands.{final-still}
+use Rattle.role_changes.proofs.shape_views_Stands.{final-still}
 
 -- ---- the slots that failed
 

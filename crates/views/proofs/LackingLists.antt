@@ -3,29 +3,29 @@ use Rattle.std.proofs.Common.{◌≡◌, ◌⊎◌, inl, inr, ℕ, ◌+◌, ◌-
 use Rattle.std.proofs.lemmas.Bool.{cases_lt}
 use Rattle.std.proofs.lemmas.List.{get_or_default}
 use Rattle.std.specs.Prelude.{Option, is_some}
-use Rattle.md_base.specs.Sectors.{Sector, IsWhole}
-use Rattle.md_base.specs.Shapes.{is_valid_shape}
-use Rattle.md_base.specs.declared.places.Shape.{Shape}
-use Rattle.md_base.specs.declared.status.Role.TheVariants.{Recovering}
-use Rattle.md_base.specs.declared.places.Place.{Place}
-use Rattle.bank.specs.Given.{Given}
-use Rattle.bank.specs.Tape.{Contents}
-use Rattle.layout.specs.Layout.{place}
-use Rattle.parity.specs.Rows.{IsSector, sector_of}
-use Rattle.shape_changes.specs.superblocks_the_Members.{Members}
-use Rattle.shape_changes.specs.superblocks_Reading.{shape_of, role_count, role_state, holder, data_offset_of}
-use Rattle.shape_changes.specs.row_io_Rows.{reading_of, held_slot}
-use Rattle.shape_changes.proofs.row_io_Losses.{holder-of}
-use Rattle.shape_changes.proofs.row_io_NewRow.{whole_sector}
-use Rattle.shape_changes.specs.list_io_Full.{full_sector, AreWholeIn, DataStands, RowStands}
-use Rattle.shape_changes.specs.list_io_Buffers.{buffered, AreTouched, AreStanding, IsTouched}
-use Rattle.shape_changes.specs.list_io_Writing.{IsWritten, AreDataFrom, HasFull}
-use Rattle.layout.proofs.Places.{place-role_below}
+use Rattle.role_changes.specs.md_base_Sectors.{Sector, IsWhole}
+use Rattle.role_changes.specs.md_base_Shapes.{is_valid_shape}
+use Rattle.role_changes.specs.md_base_the_Shape.{Shape}
+use Rattle.role_changes.specs.md_base_the_Role_TheVariants.{Recovering}
+use Rattle.role_changes.specs.md_base_the_Place.{Place}
+use Rattle.role_changes.specs.bank_Given.{Given}
+use Rattle.role_changes.specs.bank_Tape.{Contents}
+use Rattle.role_changes.specs.layout_Layout.{place}
+use Rattle.role_changes.specs.parity_Rows.{IsSector, sector_of}
+use Rattle.role_changes.specs.superblocks_the_Members.{Members}
+use Rattle.role_changes.specs.superblocks_Reading.{shape_of, role_count, role_state, holder, data_offset_of}
+use Rattle.role_changes.specs.row_io_Rows.{reading_of, held_slot}
+use Rattle.role_changes.proofs.row_io_Losses.{holder-of}
+use Rattle.role_changes.proofs.row_io_NewRow.{whole_sector}
+use Rattle.role_changes.specs.list_io_Full.{full_sector, AreWholeIn, DataStands, RowStands}
+use Rattle.role_changes.specs.list_io_Buffers.{buffered, AreTouched, AreStanding, IsTouched}
+use Rattle.role_changes.specs.list_io_Writing.{IsWritten, AreDataFrom, HasFull}
+use Rattle.role_changes.proofs.layout_Places.{place-role_below}
 use Rattle.views.specs.Rows.{row_sector}
 use Rattle.views.proofs.MemberLaws.{holder-is}
-use Rattle.shape_changes.proofs.list_io_FullLaws.{data_here, full-data, full-same, sector_there}
+use Rattle.role_changes.proofs.list_io_FullLaws.{data_here, full-data, full-same, sector_there}
 use Rattle.views.specs.Placed.{places_of, AreWhole, IsPlaced, IsInForce}
-use Rattle.shape_changes.specs.Marking.{AreOthersPresent}
+use Rattle.role_changes.specs.shape_changes_Marking.{AreOthersPresent}
 use Rattle.views.specs.Moving.{IsMoved}
 use Rattle.views.specs.Lacking.{ListStands, RowsStand, DataStandsAmong, RowsStandAmong, AreOtherRowsKept, AreBytes, AreRowsRead, AreRowsWritten}
 use Rattle.views.proofs.Fit.{force-valid, force-disks, count-alike}

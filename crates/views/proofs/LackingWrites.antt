@@ -2,33 +2,33 @@
 use Rattle.std.proofs.Common.{◌≡◌, ◌⊎◌, inl, inr, ℕ, ◌+◌, ◌-◌, ◌/◌, ◌<◌, ◌≤◌, ◌==◌, ◌&&◌, nat_lt, nat_le, Bool, true, false, if◌then◌else◌, List, [], append-nil, length, slice_index, Option, Some, unwrap_or, refl, sym, ◌∙◌, ap, ap₂, subst, arith, eq-eqb, eqb-true}
 use Rattle.std.proofs.lemmas.Bool.Decides.{nat_tests}
 use Rattle.std.proofs.lemmas.Bool.{cases_lt}
-use Rattle.md_base.specs.Search.{least_below}
-use Rattle.md_base.proofs.Least.{least_below-only}
-use Rattle.md_base.specs.Sectors.{Sector}
-use Rattle.md_base.specs.declared.places.Shape.{Shape}
-use Rattle.md_base.specs.declared.status.Role.TheVariants.{Recovering}
-use Rattle.bank.specs.Given.{Given}
-use Rattle.bank.specs.declared.bank.Operation.{Operation}
-use Rattle.bank.specs.Tape.{Contents, EachMark, disk}
-use Rattle.layout.specs.Layout.{place}
-use Rattle.layout.proofs.Places.{place-role_below}
-use Rattle.md_base.specs.Shapes.{is_valid_shape}
+use Rattle.role_changes.specs.md_base_Search.{least_below}
+use Rattle.role_changes.proofs.md_base_Least.{least_below-only}
+use Rattle.role_changes.specs.md_base_Sectors.{Sector}
+use Rattle.role_changes.specs.md_base_the_Shape.{Shape}
+use Rattle.role_changes.specs.md_base_the_Role_TheVariants.{Recovering}
+use Rattle.role_changes.specs.bank_Given.{Given}
+use Rattle.role_changes.specs.bank_the_Operation.{Operation}
+use Rattle.role_changes.specs.bank_Tape.{Contents, EachMark, disk}
+use Rattle.role_changes.specs.layout_Layout.{place}
+use Rattle.role_changes.proofs.layout_Places.{place-role_below}
+use Rattle.role_changes.specs.md_base_Shapes.{is_valid_shape}
 use Rattle.std.specs.Prelude.{IsTrue, Result, Ok, Err, OnOk, is_some}
-use Rattle.parity.specs.Rows.{sector_of}
-use Rattle.shape_changes.specs.superblocks_the_Members.{Members}
-use Rattle.shape_changes.specs.superblocks_Reading.{role_state, holder, data_offset_of}
-use Rattle.shape_changes.specs.row_io_Rows.{reading_of}
-use Rattle.shape_changes.proofs.row_io_Losses.{holder-of}
-use Rattle.shape_changes.specs.list_io_Calls.{AreLost as IsListLost}
-use Rattle.shape_changes.specs.list_io_Buffers.{buffered, AreDistinct, AreStanding}
-use Rattle.shape_changes.specs.list_io_Full.{full_sector}
-use Rattle.shape_changes.specs.list_io_Writing.{IsWritten, AreDataFrom, HasFull}
+use Rattle.role_changes.specs.parity_Rows.{sector_of}
+use Rattle.role_changes.specs.superblocks_the_Members.{Members}
+use Rattle.role_changes.specs.superblocks_Reading.{role_state, holder, data_offset_of}
+use Rattle.role_changes.specs.row_io_Rows.{reading_of}
+use Rattle.role_changes.proofs.row_io_Losses.{holder-of}
+use Rattle.role_changes.specs.list_io_Calls.{AreLost as IsListLost}
+use Rattle.role_changes.specs.list_io_Buffers.{buffered, AreDistinct, AreStanding}
+use Rattle.role_changes.specs.list_io_Full.{full_sector}
+use Rattle.role_changes.specs.list_io_Writing.{IsWritten, AreDataFrom, HasFull}
 use Rattle.views.specs.Placed.{IsPlaced, AreLost, IsInForce}
-use Rattle.shape_changes.specs.list_io_the_Unavailable.{Unavailable}
+use Rattle.role_changes.specs.list_io_the_Unavailable.{Unavailable}
 use Rattle.views.proofs.HeldRows.{held-moved}
 use Rattle.views.proofs.MemberLaws.{are_lost}
-use Rattle.bank.proofs.Marks.{each_mark-along}
-use Rattle.shape_changes.specs.Marking.{AreOthersPresent}
+use Rattle.role_changes.proofs.bank_Marks.{each_mark-along}
+use Rattle.role_changes.specs.shape_changes_Marking.{AreOthersPresent}
 use Rattle.views.specs.Moving.{IsMoved}
 use Rattle.views.specs.Lacking.{AreOtherRowsKept, AreRowsWritten, refused_by}
 use Rattle.views.proofs.Fit.{force-valid}

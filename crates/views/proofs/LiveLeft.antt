@@ -1,23 +1,23 @@
 -- An array that does without the roles that it misses has a live slot left.
 use Rattle.std.proofs.Common.{◌≡◌, ◌⊎◌, inl, inr, ℕ, zero, suc, ◌+◌, ◌<◌, ◌≤◌, Bool, true, false, not, cond, List, Some, refl, arith}
 use Rattle.std.proofs.lemmas.Bool.Decides.{nat_tests}
-use Rattle.md_base.specs.Search.{count_below}
-use Rattle.md_base.specs.Shapes.{is_valid_shape, tolerance_of}
-use Rattle.md_base.specs.Sectors.{Sector}
-use Rattle.md_base.specs.declared.status.Role.{Role}
-use Rattle.md_base.specs.declared.status.Role.TheVariants.{Whole, Recovering, Missing}
-use Rattle.bank.specs.Given.{Given}
-use Rattle.layout.proofs.Limits.{limited}
-use Rattle.shape_changes.specs.superblocks_the_Members.{Members}
-use Rattle.shape_changes.specs.superblocks_Reading.{Scope, is_whole, shape_of, role_state, holder}
-use Rattle.shape_changes.specs.row_io_Rows.{reading_of, is_missing}
+use Rattle.role_changes.specs.md_base_Search.{count_below}
+use Rattle.role_changes.specs.md_base_Shapes.{is_valid_shape, tolerance_of}
+use Rattle.role_changes.specs.md_base_Sectors.{Sector}
+use Rattle.role_changes.specs.md_base_the_Role.{Role}
+use Rattle.role_changes.specs.md_base_the_Role_TheVariants.{Whole, Recovering, Missing}
+use Rattle.role_changes.specs.bank_Given.{Given}
+use Rattle.role_changes.proofs.layout_Limits.{limited}
+use Rattle.role_changes.specs.superblocks_the_Members.{Members}
+use Rattle.role_changes.specs.superblocks_Reading.{Scope, is_whole, shape_of, role_state, holder}
+use Rattle.role_changes.specs.row_io_Rows.{reading_of, is_missing}
 use Rattle.views.specs.Placed.{IsPlaced}
-use Rattle.shape_changes.specs.Steady.{AreUnlost, IsSteady, IsSafeNow}
+use Rattle.role_changes.specs.shape_changes_Steady.{AreUnlost, IsSteady, IsSafeNow}
 use Rattle.views.specs.Lacking.{DoesWithout}
-use Rattle.shape_changes.specs.Safety.{HasLiveSlot}
-use Rattle.shape_changes.specs.shape_views_Views.{Ledger}
-use Rattle.shape_changes.proofs.Spent.{live-holder}
-use Rattle.shape_changes.specs.shape_views_Regions.{DoWithout}
+use Rattle.role_changes.specs.shape_changes_Safety.{HasLiveSlot}
+use Rattle.role_changes.specs.shape_views_Views.{Ledger}
+use Rattle.role_changes.proofs.shape_changes_Spent.{live-holder}
+use Rattle.role_changes.specs.shape_views_Regions.{DoWithout}
 
 -- a test that fails somewhere, or passes everywhere
 fails-or-all : (n : ℕ) (test : ℕ → Bool) → ((k : ℕ) × (test k ≡ false)) ⊎ (count_below n test ≡ n)

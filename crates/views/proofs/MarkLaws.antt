@@ -3,21 +3,21 @@ use Rattle.std.proofs.Common.{◌≡◌, ◌≢◌, ℕ, zero, suc, ◌+◌, ◌
 use Rattle.std.specs.Option.{option_map_or}
 use Rattle.std.proofs.lemmas.Bool.Decides.{nat_tests}
 use Rattle.std.proofs.lemmas.List.{ext_get_or}
-use Rattle.md_base.specs.Search.{tabulate, least_below}
-use Rattle.md_base.specs.Shapes.{has_slot}
-use Rattle.md_base.proofs.Least.{least_below-none, least_below-only}
-use Rattle.md_base.proofs.Tabulated.{length-tabulate, get_or-tabulate}
-use Rattle.md_base.specs.declared.status.Role.{Role}
-use Rattle.md_base.specs.declared.status.Role.TheVariants.{Whole, Recovering, Missing}
-use Rattle.shape_changes.specs.superblocks_the_Give.{Give}
-use Rattle.shape_changes.specs.superblocks_the_Give_TheVariants.{Same}
-use Rattle.shape_changes.specs.superblocks_Reading.{holder}
-use Rattle.shape_changes.proofs.Kept.{give_of-same}
-use Rattle.shape_changes.specs.superblocks_Update.{is_held_by, role_from, give_of, planned_role}
-use Rattle.shape_changes.specs.superblocks_the_Change.{Change}
-use Rattle.shape_changes.specs.superblocks_the_Members.{Members}
-use Rattle.shape_changes.specs.superblocks_Outcome.{slots_below, is_same, is_planned_holder, held_state, planned_state, planned_spares}
-use Rattle.shape_changes.specs.row_io_Rows.{role_without}
+use Rattle.role_changes.specs.md_base_Search.{tabulate, least_below}
+use Rattle.role_changes.specs.md_base_Shapes.{has_slot}
+use Rattle.role_changes.proofs.md_base_Least.{least_below-none, least_below-only}
+use Rattle.role_changes.proofs.md_base_Tabulated.{length-tabulate, get_or-tabulate}
+use Rattle.role_changes.specs.md_base_the_Role.{Role}
+use Rattle.role_changes.specs.md_base_the_Role_TheVariants.{Whole, Recovering, Missing}
+use Rattle.role_changes.specs.superblocks_the_Give.{Give}
+use Rattle.role_changes.specs.superblocks_the_Give_TheVariants.{Same}
+use Rattle.role_changes.specs.superblocks_Reading.{holder}
+use Rattle.role_changes.proofs.shape_changes_Kept.{give_of-same}
+use Rattle.role_changes.specs.superblocks_Update.{is_held_by, role_from, give_of, planned_role}
+use Rattle.role_changes.specs.superblocks_the_Change.{Change}
+use Rattle.role_changes.specs.superblocks_the_Members.{Members}
+use Rattle.role_changes.specs.superblocks_Outcome.{slots_below, is_same, is_planned_holder, held_state, planned_state, planned_spares}
+use Rattle.role_changes.specs.row_io_Rows.{role_without}
 
 -- no slot holds two roles
 abbrev pub Apart : List Role → Type 0

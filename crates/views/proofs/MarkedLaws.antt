@@ -2,18 +2,18 @@
 use Rattle.std.proofs.Common.{◌≡◌, ◌≢◌, inl, inr, ℕ, ◌≤◌, true, false, List, [], ◌∷◌, ◌++◌, length, take, drop, take_all, refl, sym, ◌∙◌, ap, arith}
 use Rattle.std.proofs.lemmas.List.{take-append-drop}
 use Rattle.std.specs.Prelude.{slice_index_or}
-use Rattle.md_base.specs.Sectors.{Sector}
-use Rattle.md_base.specs.Shapes.{has_slot}
-use Rattle.bank.specs.Given.{Given}
-use Rattle.bank.specs.Tape.{Contents, Kept, EachMark, disk, value_after}
-use Rattle.bank.specs.declared.bank.Operation.{Operation}
-use Rattle.bank.proofs.Laws.{choices-present}
-use Rattle.shape_changes.specs.superblocks_the_Members.{Members}
-use Rattle.shape_changes.specs.superblocks_Updating.{AreLosses, IsUpdate}
-use Rattle.shape_changes.specs.row_io_Rows.{present}
-use Rattle.shape_changes.specs.Steady.{AreUnlost}
+use Rattle.role_changes.specs.md_base_Sectors.{Sector}
+use Rattle.role_changes.specs.md_base_Shapes.{has_slot}
+use Rattle.role_changes.specs.bank_Given.{Given}
+use Rattle.role_changes.specs.bank_Tape.{Contents, Kept, EachMark, disk, value_after}
+use Rattle.role_changes.specs.bank_the_Operation.{Operation}
+use Rattle.role_changes.proofs.bank_Laws.{choices-present}
+use Rattle.role_changes.specs.superblocks_the_Members.{Members}
+use Rattle.role_changes.specs.superblocks_Updating.{AreLosses, IsUpdate}
+use Rattle.role_changes.specs.row_io_Rows.{present}
+use Rattle.role_changes.specs.shape_changes_Steady.{AreUnlost}
 use Rattle.views.specs.Placed.{AreLess}
-use Rattle.shape_changes.specs.Marking.{AreOthersPresent}
+use Rattle.role_changes.specs.shape_changes_Marking.{AreOthersPresent}
 use Rattle.views.specs.Moving.{Grows, AreFailed}
 
 -- ---- the tape

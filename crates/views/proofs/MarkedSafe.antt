@@ -1,26 +1,26 @@
 -- Marks and flushes of a call that keep an array safe.
 use Rattle.std.proofs.Common.{◌≡◌, ℕ, ◌≤◌, Bool, true, List, length, length-append, take, take_all, le_refl, ◌++◌, sym, ◌∙◌, ap, subst, arith}
 use Rattle.std.specs.Prelude.{⊤}
-use Rattle.md_base.specs.Sectors.{Sector}
-use Rattle.bank.specs.declared.bank.Operation.{Operation}
-use Rattle.bank.specs.Given.{Given}
-use Rattle.bank.specs.Tape.{EachMark, disk}
-use Rattle.shape_changes.specs.superblocks_the_Members.{Members}
-use Rattle.shape_changes.specs.superblocks_Reading.{Scope, is_clean}
-use Rattle.shape_changes.specs.row_io_Rows.{reading_of, present, members_without}
+use Rattle.role_changes.specs.md_base_Sectors.{Sector}
+use Rattle.role_changes.specs.bank_the_Operation.{Operation}
+use Rattle.role_changes.specs.bank_Given.{Given}
+use Rattle.role_changes.specs.bank_Tape.{EachMark, disk}
+use Rattle.role_changes.specs.superblocks_the_Members.{Members}
+use Rattle.role_changes.specs.superblocks_Reading.{Scope, is_clean}
+use Rattle.role_changes.specs.row_io_Rows.{reading_of, present, members_without}
 use Rattle.views.specs.Placed.{IsPlaced}
-use Rattle.shape_changes.specs.Steady.{AreUnlost, IsSteady, IsSafeNow, IsSafeStretch, AreGoneTold, IsUncleanTold, AreWritesAllowed}
+use Rattle.role_changes.specs.shape_changes_Steady.{AreUnlost, IsSteady, IsSafeNow, IsSafeStretch, AreGoneTold, IsUncleanTold, AreWritesAllowed}
 use Rattle.views.specs.Lacking.{AreHoldersFlushed}
 use Rattle.views.specs.Under.{RowsStandUnder}
 use Rattle.views.specs.Flushing.{OnlyFlushesAdded}
-use Rattle.shape_changes.specs.shape_views_Views.{Ledger, IsSettled}
-use Rattle.shape_changes.specs.Kinds.{IsMarkable}
+use Rattle.role_changes.specs.shape_views_Views.{Ledger, IsSettled}
+use Rattle.role_changes.specs.shape_changes_Kinds.{IsMarkable}
 use Rattle.views.proofs.Still.{told-same, flushed-is-settled}
 use Rattle.views.proofs.LiveLeft.{without-left, left-steady}
-use Rattle.shape_changes.proofs.Steady.{safe-is-seen, losing-stays-safe, flushes-stay-safe}
-use Rattle.shape_changes.specs.shape_views_Regions.{DoWithout}
-use Rattle.shape_changes.proofs.Kept.{without-less}
-use Rattle.shape_changes.proofs.LessViews.{less-settled, does-without}
+use Rattle.role_changes.proofs.shape_changes_Steady.{safe-is-seen, losing-stays-safe, flushes-stay-safe}
+use Rattle.role_changes.specs.shape_views_Regions.{DoWithout}
+use Rattle.role_changes.proofs.shape_changes_Kept.{without-less}
+use Rattle.role_changes.proofs.shape_changes_LessViews.{less-settled, does-without}
 
 -- ---- a mark, over a bank that tells its contents
 

@@ -8,25 +8,25 @@ use Rattle.std.proofs.lemmas.Bool.{cases_lt}
 use Rattle.std.proofs.lemmas.Bool.Decides.{nat_tests}
 use Rattle.std.proofs.lemmas.Nat.{mul-le}
 use Rattle.std.proofs.lemmas.Nat.Bits.{bit_at_or}
-use Rattle.md_base.specs.declared.places.Shape.{Shape}
-use Rattle.md_base.specs.declared.status.Role.{Role}
-use Rattle.md_base.specs.declared.status.Role.TheVariants.{Whole, Recovering, Missing}
-use Rattle.md_base.specs.Search.{count_below}
-use Rattle.md_base.specs.Shapes.{has_slot, data_disks}
-use Rattle.bank.specs.Given.{Given, NeverFalls}
-use Rattle.layout.proofs.Limits.{limited}
-use Rattle.parity.proofs.Columns.{bool_cases}
-use Rattle.shape_changes.specs.superblocks_the_Members.{Members}
-use Rattle.shape_changes.specs.superblocks_Reading.{role_state, holder, shape_of, is_whole, role_count}
-use Rattle.shape_changes.specs.superblocks_Update.{is_held_by}
-use Rattle.shape_changes.proofs.superblocks_SlotSets.{same_set, none_there}
-use Rattle.shape_changes.specs.row_io_Rows.{reading_of, is_missing, missing_count, role_without, members_without, HaveFailed}
-use Rattle.shape_changes.proofs.row_io_Losses.{state_after, state_kept, holder-after}
-use Rattle.shape_changes.proofs.row_io_Written.{members_without-none}
-use Rattle.shape_changes.proofs.row_io_Tables.{count_below-above, length-mapped}
+use Rattle.role_changes.specs.md_base_the_Shape.{Shape}
+use Rattle.role_changes.specs.md_base_the_Role.{Role}
+use Rattle.role_changes.specs.md_base_the_Role_TheVariants.{Whole, Recovering, Missing}
+use Rattle.role_changes.specs.md_base_Search.{count_below}
+use Rattle.role_changes.specs.md_base_Shapes.{has_slot, data_disks}
+use Rattle.role_changes.specs.bank_Given.{Given, NeverFalls}
+use Rattle.role_changes.proofs.layout_Limits.{limited}
+use Rattle.role_changes.proofs.parity_Columns.{bool_cases}
+use Rattle.role_changes.specs.superblocks_the_Members.{Members}
+use Rattle.role_changes.specs.superblocks_Reading.{role_state, holder, shape_of, is_whole, role_count}
+use Rattle.role_changes.specs.superblocks_Update.{is_held_by}
+use Rattle.role_changes.proofs.superblocks_SlotSets.{same_set, none_there}
+use Rattle.role_changes.specs.row_io_Rows.{reading_of, is_missing, missing_count, role_without, members_without, HaveFailed}
+use Rattle.role_changes.proofs.row_io_Losses.{state_after, state_kept, holder-after}
+use Rattle.role_changes.proofs.row_io_Written.{members_without-none}
+use Rattle.role_changes.proofs.row_io_Tables.{count_below-above, length-mapped}
 use Rattle.views.specs.Whole.{AreFit, placed, list_size}
 use Rattle.views.specs.Placed.{places_of, AreWhole, IsPlaced, AreLess, AreLost, IsInForce}
-use Rattle.shape_changes.specs.Steady.{AreUnlost}
+use Rattle.role_changes.specs.shape_changes_Steady.{AreUnlost}
 use Rattle.views.proofs.HeldRows.{rows-same}
 use Rattle.views.proofs.Fit.{reshape-same, valid, force-disks, multiple, short}
 

@@ -3,33 +3,33 @@ use Rattle.std.proofs.Common.{◌≡◌, ◌⊎◌, inl, inr, ℕ, ◌+◌, ◌*
 use Rattle.std.specs.Prelude.{MatchOption, ⊤, is_some}
 use Rattle.std.proofs.lemmas.Bool.{cases_lt}
 use Rattle.std.proofs.lemmas.Nat.{mul-le}
-use Rattle.md_base.specs.Sectors.{Sector}
-use Rattle.md_base.specs.Shapes.{is_valid_shape, data_disks}
-use Rattle.md_base.specs.declared.answers.Refusal.{Refusal}
-use Rattle.md_base.specs.declared.places.Shape.{Shape}
-use Rattle.md_base.specs.declared.status.Role.TheVariants.{Recovering}
-use Rattle.bank.specs.Given.{Given}
-use Rattle.bank.specs.declared.bank.Operation.{Operation}
-use Rattle.layout.proofs.Limits.{limited}
-use Rattle.layout.proofs.Places.{data_some}
-use Rattle.shape_changes.specs.superblocks_the_Members.{Members}
-use Rattle.shape_changes.specs.superblocks_Reading.{role_state, holder}
-use Rattle.shape_changes.specs.row_io_Rows.{reading_of, present}
-use Rattle.shape_changes.specs.list_io_Buffers.{IsTouched}
-use Rattle.shape_changes.specs.list_io_Full.{AreWholeIn, RowStands}
-use Rattle.shape_changes.specs.list_io_Writing.{IsWritten, HasFull}
-use Rattle.shape_changes.specs.flat_history_World.{World}
-use Rattle.shape_changes.specs.flat_history_Sound.{OpensFit}
+use Rattle.role_changes.specs.md_base_Sectors.{Sector}
+use Rattle.role_changes.specs.md_base_Shapes.{is_valid_shape, data_disks}
+use Rattle.role_changes.specs.md_base_the_Refusal.{Refusal}
+use Rattle.role_changes.specs.md_base_the_Shape.{Shape}
+use Rattle.role_changes.specs.md_base_the_Role_TheVariants.{Recovering}
+use Rattle.role_changes.specs.bank_Given.{Given}
+use Rattle.role_changes.specs.bank_the_Operation.{Operation}
+use Rattle.role_changes.proofs.layout_Limits.{limited}
+use Rattle.role_changes.proofs.layout_Places.{data_some}
+use Rattle.role_changes.specs.superblocks_the_Members.{Members}
+use Rattle.role_changes.specs.superblocks_Reading.{role_state, holder}
+use Rattle.role_changes.specs.row_io_Rows.{reading_of, present}
+use Rattle.role_changes.specs.list_io_Buffers.{IsTouched}
+use Rattle.role_changes.specs.list_io_Full.{AreWholeIn, RowStands}
+use Rattle.role_changes.specs.list_io_Writing.{IsWritten, HasFull}
+use Rattle.role_changes.specs.flat_history_World.{World}
+use Rattle.role_changes.specs.flat_history_Sound.{OpensFit}
 use Rattle.views.specs.Placed.{IsPlaced, IsInForce}
-use Rattle.shape_changes.specs.Marking.{AreOthersPresent}
+use Rattle.role_changes.specs.shape_changes_Marking.{AreOthersPresent}
 use Rattle.views.specs.Moving.{Grows, IsMoved}
-use Rattle.shape_changes.specs.Safety.{HasRoomLeft, IsRisen}
+use Rattle.role_changes.specs.shape_changes_Safety.{HasRoomLeft, IsRisen}
 use Rattle.views.specs.Lacking.{AreBytes, DoesWithout, DataStandsAmong, LacksTooMany, AreOtherRowsKept}
-use Rattle.shape_changes.specs.shape_views_Views.{Ledger}
-use Rattle.shape_changes.specs.Steady.{IsSafeOver, KeepsSafe, AreGoneTold}
+use Rattle.role_changes.specs.shape_views_Views.{Ledger}
+use Rattle.role_changes.specs.shape_changes_Steady.{IsSafeOver, KeepsSafe, AreGoneTold}
 use Rattle.views.proofs.LackingLists.{row-moved, data-among-moved}
 use Rattle.views.proofs.LackingWrites.{recovering-before, full-later, others-then, others-same}
-use Rattle.shape_changes.proofs.Risen.{room-first, room-then}
+use Rattle.role_changes.proofs.shape_changes_Risen.{room-first, room-then}
 use Rattle.views.proofs.SafeStretch.{gone-before, safe-then, grows-longer, over-at, keeps-from}
 use Rattle.views.proofs.Stripes.{stripes-within, of_stripe-touched}
 use Rattle.views.proofs.Fit.{force-valid, force-multiple, short}

@@ -2,25 +2,25 @@
 use Rattle.std.proofs.Common.{◌≡◌, inl, inr, ℕ, ◌*◌, ◌<◌, ◌≤◌, ◌||◌, Bool, true, false, not, cond, List, [], ◌++◌, length, get_or, Option, Some, None, refl, sym, ◌∙◌, ap, ap₂, subst, arith, append_assoc, append-nil}
 use Rattle.std.proofs.lemmas.Bool.{cases_lt, cases_eq}
 use Rattle.std.proofs.lemmas.List.{get_or_past}
-use Rattle.md_base.specs.Shapes.{has_slot, data_disks}
-use Rattle.md_base.specs.declared.places.Shape.{Shape}
-use Rattle.md_base.specs.declared.status.Role.{Role}
-use Rattle.md_base.specs.declared.status.Role.TheVariants.{Whole, Recovering, Missing}
-use Rattle.bank.specs.Given.{Given}
-use Rattle.bank.specs.declared.bank.Operation.{Operation}
-use Rattle.shape_changes.specs.superblocks_the_Members.{Members}
-use Rattle.shape_changes.specs.superblocks_Reading.{Reading, role_state, rows_held, holder, is_whole, role_count}
-use Rattle.shape_changes.specs.superblocks_Reads.{has_spare}
-use Rattle.shape_changes.specs.row_io_Rows.{reading_of, role_without, members_without}
-use Rattle.shape_changes.proofs.row_io_Losses.{state_kept}
+use Rattle.role_changes.specs.md_base_Shapes.{has_slot, data_disks}
+use Rattle.role_changes.specs.md_base_the_Shape.{Shape}
+use Rattle.role_changes.specs.md_base_the_Role.{Role}
+use Rattle.role_changes.specs.md_base_the_Role_TheVariants.{Whole, Recovering, Missing}
+use Rattle.role_changes.specs.bank_Given.{Given}
+use Rattle.role_changes.specs.bank_the_Operation.{Operation}
+use Rattle.role_changes.specs.superblocks_the_Members.{Members}
+use Rattle.role_changes.specs.superblocks_Reading.{Reading, role_state, rows_held, holder, is_whole, role_count}
+use Rattle.role_changes.specs.superblocks_Reads.{has_spare}
+use Rattle.role_changes.specs.row_io_Rows.{reading_of, role_without, members_without}
+use Rattle.role_changes.proofs.row_io_Losses.{state_kept}
 use Rattle.views.specs.Whole.{list_size}
 use Rattle.views.specs.Placed.{places_of, AreWhole, IsPlaced, AreLost, AreStillHeld, AreLess, IsInForce}
-use Rattle.shape_changes.specs.Steady.{AreUnlost}
+use Rattle.role_changes.specs.shape_changes_Steady.{AreUnlost}
 use Rattle.views.specs.Moving.{Grows, IsMoved}
 use Rattle.views.specs.Rebuilding.{IsFree}
 use Rattle.views.specs.Lacking.{lacking}
 use Rattle.views.proofs.PlacedLaws.{kept-roles, none-lost, places-same}
-use Rattle.shape_changes.proofs.Without.{state-without, in-both}
+use Rattle.role_changes.proofs.shape_changes_Without.{state-without, in-both}
 use Rattle.views.proofs.HeldRows.{state-less}
 use Rattle.views.proofs.MemberLaws.{less-without, none_missing, placed-without, unlost-without}
 use Rattle.views.proofs.Fit.{count-alike, reshape-same, reshape-then}

@@ -2,32 +2,32 @@
 use Rattle.std.proofs.Common.{◌≡◌, ℕ, suc, ◌≤◌, Bool, true, false, cond, List, [], ◌∷◌, length, get_or, refl, sym, ap, ap₂, ◌∙◌, subst, Option, Some, None, map, replicate, unwrap_or}
 use Rattle.std.specs.Prelude.{pos, ◌-ℤ◌}
 use Rattle.std.specs.Option.{option_map_or}
-use Rattle.md_base.specs.Shapes.{has_slot}
-use Rattle.md_base.specs.declared.status.Role.{Role}
-use Rattle.md_base.specs.declared.status.Role.TheVariants.{Whole, Recovering, Missing}
-use Rattle.bank.specs.Given.{Given}
-use Rattle.sb1.specs.Superblock.{checksum}
-use Rattle.sb1.specs.declared.sb.Sb.{Sb}
-use Rattle.shape_changes.specs.superblocks_the_Give_TheVariants.{Same}
-use Rattle.shape_changes.specs.superblocks_the_Members.{Members}
-use Rattle.shape_changes.specs.superblocks_Reading.{count_of, is_reshaping, shape_of, role_count, role_state, holder, data_offset_of, final_shape, is_backward, target_of}
-use Rattle.shape_changes.specs.superblocks_Reads.{SaysSame}
-use Rattle.shape_changes.specs.superblocks_Update.{own_in, planned}
-use Rattle.shape_changes.specs.superblocks_Updating.{IsLater, planned_newest}
-use Rattle.shape_changes.specs.superblocks_Outcome.{AreLive, AreStored, IsPlannedOwn, planned_roles}
-use Rattle.shape_changes.proofs.superblocks_SlotSets.{none_there}
-use Rattle.shape_changes.proofs.superblocks_PlannedSb.{planned-of}
-use Rattle.shape_changes.specs.row_io_Rows.{reading_of, role_without, IsHolder}
-use Rattle.shape_changes.proofs.Without.{state-without}
+use Rattle.role_changes.specs.md_base_Shapes.{has_slot}
+use Rattle.role_changes.specs.md_base_the_Role.{Role}
+use Rattle.role_changes.specs.md_base_the_Role_TheVariants.{Whole, Recovering, Missing}
+use Rattle.role_changes.specs.bank_Given.{Given}
+use Rattle.role_changes.specs.sb1_Superblock.{checksum}
+use Rattle.role_changes.specs.sb1_the_Sb.{Sb}
+use Rattle.role_changes.specs.superblocks_the_Give_TheVariants.{Same}
+use Rattle.role_changes.specs.superblocks_the_Members.{Members}
+use Rattle.role_changes.specs.superblocks_Reading.{count_of, is_reshaping, shape_of, role_count, role_state, holder, data_offset_of, final_shape, is_backward, target_of}
+use Rattle.role_changes.specs.superblocks_Reads.{SaysSame}
+use Rattle.role_changes.specs.superblocks_Update.{own_in, planned}
+use Rattle.role_changes.specs.superblocks_Updating.{IsLater, planned_newest}
+use Rattle.role_changes.specs.superblocks_Outcome.{AreLive, AreStored, IsPlannedOwn, planned_roles}
+use Rattle.role_changes.proofs.superblocks_SlotSets.{none_there}
+use Rattle.role_changes.proofs.superblocks_PlannedSb.{planned-of}
+use Rattle.role_changes.specs.row_io_Rows.{reading_of, role_without, IsHolder}
+use Rattle.role_changes.proofs.shape_changes_Without.{state-without}
 use Rattle.views.specs.Placed.{places_of, IsPlaced, AreLess}
-use Rattle.shape_changes.specs.Steady.{AreUnlost}
-use Rattle.shape_changes.specs.Marking.{resync_of, marking}
+use Rattle.role_changes.specs.shape_changes_Steady.{AreUnlost}
+use Rattle.role_changes.specs.shape_changes_Marking.{resync_of, marking}
 use Rattle.views.proofs.MarkLaws.{roles-kept}
-use Rattle.shape_changes.proofs.Kept.{give_of-same}
+use Rattle.role_changes.proofs.shape_changes_Kept.{give_of-same}
 use Rattle.views.proofs.HeldRows.{rows-same}
 use Rattle.views.proofs.Fit.{fit-alike, count-alike}
-use Rattle.shape_changes.specs.superblocks_Verdict.{AreValidShapes}
-use Rattle.shape_changes.proofs.superblocks_ValidFields.{few-roles}
+use Rattle.role_changes.specs.superblocks_Verdict.{AreValidShapes}
+use Rattle.role_changes.proofs.superblocks_ValidFields.{few-roles}
 
 -- ---- a role whose slot may be lost
 

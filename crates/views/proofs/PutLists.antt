@@ -1,21 +1,21 @@
 -- The list of an array of one shape behind a write of some of its rows: those were put, and the others are as they were.
 use Rattle.std.proofs.Common.{◌≡◌, ◌⊎◌, inl, inr, ℕ, zero, suc, ◌+◌, ◌*◌, ◌/◌, ◌<◌, ◌≤◌, ◌==◌, Bool, true, false, List, length, Some, refl, sym, ◌∙◌, ap, subst, arith, eq-eqb, eqb-true}
 use Rattle.std.proofs.lemmas.Bool.{cases_lt}
-use Rattle.md_base.specs.Sectors.{Sector}
-use Rattle.md_base.specs.declared.places.Shape.{Shape}
-use Rattle.md_base.specs.declared.status.Role.TheVariants.{Recovering}
-use Rattle.bank.specs.Given.{Given}
-use Rattle.bank.specs.Tape.{Contents}
-use Rattle.layout.specs.Layout.{place}
-use Rattle.shape_changes.specs.superblocks_the_Members.{Members}
-use Rattle.shape_changes.specs.superblocks_Reading.{shape_of, role_state, holder, data_offset_of}
-use Rattle.shape_changes.specs.row_io_Rows.{reading_of}
-use Rattle.shape_changes.proofs.row_io_Losses.{holder-of}
-use Rattle.shape_changes.specs.list_io_Full.{full_sector, DataStands, RowStands}
-use Rattle.shape_changes.specs.list_io_Buffers.{IsTouched}
-use Rattle.shape_changes.specs.list_io_Writing.{IsWritten, HasFull}
-use Rattle.shape_changes.proofs.list_io_FullLaws.{full-same}
-use Rattle.parity.specs.Rows.{IsSector}
+use Rattle.role_changes.specs.md_base_Sectors.{Sector}
+use Rattle.role_changes.specs.md_base_the_Shape.{Shape}
+use Rattle.role_changes.specs.md_base_the_Role_TheVariants.{Recovering}
+use Rattle.role_changes.specs.bank_Given.{Given}
+use Rattle.role_changes.specs.bank_Tape.{Contents}
+use Rattle.role_changes.specs.layout_Layout.{place}
+use Rattle.role_changes.specs.superblocks_the_Members.{Members}
+use Rattle.role_changes.specs.superblocks_Reading.{shape_of, role_state, holder, data_offset_of}
+use Rattle.role_changes.specs.row_io_Rows.{reading_of}
+use Rattle.role_changes.proofs.row_io_Losses.{holder-of}
+use Rattle.role_changes.specs.list_io_Full.{full_sector, DataStands, RowStands}
+use Rattle.role_changes.specs.list_io_Buffers.{IsTouched}
+use Rattle.role_changes.specs.list_io_Writing.{IsWritten, HasFull}
+use Rattle.role_changes.proofs.list_io_FullLaws.{full-same}
+use Rattle.role_changes.specs.parity_Rows.{IsSector}
 use Rattle.views.specs.Placed.{IsPlaced}
 use Rattle.views.specs.Moving.{IsMoved}
 use Rattle.views.specs.Lacking.{ListStands, DataStandsAmong, AreOtherRowsKept, IsOfStripe}

@@ -1,28 +1,28 @@
 -- Stretches of calls that keep an array safe: one after another, with nothing done, and with rows written.
 use Rattle.std.proofs.Common.{◌≡◌, ℕ, ◌-◌, ◌<◌, ◌≤◌, false, Contains, ◌∙◌, List, length, take, take_all, le_refl, length-append, arith, sym, ap, subst}
 use Rattle.std.specs.Prelude.{⊤}
-use Rattle.md_base.specs.Sectors.{Sector}
-use Rattle.md_base.specs.declared.places.Shape.{Shape}
-use Rattle.bank.specs.declared.bank.Operation.{Operation}
-use Rattle.bank.specs.Given.{Given}
-use Rattle.bank.specs.Tape.{EachMark, disk}
-use Rattle.bank.proofs.Marks.{each_mark-then}
-use Rattle.sb1.specs.declared.sb.Sb.{Sb}
-use Rattle.shape_changes.specs.superblocks_the_Members.{Members}
-use Rattle.shape_changes.specs.superblocks_Reading.{Scope, is_clean, shape_of, list_length}
-use Rattle.shape_changes.specs.row_io_Rows.{members_without}
-use Rattle.shape_changes.specs.flat_history_World.{World}
+use Rattle.role_changes.specs.md_base_Sectors.{Sector}
+use Rattle.role_changes.specs.md_base_the_Shape.{Shape}
+use Rattle.role_changes.specs.bank_the_Operation.{Operation}
+use Rattle.role_changes.specs.bank_Given.{Given}
+use Rattle.role_changes.specs.bank_Tape.{EachMark, disk}
+use Rattle.role_changes.proofs.bank_Marks.{each_mark-then}
+use Rattle.role_changes.specs.sb1_the_Sb.{Sb}
+use Rattle.role_changes.specs.superblocks_the_Members.{Members}
+use Rattle.role_changes.specs.superblocks_Reading.{Scope, is_clean, shape_of, list_length}
+use Rattle.role_changes.specs.row_io_Rows.{members_without}
+use Rattle.role_changes.specs.flat_history_World.{World}
 use Rattle.views.specs.Placed.{IsPlaced, HaveSameReshape}
-use Rattle.shape_changes.specs.Steady.{AreUnlost, IsSafeNow, IsSafeStretch, IsSafeOver, KeepsSafe, AreGoneTold, AreWritesAllowed}
+use Rattle.role_changes.specs.shape_changes_Steady.{AreUnlost, IsSafeNow, IsSafeStretch, IsSafeOver, KeepsSafe, AreGoneTold, AreWritesAllowed}
 use Rattle.views.proofs.HeldRows.{missing-moved}
 use Rattle.views.specs.Moving.{Grows, IsMoved}
 use Rattle.views.specs.Lacking.{IsListPut}
-use Rattle.shape_changes.specs.shape_views_Views.{Ledger, IsTailZero}
-use Rattle.shape_changes.proofs.Steady.{safe-is-seen, losing-stays-safe}
-use Rattle.shape_changes.proofs.WriteSafe.{writes-stay-safe}
+use Rattle.role_changes.specs.shape_views_Views.{Ledger, IsTailZero}
+use Rattle.role_changes.proofs.shape_changes_Steady.{safe-is-seen, losing-stays-safe}
+use Rattle.role_changes.proofs.shape_changes_WriteSafe.{writes-stay-safe}
 use Rattle.views.proofs.LackingWrites.{marks-here}
-use Rattle.layout.specs.Layout.{place, stripe_of}
-use Rattle.shape_changes.specs.shape_views_Windows.{IsOfRegion}
+use Rattle.role_changes.specs.layout_Layout.{place, stripe_of}
+use Rattle.role_changes.specs.shape_views_Windows.{IsOfRegion}
 use Rattle.views.proofs.Fit.{count-alike, list-alike, for-alike}
 use Rattle.views.proofs.Still.{told-same}
 

@@ -1,7 +1,7 @@
 -- The least number that passes a test, and two tests that pass.
 use Rattle.std.proofs.Common.{◌≡◌, ℕ, zero, suc, ◌<◌, Bool, true, false, ◌&&◌, cond, Option, Some, None, refl, subst, arith}
 use Rattle.std.specs.Option.{option_or}
-use Rattle.md_base.specs.Search.{least_below}
+use Rattle.role_changes.specs.md_base_Search.{least_below}
 
 -- the least number that passes is below, and passes
 pub least-found : (n : ℕ) (test : ℕ → Bool) (k : ℕ) → least_below n test ≡ Some k → (k < n) × (test k ≡ true)

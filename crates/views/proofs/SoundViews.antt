@@ -1,23 +1,23 @@
 -- Images that are read as right views are sound.
 use Rattle.std.proofs.Common.{◌≡◌, inl, inr, ℕ, ◌≤◌, take, take_all, List, length, ◌++◌, Option, None, sym, subst, arith}
 use Rattle.std.specs.Prelude.{⊤, IfSome}
-use Rattle.md_base.specs.Sectors.{Sector}
-use Rattle.bank.specs.declared.bank.Operation.{Operation}
-use Rattle.bank.specs.Given.{Given}
-use Rattle.bank.specs.Tape.{Contents, EachMark, IsDrawn, IsIn, disk}
-use Rattle.shape_changes.specs.superblocks_the_Members.{Members}
-use Rattle.shape_changes.specs.superblocks_Reading.{Scope, Reading, reading}
-use Rattle.shape_changes.specs.flat_history_Growing.{grown}
-use Rattle.shape_changes.specs.flat_history_Opened.{IsSound}
-use Rattle.shape_changes.specs.flat_history_Sound.{OpensFit, LeavesSound, LeavesSoundThroughout}
-use Rattle.shape_changes.specs.flat_history_Stands.{verdict}
-use Rattle.shape_changes.specs.flat_history_World.{World, may_hold}
-use Rattle.shape_changes.proofs.flat_history_SoundLaws.{fit-before, leaves-drawn, throughout-grown}
-use Rattle.shape_changes.specs.shape_views_Views.{Disk, Ledger, IsSeenRight}
-use Rattle.shape_changes.proofs.shape_views_SoundViews.{right-views-sound}
-use Rattle.shape_changes.specs.Steady.{IsSafeOver}
-use Rattle.shape_changes.specs.Changing.{AreEitherRight}
-use Rattle.shape_changes.proofs.Steady.{safe-is-seen}
+use Rattle.role_changes.specs.md_base_Sectors.{Sector}
+use Rattle.role_changes.specs.bank_the_Operation.{Operation}
+use Rattle.role_changes.specs.bank_Given.{Given}
+use Rattle.role_changes.specs.bank_Tape.{Contents, EachMark, IsDrawn, IsIn, disk}
+use Rattle.role_changes.specs.superblocks_the_Members.{Members}
+use Rattle.role_changes.specs.superblocks_Reading.{Scope, Reading, reading}
+use Rattle.role_changes.specs.flat_history_Growing.{grown}
+use Rattle.role_changes.specs.flat_history_Opened.{IsSound}
+use Rattle.role_changes.specs.flat_history_Sound.{OpensFit, LeavesSound, LeavesSoundThroughout}
+use Rattle.role_changes.specs.flat_history_Stands.{verdict}
+use Rattle.role_changes.specs.flat_history_World.{World, may_hold}
+use Rattle.role_changes.proofs.flat_history_SoundLaws.{fit-before, leaves-drawn, throughout-grown}
+use Rattle.role_changes.specs.shape_views_Views.{Disk, Ledger, IsSeenRight}
+use Rattle.role_changes.proofs.shape_views_SoundViews.{right-views-sound}
+use Rattle.role_changes.specs.shape_changes_Steady.{IsSafeOver}
+use Rattle.role_changes.specs.shape_changes_Changing.{AreEitherRight}
+use Rattle.role_changes.proofs.shape_changes_Steady.{safe-is-seen}
 use Rattle.views.specs.Still.{ViewsAreSound, CallsLeaveSound, ChangesLeaveSound}
 
 -- ---- an image that is read as a right view

@@ -3,32 +3,32 @@ use Rattle.std.proofs.Common.{◌≡◌, ◌⊎◌, inl, inr, ℕ, ◌+◌, ◌<
 use Rattle.std.proofs.lemmas.Bool.Decides.{nat_tests}
 use Rattle.std.proofs.lemmas.Nat.{mod_below}
 use Rattle.std.proofs.Math.Nat.{div-add-mod'}
-use Rattle.md_base.specs.Sectors.{Sector}
-use Rattle.md_base.specs.declared.places.Shape.{Shape}
-use Rattle.md_base.specs.declared.places.Place.{Place}
-use Rattle.md_base.specs.declared.places.Span.{Span}
-use Rattle.md_base.specs.declared.answers.Refusal.TheVariants.{BackupAbsent}
-use Rattle.bank.specs.Given.{Given}
-use Rattle.bank.specs.Tape.{Contents, IsIn, IsDrawn, disk}
-use Rattle.sb1.specs.declared.sb.Sb.{Sb}
-use Rattle.layout.specs.Layout.{place}
-use Rattle.layout.proofs.Places.{chunk_some, data_some, place-sector, place-sector_below, place-row_below, sector_at}
-use Rattle.geometry.specs.Geometry.{window}
-use Rattle.shape_changes.specs.superblocks_the_Members.{Members}
-use Rattle.shape_changes.specs.superblocks_Reading.{Scope, is_reshaping, is_backward, shape_of, final_shape, role_count, list_length, next_window, role_state, holder, data_offset_of}
-use Rattle.shape_changes.proofs.superblock_reads_SaidSlots.{role-known}
-use Rattle.shape_changes.specs.row_io_Rows.{reading_of, present, held_slot, is_missing, IsTolerated}
-use Rattle.shape_changes.proofs.row_io_Losses.{holder-of}
-use Rattle.shape_changes.specs.list_io_Full.{RowStands}
-use Rattle.shape_changes.specs.flat_history_Stands.{has_room, backup_absent, covers, reach_of}
-use Rattle.shape_changes.specs.flat_history_ActiveSection.{section_for}
-use Rattle.shape_changes.specs.shape_views_Regions.{backup_of, header_in, open_by, place_by, ArePlaced, DoWithout}
-use Rattle.shape_changes.specs.shape_views_Views.{Disk, Ledger, IsTail, IsTailZero, IsOutside, IsSettled}
-use Rattle.shape_changes.specs.shape_views_Windows.{IsOfRegion}
-use Rattle.shape_changes.proofs.shape_views_Stands.{for-still, final-still, list-still}
-use Rattle.shape_changes.specs.Held.{IsHeldBy}
-use Rattle.shape_changes.specs.Steady.{IsMoreTold, AreGoneTold}
-use Rattle.shape_changes.proofs.Stretch.{seen-own}
+use Rattle.role_changes.specs.md_base_Sectors.{Sector}
+use Rattle.role_changes.specs.md_base_the_Shape.{Shape}
+use Rattle.role_changes.specs.md_base_the_Place.{Place}
+use Rattle.role_changes.specs.md_base_the_Span.{Span}
+use Rattle.role_changes.specs.md_base_the_Refusal_TheVariants.{BackupAbsent}
+use Rattle.role_changes.specs.bank_Given.{Given}
+use Rattle.role_changes.specs.bank_Tape.{Contents, IsIn, IsDrawn, disk}
+use Rattle.role_changes.specs.sb1_the_Sb.{Sb}
+use Rattle.role_changes.specs.layout_Layout.{place}
+use Rattle.role_changes.proofs.layout_Places.{chunk_some, data_some, place-sector, place-sector_below, place-row_below, sector_at}
+use Rattle.role_changes.specs.geometry_Geometry.{window}
+use Rattle.role_changes.specs.superblocks_the_Members.{Members}
+use Rattle.role_changes.specs.superblocks_Reading.{Scope, is_reshaping, is_backward, shape_of, final_shape, role_count, list_length, next_window, role_state, holder, data_offset_of}
+use Rattle.role_changes.proofs.superblock_reads_SaidSlots.{role-known}
+use Rattle.role_changes.specs.row_io_Rows.{reading_of, present, held_slot, is_missing, IsTolerated}
+use Rattle.role_changes.proofs.row_io_Losses.{holder-of}
+use Rattle.role_changes.specs.list_io_Full.{RowStands}
+use Rattle.role_changes.specs.flat_history_Stands.{has_room, backup_absent, covers, reach_of}
+use Rattle.role_changes.specs.flat_history_ActiveSection.{section_for}
+use Rattle.role_changes.specs.shape_views_Regions.{backup_of, header_in, open_by, place_by, ArePlaced, DoWithout}
+use Rattle.role_changes.specs.shape_views_Views.{Disk, Ledger, IsTail, IsTailZero, IsOutside, IsSettled}
+use Rattle.role_changes.specs.shape_views_Windows.{IsOfRegion}
+use Rattle.role_changes.proofs.shape_views_Stands.{for-still, final-still, list-still}
+use Rattle.role_changes.specs.shape_changes_Held.{IsHeldBy}
+use Rattle.role_changes.specs.shape_changes_Steady.{IsMoreTold, AreGoneTold}
+use Rattle.role_changes.proofs.shape_changes_Stretch.{seen-own}
 use Rattle.views.specs.Whole.{list_size}
 use Rattle.views.specs.Placed.{places_of, IsPlaced}
 use Rattle.views.specs.Lacking.{DoesWithout}

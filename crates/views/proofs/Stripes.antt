@@ -2,12 +2,12 @@
 use Rattle.std.proofs.Common.{◌≡◌, inl, inr, ℕ, ◌+◌, ◌-◌, ◌*◌, ◌/◌, ◌<◌, ◌≤◌, true, eq-eqb, eqb-true, refl, sym, ◌∙◌, ap, subst, arith}
 use Rattle.std.proofs.lemmas.Bool.{cases_lt}
 use Rattle.std.proofs.lemmas.Nat.{div-mul-add, mul-le}
-use Rattle.md_base.specs.declared.places.Shape.{Shape}
-use Rattle.md_base.specs.declared.places.Place.{Place}
-use Rattle.md_base.specs.Shapes.{is_valid_shape, is_multiple, data_disks}
-use Rattle.layout.specs.Layout.{place}
-use Rattle.layout.proofs.Places.{chunk_some, data_some, place-sector, place-row_below, place-sector_below}
-use Rattle.shape_changes.specs.list_io_Buffers.{IsTouched}
+use Rattle.role_changes.specs.md_base_the_Shape.{Shape}
+use Rattle.role_changes.specs.md_base_the_Place.{Place}
+use Rattle.role_changes.specs.md_base_Shapes.{is_valid_shape, is_multiple, data_disks}
+use Rattle.role_changes.specs.layout_Layout.{place}
+use Rattle.role_changes.proofs.layout_Places.{chunk_some, data_some, place-sector, place-row_below, place-sector_below}
+use Rattle.role_changes.specs.list_io_Buffers.{IsTouched}
 
 -- ---- whole stripes
 

@@ -3,22 +3,22 @@ use Rattle.std.proofs.Common.{◌≡◌, ℕ, ◌+◌, ◌*◌, ◌<◌, Bool, t
 use Rattle.std.specs.Option.{option_map_or}
 use Rattle.std.specs.Prelude.{slice_index_or}
 use Rattle.std.proofs.lemmas.Bool.Decides.{nat_tests}
-use Rattle.md_base.specs.declared.places.Shape.{Shape}
-use Rattle.md_base.specs.declared.places.Span.{Span}
-use Rattle.md_base.specs.declared.status.Role.{Role}
-use Rattle.md_base.specs.declared.answers.Refusal.TheVariants.{NoSuperblock}
-use Rattle.md_base.specs.Sectors.{Sector}
-use Rattle.md_base.specs.Shapes.{data_disks}
-use Rattle.md_base.proofs.Tabulated.{length-tabulate, get_or-tabulate}
-use Rattle.bank.specs.Tape.{Contents}
-use Rattle.layout.specs.Layout.{place, row_roles}
-use Rattle.layout.proofs.Places.{place-row_below, place-role_below}
-use Rattle.parity.specs.Parity.{fill}
-use Rattle.backup.specs.Section.{section_sector}
-use Rattle.shape_changes.specs.superblocks_Reading.{Scope, Reading, reading, is_reshaping, shape_of, target_of, final_shape, next_window, list_length, rows_held, holder, data_offset_of}
-use Rattle.shape_changes.specs.flat_history_ActiveSection.{section_for}
-use Rattle.shape_changes.specs.flat_history_Stands.{stands, verdict, refusal_of, held_sector, held_row, placed_sector, shape_for, standing_sector, covers}
-use Rattle.shape_changes.proofs.flat_history_SameLaws.{stands-is}
+use Rattle.role_changes.specs.md_base_the_Shape.{Shape}
+use Rattle.role_changes.specs.md_base_the_Span.{Span}
+use Rattle.role_changes.specs.md_base_the_Role.{Role}
+use Rattle.role_changes.specs.md_base_the_Refusal_TheVariants.{NoSuperblock}
+use Rattle.role_changes.specs.md_base_Sectors.{Sector}
+use Rattle.role_changes.specs.md_base_Shapes.{data_disks}
+use Rattle.role_changes.proofs.md_base_Tabulated.{length-tabulate, get_or-tabulate}
+use Rattle.role_changes.specs.bank_Tape.{Contents}
+use Rattle.role_changes.specs.layout_Layout.{place, row_roles}
+use Rattle.role_changes.proofs.layout_Places.{place-row_below, place-role_below}
+use Rattle.role_changes.specs.parity_Parity.{fill}
+use Rattle.role_changes.specs.backup_Section.{section_sector}
+use Rattle.role_changes.specs.superblocks_Reading.{Scope, Reading, reading, is_reshaping, shape_of, target_of, final_shape, next_window, list_length, rows_held, holder, data_offset_of}
+use Rattle.role_changes.specs.flat_history_ActiveSection.{section_for}
+use Rattle.role_changes.specs.flat_history_Stands.{stands, verdict, refusal_of, held_sector, held_row, placed_sector, shape_for, standing_sector, covers}
+use Rattle.role_changes.proofs.flat_history_SameLaws.{stands-is}
 use Rattle.views.specs.Whole.{Places, AreFit, in_row, placed, list_size, IsReadWhole}
 
 module _ (scope : Scope) (p : Places) (fit : AreFit p) (c : Contents) (r : Reading) (whole : IsReadWhole scope p r) where

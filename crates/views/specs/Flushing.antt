@@ -1,10 +1,10 @@
 -- What flushes leave.
 use Rattle.std.specs.Prelude.{◌≡◌, ℕ, ◌<◌, ◌≤◌, true, false, List, [], ◌∷◌, ◌++◌, length, Some}
-use Rattle.md_base.specs.Shapes.{has_slot}
-use Rattle.bank.specs.declared.bank.Operation.{Operation}
-use Rattle.bank.specs.Given.{Given, IsFaulted}
-use Rattle.bank.specs.Tape.{contents, disk, AreFlushes}
-use Rattle.shape_changes.specs.superblocks_Reading.{Reading, role_state, holder}
+use Rattle.role_changes.specs.md_base_Shapes.{has_slot}
+use Rattle.role_changes.specs.bank_the_Operation.{Operation}
+use Rattle.role_changes.specs.bank_Given.{Given, IsFaulted}
+use Rattle.role_changes.specs.bank_Tape.{contents, disk, AreFlushes}
+use Rattle.role_changes.specs.superblocks_Reading.{Reading, role_state, holder}
 
 -- no count falls, and only those of the bank's slots may rise
 pub record OnlyItsSlotsFail (bank : Given) (before after : ℕ → ℕ) : Type 0 where

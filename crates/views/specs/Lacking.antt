@@ -1,25 +1,25 @@
 -- An array that lacks members: what a call lost, why it is refused, and how the list stands on the members that are there.
 use Rattle.std.specs.Prelude.{◌≡◌, ◌≢◌, ◌⊎◌, ℕ, ◌+◌, ◌*◌, ◌<◌, ◌≤◌, nat_le, Bool, true, false, List, [], ◌∷◌, length, slice_index, Contains, Option, Some, None, Result, Ok, Err}
-use Rattle.md_base.specs.declared.answers.Refusal.{Refusal}
-use Rattle.md_base.specs.declared.answers.Refusal.TheVariants.{TooManyMissing as TooMany, NotResynced as Unsynced}
-use Rattle.md_base.specs.declared.places.Shape.{Shape}
-use Rattle.md_base.specs.Sectors.{Sector}
-use Rattle.md_base.specs.Shapes.{has_slot, tolerance, data_disks}
-use Rattle.layout.specs.Layout.{place}
-use Rattle.bank.specs.declared.bank.Operation.{Operation}
-use Rattle.bank.specs.Given.{Given, IsFaulted}
-use Rattle.bank.specs.Tape.{Contents, disk}
-use Rattle.shape_changes.specs.superblocks_the_Members.{Members}
-use Rattle.sb1.specs.declared.sb.Sb.{Sb}
-use Rattle.shape_changes.specs.superblocks_Reading.{Reading, shape_of, final_shape, role_count, role_state, holder, data_offset_of, entry_of}
-use Rattle.shape_changes.specs.superblocks_Reads.{has_spare}
-use Rattle.shape_changes.specs.row_io_Rows.{reading_of, present, is_missing, missing_count, IsTolerated}
+use Rattle.role_changes.specs.md_base_the_Refusal.{Refusal}
+use Rattle.role_changes.specs.md_base_the_Refusal_TheVariants.{TooManyMissing as TooMany, NotResynced as Unsynced}
+use Rattle.role_changes.specs.md_base_the_Shape.{Shape}
+use Rattle.role_changes.specs.md_base_Sectors.{Sector}
+use Rattle.role_changes.specs.md_base_Shapes.{has_slot, tolerance, data_disks}
+use Rattle.role_changes.specs.layout_Layout.{place}
+use Rattle.role_changes.specs.bank_the_Operation.{Operation}
+use Rattle.role_changes.specs.bank_Given.{Given, IsFaulted}
+use Rattle.role_changes.specs.bank_Tape.{Contents, disk}
+use Rattle.role_changes.specs.superblocks_the_Members.{Members}
+use Rattle.role_changes.specs.sb1_the_Sb.{Sb}
+use Rattle.role_changes.specs.superblocks_Reading.{Reading, shape_of, final_shape, role_count, role_state, holder, data_offset_of, entry_of}
+use Rattle.role_changes.specs.superblocks_Reads.{has_spare}
+use Rattle.role_changes.specs.row_io_Rows.{reading_of, present, is_missing, missing_count, IsTolerated}
 use Rattle.views.specs.Placed.{is_vacant}
-use Rattle.shape_changes.specs.list_io_the_Unavailable.{Unavailable}
-use Rattle.shape_changes.specs.list_io_the_Unavailable_TheVariants.{TooManyMissing, NotResynced}
-use Rattle.shape_changes.specs.list_io_Full.{DataStands, RowStands}
-use Rattle.shape_changes.specs.list_io_Buffers.{buffered, AreStanding, HasData}
-use Rattle.shape_changes.specs.list_io_Writing.{IsWritten, AreDataFrom, IsFull, StaysRebuilt, IsPutting, AreSuperblocksKept}
+use Rattle.role_changes.specs.list_io_the_Unavailable.{Unavailable}
+use Rattle.role_changes.specs.list_io_the_Unavailable_TheVariants.{TooManyMissing, NotResynced}
+use Rattle.role_changes.specs.list_io_Full.{DataStands, RowStands}
+use Rattle.role_changes.specs.list_io_Buffers.{buffered, AreStanding, HasData}
+use Rattle.role_changes.specs.list_io_Writing.{IsWritten, AreDataFrom, IsFull, StaysRebuilt, IsPutting, AreSuperblocksKept}
 
 -- ---- why a call is refused
 

@@ -1,15 +1,15 @@
 -- What device calls leave of an array.
 use Rattle.std.specs.Prelude.{◌≡◌, ℕ, ◌≤◌, true, List, ◌++◌, length, Some}
-use Rattle.md_base.specs.Shapes.{has_slot}
-use Rattle.bank.specs.declared.bank.Operation.{Operation}
-use Rattle.bank.specs.Given.{Given, IsFaulted}
-use Rattle.shape_changes.specs.superblocks_the_Members.{Members}
-use Rattle.shape_changes.specs.superblocks_Reading.{shape_of, role_state, rows_held, holder, data_offset_of}
-use Rattle.shape_changes.specs.superblocks_Reads.{has_spare}
-use Rattle.shape_changes.specs.row_io_Rows.{reading_of}
+use Rattle.role_changes.specs.md_base_Shapes.{has_slot}
+use Rattle.role_changes.specs.bank_the_Operation.{Operation}
+use Rattle.role_changes.specs.bank_Given.{Given, IsFaulted}
+use Rattle.role_changes.specs.superblocks_the_Members.{Members}
+use Rattle.role_changes.specs.superblocks_Reading.{shape_of, role_state, rows_held, holder, data_offset_of}
+use Rattle.role_changes.specs.superblocks_Reads.{has_spare}
+use Rattle.role_changes.specs.row_io_Rows.{reading_of}
 use Rattle.views.specs.Rebuilding.{AreSparesFree}
 use Rattle.views.specs.Placed.{places_of, AreWhole, IsPlaced, AreStillHeld, HaveSameReshape, AreLess}
-use Rattle.shape_changes.specs.Steady.{AreUnlost}
+use Rattle.role_changes.specs.shape_changes_Steady.{AreUnlost}
 
 -- more was done
 pub record Grows (tells : Type 0) (before after : List Operation) : Type 0 where

@@ -4,14 +4,14 @@ use Rattle.sha1.specs.Sha1.{sha1}
 use Rattle.uuid.specs.Parts.{with_version, with_variant}
 use Rattle.uuid.specs.declared.Variant.TheVariants.{RFC4122}
 use Rattle.uuid.specs.declared.Version.TheVariants.{Sha1}
-use Rattle.md_base.specs.Sectors.{Sector}
-use Rattle.md_base.specs.Search.{least_below, tabulate}
-use Rattle.md_base.specs.Shapes.{has_slot}
-use Rattle.sb1.specs.declared.sb.Sb.{Sb}
-use Rattle.sb1.specs.Superblock.{two_by_two}
-use Rattle.bank.specs.Given.{Given, sizes}
-use Rattle.shape_changes.specs.superblocks_Outcome.{set_of}
-use Rattle.shape_changes.specs.superblocks_Reading.{Scope, is_seen, entry_of}
+use Rattle.role_changes.specs.md_base_Sectors.{Sector}
+use Rattle.role_changes.specs.md_base_Search.{least_below, tabulate}
+use Rattle.role_changes.specs.md_base_Shapes.{has_slot}
+use Rattle.role_changes.specs.sb1_the_Sb.{Sb}
+use Rattle.role_changes.specs.sb1_Superblock.{two_by_two}
+use Rattle.role_changes.specs.bank_Given.{Given, sizes}
+use Rattle.role_changes.specs.superblocks_Outcome.{set_of}
+use Rattle.role_changes.specs.superblocks_Reading.{Scope, is_seen, entry_of}
 use Rattle.views.specs.declared.work.Work.{Work}
 
 -- the slot's superblock may bear the number; one from 128 on counts as such

@@ -1,8 +1,8 @@
 -- What contracts see of an array.
 use Rattle.std.specs.Prelude.{ℕ, List, Option}
 use Rattle.views.specs.declared.work.Work.{Work}
-use Rattle.shape_changes.specs.flat_history_the_Entry.{Entry}
-use Rattle.shape_changes.specs.superblocks_the_Members.{Members}
+use Rattle.role_changes.specs.flat_history_the_Entry.{Entry}
+use Rattle.role_changes.specs.superblocks_the_Members.{Members}
 
 -- its bank; the uuid, slots, opening mark, last mark and entries of its epoch; the backup slot; what its members say; what is under way;
 -- and how many steps there is room for

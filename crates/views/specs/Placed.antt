@@ -1,16 +1,16 @@
 -- Where the rows of a running array stand, by what its members say.
 use Rattle.std.specs.Prelude.{◌≡◌, ◌≢◌, ◌⊎◌, ℕ, ◌<◌, ◌≤◌, Bool, false, not, length, map, unwrap_or, Some, is_some}
-use Rattle.md_base.specs.declared.places.Shape.{Shape}
-use Rattle.md_base.specs.declared.status.Role.{Role}
-use Rattle.md_base.specs.Shapes.{has_slot}
-use Rattle.sb1.specs.declared.sb.Sb.{Sb}
-use Rattle.bank.specs.Given.{Given, NeverFalls}
-use Rattle.shape_changes.specs.superblocks_the_Members.{Members}
-use Rattle.shape_changes.specs.superblocks_Reading.{Reading, is_reshaping, is_backward, shape_of, final_shape, role_count, role_state, rows_held, holder, data_offset_of}
-use Rattle.shape_changes.specs.superblocks_Outcome.{AreLive}
-use Rattle.shape_changes.specs.row_io_Rows.{reading_of, is_missing, missing_count, role_without, members_without, IsHolder, HaveFailed}
-use Rattle.shape_changes.specs.row_io_Writes.{AreApart}
-use Rattle.shape_changes.specs.shape_views_Regions.{AreShapesFit}
+use Rattle.role_changes.specs.md_base_the_Shape.{Shape}
+use Rattle.role_changes.specs.md_base_the_Role.{Role}
+use Rattle.role_changes.specs.md_base_Shapes.{has_slot}
+use Rattle.role_changes.specs.sb1_the_Sb.{Sb}
+use Rattle.role_changes.specs.bank_Given.{Given, NeverFalls}
+use Rattle.role_changes.specs.superblocks_the_Members.{Members}
+use Rattle.role_changes.specs.superblocks_Reading.{Reading, is_reshaping, is_backward, shape_of, final_shape, role_count, role_state, rows_held, holder, data_offset_of}
+use Rattle.role_changes.specs.superblocks_Outcome.{AreLive}
+use Rattle.role_changes.specs.row_io_Rows.{reading_of, is_missing, missing_count, role_without, members_without, IsHolder, HaveFailed}
+use Rattle.role_changes.specs.row_io_Writes.{AreApart}
+use Rattle.role_changes.specs.shape_views_Regions.{AreShapesFit}
 use Rattle.views.specs.Whole.{Places}
 
 -- each role has the slot that holds it, and its rows begin at that slot's data offset

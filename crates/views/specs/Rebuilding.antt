@@ -1,24 +1,24 @@
 -- Spares, the roles that they get, and what is rebuilt of these.
 use Rattle.std.specs.Prelude.{◌≡◌, ◌≢◌, ◌⊎◌, ℕ, ◌+◌, ◌*◌, ◌<◌, ◌≤◌, Bool, true, false, not, ◌&&◌, ◌||◌, ◌==◌, List, [], ◌∷◌, slice_set, option_map, Option, Some, None, MatchOption, IsTrue, ⊤}
 use Rattle.std.specs.List.{list_any}
-use Rattle.md_base.specs.Sectors.{Sector}
-use Rattle.md_base.specs.Shapes.{has_slot}
-use Rattle.md_base.specs.declared.status.Role.{Role}
-use Rattle.md_base.specs.declared.status.Role.TheVariants.{Whole, Recovering}
-use Rattle.sb1.specs.declared.sb.Sb.{Sb}
-use Rattle.bank.specs.Given.{Given}
-use Rattle.bank.specs.Tape.{Contents}
-use Rattle.shape_changes.specs.superblocks_the_Members.{Members}
-use Rattle.shape_changes.specs.superblocks_Reading.{shape_of, role_state, rows_held, holder, data_offset_of}
-use Rattle.shape_changes.specs.superblocks_Reads.{has_spare}
-use Rattle.shape_changes.specs.superblocks_Update.{own_in, with_recovery}
-use Rattle.shape_changes.specs.superblocks_Outcome.{with_added, slots_below}
-use Rattle.shape_changes.specs.row_io_Rows.{reading_of, IsHolder}
-use Rattle.shape_changes.specs.list_io_Full.{full_sector}
-use Rattle.shape_changes.specs.list_io_Writing.{HasFull}
-use Rattle.shape_changes.specs.flat_history_the_Entry.{Entry}
-use Rattle.shape_changes.specs.flat_history_the_Event.{Event}
-use Rattle.shape_changes.specs.flat_history_the_Event_TheVariants.{Rebuilt}
+use Rattle.role_changes.specs.md_base_Sectors.{Sector}
+use Rattle.role_changes.specs.md_base_Shapes.{has_slot}
+use Rattle.role_changes.specs.md_base_the_Role.{Role}
+use Rattle.role_changes.specs.md_base_the_Role_TheVariants.{Whole, Recovering}
+use Rattle.role_changes.specs.sb1_the_Sb.{Sb}
+use Rattle.role_changes.specs.bank_Given.{Given}
+use Rattle.role_changes.specs.bank_Tape.{Contents}
+use Rattle.role_changes.specs.superblocks_the_Members.{Members}
+use Rattle.role_changes.specs.superblocks_Reading.{shape_of, role_state, rows_held, holder, data_offset_of}
+use Rattle.role_changes.specs.superblocks_Reads.{has_spare}
+use Rattle.role_changes.specs.superblocks_Update.{own_in, with_recovery}
+use Rattle.role_changes.specs.superblocks_Outcome.{with_added, slots_below}
+use Rattle.role_changes.specs.row_io_Rows.{reading_of, IsHolder}
+use Rattle.role_changes.specs.list_io_Full.{full_sector}
+use Rattle.role_changes.specs.list_io_Writing.{HasFull}
+use Rattle.role_changes.specs.flat_history_the_Entry.{Entry}
+use Rattle.role_changes.specs.flat_history_the_Event.{Event}
+use Rattle.role_changes.specs.flat_history_the_Event_TheVariants.{Rebuilt}
 use Rattle.views.specs.declared.work.Work.{Work}
 use Rattle.views.specs.Status.{rebuilt_of}
 

@@ -1,10 +1,10 @@
 -- Which missing role a dirty array is refused for.
 use Rattle.std.specs.Prelude.{ℕ, not, ◌&&◌, Option}
-use Rattle.md_base.specs.Search.{least_below}
-use Rattle.layout.specs.Layout.{is_parity_only}
-use Rattle.shape_changes.specs.superblocks_the_Members.{Members}
-use Rattle.md_base.specs.declared.places.Shape.{Shape}
-use Rattle.shape_changes.specs.row_io_Rows.{reading_of, is_missing}
+use Rattle.role_changes.specs.md_base_Search.{least_below}
+use Rattle.role_changes.specs.layout_Layout.{is_parity_only}
+use Rattle.role_changes.specs.superblocks_the_Members.{Members}
+use Rattle.role_changes.specs.md_base_the_Shape.{Shape}
+use Rattle.role_changes.specs.row_io_Rows.{reading_of, is_missing}
 
 -- the lowest missing role that holds data in this shape
 abbrev pub lowest_missing : Shape → Members → Option ℕ

@@ -1,10 +1,10 @@
 -- Rows as the members hold them, and as they lie in memory.
 use Rattle.std.specs.Prelude.{◌≡◌, ℕ, ◌+◌, ◌-◌, ◌*◌, ◌/◌, ◌<◌, ◌≤◌, ◌⊎◌, List, length, take, drop, Some}
-use Rattle.md_base.specs.Search.{tabulate}
-use Rattle.md_base.specs.Sectors.{Sector}
-use Rattle.bank.specs.Tape.{Contents, IsIn}
-use Rattle.layout.specs.Layout.{row_roles}
-use Rattle.parity.specs.Parity.{AreEquationsMet}
+use Rattle.role_changes.specs.md_base_Search.{tabulate}
+use Rattle.role_changes.specs.md_base_Sectors.{Sector}
+use Rattle.role_changes.specs.bank_Tape.{Contents, IsIn}
+use Rattle.role_changes.specs.layout_Layout.{row_roles}
+use Rattle.role_changes.specs.parity_Parity.{AreEquationsMet}
 use Rattle.views.specs.Whole.{Places, in_row, placed, list_size}
 
 -- a role's sector in bytes that lie role after role

@@ -1,21 +1,21 @@
 -- When members are placed, when their rows are settled, and what right views are worth.
 use Rattle.std.specs.Prelude.{◌≡◌, ℕ, ◌<◌, ◌≤◌, ◌++◌, List, length, None}
-use Rattle.md_base.specs.Sectors.{Sector}
-use Rattle.bank.specs.declared.bank.Operation.{Operation}
-use Rattle.bank.specs.Given.{Given}
-use Rattle.bank.specs.Tape.{IsIn, disk}
-use Rattle.shape_changes.specs.superblocks_the_Members.{Members}
-use Rattle.shape_changes.specs.superblocks_Reading.{Scope, list_length}
-use Rattle.shape_changes.specs.flat_history_Stands.{backup_absent}
-use Rattle.shape_changes.specs.row_io_Rows.{reading_of, present}
-use Rattle.shape_changes.specs.flat_history_World.{World, may_hold}
-use Rattle.shape_changes.specs.flat_history_Growing.{grown}
-use Rattle.shape_changes.specs.flat_history_Sound.{OpensFit, LeavesSound, LeavesSoundThroughout}
-use Rattle.shape_changes.specs.shape_views_Regions.{ArePlaced}
-use Rattle.shape_changes.specs.shape_views_Views.{Disk, Ledger, IsSettled}
-use Rattle.shape_changes.specs.Held.{IsHeldBy}
-use Rattle.shape_changes.specs.Steady.{AreViewsRight, KeepsSafe}
-use Rattle.shape_changes.specs.Changing.{IsSafeChange}
+use Rattle.role_changes.specs.md_base_Sectors.{Sector}
+use Rattle.role_changes.specs.bank_the_Operation.{Operation}
+use Rattle.role_changes.specs.bank_Given.{Given}
+use Rattle.role_changes.specs.bank_Tape.{IsIn, disk}
+use Rattle.role_changes.specs.superblocks_the_Members.{Members}
+use Rattle.role_changes.specs.superblocks_Reading.{Scope, list_length}
+use Rattle.role_changes.specs.flat_history_Stands.{backup_absent}
+use Rattle.role_changes.specs.row_io_Rows.{reading_of, present}
+use Rattle.role_changes.specs.flat_history_World.{World, may_hold}
+use Rattle.role_changes.specs.flat_history_Growing.{grown}
+use Rattle.role_changes.specs.flat_history_Sound.{OpensFit, LeavesSound, LeavesSoundThroughout}
+use Rattle.role_changes.specs.shape_views_Regions.{ArePlaced}
+use Rattle.role_changes.specs.shape_views_Views.{Disk, Ledger, IsSettled}
+use Rattle.role_changes.specs.shape_changes_Held.{IsHeldBy}
+use Rattle.role_changes.specs.shape_changes_Steady.{AreViewsRight, KeepsSafe}
+use Rattle.role_changes.specs.shape_changes_Changing.{IsSafeChange}
 use Rattle.views.specs.Placed.{IsPlaced}
 use Rattle.views.specs.Lacking.{AreHoldersFlushed}
 use Rattle.views.specs.Under.{RowsStandUnder}

@@ -1,15 +1,15 @@
 -- How the list stands on members of one shape or two, whichever header a stop leaves in the backup.
 use Rattle.std.specs.Prelude.{◌≡◌, ◌≢◌, ◌⊎◌, ℕ, true, false, [], ◌∷◌}
-use Rattle.md_base.specs.Sectors.{Sector}
-use Rattle.md_base.specs.Shapes.{has_slot}
-use Rattle.bank.specs.Tape.{Contents, IsIn}
-use Rattle.shape_changes.specs.superblocks_the_Members.{Members}
-use Rattle.shape_changes.specs.superblocks_Reading.{Scope}
-use Rattle.shape_changes.specs.superblocks_Outcome.{live_set}
-use Rattle.shape_changes.specs.shape_views_Regions.{backup_of, open_by}
-use Rattle.shape_changes.specs.shape_views_Views.{Disk, IsTailZero, AreSectionsAllowed}
-use Rattle.shape_changes.specs.shape_views_Windows.{ListStands, RowsStand}
-use Rattle.shape_changes.specs.Marking.{marking}
+use Rattle.role_changes.specs.md_base_Sectors.{Sector}
+use Rattle.role_changes.specs.md_base_Shapes.{has_slot}
+use Rattle.role_changes.specs.bank_Tape.{Contents, IsIn}
+use Rattle.role_changes.specs.superblocks_the_Members.{Members}
+use Rattle.role_changes.specs.superblocks_Reading.{Scope}
+use Rattle.role_changes.specs.superblocks_Outcome.{live_set}
+use Rattle.role_changes.specs.shape_views_Regions.{backup_of, open_by}
+use Rattle.role_changes.specs.shape_views_Views.{Disk, IsTailZero, AreSectionsAllowed}
+use Rattle.role_changes.specs.shape_views_Windows.{ListStands, RowsStand}
+use Rattle.role_changes.specs.shape_changes_Marking.{marking}
 
 -- Each sector that no active section covers stands as the list, and an active section has the list's sectors alone.
 pub record StandsUnder (scope : Scope) (members : Members) (c : Contents) (d : Disk) (list : ℕ → Sector) : Type 0 where

@@ -1,16 +1,16 @@
 -- An array of one shape with every role whole: where its sectors stand, what a stop may leave of them, and when that is safe.
 use Rattle.std.specs.Prelude.{◌≡◌, ℕ, ◌+◌, ◌*◌, ◌^◌, ◌<◌, ◌≤◌, false, List, [], ◌∷◌, Some, None, IsTrue, ⊤}
-use Rattle.md_base.specs.declared.places.Shape.{Shape}
-use Rattle.md_base.specs.declared.status.Role.TheVariants.{Whole}
-use Rattle.md_base.specs.Sectors.{Sector}
-use Rattle.md_base.specs.Shapes.{is_valid_shape, is_multiple, data_disks}
-use Rattle.bank.specs.declared.bank.Operation.{Operation}
-use Rattle.bank.specs.declared.bank.Operation.TheVariants.{Write, Flush}
-use Rattle.bank.specs.Tape.{Contents, IsIn}
-use Rattle.layout.specs.Layout.{place}
-use Rattle.shape_changes.specs.superblocks_Reading.{Scope, Reading, reading, is_seen, is_reshaping, shape_of, role_state, data_offset_of}
-use Rattle.shape_changes.specs.flat_history_Stands.{refusal_of}
-use Rattle.shape_changes.specs.flat_history_Same.{IsElsewhere}
+use Rattle.role_changes.specs.md_base_the_Shape.{Shape}
+use Rattle.role_changes.specs.md_base_the_Role_TheVariants.{Whole}
+use Rattle.role_changes.specs.md_base_Sectors.{Sector}
+use Rattle.role_changes.specs.md_base_Shapes.{is_valid_shape, is_multiple, data_disks}
+use Rattle.role_changes.specs.bank_the_Operation.{Operation}
+use Rattle.role_changes.specs.bank_the_Operation_TheVariants.{Write, Flush}
+use Rattle.role_changes.specs.bank_Tape.{Contents, IsIn}
+use Rattle.role_changes.specs.layout_Layout.{place}
+use Rattle.role_changes.specs.superblocks_Reading.{Scope, Reading, reading, is_seen, is_reshaping, shape_of, role_state, data_offset_of}
+use Rattle.role_changes.specs.flat_history_Stands.{refusal_of}
+use Rattle.role_changes.specs.flat_history_Same.{IsElsewhere}
 
 -- The shape, the rows of a member, and for each role its slot and the sector at which its rows begin.
 pub record Places : Type 0 where

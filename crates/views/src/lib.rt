@@ -4,4 +4,8 @@
 pub mod laws;
 pub mod work;
 
+pub use role_changes::{
+    Outcome, ROW_BYTES, Unavailable, are_too_many, data_offset, is_missing, lose_slot, lose_slots,
+    missing_count, read_list, read_touched, syndromes, tolerance, write_touched,
+};
 pub use work::Work;

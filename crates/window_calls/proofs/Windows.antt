@@ -3,20 +3,20 @@ use Rattle.std.proofs.Common.{◌≡◌, inl, inr, ℕ, ◌+◌, ◌-◌, ◌*�
 use Rattle.std.specs.Prelude.{MatchOption}
 use Rattle.std.proofs.lemmas.Bool.{cases_lt}
 use Rattle.std.proofs.Math.Nat.{mul-le-mul_right}
-use Rattle.md_base.specs.Sectors.{Sector}
-use Rattle.md_base.specs.Shapes.{stripe_sectors}
-use Rattle.md_base.specs.declared.places.Shape.{Shape}
-use Rattle.md_base.specs.declared.places.Span.{Span}
-use Rattle.md_base.specs.declared.answers.Refusal.{Refusal}
-use Rattle.md_base.specs.declared.answers.Refusal.TheVariants.{BackupAbsent}
-use Rattle.bank.specs.Given.{Given}
-use Rattle.bank.specs.Tape.{Contents}
-use Rattle.layout.specs.Layout.{place}
-use Rattle.geometry.specs.Geometry.{rows, stripes, ceiling, unit}
-use Rattle.geometry.specs.Geometry as geometry
-use Rattle.geometry.proofs.Divisions.{next_multiple}
-use Rattle.superblocks.specs.declared.members.Members.{Members}
-use Rattle.superblocks.specs.Reading.{Scope, is_clean, final_shape, next_window, role_state, holder, data_offset_of}
+use Rattle.region_rows.specs.md_base_Sectors.{Sector}
+use Rattle.region_rows.specs.md_base_Shapes.{stripe_sectors}
+use Rattle.region_rows.specs.md_base_the_Shape.{Shape}
+use Rattle.region_rows.specs.md_base_the_Span.{Span}
+use Rattle.region_rows.specs.md_base_the_Refusal.{Refusal}
+use Rattle.window_steps.specs.md_base_the_Refusal_TheVariants.{BackupAbsent}
+use Rattle.region_rows.specs.bank_Given.{Given}
+use Rattle.region_rows.specs.bank_Tape.{Contents}
+use Rattle.region_rows.specs.layout_Layout.{place}
+use Rattle.region_rows.specs.geometry_Geometry.{rows, stripes, ceiling, unit}
+use Rattle.region_rows.specs.geometry_Geometry as geometry
+use Rattle.region_rows.proofs.geometry_Divisions.{next_multiple}
+use Rattle.region_rows.specs.superblocks_the_Members.{Members}
+use Rattle.region_rows.specs.superblocks_Reading.{Scope, is_clean, final_shape, next_window, role_state, holder, data_offset_of}
 use Rattle.window_steps.specs.row_io_Rows.{reading_of, held_slot}
 use Rattle.window_steps.proofs.row_io_Losses.{holder-of}
 use Rattle.window_steps.specs.list_io_Full.{RowStands}

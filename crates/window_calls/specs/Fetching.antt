@@ -1,11 +1,11 @@
 -- Why sectors of the list can't be read beside an open window, whose own sectors lie in its buffer.
 use Rattle.std.specs.Prelude.{◌≡◌, ◌⊎◌, ℕ, ◌<◌, ◌≤◌, false, Option}
-use Rattle.md_base.specs.declared.places.Shape.{Shape}
-use Rattle.md_base.specs.declared.places.Span.{Span}
-use Rattle.md_base.specs.declared.answers.Refusal.{Refusal}
-use Rattle.md_base.specs.declared.answers.Refusal.TheVariants.{NotResynced as Unsynced}
-use Rattle.sb1.specs.declared.sb.Sb.{Sb}
-use Rattle.superblocks.specs.declared.members.Members.{Members}
+use Rattle.region_rows.specs.md_base_the_Shape.{Shape}
+use Rattle.region_rows.specs.md_base_the_Span.{Span}
+use Rattle.region_rows.specs.md_base_the_Refusal.{Refusal}
+use Rattle.window_steps.specs.md_base_the_Refusal_TheVariants.{NotResynced as Unsynced}
+use Rattle.region_rows.specs.sb1_the_Sb.{Sb}
+use Rattle.region_rows.specs.superblocks_the_Members.{Members}
 use Rattle.window_steps.specs.flat_history_Stands.{shape_for, covers}
 use Rattle.window_steps.specs.shape_views_Regions.{place_by}
 use Rattle.window_steps.specs.views_Lacking.{LacksTooMany}

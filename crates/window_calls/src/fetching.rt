@@ -1,11 +1,11 @@
 //! Reads of the list beside an open window, whose own sectors lie in its buffer.
 
 ghost use Rattle.std.specs.Prelude.{◌≡◌, ◌⊎◌, ◌+◌, ◌-◌, ◌*◌, ◌/◌, ◌<◌, ◌≤◌, ℕ, false, length, None, Some, MatchOption, IfSome, ⊤};
-ghost use Rattle.bank.specs.Given.{NeverFalls};
-ghost use Rattle.bank.specs.Tape.{disk};
-ghost use Rattle.md_base.specs.Sectors.{Sector, IsWhole};
-ghost use Rattle.parity.specs.Rows.{sector_of};
-ghost use Rattle.superblocks.specs.Reading.{is_clean, list_length};
+ghost use Rattle.region_rows.specs.bank_Given.{NeverFalls};
+ghost use Rattle.region_rows.specs.bank_Tape.{disk};
+ghost use Rattle.region_rows.specs.md_base_Sectors.{Sector, IsWhole};
+ghost use Rattle.region_rows.specs.parity_Rows.{sector_of};
+ghost use Rattle.region_rows.specs.superblocks_Reading.{is_clean, list_length};
 ghost use Rattle.window_steps.specs.row_io_Rows.{present, members_without};
 ghost use Rattle.window_steps.specs.flat_history_Stands.{covers};
 ghost use Rattle.window_steps.specs.flat_history_World.{World};
@@ -22,11 +22,8 @@ ghost use Rattle.window_steps.specs.window_rows_Copies.{HasWindow, IsRoomFor};
 ghost use Rattle.region_rows.specs.Stretches.{ListStandsIn, RowsStandIn};
 ghost use Rattle.window_calls.specs.Fetching.{IsShapeBeside, IsUnreadBeside};
 
-use bank::Bank;
-use md_base::{Refusal, Span};
-use region_rows::Fetched;
 use region_rows::fetching::{fetch_list, read_regions};
-use superblocks::Members;
+use region_rows::{Bank, Fetched, Members, Refusal, Span};
 use window_steps::name_missing;
 
 // The window's part of the sectors from `first` up to `to`, which may be empty.

@@ -1,11 +1,11 @@
 //! An open window is finished: what is left of it is copied, and it is recorded.
 
 ghost use Rattle.std.specs.Prelude.{◌≡◌, ◌≤◌, ℕ, true, length, None, Some, MatchOption, ⊤};
-ghost use Rattle.bank.specs.Given.{NeverFalls};
-ghost use Rattle.bank.specs.Tape.{disk};
-ghost use Rattle.md_base.specs.Sectors.{Sector};
-ghost use Rattle.geometry.specs.Geometry.{stripes};
-ghost use Rattle.superblocks.specs.Reading.{Scope, final_shape, next_window, is_clean};
+ghost use Rattle.region_rows.specs.bank_Given.{NeverFalls};
+ghost use Rattle.region_rows.specs.bank_Tape.{disk};
+ghost use Rattle.region_rows.specs.md_base_Sectors.{Sector};
+ghost use Rattle.region_rows.specs.geometry_Geometry.{stripes};
+ghost use Rattle.region_rows.specs.superblocks_Reading.{Scope, final_shape, next_window, is_clean};
 ghost use Rattle.window_steps.specs.row_io_Rows.{present, reading_of};
 ghost use Rattle.window_steps.specs.flat_history_World.{World};
 ghost use Rattle.window_steps.specs.flat_history_Sound.{OpensFit};
@@ -25,10 +25,7 @@ ghost use Rattle.window_steps.specs.Copying.{AreHeadersKept};
 ghost use Rattle.window_steps.specs.Recording.{IsRecorded};
 ghost use Rattle.window_calls.specs.Finishing.{IsOfRest, AreStripesCopied, IsOpenWindow};
 
-use bank::Bank;
-use geometry::stripe_sectors;
-use md_base::{Refusal, Shape, Span};
-use superblocks::Members;
+use region_rows::{Bank, Members, Refusal, Shape, Span, stripe_sectors};
 use window_steps::{copy, record};
 
 /// How many stripes of the window are copied, the spares that were lost, and why it isn't finished.

@@ -1,17 +1,17 @@
 -- What a section leaves that is stored, and a header that is cleared: an array that is safe.
 use Rattle.std.proofs.Common.{◌≡◌, ◌⊎◌, inl, inr, ℕ, ◌+◌, ◌-◌, ◌*◌, ◌<◌, ◌≤◌, List, length, take, drop, take_all, Some, None, sym, ◌∙◌, ap, subst, arith}
 use Rattle.std.specs.Prelude.{⊤, Result, Ok, Err, OnErr}
-use Rattle.md_base.specs.declared.places.Span.{Span}
-use Rattle.md_base.specs.Sectors.{Sector}
-use Rattle.bank.specs.declared.bank.Operation.{Operation}
-use Rattle.bank.specs.Given.{Given}
-use Rattle.bank.specs.Tape.{Contents, IsIn, EachMark, disk}
-use Rattle.parity.specs.Rows.{sector_of}
-use Rattle.superblocks.specs.declared.members.Members.{Members}
-use Rattle.superblocks.specs.Reading.{Scope, list_length, next_window}
-use Rattle.backup.specs.Written.{header_of, cleared_header}
-use Rattle.backup.specs.Storing.{nth_sector, IsHeading, IsStoringOrNaming}
-use Rattle.backup.specs.Storing as backup
+use Rattle.region_rows.specs.md_base_the_Span.{Span}
+use Rattle.region_rows.specs.md_base_Sectors.{Sector}
+use Rattle.region_rows.specs.bank_the_Operation.{Operation}
+use Rattle.region_rows.specs.bank_Given.{Given}
+use Rattle.region_rows.specs.bank_Tape.{Contents, IsIn, EachMark, disk}
+use Rattle.region_rows.specs.parity_Rows.{sector_of}
+use Rattle.course_kept.specs.superblocks_the_Members.{Members}
+use Rattle.course_kept.specs.superblocks_Reading.{Scope, list_length, next_window}
+use Rattle.course_kept.specs.backup_Written.{header_of, cleared_header}
+use Rattle.course_kept.specs.backup_Storing.{nth_sector, IsHeading, IsStoringOrNaming}
+use Rattle.course_kept.specs.backup_Storing as backup
 use Rattle.course_kept.specs.shape_views_Regions.{backup_of, open_by, AreShapesFit}
 use Rattle.course_kept.specs.shape_views_Views.{Disk, Ledger}
 use Rattle.course_kept.specs.shape_views_Windows.{HasNoSection}

@@ -1,19 +1,19 @@
 -- What the backup has stored behind a section that was tried, and what the members leave of it that lost slots.
 use Rattle.std.proofs.Common.{◌≡◌, ◌≢◌, ◌⊎◌, inl, inr, ℕ, ◌+◌, ◌-◌, ◌<◌, Bool, true, false, Option, Some, List, length, refl, sym, ◌∙◌, ap, subst, arith}
 use Rattle.std.specs.Prelude.{Result, Ok, Err, OnOk}
-use Rattle.md_base.specs.Sectors.{Sector}
-use Rattle.md_base.specs.declared.places.Span.{Span}
-use Rattle.bank.specs.declared.bank.Operation.{Operation}
-use Rattle.bank.specs.Given.{Given}
-use Rattle.bank.specs.Tape.{IsIn, EachMark, disk}
-use Rattle.bank.proofs.Laws.{kept_in}
-use Rattle.parity.specs.Rows.{sector_of}
-use Rattle.superblocks.specs.declared.members.Members.{Members}
-use Rattle.superblocks.specs.Reading.{Scope, next_window}
-use Rattle.backup.specs.declared.section.SectionFault.{SectionFault}
-use Rattle.backup.specs.declared.section.SectionFault.TheVariants.{Before, Attempted}
-use Rattle.backup.specs.Written.{header_of}
-use Rattle.backup.specs.Storing.{IsStoringOrNaming}
+use Rattle.region_rows.specs.md_base_Sectors.{Sector}
+use Rattle.region_rows.specs.md_base_the_Span.{Span}
+use Rattle.region_rows.specs.bank_the_Operation.{Operation}
+use Rattle.region_rows.specs.bank_Given.{Given}
+use Rattle.region_rows.specs.bank_Tape.{IsIn, EachMark, disk}
+use Rattle.course_kept.proofs.bank_Laws.{kept_in}
+use Rattle.region_rows.specs.parity_Rows.{sector_of}
+use Rattle.course_kept.specs.superblocks_the_Members.{Members}
+use Rattle.course_kept.specs.superblocks_Reading.{Scope, next_window}
+use Rattle.course_kept.specs.backup_the_SectionFault.{SectionFault}
+use Rattle.course_kept.specs.backup_the_SectionFault_TheVariants.{Before, Attempted}
+use Rattle.course_kept.specs.backup_Written.{header_of}
+use Rattle.course_kept.specs.backup_Storing.{IsStoringOrNaming}
 use Rattle.course_kept.specs.shape_views_Regions.{backup_of, AreShapesFit}
 use Rattle.course_kept.specs.shape_views_Views.{Disk, AreHeadersFit, IsHeaderFit}
 use Rattle.course_kept.specs.shape_views_Windows.{HasNoSection}
@@ -24,7 +24,7 @@ use Rattle.course_kept.specs.views_Moving.{IsMoved}
 use Rattle.course_kept.proofs.views_LackingLists.{row-sector}
 use Rattle.course_kept.specs.safe_updates_Unused.{IsUnused, IsUnusedKept}
 use Rattle.course_kept.specs.window_rows_Copies.{IsRoomFor}
-use Rattle.grow_asked.specs.declared.window.Window.TheVariants.{Closed, Entered}
+use Rattle.course_kept.specs.grow_asked_the_Window_TheVariants.{Closed, Entered}
 use Rattle.course_kept.specs.Course.{IsStored}
 use Rattle.course_kept.proofs.Courses.{stored-moves}
 use Rattle.window_entering.specs.Backup.{IsBackupFor}

@@ -1,20 +1,20 @@
 -- What entering a window leaves, by how far its section came.
 use Rattle.std.proofs.Common.{◌≡◌, ◌≢◌, ◌⊎◌, inl, inr, ℕ, ◌+◌, ◌<◌, Bool, true, false, Option, Some, None, List, refl, sym, ◌∙◌, ap, subst, arith}
 use Rattle.std.specs.Prelude.{MatchOption, Result, Ok, Err, IsErr, is_some}
-use Rattle.md_base.specs.Sectors.{Sector}
-use Rattle.md_base.specs.declared.answers.Refusal.{Refusal}
-use Rattle.md_base.specs.declared.answers.Refusal.TheVariants.{BackupFault}
-use Rattle.md_base.specs.declared.places.Span.{Span}
-use Rattle.bank.specs.declared.bank.Operation.{Operation}
-use Rattle.bank.specs.Given.{Given, IsFaulted, NeverFalls}
-use Rattle.bank.specs.Tape.{disk}
-use Rattle.bank.proofs.Causes.{faulted_longer}
-use Rattle.superblocks.specs.declared.members.Members.{Members}
-use Rattle.superblocks.specs.Reading.{Scope, data_offset_of}
+use Rattle.region_rows.specs.md_base_Sectors.{Sector}
+use Rattle.region_rows.specs.md_base_the_Refusal.{Refusal}
+use Rattle.course_kept.specs.md_base_the_Refusal_TheVariants.{BackupFault}
+use Rattle.region_rows.specs.md_base_the_Span.{Span}
+use Rattle.region_rows.specs.bank_the_Operation.{Operation}
+use Rattle.region_rows.specs.bank_Given.{Given, IsFaulted, NeverFalls}
+use Rattle.region_rows.specs.bank_Tape.{disk}
+use Rattle.course_kept.proofs.bank_Causes.{faulted_longer}
+use Rattle.course_kept.specs.superblocks_the_Members.{Members}
+use Rattle.course_kept.specs.superblocks_Reading.{Scope, data_offset_of}
 use Rattle.course_kept.specs.row_io_Rows.{present, reading_of}
 use Rattle.course_kept.proofs.row_io_Written.{present-same}
-use Rattle.backup.specs.declared.section.SectionFault.{SectionFault}
-use Rattle.backup.specs.declared.section.SectionFault.TheVariants.{Before, Attempted}
+use Rattle.course_kept.specs.backup_the_SectionFault.{SectionFault}
+use Rattle.course_kept.specs.backup_the_SectionFault_TheVariants.{Before, Attempted}
 use Rattle.course_kept.specs.shape_views_Regions.{backup_of, DoWithout}
 use Rattle.course_kept.specs.shape_views_Views.{Disk}
 use Rattle.course_kept.specs.shape_views_Windows.{HasNoSection}
@@ -28,8 +28,8 @@ use Rattle.course_kept.specs.safe_updates_Unused.{IsUnused, IsUnusedKept}
 use Rattle.course_kept.proofs.safe_updates_Unused.{unused-moved, unused-role}
 use Rattle.course_kept.specs.window_rows_Copies.{HasWindow, IsRoomFor}
 use Rattle.course_kept.proofs.window_steps_CopyLaws.{open-alike}
-use Rattle.grow_asked.specs.declared.window.Window.{Window}
-use Rattle.grow_asked.specs.declared.window.Window.TheVariants.{Closed, Entered, Unsure}
+use Rattle.course_kept.specs.grow_asked_the_Window.{Window}
+use Rattle.course_kept.specs.grow_asked_the_Window_TheVariants.{Closed, Entered, Unsure}
 use Rattle.course_kept.specs.Course.{HasWindowIn}
 use Rattle.window_entering.specs.Entering.{window_behind, refusal_in}
 

@@ -2,19 +2,19 @@
 use Rattle.std.proofs.Common.{◌≡◌, ◌⊎◌, inl, inr, ℕ, ◌+◌, ◌-◌, ◌*◌, ◌/◌, ◌<◌, ◌≤◌, nat_le, Bool, true, if◌then◌else◌, Option, Some, None, List, length, refl, sym, ap, subst, arith}
 use Rattle.std.specs.Prelude.{MatchOption, ⊤}
 use Rattle.std.proofs.lemmas.Bool.Decides.{nat_tests}
-use Rattle.md_base.specs.Sectors.{Sector}
-use Rattle.md_base.specs.Shapes.{stripe_sectors}
-use Rattle.md_base.specs.declared.answers.Refusal.{Refusal}
-use Rattle.md_base.specs.declared.places.Shape.{Shape}
-use Rattle.md_base.specs.declared.places.Side.TheVariants.{Old}
-use Rattle.md_base.specs.declared.places.Span.{Span}
-use Rattle.bank.specs.Given.{NeverFalls}
-use Rattle.bank.specs.Tape.{Contents}
-use Rattle.bank.proofs.Causes.{faulted_longer}
-use Rattle.parity.specs.Rows.{sector_of}
-use Rattle.geometry.specs.Geometry as geometry
-use Rattle.superblocks.specs.declared.members.Members.{Members}
-use Rattle.superblocks.specs.Reading.{shape_of, list_length, next_window}
+use Rattle.region_rows.specs.md_base_Sectors.{Sector}
+use Rattle.region_rows.specs.md_base_Shapes.{stripe_sectors}
+use Rattle.region_rows.specs.md_base_the_Refusal.{Refusal}
+use Rattle.region_rows.specs.md_base_the_Shape.{Shape}
+use Rattle.region_rows.specs.md_base_the_Side_TheVariants.{Old}
+use Rattle.region_rows.specs.md_base_the_Span.{Span}
+use Rattle.region_rows.specs.bank_Given.{NeverFalls}
+use Rattle.region_rows.specs.bank_Tape.{Contents}
+use Rattle.course_kept.proofs.bank_Causes.{faulted_longer}
+use Rattle.region_rows.specs.parity_Rows.{sector_of}
+use Rattle.region_rows.specs.geometry_Geometry as geometry
+use Rattle.course_kept.specs.superblocks_the_Members.{Members}
+use Rattle.course_kept.specs.superblocks_Reading.{shape_of, list_length, next_window}
 use Rattle.course_kept.specs.flat_history_Stands.{shape_for}
 use Rattle.course_kept.specs.shape_views_Regions.{AreShapesFit, DoWithout}
 use Rattle.course_kept.specs.shape_views_Windows.{IsShown, ListStands, RowsStand}

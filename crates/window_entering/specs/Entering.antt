@@ -1,12 +1,12 @@
 -- What a window is whose sectors were read, by how far its section came in the backup.
 use Rattle.std.specs.Prelude.{Bool, Option, Some, None, Result, Ok, Err}
-use Rattle.md_base.specs.declared.answers.Refusal.{Refusal}
-use Rattle.md_base.specs.declared.answers.Refusal.TheVariants.{BackupFault}
-use Rattle.md_base.specs.declared.places.Span.{Span}
-use Rattle.backup.specs.declared.section.SectionFault.{SectionFault}
-use Rattle.backup.specs.declared.section.SectionFault.TheVariants.{Before, Attempted}
-use Rattle.grow_asked.specs.declared.window.Window.{Window}
-use Rattle.grow_asked.specs.declared.window.Window.TheVariants.{Closed, Entered, Unsure}
+use Rattle.region_rows.specs.md_base_the_Refusal.{Refusal}
+use Rattle.course_kept.specs.md_base_the_Refusal_TheVariants.{BackupFault}
+use Rattle.region_rows.specs.md_base_the_Span.{Span}
+use Rattle.course_kept.specs.backup_the_SectionFault.{SectionFault}
+use Rattle.course_kept.specs.backup_the_SectionFault_TheVariants.{Before, Attempted}
+use Rattle.course_kept.specs.grow_asked_the_Window.{Window}
+use Rattle.course_kept.specs.grow_asked_the_Window_TheVariants.{Closed, Entered, Unsure}
 
 -- why it isn't entered
 abbrev pub refusal_in : {T : Type 0} → Result T SectionFault → Option Refusal

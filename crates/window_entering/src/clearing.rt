@@ -1,14 +1,14 @@
 //! The header of a section is made plain.
 
 ghost use Rattle.std.specs.Prelude.{◌≡◌, ◌<◌, ◌≤◌, None, Some, IsErr, OnOk, OnErr};
-ghost use Rattle.md_base.specs.Sectors.{Sector};
-ghost use Rattle.md_base.specs.declared.places.Span.{Span};
-ghost use Rattle.bank.specs.Given.{HasCause};
-ghost use Rattle.bank.specs.Tape.{EachMark, IsIn, disk};
-ghost use Rattle.superblocks.specs.Reading.{Scope};
-ghost use Rattle.superblocks.specs.declared.members.Members.{Members};
-ghost use Rattle.backup.specs.Written.{cleared_header};
-ghost use Rattle.backup.specs.Storing.{IsHeading};
+ghost use Rattle.region_rows.specs.md_base_Sectors.{Sector};
+ghost use Rattle.region_rows.specs.md_base_the_Span.{Span};
+ghost use Rattle.region_rows.specs.bank_Given.{HasCause};
+ghost use Rattle.region_rows.specs.bank_Tape.{EachMark, IsIn, disk};
+ghost use Rattle.course_kept.specs.superblocks_Reading.{Scope};
+ghost use Rattle.course_kept.specs.superblocks_the_Members.{Members};
+ghost use Rattle.course_kept.specs.backup_Written.{cleared_header};
+ghost use Rattle.course_kept.specs.backup_Storing.{IsHeading};
 ghost use Rattle.course_kept.specs.flat_history_World.{World};
 ghost use Rattle.course_kept.specs.shape_views_Regions.{open_by};
 ghost use Rattle.course_kept.specs.shape_views_Views.{Ledger};
@@ -17,8 +17,8 @@ ghost use Rattle.course_kept.specs.shape_views_Backups.{IsOpenOrNot};
 ghost use Rattle.course_kept.specs.shape_changes_Safety.{HasLiveSlot};
 ghost use Rattle.course_kept.specs.shape_changes_Steady.{IsSafeOver, KeepsSafe};
 
-use backup::clear_section;
-use bank::{Bank, BankFault};
+use course_kept::{BankFault, clear_section};
+use region_rows::Bank;
 
 /// Makes the header of the backup plain: one that names no section is written and flushed. The slot is read first, since one that
 /// failed before fails at that too; nothing of it is written then.

@@ -1,11 +1,11 @@
 //! The sectors of the next window are read.
 
 ghost use Rattle.std.specs.Prelude.{◌≡◌, ◌⊎◌, ◌-◌, ◌≤◌, ℕ, length, None, Some, MatchOption};
-ghost use Rattle.md_base.specs.Sectors.{Sector};
-ghost use Rattle.bank.specs.Given.{NeverFalls};
-ghost use Rattle.bank.specs.Tape.{disk};
-ghost use Rattle.superblocks.specs.Reading.{is_clean, list_length, next_window, role_count};
-ghost use Rattle.superblocks.specs.Verdict.{AreValidShapes};
+ghost use Rattle.region_rows.specs.md_base_Sectors.{Sector};
+ghost use Rattle.region_rows.specs.bank_Given.{NeverFalls};
+ghost use Rattle.region_rows.specs.bank_Tape.{disk};
+ghost use Rattle.course_kept.specs.superblocks_Reading.{is_clean, list_length, next_window, role_count};
+ghost use Rattle.course_kept.specs.superblocks_Verdict.{AreValidShapes};
 ghost use Rattle.course_kept.specs.row_io_Rows.{present};
 ghost use Rattle.course_kept.specs.flat_history_World.{World};
 ghost use Rattle.course_kept.specs.shape_views_Regions.{DoWithout};
@@ -21,11 +21,9 @@ ghost use Rattle.course_kept.specs.views_Lacking.{AreLostSince, AreTooMany};
 ghost use Rattle.course_kept.specs.safe_updates_Unused.{IsUnusedKept};
 ghost use Rattle.course_kept.specs.window_rows_Copies.{HasWindow, IsRoomFor};
 
-use bank::Bank;
 use course_kept::{newly_vacant, too_many, vacant_roles};
-use md_base::{Refusal, Span};
 use region_rows::fetching::fetch_list;
-use superblocks::Members;
+use region_rows::{Bank, Members, Refusal, Span};
 
 /// The roles and the spares that were lost as a window was read, and why it can't be entered.
 #[derive(Clone, Copy)]

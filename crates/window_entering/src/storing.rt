@@ -1,13 +1,13 @@
 //! A window that was read gets its section: it is stored and named in the backup.
 
 ghost use Rattle.std.specs.Prelude.{◌≡◌, ◌+◌, ◌-◌, ◌<◌, ◌≤◌, Some, Err, OnOk};
-ghost use Rattle.bank.specs.Given.{HasCause};
-ghost use Rattle.bank.specs.Tape.{EachMark, disk};
-ghost use Rattle.superblocks.specs.Reading.{Scope, next_window};
-ghost use Rattle.superblocks.specs.declared.members.Members.{Members};
-ghost use Rattle.backup.specs.declared.section.SectionFault.TheVariants.{Before, Attempted};
-ghost use Rattle.backup.specs.Written.{header_of};
-ghost use Rattle.backup.specs.Storing.{IsStoringOrNaming};
+ghost use Rattle.region_rows.specs.bank_Given.{HasCause};
+ghost use Rattle.region_rows.specs.bank_Tape.{EachMark, disk};
+ghost use Rattle.course_kept.specs.superblocks_Reading.{Scope, next_window};
+ghost use Rattle.course_kept.specs.superblocks_the_Members.{Members};
+ghost use Rattle.course_kept.specs.backup_the_SectionFault_TheVariants.{Before, Attempted};
+ghost use Rattle.course_kept.specs.backup_Written.{header_of};
+ghost use Rattle.course_kept.specs.backup_Storing.{IsStoringOrNaming};
 ghost use Rattle.course_kept.specs.flat_history_World.{World};
 ghost use Rattle.course_kept.specs.shape_views_Regions.{AreShapesFit};
 ghost use Rattle.course_kept.specs.shape_views_Views.{Ledger};
@@ -18,9 +18,8 @@ ghost use Rattle.course_kept.specs.shape_changes_Steady.{IsSafeOver, KeepsSafe};
 ghost use Rattle.course_kept.specs.window_rows_Copies.{IsRoomFor};
 ghost use Rattle.window_entering.specs.Backup.{IsBackupFor};
 
-use backup::{SectionFault, write_section};
-use bank::Bank;
-use md_base::Span;
+use course_kept::{SectionFault, write_section};
+use region_rows::{Bank, Span};
 
 /// Stores the sectors of the next window, which the buffer has, in the backup, and names them there as its section. At Ok that
 /// is active, and the window's rows may be copied.

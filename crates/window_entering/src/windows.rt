@@ -1,12 +1,12 @@
 //! The next window is entered.
 
 ghost use Rattle.std.specs.Prelude.{◌≡◌, ◌≢◌, ◌⊎◌, ◌+◌, ◌-◌, ◌*◌, ◌<◌, ◌≤◌, ℕ, true, length, take, None, Some, IsErr, MatchOption};
-ghost use Rattle.md_base.specs.Sectors.{Sector};
-ghost use Rattle.md_base.specs.declared.answers.Refusal.TheVariants.{BackupFault};
-ghost use Rattle.bank.specs.Given.{IsFaulted, NeverFalls};
-ghost use Rattle.bank.specs.Tape.{disk};
-ghost use Rattle.superblocks.specs.declared.members.Members.{Members};
-ghost use Rattle.superblocks.specs.Reading.{Scope, is_clean, list_length, next_window};
+ghost use Rattle.region_rows.specs.md_base_Sectors.{Sector};
+ghost use Rattle.course_kept.specs.md_base_the_Refusal_TheVariants.{BackupFault};
+ghost use Rattle.region_rows.specs.bank_Given.{IsFaulted, NeverFalls};
+ghost use Rattle.region_rows.specs.bank_Tape.{disk};
+ghost use Rattle.course_kept.specs.superblocks_the_Members.{Members};
+ghost use Rattle.course_kept.specs.superblocks_Reading.{Scope, is_clean, list_length, next_window};
 ghost use Rattle.course_kept.specs.row_io_Rows.{present, reading_of};
 ghost use Rattle.course_kept.specs.flat_history_World.{World};
 ghost use Rattle.course_kept.specs.shape_views_Regions.{AreShapesFit, DoWithout};
@@ -21,18 +21,15 @@ ghost use Rattle.course_kept.specs.views_Rebuilding.{AreSparesFree};
 ghost use Rattle.course_kept.specs.views_Lacking.{AreLostSince, AreOtherRowsKept, AreTooMany};
 ghost use Rattle.course_kept.specs.safe_updates_Unused.{IsUnused};
 ghost use Rattle.course_kept.specs.window_rows_Copies.{IsRoomFor};
-ghost use Rattle.grow_asked.specs.declared.window.Window.TheVariants.{Closed as NoWindow, Entered as IsEnteredWindow, Unsure as IsUnsureWindow};
+ghost use Rattle.course_kept.specs.grow_asked_the_Window_TheVariants.{Closed as NoWindow, Entered as IsEnteredWindow, Unsure as IsUnsureWindow};
 ghost use Rattle.course_kept.specs.Course.{HasWindowIn, IsStored};
 ghost use Rattle.window_entering.specs.Backup.{IsBackupFor};
 ghost use Rattle.window_entering.specs.Entering.{refusal_in, window_behind};
 
 use crate::reading::read_next;
 use crate::storing::store_window;
-use backup::SectionFault;
-use bank::Bank;
-use grow_asked::Window;
-use md_base::{Refusal, Span};
-use superblocks::Members;
+use course_kept::{SectionFault, Window};
+use region_rows::{Bank, Members, Refusal, Span};
 
 // Stores and names the section of the window whose sectors the buffer has, where it is to have one.
 fn store_next<B: Bank>(

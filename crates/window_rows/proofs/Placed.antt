@@ -3,16 +3,16 @@ use Rattle.std.proofs.Common.{◌≡◌, ◌^◌, ◌≤◌, ◌&&◌, nat_le, t
 use Rattle.std.specs.Prelude.{IsTrue}
 use Rattle.std.proofs.lemmas.Bool.{and_parts}
 use Rattle.std.proofs.lemmas.Bool.Decides.{nat_tests}
-use Rattle.md_base.specs.declared.places.Shape.{Shape}
-use Rattle.md_base.specs.Shapes.{is_valid_shape, is_multiple}
-use Rattle.bank.specs.Given.{Given}
+use Rattle.layout.specs.md_base_the_Shape.{Shape}
+use Rattle.layout.specs.md_base_Shapes.{is_valid_shape, is_multiple}
+use Rattle.reshape_ends.specs.bank_Given.{Given}
 use Rattle.layout.proofs.Limits.{limited}
-use Rattle.geometry.specs.Geometry.{is_size}
-use Rattle.superblocks.specs.declared.members.Members.{Members}
-use Rattle.superblocks.specs.Reading.{Scope, shape_of, final_shape}
-use Rattle.row_io.specs.Rows.{reading_of}
-use Rattle.list_io.specs.Calls.{HasRows}
-use Rattle.shape_changes.specs.shape_views_Regions.{ArePlaced}
+use Rattle.reshape_ends.specs.geometry_Geometry.{is_size}
+use Rattle.reshape_ends.specs.superblocks_the_Members.{Members}
+use Rattle.reshape_ends.specs.superblocks_Reading.{Scope, shape_of, final_shape}
+use Rattle.reshape_ends.specs.row_io_Rows.{reading_of}
+use Rattle.reshape_ends.specs.list_io_Calls.{HasRows}
+use Rattle.reshape_ends.specs.shape_views_Regions.{ArePlaced}
 use Rattle.window_rows.specs.Laws.{PlacedHaveRows}
 
 module _ (scope : Scope) (given : Given) (m : Members) (placed : ArePlaced scope given m) where

@@ -3,27 +3,27 @@ use Rattle.std.proofs.Common.{◌≡◌, inl, inr, ℕ, ◌+◌, ◌-◌, ◌<�
 use Rattle.std.specs.Int.{◌∣◌}
 use Rattle.std.proofs.lemmas.Bool.{cases_lt}
 use Rattle.std.proofs.lemmas.Bool.Decides.{nat_tests}
-use Rattle.md_base.specs.declared.places.Shape.{Shape}
-use Rattle.md_base.specs.declared.places.Span.{Span}
-use Rattle.md_base.specs.declared.places.Side.TheVariants.{Old}
-use Rattle.md_base.specs.Sectors.{Sector}
-use Rattle.bank.specs.Tape.{Contents}
+use Rattle.layout.specs.md_base_the_Shape.{Shape}
+use Rattle.layout.specs.md_base_the_Span.{Span}
+use Rattle.layout.specs.md_base_the_Side_TheVariants.{Old}
+use Rattle.layout.specs.md_base_Sectors.{Sector}
+use Rattle.reshape_ends.specs.bank_Tape.{Contents}
 use Rattle.layout.specs.Layout.{place}
-use Rattle.geometry.specs.Geometry.{unit, list_end, side, window, row_at, IsIn}
-use Rattle.geometry.proofs.Divisions.{quotient}
-use Rattle.geometry.proofs.Valid.{the_unit}
-use Rattle.region_laws.specs.Regions.{IsUnderWay}
-use Rattle.region_laws.proofs.RegionLaws.{by-old, forward-is, backward-is, new-ahead, new-behind}
-use Rattle.superblocks.specs.declared.members.Members.{Members}
-use Rattle.superblocks.specs.Reading.{is_backward, shape_of, final_shape, list_length, next_window, data_offset_of}
-use Rattle.row_io.specs.Rows.{reading_of, is_held, held_sector}
-use Rattle.list_io.specs.Full.{DataStands}
-use Rattle.list_io.specs.Calls.{IsListed}
-use Rattle.shape_changes.specs.flat_history_Stands.{shape_for}
-use Rattle.shape_changes.specs.shape_views_Regions.{AreShapesFit}
-use Rattle.shape_changes.specs.shape_views_Windows.{ListStands}
-use Rattle.shape_changes.proofs.shape_views_Stands.{StandsAt, data-from}
-use Rattle.shape_changes.proofs.shape_views_UnderWay.{is-reshaping, window-is, under-way, shape-on, side-or}
+use Rattle.reshape_ends.specs.geometry_Geometry.{unit, list_end, side, window, row_at, IsIn}
+use Rattle.reshape_ends.proofs.geometry_Divisions.{quotient}
+use Rattle.reshape_ends.proofs.geometry_Valid.{the_unit}
+use Rattle.reshape_ends.specs.region_laws_Regions.{IsUnderWay}
+use Rattle.reshape_ends.proofs.region_laws_RegionLaws.{by-old, forward-is, backward-is, new-ahead, new-behind}
+use Rattle.reshape_ends.specs.superblocks_the_Members.{Members}
+use Rattle.reshape_ends.specs.superblocks_Reading.{is_backward, shape_of, final_shape, list_length, next_window, data_offset_of}
+use Rattle.reshape_ends.specs.row_io_Rows.{reading_of, is_held, held_sector}
+use Rattle.reshape_ends.specs.list_io_Full.{DataStands}
+use Rattle.reshape_ends.specs.list_io_Calls.{IsListed}
+use Rattle.reshape_ends.specs.flat_history_Stands.{shape_for}
+use Rattle.reshape_ends.specs.shape_views_Regions.{AreShapesFit}
+use Rattle.reshape_ends.specs.shape_views_Windows.{ListStands}
+use Rattle.reshape_ends.proofs.shape_views_Stands.{StandsAt, data-from}
+use Rattle.reshape_ends.proofs.shape_views_UnderWay.{is-reshaping, window-is, under-way, shape-on, side-or}
 use Rattle.window_rows.specs.Copies.{AreLackingGood}
 
 -- ---- the window's sectors, and those of their rows

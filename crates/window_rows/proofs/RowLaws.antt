@@ -1,16 +1,16 @@
 -- One row of a window: what its bytes have, and what its write leaves.
 use Rattle.std.proofs.Common.{◌≡◌, inl, inr, ℕ, ◌-◌, ◌<◌, true, List, sym, ◌∙◌, ap}
-use Rattle.md_base.specs.declared.places.Shape.{Shape}
-use Rattle.md_base.specs.declared.places.Place.{Place}
-use Rattle.md_base.specs.declared.places.Span.{Span}
-use Rattle.md_base.specs.Sectors.{Sector, zero_sector}
-use Rattle.md_base.specs.Shapes.{is_valid_shape}
+use Rattle.layout.specs.md_base_the_Shape.{Shape}
+use Rattle.layout.specs.md_base_the_Place.{Place}
+use Rattle.layout.specs.md_base_the_Span.{Span}
+use Rattle.layout.specs.md_base_Sectors.{Sector, zero_sector}
+use Rattle.layout.specs.md_base_Shapes.{is_valid_shape}
 use Rattle.layout.specs.Layout.{place}
-use Rattle.geometry.specs.Geometry as geometry
-use Rattle.parity.specs.Rows.{sector_of}
-use Rattle.row_io.specs.Writes.{new_sector}
-use Rattle.list_io.specs.Full.{full_sector}
-use Rattle.list_io.proofs.FullLaws.{data_here, full-data, new-full}
+use Rattle.reshape_ends.specs.geometry_Geometry as geometry
+use Rattle.reshape_ends.specs.parity_Rows.{sector_of}
+use Rattle.reshape_ends.specs.row_io_Writes.{new_sector}
+use Rattle.reshape_ends.specs.list_io_Full.{full_sector}
+use Rattle.reshape_ends.proofs.list_io_FullLaws.{data_here, full-data, new-full}
 use Rattle.window_rows.specs.Copies.{IsCopied, IsOwnRow, HasFullData}
 
 -- a sector of the window that lies in the buffer is the full one of its place

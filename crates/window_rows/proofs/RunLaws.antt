@@ -4,26 +4,26 @@ use Rattle.std.proofs.lemmas.Bool.{cases_eq}
 use Rattle.std.proofs.lemmas.Bool.Decides.{nat_tests}
 use Rattle.std.proofs.lemmas.List.{drop-drop}
 use Rattle.std.proofs.lemmas.Nat.{le_or_l}
-use Rattle.md_base.specs.declared.places.Shape.{Shape}
-use Rattle.md_base.specs.Sectors.{Sector}
-use Rattle.md_base.specs.Shapes.{has_slot}
-use Rattle.bank.specs.Given.{Given}
-use Rattle.bank.specs.declared.bank.Operation.{Operation}
-use Rattle.bank.specs.declared.bank.Operation.TheVariants.{Write}
-use Rattle.bank.specs.Tape.{Contents, EachMark, disk, run, choices, writes}
-use Rattle.bank.proofs.Laws.{disk-append, choices_after-write_here, choices_after-write_other}
-use Rattle.bank.proofs.Marks.{Along, each_mark-along, each_mark-map, each_mark-then, each_mark-told}
-use Rattle.parity.specs.Rows.{sector_of}
-use Rattle.superblocks.specs.declared.members.Members.{Members}
-use Rattle.superblocks.specs.Reading.{Reading, role_state, holder, data_offset_of}
-use Rattle.row_io.specs.Rows.{present, reading_of, members_without}
-use Rattle.row_io.specs.Writes.{AreApart}
-use Rattle.row_io.proofs.Losses.{holder-of, holder-after, state_after, state_kept}
-use Rattle.row_io.proofs.Turns.{marks_last}
-use Rattle.row_io.proofs.Written.{present-is, present-same}
-use Rattle.list_io.specs.Buffers.{buffered}
-use Rattle.list_io.specs.Full.{full_sector}
-use Rattle.list_io.specs.Writing.{IsFull, IsRowKept}
+use Rattle.layout.specs.md_base_the_Shape.{Shape}
+use Rattle.layout.specs.md_base_Sectors.{Sector}
+use Rattle.layout.specs.md_base_Shapes.{has_slot}
+use Rattle.reshape_ends.specs.bank_Given.{Given}
+use Rattle.reshape_ends.specs.bank_the_Operation.{Operation}
+use Rattle.reshape_ends.specs.bank_the_Operation_TheVariants.{Write}
+use Rattle.reshape_ends.specs.bank_Tape.{Contents, EachMark, disk, run, choices, writes}
+use Rattle.reshape_ends.proofs.bank_Laws.{disk-append, choices_after-write_here, choices_after-write_other}
+use Rattle.reshape_ends.proofs.bank_Marks.{Along, each_mark-along, each_mark-map, each_mark-then, each_mark-told}
+use Rattle.reshape_ends.specs.parity_Rows.{sector_of}
+use Rattle.reshape_ends.specs.superblocks_the_Members.{Members}
+use Rattle.reshape_ends.specs.superblocks_Reading.{Reading, role_state, holder, data_offset_of}
+use Rattle.reshape_ends.specs.row_io_Rows.{present, reading_of, members_without}
+use Rattle.reshape_ends.specs.row_io_Writes.{AreApart}
+use Rattle.reshape_ends.proofs.row_io_Losses.{holder-of, holder-after, state_after, state_kept}
+use Rattle.reshape_ends.proofs.row_io_Turns.{marks_last}
+use Rattle.reshape_ends.proofs.row_io_Written.{present-is, present-same}
+use Rattle.reshape_ends.specs.list_io_Buffers.{buffered}
+use Rattle.reshape_ends.specs.list_io_Full.{full_sector}
+use Rattle.reshape_ends.specs.list_io_Writing.{IsFull, IsRowKept}
 use Rattle.window_rows.specs.Copies.{IsChangedAt, IsRowsPlace}
 use Rattle.window_rows.specs.Runs.{reach, HasRun, IsRolePlace}
 

@@ -2,31 +2,31 @@
 use Rattle.std.proofs.Common.{◌≡◌, ◌⊎◌, inl, inr, ℕ, ◌+◌, ◌-◌, ◌*◌, ◌/◌, ◌<◌, ◌≤◌, true, List, get_or, Some, sym, subst, arith}
 use Rattle.std.proofs.lemmas.Bool.{cases_lt}
 use Rattle.std.proofs.lemmas.List.{length-replicate, get_or-replicate, get_or_past}
-use Rattle.md_base.specs.declared.places.Shape.{Shape}
-use Rattle.md_base.specs.declared.places.Span.{Span}
-use Rattle.md_base.specs.Sectors.{Sector, IsSector, zero_sector}
-use Rattle.md_base.specs.Shapes.{is_valid_shape, is_multiple, data_disks, stripe_sectors}
-use Rattle.bank.specs.Given.{Given}
-use Rattle.bank.specs.declared.bank.Operation.{Operation}
-use Rattle.bank.specs.Tape.{Contents, EachMark, IsIn, disk}
+use Rattle.layout.specs.md_base_the_Shape.{Shape}
+use Rattle.layout.specs.md_base_the_Span.{Span}
+use Rattle.layout.specs.md_base_Sectors.{Sector, IsSector, zero_sector}
+use Rattle.layout.specs.md_base_Shapes.{is_valid_shape, is_multiple, data_disks, stripe_sectors}
+use Rattle.reshape_ends.specs.bank_Given.{Given}
+use Rattle.reshape_ends.specs.bank_the_Operation.{Operation}
+use Rattle.reshape_ends.specs.bank_Tape.{Contents, EachMark, IsIn, disk}
 use Rattle.layout.specs.Layout.{place}
 use Rattle.layout.proofs.Places.{chunk_some, place-sector_below}
-use Rattle.geometry.specs.Geometry.{ceiling, rows}
-use Rattle.geometry.specs.Geometry as geometry
-use Rattle.geometry.proofs.Divisions.{next_multiple, quotient}
-use Rattle.geometry.proofs.Rows.{rows_hold}
+use Rattle.reshape_ends.specs.geometry_Geometry.{ceiling, rows}
+use Rattle.reshape_ends.specs.geometry_Geometry as geometry
+use Rattle.reshape_ends.proofs.geometry_Divisions.{next_multiple, quotient}
+use Rattle.reshape_ends.proofs.geometry_Rows.{rows_hold}
 use Rattle.std.proofs.Math.Nat.{mul-le-mul_right}
-use Rattle.superblocks.specs.declared.members.Members.{Members}
-use Rattle.superblocks.specs.Reading.{Reading, final_shape, list_length, next_window}
-use Rattle.row_io.specs.Rows.{reading_of, members_without}
-use Rattle.row_io.proofs.NewRow.{whole_sector}
-use Rattle.list_io.specs.Full.{AreWholeIn, RowStands}
-use Rattle.list_io.specs.Writing.{IsFull, IsRowKept, AreBehind, AreSuperblocksKept}
-use Rattle.list_io.proofs.PutLaws.{full_later, kept_then, full_stands}
-use Rattle.shape_changes.specs.shape_views_Regions.{AreShapesFit}
-use Rattle.shape_changes.specs.shape_views_Windows.{IsLess, IsWrittenAt, IsWindowPlace, IsCopying}
-use Rattle.shape_changes.proofs.shape_views_UnderWay.{window-row}
-use Rattle.shape_changes.specs.Updates.{IsPastPlace}
+use Rattle.reshape_ends.specs.superblocks_the_Members.{Members}
+use Rattle.reshape_ends.specs.superblocks_Reading.{Reading, final_shape, list_length, next_window}
+use Rattle.reshape_ends.specs.row_io_Rows.{reading_of, members_without}
+use Rattle.reshape_ends.proofs.row_io_NewRow.{whole_sector}
+use Rattle.reshape_ends.specs.list_io_Full.{AreWholeIn, RowStands}
+use Rattle.reshape_ends.specs.list_io_Writing.{IsFull, IsRowKept, AreBehind, AreSuperblocksKept}
+use Rattle.reshape_ends.proofs.list_io_PutLaws.{full_later, kept_then, full_stands}
+use Rattle.reshape_ends.specs.shape_views_Regions.{AreShapesFit}
+use Rattle.reshape_ends.specs.shape_views_Windows.{IsLess, IsWrittenAt, IsWindowPlace, IsCopying}
+use Rattle.reshape_ends.proofs.shape_views_UnderWay.{window-row}
+use Rattle.reshape_ends.specs.shape_changes_Updates.{IsPastPlace}
 use Rattle.window_rows.proofs.RunLaws.{marks_then}
 use Rattle.window_rows.specs.Copies.{IsRoomFor, tail_of, IsCopied, IsZeroIn, IsOwnRow, IsStripeOf, IsPastStripe, IsChangedAt, IsRowsPlace}
 

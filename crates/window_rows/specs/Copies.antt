@@ -1,18 +1,18 @@
 -- The rows that the copy of a window writes, and those that are zeroed behind the list: by which list they stand, and what a stop may leave of them.
 use Rattle.std.specs.Prelude.{◌≡◌, ◌⊎◌, ℕ, ◌+◌, ◌-◌, ◌*◌, ◌/◌, ◌<◌, ◌≤◌, false, List, length, Some}
-use Rattle.md_base.specs.declared.places.Shape.{Shape}
-use Rattle.md_base.specs.declared.places.Span.{Span}
-use Rattle.md_base.specs.Sectors.{Sector, zero_sector}
-use Rattle.md_base.specs.Shapes.{data_disks, stripe_sectors}
-use Rattle.sb1.specs.declared.sb.Sb.{Sb}
-use Rattle.bank.specs.Tape.{Contents}
+use Rattle.layout.specs.md_base_the_Shape.{Shape}
+use Rattle.layout.specs.md_base_the_Span.{Span}
+use Rattle.layout.specs.md_base_Sectors.{Sector, zero_sector}
+use Rattle.layout.specs.md_base_Shapes.{data_disks, stripe_sectors}
+use Rattle.reshape_ends.specs.sb1_the_Sb.{Sb}
+use Rattle.reshape_ends.specs.bank_Tape.{Contents}
 use Rattle.layout.specs.Layout.{place, row_roles}
-use Rattle.geometry.specs.Geometry.{ceiling, IsIn}
-use Rattle.parity.specs.Rows.{sector_of}
-use Rattle.superblocks.specs.Reading.{Reading, final_shape, list_length, role_state, holder, data_offset_of}
-use Rattle.row_io.specs.Rows.{is_held}
-use Rattle.row_io.specs.Writes.{is_parity}
-use Rattle.list_io.specs.Full.{full_sector, RowStands}
+use Rattle.reshape_ends.specs.geometry_Geometry.{ceiling, IsIn}
+use Rattle.reshape_ends.specs.parity_Rows.{sector_of}
+use Rattle.reshape_ends.specs.superblocks_Reading.{Reading, final_shape, list_length, role_state, holder, data_offset_of}
+use Rattle.reshape_ends.specs.row_io_Rows.{is_held}
+use Rattle.reshape_ends.specs.row_io_Writes.{is_parity}
+use Rattle.reshape_ends.specs.list_io_Full.{full_sector, RowStands}
 
 -- ---- the list
 

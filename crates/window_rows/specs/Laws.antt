@@ -1,10 +1,10 @@
 -- What members have that are placed by one shape or by two.
-use Rattle.bank.specs.Given.{Given}
-use Rattle.superblocks.specs.declared.members.Members.{Members}
-use Rattle.superblocks.specs.Reading.{Scope, shape_of, final_shape}
-use Rattle.row_io.specs.Rows.{reading_of}
-use Rattle.list_io.specs.Calls.{HasRows}
-use Rattle.shape_changes.specs.shape_views_Regions.{ArePlaced}
+use Rattle.reshape_ends.specs.bank_Given.{Given}
+use Rattle.reshape_ends.specs.superblocks_the_Members.{Members}
+use Rattle.reshape_ends.specs.superblocks_Reading.{Scope, shape_of, final_shape}
+use Rattle.reshape_ends.specs.row_io_Rows.{reading_of}
+use Rattle.reshape_ends.specs.list_io_Calls.{HasRows}
+use Rattle.reshape_ends.specs.shape_views_Regions.{ArePlaced}
 
 -- They have the rows of both.
 abbrev pub PlacedHaveRows : Type 0

@@ -1,8 +1,8 @@
 -- Runs of rows: a role's sectors of rows one after another.
 use Rattle.std.specs.Prelude.{◌≡◌, ℕ, ◌+◌, ◌<◌, ◌≤◌, ◌==◌, if◌then◌else◌, Some}
-use Rattle.md_base.specs.Sectors.{Sector}
-use Rattle.bank.specs.Tape.{Contents}
-use Rattle.superblocks.specs.Reading.{Reading, role_state, holder, data_offset_of}
+use Rattle.layout.specs.md_base_Sectors.{Sector}
+use Rattle.reshape_ends.specs.bank_Tape.{Contents}
+use Rattle.reshape_ends.specs.superblocks_Reading.{Reading, role_state, holder, data_offset_of}
 
 -- how many of these rows are written further: all, or, once a slot is lost, the first alone
 abbrev pub reach : ℕ → ℕ → ℕ

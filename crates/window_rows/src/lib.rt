@@ -7,6 +7,13 @@ mod rows;
 mod runs;
 mod stripes;
 
+pub use layout::{Refusal, Shape, Span};
 pub use reads::read_window;
+pub use reshape_ends::{
+    Bank, Finished, Members, Outcome, SectionFault, Unavailable, begin, finish, flush_and_record,
+    flush_naming, give_role, has_unnamed, holders, is_spare, is_vacant, list_length, name_missing,
+    newly_vacant, record_position, settle, too_many, unread, unwritten, vacant_roles, without,
+    write_section,
+};
 pub use rows::window_row;
 pub use stripes::{Copied, copy_stripe, zero_stripe};

@@ -1,18 +1,16 @@
 //! The sectors of a window, read by the old shape.
 
 ghost use Rattle.std.specs.Prelude.{◌≡◌, ◌*◌, ◌/◌, ◌≤◌, ℕ, true, length, Some, None, OnOk};
-ghost use Rattle.md_base.specs.Sectors.{Sector};
-ghost use Rattle.superblocks.specs.Reading.{shape_of, next_window};
-ghost use Rattle.row_io.specs.Rows.{present, reading_of};
-ghost use Rattle.list_io.specs.Calls.{HasRows, AreLost, IsAnswer, IsAsked};
-ghost use Rattle.shape_changes.specs.shape_views_Regions.{AreShapesFit};
-ghost use Rattle.shape_changes.specs.shape_views_Windows.{ListStands};
+ghost use Rattle.layout.specs.md_base_Sectors.{Sector};
+ghost use Rattle.reshape_ends.specs.superblocks_Reading.{shape_of, next_window};
+ghost use Rattle.reshape_ends.specs.row_io_Rows.{present, reading_of};
+ghost use Rattle.reshape_ends.specs.list_io_Calls.{HasRows, AreLost, IsAnswer, IsAsked};
+ghost use Rattle.reshape_ends.specs.shape_views_Regions.{AreShapesFit};
+ghost use Rattle.reshape_ends.specs.shape_views_Windows.{ListStands};
 ghost use Rattle.window_rows.specs.Copies.{HasWindow, IsRoomFor, AreLackingGood};
 
-use bank::Bank;
-use list_io::{Outcome, read_list};
-use md_base::{Shape, Span};
-use superblocks::Members;
+use layout::{Shape, Span};
+use reshape_ends::{Bank, Members, Outcome, read_list};
 
 /// Reads the sectors of the next window into the buffer, by the old shape: each from the slot that holds it, or, in a synced
 /// array, filled in from its row, for which there is room in `scratch`. A slot that fails is lost, and so is its role.

@@ -1,18 +1,17 @@
 //! One row of the new shape, made of the window's sectors.
 
 ghost use Rattle.std.specs.Prelude.{◌≡◌, ◌≢◌, ◌+◌, ◌-◌, ◌*◌, ◌^◌, ◌<◌, ◌≤◌, ℕ, true, false, length, IsTrue};
-ghost use Rattle.md_base.specs.declared.places.Span.{Span};
-ghost use Rattle.md_base.specs.Sectors.{Sector, zero_sector};
-ghost use Rattle.md_base.specs.Shapes.{is_valid_shape};
+ghost use Rattle.layout.specs.md_base_the_Span.{Span};
+ghost use Rattle.layout.specs.md_base_Sectors.{Sector, zero_sector};
+ghost use Rattle.layout.specs.md_base_Shapes.{is_valid_shape};
 ghost use Rattle.layout.specs.Layout.{row_roles};
-ghost use Rattle.geometry.specs.Geometry.{IsIn};
-ghost use Rattle.parity.specs.Rows.{IsRowOf, sector_of};
-ghost use Rattle.row_io.specs.Writes.{is_parity};
-ghost use Rattle.list_io.specs.Full.{full_sector};
+ghost use Rattle.reshape_ends.specs.geometry_Geometry.{IsIn};
+ghost use Rattle.reshape_ends.specs.parity_Rows.{IsRowOf, sector_of};
+ghost use Rattle.reshape_ends.specs.row_io_Writes.{is_parity};
+ghost use Rattle.reshape_ends.specs.list_io_Full.{full_sector};
 ghost use Rattle.window_rows.specs.Copies.{IsRoomFor, IsCopied, IsOwnRow, HasFullData};
 
-use layout::at;
-use md_base::{Shape, Span};
+use layout::{Shape, Span, at};
 
 // Whether the sector is one of the window.
 fn contains(span: &Span, x: u64) -> bool

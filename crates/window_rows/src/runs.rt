@@ -1,28 +1,24 @@
 //! A run of rows: a role's sectors of rows one after another, written in one call.
 
 ghost use Rattle.std.specs.Prelude.{◌≡◌, ◌⊎◌, ◌+◌, ◌*◌, ◌/◌, ◌^◌, ◌<◌, ◌≤◌, ℕ, length, IsTrue};
-ghost use Rattle.bank.specs.Tape.{EachMark, disk};
-ghost use Rattle.md_base.specs.declared.places.Span.{Span};
-ghost use Rattle.md_base.specs.Sectors.{Sector, IsWhole};
-ghost use Rattle.md_base.specs.Shapes.{is_valid_shape};
-ghost use Rattle.parity.specs.Rows.{IsRowOf, sector_of};
-ghost use Rattle.superblocks.specs.Reading.{holder, role_state};
-ghost use Rattle.row_io.specs.Rows.{present, reading_of};
-ghost use Rattle.row_io.specs.Writes.{new_sector, AreApart};
-ghost use Rattle.list_io.specs.Buffers.{buffered};
-ghost use Rattle.list_io.specs.Calls.{HasRows, AreLost};
-ghost use Rattle.list_io.specs.Full.{full_sector};
-ghost use Rattle.list_io.specs.Writing.{IsFull, IsRowKept};
+ghost use Rattle.reshape_ends.specs.bank_Tape.{EachMark, disk};
+ghost use Rattle.layout.specs.md_base_the_Span.{Span};
+ghost use Rattle.layout.specs.md_base_Sectors.{Sector, IsWhole};
+ghost use Rattle.layout.specs.md_base_Shapes.{is_valid_shape};
+ghost use Rattle.reshape_ends.specs.parity_Rows.{IsRowOf, sector_of};
+ghost use Rattle.reshape_ends.specs.superblocks_Reading.{holder, role_state};
+ghost use Rattle.reshape_ends.specs.row_io_Rows.{present, reading_of};
+ghost use Rattle.reshape_ends.specs.row_io_Writes.{new_sector, AreApart};
+ghost use Rattle.reshape_ends.specs.list_io_Buffers.{buffered};
+ghost use Rattle.reshape_ends.specs.list_io_Calls.{HasRows, AreLost};
+ghost use Rattle.reshape_ends.specs.list_io_Full.{full_sector};
+ghost use Rattle.reshape_ends.specs.list_io_Writing.{IsFull, IsRowKept};
 ghost use Rattle.window_rows.specs.Copies.{IsRoomFor, IsCopied, IsOwnRow, IsChangedAt, IsRowsPlace};
 ghost use Rattle.window_rows.specs.Runs.{reach, HasRun, IsRolePlace};
 
 use crate::rows::{copy_sector, window_row};
-use bank::Bank;
-use layout::row_of;
-use md_base::{Role, Shape, Span};
-use parity::syndromes;
-use row_io::{data_offset, lose_slot};
-use superblocks::Members;
+use layout::{Role, Shape, Span, row_of};
+use reshape_ends::{Bank, Members, data_offset, lose_slot, syndromes};
 
 /// The bytes that each row has in a buffer of many: room for 16 sectors.
 const ROW_BYTES: usize = 8192;

@@ -1,25 +1,23 @@
 //! Stripes of the new shape: those of a window are written from its buffer, and those behind the list as zeros.
 
 ghost use Rattle.std.specs.Prelude.{◌≡◌, ◌⊎◌, ◌+◌, ◌*◌, ◌<◌, ◌≤◌, ℕ, true, length, Some, OnOk};
-ghost use Rattle.bank.specs.Tape.{EachMark, disk};
-ghost use Rattle.md_base.specs.declared.places.Span.{Span};
-ghost use Rattle.md_base.specs.Sectors.{Sector};
-ghost use Rattle.superblocks.specs.Reading.{final_shape, list_length, next_window};
-ghost use Rattle.row_io.specs.Rows.{present, reading_of};
-ghost use Rattle.row_io.specs.Writes.{AreApart};
-ghost use Rattle.list_io.specs.Calls.{HasRows, AreLost, IsAnswer};
-ghost use Rattle.list_io.specs.Full.{RowStands};
-ghost use Rattle.list_io.specs.Writing.{IsFull, IsRowKept, AreBehind, AreSuperblocksKept};
-ghost use Rattle.shape_changes.specs.shape_views_Regions.{AreShapesFit};
-ghost use Rattle.shape_changes.specs.shape_views_Windows.{IsWrittenAt, IsCopying};
-ghost use Rattle.shape_changes.specs.Updates.{IsPastPlace};
+ghost use Rattle.reshape_ends.specs.bank_Tape.{EachMark, disk};
+ghost use Rattle.layout.specs.md_base_the_Span.{Span};
+ghost use Rattle.layout.specs.md_base_Sectors.{Sector};
+ghost use Rattle.reshape_ends.specs.superblocks_Reading.{final_shape, list_length, next_window};
+ghost use Rattle.reshape_ends.specs.row_io_Rows.{present, reading_of};
+ghost use Rattle.reshape_ends.specs.row_io_Writes.{AreApart};
+ghost use Rattle.reshape_ends.specs.list_io_Calls.{HasRows, AreLost, IsAnswer};
+ghost use Rattle.reshape_ends.specs.list_io_Full.{RowStands};
+ghost use Rattle.reshape_ends.specs.list_io_Writing.{IsFull, IsRowKept, AreBehind, AreSuperblocksKept};
+ghost use Rattle.reshape_ends.specs.shape_views_Regions.{AreShapesFit};
+ghost use Rattle.reshape_ends.specs.shape_views_Windows.{IsWrittenAt, IsCopying};
+ghost use Rattle.reshape_ends.specs.shape_changes_Updates.{IsPastPlace};
 ghost use Rattle.window_rows.specs.Copies.{IsRoomFor, tail_of, IsCopied, IsZeroIn, IsOwnRow, IsStripeOf, IsPastStripe, IsChangedAt, IsRowsPlace};
 
 use crate::runs::{MOST_ROWS, copy_run};
-use bank::Bank;
-use list_io::{Unavailable, are_too_many};
-use md_base::{Shape, Span};
-use superblocks::Members;
+use layout::{Shape, Span};
+use reshape_ends::{Bank, Members, Unavailable, are_too_many};
 
 /// The set of the slots that were lost, how many rows of the stripe are written, and what the call answers.
 #[derive(Drop)]

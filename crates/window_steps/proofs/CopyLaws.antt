@@ -2,37 +2,37 @@
 use Rattle.std.proofs.Common.{◌≡◌, ◌⊎◌, inl, inr, ℕ, ◌+◌, ◌*◌, ◌<◌, ◌≤◌, List, [], ◌∷◌, cond, length, take, take_all, le_refl, Option, Some, None, sym, ◌∙◌, ap, subst, arith}
 use Rattle.std.specs.Prelude.{⊤, MatchOption}
 use Rattle.std.proofs.lemmas.Bool.{cases_lt}
-use Rattle.md_base.specs.Sectors.{Sector}
-use Rattle.md_base.specs.declared.places.Shape.{Shape}
-use Rattle.md_base.specs.declared.places.Span.{Span}
-use Rattle.bank.specs.declared.bank.Operation.{Operation}
-use Rattle.bank.specs.Given.{Given}
-use Rattle.bank.specs.Tape.{Contents, EachMark, IsIn, Kept, disk}
-use Rattle.sb1.specs.declared.sb.Sb.{Sb}
-use Rattle.geometry.specs.Geometry.{window, is_critical, IsIn as IsIn_span}
-use Rattle.md_base.specs.Shapes.{data_disks}
-use Rattle.md_base.specs.declared.answers.Refusal.{Refusal}
-use Rattle.safe_updates.specs.shape_views_Regions.{DoWithout}
-use Rattle.safe_updates.specs.views_Lacking.{AreTooMany}
-use Rattle.safe_updates.proofs.views_Fit.{list-alike}
+use Rattle.window_rows.specs.md_base_Sectors.{Sector}
+use Rattle.window_rows.specs.md_base_the_Shape.{Shape}
+use Rattle.window_rows.specs.md_base_the_Span.{Span}
+use Rattle.window_rows.specs.bank_the_Operation.{Operation}
+use Rattle.window_rows.specs.bank_Given.{Given}
+use Rattle.window_rows.specs.bank_Tape.{Contents, EachMark, IsIn, Kept, disk}
+use Rattle.window_rows.specs.sb1_the_Sb.{Sb}
+use Rattle.window_rows.specs.geometry_Geometry.{window, is_critical, IsIn as IsIn_span}
+use Rattle.window_rows.specs.md_base_Shapes.{data_disks}
+use Rattle.window_rows.specs.md_base_the_Refusal.{Refusal}
+use Rattle.window_rows.specs.shape_views_Regions.{DoWithout}
+use Rattle.window_rows.specs.views_Lacking.{AreTooMany}
+use Rattle.window_rows.proofs.views_Fit.{list-alike}
 use Rattle.window_rows.specs.Copies.{tail_of, IsCopied}
-use Rattle.superblocks.specs.declared.members.Members.{Members}
-use Rattle.superblocks.specs.Reading.{Scope, is_backward, shape_of, final_shape, next_window, data_offset_of}
-use Rattle.safe_updates.specs.row_io_Rows.{reading_of, held_slot, members_without}
-use Rattle.safe_updates.proofs.row_io_Losses.{holder-of}
-use Rattle.list_io.specs.Full.{RowStands}
-use Rattle.list_io.specs.Writing.{AreSuperblocksKept}
-use Rattle.safe_updates.specs.flat_history_ActiveSection.{section_for}
-use Rattle.safe_updates.specs.shape_views_Regions.{backup_of, open_by}
-use Rattle.safe_updates.specs.shape_views_Views.{Disk, Ledger}
-use Rattle.safe_updates.specs.shape_views_Windows.{IsCopying, IsCopyable}
-use Rattle.safe_updates.specs.shape_changes_Steady.{AreHolders, AreUnlost, IsSafeNow, IsSafeStretch}
-use Rattle.safe_updates.proofs.shape_changes_Drawn.{disk-somewhere}
-use Rattle.safe_updates.proofs.shape_changes_Steady.{safe-is-seen}
-use Rattle.safe_updates.specs.views_Placed.{HaveSameReshape}
-use Rattle.safe_updates.specs.views_Moving.{IsMoved}
-use Rattle.safe_updates.specs.views_Lacking.{IsHeldRowKept, AreOtherRowsKept}
-use Rattle.safe_updates.proofs.views_HeldRows.{held-moved}
+use Rattle.window_rows.specs.superblocks_the_Members.{Members}
+use Rattle.window_rows.specs.superblocks_Reading.{Scope, is_backward, shape_of, final_shape, next_window, data_offset_of}
+use Rattle.window_rows.specs.row_io_Rows.{reading_of, held_slot, members_without}
+use Rattle.window_rows.proofs.row_io_Losses.{holder-of}
+use Rattle.window_rows.specs.list_io_Full.{RowStands}
+use Rattle.window_rows.specs.list_io_Writing.{AreSuperblocksKept}
+use Rattle.window_rows.specs.flat_history_ActiveSection.{section_for}
+use Rattle.window_rows.specs.shape_views_Regions.{backup_of, open_by}
+use Rattle.window_rows.specs.shape_views_Views.{Disk, Ledger}
+use Rattle.window_rows.specs.shape_views_Windows.{IsCopying, IsCopyable}
+use Rattle.window_rows.specs.shape_changes_Steady.{AreHolders, AreUnlost, IsSafeNow, IsSafeStretch}
+use Rattle.window_rows.proofs.shape_changes_Drawn.{disk-somewhere}
+use Rattle.window_rows.proofs.shape_changes_Steady.{safe-is-seen}
+use Rattle.window_rows.specs.views_Placed.{HaveSameReshape}
+use Rattle.window_rows.specs.views_Moving.{IsMoved}
+use Rattle.window_rows.specs.views_Lacking.{IsHeldRowKept, AreOtherRowsKept}
+use Rattle.window_rows.proofs.views_HeldRows.{held-moved}
 use Rattle.window_steps.proofs.SteadyLaws.{copying-safe}
 use Rattle.window_steps.specs.Copying.{IsOfStripeFrom}
 

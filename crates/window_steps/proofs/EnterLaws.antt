@@ -2,41 +2,41 @@
 use Rattle.std.proofs.Common.{◌≡◌, inl, inr, ℕ, ◌+◌, ◌-◌, ◌*◌, ◌<◌, ◌≤◌, ◌⊎◌, Bool, true, false, List, [], length, take, drop, Some, Result, Ok, Err, OnOk, refl, sym, ◌∙◌, ap, subst, arith, append-nil}
 use Rattle.std.specs.Prelude.{◌^◌, ⊤}
 use Rattle.std.proofs.lemmas.List.{take_all}
-use Rattle.md_base.specs.declared.places.Shape.{Shape}
-use Rattle.md_base.specs.declared.places.Span.{Span}
-use Rattle.md_base.specs.Sectors.{Sector}
-use Rattle.md_base.specs.Shapes.{is_valid_shape}
-use Rattle.bank.specs.declared.bank.Operation.{Operation}
-use Rattle.bank.specs.Given.{Given, NeverFalls}
-use Rattle.bank.specs.Tape.{Contents, IsIn, EachMark, disk}
-use Rattle.bank.proofs.Causes.{faulted_longer}
-use Rattle.bank.proofs.Marks.{each_mark-along}
-use Rattle.geometry.specs.Geometry.{is_critical}
-use Rattle.parity.specs.Rows.{sector_of}
-use Rattle.sb1.specs.declared.sb.Sb.{Sb}
-use Rattle.superblocks.specs.declared.members.Members.{Members}
-use Rattle.superblocks.specs.Reading.{Scope, Reading, is_backward, shape_of, final_shape, list_length, next_window}
-use Rattle.safe_updates.specs.row_io_Rows.{reading_of, members_without, IsTolerated}
-use Rattle.safe_updates.proofs.row_io_Losses.{holder-after}
-use Rattle.list_io.specs.declared.outcome.Unavailable.{Unavailable}
-use Rattle.list_io.specs.declared.outcome.Unavailable.TheVariants.{TooManyMissing, NotResynced}
-use Rattle.list_io.specs.Calls.{AreLost, IsAnswer}
-use Rattle.backup.specs.Written.{header_of}
-use Rattle.backup.specs.Storing.{nth_sector, IsStoringOrNaming}
-use Rattle.backup.specs.Storing as backup
-use Rattle.safe_updates.specs.shape_views_Regions.{open_by, AreShapesFit}
-use Rattle.safe_updates.specs.shape_views_Views.{Disk, Ledger}
-use Rattle.safe_updates.specs.shape_views_Windows.{HasNoSection, IsCopyable}
-use Rattle.safe_updates.specs.shape_views_Backups.{IsSectionOf, IsOpenUnderAll, IsOpenOrNot, HasSectors}
-use Rattle.safe_updates.proofs.shape_views_BackupLaws.{naming-unsure, named-is-open}
-use Rattle.safe_updates.proofs.shape_views_Stands.{window-inside}
-use Rattle.safe_updates.specs.shape_changes_Safety.{HasLiveSlot}
-use Rattle.safe_updates.specs.shape_changes_Steady.{IsSteady, IsSafeNow, IsSafeStretch, AreHolders, AreUnlost}
-use Rattle.safe_updates.proofs.shape_changes_Drawn.{disk-somewhere}
-use Rattle.safe_updates.proofs.shape_changes_Spent.{live-holder}
-use Rattle.safe_updates.proofs.shape_changes_Steady.{steady-seen, safe-is-seen, losing-stays-safe}
-use Rattle.safe_updates.proofs.views_LiveLeft.{some-held}
-use Rattle.safe_updates.proofs.views_MemberLaws.{unlost-without}
+use Rattle.window_rows.specs.md_base_the_Shape.{Shape}
+use Rattle.window_rows.specs.md_base_the_Span.{Span}
+use Rattle.window_rows.specs.md_base_Sectors.{Sector}
+use Rattle.window_rows.specs.md_base_Shapes.{is_valid_shape}
+use Rattle.window_rows.specs.bank_the_Operation.{Operation}
+use Rattle.window_rows.specs.bank_Given.{Given, NeverFalls}
+use Rattle.window_rows.specs.bank_Tape.{Contents, IsIn, EachMark, disk}
+use Rattle.window_rows.proofs.bank_Causes.{faulted_longer}
+use Rattle.window_rows.proofs.bank_Marks.{each_mark-along}
+use Rattle.window_rows.specs.geometry_Geometry.{is_critical}
+use Rattle.window_rows.specs.parity_Rows.{sector_of}
+use Rattle.window_rows.specs.sb1_the_Sb.{Sb}
+use Rattle.window_rows.specs.superblocks_the_Members.{Members}
+use Rattle.window_rows.specs.superblocks_Reading.{Scope, Reading, is_backward, shape_of, final_shape, list_length, next_window}
+use Rattle.window_rows.specs.row_io_Rows.{reading_of, members_without, IsTolerated}
+use Rattle.window_rows.proofs.row_io_Losses.{holder-after}
+use Rattle.window_rows.specs.list_io_the_Unavailable.{Unavailable}
+use Rattle.window_rows.specs.list_io_the_Unavailable_TheVariants.{TooManyMissing, NotResynced}
+use Rattle.window_rows.specs.list_io_Calls.{AreLost, IsAnswer}
+use Rattle.window_rows.specs.backup_Written.{header_of}
+use Rattle.window_rows.specs.backup_Storing.{nth_sector, IsStoringOrNaming}
+use Rattle.window_rows.specs.backup_Storing as backup
+use Rattle.window_rows.specs.shape_views_Regions.{open_by, AreShapesFit}
+use Rattle.window_rows.specs.shape_views_Views.{Disk, Ledger}
+use Rattle.window_rows.specs.shape_views_Windows.{HasNoSection, IsCopyable}
+use Rattle.window_rows.specs.shape_views_Backups.{IsSectionOf, IsOpenUnderAll, IsOpenOrNot, HasSectors}
+use Rattle.window_rows.proofs.shape_views_BackupLaws.{naming-unsure, named-is-open}
+use Rattle.window_rows.proofs.shape_views_Stands.{window-inside}
+use Rattle.window_rows.specs.shape_changes_Safety.{HasLiveSlot}
+use Rattle.window_rows.specs.shape_changes_Steady.{IsSteady, IsSafeNow, IsSafeStretch, AreHolders, AreUnlost}
+use Rattle.window_rows.proofs.shape_changes_Drawn.{disk-somewhere}
+use Rattle.window_rows.proofs.shape_changes_Spent.{live-holder}
+use Rattle.window_rows.proofs.shape_changes_Steady.{steady-seen, safe-is-seen, losing-stays-safe}
+use Rattle.window_rows.proofs.views_LiveLeft.{some-held}
+use Rattle.window_rows.proofs.views_MemberLaws.{unlost-without}
 use Rattle.window_rows.specs.Copies.{HasWindow, IsRoomFor}
 use Rattle.window_steps.specs.declared.entering.NotEntered.{NotEntered}
 use Rattle.window_steps.specs.declared.entering.NotEntered.TheVariants.{Unread, Unsaved}

@@ -4,81 +4,86 @@ pub mod PastLaws
 pub mod CopyLaws
 pub mod ZeroLaws
 pub mod StripeRows
-pub use Rattle.reshape_updates.proofs.BegunNewest as reshape_updates_BegunNewest
-pub use Rattle.reshape_updates.proofs.BegunPlan as reshape_updates_BegunPlan
-pub use Rattle.reshape_updates.proofs.EndedPlan as reshape_updates_EndedPlan
-pub use Rattle.reshape_updates.proofs.NewRoles as reshape_updates_NewRoles
-pub use Rattle.reshape_updates.proofs.Taken as reshape_updates_Taken
-pub use Rattle.safe_updates.proofs.Under as safe_updates_Under
-pub use Rattle.safe_updates.proofs.Unused as safe_updates_Unused
-pub use Rattle.reshape_updates.proofs.shape_ends_EndLaws
-pub use Rattle.reshape_updates.proofs.shape_ends_GrownLaws
-pub use Rattle.safe_updates.proofs.views_LackingWrites
-pub use Rattle.safe_updates.proofs.views_Fit
-pub use Rattle.safe_updates.proofs.views_MovedLaws
-pub use Rattle.safe_updates.proofs.views_HeldRows
-pub use Rattle.safe_updates.proofs.views_AddedMembers
-pub use Rattle.safe_updates.proofs.shape_changes_LessViews
-pub use Rattle.safe_updates.proofs.shape_views_Headers
-pub use Rattle.safe_updates.proofs.shape_views_Tails
-pub use Rattle.safe_updates.proofs.shape_views_Stands
-pub use Rattle.safe_updates.proofs.shape_views_UnderWay
-pub use Rattle.safe_updates.proofs.shape_views_WindowLaws
-pub use Rattle.safe_updates.proofs.views_LackingLists
-pub use Rattle.safe_updates.proofs.views_SafeStretch
-pub use Rattle.safe_updates.proofs.views_LackingLaws
-pub use Rattle.safe_updates.proofs.views_MendedParts
-pub use Rattle.safe_updates.proofs.shape_changes_Risen
-pub use Rattle.safe_updates.proofs.views_MarkedLaws
-pub use Rattle.safe_updates.proofs.views_LiveLeft
+pub use Rattle.window_rows.proofs.reshape_updates_BegunNewest
+pub use Rattle.window_rows.proofs.reshape_updates_BegunPlan
+pub use Rattle.window_rows.proofs.reshape_updates_EndedPlan
+pub use Rattle.window_rows.proofs.reshape_updates_NewRoles
+pub use Rattle.window_rows.proofs.reshape_updates_Taken
+pub use Rattle.window_rows.proofs.safe_updates_Under
+pub use Rattle.window_rows.proofs.safe_updates_Unused
+pub use Rattle.window_rows.proofs.shape_ends_EndLaws
+pub use Rattle.window_rows.proofs.shape_ends_GrownLaws
+pub use Rattle.window_rows.proofs.views_LackingWrites
+pub use Rattle.window_rows.proofs.views_Fit
+pub use Rattle.window_rows.proofs.views_MovedLaws
+pub use Rattle.window_rows.proofs.views_HeldRows
+pub use Rattle.window_rows.proofs.views_AddedMembers
+pub use Rattle.window_rows.proofs.shape_changes_LessViews
+pub use Rattle.window_rows.proofs.shape_views_Headers
+pub use Rattle.window_rows.proofs.shape_views_Tails
+pub use Rattle.window_rows.proofs.shape_views_Stands
+pub use Rattle.window_rows.proofs.shape_views_UnderWay
+pub use Rattle.window_rows.proofs.shape_views_WindowLaws
+pub use Rattle.window_rows.proofs.views_LackingLists
+pub use Rattle.window_rows.proofs.views_SafeStretch
+pub use Rattle.window_rows.proofs.views_LackingLaws
+pub use Rattle.window_rows.proofs.views_MendedParts
+pub use Rattle.window_rows.proofs.shape_changes_Risen
+pub use Rattle.window_rows.proofs.views_MarkedLaws
+pub use Rattle.window_rows.proofs.views_LiveLeft
 pub use Rattle.window_rows.proofs.ReadLaws as window_rows_ReadLaws
-pub use Rattle.safe_updates.proofs.shape_changes_Drawn
-pub use Rattle.safe_updates.proofs.shape_changes_Steady
-pub use Rattle.safe_updates.proofs.shape_views_BackupLaws
-pub use Rattle.safe_updates.proofs.shape_views_Alike
-pub use Rattle.safe_updates.proofs.views_Stripes
-pub use Rattle.safe_updates.proofs.views_Flushed
-pub use Rattle.safe_updates.proofs.views_MarkedSafe
-pub use Rattle.safe_updates.proofs.views_MarkLaws
-pub use Rattle.safe_updates.proofs.views_SoundViews
-pub use Rattle.safe_updates.proofs.views_Still
-pub use Rattle.safe_updates.proofs.shape_changes_Without
-pub use Rattle.safe_updates.proofs.shape_changes_PlannedRoles
-pub use Rattle.safe_updates.proofs.shape_changes_ChangeSafe
-pub use Rattle.safe_updates.proofs.shape_changes_FitKinds
-pub use Rattle.safe_updates.proofs.shape_changes_ChangeViews
-pub use Rattle.safe_updates.proofs.shape_changes_Started
-pub use Rattle.reshape_updates.proofs.shape_ends_GrownStanding
-pub use Rattle.safe_updates.proofs.views_MarkEnds
-pub use Rattle.safe_updates.proofs.shape_views_SoundViews
-pub use Rattle.safe_updates.proofs.shape_views_Standing
-pub use Rattle.safe_updates.proofs.views_GivenMembers
-pub use Rattle.safe_updates.proofs.views_PlacedLaws
-pub use Rattle.safe_updates.proofs.views_AddedRows
-pub use Rattle.safe_updates.proofs.views_MemberLaws
-pub use Rattle.reshape_updates.proofs.shape_ends_TakenShapes
-pub use Rattle.reshape_updates.proofs.shape_ends_Takeovers
-pub use Rattle.safe_updates.proofs.shape_changes_Kept
-pub use Rattle.list_io.proofs.FullLaws as list_io_FullLaws
-pub use Rattle.safe_updates.proofs.row_io_Losses
-pub use Rattle.list_io.proofs.LossLaws as list_io_LossLaws
-pub use Rattle.list_io.proofs.ListLaws as list_io_ListLaws
-pub use Rattle.safe_updates.proofs.row_io_Written
-pub use Rattle.safe_updates.proofs.row_io_RowBytes
-pub use Rattle.safe_updates.proofs.superblock_laws_Laws
-pub use Rattle.superblocks.proofs.ValidFields as superblocks_ValidFields
-pub use Rattle.safe_updates.proofs.flat_history_SoundLaws
-pub use Rattle.safe_updates.proofs.flat_history_LegalLaws
-pub use Rattle.safe_updates.proofs.superblock_reads_SaidSlots
-pub use Rattle.superblocks.proofs.Searches as superblocks_Searches
-pub use Rattle.safe_updates.proofs.flat_history_OneShapeGone
-pub use Rattle.safe_updates.proofs.flat_history_OneShapeLegal
-pub use Rattle.safe_updates.proofs.flat_history_GoneCounts
-pub use Rattle.superblocks.proofs.ReadLists as superblocks_ReadLists
-pub use Rattle.list_io.proofs.Parities as list_io_Parities
-pub use Rattle.safe_updates.proofs.flat_history_GivenLaws
-pub use Rattle.safe_updates.proofs.row_io_NewRow
-pub use Rattle.safe_updates.proofs.row_io_Lacks
-pub use Rattle.safe_updates.proofs.row_io_Tables
-pub use Rattle.superblocks.proofs.SlotSets as superblocks_SlotSets
-pub use Rattle.safe_updates.proofs.superblock_reads_SaidLists
+pub use Rattle.window_rows.proofs.shape_changes_Drawn
+pub use Rattle.window_rows.proofs.shape_changes_Steady
+pub use Rattle.window_rows.proofs.shape_views_BackupLaws
+pub use Rattle.window_rows.proofs.shape_views_Alike
+pub use Rattle.window_rows.proofs.views_Stripes
+pub use Rattle.window_rows.proofs.views_Flushed
+pub use Rattle.window_rows.proofs.views_MarkedSafe
+pub use Rattle.window_rows.proofs.views_MarkLaws
+pub use Rattle.window_rows.proofs.views_SoundViews
+pub use Rattle.window_rows.proofs.views_Still
+pub use Rattle.window_rows.proofs.shape_changes_Without
+pub use Rattle.window_rows.proofs.shape_changes_PlannedRoles
+pub use Rattle.window_rows.proofs.shape_changes_ChangeSafe
+pub use Rattle.window_rows.proofs.shape_changes_FitKinds
+pub use Rattle.window_rows.proofs.shape_changes_ChangeViews
+pub use Rattle.window_rows.proofs.shape_changes_Started
+pub use Rattle.window_rows.proofs.shape_ends_GrownStanding
+pub use Rattle.window_rows.proofs.views_MarkEnds
+pub use Rattle.window_rows.proofs.shape_views_SoundViews
+pub use Rattle.window_rows.proofs.shape_views_Standing
+pub use Rattle.window_rows.proofs.views_GivenMembers
+pub use Rattle.window_rows.proofs.views_PlacedLaws
+pub use Rattle.window_rows.proofs.views_AddedRows
+pub use Rattle.window_rows.proofs.views_MemberLaws
+pub use Rattle.window_rows.proofs.shape_ends_TakenShapes
+pub use Rattle.window_rows.proofs.shape_ends_Takeovers
+pub use Rattle.window_rows.proofs.shape_changes_Kept
+pub use Rattle.window_rows.proofs.list_io_FullLaws
+pub use Rattle.window_rows.proofs.row_io_Losses
+pub use Rattle.window_rows.proofs.list_io_LossLaws
+pub use Rattle.window_rows.proofs.list_io_ListLaws
+pub use Rattle.window_rows.proofs.row_io_Written
+pub use Rattle.window_rows.proofs.row_io_RowBytes
+pub use Rattle.window_rows.proofs.superblock_laws_Laws
+pub use Rattle.window_rows.proofs.superblocks_ValidFields
+pub use Rattle.window_rows.proofs.flat_history_SoundLaws
+pub use Rattle.window_rows.proofs.flat_history_LegalLaws
+pub use Rattle.window_rows.proofs.superblock_reads_SaidSlots
+pub use Rattle.window_rows.proofs.superblocks_Searches
+pub use Rattle.window_rows.proofs.flat_history_OneShapeGone
+pub use Rattle.window_rows.proofs.flat_history_OneShapeLegal
+pub use Rattle.window_rows.proofs.flat_history_GoneCounts
+pub use Rattle.window_rows.proofs.superblocks_ReadLists
+pub use Rattle.window_rows.proofs.list_io_Parities
+pub use Rattle.window_rows.proofs.flat_history_GivenLaws
+pub use Rattle.window_rows.proofs.row_io_NewRow
+pub use Rattle.window_rows.proofs.row_io_Lacks
+pub use Rattle.window_rows.proofs.row_io_Tables
+pub use Rattle.window_rows.proofs.superblocks_SlotSets
+pub use Rattle.window_rows.proofs.superblock_reads_SaidLists
+pub use Rattle.window_rows.proofs.layout_Limits
+pub use Rattle.window_rows.proofs.reshape_ends_BeginLaws
+pub use Rattle.window_rows.proofs.reshape_ends_Cleared
+pub use Rattle.window_rows.proofs.reshape_ends_FinishLaws
+pub use Rattle.window_rows.proofs.reshape_ends_Made

@@ -2,52 +2,52 @@
 use Rattle.std.proofs.Common.{◌≡◌, inl, inr, ◌+◌, ◌-◌, ◌^◌, ◌<◌, ◌==◌, ◌||◌, ◌&&◌, nat_le, ℕ, Bool, true, false, not, cond, List, [], replicate, Option, Some, None, refl, sym, ◌∙◌, ap, subst, arith}
 use Rattle.std.specs.Option.{option_map_or}
 use Rattle.std.proofs.lemmas.Bool.Decides.{nat_tests}
-use Rattle.md_base.specs.Sectors.{Sector}
-use Rattle.md_base.specs.declared.answers.Refusal.{Refusal}
-use Rattle.md_base.specs.declared.answers.Refusal.TheVariants.{BackupAbsent}
-use Rattle.md_base.specs.declared.places.Shape.{Shape}
-use Rattle.md_base.specs.declared.status.Role.{Role}
-use Rattle.md_base.specs.declared.status.Role.TheVariants.{Whole, Recovering, Missing}
-use Rattle.md_base.specs.declared.places.Span.{Span}
-use Rattle.bank.specs.declared.bank.Operation.{Operation}
-use Rattle.bank.specs.Given.{Given}
-use Rattle.bank.specs.Tape.{Contents, IsIn, disk}
-use Rattle.sb1.specs.Superblock.{checksum}
-use Rattle.sb1.specs.declared.sb.Sb.{Sb}
-use Rattle.geometry.specs.Geometry.{rows, beyond, side}
-use Rattle.geometry.specs.Geometry as geometry
-use Rattle.superblocks.specs.declared.change.Give.TheVariants.{Same}
-use Rattle.superblocks.specs.declared.members.Members.{Members}
-use Rattle.superblocks.specs.Reading.{Scope, is_clean, is_reshaping, shape_of, final_shape, next_window, role_count, rows_held, role_state}
-use Rattle.superblocks.specs.Reads.{SaysSame}
-use Rattle.superblocks.specs.Update.{own_in, planned}
-use Rattle.superblocks.specs.Outcome.{AreStored, IsPlannedOwn, planned_roles}
-use Rattle.safe_updates.specs.row_io_Rows.{present, reading_of}
-use Rattle.list_io.specs.Full.{RowStands}
-use Rattle.safe_updates.specs.flat_history_ActiveSection.{section_for}
-use Rattle.safe_updates.specs.flat_history_Stands.{reach_of}
-use Rattle.safe_updates.specs.shape_views_Regions.{backup_of, open_by, ArePlaced}
-use Rattle.safe_updates.specs.shape_views_Views.{Disk, Ledger, IsHeaderFit, AreHeadersFit, IsViewRight}
-use Rattle.safe_updates.specs.shape_views_Windows.{HasNoSection, moved_past}
-use Rattle.safe_updates.proofs.shape_views_Alike.{shape-alike, final-alike}
-use Rattle.safe_updates.proofs.shape_views_Headers.{backup-is}
-use Rattle.safe_updates.proofs.shape_views_Tails.{moved-tails}
-use Rattle.safe_updates.proofs.shape_views_Stands.{moved-is-placed, moved-stands, moved-rows-stand, flushed-right}
-use Rattle.safe_updates.specs.shape_changes_Kinds.{recording}
-use Rattle.safe_updates.specs.shape_changes_Marking.{AreOthersPresent}
-use Rattle.safe_updates.specs.shape_changes_Steady.{IsSteady, AreGoneTold}
-use Rattle.safe_updates.proofs.shape_changes_Kept.{give_of-same}
-use Rattle.safe_updates.proofs.shape_changes_KeptSafe.{steady-right}
-use Rattle.reshape_updates.proofs.shape_ends_CopyRuns.{fit-headers-plain}
-use Rattle.safe_updates.specs.views_Placed.{IsPlaced, HaveSameReshape, AreLess}
-use Rattle.safe_updates.specs.views_Moving.{IsMoved}
-use Rattle.safe_updates.specs.views_Rebuilding.{AreSparesFree}
-use Rattle.safe_updates.specs.views_Lacking.{HaveFailedSince, AreHoldersFlushed}
-use Rattle.safe_updates.proofs.views_HeldRows.{rows-same, without-before}
-use Rattle.safe_updates.proofs.views_LackingLists.{row-moved}
-use Rattle.safe_updates.proofs.views_MarkLaws.{roles-kept}
-use Rattle.safe_updates.proofs.views_SafeStretch.{gone-before, allowed-later, zeros-alike}
-use Rattle.safe_updates.proofs.Under.{shown-moved, shown-rows-moved}
+use Rattle.window_rows.specs.md_base_Sectors.{Sector}
+use Rattle.window_rows.specs.md_base_the_Refusal.{Refusal}
+use Rattle.window_rows.specs.md_base_the_Refusal_TheVariants.{BackupAbsent}
+use Rattle.window_rows.specs.md_base_the_Shape.{Shape}
+use Rattle.window_rows.specs.md_base_the_Role.{Role}
+use Rattle.window_rows.specs.md_base_the_Role_TheVariants.{Whole, Recovering, Missing}
+use Rattle.window_rows.specs.md_base_the_Span.{Span}
+use Rattle.window_rows.specs.bank_the_Operation.{Operation}
+use Rattle.window_rows.specs.bank_Given.{Given}
+use Rattle.window_rows.specs.bank_Tape.{Contents, IsIn, disk}
+use Rattle.window_rows.specs.sb1_Superblock.{checksum}
+use Rattle.window_rows.specs.sb1_the_Sb.{Sb}
+use Rattle.window_rows.specs.geometry_Geometry.{rows, beyond, side}
+use Rattle.window_rows.specs.geometry_Geometry as geometry
+use Rattle.window_rows.specs.superblocks_the_Give_TheVariants.{Same}
+use Rattle.window_rows.specs.superblocks_the_Members.{Members}
+use Rattle.window_rows.specs.superblocks_Reading.{Scope, is_clean, is_reshaping, shape_of, final_shape, next_window, role_count, rows_held, role_state}
+use Rattle.window_rows.specs.superblocks_Reads.{SaysSame}
+use Rattle.window_rows.specs.superblocks_Update.{own_in, planned}
+use Rattle.window_rows.specs.superblocks_Outcome.{AreStored, IsPlannedOwn, planned_roles}
+use Rattle.window_rows.specs.row_io_Rows.{present, reading_of}
+use Rattle.window_rows.specs.list_io_Full.{RowStands}
+use Rattle.window_rows.specs.flat_history_ActiveSection.{section_for}
+use Rattle.window_rows.specs.flat_history_Stands.{reach_of}
+use Rattle.window_rows.specs.shape_views_Regions.{backup_of, open_by, ArePlaced}
+use Rattle.window_rows.specs.shape_views_Views.{Disk, Ledger, IsHeaderFit, AreHeadersFit, IsViewRight}
+use Rattle.window_rows.specs.shape_views_Windows.{HasNoSection, moved_past}
+use Rattle.window_rows.proofs.shape_views_Alike.{shape-alike, final-alike}
+use Rattle.window_rows.proofs.shape_views_Headers.{backup-is}
+use Rattle.window_rows.proofs.shape_views_Tails.{moved-tails}
+use Rattle.window_rows.proofs.shape_views_Stands.{moved-is-placed, moved-stands, moved-rows-stand, flushed-right}
+use Rattle.window_rows.specs.shape_changes_Kinds.{recording}
+use Rattle.window_rows.specs.shape_changes_Marking.{AreOthersPresent}
+use Rattle.window_rows.specs.shape_changes_Steady.{IsSteady, AreGoneTold}
+use Rattle.window_rows.proofs.shape_changes_Kept.{give_of-same}
+use Rattle.window_rows.proofs.shape_changes_KeptSafe.{steady-right}
+use Rattle.window_rows.proofs.shape_ends_CopyRuns.{fit-headers-plain}
+use Rattle.window_rows.specs.views_Placed.{IsPlaced, HaveSameReshape, AreLess}
+use Rattle.window_rows.specs.views_Moving.{IsMoved}
+use Rattle.window_rows.specs.views_Rebuilding.{AreSparesFree}
+use Rattle.window_rows.specs.views_Lacking.{HaveFailedSince, AreHoldersFlushed}
+use Rattle.window_rows.proofs.views_HeldRows.{rows-same, without-before}
+use Rattle.window_rows.proofs.views_LackingLists.{row-moved}
+use Rattle.window_rows.proofs.views_MarkLaws.{roles-kept}
+use Rattle.window_rows.proofs.views_SafeStretch.{gone-before, allowed-later, zeros-alike}
+use Rattle.window_rows.proofs.safe_updates_Under.{shown-moved, shown-rows-moved}
 use Rattle.window_steps.proofs.CopyLaws.{window-alike, open-alike}
 use Rattle.window_steps.specs.Recording.{AreOthersFewer, IsCopiedWindow}
 

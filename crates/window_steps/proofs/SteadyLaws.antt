@@ -1,35 +1,35 @@
 -- An array stays steady over what is written elsewhere than in its superblocks, where each view that is right stays so.
 use Rattle.std.proofs.Common.{◌≡◌, ◌≢◌, inl, inr, ℕ, ◌+◌, ◌<◌, Bool, true, false, cond, List, Option, Some, None, refl, sym, ◌∙◌, ap, subst, arith}
 use Rattle.std.proofs.lemmas.Bool.{cases_eq}
-use Rattle.md_base.specs.declared.places.Span.{Span}
-use Rattle.md_base.specs.Sectors.{Sector}
-use Rattle.sb1.specs.declared.sb.Sb.{Sb}
-use Rattle.sb1.specs.Superblock.{superblock_in}
-use Rattle.bank.specs.Given.{Given}
-use Rattle.bank.specs.Tape.{IsIn}
-use Rattle.superblocks.specs.declared.members.Members.{Members}
-use Rattle.superblocks.specs.Reading.{Scope, is_seen, is_reshaping, next_window, of_array, holder, role_state, data_offset_of}
-use Rattle.superblocks.specs.Held.{MayRead}
-use Rattle.safe_updates.specs.row_io_Rows.{reading_of, members_without}
-use Rattle.safe_updates.proofs.row_io_Losses.{holder-after}
-use Rattle.backup.specs.Written.{header_of}
-use Rattle.backup.specs.Storing.{IsStoringOrNaming}
-use Rattle.safe_updates.specs.shape_views_Regions.{open_by, ArePlaced}
-use Rattle.safe_updates.specs.shape_views_Views.{Disk, Ledger, IsViewRight}
-use Rattle.safe_updates.specs.shape_views_Windows.{IsSomewhere, AreFewer, IsWrittenAt, HasNoSection, IsWindowPlace, IsCopying, IsCopyable}
-use Rattle.safe_updates.specs.shape_views_Backups.{IsSectionOf}
-use Rattle.safe_updates.proofs.shape_views_BackupLaws.{sections-right, clearing-right}
-use Rattle.safe_updates.proofs.shape_views_WindowLaws.{copying-right}
-use Rattle.safe_updates.specs.shape_changes_Carried.{AreCarried}
-use Rattle.safe_updates.specs.shape_changes_Safety.{HasLiveSlot}
-use Rattle.safe_updates.specs.shape_changes_Steady.{IsSteady, IsMoreTold, AreHolders, AreUnlost}
-use Rattle.safe_updates.specs.shape_changes_Updates.{IsAtEnd, IsPastPlace}
-use Rattle.safe_updates.proofs.shape_changes_HeldKept.{AreNoNewer, held-fewer}
-use Rattle.reshape_updates.proofs.shape_ends_PastWindows.{zeroing-right}
-use Rattle.safe_updates.proofs.shape_changes_Since.{since-more}
-use Rattle.safe_updates.proofs.shape_changes_Spent.{live-holder}
-use Rattle.safe_updates.proofs.shape_changes_Steady.{losing-stays-safe, views-fewer}
-use Rattle.safe_updates.proofs.shape_changes_Stretch.{seen-own}
+use Rattle.window_rows.specs.md_base_the_Span.{Span}
+use Rattle.window_rows.specs.md_base_Sectors.{Sector}
+use Rattle.window_rows.specs.sb1_the_Sb.{Sb}
+use Rattle.window_rows.specs.sb1_Superblock.{superblock_in}
+use Rattle.window_rows.specs.bank_Given.{Given}
+use Rattle.window_rows.specs.bank_Tape.{IsIn}
+use Rattle.window_rows.specs.superblocks_the_Members.{Members}
+use Rattle.window_rows.specs.superblocks_Reading.{Scope, is_seen, is_reshaping, next_window, of_array, holder, role_state, data_offset_of}
+use Rattle.window_rows.specs.superblocks_Held.{MayRead}
+use Rattle.window_rows.specs.row_io_Rows.{reading_of, members_without}
+use Rattle.window_rows.proofs.row_io_Losses.{holder-after}
+use Rattle.window_rows.specs.backup_Written.{header_of}
+use Rattle.window_rows.specs.backup_Storing.{IsStoringOrNaming}
+use Rattle.window_rows.specs.shape_views_Regions.{open_by, ArePlaced}
+use Rattle.window_rows.specs.shape_views_Views.{Disk, Ledger, IsViewRight}
+use Rattle.window_rows.specs.shape_views_Windows.{IsSomewhere, AreFewer, IsWrittenAt, HasNoSection, IsWindowPlace, IsCopying, IsCopyable}
+use Rattle.window_rows.specs.shape_views_Backups.{IsSectionOf}
+use Rattle.window_rows.proofs.shape_views_BackupLaws.{sections-right, clearing-right}
+use Rattle.window_rows.proofs.shape_views_WindowLaws.{copying-right}
+use Rattle.window_rows.specs.shape_changes_Carried.{AreCarried}
+use Rattle.window_rows.specs.shape_changes_Safety.{HasLiveSlot}
+use Rattle.window_rows.specs.shape_changes_Steady.{IsSteady, IsMoreTold, AreHolders, AreUnlost}
+use Rattle.window_rows.specs.shape_changes_Updates.{IsAtEnd, IsPastPlace}
+use Rattle.window_rows.proofs.shape_changes_HeldKept.{AreNoNewer, held-fewer}
+use Rattle.window_rows.proofs.shape_ends_PastWindows.{zeroing-right}
+use Rattle.window_rows.proofs.shape_changes_Since.{since-more}
+use Rattle.window_rows.proofs.shape_changes_Spent.{live-holder}
+use Rattle.window_rows.proofs.shape_changes_Steady.{losing-stays-safe, views-fewer}
+use Rattle.window_rows.proofs.shape_changes_Stretch.{seen-own}
 use Rattle.window_steps.specs.Laws.{SectionsStaySteady, ClearingStaysSteady, CopyingStaysSteady, ZeroingStaysSteady, CopyingStaysSafe, ZeroingStaysSafe}
 
 -- ---- the superblocks

@@ -3,10 +3,10 @@ use Rattle.std.proofs.Common.{◌≡◌, inl, inr, ℕ, ◌+◌, ◌*◌, ◌/�
 use Rattle.std.proofs.lemmas.Bool.{cases_lt}
 use Rattle.std.proofs.lemmas.Bool.Decides.{nat_tests}
 use Rattle.std.proofs.Math.Nat.{mul-le-mul_right}
-use Rattle.md_base.specs.Shapes.{is_multiple, stripe_sectors}
-use Rattle.layout.proofs.Places.{chunk_some}
-use Rattle.geometry.specs.Geometry.{ceiling}
-use Rattle.geometry.proofs.Divisions.{next_multiple, quotient}
+use Rattle.window_rows.specs.md_base_Shapes.{is_multiple, stripe_sectors}
+use Rattle.window_rows.proofs.layout_Places.{chunk_some}
+use Rattle.window_rows.specs.geometry_Geometry.{ceiling}
+use Rattle.window_rows.proofs.geometry_Divisions.{next_multiple, quotient}
 use Rattle.window_steps.specs.Laws.{RowsAreOfStripes, PastRowsAreOfStripes}
 
 module _ (row chunk : ℕ) (some : 0 < chunk) where

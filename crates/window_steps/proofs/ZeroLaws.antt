@@ -1,25 +1,25 @@
 -- What a part of a zeroed stripe leaves: an array whose reshape has gone through the list, and that is as safe as before.
 use Rattle.std.proofs.Common.{◌≡◌, ℕ, ◌/◌, ◌<◌, ◌≤◌, cond, List, length, take, take_all, le_refl, sym, ◌∙◌, subst}
-use Rattle.md_base.specs.Sectors.{Sector}
-use Rattle.md_base.specs.Shapes.{stripe_sectors}
-use Rattle.md_base.specs.declared.places.Shape.{Shape}
-use Rattle.md_base.specs.declared.places.Span.{Span}
-use Rattle.bank.specs.declared.bank.Operation.{Operation}
-use Rattle.bank.specs.Given.{Given}
-use Rattle.bank.specs.Tape.{EachMark, disk}
-use Rattle.geometry.specs.Geometry.{ceiling, IsIn as IsIn_span}
-use Rattle.superblocks.specs.declared.members.Members.{Members}
-use Rattle.superblocks.specs.Reading.{Scope, list_length}
-use Rattle.safe_updates.specs.row_io_Rows.{members_without}
-use Rattle.list_io.specs.Writing.{AreSuperblocksKept}
-use Rattle.safe_updates.specs.shape_views_Views.{Ledger}
-use Rattle.safe_updates.specs.shape_views_Windows.{IsWrittenAt}
-use Rattle.safe_updates.specs.shape_changes_Steady.{AreHolders, AreUnlost, IsSafeNow, IsSafeStretch}
-use Rattle.safe_updates.specs.shape_changes_Updates.{IsPastPlace}
-use Rattle.safe_updates.proofs.shape_changes_Drawn.{disk-somewhere}
-use Rattle.safe_updates.proofs.shape_changes_Steady.{safe-is-seen}
-use Rattle.safe_updates.specs.views_Moving.{IsMoved}
-use Rattle.safe_updates.proofs.views_Fit.{list-alike}
+use Rattle.window_rows.specs.md_base_Sectors.{Sector}
+use Rattle.window_rows.specs.md_base_Shapes.{stripe_sectors}
+use Rattle.window_rows.specs.md_base_the_Shape.{Shape}
+use Rattle.window_rows.specs.md_base_the_Span.{Span}
+use Rattle.window_rows.specs.bank_the_Operation.{Operation}
+use Rattle.window_rows.specs.bank_Given.{Given}
+use Rattle.window_rows.specs.bank_Tape.{EachMark, disk}
+use Rattle.window_rows.specs.geometry_Geometry.{ceiling, IsIn as IsIn_span}
+use Rattle.window_rows.specs.superblocks_the_Members.{Members}
+use Rattle.window_rows.specs.superblocks_Reading.{Scope, list_length}
+use Rattle.window_rows.specs.row_io_Rows.{members_without}
+use Rattle.window_rows.specs.list_io_Writing.{AreSuperblocksKept}
+use Rattle.window_rows.specs.shape_views_Views.{Ledger}
+use Rattle.window_rows.specs.shape_views_Windows.{IsWrittenAt}
+use Rattle.window_rows.specs.shape_changes_Steady.{AreHolders, AreUnlost, IsSafeNow, IsSafeStretch}
+use Rattle.window_rows.specs.shape_changes_Updates.{IsPastPlace}
+use Rattle.window_rows.proofs.shape_changes_Drawn.{disk-somewhere}
+use Rattle.window_rows.proofs.shape_changes_Steady.{safe-is-seen}
+use Rattle.window_rows.specs.views_Moving.{IsMoved}
+use Rattle.window_rows.proofs.views_Fit.{list-alike}
 use Rattle.window_rows.specs.Copies.{tail_of, IsZeroIn, IsPastStripe}
 use Rattle.window_steps.specs.Zeroing.{IsThrough}
 use Rattle.window_steps.proofs.CopyLaws.{window-alike, same-tail}

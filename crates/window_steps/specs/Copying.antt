@@ -1,9 +1,9 @@
 -- A stripe of a window is copied, a part of its rows at a time.
 use Rattle.std.specs.Prelude.{ℕ, ◌+◌, ◌*◌, ◌<◌, ◌≤◌}
-use Rattle.md_base.specs.declared.places.Shape.{Shape}
-use Rattle.md_base.specs.Sectors.{Sector}
-use Rattle.bank.specs.Tape.{IsIn}
-use Rattle.safe_updates.specs.shape_views_Views.{Disk}
+use Rattle.window_rows.specs.md_base_the_Shape.{Shape}
+use Rattle.window_rows.specs.md_base_Sectors.{Sector}
+use Rattle.window_rows.specs.bank_Tape.{IsIn}
+use Rattle.window_rows.specs.shape_views_Views.{Disk}
 
 -- the row is one of the stripe's, from this one of them up to that
 abbrev pub IsOfStripeFrom : Shape → ℕ → ℕ → ℕ → ℕ → Type 0

@@ -1,18 +1,18 @@
 -- A window is entered: its sectors are read, and its section is stored and named.
 use Rattle.std.specs.Prelude.{◌≡◌, ℕ, ◌+◌, ◌-◌, ◌<◌, ◌≤◌, Bool, true, false, List, Some, None, Result, Ok, Err, ⊤}
-use Rattle.md_base.specs.declared.places.Shape.{Shape}
-use Rattle.md_base.specs.declared.places.Span.{Span}
-use Rattle.md_base.specs.Sectors.{Sector}
-use Rattle.md_base.specs.Shapes.{has_slot, tolerance}
-use Rattle.bank.specs.Tape.{Contents}
-use Rattle.superblocks.specs.declared.members.Members.{Members}
-use Rattle.superblocks.specs.Reading.{Scope, Reading, shape_of}
-use Rattle.safe_updates.specs.row_io_Rows.{reading_of, missing_count, is_missing, IsTolerated}
-use Rattle.list_io.specs.declared.outcome.Unavailable.{Unavailable}
-use Rattle.list_io.specs.declared.outcome.Unavailable.TheVariants.{TooManyMissing, NotResynced}
-use Rattle.safe_updates.specs.shape_views_Views.{Disk, Ledger}
-use Rattle.safe_updates.specs.shape_views_Windows.{HasNoSection, ListStands}
-use Rattle.safe_updates.specs.shape_changes_Steady.{AreWritesAllowed}
+use Rattle.window_rows.specs.md_base_the_Shape.{Shape}
+use Rattle.window_rows.specs.md_base_the_Span.{Span}
+use Rattle.window_rows.specs.md_base_Sectors.{Sector}
+use Rattle.window_rows.specs.md_base_Shapes.{has_slot, tolerance}
+use Rattle.window_rows.specs.bank_Tape.{Contents}
+use Rattle.window_rows.specs.superblocks_the_Members.{Members}
+use Rattle.window_rows.specs.superblocks_Reading.{Scope, Reading, shape_of}
+use Rattle.window_rows.specs.row_io_Rows.{reading_of, missing_count, is_missing, IsTolerated}
+use Rattle.window_rows.specs.list_io_the_Unavailable.{Unavailable}
+use Rattle.window_rows.specs.list_io_the_Unavailable_TheVariants.{TooManyMissing, NotResynced}
+use Rattle.window_rows.specs.shape_views_Views.{Disk, Ledger}
+use Rattle.window_rows.specs.shape_views_Windows.{HasNoSection, ListStands}
+use Rattle.window_rows.specs.shape_changes_Steady.{AreWritesAllowed}
 use Rattle.window_rows.specs.Copies.{AreLackingGood}
 use Rattle.window_steps.specs.declared.entering.NotEntered.{NotEntered}
 use Rattle.window_steps.specs.declared.entering.NotEntered.TheVariants.{Unread, Unsaved}

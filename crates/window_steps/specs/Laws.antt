@@ -1,25 +1,25 @@
 -- What the steps of a window leave of an array that is steady or safe: its section is stored and named, or cleared, its rows are copied, and rows behind the list are zeroed.
 use Rattle.std.specs.Prelude.{◌≡◌, ℕ, ◌<◌, ◌≤◌, true, List, length, Some, None, IsTrue}
-use Rattle.md_base.specs.declared.places.Shape.{Shape}
-use Rattle.md_base.specs.declared.places.Span.{Span}
-use Rattle.md_base.specs.Sectors.{Sector}
-use Rattle.md_base.specs.Shapes.{is_valid_shape, is_multiple}
-use Rattle.bank.specs.Given.{Given}
-use Rattle.bank.specs.Tape.{IsIn}
-use Rattle.geometry.specs.Geometry.{rows}
-use Rattle.geometry.specs.Geometry as geometry
-use Rattle.superblocks.specs.declared.members.Members.{Members}
-use Rattle.superblocks.specs.Reading.{Scope, is_reshaping, next_window}
-use Rattle.safe_updates.specs.row_io_Rows.{members_without}
-use Rattle.backup.specs.Written.{header_of, cleared_header}
-use Rattle.backup.specs.Storing.{IsStoringOrNaming, IsHeading}
-use Rattle.safe_updates.specs.shape_views_Regions.{open_by}
-use Rattle.safe_updates.specs.shape_views_Views.{Disk, Ledger}
-use Rattle.safe_updates.specs.shape_views_Windows.{IsSomewhere, IsWrittenAt, HasNoSection, IsCopying, IsCopyable}
-use Rattle.safe_updates.specs.shape_views_Backups.{IsSectionOf}
-use Rattle.safe_updates.specs.shape_changes_Updates.{IsAtEnd, IsPastPlace}
-use Rattle.safe_updates.specs.shape_changes_Steady.{IsSteady, IsSafeNow, AreHolders, AreUnlost}
-use Rattle.safe_updates.specs.views_Lacking.{IsOfStripe}
+use Rattle.window_rows.specs.md_base_the_Shape.{Shape}
+use Rattle.window_rows.specs.md_base_the_Span.{Span}
+use Rattle.window_rows.specs.md_base_Sectors.{Sector}
+use Rattle.window_rows.specs.md_base_Shapes.{is_valid_shape, is_multiple}
+use Rattle.window_rows.specs.bank_Given.{Given}
+use Rattle.window_rows.specs.bank_Tape.{IsIn}
+use Rattle.window_rows.specs.geometry_Geometry.{rows}
+use Rattle.window_rows.specs.geometry_Geometry as geometry
+use Rattle.window_rows.specs.superblocks_the_Members.{Members}
+use Rattle.window_rows.specs.superblocks_Reading.{Scope, is_reshaping, next_window}
+use Rattle.window_rows.specs.row_io_Rows.{members_without}
+use Rattle.window_rows.specs.backup_Written.{header_of, cleared_header}
+use Rattle.window_rows.specs.backup_Storing.{IsStoringOrNaming, IsHeading}
+use Rattle.window_rows.specs.shape_views_Regions.{open_by}
+use Rattle.window_rows.specs.shape_views_Views.{Disk, Ledger}
+use Rattle.window_rows.specs.shape_views_Windows.{IsSomewhere, IsWrittenAt, HasNoSection, IsCopying, IsCopyable}
+use Rattle.window_rows.specs.shape_views_Backups.{IsSectionOf}
+use Rattle.window_rows.specs.shape_changes_Updates.{IsAtEnd, IsPastPlace}
+use Rattle.window_rows.specs.shape_changes_Steady.{IsSteady, IsSafeNow, AreHolders, AreUnlost}
+use Rattle.window_rows.specs.views_Lacking.{IsOfStripe}
 use Rattle.window_rows.specs.Copies.{IsStripeOf, IsPastStripe}
 
 -- ---- the backup

@@ -1,24 +1,24 @@
 -- A window is recorded: what its copy has left by then, and what of the backup stays as it was.
 use Rattle.std.specs.Prelude.{◌≡◌, ◌≢◌, ℕ, true, List, Some}
-use Rattle.md_base.specs.declared.places.Span.{Span}
-use Rattle.md_base.specs.Sectors.{Sector}
-use Rattle.bank.specs.declared.bank.Operation.{Operation}
-use Rattle.bank.specs.Given.{Given}
-use Rattle.bank.specs.Tape.{Contents, IsIn}
-use Rattle.geometry.specs.Geometry.{rows}
-use Rattle.geometry.specs.Geometry as geometry
-use Rattle.superblocks.specs.declared.members.Members.{Members}
-use Rattle.superblocks.specs.Reading.{Scope, is_clean, final_shape}
-use Rattle.safe_updates.specs.row_io_Rows.{reading_of}
-use Rattle.list_io.specs.Full.{RowStands}
-use Rattle.safe_updates.specs.shape_views_Regions.{DoWithout}
-use Rattle.safe_updates.specs.shape_views_Views.{Disk, Ledger, AreHeadersFit, IsTailZero}
-use Rattle.safe_updates.specs.shape_views_Windows.{ListStands, RowsStand, moved_past}
-use Rattle.safe_updates.specs.shape_changes_Safety.{HasLiveSlot}
-use Rattle.safe_updates.specs.shape_changes_Steady.{AreWritesAllowed}
-use Rattle.safe_updates.specs.views_Lacking.{AreHoldersFlushed}
-use Rattle.safe_updates.specs.views_Moving.{Grows, IsMoved}
-use Rattle.safe_updates.specs.Named.{AreNamedMissing}
+use Rattle.window_rows.specs.md_base_the_Span.{Span}
+use Rattle.window_rows.specs.md_base_Sectors.{Sector}
+use Rattle.window_rows.specs.bank_the_Operation.{Operation}
+use Rattle.window_rows.specs.bank_Given.{Given}
+use Rattle.window_rows.specs.bank_Tape.{Contents, IsIn}
+use Rattle.window_rows.specs.geometry_Geometry.{rows}
+use Rattle.window_rows.specs.geometry_Geometry as geometry
+use Rattle.window_rows.specs.superblocks_the_Members.{Members}
+use Rattle.window_rows.specs.superblocks_Reading.{Scope, is_clean, final_shape}
+use Rattle.window_rows.specs.row_io_Rows.{reading_of}
+use Rattle.window_rows.specs.list_io_Full.{RowStands}
+use Rattle.window_rows.specs.shape_views_Regions.{DoWithout}
+use Rattle.window_rows.specs.shape_views_Views.{Disk, Ledger, AreHeadersFit, IsTailZero}
+use Rattle.window_rows.specs.shape_views_Windows.{ListStands, RowsStand, moved_past}
+use Rattle.window_rows.specs.shape_changes_Safety.{HasLiveSlot}
+use Rattle.window_rows.specs.shape_changes_Steady.{AreWritesAllowed}
+use Rattle.window_rows.specs.views_Lacking.{AreHoldersFlushed}
+use Rattle.window_rows.specs.views_Moving.{Grows, IsMoved}
+use Rattle.window_rows.specs.safe_updates_Named.{AreNamedMissing}
 
 -- a stop leaves nothing new of any sector but superblocks
 abbrev pub AreOthersFewer : Disk → Disk → Type 0

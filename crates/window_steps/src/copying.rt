@@ -1,33 +1,28 @@
 //! A stripe of a window is copied, or one behind the list zeroed, and what is lost in it is named.
 
 ghost use Rattle.std.specs.Prelude.{◌≡◌, ◌<◌, ◌≤◌, ℕ, true, false, length, None, Some, MatchOption, ⊤};
-ghost use Rattle.bank.specs.Given.{NeverFalls};
-ghost use Rattle.bank.specs.Tape.{disk};
-ghost use Rattle.md_base.specs.Sectors.{Sector};
-ghost use Rattle.superblocks.specs.Reading.{final_shape, next_window, is_clean};
-ghost use Rattle.safe_updates.specs.row_io_Rows.{present, reading_of};
-ghost use Rattle.list_io.specs.Full.{RowStands};
-ghost use Rattle.safe_updates.specs.flat_history_World.{World};
-ghost use Rattle.safe_updates.specs.shape_views_Regions.{DoWithout};
-ghost use Rattle.safe_updates.specs.shape_views_Views.{Ledger};
-ghost use Rattle.safe_updates.specs.shape_views_Windows.{IsSomewhere, IsCopyable};
-ghost use Rattle.safe_updates.specs.shape_changes_Safety.{HasLiveSlot, HasRoomLeft, IsRisen};
-ghost use Rattle.safe_updates.specs.Named.{AreNamedMissing};
-ghost use Rattle.safe_updates.specs.Unused.{IsUnusedKept};
-ghost use Rattle.safe_updates.specs.shape_changes_Steady.{AreUnlost, IsSafeOver, KeepsSafe, AreGoneTold, IsUncleanTold};
-ghost use Rattle.safe_updates.specs.views_Placed.{IsPlaced};
-ghost use Rattle.safe_updates.specs.views_Moving.{Grows, IsMoved};
-ghost use Rattle.safe_updates.specs.views_Rebuilding.{AreSparesFree};
-ghost use Rattle.safe_updates.specs.views_Lacking.{HaveFailedSince, DoesWithout, AreTooMany, AreOtherRowsKept, IsOfStripe};
+ghost use Rattle.window_rows.specs.bank_Given.{NeverFalls};
+ghost use Rattle.window_rows.specs.bank_Tape.{disk};
+ghost use Rattle.window_rows.specs.md_base_Sectors.{Sector};
+ghost use Rattle.window_rows.specs.superblocks_Reading.{final_shape, next_window, is_clean};
+ghost use Rattle.window_rows.specs.row_io_Rows.{present, reading_of};
+ghost use Rattle.window_rows.specs.list_io_Full.{RowStands};
+ghost use Rattle.window_rows.specs.flat_history_World.{World};
+ghost use Rattle.window_rows.specs.shape_views_Regions.{DoWithout};
+ghost use Rattle.window_rows.specs.shape_views_Views.{Ledger};
+ghost use Rattle.window_rows.specs.shape_views_Windows.{IsSomewhere, IsCopyable};
+ghost use Rattle.window_rows.specs.shape_changes_Safety.{HasLiveSlot, HasRoomLeft, IsRisen};
+ghost use Rattle.window_rows.specs.safe_updates_Named.{AreNamedMissing};
+ghost use Rattle.window_rows.specs.safe_updates_Unused.{IsUnusedKept};
+ghost use Rattle.window_rows.specs.shape_changes_Steady.{AreUnlost, IsSafeOver, KeepsSafe, AreGoneTold, IsUncleanTold};
+ghost use Rattle.window_rows.specs.views_Placed.{IsPlaced};
+ghost use Rattle.window_rows.specs.views_Moving.{Grows, IsMoved};
+ghost use Rattle.window_rows.specs.views_Rebuilding.{AreSparesFree};
+ghost use Rattle.window_rows.specs.views_Lacking.{HaveFailedSince, DoesWithout, AreTooMany, AreOtherRowsKept, IsOfStripe};
 ghost use Rattle.window_rows.specs.Copies.{IsRoomFor, tail_of, IsCopied, IsStripeOf};
 ghost use Rattle.window_steps.specs.Copying.{IsOfStripeFrom, AreHeadersKept};
 
-use bank::Bank;
-use md_base::{Refusal, Shape, Span};
-use safe_updates::naming::name_missing;
-use safe_updates::refusing::too_many;
-use superblocks::Members;
-use window_rows::copy_stripe;
+use window_rows::{Bank, Members, Refusal, Shape, Span, copy_stripe, name_missing, too_many};
 
 /// The spares that were lost in a step, and why it wasn't done.
 #[derive(Clone, Copy)]

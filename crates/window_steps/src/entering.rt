@@ -1,32 +1,29 @@
 //! A window is entered: its sectors are read, and its section is stored and named.
 
 ghost use Rattle.std.specs.Prelude.{◌≡◌, ◌+◌, ◌-◌, ◌/◌, ◌<◌, ◌≤◌, ℕ, true, false, length, Some, None, Err, OnOk};
-ghost use Rattle.md_base.specs.Sectors.{Sector};
-ghost use Rattle.bank.specs.Given.{IsFaulted, NeverFalls};
-ghost use Rattle.bank.specs.Tape.{EachMark, disk};
-ghost use Rattle.superblocks.specs.Reading.{Scope, is_backward, shape_of, final_shape, next_window};
-ghost use Rattle.safe_updates.specs.row_io_Rows.{present, reading_of, IsTolerated};
-ghost use Rattle.list_io.specs.Calls.{HasRows, AreLost, IsAsked};
-ghost use Rattle.backup.specs.declared.section.SectionFault.TheVariants.{Before, Attempted};
-ghost use Rattle.backup.specs.Written.{header_of};
-ghost use Rattle.backup.specs.Storing.{IsStoring, IsNaming, IsStoringOrNaming, IsNamed};
-ghost use Rattle.geometry.specs.Geometry.{is_critical};
-ghost use Rattle.safe_updates.specs.flat_history_World.{World};
-ghost use Rattle.safe_updates.specs.shape_views_Regions.{AreShapesFit};
-ghost use Rattle.safe_updates.specs.shape_views_Views.{Ledger};
-ghost use Rattle.safe_updates.specs.shape_views_Windows.{HasNoSection, IsCopyable, ListStands};
-ghost use Rattle.safe_updates.specs.shape_views_Backups.{IsOpenUnderAll, IsOpenOrNot, HasSectors};
-ghost use Rattle.safe_updates.specs.shape_changes_Steady.{AreUnlost, IsSafeOver, KeepsSafe};
+ghost use Rattle.window_rows.specs.md_base_Sectors.{Sector};
+ghost use Rattle.window_rows.specs.bank_Given.{IsFaulted, NeverFalls};
+ghost use Rattle.window_rows.specs.bank_Tape.{EachMark, disk};
+ghost use Rattle.window_rows.specs.superblocks_Reading.{Scope, is_backward, shape_of, final_shape, next_window};
+ghost use Rattle.window_rows.specs.row_io_Rows.{present, reading_of, IsTolerated};
+ghost use Rattle.window_rows.specs.list_io_Calls.{HasRows, AreLost, IsAsked};
+ghost use Rattle.window_rows.specs.backup_the_SectionFault_TheVariants.{Before, Attempted};
+ghost use Rattle.window_rows.specs.backup_Written.{header_of};
+ghost use Rattle.window_rows.specs.backup_Storing.{IsStoring, IsNaming, IsStoringOrNaming, IsNamed};
+ghost use Rattle.window_rows.specs.geometry_Geometry.{is_critical};
+ghost use Rattle.window_rows.specs.flat_history_World.{World};
+ghost use Rattle.window_rows.specs.shape_views_Regions.{AreShapesFit};
+ghost use Rattle.window_rows.specs.shape_views_Views.{Ledger};
+ghost use Rattle.window_rows.specs.shape_views_Windows.{HasNoSection, IsCopyable, ListStands};
+ghost use Rattle.window_rows.specs.shape_views_Backups.{IsOpenUnderAll, IsOpenOrNot, HasSectors};
+ghost use Rattle.window_rows.specs.shape_changes_Steady.{AreUnlost, IsSafeOver, KeepsSafe};
 ghost use Rattle.window_rows.specs.Copies.{HasWindow, IsRoomFor, AreLackingGood};
 ghost use Rattle.window_steps.specs.declared.entering.NotEntered.TheVariants.{Unsaved};
 ghost use Rattle.window_steps.specs.Entering.{IsPassedOn, IsRead, IsEntered, IsBackupFor, IsEnterable};
 
-use backup::{SectionFault, write_section};
-use bank::Bank;
-use list_io::{Outcome, Unavailable};
-use md_base::{Shape, Span};
-use superblocks::Members;
-use window_rows::read_window;
+use window_rows::{
+    Bank, Members, Outcome, SectionFault, Shape, Span, Unavailable, read_window, write_section,
+};
 
 /// Why a window wasn't entered: its sectors can't be had, or a call on the backup failed, and how far its section came.
 #[derive(Clone, Copy, Debug, PartialEq, Eq)]

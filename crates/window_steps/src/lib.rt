@@ -10,9 +10,8 @@ mod zeroing;
 pub use copying::{Stepped, copy};
 pub use entering::{Entered, NotEntered, enter_window};
 pub use recording::record;
-pub use safe_updates::giving::{flush_and_record, give_role};
-pub use safe_updates::naming::{has_unnamed, name_missing, newly_vacant};
-pub use safe_updates::refusing::{too_many, unread, unwritten};
-pub use safe_updates::roles::{is_spare, is_vacant, list_length, vacant_roles};
-pub use safe_updates::settles::settle;
+pub use window_rows::{
+    Finished, begin, finish, flush_and_record, give_role, has_unnamed, is_spare, is_vacant,
+    list_length, name_missing, newly_vacant, settle, too_many, unread, unwritten, vacant_roles,
+};
 pub use zeroing::zero;

@@ -1,37 +1,31 @@
 //! A window is recorded, behind a flush of the members.
 
 ghost use Rattle.std.specs.Prelude.{◌≡◌, ◌≤◌, ℕ, None, Some, MatchOption, ⊤};
-ghost use Rattle.bank.specs.Given.{NeverFalls};
-ghost use Rattle.bank.specs.Tape.{disk};
-ghost use Rattle.md_base.specs.Sectors.{Sector};
-ghost use Rattle.superblocks.specs.Reading.{Scope, next_window, is_clean};
-ghost use Rattle.safe_updates.specs.row_io_Rows.{present, reading_of};
-ghost use Rattle.safe_updates.specs.flat_history_World.{World};
-ghost use Rattle.safe_updates.specs.flat_history_Sound.{OpensFit};
-ghost use Rattle.safe_updates.specs.shape_views_Regions.{ArePlaced};
-ghost use Rattle.safe_updates.specs.shape_views_Views.{Ledger, AreHeadersFit, IsViewRight};
-ghost use Rattle.safe_updates.specs.shape_views_Windows.{HasNoSection, moved_past};
-ghost use Rattle.safe_updates.specs.shape_changes_Marking.{AreOthersPresent};
-ghost use Rattle.safe_updates.specs.shape_changes_Safety.{HasLiveSlot, HasRoomLeft, IsRisen};
-ghost use Rattle.safe_updates.specs.shape_changes_Steady.{AreUnlost, IsSteady, IsSafeOver, KeepsSafe, AreGoneTold, IsUncleanTold};
-ghost use Rattle.safe_updates.specs.Named.{AreNamedMissing};
-ghost use Rattle.safe_updates.specs.Unused.{IsUnusedKept};
-ghost use Rattle.safe_updates.specs.views_Placed.{IsPlaced};
-ghost use Rattle.safe_updates.specs.views_Moving.{Grows, IsMoved};
-ghost use Rattle.safe_updates.specs.views_Rebuilding.{AreSparesFree};
-ghost use Rattle.safe_updates.specs.views_Lacking.{HaveFailedSince, AreHoldersFlushed, AreTooMany};
+ghost use Rattle.window_rows.specs.bank_Given.{NeverFalls};
+ghost use Rattle.window_rows.specs.bank_Tape.{disk};
+ghost use Rattle.window_rows.specs.md_base_Sectors.{Sector};
+ghost use Rattle.window_rows.specs.superblocks_Reading.{Scope, next_window, is_clean};
+ghost use Rattle.window_rows.specs.row_io_Rows.{present, reading_of};
+ghost use Rattle.window_rows.specs.flat_history_World.{World};
+ghost use Rattle.window_rows.specs.flat_history_Sound.{OpensFit};
+ghost use Rattle.window_rows.specs.shape_views_Regions.{ArePlaced};
+ghost use Rattle.window_rows.specs.shape_views_Views.{Ledger, AreHeadersFit, IsViewRight};
+ghost use Rattle.window_rows.specs.shape_views_Windows.{HasNoSection, moved_past};
+ghost use Rattle.window_rows.specs.shape_changes_Marking.{AreOthersPresent};
+ghost use Rattle.window_rows.specs.shape_changes_Safety.{HasLiveSlot, HasRoomLeft, IsRisen};
+ghost use Rattle.window_rows.specs.shape_changes_Steady.{AreUnlost, IsSteady, IsSafeOver, KeepsSafe, AreGoneTold, IsUncleanTold};
+ghost use Rattle.window_rows.specs.safe_updates_Named.{AreNamedMissing};
+ghost use Rattle.window_rows.specs.safe_updates_Unused.{IsUnusedKept};
+ghost use Rattle.window_rows.specs.views_Placed.{IsPlaced};
+ghost use Rattle.window_rows.specs.views_Moving.{Grows, IsMoved};
+ghost use Rattle.window_rows.specs.views_Rebuilding.{AreSparesFree};
+ghost use Rattle.window_rows.specs.views_Lacking.{HaveFailedSince, AreHoldersFlushed, AreTooMany};
 ghost use Rattle.window_steps.specs.Recording.{AreOthersFewer, IsCopiedWindow, IsRecorded};
 
 use crate::copying::Stepped;
-use bank::Bank;
-use md_base::Span;
-use reshape_updates::record_position;
-use safe_updates::flushes::holders;
-use safe_updates::naming::name_missing;
-use safe_updates::refusing::too_many;
-use safe_updates::settles::flush_naming;
-use superblocks::Members;
-use superblocks::sets::without;
+use window_rows::{
+    Bank, Members, Span, flush_naming, holders, name_missing, record_position, too_many, without,
+};
 
 // Records the position behind the window. The spares that were lost in this.
 fn put_position<B: Bank>(members: &mut Members, bank: &mut B, span: &Span) -> u32

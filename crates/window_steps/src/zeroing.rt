@@ -1,34 +1,29 @@
 //! A stripe behind the list is zeroed, and what is lost in it is named.
 
 ghost use Rattle.std.specs.Prelude.{◌≡◌, ◌<◌, ◌≤◌, ℕ, true, false, length, None, MatchOption, ⊤};
-ghost use Rattle.bank.specs.Given.{NeverFalls};
-ghost use Rattle.bank.specs.Tape.{disk};
-ghost use Rattle.md_base.specs.Sectors.{Sector};
-ghost use Rattle.superblocks.specs.Reading.{final_shape, list_length, is_clean};
-ghost use Rattle.safe_updates.specs.row_io_Rows.{present, reading_of};
-ghost use Rattle.list_io.specs.Full.{RowStands};
-ghost use Rattle.safe_updates.specs.flat_history_World.{World};
-ghost use Rattle.safe_updates.specs.shape_views_Regions.{DoWithout};
-ghost use Rattle.safe_updates.specs.shape_views_Views.{Ledger};
-ghost use Rattle.safe_updates.specs.shape_changes_Safety.{HasLiveSlot, HasRoomLeft, IsRisen};
-ghost use Rattle.safe_updates.specs.Named.{AreNamedMissing};
-ghost use Rattle.safe_updates.specs.Unused.{IsUnusedKept};
-ghost use Rattle.safe_updates.specs.shape_changes_Steady.{AreUnlost, IsSafeOver, KeepsSafe, AreGoneTold, IsUncleanTold};
-ghost use Rattle.safe_updates.specs.views_Placed.{IsPlaced};
-ghost use Rattle.safe_updates.specs.views_Moving.{Grows, IsMoved};
-ghost use Rattle.safe_updates.specs.views_Rebuilding.{AreSparesFree};
-ghost use Rattle.safe_updates.specs.views_Lacking.{HaveFailedSince, DoesWithout, AreTooMany, AreOtherRowsKept, IsOfStripe};
+ghost use Rattle.window_rows.specs.bank_Given.{NeverFalls};
+ghost use Rattle.window_rows.specs.bank_Tape.{disk};
+ghost use Rattle.window_rows.specs.md_base_Sectors.{Sector};
+ghost use Rattle.window_rows.specs.superblocks_Reading.{final_shape, list_length, is_clean};
+ghost use Rattle.window_rows.specs.row_io_Rows.{present, reading_of};
+ghost use Rattle.window_rows.specs.list_io_Full.{RowStands};
+ghost use Rattle.window_rows.specs.flat_history_World.{World};
+ghost use Rattle.window_rows.specs.shape_views_Regions.{DoWithout};
+ghost use Rattle.window_rows.specs.shape_views_Views.{Ledger};
+ghost use Rattle.window_rows.specs.shape_changes_Safety.{HasLiveSlot, HasRoomLeft, IsRisen};
+ghost use Rattle.window_rows.specs.safe_updates_Named.{AreNamedMissing};
+ghost use Rattle.window_rows.specs.safe_updates_Unused.{IsUnusedKept};
+ghost use Rattle.window_rows.specs.shape_changes_Steady.{AreUnlost, IsSafeOver, KeepsSafe, AreGoneTold, IsUncleanTold};
+ghost use Rattle.window_rows.specs.views_Placed.{IsPlaced};
+ghost use Rattle.window_rows.specs.views_Moving.{Grows, IsMoved};
+ghost use Rattle.window_rows.specs.views_Rebuilding.{AreSparesFree};
+ghost use Rattle.window_rows.specs.views_Lacking.{HaveFailedSince, DoesWithout, AreTooMany, AreOtherRowsKept, IsOfStripe};
 ghost use Rattle.window_rows.specs.Copies.{tail_of, IsZeroIn, IsPastStripe};
 ghost use Rattle.window_steps.specs.Copying.{AreHeadersKept, IsOfStripeFrom};
 ghost use Rattle.window_steps.specs.Zeroing.{IsThrough};
 
 use crate::copying::{Part, Stepped, Stretch};
-use bank::Bank;
-use md_base::Shape;
-use safe_updates::naming::name_missing;
-use safe_updates::refusing::too_many;
-use superblocks::Members;
-use window_rows::zero_stripe;
+use window_rows::{Bank, Members, Shape, name_missing, too_many, zero_stripe};
 
 // Zeroes rows of a stripe from one on, up to the first in which a slot is lost.
 fn zero_stretch<B: Bank>(

@@ -1,6 +1,6 @@
 use Rattle.std.proofs.Common.{◌≡◌, ◌≤◌, ◌∙◌, ap, arith, length, take}
 use Rattle.std.proofs.lemmas.List.{length-take-le}
-use Rattle.bank.specs.Given.{Given}
+use Rattle.superblocks.specs.bank_Given.{Given}
 use Rattle.election.proofs.Elected.{elected, none-elected, lengths-taken}
 use Rattle.election.proofs.elect.Goals as goal
 

@@ -1,6 +1,6 @@
 use Rattle.std.proofs.Common.{ℕ, ◌-◌, ◌∙◌, sym, ap, List, Option, length, slice_index, take}
 use Rattle.std.specs.Option.{option_or}
-use Rattle.sb1.specs.declared.sb.Sb.{Sb}
+use Rattle.superblocks.specs.sb1_the_Sb.{Sb}
 use Rattle.superblocks.specs.Reading.{uuid_of_first}
 use Rattle.superblocks.specs.Election.{uuid_for}
 use Rattle.election.proofs.Elected.{others-none, verdict-none, answer-seen}

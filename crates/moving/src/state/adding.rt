@@ -1,28 +1,27 @@
 //! Slots that are made spares in a reshape.
 
 ghost use Rattle.std.specs.Prelude.{◌≡◌, ◌≢◌, ◌<◌, true, false, Some, OnOk};
-ghost use Rattle.md_base.specs.Shapes.{has_slot};
-ghost use Rattle.md_base.specs.declared.answers.Refusal.{Refusal};
-ghost use Rattle.superblocks.specs.Reading.{is_clean, list_length};
-ghost use Rattle.row_io.specs.Rows.{present};
-ghost use Rattle.flat_history.specs.Flat.{next_number};
-ghost use Rattle.flat_history.specs.declared.events.Event.TheVariants.{Added};
-ghost use Rattle.flat_history.specs.declared.events.Request.TheVariants.{Add as AsksAdd};
+ghost use Rattle.array_state.specs.md_base_Shapes.{has_slot};
+ghost use Rattle.array_state.specs.md_base_the_Refusal.{Refusal};
+ghost use Rattle.election.specs.superblocks_Reading.{is_clean, list_length};
+ghost use Rattle.pieces.specs.row_io_Rows.{present};
+ghost use Rattle.pieces.specs.flat_history_Flat.{next_number};
+ghost use Rattle.pieces.specs.flat_history_the_Event_TheVariants.{Added};
+ghost use Rattle.pieces.specs.flat_history_the_Request_TheVariants.{Add as AsksAdd};
 ghost use Rattle.moving_laws.specs.shape_changes_Marking.{AreOthersPresent};
-ghost use Rattle.views.specs.Lacking.{HaveRolesFailed, AreUnnamed};
-ghost use Rattle.views.specs.Numbers.{free_number};
+ghost use Rattle.pieces.specs.views_Lacking.{HaveRolesFailed, AreUnnamed};
+ghost use Rattle.pieces.specs.views_Numbers.{free_number};
 ghost use Rattle.moving_laws.specs.array_kept_Calls.{IsUnaddable, IsAddedFor, IsAddedAs, AreNumbersBorne, IsAnswered, OnNoMemory};
 ghost use Rattle.moving_laws.specs.running_words_Adding.{IsAddCalled};
 
 use crate::state::Moving;
 use array_state::adding::{spare_for, unaddable};
-use array_state::{add_member, bear, free_number, look_at};
-use bank::Bank;
-use call_entries::calls::{check_number, enter, enter_behind};
-use flat_history::Event;
-use md_base::{Fault, Refusal, Who};
+use array_state::{
+    Fault, Refusal, Who, add_member, bear, check_number, enter, enter_behind, free_number, look_at,
+};
+use election::{Bank, contains, with, without};
 use moving_laws::{has_unnamed, newly_vacant, vacant_roles};
-use superblocks::sets::{contains, with, without};
+use pieces::Event;
 
 impl<B: Bank> Moving<B> {
     // Whether the slot was lost without a failure of its own, and the superblocks still name a role that no slot holds.

@@ -1,22 +1,19 @@
 //! What an array in a reshape tells of itself.
 
 ghost use Rattle.std.specs.Prelude.{◌≡◌, ◌≢◌, ◌≤◌, [], ◌∷◌, length, IfOk, IfErr};
-ghost use Rattle.superblocks.specs.Reading.{list_length};
-ghost use Rattle.flat_history.specs.Flat.{next_number};
-ghost use Rattle.flat_history.specs.declared.events.Event.TheVariants.{Shown};
+ghost use Rattle.election.specs.superblocks_Reading.{list_length};
+ghost use Rattle.pieces.specs.flat_history_Flat.{next_number};
+ghost use Rattle.pieces.specs.flat_history_the_Event_TheVariants.{Shown};
 ghost use Rattle.moving_laws.specs.array_kept_Calls.{IsEntered, IsEndOf};
 ghost use Rattle.moving_laws.specs.running_words_Calls.{moving_world, IsStatusFor, IsSameReshape};
 ghost use Rattle.moving_laws.specs.running_words_Parts.{visible_in};
 
 use crate::state::Moving;
 use array_state::asking::{copy_roles, copy_slots};
-use bank::Bank;
-use call_entries::calls::{check_number, enter};
-use flat_history::Event;
-use geometry::list_end;
-use md_base::{NoMemory, Status, Who};
+use array_state::{NoMemory, Status, Who, check_number, enter};
+use election::{Bank, is_clean, list_end};
 use moving_laws::{final_in, shape_in, visible};
-use superblocks::says::is_clean;
+use pieces::Event;
 
 impl<B: Bank> Moving<B> {
     /// The limit of the visible size in sectors, if there is one.

@@ -1,24 +1,23 @@
 //! The end of an epoch in a reshape.
 
 ghost use Rattle.std.specs.Prelude.{◌≡◌, ◌≢◌, [], ◌∷◌, length, IfOk, IfErr};
-ghost use Rattle.flat_history.specs.Flat.{next_number};
-ghost use Rattle.flat_history.specs.Epochs.{world_of};
-ghost use Rattle.flat_history.specs.Growing.{EndBy};
-ghost use Rattle.flat_history.specs.declared.events.Event.TheVariants.{Halted, Stopped};
-ghost use Rattle.bank.specs.Given.{NeverFalls};
-ghost use Rattle.md_base.specs.declared.answers.Refusal.{Refusal};
-ghost use Rattle.superblocks.specs.Reading.{list_length};
-ghost use Rattle.views.specs.Moving.{Grows};
-ghost use Rattle.views.specs.Lacking.{AreTooMany, HaveRolesFailed};
+ghost use Rattle.pieces.specs.flat_history_Flat.{next_number};
+ghost use Rattle.pieces.specs.flat_history_Epochs.{world_of};
+ghost use Rattle.pieces.specs.flat_history_Growing.{EndBy};
+ghost use Rattle.pieces.specs.flat_history_the_Event_TheVariants.{Halted, Stopped};
+ghost use Rattle.election.specs.bank_Given.{NeverFalls};
+ghost use Rattle.array_state.specs.md_base_the_Refusal.{Refusal};
+ghost use Rattle.election.specs.superblocks_Reading.{list_length};
+ghost use Rattle.pieces.specs.views_Moving.{Grows};
+ghost use Rattle.pieces.specs.views_Lacking.{AreTooMany, HaveRolesFailed};
 ghost use Rattle.moving_laws.specs.array_kept_Calls.{IsEntered, IsBehind, IsUnsettled, IsFaultFor, AreLossesOf, IsEndOf};
 ghost use Rattle.moving_laws.specs.history_calls_Reliable.{IsReliable};
 ghost use Rattle.moving_laws.specs.running_words_Calls.{IsCalled, IsEpochKept};
 
 use crate::state::Moving;
-use bank::Bank;
-use call_entries::calls::{check_number, enter};
-use flat_history::{Epoch, Event};
-use md_base::{Fault, Who};
+use array_state::{Fault, Who, check_number, enter};
+use election::Bank;
+use pieces::{Epoch, Event};
 
 impl<B: Bank> Moving<B> {
     // The bank and the history.

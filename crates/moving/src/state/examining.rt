@@ -1,14 +1,13 @@
 //! The superblocks as they are stored.
 
 ghost use Rattle.std.specs.Prelude.{◌≡◌, ◌<◌, length, IfOk};
-ghost use Rattle.sb1.specs.Superblock.{superblock_in};
-ghost use Rattle.bank.specs.Tape.{contents};
-ghost use Rattle.superblocks.specs.Election.{IsCausedBy};
+ghost use Rattle.election.specs.sb1_Superblock.{superblock_in};
+ghost use Rattle.election.specs.bank_Tape.{contents};
+ghost use Rattle.election.specs.superblocks_Election.{IsCausedBy};
 
 use crate::state::Moving;
-use bank::{Bank, BankFault};
 use election::reads::read_superblock;
-use sb1::Sb;
+use election::{Bank, BankFault, Sb};
 
 impl<B: Bank> Moving<B> {
     /// What the superblock of a slot says as it is stored now, whichever array's it is, and `None` where the slot has no valid

@@ -1,23 +1,20 @@
 //! Members that are failed by command.
 
 ghost use Rattle.std.specs.Prelude.{◌≡◌, ◌≢◌, ◌≤◌, length, Some, IfSome, IfNone};
-ghost use Rattle.superblocks.specs.Reading.{is_clean, list_length, role_count, role_state, holder};
-ghost use Rattle.row_io.specs.Rows.{reading_of, present};
-ghost use Rattle.flat_history.specs.Flat.{next_number};
-ghost use Rattle.flat_history.specs.declared.events.Event.TheVariants.{Failed};
-ghost use Rattle.flat_history.specs.declared.events.Request.TheVariants.{Fail as AsksFail};
+ghost use Rattle.election.specs.superblocks_Reading.{is_clean, list_length, role_count, role_state, holder};
+ghost use Rattle.pieces.specs.row_io_Rows.{reading_of, present};
+ghost use Rattle.pieces.specs.flat_history_Flat.{next_number};
+ghost use Rattle.pieces.specs.flat_history_the_Event_TheVariants.{Failed};
+ghost use Rattle.pieces.specs.flat_history_the_Request_TheVariants.{Fail as AsksFail};
 ghost use Rattle.moving_laws.specs.shape_changes_Marking.{AreOthersPresent};
 ghost use Rattle.moving_laws.specs.array_kept_Calls.{HasRole, IsAnswered, IsFailedFor, OnNoMemory};
 ghost use Rattle.moving_laws.specs.running_words_Calls.{IsCalled};
 
 use crate::state::Moving;
-use bank::Bank;
-use call_entries::calls::{check_number, enter, enter_behind};
-use flat_history::{Event, LostCause};
-use md_base::{Fault, Refusal, Role, Who};
+use array_state::{Fault, Refusal, Role, Who, check_number, enter, enter_behind};
+use election::{Bank, Members};
 use moving_laws::{name_missing, newly_vacant, vacant_roles};
-use row_io::lose_slot;
-use superblocks::Members;
+use pieces::{Event, LostCause, lose_slot};
 
 // The slot that holds a role, whole or in part.
 fn slot_of(members: &Members, role: u32) -> Option<u32>

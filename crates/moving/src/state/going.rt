@@ -3,8 +3,8 @@
 ghost use Rattle.std.specs.Prelude.{◌≤◌, length};
 ghost use Rattle.moving_laws.specs.kept_history_Recorded.{IsCallGoing};
 
-use flat_history::Entries;
-use md_base::Who;
+use array_state::Who;
+use pieces::Entries;
 
 /// The number of a call that goes on is at most the number of entries.
 pub fn check_going(entries: &Entries, who: Who)

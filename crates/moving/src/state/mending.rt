@@ -1,13 +1,13 @@
 //! The steps of a pending resync.
 
 ghost use Rattle.std.specs.Prelude.{◌≡◌, ◌≢◌, ◌+◌, ◌≤◌, ℕ, false, true, None, Some, OnOk};
-ghost use Rattle.superblocks.specs.Reading.{is_clean, list_length};
-ghost use Rattle.row_io.specs.Rows.{reading_of, present};
-ghost use Rattle.flat_history.specs.Flat.{now};
-ghost use Rattle.flat_history.specs.Sound.{OpensFit};
-ghost use Rattle.flat_history.specs.World.{opening_list};
-ghost use Rattle.flat_history.specs.declared.events.StepKind.TheVariants.{ResyncStripe as MendsStripe, ResyncEnded as EndsResync};
-ghost use Rattle.views.specs.Lacking.{AreHoldersFlushed, AreTooMany};
+ghost use Rattle.election.specs.superblocks_Reading.{is_clean, list_length};
+ghost use Rattle.pieces.specs.row_io_Rows.{reading_of, present};
+ghost use Rattle.pieces.specs.flat_history_Flat.{now};
+ghost use Rattle.pieces.specs.flat_history_Sound.{OpensFit};
+ghost use Rattle.pieces.specs.flat_history_World.{opening_list};
+ghost use Rattle.pieces.specs.flat_history_the_StepKind_TheVariants.{ResyncStripe as MendsStripe, ResyncEnded as EndsResync};
+ghost use Rattle.pieces.specs.views_Lacking.{AreHoldersFlushed, AreTooMany};
 ghost use Rattle.moving_laws.specs.safe_updates_First.{IsFirstRefused};
 ghost use Rattle.moving_laws.specs.region_mends_Mends.{mend_shape, mend_refusal, IsNotMended};
 ghost use Rattle.moving_laws.specs.array_kept_Calls.{one_more, by_answer, IsCausedBy};
@@ -18,11 +18,10 @@ ghost use Rattle.moving_laws.specs.Mending.{IsMendDue, IsResyncEndDue, IsMendCal
 
 use crate::state::going::check_going;
 use crate::state::{Moving, all_left};
-use bank::Bank;
-use call_entries::calls::{enter, enter_behind};
-use flat_history::{Event, StepKind};
-use md_base::{Fault, Who};
+use array_state::{Fault, Who, enter, enter_behind};
+use election::Bank;
 use moving_laws::{mend_list, newly_vacant, settle, too_many, unmended, vacant_roles};
+use pieces::{Event, StepKind};
 
 impl<B: Bank> Moving<B> {
     /// A step of the pending resync, while no window is entered: makes the parity of its next stripe fit the data, by the shape of its

@@ -5,7 +5,7 @@ ghost use Rattle.moving_laws.specs.array_kept_Kept.{scope_in};
 ghost use Rattle.moving_laws.specs.Ready.{IsReady};
 
 use super::Moving;
-use bank::Bank;
+use election::Bank;
 use moving_laws::Course;
 use pieces::Pieces;
 

@@ -1,16 +1,16 @@
 //! Reads of an array in a reshape.
 
 ghost use Rattle.std.specs.Prelude.{◌≡◌, ◌≢◌, ◌+◌, ◌-◌, ◌*◌, ◌/◌, ◌^◌, ◌<◌, ◌≤◌, length, None, IfSome, OnOk, OnErr};
-ghost use Rattle.bank.specs.Tape.{AreSectors};
-ghost use Rattle.md_base.specs.Sectors.{IsWhole, sectors_of};
-ghost use Rattle.superblocks.specs.Reading.{is_clean, list_length};
-ghost use Rattle.row_io.specs.Rows.{present};
-ghost use Rattle.flat_history.specs.World.{opening_list};
-ghost use Rattle.flat_history.specs.Flat.{next_number, now};
-ghost use Rattle.flat_history.specs.declared.events.Event.TheVariants.{Read};
-ghost use Rattle.flat_history.specs.declared.events.Request.TheVariants.{Read as AsksRead};
+ghost use Rattle.election.specs.bank_Tape.{AreSectors};
+ghost use Rattle.array_state.specs.md_base_Sectors.{IsWhole, sectors_of};
+ghost use Rattle.election.specs.superblocks_Reading.{is_clean, list_length};
+ghost use Rattle.pieces.specs.row_io_Rows.{present};
+ghost use Rattle.pieces.specs.flat_history_World.{opening_list};
+ghost use Rattle.pieces.specs.flat_history_Flat.{next_number, now};
+ghost use Rattle.pieces.specs.flat_history_the_Event_TheVariants.{Read};
+ghost use Rattle.pieces.specs.flat_history_the_Request_TheVariants.{Read as AsksRead};
 ghost use Rattle.moving_laws.specs.shape_changes_Marking.{AreOthersPresent};
-ghost use Rattle.views.specs.Lacking.{HaveRolesFailed};
+ghost use Rattle.pieces.specs.views_Lacking.{HaveRolesFailed};
 ghost use Rattle.moving_laws.specs.array_kept_Calls.{IsAnswered, IsCausedBy, IsRefusalOf, OnNoMemory};
 ghost use Rattle.moving_laws.specs.region_mends_Mends.{relied_sector};
 ghost use Rattle.moving_laws.specs.course_kept_Course.{hidden_in};
@@ -22,13 +22,12 @@ ghost use Rattle.moving_laws.specs.Refusing.{first_refusal, IsFirstFor};
 
 use crate::state::Moving;
 use array_state::room::zeros;
-use bank::Bank;
-use call_entries::calls::{check_number, enter, enter_behind};
-use flat_history::Event;
-use md_base::{Fault, Sectors, Span, Who};
+use array_state::{Fault, Sectors, Span, Who, check_number, enter, enter_behind};
+use election::Bank;
 use moving_laws::{
     fetch_beside, hidden_span, newly_vacant, relied_sector, unread_from, vacant_roles, visible,
 };
+use pieces::Event;
 
 // How many bytes the sectors of this window have; none where there is none.
 fn bytes_of(hidden: Option<Span>, most: usize) -> usize

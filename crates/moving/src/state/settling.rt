@@ -1,22 +1,21 @@
 //! Flushes of an array in a reshape.
 
 ghost use Rattle.std.specs.Prelude.{◌≡◌, ◌≢◌, length, true, None, OnOk};
-ghost use Rattle.superblocks.specs.Reading.{is_clean, list_length};
-ghost use Rattle.row_io.specs.Rows.{reading_of, present};
-ghost use Rattle.flat_history.specs.Flat.{next_number};
-ghost use Rattle.flat_history.specs.declared.events.Event.TheVariants.{Flushed};
-ghost use Rattle.flat_history.specs.declared.events.Request.TheVariants.{Flush as AsksFlush};
+ghost use Rattle.election.specs.superblocks_Reading.{is_clean, list_length};
+ghost use Rattle.pieces.specs.row_io_Rows.{reading_of, present};
+ghost use Rattle.pieces.specs.flat_history_Flat.{next_number};
+ghost use Rattle.pieces.specs.flat_history_the_Event_TheVariants.{Flushed};
+ghost use Rattle.pieces.specs.flat_history_the_Request_TheVariants.{Flush as AsksFlush};
 ghost use Rattle.moving_laws.specs.shape_changes_Marking.{AreOthersPresent};
-ghost use Rattle.views.specs.Lacking.{HaveRolesFailed, AreHoldersFlushed, AreTooMany};
+ghost use Rattle.pieces.specs.views_Lacking.{HaveRolesFailed, AreHoldersFlushed, AreTooMany};
 ghost use Rattle.moving_laws.specs.array_kept_Calls.{IsSettled, IsSettling, IsAnswered, IsCausedBy, OnNoMemory};
 ghost use Rattle.moving_laws.specs.running_words_Calls.{IsCalled};
 
 use crate::state::Moving;
-use bank::Bank;
-use call_entries::calls::{check_number, enter, enter_behind};
-use flat_history::Event;
-use md_base::{Fault, Who};
+use array_state::{Fault, Who, check_number, enter, enter_behind};
+use election::Bank;
 use moving_laws::{newly_vacant, settle, too_many, vacant_roles};
+use pieces::Event;
 
 impl<B: Bank> Moving<B> {
     // Flushes the members, marks the array clean, unless a resync is pending, and enters this event, `Flushed` or `Stopped`.

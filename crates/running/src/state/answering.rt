@@ -1,7 +1,7 @@
 //! The answer to a request for steps.
 
 ghost use Rattle.std.specs.Prelude.{◌≡◌, ◌≢◌, ◌+◌, ◌≤◌, ◌∷◌, [], false};
-ghost use Rattle.superblocks.specs.Reading.{is_reshaping};
+ghost use Rattle.takeover.specs.superblocks_Reading.{is_reshaping};
 ghost use Rattle.growing.specs.array_kept_Calls.{IsEntered};
 ghost use Rattle.growing.specs.kept_history_Recorded.{IsCallGoing};
 ghost use Rattle.growing.specs.running_words_Calls.{IsCalled};
@@ -11,11 +11,9 @@ ghost use Rattle.growing.specs.running_replies_Going.{HasNoReshape};
 ghost use Rattle.running.specs.Calls.{running_left, IsReplyNow};
 
 use crate::state::{Running, State, check_moving, check_still};
-use bank::Bank;
 use core::mem::replace_with;
-use flat_history::Event;
-use growing::{Moving, answer};
-use md_base::Who;
+use growing::{Bank, Moving, Who, answer};
+use takeover::Event;
 
 // Answers in an array in a reshape.
 fn answer_in<B: Bank>(moving: Moving<B>, reply: (Who, Event)) -> (Moving<B>, ())

@@ -1,16 +1,15 @@
 //! What a running array tells of itself.
 
 ghost use Rattle.std.specs.Prelude.{◌≡◌, length, IfSome};
-ghost use Rattle.superblocks.specs.Reading.{is_reshaping, list_length};
-ghost use Rattle.flat_history.specs.Flat.{next_number, length_of, limit_of};
-ghost use Rattle.flat_history.specs.Legal.{told_left};
+ghost use Rattle.takeover.specs.superblocks_Reading.{is_reshaping, list_length};
+ghost use Rattle.takeover.specs.flat_history_Flat.{next_number, length_of, limit_of};
+ghost use Rattle.takeover.specs.flat_history_Legal.{told_left};
 ghost use Rattle.growing.specs.running_words_Parts.{visible_in};
 ghost use Rattle.running.specs.Calls.{running_left};
 
 use crate::state::{Running, State};
-use bank::Bank;
-use flat_history::Epoch;
-use superblocks::Members;
+use growing::Bank;
+use takeover::{Epoch, Members};
 
 impl<B: Bank> Running<B> {
     /// Whether a reshape is active in it.

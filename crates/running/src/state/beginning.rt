@@ -1,22 +1,20 @@
 //! A reshape that is ahead begins.
 
 ghost use Rattle.std.specs.Prelude.{◌≡◌, ◌≢◌, ◌≤◌, ◌∷◌, List, false, IfOk, IfErr, IsSome};
-ghost use Rattle.md_base.specs.declared.wishes.Phase.{Phase};
-ghost use Rattle.md_base.specs.declared.wishes.Phase.TheVariants.{Reshape};
-ghost use Rattle.bank.specs.Given.{NeverFalls};
-ghost use Rattle.superblocks.specs.Reading.{is_reshaping};
+ghost use Rattle.growing.specs.md_base_the_Phase.{Phase};
+ghost use Rattle.growing.specs.md_base_the_Phase_TheVariants.{Reshape};
+ghost use Rattle.growing.specs.bank_Given.{NeverFalls};
+ghost use Rattle.takeover.specs.superblocks_Reading.{is_reshaping};
 ghost use Rattle.growing.specs.views_Moving.{Grows};
 ghost use Rattle.growing.specs.views_Status.{left_of};
-ghost use Rattle.grow_asked.specs.declared.window.PhasesLeft.{PhasesLeft};
-ghost use Rattle.grow_asked.specs.Left.{phases_of};
+ghost use Rattle.takeover.specs.grow_asked_the_PhasesLeft.{PhasesLeft};
+ghost use Rattle.takeover.specs.grow_asked_Left.{phases_of};
 ghost use Rattle.growing.specs.turning_Begun.{HasKeptLength, IsReshapeBegun, IsGivenBack, IsBeginRefused};
 ghost use Rattle.running.specs.Calls.{MayEndSteps};
 
 use crate::state::choosing::phases_behind;
 use crate::state::{Running, State, check_moving, check_still};
-use bank::Bank;
-use growing::begin_reshape;
-use md_base::{Refusal, Shape, Who};
+use growing::{Bank, Refusal, Shape, Who, begin_reshape};
 
 impl<B: Bank> Running<B> {
     /// The reshape to this shape, the first phase ahead, begins, where nothing else is left to do: the backup's header is cleared, and the

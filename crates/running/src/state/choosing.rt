@@ -1,19 +1,17 @@
 //! What is next to do in a running array.
 
 ghost use Rattle.std.specs.Prelude.{◌≡◌, ◌≢◌, ◌<◌, ◌∷◌, List, [], true, IfSome, IfNone};
-ghost use Rattle.md_base.specs.declared.wishes.Phase.{Phase as APhase};
-ghost use Rattle.superblocks.specs.Reading.{is_reshaping};
-ghost use Rattle.grow_asked.specs.Left.{phases_of};
+ghost use Rattle.growing.specs.md_base_the_Phase.{Phase as APhase};
+ghost use Rattle.takeover.specs.superblocks_Reading.{is_reshaping};
+ghost use Rattle.takeover.specs.grow_asked_Left.{phases_of};
 ghost use Rattle.running.specs.State.{IsStillNow};
 ghost use Rattle.running.specs.Calls.{running_left, IsNext};
 ghost use Rattle.running.specs.declared.state.choosing.Next.TheVariants.{Nothing as IsDone};
 
 use crate::state::{Running, State, check_moving, check_still};
-use bank::Bank;
 use core::mem::replace_with;
-use grow_asked::PhasesLeft;
-use growing::{Due, Moving, Still, due_step, steps_left};
-use md_base::{Phase, Shape};
+use growing::{Bank, Due, Moving, Phase, Shape, Still, due_step, steps_left};
+use takeover::PhasesLeft;
 
 /// What is next to do in a running array: nothing; a step of a resync or of a rebuild, without a reshape; the reshape to this shape
 /// begins, which is ahead; the level is taken over, to this shape; a step of the active reshape, or of a resync beside it; or the

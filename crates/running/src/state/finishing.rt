@@ -1,8 +1,8 @@
 //! A reshape ends.
 
 ghost use Rattle.std.specs.Prelude.{◌≡◌, ◌≢◌, ◌+◌, ◌≤◌, true, IfOk, IfErr};
-ghost use Rattle.superblocks.specs.Reading.{is_reshaping};
-ghost use Rattle.flat_history.specs.declared.events.Event.TheVariants.{Refused};
+ghost use Rattle.takeover.specs.superblocks_Reading.{is_reshaping};
+ghost use Rattle.takeover.specs.flat_history_the_Event_TheVariants.{Refused};
 ghost use Rattle.growing.specs.views_Lacking.{AreTooMany};
 ghost use Rattle.growing.specs.array_kept_Calls.{IsBehind};
 ghost use Rattle.growing.specs.kept_history_Recorded.{IsCallGoing};
@@ -14,9 +14,7 @@ ghost use Rattle.growing.specs.turning_Ended.{IsReshapeEnded};
 ghost use Rattle.running.specs.Calls.{MayEndSteps};
 
 use crate::state::{Running, State, check_moving, check_still};
-use bank::Bank;
-use growing::finish_reshape;
-use md_base::{Refusal, Who};
+use growing::{Bank, Refusal, Who, finish_reshape};
 
 impl<B: Bank> Running<B> {
     /// The active reshape, which has gone through the list, ends: each slot that holds a role is flushed, and the superblocks record the

@@ -1,13 +1,13 @@
 //! The next step of a running array without a reshape.
 
 ghost use Rattle.std.specs.Prelude.{◌≡◌, ◌≢◌, ◌+◌, ◌<◌, ◌≤◌, is_some, if◌then◌else◌, Err, OnOk, OnErr, IsTrue, false};
-ghost use Rattle.md_base.specs.declared.answers.Fault.TheVariants.{NoMemory as WantsMemory};
-ghost use Rattle.superblocks.specs.Reading.{is_reshaping, is_clean, list_length};
+ghost use Rattle.growing.specs.md_base_the_Fault_TheVariants.{NoMemory as WantsMemory};
+ghost use Rattle.takeover.specs.superblocks_Reading.{is_reshaping, is_clean, list_length};
 ghost use Rattle.growing.specs.row_io_Rows.{reading_of, present};
-ghost use Rattle.flat_history.specs.World.{opening_list};
-ghost use Rattle.flat_history.specs.Flat.{now};
-ghost use Rattle.flat_history.specs.Sound.{OpensFit};
-ghost use Rattle.flat_history.specs.declared.events.StepKind.TheVariants.{RebuildTaken as TakesRole, RebuildEnded as EndsRebuild};
+ghost use Rattle.takeover.specs.flat_history_World.{opening_list};
+ghost use Rattle.takeover.specs.flat_history_Flat.{now};
+ghost use Rattle.takeover.specs.flat_history_Sound.{OpensFit};
+ghost use Rattle.takeover.specs.flat_history_the_StepKind_TheVariants.{RebuildTaken as TakesRole, RebuildEnded as EndsRebuild};
 ghost use Rattle.growing.specs.views_Status.{left_of};
 ghost use Rattle.growing.specs.views_Lacking.{AreHoldersFlushed, RowsStand};
 ghost use Rattle.growing.specs.shape_views_Regions.{DoWithout};
@@ -22,9 +22,7 @@ ghost use Rattle.growing.specs.still_steps_Stepping.{IsUndone, IsEnd, IsStepEnte
 ghost use Rattle.running.specs.Calls.{IsRefusedInStep};
 
 use crate::state::{Running, State, check_still};
-use bank::Bank;
-use growing::{first_recovering, still_step};
-use md_base::{Fault, Who};
+use growing::{Bank, Fault, Who, first_recovering, still_step};
 
 impl<B: Bank> Running<B> {
     /// Whether a slot recovers a role, so that the next step of a rebuild isn't its first one. In a reshape none does.

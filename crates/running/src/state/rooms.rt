@@ -3,10 +3,8 @@
 ghost use Rattle.std.specs.Prelude.{◌≡◌, OnOk, OnErr};
 
 use crate::state::{Running, State, check_moving, check_still};
-use bank::Bank;
 use core::mem::replace_with;
-use growing::{Moving, make_room};
-use md_base::NoMemory;
+use growing::{Bank, Moving, NoMemory, make_room};
 
 // Makes room in an array in a reshape.
 fn room_in<B: Bank>(moving: Moving<B>, steps: u64) -> (Moving<B>, Result<(), NoMemory>)

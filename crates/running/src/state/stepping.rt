@@ -1,7 +1,7 @@
 //! The step of a reshape that is due.
 
 ghost use Rattle.std.specs.Prelude.{◌≡◌, ◌≢◌, ◌⊎◌, ◌+◌, ◌≤◌, true, OnOk, OnErr, IsSome};
-ghost use Rattle.superblocks.specs.Reading.{is_reshaping};
+ghost use Rattle.takeover.specs.superblocks_Reading.{is_reshaping};
 ghost use Rattle.growing.specs.array_kept_Calls.{by_answer};
 ghost use Rattle.growing.specs.kept_history_Recorded.{IsCallGoing};
 ghost use Rattle.growing.specs.moving_state_Due.{due_of};
@@ -13,8 +13,7 @@ ghost use Rattle.growing.specs.moving_laws_Steps.{kind_of, resync_behind, IsMark
 ghost use Rattle.running.specs.Calls.{IsRefusedInStep};
 
 use crate::state::{Running, State, check_moving};
-use bank::Bank;
-use md_base::{Fault, Who};
+use growing::{Bank, Fault, Who};
 
 impl<B: Bank> Running<B> {
     /// Does the step that is due in a reshape, but for its end: a stripe of the entered window is copied, or it is recorded; of a pending

@@ -1,11 +1,11 @@
 //! The level of an array is taken over.
 
 ghost use Rattle.std.specs.Prelude.{◌≡◌, ◌≢◌, ◌≤◌, List, false, IfOk, IfErr};
-ghost use Rattle.md_base.specs.declared.wishes.Phase.{Phase};
-ghost use Rattle.superblocks.specs.Reading.{is_reshaping};
+ghost use Rattle.growing.specs.md_base_the_Phase.{Phase};
+ghost use Rattle.takeover.specs.superblocks_Reading.{is_reshaping};
 ghost use Rattle.growing.specs.views_Status.{left_of};
-ghost use Rattle.grow_asked.specs.declared.window.PhasesLeft.{PhasesLeft};
-ghost use Rattle.grow_asked.specs.Left.{phases_of};
+ghost use Rattle.takeover.specs.grow_asked_the_PhasesLeft.{PhasesLeft};
+ghost use Rattle.takeover.specs.grow_asked_Left.{phases_of};
 ghost use Rattle.growing.specs.kept_history_Recorded.{IsCallGoing};
 ghost use Rattle.growing.specs.still_laws_Steps.{IsClosable};
 ghost use Rattle.takeover.specs.TakenOver.{IsTakeoverNext, IsUntaken, IsUntouched, IsLevelTaken};
@@ -13,8 +13,7 @@ ghost use Rattle.running.specs.Calls.{MayEndSteps};
 
 use crate::state::choosing::phases_behind;
 use crate::state::{Running, State, check_still};
-use bank::Bank;
-use md_base::{Refusal, Shape, Who};
+use growing::{Bank, Refusal, Shape, Who};
 use takeover::take_over as take_level;
 
 impl<B: Bank> Running<B> {

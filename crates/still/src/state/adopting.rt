@@ -1,22 +1,20 @@
 //! An array that is taken over from its superblocks.
 
 ghost use Rattle.std.specs.Prelude.{◌≡◌, ◌<◌, ℕ, [], false, None, IfOk, IfErr};
-ghost use Rattle.md_base.specs.Shapes.{has_slot};
+ghost use Rattle.array_state.specs.md_base_Shapes.{has_slot};
 ghost use Rattle.still_laws.specs.array_kept_Kept.{scope_in};
 ghost use Rattle.still_laws.specs.array_kept_Adopting.{IsAdoptable, IsAdopted};
-ghost use Rattle.grow_asked.specs.Left.{phases_of};
+ghost use Rattle.pieces.specs.grow_asked_Left.{phases_of};
 
 use crate::state::Still;
+use array_state::NoMemory;
 use array_state::absent::enter_all_absent;
 use array_state::room::{Room, room_for};
 use array_state::work::found_work;
-use bank::Bank;
-use flat_history::Epoch;
-use grow_asked::PhasesLeft;
-use md_base::NoMemory;
+use election::{Bank, Members};
+use pieces::{Epoch, PhasesLeft};
 use std::alloc::Global;
 use still_laws::shape_in;
-use superblocks::Members;
 
 /// What an opening found: the backup slot, the members, and a bit for each slot that was looked at.
 #[derive(Drop)]

@@ -1,23 +1,20 @@
 //! What an array without an active reshape tells of itself.
 
 ghost use Rattle.std.specs.Prelude.{◌≡◌, ◌≢◌, ◌^◌, ◌<◌, ◌≤◌, [], ◌∷◌, length, IfOk, IfErr, IfSome};
-ghost use Rattle.superblocks.specs.Reading.{shape_of, list_length};
-ghost use Rattle.flat_history.specs.Flat.{next_number};
-ghost use Rattle.flat_history.specs.declared.events.Event.TheVariants.{Shown};
-ghost use Rattle.views.specs.Status.{stripes_of, rebuilt_of};
+ghost use Rattle.election.specs.superblocks_Reading.{shape_of, list_length};
+ghost use Rattle.pieces.specs.flat_history_Flat.{next_number};
+ghost use Rattle.pieces.specs.flat_history_the_Event_TheVariants.{Shown};
+ghost use Rattle.pieces.specs.views_Status.{stripes_of, rebuilt_of};
 ghost use Rattle.still_laws.specs.array_kept_Calls.{IsEntered, IsEndOf};
 ghost use Rattle.still_laws.specs.running_words_Calls.{moving_world, IsSameReshape};
 ghost use Rattle.still_laws.specs.running_words_Still.{IsStillStatus};
 
 use crate::state::Still;
 use array_state::asking::{copy_roles, copy_slots, visible as list_sectors};
-use array_state::stripes;
-use bank::Bank;
-use call_entries::calls::{check_number, enter};
-use flat_history::Event;
-use md_base::{NoMemory, Status, Who};
+use array_state::{NoMemory, Status, Who, check_number, enter, stripes};
+use election::{Bank, is_clean};
+use pieces::Event;
 use still_laws::shape_in;
-use superblocks::says::is_clean;
 
 impl<B: Bank> Still<B> {
     /// How many sectors the list has.

@@ -1,22 +1,20 @@
 //! Members that are failed by command.
 
 ghost use Rattle.std.specs.Prelude.{◌≡◌, ◌≢◌};
-ghost use Rattle.superblocks.specs.Reading.{is_clean, list_length};
-ghost use Rattle.row_io.specs.Rows.{present};
-ghost use Rattle.flat_history.specs.Flat.{next_number};
-ghost use Rattle.flat_history.specs.declared.events.Event.TheVariants.{Failed};
-ghost use Rattle.flat_history.specs.declared.events.Request.TheVariants.{Fail as AsksFail};
+ghost use Rattle.election.specs.superblocks_Reading.{is_clean, list_length};
+ghost use Rattle.pieces.specs.row_io_Rows.{present};
+ghost use Rattle.pieces.specs.flat_history_Flat.{next_number};
+ghost use Rattle.pieces.specs.flat_history_the_Event_TheVariants.{Failed};
+ghost use Rattle.pieces.specs.flat_history_the_Request_TheVariants.{Fail as AsksFail};
 ghost use Rattle.still_laws.specs.shape_changes_Marking.{AreOthersPresent};
 ghost use Rattle.still_laws.specs.array_kept_Calls.{IsAnswered, IsFailedFor, OnNoMemory};
 ghost use Rattle.still_laws.specs.running_words_Calls.{IsCalled};
 
 use crate::state::Still;
 use array_state::holders::slot_of;
-use bank::Bank;
-use call_entries::calls::{check_number, enter, enter_behind};
-use flat_history::{Event, LostCause};
-use md_base::{Fault, Refusal, Who};
-use row_io::lose_slot;
+use array_state::{Fault, Refusal, Who, check_number, enter, enter_behind};
+use election::Bank;
+use pieces::{Event, LostCause, lose_slot};
 use still_laws::{name_missing, newly_vacant, vacant_roles};
 
 impl<B: Bank> Still<B> {

@@ -1,20 +1,18 @@
 //! How much of an array without an active reshape can be read and written.
 
 ghost use Rattle.std.specs.Prelude.{◌≡◌, ◌≢◌, ◌^◌, ◌<◌, nat_lt, length};
-ghost use Rattle.flat_history.specs.Flat.{next_number};
-ghost use Rattle.flat_history.specs.declared.events.Event.TheVariants.{Visible};
+ghost use Rattle.pieces.specs.flat_history_Flat.{next_number};
+ghost use Rattle.pieces.specs.flat_history_the_Event_TheVariants.{Visible};
 ghost use Rattle.still_laws.specs.array_kept_Calls.{IsEndOf, OnNoMemory, by_answer};
-ghost use Rattle.grow_asked.specs.Left.{phases_of};
+ghost use Rattle.pieces.specs.grow_asked_Left.{phases_of};
 ghost use Rattle.still_laws.specs.running_words_Calls.{moving_world};
 ghost use Rattle.still_laws.specs.running_words_Parts.{visible_in};
 ghost use Rattle.still_laws.specs.running_words_Visible.{visible_refusal, still_refusal, IsVisibleJudged, IsVisibleAnswered, IsLimitedAs};
 
 use crate::state::Still;
-use bank::Bank;
-use call_entries::calls::{check_number, enter};
-use flat_history::Event;
-use grow_asked::PhasesLeft;
-use md_base::{BusyKind, Fault, Refusal, Who};
+use array_state::{BusyKind, Fault, Refusal, Who, check_number, enter};
+use election::Bank;
+use pieces::{Event, PhasesLeft};
 use still_laws::visible_of;
 
 // Whether a phase of a plan hasn't begun.

@@ -6,7 +6,7 @@ ghost use Rattle.still_laws.specs.course_kept_Laws.{closed};
 ghost use Rattle.still_laws.specs.Ready.{IsReady};
 
 use super::Still;
-use bank::Bank;
+use election::Bank;
 use pieces::Pieces;
 
 impl<B: Bank> Still<B> {

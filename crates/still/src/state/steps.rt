@@ -1,7 +1,7 @@
 //! What the steps of an array without an active reshape share.
 
 ghost use Rattle.std.specs.Prelude.{◌≡◌, ◌≢◌, ◌+◌, ◌≤◌, ◌∷◌, [], length, OnOk, OnErr};
-ghost use Rattle.views.specs.Rebuilding.{Held};
+ghost use Rattle.pieces.specs.views_Rebuilding.{Held};
 ghost use Rattle.still_laws.specs.array_kept_Calls.{IsEntered};
 ghost use Rattle.still_laws.specs.kept_history_Recorded.{IsCallGoing};
 ghost use Rattle.still_laws.specs.running_words_Calls.{moving_world};
@@ -9,10 +9,9 @@ ghost use Rattle.still_laws.specs.running_words_Plans.{ArePlansKept};
 ghost use Rattle.still_laws.specs.Steps.{IsStepped, MayAnswer, IsStepsReplyNow};
 
 use crate::state::Still;
-use bank::Bank;
-use call_entries::calls::enter;
-use flat_history::{Entries, Event};
-use md_base::{NoMemory, Who};
+use array_state::{NoMemory, Who, enter};
+use election::Bank;
+use pieces::{Entries, Event};
 
 /// The number of a call that goes on is at most the number of entries.
 pub fn check_going(entries: &Entries, who: Who)

@@ -1,6 +1,6 @@
 use Rattle.superblock_laws.proofs.AddedReads.{added-before}
 use Rattle.std.proofs.Common.{◌≡◌}
-use Rattle.bank.specs.Tape.{IsIn}
+use Rattle.superblock_reads.specs.bank_Tape.{IsIn}
 use Rattle.superblock_laws.proofs.AddedRounds.{in-first-reads, rounds-read, wider}
 use Rattle.superblock_laws.proofs.update_adding_reads.Goals as goal
 

@@ -1,7 +1,7 @@
 use Rattle.std.proofs.Common.{inl, sym, subst, List}
-use Rattle.md_base.specs.Sectors.{Sector}
-use Rattle.sb1.specs.declared.sb.Sb.{Sb}
-use Rattle.bank.specs.Tape.{IsIn}
+use Rattle.superblocks.specs.md_base_Sectors.{Sector}
+use Rattle.superblocks.specs.sb1_the_Sb.{Sb}
+use Rattle.superblocks.specs.bank_Tape.{IsIn}
 use Rattle.superblocks.specs.Rounds.{first_newest, IsFirstRewriting}
 use Rattle.superblock_reads.proofs.RoundReads.{wider}
 use Rattle.superblock_reads.proofs.RoundsRead.{in-first-reads}

@@ -1,5 +1,5 @@
 use Rattle.std.proofs.Common.{sym, ◌∙◌}
-use Rattle.md_base.specs.Shapes.{has_slot}
+use Rattle.superblocks.specs.md_base_Shapes.{has_slot}
 use Rattle.superblock_reads.proofs.RoundReads.{kept-of, named_left, and_first, and_second}
 use Rattle.superblock_reads.proofs.RoundsRead.{rounds-end}
 use Rattle.superblock_reads.proofs.StageReads.{held-reads}

@@ -4,11 +4,10 @@ ghost use Rattle.std.specs.Prelude.{◌≡◌, ◌<◌, ◌≤◌, length, IfSom
 ghost use Rattle.superblocks.specs.Update.{is_live, is_added};
 ghost use Rattle.superblocks.specs.Outcome.{with_added, live_set, is_in_update};
 
-use md_base::{RoleList, SlotList};
-use sb1::Sb;
+use bank::{RoleList, SlotList};
 use superblocks::roles::{is_added, role_of};
 use superblocks::sets::{with, without};
-use superblocks::{Change, Members};
+use superblocks::{Change, Members, Sb};
 
 // Whether the slot holds a role or is a spare.
 fn is_live(roles: &RoleList, spares: &SlotList, slot: u32) -> bool

@@ -1,17 +1,16 @@
 //! The superblocks of the slots, as they were stored.
 
 ghost use Rattle.std.specs.Prelude.{◌≡◌, ◌<◌, ◌&&◌, ℕ, true, false, not, Some, slice_index_or, slice_set};
-ghost use Rattle.md_base.specs.Shapes.{has_slot};
-ghost use Rattle.sb1.specs.declared.sb.Sb.{Sb};
-ghost use Rattle.sb1.specs.Superblock.{sb_of};
-ghost use Rattle.sb1.specs.Writable.{IsWritable};
+ghost use Rattle.superblocks.specs.md_base_Shapes.{has_slot};
+ghost use Rattle.superblocks.specs.sb1_the_Sb.{Sb};
+ghost use Rattle.superblocks.specs.sb1_Superblock.{sb_of};
+ghost use Rattle.superblocks.specs.sb1_Writable.{IsWritable};
 ghost use Rattle.superblocks.specs.Update.{planned, give_of, own_in};
 ghost use Rattle.superblocks.specs.Outcome.{IsStored, IsPlannedOwn, AreStored};
 
 use crate::plan::planned;
-use sb1::{Sb, fields_of, sectors_of};
 use superblocks::sets::contains;
-use superblocks::{Give, SbList};
+use superblocks::{Give, Sb, SbList, fields_of, sectors_of};
 
 // The fields of two sectors.
 fn decoded(sectors: &[u8; 1024]) -> Sb

@@ -1,14 +1,14 @@
 //! The roles as an update leaves them.
 
 ghost use Rattle.std.specs.Prelude.{◌≡◌, ◌<◌, ◌≤◌, ◌&&◌, not, ℕ, take, length, slice_index_or};
-ghost use Rattle.md_base.specs.declared.status.Role.TheVariants.{Missing};
-ghost use Rattle.md_base.specs.Search.{tabulate};
-ghost use Rattle.md_base.specs.Shapes.{has_slot};
+ghost use Rattle.bank.specs.md_base_the_Role_TheVariants.{Missing};
+ghost use Rattle.superblocks.specs.md_base_Search.{tabulate};
+ghost use Rattle.superblocks.specs.md_base_Shapes.{has_slot};
 ghost use Rattle.superblocks.specs.Reading.{role_count};
 ghost use Rattle.superblocks.specs.Update.{IsRoleGive, give_of, planned_role};
 ghost use Rattle.superblocks.specs.Outcome.{is_same, is_planned_holder, held_state, planned_state};
 
-use md_base::{Role, RoleList};
+use bank::{Role, RoleList};
 use superblocks::roles::planned_role;
 use superblocks::says::role_count;
 use superblocks::sets::contains;

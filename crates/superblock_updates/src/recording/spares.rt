@@ -1,11 +1,11 @@
 //! The spares as an update leaves them.
 
 ghost use Rattle.std.specs.Prelude.{◌≡◌, ◌<◌, ◌&&◌, not, ℕ};
-ghost use Rattle.md_base.specs.Shapes.{has_slot};
+ghost use Rattle.superblocks.specs.md_base_Shapes.{has_slot};
 ghost use Rattle.superblocks.specs.Update.{is_planned_spare, give_of};
 ghost use Rattle.superblocks.specs.Outcome.{slots_below, planned_spares};
 
-use md_base::SlotList;
+use bank::SlotList;
 use superblocks::roles::is_planned_spare;
 use superblocks::sets::{contains, with};
 use superblocks::{Change, Members};

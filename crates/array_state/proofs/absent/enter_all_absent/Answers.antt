@@ -1,9 +1,9 @@
 use Rattle.std.proofs.Common.{◌++◌, List, sym, ap, ◌∙◌, refl, arith}
-use Rattle.row_io.specs.Rows.{reading_of}
-use Rattle.flat_history.specs.declared.events.Event.{Event}
-use Rattle.flat_history.specs.Plain.{entries_of}
+use Rattle.safe_additions.specs.row_io_Rows.{reading_of}
+use Rattle.safe_additions.specs.flat_history_the_Event.{Event}
+use Rattle.safe_additions.specs.flat_history_Plain.{entries_of}
 use Rattle.calls_kept.specs.array_kept_Adopting.{opener, absent_losses, absent_loss}
-use Rattle.call_entries.proofs.LosingLaws.{entered-more, entered-none}
+use Rattle.calls_kept.proofs.call_entries_LosingLaws.{entered-more, entered-none}
 use Rattle.calls_kept.proofs.AbsentLaws.{absents-first, absents-next}
 use Rattle.array_state.proofs.absent.enter_all_absent.Goals as goal
 

@@ -1,7 +1,7 @@
 use Rattle.std.proofs.Common.{◌≡◌, ◌+◌, ◌≤◌, ◌++◌}
-use Rattle.row_io.specs.Rows.{reading_of}
-use Rattle.flat_history.specs.Plain.{entries_of}
-use Rattle.call_entries.specs.Losing.{IsSameEpoch}
+use Rattle.safe_additions.specs.row_io_Rows.{reading_of}
+use Rattle.safe_additions.specs.flat_history_Plain.{entries_of}
+use Rattle.calls_kept.specs.call_entries_Losing.{IsSameEpoch}
 use Rattle.calls_kept.specs.array_kept_Adopting.{opener, absent_losses}
 use Rattle.array_state.proofs.absent.enter_all_absent.Given as goal
 

@@ -1,7 +1,7 @@
 use Rattle.std.proofs.Common.{◌∙◌, ap, arith}
-use Rattle.sb1.specs.declared.sb.Sb.{Sb}
+use Rattle.safe_rows.specs.sb1_the_Sb.{Sb}
 use Rattle.calls_kept.proofs.AddLaws.{spare-made}
-use Rattle.views.proofs.Fit.{few}
+use Rattle.safe_additions.proofs.views_Fit.{few}
 use Rattle.array_state.proofs.adding.spare_for.Goals as goal
 
 pub first_offset-offset-requires-clause-few : goal.first_offset-offset-requires-clause-few

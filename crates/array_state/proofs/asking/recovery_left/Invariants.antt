@@ -1,5 +1,5 @@
 use Rattle.std.proofs.Common.{◌≡◌, ◌≤◌, ◌+◌, ◌*◌, ◌^◌}
-use Rattle.views.specs.Status.{recovery_left}
+use Rattle.safe_additions.specs.views_Status.{recovery_left}
 use Rattle.array_state.proofs.asking.recovery_left.Given as goal
 
 -- the steps of the roles before this one are counted

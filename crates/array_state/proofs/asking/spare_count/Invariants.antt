@@ -1,6 +1,6 @@
 use Rattle.std.proofs.Common.{◌≡◌}
-use Rattle.md_base.specs.Search.{count_below}
-use Rattle.superblocks.specs.Reads.{has_spare}
+use Rattle.safe_rows.specs.md_base_Search.{count_below}
+use Rattle.safe_additions.specs.superblocks_Reads.{has_spare}
 use Rattle.array_state.proofs.asking.spare_count.Given as goal
 
 -- those before this one are counted

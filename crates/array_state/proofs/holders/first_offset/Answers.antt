@@ -1,6 +1,6 @@
 use Rattle.std.proofs.Common.{ap, ◌∙◌, sym, inl, inr}
-use Rattle.superblocks.specs.Reading.{holder}
-use Rattle.views.specs.Rebuilding.{Held}
+use Rattle.safe_rows.specs.superblocks_Reading.{holder}
+use Rattle.safe_additions.specs.views_Rebuilding.{Held}
 use Rattle.array_state.proofs.holders.first_offset.Goals as goal
 
 pub data_offset-requires : goal.data_offset-requires

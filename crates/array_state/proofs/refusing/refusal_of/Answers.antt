@@ -1,9 +1,9 @@
 use Rattle.std.proofs.Common.{ℕ, ◌≤◌, Option, Some, None, arith, MatchOption}
-use Rattle.md_base.specs.declared.answers.Refusal.{Refusal}
-use Rattle.superblocks.specs.declared.members.Members.{Members}
+use Rattle.safe_rows.specs.md_base_the_Refusal.{Refusal}
+use Rattle.safe_rows.specs.superblocks_the_Members.{Members}
 use Rattle.safe_additions.specs.shape_views_Regions.{DoWithout}
-use Rattle.views.specs.Lacking.{AreTooMany}
-use Rattle.views.proofs.LackingLaws.{never-both}
+use Rattle.safe_additions.specs.views_Lacking.{AreTooMany}
+use Rattle.safe_rows.proofs.views_LackingLaws.{never-both}
 use Rattle.calls_kept.specs.array_kept_Calls.{IsRefusalOf}
 use Rattle.calls_kept.proofs.array_kept_ReplyLaws.{too-many-of, refused-for}
 use Rattle.array_state.proofs.refusing.refusal_of.Goals as goal

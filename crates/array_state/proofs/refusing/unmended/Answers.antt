@@ -1,6 +1,6 @@
 use Rattle.std.proofs.Common.{false, ◌∙◌, ap}
-use Rattle.md_base.specs.declared.places.Shape.{Shape}
-use Rattle.superblocks.specs.Reading.{shape_of}
+use Rattle.safe_rows.specs.md_base_the_Shape.{Shape}
+use Rattle.safe_rows.specs.superblocks_Reading.{shape_of}
 use Rattle.safe_additions.specs.safe_updates_First.{write_refusal}
 use Rattle.array_state.proofs.FirstLaws.{write-told}
 use Rattle.array_state.proofs.UnmendableLaws.{unmended-told}

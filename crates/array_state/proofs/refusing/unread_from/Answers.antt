@@ -1,10 +1,10 @@
 use Rattle.std.proofs.Common.{◌≤◌, ◌+◌, ◌*◌, ℕ, refl, ◌∙◌, ap₂, sym, subst, arith}
-use Rattle.md_base.specs.declared.places.Shape.{Shape}
-use Rattle.md_base.specs.Shapes.{data_disks}
-use Rattle.superblocks.specs.Reading.{shape_of}
-use Rattle.views.specs.Whole.{list_size}
-use Rattle.views.specs.Placed.{places_of}
-use Rattle.views.specs.Lacking.{mended_rows}
+use Rattle.safe_rows.specs.md_base_the_Shape.{Shape}
+use Rattle.safe_rows.specs.md_base_Shapes.{data_disks}
+use Rattle.safe_rows.specs.superblocks_Reading.{shape_of}
+use Rattle.safe_additions.specs.views_Whole.{list_size}
+use Rattle.safe_additions.specs.views_Placed.{places_of}
+use Rattle.safe_additions.specs.views_Lacking.{mended_rows}
 use Rattle.safe_additions.specs.safe_updates_First.{read_refusal}
 use Rattle.array_state.proofs.FirstLaws.{short-list, past-is, within-is, read-judged}
 use Rattle.array_state.proofs.refusing.unread_from.Goals as goal

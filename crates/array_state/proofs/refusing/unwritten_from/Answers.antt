@@ -1,9 +1,9 @@
 use Rattle.std.proofs.Common.{◌≤◌, ◌+◌, Bool, refl, ◌∙◌, ap, ap₂, arith}
-use Rattle.md_base.specs.declared.places.Shape.{Shape}
-use Rattle.superblocks.specs.Reading.{shape_of}
-use Rattle.views.specs.Whole.{list_size}
-use Rattle.views.specs.Placed.{places_of}
-use Rattle.views.specs.Lacking.{are_mended, mended_rows}
+use Rattle.safe_rows.specs.md_base_the_Shape.{Shape}
+use Rattle.safe_rows.specs.superblocks_Reading.{shape_of}
+use Rattle.safe_additions.specs.views_Whole.{list_size}
+use Rattle.safe_additions.specs.views_Placed.{places_of}
+use Rattle.safe_additions.specs.views_Lacking.{are_mended, mended_rows}
 use Rattle.safe_additions.specs.safe_updates_First.{write_refusal}
 use Rattle.array_state.proofs.FirstLaws.{past-is, within-is, write-judged}
 use Rattle.array_state.proofs.refusing.unwritten_from.Goals as goal

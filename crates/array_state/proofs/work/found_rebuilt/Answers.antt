@@ -1,9 +1,9 @@
 use Rattle.std.proofs.Common.{◌≡◌, ℕ, ◌<◌, ◌+◌, ◌/◌, List, refl, sym, ◌∙◌, ap, subst, arith}
 use Rattle.std.proofs.lemmas.List.{get_or-replicate}
-use Rattle.md_base.specs.declared.status.Role.{Role}
-use Rattle.md_base.specs.declared.status.Role.TheVariants.{Whole, Recovering, Missing}
-use Rattle.superblocks.specs.Reading.{holder}
-use Rattle.row_io.specs.Rows.{reading_of}
+use Rattle.safe_rows.specs.md_base_the_Role.{Role}
+use Rattle.safe_rows.specs.md_base_the_Role_TheVariants.{Whole, Recovering, Missing}
+use Rattle.safe_rows.specs.superblocks_Reading.{holder}
+use Rattle.safe_additions.specs.row_io_Rows.{reading_of}
 use Rattle.calls_kept.specs.array_kept_Adopting.{stripes_held}
 use Rattle.calls_kept.proofs.array_kept_FoundLaws.{AreStripesFound, no-stripes, stripes-set, stripes-none, stripes-all}
 use Rattle.array_state.proofs.work.found_rebuilt.Goals.{in-Recovering, in_default}

@@ -1,4 +1,4 @@
-use Rattle.row_io.specs.Rows.{reading_of}
+use Rattle.safe_additions.specs.row_io_Rows.{reading_of}
 use Rattle.calls_kept.proofs.array_kept_FoundLaws.{AreStripesFound}
 use Rattle.array_state.proofs.work.found_rebuilt.Given as goal
 

@@ -1,6 +1,6 @@
 use Rattle.std.proofs.Common.{◌≡◌, ◌<◌, ℕ, nat_lt, true, sym, arith}
 use Rattle.std.proofs.lemmas.Bool.Decides.{nat_tests}
-use Rattle.md_base.proofs.Least.{least_below-none}
+use Rattle.bank.proofs.md_base_Least.{least_below-none}
 use Rattle.assemble.specs.Creating.{rows_end}
 use Rattle.assemble.proofs.CreateLaws.{least_below-reached}
 use Rattle.assemble.proofs.creating.short_member.Goals as goal

@@ -1,5 +1,5 @@
 use Rattle.std.proofs.Common.{◌≡◌, ◌++◌, ◌∷◌, [], List, refl, sym, subst, arith, append-nil}
-use Rattle.bank.specs.Given.{NeverFalls}
+use Rattle.lanes.specs.bank_Given.{NeverFalls}
 use Rattle.lanes.specs.views_Moving.{Grows}
 use Rattle.line_answers.specs.run_laws_Ended.{IsRunKept}
 use Rattle.line_answers.specs.run_laws_the_Answered.{Answered}

@@ -1,6 +1,6 @@
 use Rattle.std.proofs.Common.{◌≡◌, ℕ, length, sym, subst, arith, [], ◌∷◌, ◌++◌, ◌+◌, ◌≤◌, List, Option, Result}
 use Rattle.std.specs.Prelude.{IfOk}
-use Rattle.md_base.specs.declared.answers.NoMemory.{NoMemory}
+use Rattle.lanes.specs.md_base_the_NoMemory.{NoMemory}
 use Rattle.line_answers.specs.superblocks_Reading.{list_length}
 use Rattle.lanes.specs.Blocks.{HasWorkedBy}
 use Rattle.lanes.specs.Pace.{asked_by}
@@ -9,9 +9,9 @@ use Rattle.line_answers.specs.running_words_Parts.{RunningParts}
 use Rattle.line_answers.specs.run_laws_the_Answered.{Answered}
 use Rattle.line_answers.specs.run_laws_the_State_TheVariants.{Running}
 use Rattle.std.proofs.lemmas.List.{length-map}
-use Rattle.flat_history.specs.declared.events.Entry.{Entry}
-use Rattle.flat_history.specs.declared.events.Request.{Request}
-use Rattle.script.specs.declared.lines.Numbered.{Numbered}
+use Rattle.status_text.specs.flat_history_the_Entry.{Entry}
+use Rattle.status_text.specs.flat_history_the_Request.{Request}
+use Rattle.status_text.specs.script_the_Numbered.{Numbered}
 use Rattle.line_answers.specs.running_calls_the_Reply.{Reply}
 use Rattle.line_answers.specs.running_calls_the_Reply_TheVariants.{Done, NoMemory as Short}
 use Rattle.line_answers.specs.run_laws_Asked.{IsSizedBy}

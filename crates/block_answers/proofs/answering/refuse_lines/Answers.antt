@@ -2,10 +2,10 @@ use Rattle.std.proofs.Common.{◌≡◌, ℕ, suc, ◌+◌, ◌<◌, List, [], �
 use Rattle.std.proofs.Math.ListN.{get_or}
 use Rattle.std.proofs.Math.Seq.{take-suc}
 use Rattle.std.proofs.lemmas.List.{map-append}
-use Rattle.md_base.specs.declared.answers.Refusal.TheVariants.{NotRunning}
-use Rattle.script.specs.declared.lines.Numbered.{Numbered}
-use Rattle.script.specs.declared.lines.Line.TheVariants.{Flush}
-use Rattle.script.specs.declared.reply.Lane.TheVariants.{Script as InScript}
+use Rattle.lanes.specs.md_base_the_Refusal_TheVariants.{NotRunning}
+use Rattle.status_text.specs.script_the_Numbered.{Numbered}
+use Rattle.status_text.specs.script_the_Line_TheVariants.{Flush}
+use Rattle.status_text.specs.script_the_Lane_TheVariants.{Script as InScript}
 use Rattle.line_answers.specs.run_laws_the_Answered.{Answered}
 use Rattle.line_answers.specs.run_laws_the_Answered_TheVariants.{Outside as IsOutside}
 use Rattle.line_answers.specs.run_laws_the_Outside_TheVariants.{Refused}

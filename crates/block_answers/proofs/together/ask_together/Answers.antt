@@ -1,8 +1,8 @@
 use Rattle.std.proofs.Common.{ℕ, ◌≤◌, ◌^◌, List, [], ◌∷◌, length, drop, sym, ap, subst, arith}
 use Rattle.std.specs.List.{All}
 use Rattle.std.proofs.lemmas.List.Elements.{All-get_or}
-use Rattle.flat_history.specs.declared.events.Entry.{Entry}
-use Rattle.flat_history.specs.declared.events.Request.{Request}
+use Rattle.status_text.specs.flat_history_the_Entry.{Entry}
+use Rattle.status_text.specs.flat_history_the_Request.{Request}
 use Rattle.lanes.specs.seen_laws_Callers.{RepliesFrom}
 use Rattle.line_answers.specs.running_Calls.{running_left}
 use Rattle.line_answers.specs.running_calls_Replies.{IsAskable}

@@ -1,6 +1,6 @@
 use Rattle.std.proofs.Common.{◌++◌, [], ◌∷◌, sym, ◌∙◌, ap, Bool}
-use Rattle.flat_history.specs.Plain.{entries_of}
-use Rattle.flat_history.specs.declared.events.Event.TheVariants.{Torn, Refused}
+use Rattle.views.specs.flat_history_Plain.{entries_of}
+use Rattle.views.specs.flat_history_the_Event_TheVariants.{Torn, Refused}
 use Rattle.call_entries.specs.Losing.{losses_of, failure_events}
 use Rattle.call_entries.proofs.LosingLaws.{entered-more}
 use Rattle.call_entries.proofs.calls.enter_failure.Goals as goal

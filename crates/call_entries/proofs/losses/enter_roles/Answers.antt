@@ -1,6 +1,6 @@
 use Rattle.std.proofs.Common.{◌≡◌, ◌+◌, ◌++◌, ℕ, List, length, length-append, sym, ap, subst, ◌∙◌, refl, arith}
-use Rattle.flat_history.specs.declared.events.Event.{Event}
-use Rattle.flat_history.specs.Plain.{entries_of}
+use Rattle.views.specs.flat_history_the_Event.{Event}
+use Rattle.views.specs.flat_history_Plain.{entries_of}
 use Rattle.call_entries.specs.Losing.{role_losses, role_loss}
 use Rattle.call_entries.proofs.LosingLaws.{entered-more, entered-none, roles-first, roles-next}
 use Rattle.call_entries.proofs.losses.enter_roles.Goals as goal

@@ -1,5 +1,5 @@
 use Rattle.std.proofs.Common.{◌≡◌, ◌+◌, ◌≤◌, ◌++◌, length}
-use Rattle.flat_history.specs.Plain.{entries_of}
+use Rattle.views.specs.flat_history_Plain.{entries_of}
 use Rattle.call_entries.specs.Losing.{role_losses, IsSameEpoch}
 use Rattle.call_entries.proofs.losses.enter_roles.Given as goal
 

@@ -1,5 +1,5 @@
 use Rattle.std.proofs.Common.{◌||◌, sym, ◌∙◌, arith}
-use Rattle.md_base.proofs.Least.{least_below-none}
+use Rattle.superblocks.proofs.md_base_Least.{least_below-none}
 use Rattle.superblocks.specs.Verdict.{is_bad_entry, is_late_entry}
 use Rattle.superblocks.proofs.Searches.{least_below-first}
 use Rattle.election.proofs.fields.bad_entry.Goals as goal

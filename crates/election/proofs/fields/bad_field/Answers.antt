@@ -1,8 +1,8 @@
 use Rattle.std.proofs.Common.{◌≡◌, ℕ, ◌+◌, ◌*◌, Bool, Option, Some, None, refl, sym, ap, ◌∙◌, option_map}
 use Rattle.std.specs.Option.{option_or}
 use Rattle.std.specs.Prelude.{find}
-use Rattle.md_base.specs.declared.answers.Refusal.{Refusal}
-use Rattle.md_base.specs.declared.answers.Refusal.TheVariants.{BadField}
+use Rattle.superblocks.specs.md_base_the_Refusal.{Refusal}
+use Rattle.superblocks.specs.md_base_the_Refusal_TheVariants.{BadField}
 use Rattle.superblocks.specs.Verdict.{judged_fields}
 use Rattle.election.proofs.fields.bad_field.Goals as goal
 

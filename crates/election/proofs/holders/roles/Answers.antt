@@ -1,6 +1,6 @@
 use Rattle.std.proofs.Common.{rules, arith, ap, length, add-one}
-use Rattle.md_base.specs.Search.{tabulate}
-use Rattle.md_base.proofs.Tabulated.{length-tabulate}
+use Rattle.superblocks.specs.md_base_Search.{tabulate}
+use Rattle.superblocks.proofs.md_base_Tabulated.{length-tabulate}
 use Rattle.superblocks.specs.Reading.{holder_from}
 use Rattle.election.proofs.holders.roles.Goals as goal
 

@@ -1,5 +1,5 @@
 use Rattle.std.proofs.Common.{◌≡◌}
-use Rattle.md_base.specs.Search.{tabulate}
+use Rattle.superblocks.specs.md_base_Search.{tabulate}
 use Rattle.superblocks.specs.Reading.{holder_from}
 use Rattle.election.proofs.holders.roles.Given as goal
 

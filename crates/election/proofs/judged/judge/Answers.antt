@@ -1,9 +1,9 @@
 use Rattle.std.proofs.Common.{◌≡◌, ℕ, List, [], ◌∷◌, Option, Some, None, sym, ap, ◌∙◌, length, slice_index}
-use Rattle.md_base.specs.declared.status.Role.{Role}
-use Rattle.md_base.specs.declared.answers.Refusal.{Refusal}
-use Rattle.md_base.specs.Search.{tabulate}
-use Rattle.md_base.proofs.Tabulated.{length-tabulate}
-use Rattle.sb1.specs.declared.sb.Sb.{Sb}
+use Rattle.superblocks.specs.md_base_the_Role.{Role}
+use Rattle.superblocks.specs.md_base_the_Refusal.{Refusal}
+use Rattle.superblocks.specs.md_base_Search.{tabulate}
+use Rattle.superblocks.proofs.md_base_Tabulated.{length-tabulate}
+use Rattle.superblocks.specs.sb1_the_Sb.{Sb}
 use Rattle.superblocks.specs.Reading.{holder_from, role_count}
 use Rattle.superblocks.specs.Verdict.{fresh_from, unsupported, bad_field, two_holders, members_missing, dirty_degraded, off_unit, first_of_all}
 use Rattle.election.proofs.RefusalOrder.{three_by_three, early, late}

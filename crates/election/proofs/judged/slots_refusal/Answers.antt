@@ -1,5 +1,5 @@
 use Rattle.std.proofs.Common.{◌≤◌, Option, Some, None, IfNone, sym, ◌∙◌}
-use Rattle.md_base.specs.declared.answers.Refusal.{Refusal}
+use Rattle.superblocks.specs.md_base_the_Refusal.{Refusal}
 use Rattle.superblocks.specs.Reading.{role_count}
 use Rattle.superblocks.specs.Verdict.{AreValidShapes}
 use Rattle.superblocks.proofs.ValidFields.{valid-shapes, few-roles}

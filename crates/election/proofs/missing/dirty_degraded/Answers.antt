@@ -1,6 +1,6 @@
 use Rattle.std.proofs.Common.{◌≡◌, ℕ, Bool, false, cond, None, sym, ap₂, ◌∙◌, arith, option_map, ◌&&◌, below_more}
-use Rattle.md_base.specs.declared.answers.Refusal.TheVariants.{DirtyDegraded}
-use Rattle.md_base.proofs.Least.{least_below-none}
+use Rattle.superblocks.specs.md_base_the_Refusal_TheVariants.{DirtyDegraded}
+use Rattle.superblocks.proofs.md_base_Least.{least_below-none}
 use Rattle.superblocks.specs.Reading.{role_count}
 use Rattle.superblocks.specs.Verdict.{is_missing, holds_data}
 use Rattle.superblocks.proofs.Searches.{least_below-first}

@@ -1,10 +1,10 @@
 use Rattle.std.proofs.Common.{◌≡◌, ◌<◌, ◌≤◌, ℕ, true, false, nat_eq, nat_lt, sym, ◌∙◌, arith}
 use Rattle.std.proofs.lemmas.Bool.Decides.{nat_tests}
-use Rattle.md_base.specs.declared.places.Shape.{Shape}
-use Rattle.md_base.specs.Shapes.{is_valid_shape, data_disks}
-use Rattle.md_base.specs.Search.{any_below}
-use Rattle.layout.specs.Layout.{has_data, stripe_data}
-use Rattle.layout.proofs.Stripes.{stripe_data-below}
+use Rattle.superblocks.specs.md_base_the_Shape.{Shape}
+use Rattle.superblocks.specs.md_base_Shapes.{is_valid_shape, data_disks}
+use Rattle.superblocks.specs.md_base_Search.{any_below}
+use Rattle.superblocks.specs.layout_Layout.{has_data, stripe_data}
+use Rattle.superblocks.proofs.layout_Stripes.{stripe_data-below}
 use Rattle.superblocks.proofs.Searches.{any_below-none}
 use Rattle.election.proofs.missing.has_data.Goals as goal
 

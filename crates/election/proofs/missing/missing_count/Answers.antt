@@ -1,9 +1,9 @@
 use Rattle.std.proofs.Common.{◌≡◌, ℕ, ◌+◌, Bool, true, false, cond, refl, sym, ap, ap₂, ◌∙◌, arith, add-one, add-zero}
 use Rattle.std.specs.Prelude.{not}
 use Rattle.std.proofs.lemmas.List.{get_or_default}
-use Rattle.md_base.specs.declared.status.Role.{Role}
-use Rattle.md_base.specs.declared.status.Role.TheVariants.{Missing, Whole}
-use Rattle.md_base.specs.Search.{count_below}
+use Rattle.superblocks.specs.md_base_the_Role.{Role}
+use Rattle.superblocks.specs.md_base_the_Role_TheVariants.{Missing, Whole}
+use Rattle.superblocks.specs.md_base_Search.{count_below}
 use Rattle.superblocks.specs.Reading.{is_whole}
 use Rattle.superblocks.specs.Verdict.{is_missing}
 use Rattle.election.proofs.missing.missing_count.Goals as goal

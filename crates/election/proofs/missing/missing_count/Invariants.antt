@@ -1,5 +1,5 @@
 use Rattle.std.proofs.Common.{◌≡◌, ◌≤◌}
-use Rattle.md_base.specs.Search.{count_below}
+use Rattle.superblocks.specs.md_base_Search.{count_below}
 use Rattle.superblocks.specs.Verdict.{is_missing}
 use Rattle.election.proofs.missing.missing_count.Given as goal
 

@@ -1,5 +1,5 @@
 use Rattle.std.proofs.Common.{arith, length}
-use Rattle.bank.specs.Tape.{contents}
+use Rattle.superblocks.specs.bank_Tape.{contents}
 use Rattle.election.proofs.Decoded.{decoded, readable, in-sectors}
 use Rattle.election.proofs.reads.read_superblock.Goals as goal
 

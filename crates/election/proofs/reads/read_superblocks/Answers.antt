@@ -1,9 +1,9 @@
 use Rattle.std.proofs.Common.{◌≡◌, ◌<◌, get_or, List, Option, Some, None, refl, sym, subst, ap₂, ◌∙◌, cond, arith, length}
-use Rattle.sb1.specs.declared.sb.Sb.{Sb}
-use Rattle.sb1.specs.Superblock.{superblock_in}
-use Rattle.bank.specs.declared.bank.Operation.{Operation}
-use Rattle.bank.specs.Given.{Given}
-use Rattle.bank.specs.Tape.{contents}
+use Rattle.superblocks.specs.sb1_the_Sb.{Sb}
+use Rattle.superblocks.specs.sb1_Superblock.{superblock_in}
+use Rattle.superblocks.specs.bank_the_Operation.{Operation}
+use Rattle.superblocks.specs.bank_Given.{Given}
+use Rattle.superblocks.specs.bank_Tape.{contents}
 use Rattle.superblocks.specs.Reading.{is_backup}
 use Rattle.superblocks.specs.Found.{IsInSectors, AreInSectors}
 use Rattle.superblocks.specs.Writing.{IsMember, AreWritable}

@@ -1,5 +1,5 @@
 use Rattle.std.proofs.Common.{◌≡◌, ℕ, None, IsTrue, get_or, length}
-use Rattle.bank.specs.Tape.{contents}
+use Rattle.superblocks.specs.bank_Tape.{contents}
 use Rattle.superblocks.specs.Found.{AreInSectors}
 use Rattle.superblocks.specs.Reading.{is_backup}
 use Rattle.superblocks.specs.Writing.{AreWritable}

@@ -1,5 +1,5 @@
 use Rattle.std.proofs.Common.{take}
-use Rattle.bank.specs.Given.{sizes}
+use Rattle.array_kept.specs.bank_Given.{sizes}
 use Rattle.found_members.proofs.Elected.{elected-does}
 use Rattle.found_members.proofs.laws.elected_members_do_without.Goals as goal
 

@@ -1,6 +1,6 @@
 use Rattle.std.proofs.Common.{◌≡◌, List, ap, arith}
-use Rattle.md_base.specs.declared.wishes.Phase.{Phase}
-use Rattle.grow_plan.specs.Plans.{phases, plan_phases, largest_window}
+use Rattle.flat_history.specs.md_base_the_Phase.{Phase}
+use Rattle.flat_history.specs.grow_plan_Plans.{phases, plan_phases, largest_window}
 use Rattle.grow_asked.proofs.PlanLaws.{windows-short, few-roles}
 use Rattle.grow_asked.proofs.judging.first_refusal.Goals as goal
 

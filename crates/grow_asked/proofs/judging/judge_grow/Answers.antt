@@ -1,6 +1,6 @@
 use Rattle.std.proofs.Common.{sym, subst, ◌∙◌, Option}
 use Rattle.std.specs.Prelude.{MatchOption}
-use Rattle.md_base.specs.declared.answers.Refusal.{Refusal}
+use Rattle.flat_history.specs.md_base_the_Refusal.{Refusal}
 use Rattle.grow_asked.specs.Asked.{asked_of, IsFirst, IsUngrowable}
 use Rattle.grow_asked.proofs.FirstLaws.{judged, exactly, none-exactly, unrefused-plan}
 use Rattle.grow_asked.proofs.judging.judge_grow.Goals as goal

@@ -1,7 +1,7 @@
 use Rattle.std.proofs.Common.{sym, ◌∙◌, arith}
-use Rattle.md_base.proofs.Least.{least_below-none}
-use Rattle.superblocks.proofs.Searches.{least_below-first}
-use Rattle.superblocks.specs.Reading.{role_count}
+use Rattle.flat_history.proofs.md_base_Least.{least_below-none}
+use Rattle.row_io.proofs.superblocks_Searches.{least_below-first}
+use Rattle.row_io.specs.superblocks_Reading.{role_count}
 use Rattle.row_io.specs.Rows.{reading_of, is_missing}
 use Rattle.grow_asked.proofs.judging.lowest_missing.Goals as goal
 

@@ -1,6 +1,6 @@
 use Rattle.std.proofs.Common.{◌≡◌, ℕ, ◌/◌, ap, arith}
-use Rattle.md_base.specs.Shapes.{stripe_sectors}
-use Rattle.geometry.proofs.ClosedForms.{rounded_up}
+use Rattle.flat_history.specs.md_base_Shapes.{stripe_sectors}
+use Rattle.flat_history.proofs.geometry_ClosedForms.{rounded_up}
 use Rattle.grow_asked.proofs.left.stripes.Goals as goal
 
 pub returns-clause-value : goal.returns-clause-value

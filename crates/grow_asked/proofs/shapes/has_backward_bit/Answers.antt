@@ -1,5 +1,5 @@
 use Rattle.std.proofs.Common.{lit<, refl}
-use Rattle.superblocks.proofs.FeatureBits.{masked}
+use Rattle.row_io.proofs.superblocks_FeatureBits.{masked}
 use Rattle.grow_asked.proofs.shapes.has_backward_bit.Goals as goal
 
 pub returns : goal.returns

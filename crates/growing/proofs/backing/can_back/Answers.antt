@@ -1,6 +1,6 @@
 use Rattle.std.proofs.Common.{ℕ, ◌≤◌, Option, sym, ◌∙◌, subst}
 use Rattle.std.specs.Prelude.{IfSome}
-use Rattle.superblocks.proofs.ValidFields.{few-roles}
+use Rattle.turning.proofs.superblocks_ValidFields.{few-roles}
 use Rattle.growing.specs.Plans.{IsAside}
 use Rattle.growing.proofs.Parted.{backs-as, none-backs-as, never-both}
 use Rattle.growing.proofs.backing.can_back.Goals.{in-None, in-Some}

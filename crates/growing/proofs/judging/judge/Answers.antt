@@ -1,9 +1,9 @@
 use Rattle.std.proofs.Common.{◌≡◌, ℕ, length, ◌∙◌, ap, subst}
 use Rattle.std.specs.Prelude.{option_map}
-use Rattle.bank.specs.Given.{sizes}
-use Rattle.superblocks.specs.Reading.{list_length}
-use Rattle.grow_asked.specs.Asked.{asked_of, grow_refusal}
-use Rattle.grow_asked.specs.Left.{phases_of}
+use Rattle.running_replies.specs.bank_Given.{sizes}
+use Rattle.turning.specs.superblocks_Reading.{list_length}
+use Rattle.turning.specs.grow_asked_Asked.{asked_of, grow_refusal}
+use Rattle.turning.specs.grow_asked_Left.{phases_of}
 use Rattle.turning.specs.running_words_Parts.{visible_size, visible_in}
 use Rattle.turning.proofs.running_words_VisibleLaws.{visible-is}
 use Rattle.growing.proofs.Told.{first-as, visible-as}

@@ -1,22 +1,22 @@
 use Rattle.std.proofs.Common.{◌≡◌, ◌≤◌, List, None, [], ◌∷◌, ◌++◌, length, refl, sym, ◌∙◌, ap, subst, arith}
 use Rattle.std.specs.Prelude.{option_map, if◌then◌else◌}
-use Rattle.bank.specs.Given.{sizes}
-use Rattle.md_base.specs.declared.places.Shape.{Shape}
-use Rattle.md_base.specs.declared.wishes.Phase.{Phase}
-use Rattle.grow_plan.specs.Plans.{AreSound, phases, phases_steps, largest_window, last_shape}
-use Rattle.superblocks.specs.Reading.{is_reshaping, shape_of, final_shape}
-use Rattle.flat_history.specs.declared.events.Entry.{Entry}
-use Rattle.flat_history.specs.declared.events.Event.TheVariants.{Planned}
-use Rattle.flat_history.specs.Fits.{phases_left}
-use Rattle.flat_history.specs.Flat.{next_number}
-use Rattle.flat_history.specs.Plain.{entries_of}
-use Rattle.flat_history.specs.World.{World}
+use Rattle.running_replies.specs.bank_Given.{sizes}
+use Rattle.running_replies.specs.md_base_the_Shape.{Shape}
+use Rattle.running_replies.specs.md_base_the_Phase.{Phase}
+use Rattle.turning.specs.grow_plan_Plans.{AreSound, phases, phases_steps, largest_window, last_shape}
+use Rattle.turning.specs.superblocks_Reading.{is_reshaping, shape_of, final_shape}
+use Rattle.running_replies.specs.flat_history_the_Entry.{Entry}
+use Rattle.running_replies.specs.flat_history_the_Event_TheVariants.{Planned}
+use Rattle.turning.specs.flat_history_Fits.{phases_left}
+use Rattle.running_replies.specs.flat_history_Flat.{next_number}
+use Rattle.turning.specs.flat_history_Plain.{entries_of}
+use Rattle.turning.specs.flat_history_World.{World}
 use Rattle.running_replies.specs.array_kept_Kept.{scope_in, world_in}
 use Rattle.running_replies.proofs.array_kept_LossLaws.{ended-behind}
 use Rattle.running_replies.proofs.array_kept_ReadyLaws.{scope-same}
-use Rattle.grow_asked.specs.Asked.{asked_of, grow_refusal}
-use Rattle.grow_asked.specs.Left.{phases_of}
-use Rattle.grow_asked.proofs.FirstLaws.{unrefused-plan}
+use Rattle.turning.specs.grow_asked_Asked.{asked_of, grow_refusal}
+use Rattle.turning.specs.grow_asked_Left.{phases_of}
+use Rattle.turning.proofs.grow_asked_FirstLaws.{unrefused-plan}
 use Rattle.running_replies.specs.history_calls_Reliable.{IsReliable}
 use Rattle.turning.specs.running_words_Parts.{visible_size}
 use Rattle.turning.specs.running_words_Plans.{GoTo}

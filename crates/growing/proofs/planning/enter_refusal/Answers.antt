@@ -1,16 +1,16 @@
 use Rattle.std.proofs.Common.{◌≡◌, ◌≤◌, Some, [], ◌∷◌, length, refl, subst, arith}
 use Rattle.std.specs.Prelude.{option_map}
-use Rattle.bank.specs.Given.{sizes}
-use Rattle.flat_history.specs.declared.events.Event.TheVariants.{Refused}
-use Rattle.flat_history.specs.Flat.{next_number}
-use Rattle.flat_history.specs.OneShape.{opening_in}
-use Rattle.flat_history.specs.Plain.{entries_of}
+use Rattle.running_replies.specs.bank_Given.{sizes}
+use Rattle.running_replies.specs.flat_history_the_Event_TheVariants.{Refused}
+use Rattle.running_replies.specs.flat_history_Flat.{next_number}
+use Rattle.running_replies.specs.flat_history_OneShape.{opening_in}
+use Rattle.turning.specs.flat_history_Plain.{entries_of}
 use Rattle.turning.proofs.views_MovedLaws.{grows-none}
 use Rattle.running_replies.specs.array_kept_Kept.{scope_in, world_in}
 use Rattle.running_replies.proofs.array_kept_LossLaws.{ended-behind}
 use Rattle.running_replies.proofs.array_kept_ReadyLaws.{scope-same}
-use Rattle.grow_asked.specs.Asked.{asked_of, grow_refusal}
-use Rattle.grow_asked.specs.Left.{phases_of}
+use Rattle.turning.specs.grow_asked_Asked.{asked_of, grow_refusal}
+use Rattle.turning.specs.grow_asked_Left.{phases_of}
 use Rattle.turning.proofs.kept_history_Records.{begins-going}
 use Rattle.turning.specs.running_words_Parts.{visible_size}
 use Rattle.turning.proofs.running_words_Lengths.{alone-keeps}

@@ -1,6 +1,6 @@
 use Rattle.std.proofs.Common.{◌≡◌, ℕ, Some, None, sym, ◌∙◌, subst}
-use Rattle.flat_history.specs.declared.events.Event.TheVariants.{Planned, Refused}
-use Rattle.grow_asked.specs.Asked.{grow_refusal}
+use Rattle.running_replies.specs.flat_history_the_Event_TheVariants.{Planned, Refused}
+use Rattle.turning.specs.grow_asked_Asked.{grow_refusal}
 use Rattle.turning.specs.running_words_Calls.{moving_world}
 use Rattle.growing.specs.Planned.{asked_in, IsGrowReply}
 use Rattle.growing.proofs.Told.{asked-as, asked-room, none-open, none-open-room}

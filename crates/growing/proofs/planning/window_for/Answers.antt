@@ -1,12 +1,12 @@
 use Rattle.std.proofs.Common.{◌≡◌, ◌*◌, ◌≤◌, None, length, arith, subst}
 use Rattle.std.specs.Prelude.{option_map}
-use Rattle.bank.specs.Given.{sizes}
-use Rattle.grow_plan.specs.Plans.{phases, largest_window}
-use Rattle.superblocks.specs.Reading.{shape_of}
-use Rattle.grow_asked.specs.Asked.{asked_of, grow_refusal}
-use Rattle.grow_asked.specs.Left.{phases_of}
-use Rattle.grow_asked.proofs.FirstLaws.{unrefused-plan}
-use Rattle.grow_asked.proofs.PlanLaws.{windows-short}
+use Rattle.running_replies.specs.bank_Given.{sizes}
+use Rattle.turning.specs.grow_plan_Plans.{phases, largest_window}
+use Rattle.turning.specs.superblocks_Reading.{shape_of}
+use Rattle.turning.specs.grow_asked_Asked.{asked_of, grow_refusal}
+use Rattle.turning.specs.grow_asked_Left.{phases_of}
+use Rattle.turning.proofs.grow_asked_FirstLaws.{unrefused-plan}
+use Rattle.turning.proofs.grow_asked_PlanLaws.{windows-short}
 use Rattle.turning.specs.running_words_Parts.{visible_size}
 use Rattle.growing.specs.Planned.{asked_in}
 use Rattle.growing.proofs.Kept.{ok-map}

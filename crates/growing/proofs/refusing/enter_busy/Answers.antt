@@ -1,11 +1,11 @@
 use Rattle.std.proofs.Common.{◌≡◌, [], ◌∷◌, ◌++◌, List, refl, ◌∙◌, ap, subst, arith}
-use Rattle.md_base.specs.declared.answers.Refusal.TheVariants.{Busy}
-use Rattle.md_base.specs.declared.answers.BusyKind.TheVariants.{Reshape}
-use Rattle.superblocks.specs.Reading.{list_length}
-use Rattle.flat_history.specs.declared.events.Entry.{Entry}
-use Rattle.flat_history.specs.declared.events.Event.TheVariants.{Refused}
-use Rattle.flat_history.specs.Flat.{next_number}
-use Rattle.flat_history.specs.Plain.{entries_of}
+use Rattle.running_replies.specs.md_base_the_Refusal_TheVariants.{Busy}
+use Rattle.running_replies.specs.md_base_the_BusyKind_TheVariants.{Reshape}
+use Rattle.turning.specs.superblocks_Reading.{list_length}
+use Rattle.running_replies.specs.flat_history_the_Entry.{Entry}
+use Rattle.running_replies.specs.flat_history_the_Event_TheVariants.{Refused}
+use Rattle.running_replies.specs.flat_history_Flat.{next_number}
+use Rattle.turning.specs.flat_history_Plain.{entries_of}
 use Rattle.turning.proofs.views_MovedLaws.{grows-none}
 use Rattle.running_replies.specs.array_kept_Kept.{scope_in, world_in}
 use Rattle.running_replies.proofs.array_kept_LossLaws.{ended-behind}

@@ -1,4 +1,4 @@
-use Rattle.flat_history.specs.declared.events.Request.TheVariants.{Grow as AsksGrow}
+use Rattle.running_replies.specs.flat_history_the_Request_TheVariants.{Grow as AsksGrow}
 use Rattle.growing.proofs.refusing.refuse_grow.Goals as goal
 
 pub returns-in-Ok-clause-answered : goal.returns-in-Ok-clause-answered

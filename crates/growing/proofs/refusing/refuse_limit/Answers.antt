@@ -1,4 +1,4 @@
-use Rattle.flat_history.specs.declared.events.Request.TheVariants.{Visible as AsksVisible}
+use Rattle.running_replies.specs.flat_history_the_Request_TheVariants.{Visible as AsksVisible}
 use Rattle.growing.proofs.refusing.refuse_limit.Goals as goal
 
 pub returns-in-Ok-clause-answered : goal.returns-in-Ok-clause-answered

@@ -1,7 +1,7 @@
 use Rattle.std.proofs.Common.{rules, ◌≡◌, List, [], ◌∷◌, ◌++◌, true, false, length, refl, sym, ap, ◌∙◌, subst, append_assoc, append-nil, arith}
 use Rattle.std.specs.Vec.Iter.{into_iter_items}
 use Rattle.std.proofs.lemmas.List.Elements.{All-same, All-tail}
-use Rattle.flat_history.specs.declared.events.Request.{Request}
+use Rattle.seen_laws.specs.flat_history_the_Request.{Request}
 use Rattle.running_calls.specs.declared.reply.Reply.{Reply}
 use Rattle.running_calls.specs.declared.reply.Reply.TheVariants.{Done, NoMemory as Short}
 use Rattle.running_calls.specs.Replies.{IsAskable}

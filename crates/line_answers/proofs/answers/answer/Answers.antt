@@ -1,5 +1,5 @@
 use Rattle.std.proofs.Common.{subst, sym}
-use Rattle.bank.specs.Given.{NeverFalls}
+use Rattle.line_asks.specs.bank_Given.{NeverFalls}
 use Rattle.line_asks.specs.run_laws_States.{bank_in}
 use Rattle.line_asks.specs.run_laws_the_State.{State}
 use Rattle.line_answers.proofs.answers.answer.Goals as goal

@@ -1,7 +1,7 @@
 use Rattle.std.proofs.Common.{refl, sym, subst, arith, length}
 use Rattle.std.specs.Prelude.{false}
-use Rattle.md_base.specs.declared.answers.Refusal.TheVariants.{NotRunning}
-use Rattle.script.specs.declared.lines.Line.{Line}
+use Rattle.line_asks.specs.md_base_the_Refusal_TheVariants.{NotRunning}
+use Rattle.line_asks.specs.script_the_Line.{Line}
 use Rattle.line_asks.specs.run_laws_Making.{setting_of}
 use Rattle.line_asks.specs.run_laws_Replies.{IsRefusedOutside}
 use Rattle.line_asks.specs.run_laws_States.{IsTurn}

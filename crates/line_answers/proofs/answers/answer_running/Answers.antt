@@ -1,9 +1,9 @@
 use Rattle.std.proofs.Common.{true, length, Result, refl, sym, ◌∙◌, subst, arith}
-use Rattle.bank.specs.Given.{NeverFalls}
-use Rattle.md_base.specs.declared.answers.NoMemory.{NoMemory}
-use Rattle.script.specs.declared.lines.Line.{Line}
-use Rattle.script.specs.declared.lines.Line.TheVariants.{Read, Write, Flush, Fail, Add, ArraySize, Grow, Step, Wait, Detail, Mdstat}
-use Rattle.md_base.specs.declared.answers.Refusal.TheVariants.{Running as RefusedRunning}
+use Rattle.line_asks.specs.bank_Given.{NeverFalls}
+use Rattle.line_asks.specs.md_base_the_NoMemory.{NoMemory}
+use Rattle.line_asks.specs.script_the_Line.{Line}
+use Rattle.line_asks.specs.script_the_Line_TheVariants.{Read, Write, Flush, Fail, Add, ArraySize, Grow, Step, Wait, Detail, Mdstat}
+use Rattle.line_asks.specs.md_base_the_Refusal_TheVariants.{Running as RefusedRunning}
 use Rattle.line_asks.specs.run_laws_Making.{setting_of}
 use Rattle.line_asks.specs.run_laws_Replies.{IsRefusedOutside}
 use Rattle.line_asks.specs.run_laws_States.{running_history, histories_in, bank_in, IsTurnOrNone, IsTurn}

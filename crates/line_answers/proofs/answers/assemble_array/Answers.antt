@@ -1,17 +1,17 @@
 use Rattle.std.proofs.Common.{◌≡◌, rules, refl, ℕ, [], ◌∷◌, ◌++◌, length, sym, ap, subst, arith, ◌∙◌}
 use Rattle.std.specs.Prelude.{IsTrue}
-use Rattle.bank.specs.Given.{NeverFalls}
-use Rattle.bank.specs.Tape.{contents}
+use Rattle.line_asks.specs.bank_Given.{NeverFalls}
+use Rattle.line_asks.specs.bank_Tape.{contents}
 use Rattle.line_asks.specs.views_Moving.{Grows}
-use Rattle.md_base.specs.declared.answers.Fault.{Fault}
-use Rattle.md_base.specs.declared.answers.Who.{Who}
-use Rattle.flat_history.specs.declared.events.Event.TheVariants.{Shown}
-use Rattle.flat_history.specs.Flat.{next_number}
-use Rattle.flat_history.specs.Plain.{entries_of}
+use Rattle.line_asks.specs.md_base_the_Fault.{Fault}
+use Rattle.line_asks.specs.md_base_the_Who.{Who}
+use Rattle.line_asks.specs.flat_history_the_Event_TheVariants.{Shown}
+use Rattle.line_asks.specs.flat_history_Flat.{next_number}
+use Rattle.line_asks.specs.flat_history_Plain.{entries_of}
 use Rattle.line_asks.specs.array_kept_Calls.{IsEntered, IsEndOf}
 use Rattle.line_asks.specs.running_words_Parts.{RunningParts}
 use Rattle.line_asks.specs.assemble_Opening.{HasFoundNone}
-use Rattle.script.specs.declared.lines.Line.TheVariants.{Assemble as AsksAssemble}
+use Rattle.line_asks.specs.script_the_Line_TheVariants.{Assemble as AsksAssemble}
 use Rattle.line_asks.specs.run_laws_Ended.{IsGoing, IsRunKept}
 use Rattle.line_asks.specs.run_laws_Making.{setting_of, world_at, AreHeldSince}
 use Rattle.line_asks.specs.run_laws_States.{running_history, IsTurn, IsNoTurn}

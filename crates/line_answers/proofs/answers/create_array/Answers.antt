@@ -1,12 +1,12 @@
 use Rattle.std.proofs.Common.{rules, List, Some, length, refl, sym, ap, subst, arith, ◌∙◌}
 use Rattle.std.specs.Prelude.{IsTrue}
-use Rattle.bank.specs.Tape.{contents}
-use Rattle.md_base.specs.declared.answers.Fault.{Fault}
-use Rattle.flat_history.specs.declared.events.Entry.{Entry}
-use Rattle.flat_history.specs.Transfers.{last_end_from}
+use Rattle.line_asks.specs.bank_Tape.{contents}
+use Rattle.line_asks.specs.md_base_the_Fault.{Fault}
+use Rattle.line_asks.specs.flat_history_the_Entry.{Entry}
+use Rattle.line_asks.specs.flat_history_Transfers.{last_end_from}
 use Rattle.line_asks.specs.assemble_Made.{HasCreateCause}
 use Rattle.line_asks.specs.assemble_Opening.{scope_of}
-use Rattle.script.specs.declared.lines.Line.TheVariants.{Create as AsksCreate}
+use Rattle.line_asks.specs.script_the_Line_TheVariants.{Create as AsksCreate}
 use Rattle.line_asks.specs.run_laws_Making.{setting_of}
 use Rattle.line_asks.specs.run_laws_Replies.{spec_of}
 use Rattle.line_asks.specs.run_laws_States.{IsTurn, running_history}
@@ -18,8 +18,8 @@ use Rattle.line_answers.proofs.Found.{opened_accepted, opened_held}
 use Rattle.line_answers.proofs.Turns.{turn_created, turn_idle, no_turn_idle}
 use Rattle.line_asks.specs.run_laws_the_Answered_TheVariants.{Outside as IsOutside}
 use Rattle.line_asks.specs.run_laws_the_Outside_TheVariants.{Created}
-use Rattle.md_base.specs.declared.answers.Refusal.{Refusal}
-use Rattle.md_base.specs.declared.answers.Fault.TheVariants.{Refused as IsRefusedWith}
+use Rattle.line_asks.specs.md_base_the_Refusal.{Refusal}
+use Rattle.line_asks.specs.md_base_the_Fault_TheVariants.{Refused as IsRefusedWith}
 use Rattle.line_asks.specs.run_laws_Histories.{histories_of}
 use Rattle.line_asks.specs.run_laws_Written.{MayWrite, HasWritten, IsWritten}
 use Rattle.line_asks.proofs.Writing.{written_idle, opened_below, create_refused, create_short}

@@ -1,9 +1,9 @@
 use Rattle.std.proofs.Common.{◌≡◌, ℕ, ◌+◌, ◌-◌, ◌≤◌, [], ◌∷◌, ◌++◌, length, sym, ap, ◌∙◌, subst, le_of_eq, arith}
-use Rattle.flat_history.specs.declared.events.Epoch.{Epoch}
-use Rattle.flat_history.specs.declared.events.Event.{Event}
+use Rattle.line_asks.specs.flat_history_the_Epoch.{Epoch}
+use Rattle.line_asks.specs.flat_history_the_Event.{Event}
 use Rattle.line_asks.specs.run_laws_Histories.{history_of, is_end}
 use Rattle.line_asks.specs.superblocks_Reading.{list_length}
-use Rattle.script.specs.declared.lines.Line.TheVariants.{Halt as AsksHalt}
+use Rattle.line_asks.specs.script_the_Line_TheVariants.{Halt as AsksHalt}
 use Rattle.line_asks.specs.run_laws_Making.{setting_of}
 use Rattle.line_asks.specs.run_laws_States.{IsTurn}
 use Rattle.line_asks.specs.run_laws_the_Answered.{Answered}
@@ -13,7 +13,7 @@ use Rattle.line_asks.proofs.Legal.{former_halted}
 use Rattle.line_asks.proofs.run_laws_Losses.{losses-halted}
 use Rattle.line_asks.proofs.run_laws_Turned.{asked-tellable, halt-told}
 use Rattle.line_answers.proofs.Turns.{turn_ended}
-use Rattle.flat_history.specs.declared.events.Event.TheVariants.{Halted}
+use Rattle.line_asks.specs.flat_history_the_Event_TheVariants.{Halted}
 use Rattle.line_asks.specs.run_laws_Written.{HasWritten}
 use Rattle.line_asks.proofs.Writing.{entered_end, written_ended}
 use Rattle.line_answers.proofs.answers.halt_array.Goals as goal

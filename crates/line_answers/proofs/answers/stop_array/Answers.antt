@@ -1,12 +1,12 @@
 use Rattle.std.proofs.Common.{◌≡◌, ◌+◌, ◌-◌, ◌≤◌, [], ◌∷◌, ◌++◌, ℕ, Option, Ok, Err, refl, sym, ◌∙◌, ap, subst, arith}
-use Rattle.md_base.specs.declared.answers.Fault.{Fault}
-use Rattle.flat_history.specs.declared.events.Epoch.{Epoch}
-use Rattle.flat_history.specs.declared.events.Event.{Event}
+use Rattle.line_asks.specs.md_base_the_Fault.{Fault}
+use Rattle.line_asks.specs.flat_history_the_Epoch.{Epoch}
+use Rattle.line_asks.specs.flat_history_the_Event.{Event}
 use Rattle.line_asks.specs.run_laws_Histories.{history_of, is_end}
 use Rattle.line_asks.specs.superblocks_Reading.{list_length}
 use Rattle.line_asks.specs.views_Lacking.{AreTooMany}
 use Rattle.line_asks.specs.array_kept_Calls.{IsUnsettled, IsFaultFor}
-use Rattle.script.specs.declared.lines.Line.TheVariants.{Stop as AsksStop}
+use Rattle.line_asks.specs.script_the_Line_TheVariants.{Stop as AsksStop}
 use Rattle.line_asks.specs.run_laws_Making.{setting_of}
 use Rattle.line_asks.specs.run_laws_States.{running_history, IsTurn}
 use Rattle.line_asks.specs.run_laws_the_Answered.{Answered}
@@ -14,7 +14,7 @@ use Rattle.line_asks.specs.run_laws_the_State_TheVariants.{Idle as IsIdle, Runni
 use Rattle.line_asks.proofs.run_laws_AskLaws.{asked_stop, asked_unstopped, behind_grew}
 use Rattle.line_asks.specs.running_words_Calls.{IsEpochKept}
 use Rattle.line_asks.specs.running_replies_Replies.{IsRefusalToldBy}
-use Rattle.bank.specs.Given.{Given}
+use Rattle.line_asks.specs.bank_Given.{Given}
 use Rattle.line_asks.specs.run_laws_Ended.{IfReliable, IfShapeKept}
 use Rattle.line_asks.specs.still_laws_Plain.{IsPlainEpoch}
 use Rattle.line_asks.proofs.Legal.{grows_longer, going_grown, former_more, legal_epoch}

@@ -1,7 +1,7 @@
 use Rattle.std.proofs.Common.{length, refl, sym, ap, subst, arith, List}
-use Rattle.bank.specs.declared.bank.Operation.{Operation}
-use Rattle.md_base.specs.declared.answers.Refusal.TheVariants.{NoSuchSlot}
-use Rattle.script.specs.declared.lines.Line.TheVariants.{Examine}
+use Rattle.line_asks.specs.bank_the_Operation.{Operation}
+use Rattle.line_asks.specs.md_base_the_Refusal_TheVariants.{NoSuchSlot}
+use Rattle.line_asks.specs.script_the_Line_TheVariants.{Examine}
 use Rattle.line_asks.specs.run_laws_Making.{setting_of}
 use Rattle.line_asks.specs.run_laws_States.{IsTurn}
 use Rattle.line_asks.specs.run_laws_Written.{HasWritten}

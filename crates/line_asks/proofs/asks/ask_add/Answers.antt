@@ -1,11 +1,11 @@
 use Rattle.std.proofs.Common.{List, refl, ap}
-use Rattle.flat_history.specs.declared.events.Entry.{Entry}
-use Rattle.flat_history.specs.declared.events.Event.TheVariants.{Added}
-use Rattle.flat_history.specs.declared.events.Request.TheVariants.{Add as AsksAdd}
-use Rattle.flat_history.specs.OneShape.{OneShapeFits}
+use Rattle.run_laws.specs.flat_history_the_Entry.{Entry}
+use Rattle.run_laws.specs.flat_history_the_Event_TheVariants.{Added}
+use Rattle.run_laws.specs.flat_history_the_Request_TheVariants.{Add as AsksAdd}
+use Rattle.run_laws.specs.flat_history_OneShape.{OneShapeFits}
 use Rattle.run_laws.specs.superblocks_Reading.{list_length}
 use Rattle.run_laws.specs.running_words_Parts.{RunningParts}
-use Rattle.script.specs.declared.lines.Line.TheVariants.{Add as AddLine}
+use Rattle.run_laws.specs.script_the_Line_TheVariants.{Add as AddLine}
 use Rattle.run_laws.proofs.AskLaws.{on_no_memory, grew, asked_at, answered_reply, answered_none, spares_told, spares_short}
 use Rattle.line_asks.proofs.Sizes.{sized-answered}
 use Rattle.line_asks.proofs.Called.{added-length}

@@ -1,10 +1,10 @@
 use Rattle.std.proofs.Common.{List, refl, ap}
-use Rattle.flat_history.specs.declared.events.Entry.{Entry}
-use Rattle.flat_history.specs.declared.events.Event.TheVariants.{Failed}
-use Rattle.flat_history.specs.declared.events.Request.TheVariants.{Fail as AsksFail}
-use Rattle.flat_history.specs.OneShape.{OneShapeFits}
+use Rattle.run_laws.specs.flat_history_the_Entry.{Entry}
+use Rattle.run_laws.specs.flat_history_the_Event_TheVariants.{Failed}
+use Rattle.run_laws.specs.flat_history_the_Request_TheVariants.{Fail as AsksFail}
+use Rattle.run_laws.specs.flat_history_OneShape.{OneShapeFits}
 use Rattle.run_laws.specs.superblocks_Reading.{list_length}
-use Rattle.script.specs.declared.lines.Line.TheVariants.{Fail as FailLine}
+use Rattle.run_laws.specs.script_the_Line_TheVariants.{Fail as FailLine}
 use Rattle.run_laws.proofs.AskLaws.{on_no_memory, grew, asked_at, answered_reply, answered_none}
 use Rattle.line_asks.proofs.Sizes.{sized-answered}
 use Rattle.line_asks.proofs.Called.{called-length}

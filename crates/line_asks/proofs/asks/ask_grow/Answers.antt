@@ -1,8 +1,8 @@
 use Rattle.std.proofs.Common.{length, refl, sym}
 use Rattle.run_laws.specs.superblocks_Reading.{list_length}
-use Rattle.flat_history.specs.declared.events.Event.TheVariants.{Planned}
-use Rattle.flat_history.specs.declared.events.Request.TheVariants.{Grow as AsksGrow}
-use Rattle.script.specs.declared.lines.Line.TheVariants.{Grow as GrowLine}
+use Rattle.run_laws.specs.flat_history_the_Event_TheVariants.{Planned}
+use Rattle.run_laws.specs.flat_history_the_Request_TheVariants.{Grow as AsksGrow}
+use Rattle.run_laws.specs.script_the_Line_TheVariants.{Grow as GrowLine}
 use Rattle.run_laws.specs.grow_asked_Left.{phases_of}
 use Rattle.run_laws.specs.running_Calls.{running_left}
 use Rattle.run_laws.specs.running_words_Calls.{moving_world}

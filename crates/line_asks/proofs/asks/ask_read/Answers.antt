@@ -1,11 +1,11 @@
 use Rattle.std.proofs.Common.{refl, ◌≡◌, ◌*◌, ◌/◌, ℕ, List, length, ◌∙◌, subst, arith, ap}
-use Rattle.md_base.specs.Sectors.{sectors_of}
-use Rattle.flat_history.specs.declared.events.Entry.{Entry}
-use Rattle.flat_history.specs.declared.events.Event.TheVariants.{Read}
-use Rattle.flat_history.specs.declared.events.Request.TheVariants.{Read as AsksRead}
-use Rattle.flat_history.specs.OneShape.{OneShapeFits}
+use Rattle.run_laws.specs.md_base_Sectors.{sectors_of}
+use Rattle.run_laws.specs.flat_history_the_Entry.{Entry}
+use Rattle.run_laws.specs.flat_history_the_Event_TheVariants.{Read}
+use Rattle.run_laws.specs.flat_history_the_Request_TheVariants.{Read as AsksRead}
+use Rattle.run_laws.specs.flat_history_OneShape.{OneShapeFits}
 use Rattle.run_laws.specs.superblocks_Reading.{list_length}
-use Rattle.script.specs.declared.lines.Line.TheVariants.{Read as ReadLine}
+use Rattle.run_laws.specs.script_the_Line_TheVariants.{Read as ReadLine}
 use Rattle.run_laws.proofs.AskLaws.{on_no_memory, grew, asked_at, answered_reply, answered_none}
 use Rattle.line_asks.proofs.Sizes.{sized-answered, sized-none}
 use Rattle.line_asks.proofs.Called.{called-length}

@@ -1,10 +1,10 @@
 use Rattle.std.proofs.Common.{◌≡◌, ℕ, ◌<◌, List, ◌∷◌, [], ◌++◌, length, length-append, Option, ap, subst, arith}
-use Rattle.md_base.specs.declared.answers.Refusal.{Refusal}
-use Rattle.md_base.specs.declared.answers.Who.{Who}
-use Rattle.flat_history.specs.declared.events.Entry.{Entry}
-use Rattle.flat_history.specs.declared.events.Event.{Event}
-use Rattle.flat_history.specs.declared.events.Request.TheVariants.{Steps as AsksSteps}
-use Rattle.script.specs.declared.lines.Line.TheVariants.{Step as StepLine}
+use Rattle.run_laws.specs.md_base_the_Refusal.{Refusal}
+use Rattle.run_laws.specs.md_base_the_Who.{Who}
+use Rattle.run_laws.specs.flat_history_the_Entry.{Entry}
+use Rattle.run_laws.specs.flat_history_the_Event.{Event}
+use Rattle.run_laws.specs.flat_history_the_Request_TheVariants.{Steps as AsksSteps}
+use Rattle.run_laws.specs.script_the_Line_TheVariants.{Step as StepLine}
 use Rattle.run_laws.specs.running_replies_Replies.{RunningFits}
 use Rattle.run_laws.specs.running_words_Parts.{RunningParts}
 use Rattle.run_laws.specs.running_Calls.{running_left}

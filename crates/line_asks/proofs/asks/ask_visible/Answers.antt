@@ -1,8 +1,8 @@
 use Rattle.std.proofs.Common.{length, refl}
 use Rattle.run_laws.specs.superblocks_Reading.{list_length}
-use Rattle.flat_history.specs.declared.events.Event.TheVariants.{Visible}
-use Rattle.flat_history.specs.declared.events.Request.TheVariants.{Visible as AsksVisible}
-use Rattle.script.specs.declared.lines.Line.TheVariants.{ArraySize as ArraySizeLine}
+use Rattle.run_laws.specs.flat_history_the_Event_TheVariants.{Visible}
+use Rattle.run_laws.specs.flat_history_the_Request_TheVariants.{Visible as AsksVisible}
+use Rattle.run_laws.specs.script_the_Line_TheVariants.{ArraySize as ArraySizeLine}
 use Rattle.run_laws.specs.grow_asked_Left.{phases_of}
 use Rattle.run_laws.specs.running_words_Calls.{moving_world}
 use Rattle.run_laws.specs.running_words_Parts.{visible_in}

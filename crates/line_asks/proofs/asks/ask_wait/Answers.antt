@@ -1,6 +1,6 @@
 use Rattle.std.proofs.Common.{Option, [], ◌∷◌, ◌++◌, refl, sym, ◌∙◌, subst, arith}
 use Rattle.std.specs.Prelude.{IsSome}
-use Rattle.flat_history.specs.declared.events.Entry.{Entry}
+use Rattle.run_laws.specs.flat_history_the_Entry.{Entry}
 use Rattle.run_laws.specs.Caused.{record_of}
 use Rattle.run_laws.proofs.AskLaws.{entry_there}
 use Rattle.line_asks.proofs.RecordLaws.{leaves-answered, answered-end, answered-then}

@@ -1,15 +1,15 @@
 use Rattle.std.proofs.Common.{refl, ◌∙◌, subst, arith, ap}
 use Rattle.std.proofs.Common.{◌≡◌, ◌/◌, ℕ, List, length}
-use Rattle.bank.specs.Given.{IsFaulted}
-use Rattle.md_base.specs.Sectors.{Sector, sectors_of}
+use Rattle.run_laws.specs.bank_Given.{IsFaulted}
+use Rattle.run_laws.specs.md_base_Sectors.{Sector, sectors_of}
 use Rattle.run_laws.specs.superblocks_Reading.{is_reshaping, list_length}
-use Rattle.flat_history.specs.declared.events.Entry.{Entry}
-use Rattle.flat_history.specs.declared.events.Request.TheVariants.{Write as AsksWrite}
-use Rattle.flat_history.specs.Flat.{visible_of}
+use Rattle.run_laws.specs.flat_history_the_Entry.{Entry}
+use Rattle.run_laws.specs.flat_history_the_Request_TheVariants.{Write as AsksWrite}
+use Rattle.run_laws.specs.flat_history_Flat.{visible_of}
 use Rattle.run_laws.specs.running_Calls.{IsWriteLackedIn}
 use Rattle.run_laws.specs.running_words_Parts.{visible_in}
 use Rattle.run_laws.specs.running_replies_Replies.{RunningFits}
-use Rattle.script.specs.declared.lines.Line.TheVariants.{Write as WriteLine}
+use Rattle.run_laws.specs.script_the_Line_TheVariants.{Write as WriteLine}
 use Rattle.run_laws.proofs.AskLaws.{on_no_memory, asked_with, with-grew, written_reply, written_none, seeded_count}
 use Rattle.line_asks.proofs.Sizes.{sized-none, sized-written}
 use Rattle.run_laws.proofs.Told.{told_none, write_told_by}
@@ -19,7 +19,7 @@ use Rattle.run_laws.specs.Caused.{record_of}
 use Rattle.run_laws.specs.Records.{IsLeftAt}
 use Rattle.run_laws.specs.grow_asked_Left.{phases_of}
 use Rattle.run_laws.specs.grow_asked_the_PhasesLeft.{PhasesLeft}
-use Rattle.script.specs.Seeds.{seeded}
+use Rattle.run_laws.specs.script_Seeds.{seeded}
 use Rattle.run_laws.proofs.Turned.{told-same, told-still, asked-unstepped, told-active, write-tellable}
 use Rattle.line_asks.proofs.Lefts.{left-called, left-written}
 use Rattle.line_asks.proofs.asks.ask_write.Goals as goal

@@ -1,7 +1,7 @@
 use Rattle.std.proofs.Common.{◌<◌, sym, subst}
-use Rattle.parity.specs.Rows.{sector_of}
+use Rattle.row_io.specs.parity_Rows.{sector_of}
 use Rattle.row_io.specs.Rows.{present, reading_of}
-use Rattle.superblocks.specs.declared.members.Members.{Members}
+use Rattle.row_io.specs.superblocks_the_Members.{Members}
 use Rattle.list_io.specs.Buffers.{HasData}
 use Rattle.list_io.proofs.BufferLaws.{row_read}
 use Rattle.list_io.proofs.ListLaws.{followed}

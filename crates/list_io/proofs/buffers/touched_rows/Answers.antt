@@ -1,7 +1,7 @@
 use Rattle.std.proofs.Common.{ℕ, inl, inr, sym, ◌∙◌, ap, subst, arith}
 use Rattle.std.proofs.lemmas.Bool.{cases_eq}
 use Rattle.std.specs.Prelude.{Contains}
-use Rattle.md_base.specs.declared.places.Place.{Place}
+use Rattle.layout.specs.md_base_the_Place.{Place}
 use Rattle.layout.specs.Layout.{place}
 use Rattle.list_io.proofs.buffers.touched_rows.Goals as goal
 

@@ -1,5 +1,5 @@
 use Rattle.std.proofs.Common.{sym, ap, ◌∙◌}
-use Rattle.superblocks.specs.Reading.{holder}
+use Rattle.row_io.specs.superblocks_Reading.{holder}
 use Rattle.list_io.proofs.held.held_slot.Goals as goal
 
 pub rows_recovered-requires : goal.rows_recovered-requires

@@ -1,6 +1,6 @@
 use Rattle.std.proofs.Common.{◌+◌, ℕ, inl, inr, refl, sym, ◌∙◌, subst, arith}
 use Rattle.std.proofs.lemmas.Bool.{cases_eq}
-use Rattle.parity.specs.Rows.{sector_of}
+use Rattle.row_io.specs.parity_Rows.{sector_of}
 use Rattle.row_io.specs.Rows.{present, reading_of}
 use Rattle.list_io.specs.Calls.{IsListed}
 use Rattle.list_io.proofs.LossLaws.{none_lost, lost_then, rows_by}

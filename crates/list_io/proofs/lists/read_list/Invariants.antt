@@ -1,5 +1,5 @@
 use Rattle.std.proofs.Common.{◌≡◌, ◌+◌, ◌<◌, ℕ}
-use Rattle.parity.specs.Rows.{sector_of}
+use Rattle.row_io.specs.parity_Rows.{sector_of}
 use Rattle.row_io.specs.Rows.{present, reading_of, IsTolerated}
 use Rattle.list_io.specs.Calls.{AreLost, IsListed}
 use Rattle.list_io.proofs.lists.read_list.Given as goal

@@ -1,9 +1,9 @@
 use Rattle.std.proofs.Common.{◌≡◌, ◌<◌, Some, false, sym, ◌∙◌, ap, subst}
-use Rattle.md_base.specs.declared.places.Place.{Place}
+use Rattle.layout.specs.md_base_the_Place.{Place}
 use Rattle.layout.specs.Layout.{place}
-use Rattle.parity.specs.Rows.{sector_of}
+use Rattle.row_io.specs.parity_Rows.{sector_of}
 use Rattle.row_io.specs.Rows.{present, reading_of, is_held, held_sector, standing_sector}
-use Rattle.superblocks.specs.declared.members.Members.{Members}
+use Rattle.row_io.specs.superblocks_the_Members.{Members}
 use Rattle.list_io.proofs.LossLaws.{lost_then, row_in, rows_by, tolerated_by}
 use Rattle.list_io.proofs.ListLaws.{answered, lacks_by, listed_held, listed_filled, present_same}
 use Rattle.list_io.proofs.lists.read_one.Goals as goal

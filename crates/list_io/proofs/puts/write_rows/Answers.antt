@@ -1,9 +1,9 @@
 use Rattle.std.proofs.Common.{◌≡◌, ◌+◌, ◌-◌, ◌*◌, ◌<◌, ◌≤◌, ℕ, List, length, take, drop, inr, sym, ◌∙◌, subst, arith}
 use Rattle.std.specs.Prelude.{slice_index, Contains}
 use Rattle.layout.proofs.Limits.{limited}
-use Rattle.md_base.specs.Sectors.{Sector}
-use Rattle.parity.specs.Rows.{sector_of}
-use Rattle.superblocks.specs.declared.members.Members.{Members}
+use Rattle.layout.specs.md_base_Sectors.{Sector}
+use Rattle.row_io.specs.parity_Rows.{sector_of}
+use Rattle.row_io.specs.superblocks_the_Members.{Members}
 use Rattle.row_io.specs.Rows.{present, reading_of}
 use Rattle.list_io.specs.Calls.{AreLost}
 use Rattle.list_io.specs.Buffers.{buffered, AreStanding}

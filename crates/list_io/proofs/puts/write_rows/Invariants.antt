@@ -1,8 +1,8 @@
 use Rattle.std.proofs.Common.{◌≡◌, ◌≢◌, ◌<◌, ◌≤◌, ℕ, length}
 use Rattle.std.specs.Prelude.{slice_index, Contains}
-use Rattle.bank.specs.Given.{NeverFalls}
-use Rattle.bank.specs.Tape.{EachMark, disk}
-use Rattle.md_base.specs.Sectors.{Sector}
+use Rattle.row_io.specs.bank_Given.{NeverFalls}
+use Rattle.row_io.specs.bank_Tape.{EachMark, disk}
+use Rattle.layout.specs.md_base_Sectors.{Sector}
 use Rattle.row_io.specs.Rows.{present, reading_of}
 use Rattle.list_io.specs.Buffers.{buffered}
 use Rattle.list_io.specs.Writing.{IsWritten, AreDataFrom, IsFull, StaysRebuilt, IsRowKept, IsPutting}

@@ -1,8 +1,8 @@
 use Rattle.std.proofs.Common.{◌≡◌, ◌++◌, ℕ, List, length, take, drop, sym, ◌∙◌, ap, subst, arith}
 use Rattle.std.proofs.lemmas.List.{take-append-le, take_all}
 use Rattle.std.specs.Prelude.{Contains, slice_index}
-use Rattle.bank.specs.Tape.{disk}
-use Rattle.bank.proofs.Marks.{each_mark-map}
+use Rattle.row_io.specs.bank_Tape.{disk}
+use Rattle.row_io.proofs.bank_Marks.{each_mark-map}
 use Rattle.row_io.specs.Rows.{present, reading_of}
 use Rattle.list_io.specs.Buffers.{buffered}
 use Rattle.list_io.specs.Writing.{AreDataFrom, IsPutting, AreSuperblocksKept}

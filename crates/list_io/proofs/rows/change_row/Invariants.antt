@@ -1,6 +1,6 @@
 use Rattle.std.proofs.Common.{◌≡◌, ◌+◌, ◌-◌, ◌*◌, ◌/◌, ◌<◌, ◌≤◌, ℕ, length}
 use Rattle.layout.specs.Layout.{place}
-use Rattle.parity.specs.Rows.{sector_of}
+use Rattle.row_io.specs.parity_Rows.{sector_of}
 use Rattle.list_io.specs.Writing.{IsOther}
 use Rattle.list_io.proofs.rows.change_row.Given as goal
 

@@ -1,9 +1,9 @@
 use Rattle.std.proofs.Common.{ℕ, inl, inr, sym, ◌∙◌, ap, subst, arith}
 use Rattle.std.proofs.lemmas.Bool.{cases_eq}
-use Rattle.md_base.specs.Shapes.{has_slot}
+use Rattle.layout.specs.md_base_Shapes.{has_slot}
 use Rattle.layout.specs.Layout.{row_roles}
-use Rattle.parity.proofs.Columns.{bool_cases}
-use Rattle.superblocks.proofs.SlotSets.{none_there}
+use Rattle.row_io.proofs.parity_Columns.{bool_cases}
+use Rattle.row_io.proofs.superblocks_SlotSets.{none_there}
 use Rattle.row_io.specs.Writes.{is_parity}
 use Rattle.list_io.specs.Writing.{HasOther, IsChanged}
 use Rattle.list_io.proofs.rows.changed_roles.Goals as goal

@@ -1,5 +1,5 @@
 use Rattle.std.proofs.Common.{◌≡◌, ◌<◌, ℕ, true, false}
-use Rattle.md_base.specs.Shapes.{has_slot}
+use Rattle.layout.specs.md_base_Shapes.{has_slot}
 use Rattle.layout.specs.Layout.{row_roles}
 use Rattle.row_io.specs.Writes.{is_parity}
 use Rattle.list_io.specs.Writing.{HasOther, IsChanged}

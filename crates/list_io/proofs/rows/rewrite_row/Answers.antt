@@ -1,6 +1,6 @@
 use Rattle.std.proofs.Common.{◌≡◌, ℕ, sym, subst}
-use Rattle.bank.specs.Tape.{disk}
-use Rattle.bank.proofs.Marks.{each_mark-map}
+use Rattle.row_io.specs.bank_Tape.{disk}
+use Rattle.row_io.proofs.bank_Marks.{each_mark-map}
 use Rattle.row_io.specs.Rows.{present, reading_of, lost_of}
 use Rattle.row_io.specs.Writes.{IsWriting}
 use Rattle.row_io.proofs.Turns.{marks_last}

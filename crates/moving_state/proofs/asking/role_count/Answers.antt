@@ -1,5 +1,5 @@
 use Rattle.std.proofs.Common.{arith}
-use Rattle.superblocks.proofs.ValidFields.{few-roles}
+use Rattle.course_kept.proofs.superblocks_ValidFields.{few-roles}
 use Rattle.moving_state.proofs.asking.role_count.Goals as goal
 
 pub overflow_cast-result : goal.overflow_cast-result

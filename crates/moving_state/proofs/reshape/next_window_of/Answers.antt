@@ -1,6 +1,6 @@
 use Rattle.std.proofs.Common.{◌<◌, ◌≤◌, ◌-◌}
-use Rattle.md_base.specs.declared.places.Span.{Span}
-use Rattle.superblocks.specs.Reading.{list_length}
+use Rattle.course_kept.specs.md_base_the_Span.{Span}
+use Rattle.course_kept.specs.superblocks_Reading.{list_length}
 use Rattle.course_kept.specs.flat_history_Stands.{reach_of}
 use Rattle.course_kept.proofs.shape_views_Headers.{window-filled}
 use Rattle.course_kept.proofs.shape_views_Stands.{window-inside}

@@ -1,8 +1,8 @@
 use Rattle.std.proofs.Common.{◌<◌, ℕ, ap, ◌∙◌, subst, arith}
-use Rattle.md_base.specs.Shapes.{stripe_sectors}
-use Rattle.md_base.specs.declared.places.Shape.{Shape}
-use Rattle.geometry.proofs.ClosedForms.{rounded_up_at, ceiling_below}
-use Rattle.superblocks.specs.Reading.{final_shape, list_length}
+use Rattle.array_kept.specs.md_base_Shapes.{stripe_sectors}
+use Rattle.array_kept.specs.md_base_the_Shape.{Shape}
+use Rattle.course_kept.proofs.geometry_ClosedForms.{rounded_up_at, ceiling_below}
+use Rattle.course_kept.specs.superblocks_Reading.{final_shape, list_length}
 use Rattle.moving_state.proofs.ReshapeLaws.{valid-by, list-short}
 use Rattle.moving_state.proofs.reshape.past_stripe.Goals as goal
 

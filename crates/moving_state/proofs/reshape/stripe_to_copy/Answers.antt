@@ -1,9 +1,9 @@
 use Rattle.std.proofs.Common.{◌≡◌, ◌/◌, ◌+◌, ◌<◌, ◌≤◌, ℕ, sym, ◌∙◌, ap, subst, arith}
-use Rattle.md_base.specs.Shapes.{stripe_sectors}
-use Rattle.md_base.specs.declared.places.Shape.{Shape}
-use Rattle.geometry.specs.Geometry.{ceiling}
-use Rattle.geometry.proofs.ClosedForms.{ceiling_below}
-use Rattle.superblocks.specs.Reading.{final_shape}
+use Rattle.array_kept.specs.md_base_Shapes.{stripe_sectors}
+use Rattle.array_kept.specs.md_base_the_Shape.{Shape}
+use Rattle.course_kept.specs.geometry_Geometry.{ceiling}
+use Rattle.course_kept.proofs.geometry_ClosedForms.{ceiling_below}
+use Rattle.course_kept.specs.superblocks_Reading.{final_shape}
 use Rattle.course_kept.proofs.shape_views_Stands.{window-inside}
 use Rattle.moving_state.proofs.ReshapeLaws.{valid-by, list-short, copy-of}
 use Rattle.moving_state.proofs.reshape.stripe_to_copy.Goals as goal

@@ -1,6 +1,6 @@
 use Rattle.std.proofs.Common.{◌≤◌, ◌<◌, ◌+◌, ◌/◌, ℕ, ap, sym, subst, arith}
 use Rattle.std.proofs.Math.Nat.{div-le_self}
-use Rattle.superblocks.specs.Reading.{is_backward, final_shape}
+use Rattle.course_kept.specs.superblocks_Reading.{is_backward, final_shape}
 use Rattle.course_kept.proofs.views_Fit.{fit-short}
 use Rattle.course_kept.specs.Course.{past_stripe}
 use Rattle.moving_state.proofs.ReshapeLaws.{zero-of}

@@ -1,8 +1,8 @@
 use Rattle.std.proofs.Common.{◌≡◌, ◌/◌, ℕ, ap, sym, ◌∙◌, arith}
-use Rattle.md_base.specs.declared.places.Shape.{Shape}
-use Rattle.geometry.proofs.ClosedForms.{zeroed_value}
-use Rattle.geometry.proofs.Valid.{list_fits}
-use Rattle.superblocks.specs.Reading.{is_backward, shape_of, final_shape}
+use Rattle.array_kept.specs.md_base_the_Shape.{Shape}
+use Rattle.course_kept.proofs.geometry_ClosedForms.{zeroed_value}
+use Rattle.course_kept.proofs.geometry_Valid.{list_fits}
+use Rattle.course_kept.specs.superblocks_Reading.{is_backward, shape_of, final_shape}
 use Rattle.moving_state.proofs.ReshapeLaws.{forced, none-to-zero}
 use Rattle.moving_state.proofs.reshape.stripes_to_zero.Goals as goal
 

@@ -1,6 +1,6 @@
 use Rattle.std.proofs.Common.{◌↔◌, ℕ, sym, subst, Option}
-use Rattle.md_base.specs.declared.places.Span.{Span}
-use Rattle.geometry.specs.Geometry.{IsIn}
+use Rattle.course_kept.specs.md_base_the_Span.{Span}
+use Rattle.course_kept.specs.geometry_Geometry.{IsIn}
 use Rattle.moving_state.proofs.PartLaws.{IsAskedIn}
 use Rattle.moving_state.proofs.windows.part_in.Goals as goal
 

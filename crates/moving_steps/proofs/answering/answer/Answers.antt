@@ -1,6 +1,6 @@
 use Rattle.std.proofs.Common.{◌≤◌, [], ◌∷◌, refl, subst, arith}
 use Rattle.moving.proofs.views_MovedLaws.{grows-none, moved-same}
-use Rattle.flat_history.specs.Plain.{entries_of}
+use Rattle.still_kept.specs.flat_history_Plain.{entries_of}
 use Rattle.still_kept.proofs.array_kept_LossLaws.{ended-behind}
 use Rattle.still_kept.proofs.array_kept_ReadyLaws.{scope-same}
 use Rattle.moving.specs.views_Rebuilding.{Held}

@@ -1,13 +1,13 @@
 use Rattle.std.proofs.Common.{◌≡◌, ◌+◌, ◌/◌, List, [], length, refl, sym, ◌∙◌, ap, subst, arith, append-nil, inl, Some}
 use Rattle.std.proofs.lemmas.List.Elements.{All-nil}
-use Rattle.md_base.specs.Sectors.{sectors_of}
-use Rattle.md_base.proofs.SectorLaws.{length-sectors_of}
-use Rattle.superblocks.specs.Reading.{list_length}
-use Rattle.flat_history.specs.declared.events.Entry.{Entry}
-use Rattle.flat_history.specs.Flat.{length_of, limit_of}
-use Rattle.flat_history.specs.Transfers.{last_end_from}
-use Rattle.views.specs.Rebuilding.{Held}
-use Rattle.views.proofs.MovedLaws.{grows-none, moved-same}
+use Rattle.still_kept.specs.md_base_Sectors.{sectors_of}
+use Rattle.still_kept.proofs.md_base_SectorLaws.{length-sectors_of}
+use Rattle.moving.specs.superblocks_Reading.{list_length}
+use Rattle.still_kept.specs.flat_history_the_Entry.{Entry}
+use Rattle.still_kept.specs.flat_history_Flat.{length_of, limit_of}
+use Rattle.moving.specs.flat_history_Transfers.{last_end_from}
+use Rattle.moving.specs.views_Rebuilding.{Held}
+use Rattle.moving.proofs.views_MovedLaws.{grows-none, moved-same}
 use Rattle.moving.specs.array_kept_Calls.{IsLossBy, WasSpare}
 use Rattle.moving.specs.region_mends_Mends.{relied_sector}
 use Rattle.moving.specs.running_words_Parts.{left_in}
@@ -16,9 +16,9 @@ use Rattle.moving.specs.moving_laws_Writing.{IsRefusedAlone, TouchesUnsure}
 use Rattle.moving.proofs.moving_laws_Kept.{roomier}
 use Rattle.moving.proofs.moving_laws_WriteLaws.{called-roomed, roomed}
 use Rattle.moving.proofs.moving_laws_BarredLaws.{barred-entered, barred-replied}
-use Rattle.md_base.specs.declared.answers.Fault.TheVariants.{NoMemory}
+use Rattle.still_kept.specs.md_base_the_Fault_TheVariants.{NoMemory}
 use Rattle.moving.proofs.moving_laws_FirstLaws.{first-short}
-use Rattle.views.specs.Lacking.{HaveRolesFailed}
+use Rattle.moving.specs.views_Lacking.{HaveRolesFailed}
 use Rattle.moving.proofs.Calls.{two-of-101}
 use Rattle.moving_steps.proofs.clearing.bar_write.Goals as goal
 

@@ -1,17 +1,17 @@
 use Rattle.std.proofs.Common.{◌≡◌, ◌≤◌, ℕ, List, [], ◌∷◌, length, Some, refl, sym, ◌∙◌, ap, subst, arith}
-use Rattle.md_base.specs.declared.answers.Refusal.TheVariants.{BackupFault}
-use Rattle.md_base.specs.declared.places.Span.{Span}
-use Rattle.bank.specs.Given.{Given}
-use Rattle.superblocks.specs.declared.members.Members.{Members}
-use Rattle.flat_history.specs.declared.events.Event.TheVariants.{Refused}
-use Rattle.flat_history.specs.Plain.{entries_of}
-use Rattle.views.specs.Numbers.{bears}
-use Rattle.views.proofs.MovedLaws.{grows-none, moved-same}
+use Rattle.still_kept.specs.md_base_the_Refusal_TheVariants.{BackupFault}
+use Rattle.still_kept.specs.md_base_the_Span.{Span}
+use Rattle.still_kept.specs.bank_Given.{Given}
+use Rattle.moving.specs.superblocks_the_Members.{Members}
+use Rattle.still_kept.specs.flat_history_the_Event_TheVariants.{Refused}
+use Rattle.still_kept.specs.flat_history_Plain.{entries_of}
+use Rattle.moving.specs.views_Numbers.{bears}
+use Rattle.moving.proofs.views_MovedLaws.{grows-none, moved-same}
 use Rattle.moving.specs.array_kept_Kept.{scope_in}
 use Rattle.moving.proofs.array_kept_LossLaws.{ended-behind}
 use Rattle.moving.proofs.array_kept_ReadyLaws.{scope-same}
-use Rattle.grow_asked.specs.declared.window.Window.{Window}
-use Rattle.grow_asked.specs.declared.window.Window.TheVariants.{Unsure}
+use Rattle.moving.specs.grow_asked_the_Window.{Window}
+use Rattle.moving.specs.grow_asked_the_Window_TheVariants.{Unsure}
 use Rattle.moving.specs.kept_history_Recorded.{IsCallGoing}
 use Rattle.moving.specs.course_kept_the_Course.{Course}
 use Rattle.moving.specs.course_kept_Course.{IsWindowOf, IsCourseOf}

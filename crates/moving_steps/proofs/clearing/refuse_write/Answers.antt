@@ -1,21 +1,21 @@
 use Rattle.std.proofs.Common.{inr, ◌≡◌, ◌≤◌, ◌+◌, ℕ, Option, [], ◌∷◌, Some, refl, sym, subst, arith, ap}
 use Rattle.std.specs.Prelude.{Result, Err}
-use Rattle.md_base.specs.declared.answers.Fault.{Fault as AnyFault}
-use Rattle.md_base.specs.declared.answers.Fault.TheVariants.{Refused as IsRefusedWith}
-use Rattle.md_base.specs.declared.answers.Refusal.{Refusal}
-use Rattle.md_base.specs.declared.answers.Refusal.TheVariants.{BackupFault}
-use Rattle.md_base.specs.declared.places.Span.{Span}
-use Rattle.superblocks.specs.declared.members.Members.{Members}
-use Rattle.flat_history.specs.declared.events.Event.TheVariants.{Refused}
-use Rattle.flat_history.specs.Plain.{entries_of}
-use Rattle.views.specs.Numbers.{bears}
-use Rattle.views.proofs.MovedLaws.{grows-none, moved-same}
+use Rattle.still_kept.specs.md_base_the_Fault.{Fault as AnyFault}
+use Rattle.still_kept.specs.md_base_the_Fault_TheVariants.{Refused as IsRefusedWith}
+use Rattle.still_kept.specs.md_base_the_Refusal.{Refusal}
+use Rattle.still_kept.specs.md_base_the_Refusal_TheVariants.{BackupFault}
+use Rattle.still_kept.specs.md_base_the_Span.{Span}
+use Rattle.moving.specs.superblocks_the_Members.{Members}
+use Rattle.still_kept.specs.flat_history_the_Event_TheVariants.{Refused}
+use Rattle.still_kept.specs.flat_history_Plain.{entries_of}
+use Rattle.moving.specs.views_Numbers.{bears}
+use Rattle.moving.proofs.views_MovedLaws.{grows-none, moved-same}
 use Rattle.moving.specs.array_kept_Kept.{scope_in}
 use Rattle.moving.specs.array_kept_Calls.{IsRefusedFor, IsCausedBy}
 use Rattle.moving.proofs.array_kept_LossLaws.{ended-behind}
 use Rattle.moving.proofs.array_kept_ReadyLaws.{scope-same}
-use Rattle.grow_asked.specs.declared.window.Window.{Window}
-use Rattle.grow_asked.specs.declared.window.Window.TheVariants.{Closed, Entered, Unsure}
+use Rattle.moving.specs.grow_asked_the_Window.{Window}
+use Rattle.moving.specs.grow_asked_the_Window_TheVariants.{Closed, Entered, Unsure}
 use Rattle.moving.specs.region_writes_Runs.{IsListUnwritten}
 use Rattle.moving.specs.region_mends_Mends.{relied_sector}
 use Rattle.moving.specs.kept_history_Recorded.{IsCallGoing}

@@ -1,12 +1,12 @@
 use Rattle.std.proofs.Common.{ℕ, sym, ◌∙◌, subst, arith}
-use Rattle.md_base.specs.declared.places.Shape.{Shape}
-use Rattle.superblocks.specs.Reading.{final_shape}
-use Rattle.superblocks.proofs.ValidFields.{few-roles}
-use Rattle.row_io.specs.Rows.{reading_of, present}
+use Rattle.still_kept.specs.md_base_the_Shape.{Shape}
+use Rattle.moving.specs.superblocks_Reading.{final_shape}
+use Rattle.still_kept.proofs.superblocks_ValidFields.{few-roles}
+use Rattle.still_kept.specs.row_io_Rows.{reading_of, present}
 use Rattle.moving.specs.list_io_Full.{RowStands}
 use Rattle.moving.proofs.shape_views_Stands.{span-order}
-use Rattle.views.specs.Lacking.{AreOtherRowsKept, IsOfStripe}
-use Rattle.views.proofs.LackingLaws.{lost-since}
+use Rattle.moving.specs.views_Lacking.{AreOtherRowsKept, IsOfStripe}
+use Rattle.still_kept.proofs.views_LackingLaws.{lost-since}
 use Rattle.moving.specs.course_kept_Laws.{next_stripe}
 use Rattle.moving.proofs.Calls.{known-moved}
 use Rattle.moving_steps.proofs.copying.copy_next.Goals as goal

@@ -1,22 +1,22 @@
 use Rattle.std.proofs.Common.{◌+◌, ◌≤◌, ℕ, ◌-◌, ◌*◌, List, [], ◌∷◌, ◌++◌, take, Some, refl, sym, ◌∙◌, ap, subst, arith}
 use Rattle.std.specs.Vec.{with_items}
-use Rattle.md_base.specs.Shapes.{stripe_sectors}
-use Rattle.geometry.proofs.ClosedForms.{ceiling_below}
-use Rattle.geometry.proofs.Valid.{bounded}
-use Rattle.superblocks.specs.Reading.{final_shape, list_length, is_clean}
+use Rattle.still_kept.specs.md_base_Shapes.{stripe_sectors}
+use Rattle.moving.proofs.geometry_ClosedForms.{ceiling_below}
+use Rattle.moving.proofs.geometry_Valid.{bounded}
+use Rattle.moving.specs.superblocks_Reading.{final_shape, list_length, is_clean}
 use Rattle.moving.proofs.shape_views_Stands.{window-inside}
-use Rattle.views.specs.Lacking.{AreTooMany}
+use Rattle.moving.specs.views_Lacking.{AreTooMany}
 use Rattle.moving.proofs.array_kept_ReplyLaws.{too-many-of, refused-for}
-use Rattle.flat_history.specs.declared.events.Event.TheVariants.{Refused, Step}
-use Rattle.flat_history.specs.declared.events.StepKind.TheVariants.{Copied as CopiesStripe}
-use Rattle.flat_history.specs.Plain.{entries_of}
-use Rattle.views.specs.Numbers.{bears}
-use Rattle.views.proofs.MovedLaws.{grows-none, moved-same}
-use Rattle.call_entries.specs.Losing.{losses_of}
+use Rattle.still_kept.specs.flat_history_the_Event_TheVariants.{Refused, Step}
+use Rattle.still_kept.specs.flat_history_the_StepKind_TheVariants.{Copied as CopiesStripe}
+use Rattle.still_kept.specs.flat_history_Plain.{entries_of}
+use Rattle.moving.specs.views_Numbers.{bears}
+use Rattle.moving.proofs.views_MovedLaws.{grows-none, moved-same}
+use Rattle.still_kept.specs.call_entries_Losing.{losses_of}
 use Rattle.moving.specs.array_kept_Kept.{scope_in}
 use Rattle.moving.proofs.array_kept_LossLaws.{losses-behind, ended-behind, behind-alone}
 use Rattle.moving.proofs.array_kept_ReadyLaws.{scope-same}
-use Rattle.views.proofs.LackingLaws.{never-both}
+use Rattle.still_kept.proofs.views_LackingLaws.{never-both}
 use Rattle.moving.specs.window_rows_Copies.{tail_of, IsCopied}
 use Rattle.moving.specs.kept_history_Recorded.{IsCallGoing}
 use Rattle.moving.specs.kept_history_Safe.{world_in}
@@ -33,7 +33,7 @@ use Rattle.moving.proofs.running_words_Called.{not_254, called, alone-lossless}
 use Rattle.moving.proofs.moving_laws_Copied.{due-is, left-falls, IsStripeTried, copied-more, copied-kept, uncopied-kept}
 use Rattle.moving.proofs.moving_laws_Kept.{ready, ready-moved, shapes-same, shapes-moved, alone-keeps, behind-keeps, behind-whole, with-buffer, live-of}
 use Rattle.moving.proofs.moving_laws_Settled.{risen-told, many-of}
-use Rattle.grow_asked.specs.Left.{phases_of}
+use Rattle.still_kept.specs.grow_asked_Left.{phases_of}
 use Rattle.moving.specs.array_kept_Calls.{IsRefusedFor}
 use Rattle.moving.proofs.Calls.{room-49, one-less, many-refused, sound-same, zeroed-moved, entered-sure, never-falls, room-after-1, room-after-49, scratch-of, step-entered, called-over, zero-le}
 use Rattle.moving_steps.proofs.copying.copy_stripe.Goals as goal

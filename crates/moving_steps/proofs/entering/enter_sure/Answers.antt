@@ -1,24 +1,24 @@
 use Rattle.std.proofs.Common.{None, ◌≡◌, ◌≤◌, inl, inr, ℕ, ◌-◌, ◌*◌, List, [], ◌∷◌, ◌++◌, length, take, Some, refl, sym, ◌∙◌, ap, subst, arith, le_of_eq}
 use Rattle.std.specs.Vec.{with_items}
-use Rattle.bank.specs.Tape.{disk}
-use Rattle.md_base.specs.declared.answers.Refusal.{Refusal}
-use Rattle.md_base.specs.declared.places.Span.{Span}
-use Rattle.geometry.specs.Geometry.{is_critical}
-use Rattle.superblocks.specs.Reading.{is_backward, shape_of, final_shape, next_window, is_clean}
-use Rattle.flat_history.specs.declared.events.Event.TheVariants.{Refused, Step}
-use Rattle.flat_history.specs.declared.events.StepKind.TheVariants.{Entered as EntersWindow}
-use Rattle.flat_history.specs.Plain.{entries_of}
-use Rattle.views.specs.Lacking.{AreTooMany}
-use Rattle.views.specs.Numbers.{bears}
-use Rattle.views.proofs.LackingLaws.{never-both}
-use Rattle.views.proofs.MovedLaws.{grows-none, moved-same}
-use Rattle.call_entries.specs.Losing.{losses_of}
+use Rattle.still_kept.specs.bank_Tape.{disk}
+use Rattle.still_kept.specs.md_base_the_Refusal.{Refusal}
+use Rattle.still_kept.specs.md_base_the_Span.{Span}
+use Rattle.moving.specs.geometry_Geometry.{is_critical}
+use Rattle.moving.specs.superblocks_Reading.{is_backward, shape_of, final_shape, next_window, is_clean}
+use Rattle.still_kept.specs.flat_history_the_Event_TheVariants.{Refused, Step}
+use Rattle.still_kept.specs.flat_history_the_StepKind_TheVariants.{Entered as EntersWindow}
+use Rattle.still_kept.specs.flat_history_Plain.{entries_of}
+use Rattle.moving.specs.views_Lacking.{AreTooMany}
+use Rattle.moving.specs.views_Numbers.{bears}
+use Rattle.still_kept.proofs.views_LackingLaws.{never-both}
+use Rattle.moving.proofs.views_MovedLaws.{grows-none, moved-same}
+use Rattle.still_kept.specs.call_entries_Losing.{losses_of}
 use Rattle.moving.specs.array_kept_Kept.{scope_in}
 use Rattle.moving.proofs.array_kept_LossLaws.{losses-behind, ended-behind, behind-alone}
 use Rattle.moving.proofs.array_kept_ReadyLaws.{scope-same}
 use Rattle.moving.specs.kept_history_Recorded.{IsCallGoing}
 use Rattle.moving.specs.kept_history_Safe.{world_in, OpensOnCourse}
-use Rattle.grow_asked.specs.declared.window.Window.TheVariants.{Unsure}
+use Rattle.moving.specs.grow_asked_the_Window_TheVariants.{Unsure}
 use Rattle.moving.specs.course_kept_the_Course.{Course}
 use Rattle.moving.specs.course_kept_Course.{IsStored}
 use Rattle.moving.specs.course_kept_Laws.{entered}
@@ -35,8 +35,8 @@ use Rattle.moving.proofs.moving_laws_Kept.{ready, ready-moved, shapes-same, shap
 use Rattle.moving.proofs.moving_laws_EnterLaws.{backup-for}
 use Rattle.moving.proofs.moving_laws_BarredLaws.{closed-of}
 use Rattle.moving.proofs.moving_laws_Entered.{course_in, IsNextTried, when-some, when-none, enter-refused, enter-left, enter-done}
-use Rattle.flat_history.specs.Stands.{reach_of}
-use Rattle.grow_asked.specs.Left.{phases_of}
+use Rattle.moving.specs.flat_history_Stands.{reach_of}
+use Rattle.still_kept.specs.grow_asked_Left.{phases_of}
 use Rattle.moving.proofs.StepLaws.{one-fewer, same-some, room-behind, wide-for, scratch-for, never-some, taken-behind, under-way-moved, zeroed-moved, sound-moved, entered-right}
 use Rattle.moving_steps.proofs.entering.enter_sure.Goals as goal
 

@@ -1,12 +1,12 @@
 use Rattle.std.proofs.Common.{◌≡◌, inl, ap, subst}
-use Rattle.md_base.specs.declared.answers.Refusal.{Refusal}
-use Rattle.md_base.specs.declared.answers.Refusal.TheVariants.{BackupFault}
-use Rattle.md_base.specs.declared.places.Span.{Span}
-use Rattle.superblocks.specs.Reading.{is_clean}
-use Rattle.superblocks.specs.declared.members.Members.{Members}
-use Rattle.flat_history.specs.declared.events.StepKind.TheVariants.{Entered as EntersWindow}
-use Rattle.views.specs.Lacking.{AreTooMany}
-use Rattle.grow_asked.specs.declared.window.Window.TheVariants.{Unsure}
+use Rattle.still_kept.specs.md_base_the_Refusal.{Refusal}
+use Rattle.still_kept.specs.md_base_the_Refusal_TheVariants.{BackupFault}
+use Rattle.still_kept.specs.md_base_the_Span.{Span}
+use Rattle.moving.specs.superblocks_Reading.{is_clean}
+use Rattle.moving.specs.superblocks_the_Members.{Members}
+use Rattle.still_kept.specs.flat_history_the_StepKind_TheVariants.{Entered as EntersWindow}
+use Rattle.moving.specs.views_Lacking.{AreTooMany}
+use Rattle.moving.specs.grow_asked_the_Window_TheVariants.{Unsure}
 use Rattle.moving.specs.running_words_Parts.{left_in}
 use Rattle.moving.proofs.moving_laws_BarredLaws.{alone-taken, barred-enter, refused-err, err-ok, err-any}
 use Rattle.moving_steps.proofs.entering.enter_window.Goals as goal

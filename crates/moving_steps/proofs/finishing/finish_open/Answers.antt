@@ -1,16 +1,16 @@
 use Rattle.std.proofs.Common.{◌⊎◌, inl, ◌≤◌, ℕ, ◌-◌, ◌*◌, List, [], ◌∷◌, ◌++◌, take, Some, refl, sym, subst, arith, ◌∙◌, ap}
 use Rattle.std.specs.Vec.{with_items}
-use Rattle.superblocks.specs.Reading.{final_shape, list_length, is_clean}
-use Rattle.row_io.specs.Rows.{present}
-use Rattle.flat_history.specs.declared.events.Event.TheVariants.{Refused, Step}
-use Rattle.flat_history.specs.declared.events.StepKind.TheVariants.{WindowFinished as FinishesWindow}
-use Rattle.flat_history.specs.Plain.{entries_of}
+use Rattle.moving.specs.superblocks_Reading.{final_shape, list_length, is_clean}
+use Rattle.still_kept.specs.row_io_Rows.{present}
+use Rattle.still_kept.specs.flat_history_the_Event_TheVariants.{Refused, Step}
+use Rattle.still_kept.specs.flat_history_the_StepKind_TheVariants.{WindowFinished as FinishesWindow}
+use Rattle.still_kept.specs.flat_history_Plain.{entries_of}
 use Rattle.moving.specs.shape_views_Windows.{moved_past}
-use Rattle.views.specs.Lacking.{AreTooMany, HaveRolesFailed}
-use Rattle.views.specs.Numbers.{bears}
-use Rattle.views.proofs.LackingLaws.{never-both}
-use Rattle.views.proofs.MovedLaws.{grows-none, moved-same}
-use Rattle.call_entries.specs.Losing.{losses_of}
+use Rattle.moving.specs.views_Lacking.{AreTooMany, HaveRolesFailed}
+use Rattle.moving.specs.views_Numbers.{bears}
+use Rattle.still_kept.proofs.views_LackingLaws.{never-both}
+use Rattle.moving.proofs.views_MovedLaws.{grows-none, moved-same}
+use Rattle.still_kept.specs.call_entries_Losing.{losses_of}
 use Rattle.moving.specs.array_kept_Kept.{scope_in}
 use Rattle.moving.proofs.array_kept_LossLaws.{losses-behind, ended-behind, behind-alone}
 use Rattle.moving.proofs.array_kept_ReadyLaws.{scope-same, list-same}
@@ -18,7 +18,7 @@ use Rattle.moving.proofs.array_kept_ReplyLaws.{too-many-of, refused-for}
 use Rattle.moving.specs.kept_history_Recorded.{IsCallGoing}
 use Rattle.moving.specs.kept_history_Safe.{world_in}
 use Rattle.moving.specs.course_kept_the_Course.{Course}
-use Rattle.grow_asked.specs.declared.window.Window.{Window}
+use Rattle.moving.specs.grow_asked_the_Window.{Window}
 use Rattle.moving.specs.course_kept_Course.{IsWindowOf}
 use Rattle.moving.specs.course_mends_Mended.{IsAside, IsUnmended}
 use Rattle.moving.proofs.moving_state_ReshapeLaws.{window-reach, under-way-of}
@@ -37,7 +37,7 @@ use Rattle.moving.proofs.moving_laws_Kept.{ready, ready-moved, shapes-same, shap
 use Rattle.moving.proofs.moving_laws_RecordLaws.{moved-if, moved-none, shapes-past}
 use Rattle.moving.proofs.moving_laws_Settled.{many-of}
 use Rattle.moving.proofs.moving_laws_WriteLaws.{finish-relied, finished-missing, open-is, finish-left, finish-done, finish-stands, finish-refused, recorded-as}
-use Rattle.grow_asked.specs.Left.{phases_of}
+use Rattle.still_kept.specs.grow_asked_Left.{phases_of}
 use Rattle.moving.specs.array_kept_Calls.{IsRefusedFor}
 use Rattle.moving.proofs.Calls.{room-49, one-less, many-refused, sound-same, closed-sure, never-falls, room-after-1, room-after-49, scratch-of, step-entered, called-over, zero-le}
 use Rattle.moving.specs.region_mends_Mends.{relied_sector}

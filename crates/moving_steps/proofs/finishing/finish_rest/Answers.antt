@@ -1,11 +1,11 @@
 use Rattle.std.proofs.Common.{◌≤◌, sym, ◌∙◌, ap, subst, arith}
-use Rattle.md_base.specs.declared.places.Shape.{Shape}
-use Rattle.geometry.specs.Geometry.{stripes}
-use Rattle.superblocks.specs.Reading.{final_shape}
-use Rattle.superblocks.proofs.ValidFields.{few-roles}
-use Rattle.row_io.specs.Rows.{reading_of, present}
+use Rattle.still_kept.specs.md_base_the_Shape.{Shape}
+use Rattle.moving.specs.geometry_Geometry.{stripes}
+use Rattle.moving.specs.superblocks_Reading.{final_shape}
+use Rattle.still_kept.proofs.superblocks_ValidFields.{few-roles}
+use Rattle.still_kept.specs.row_io_Rows.{reading_of, present}
 use Rattle.moving.proofs.shape_views_Stands.{span-order}
-use Rattle.views.specs.Lacking.{AreOtherRowsKept}
+use Rattle.moving.specs.views_Lacking.{AreOtherRowsKept}
 use Rattle.moving.specs.window_calls_Finishing.{IsOfRest, AreStripesCopied}
 use Rattle.moving.proofs.moving_laws_WriteLaws.{finished-since}
 use Rattle.moving.proofs.Calls.{known-finished}

@@ -1,22 +1,22 @@
 use Rattle.std.proofs.Common.{◌≡◌, ◌≤◌, [], ◌∷◌, ◌++◌, Some, refl, sym, ◌∙◌, ap, subst, arith, zero-le}
-use Rattle.superblocks.specs.Reading.{list_length, next_window, is_clean}
-use Rattle.superblocks.proofs.ValidFields.{few-roles}
-use Rattle.flat_history.specs.declared.events.Event.TheVariants.{Refused, Step}
-use Rattle.flat_history.specs.declared.events.StepKind.TheVariants.{Checkpointed as RecordsWindow}
-use Rattle.flat_history.specs.Plain.{entries_of}
+use Rattle.moving.specs.superblocks_Reading.{list_length, next_window, is_clean}
+use Rattle.still_kept.proofs.superblocks_ValidFields.{few-roles}
+use Rattle.still_kept.specs.flat_history_the_Event_TheVariants.{Refused, Step}
+use Rattle.still_kept.specs.flat_history_the_StepKind_TheVariants.{Checkpointed as RecordsWindow}
+use Rattle.still_kept.specs.flat_history_Plain.{entries_of}
 use Rattle.moving.specs.shape_views_Windows.{moved_past}
-use Rattle.views.specs.Lacking.{AreTooMany}
-use Rattle.views.proofs.LackingLaws.{lost-since, never-both}
-use Rattle.views.proofs.MovedLaws.{grows-none, moved-same}
-use Rattle.call_entries.specs.Losing.{losses_of}
+use Rattle.moving.specs.views_Lacking.{AreTooMany}
+use Rattle.still_kept.proofs.views_LackingLaws.{lost-since, never-both}
+use Rattle.moving.proofs.views_MovedLaws.{grows-none, moved-same}
+use Rattle.still_kept.specs.call_entries_Losing.{losses_of}
 use Rattle.moving.specs.array_kept_Kept.{scope_in}
 use Rattle.moving.proofs.array_kept_LossLaws.{losses-behind, ended-behind, behind-alone}
 use Rattle.moving.proofs.array_kept_ReadyLaws.{scope-same, list-same}
 use Rattle.moving.proofs.array_kept_ReplyLaws.{refused-for, too-many-of}
 use Rattle.moving.specs.kept_history_Recorded.{IsCallGoing}
 use Rattle.moving.specs.kept_history_Safe.{world_in}
-use Rattle.views.specs.Numbers.{bears}
-use Rattle.md_base.specs.declared.places.Span.{Span}
+use Rattle.moving.specs.views_Numbers.{bears}
+use Rattle.still_kept.specs.md_base_the_Span.{Span}
 use Rattle.moving.specs.course_kept_the_Course.{Course}
 use Rattle.moving.proofs.moving_kept_Refusals.{quiet-refusal, refused-right}
 use Rattle.moving.proofs.moving_kept_Resting.{resting-moves}
@@ -28,7 +28,7 @@ use Rattle.moving.proofs.running_words_Called.{not_254, called, alone-lossless}
 use Rattle.moving.proofs.moving_laws_Kept.{ready, ready-moved, shapes-same, shapes-moved, alone-keeps, behind-keeps, behind-whole, live-of}
 use Rattle.moving.proofs.moving_laws_Settled.{many-of}
 use Rattle.moving.proofs.moving_laws_RecordLaws.{window-next, same-span, all_copied, record-left, moved-if, moved-none, safe-none-of, shapes-past, since-past, record-refused, record-done}
-use Rattle.grow_asked.specs.Left.{phases_of}
+use Rattle.still_kept.specs.grow_asked_Left.{phases_of}
 use Rattle.moving.proofs.StepLaws.{one-fewer, closed-unsure, room-behind, taken-behind, under-way-moved, sound-moved, roles-past}
 use Rattle.moving_steps.proofs.recording.record_window.Goals as goal
 

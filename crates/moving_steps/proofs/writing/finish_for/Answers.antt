@@ -1,11 +1,11 @@
 use Rattle.std.proofs.Common.{inl, ◌≤◌, ◌+◌, ℕ, Option, [], ◌∷◌, Some, refl, sym, subst, arith, ◌∙◌, ap}
-use Rattle.md_base.specs.declared.answers.Refusal.{Refusal}
-use Rattle.md_base.specs.declared.places.Span.{Span}
-use Rattle.superblocks.specs.Reading.{list_length}
-use Rattle.flat_history.specs.declared.events.Event.TheVariants.{Refused}
-use Rattle.flat_history.specs.Plain.{entries_of}
-use Rattle.views.specs.Numbers.{bears}
-use Rattle.views.proofs.MovedLaws.{grows-none, moved-same}
+use Rattle.still_kept.specs.md_base_the_Refusal.{Refusal}
+use Rattle.still_kept.specs.md_base_the_Span.{Span}
+use Rattle.moving.specs.superblocks_Reading.{list_length}
+use Rattle.still_kept.specs.flat_history_the_Event_TheVariants.{Refused}
+use Rattle.still_kept.specs.flat_history_Plain.{entries_of}
+use Rattle.moving.specs.views_Numbers.{bears}
+use Rattle.moving.proofs.views_MovedLaws.{grows-none, moved-same}
 use Rattle.moving.specs.array_kept_Kept.{scope_in}
 use Rattle.moving.specs.array_kept_Calls.{IsRefusedFor}
 use Rattle.moving.proofs.array_kept_LossLaws.{ended-behind, behind-alone}

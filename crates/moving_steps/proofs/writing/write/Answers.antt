@@ -1,8 +1,8 @@
 use Rattle.std.proofs.Common.{◌≡◌, ◌+◌, ◌/◌, true, false, Option, length, sym, ◌∙◌, subst}
-use Rattle.md_base.specs.Sectors.{sectors_of}
-use Rattle.md_base.specs.declared.places.Span.{Span}
-use Rattle.superblocks.specs.Reading.{list_length}
-use Rattle.flat_history.specs.Stands.{covers}
+use Rattle.still_kept.specs.md_base_Sectors.{sectors_of}
+use Rattle.still_kept.specs.md_base_the_Span.{Span}
+use Rattle.moving.specs.superblocks_Reading.{list_length}
+use Rattle.moving.specs.flat_history_Stands.{covers}
 use Rattle.moving.specs.moving_state_Due.{unsure_in}
 use Rattle.moving.specs.region_mends_Mends.{relied_sector}
 use Rattle.moving.specs.running_words_Parts.{visible_in}

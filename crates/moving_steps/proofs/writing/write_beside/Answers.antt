@@ -1,19 +1,19 @@
 use Rattle.std.proofs.Common.{inl, ◌≡◌, ◌≤◌, ◌<◌, ◌+◌, ◌/◌, ℕ, false, List, [], ◌∷◌, ◌++◌, length, Some, refl, sym, ◌∙◌, ap, subst, arith}
-use Rattle.md_base.specs.Sectors.{Sector, sectors_of}
-use Rattle.md_base.specs.declared.answers.Refusal.{Refusal}
-use Rattle.superblocks.specs.Reading.{list_length}
-use Rattle.superblocks.proofs.ValidFields.{few-roles}
-use Rattle.row_io.specs.Rows.{reading_of, present}
-use Rattle.flat_history.specs.declared.events.Event.{Event}
-use Rattle.flat_history.specs.declared.events.Event.TheVariants.{Refused, Wrote}
-use Rattle.flat_history.specs.Plain.{entries_of}
-use Rattle.flat_history.specs.Stands.{covers}
-use Rattle.views.specs.Lacking.{HaveRolesFailed, AreLostSince, AreOtherRowsKept}
-use Rattle.views.specs.Numbers.{bears}
-use Rattle.views.proofs.LackingLaws.{lost-since}
-use Rattle.views.proofs.MovedLaws.{grows-none, moved-same}
-use Rattle.call_entries.specs.Losing.{losses_of, failure_events}
-use Rattle.call_entries.proofs.LosingLaws.{no-losses}
+use Rattle.still_kept.specs.md_base_Sectors.{Sector, sectors_of}
+use Rattle.still_kept.specs.md_base_the_Refusal.{Refusal}
+use Rattle.moving.specs.superblocks_Reading.{list_length}
+use Rattle.still_kept.proofs.superblocks_ValidFields.{few-roles}
+use Rattle.still_kept.specs.row_io_Rows.{reading_of, present}
+use Rattle.still_kept.specs.flat_history_the_Event.{Event}
+use Rattle.still_kept.specs.flat_history_the_Event_TheVariants.{Refused, Wrote}
+use Rattle.still_kept.specs.flat_history_Plain.{entries_of}
+use Rattle.moving.specs.flat_history_Stands.{covers}
+use Rattle.moving.specs.views_Lacking.{HaveRolesFailed, AreLostSince, AreOtherRowsKept}
+use Rattle.moving.specs.views_Numbers.{bears}
+use Rattle.still_kept.proofs.views_LackingLaws.{lost-since}
+use Rattle.moving.proofs.views_MovedLaws.{grows-none, moved-same}
+use Rattle.still_kept.specs.call_entries_Losing.{losses_of, failure_events}
+use Rattle.still_kept.proofs.call_entries_LosingLaws.{no-losses}
 use Rattle.moving.specs.array_kept_Kept.{scope_in}
 use Rattle.moving.specs.array_kept_Calls.{IsRefusedFor}
 use Rattle.moving.proofs.array_kept_LossLaws.{losses-behind, losses-failure, ended-behind, ended-failure}

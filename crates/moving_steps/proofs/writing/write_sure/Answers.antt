@@ -1,18 +1,18 @@
 use Rattle.std.proofs.Common.{inl, ◌≡◌, ◌≤◌, ◌<◌, ◌+◌, ◌/◌, ℕ, Bool, true, false, Option, Err, List, [], length, refl, sym, ◌∙◌, ap, ap₂, subst, arith, append-nil, Result, Ok}
 use Rattle.std.proofs.lemmas.List.Elements.{All-nil}
-use Rattle.md_base.specs.Sectors.{sectors_of, Sector}
-use Rattle.md_base.proofs.SectorLaws.{length-sectors_of}
-use Rattle.md_base.specs.declared.places.Span.{Span}
-use Rattle.superblocks.specs.Reading.{list_length}
-use Rattle.row_io.specs.Rows.{present}
-use Rattle.flat_history.specs.declared.events.Entry.{Entry}
-use Rattle.flat_history.specs.declared.events.Event.TheVariants.{Step}
-use Rattle.flat_history.specs.declared.events.StepKind.TheVariants.{WindowFinished as FinishesWindow}
-use Rattle.flat_history.specs.Flat.{length_of, limit_of}
-use Rattle.flat_history.specs.Stands.{covers}
-use Rattle.flat_history.specs.Transfers.{last_end_from}
-use Rattle.views.specs.Rebuilding.{Held}
-use Rattle.views.proofs.MovedLaws.{grows-none, moved-same}
+use Rattle.still_kept.specs.md_base_Sectors.{sectors_of, Sector}
+use Rattle.still_kept.proofs.md_base_SectorLaws.{length-sectors_of}
+use Rattle.still_kept.specs.md_base_the_Span.{Span}
+use Rattle.moving.specs.superblocks_Reading.{list_length}
+use Rattle.still_kept.specs.row_io_Rows.{present}
+use Rattle.still_kept.specs.flat_history_the_Entry.{Entry}
+use Rattle.still_kept.specs.flat_history_the_Event_TheVariants.{Step}
+use Rattle.still_kept.specs.flat_history_the_StepKind_TheVariants.{WindowFinished as FinishesWindow}
+use Rattle.still_kept.specs.flat_history_Flat.{length_of, limit_of}
+use Rattle.moving.specs.flat_history_Stands.{covers}
+use Rattle.moving.specs.flat_history_Transfers.{last_end_from}
+use Rattle.moving.specs.views_Rebuilding.{Held}
+use Rattle.moving.proofs.views_MovedLaws.{grows-none, moved-same}
 use Rattle.moving.specs.array_kept_Calls.{IsLossBy, WasSpare, IsBehind, IsCausedBy, OnNoMemory}
 use Rattle.moving.specs.region_writes_Runs.{IsListUnwritten}
 use Rattle.moving.specs.course_kept_Laws.{closed}
@@ -27,12 +27,12 @@ use Rattle.moving.proofs.running_words_Called.{called}
 use Rattle.moving.proofs.moving_laws_Kept.{roomier, long-same}
 use Rattle.moving.proofs.moving_laws_WriteLaws.{failed-then, beside-of, touched-open, roomed, called-then, called-roomed, alone-caused, refused-caused, behind-caused, alone-entered, refused-entered, behind-entered, untouched, never-ok}
 use Rattle.moving.proofs.moving_laws_WriteReplies.{write-answered}
-use Rattle.md_base.specs.declared.answers.Fault.TheVariants.{NoMemory, Refused as IsRefusedWith}
+use Rattle.still_kept.specs.md_base_the_Fault_TheVariants.{NoMemory, Refused as IsRefusedWith}
 use Rattle.moving.proofs.moving_laws_FirstLaws.{first-short, first-done}
 use Rattle.std.specs.Prelude.{OnOk}
-use Rattle.md_base.specs.declared.answers.Fault.{Fault}
-use Rattle.md_base.specs.declared.answers.Who.{Who}
-use Rattle.flat_history.specs.declared.events.StepKind.{StepKind}
+use Rattle.still_kept.specs.md_base_the_Fault.{Fault}
+use Rattle.still_kept.specs.md_base_the_Who.{Who}
+use Rattle.still_kept.specs.flat_history_the_StepKind.{StepKind}
 use Rattle.moving.proofs.StepLaws.{unchanged-roomed}
 use Rattle.moving_steps.proofs.writing.write_sure.Goals as goal
 

@@ -1,26 +1,26 @@
 use Rattle.std.proofs.Common.{None, ◌≡◌, ◌+◌, ◌≤◌, ◌<◌, List, [], ◌∷◌, ◌++◌, Some, refl, sym, ◌∙◌, ap, subst, arith, ℕ, length, zero-le}
 use Rattle.std.specs.Vec.{with_items}
 use Rattle.std.proofs.Math.Nat.{div-le_self}
-use Rattle.md_base.specs.declared.places.Shape.{Shape}
-use Rattle.superblocks.specs.Reading.{final_shape, list_length, is_clean}
-use Rattle.superblocks.proofs.ValidFields.{few-roles}
-use Rattle.flat_history.specs.declared.events.Event.TheVariants.{Refused, Step}
-use Rattle.flat_history.specs.declared.events.StepKind.TheVariants.{Zeroed as ZeroesStripe}
-use Rattle.flat_history.specs.Plain.{entries_of}
-use Rattle.views.specs.Lacking.{AreTooMany}
-use Rattle.views.proofs.Fit.{fit-short}
-use Rattle.views.proofs.LackingLaws.{lost-since, never-both}
-use Rattle.views.proofs.MovedLaws.{grows-none, moved-same}
-use Rattle.call_entries.specs.Losing.{losses_of}
+use Rattle.still_kept.specs.md_base_the_Shape.{Shape}
+use Rattle.moving.specs.superblocks_Reading.{final_shape, list_length, is_clean}
+use Rattle.still_kept.proofs.superblocks_ValidFields.{few-roles}
+use Rattle.still_kept.specs.flat_history_the_Event_TheVariants.{Refused, Step}
+use Rattle.still_kept.specs.flat_history_the_StepKind_TheVariants.{Zeroed as ZeroesStripe}
+use Rattle.still_kept.specs.flat_history_Plain.{entries_of}
+use Rattle.moving.specs.views_Lacking.{AreTooMany}
+use Rattle.moving.proofs.views_Fit.{fit-short}
+use Rattle.still_kept.proofs.views_LackingLaws.{lost-since, never-both}
+use Rattle.moving.proofs.views_MovedLaws.{grows-none, moved-same}
+use Rattle.still_kept.specs.call_entries_Losing.{losses_of}
 use Rattle.moving.specs.array_kept_Kept.{scope_in}
 use Rattle.moving.proofs.array_kept_LossLaws.{losses-behind, ended-behind, behind-alone}
 use Rattle.moving.proofs.array_kept_ReadyLaws.{scope-same}
 use Rattle.moving.proofs.array_kept_ReplyLaws.{refused-for, too-many-of}
-use Rattle.grow_asked.specs.Left.{zeroed_by, phases_of, IsWindowRight}
+use Rattle.still_kept.specs.grow_asked_Left.{zeroed_by, phases_of, IsWindowRight}
 use Rattle.moving.specs.course_kept_the_Course.{Course}
 use Rattle.moving.specs.kept_history_Recorded.{IsCallGoing}
 use Rattle.moving.specs.kept_history_Safe.{world_in}
-use Rattle.views.specs.Numbers.{bears}
+use Rattle.moving.specs.views_Numbers.{bears}
 use Rattle.moving.proofs.moving_kept_Refusals.{quiet-refusal, refused-right}
 use Rattle.moving.proofs.moving_kept_Resting.{resting-moves}
 use Rattle.moving.proofs.moving_kept_Steps.{missing-since}

@@ -1,9 +1,9 @@
 use Rattle.std.proofs.Common.{◌≡◌, ◌≢◌, ◌++◌, ℕ, ◌<◌, ◌≤◌, inl, inr, List, length, take, take_all, drop, refl, sym, ◌∙◌, ap, subst, arith}
 use Rattle.std.proofs.lemmas.List.{take-append-le}
-use Rattle.bank.specs.declared.bank.Operation.{Operation}
-use Rattle.bank.specs.Given.{Given}
-use Rattle.bank.specs.Whole.{HasWholeSectors}
-use Rattle.views.specs.Flushing.{OnlyItsSlotsFail}
+use Rattle.assemble.specs.bank_the_Operation.{Operation}
+use Rattle.assemble.specs.bank_Given.{Given}
+use Rattle.assemble.specs.bank_Whole.{HasWholeSectors}
+use Rattle.assemble.specs.views_Flushing.{OnlyItsSlotsFail}
 use Rattle.running_steps.specs.moving_laws_Ready.{bytes_in}
 use Rattle.moving_opens.specs.reshape_openings_Finding.{bytes_for}
 use Rattle.moving_opens.specs.Opening.{IsOpenedMoving}

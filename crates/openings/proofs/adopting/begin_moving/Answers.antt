@@ -1,13 +1,13 @@
 use Rattle.std.proofs.Common.{◌≡◌, ◌++◌, ℕ, List, [], length, Some, refl, sym, ◌∙◌, ap, arith}
 use Rattle.std.proofs.lemmas.List.{length-map}
-use Rattle.bank.specs.Given.{Given}
-use Rattle.superblocks.specs.declared.members.Members.{Members}
-use Rattle.superblocks.specs.Reading.{role_count}
+use Rattle.assemble.specs.bank_Given.{Given}
+use Rattle.assemble.specs.superblocks_the_Members.{Members}
+use Rattle.assemble.specs.superblocks_Reading.{role_count}
 use Rattle.running_steps.specs.row_io_Rows.{reading_of, role_without, members_without}
-use Rattle.flat_history.specs.declared.events.Entry.{Entry}
-use Rattle.flat_history.specs.Plain.{entries_of}
-use Rattle.views.specs.Placed.{IsPlaced}
-use Rattle.views.proofs.Fit.{few as few-placed}
+use Rattle.assemble.specs.flat_history_the_Entry.{Entry}
+use Rattle.assemble.specs.flat_history_Plain.{entries_of}
+use Rattle.assemble.specs.views_Placed.{IsPlaced}
+use Rattle.assemble.proofs.views_Fit.{few as few-placed}
 use Rattle.running_steps.specs.array_kept_Adopting.{opener, absent_losses}
 use Rattle.running_steps.proofs.array_kept_ReadyLaws.{scope-same}
 use Rattle.moving_opens.specs.Opening.{AreOpenedMoving, opening_entries}

@@ -1,13 +1,13 @@
 use Rattle.std.proofs.Common.{◌≡◌, inr, ℕ, List, Some, None, sym, ◌∙◌, ap, subst, arith}
-use Rattle.md_base.specs.declared.answers.Fault.{Fault}
-use Rattle.md_base.specs.declared.answers.Fault.TheVariants.{Refused, NoMemory}
-use Rattle.md_base.specs.declared.answers.Refusal.{Refusal}
-use Rattle.md_base.specs.declared.answers.Refusal.TheVariants.{UuidInUse}
-use Rattle.bank.specs.declared.bank.Operation.{Operation}
-use Rattle.bank.specs.Given.{Given}
+use Rattle.assemble.specs.md_base_the_Fault.{Fault}
+use Rattle.assemble.specs.md_base_the_Fault_TheVariants.{Refused, NoMemory}
+use Rattle.assemble.specs.md_base_the_Refusal.{Refusal}
+use Rattle.assemble.specs.md_base_the_Refusal_TheVariants.{UuidInUse}
+use Rattle.assemble.specs.bank_the_Operation.{Operation}
+use Rattle.assemble.specs.bank_Given.{Given}
 use Rattle.assemble.specs.Filling.{OnlyBelow}
 use Rattle.running_steps.specs.row_io_Rows.{present}
-use Rattle.views.specs.Flushing.{OnlyItsSlotsFail, OnlyFlushesAdded}
+use Rattle.assemble.specs.views_Flushing.{OnlyItsSlotsFail, OnlyFlushesAdded}
 use Rattle.running_steps.specs.array_kept_Adopting.{IsAdoptable, IsAdopted}
 use Rattle.assemble.specs.declared.opening.Opened.{Opened}
 use Rattle.assemble.specs.Opening.{scope_of}

@@ -1,6 +1,6 @@
 use Rattle.std.proofs.Common.{[], ◌∷◌, refl, sym, ◌∙◌, ap}
 use Rattle.std.proofs.lemmas.Bool.{true≢false}
-use Rattle.flat_history.specs.declared.events.Event.TheVariants.{Halted}
+use Rattle.assemble.specs.flat_history_the_Event_TheVariants.{Halted}
 use Rattle.running_steps.proofs.views_MovedLaws.{grows-none}
 use Rattle.running_steps.proofs.still_laws_PlansKept.{add-entered}
 use Rattle.running_steps.proofs.running_Chosen.{ends-halted}

@@ -1,7 +1,7 @@
 use Rattle.std.proofs.Common.{length, refl, sym, ◌∙◌}
 use Rattle.std.proofs.lemmas.Bool.{true≢false}
-use Rattle.superblocks.specs.Reading.{list_length}
-use Rattle.flat_history.specs.declared.events.Event.TheVariants.{Stopped}
+use Rattle.assemble.specs.superblocks_Reading.{list_length}
+use Rattle.assemble.specs.flat_history_the_Event_TheVariants.{Stopped}
 use Rattle.running_steps.proofs.still_laws_PlansKept.{add-behind}
 use Rattle.running_steps.proofs.running_Closed.{unsettled-whole}
 use Rattle.running_steps.proofs.running_Entered.{add-unsettled}

@@ -1,13 +1,13 @@
 use Rattle.std.proofs.Common.{◌≡◌, false, None, List, [], length, sym, ◌∙◌, ap, subst, arith}
-use Rattle.md_base.specs.declared.answers.Fault.TheVariants.{NoMemory}
-use Rattle.bank.specs.declared.bank.Operation.{Operation}
-use Rattle.bank.specs.Given.{Given}
-use Rattle.bank.specs.Tape.{contents}
-use Rattle.superblocks.specs.Reading.{is_reshaping}
+use Rattle.assemble.specs.md_base_the_Fault_TheVariants.{NoMemory}
+use Rattle.assemble.specs.bank_the_Operation.{Operation}
+use Rattle.assemble.specs.bank_Given.{Given}
+use Rattle.assemble.specs.bank_Tape.{contents}
+use Rattle.assemble.specs.superblocks_Reading.{is_reshaping}
 use Rattle.running_steps.specs.row_io_Rows.{present}
-use Rattle.views.specs.Flushing.{OnlyFlushesAdded, OnlyItsSlotsFail}
+use Rattle.assemble.specs.views_Flushing.{OnlyFlushesAdded, OnlyItsSlotsFail}
 use Rattle.running_steps.specs.array_kept_Adopting.{IsAdoptable, IsAdopted}
-use Rattle.grow_asked.specs.Left.{phases_of}
+use Rattle.moving_opens.specs.grow_asked_Left.{phases_of}
 use Rattle.assemble.specs.declared.opening.Opened.{Opened}
 use Rattle.assemble.specs.Opening.{scope_of, HasFoundNone}
 use Rattle.assemble.proofs.PlacedFound.{placed-found, unlost-found, free-found}

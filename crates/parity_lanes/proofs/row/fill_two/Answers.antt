@@ -1,7 +1,7 @@
 use Rattle.std.proofs.Common.{◌≡◌, ℕ, ◌<◌, ◌||◌, eqb, get_or, sym, ap, ap₂, ◌∙◌, arith}
 use Rattle.std.proofs.lemmas.List.{get_or-replicate}
 use Rattle.std.specs.Int.Bits.{bit_xor}
-use Rattle.gf256.specs.Field.{product}
+use Rattle.parity.specs.gf256_Field.{product}
 use Rattle.parity.specs.Parity.{fill}
 use Rattle.parity.specs.Rows.{sector_of, row_without, p_weight, q_weight, IsRowOf}
 use Rattle.parity.proofs.Solving.{determinant-is}

@@ -1,5 +1,5 @@
 use Rattle.std.proofs.Common.{ap, ◌∙◌}
-use Rattle.gf256.specs.Field.{product}
+use Rattle.parity.specs.gf256_Field.{product}
 use Rattle.parity_lanes.proofs.Halves.{low_place, high_place}
 use Rattle.parity_lanes.proofs.sectors.products_of.Goals as goal
 

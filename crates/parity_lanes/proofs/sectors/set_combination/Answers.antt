@@ -1,7 +1,7 @@
 use Rattle.std.proofs.Common.{ℕ, ◌+◌, ◌*◌, ◌≤◌, length, get_or, ap₂, ◌∙◌, arith}
 use Rattle.std.specs.Int.Bits.{bit_xor}
 use lib.Lanes.{zip2}
-use Rattle.gf256.specs.Field.{product}
+use Rattle.parity.specs.gf256_Field.{product}
 use Rattle.parity_lanes.proofs.Lanes.{stored_below, xor-len, xor_lane, loaded_lane}
 use Rattle.parity_lanes.proofs.sectors.set_combination.Goals as goal
 

@@ -1,6 +1,6 @@
 use Rattle.std.proofs.Common.{◌≡◌, ℕ, ◌*◌, ◌<◌, get_or}
 use Rattle.std.specs.Int.Bits.{bit_xor}
-use Rattle.gf256.specs.Field.{product}
+use Rattle.parity.specs.gf256_Field.{product}
 use Rattle.parity_lanes.proofs.sectors.set_combination.Given as goal
 
 abbrev pub invariant-loop-block : goal.invariant-loop-block

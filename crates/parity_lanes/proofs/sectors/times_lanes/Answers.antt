@@ -1,7 +1,7 @@
 use Rattle.std.proofs.Common.{◌≡◌, ℕ, suc, ◌+◌, ◌-◌, ◌/◌, ◌%◌, List, length, get_or, refl, sym, ap, ◌∙◌, arith, w8}
 use Rattle.std.proofs.lemmas.Simd.{get_or-replicate, below_from_Fits}
 use Rattle.std.specs.Int.Bits.{bit_xor, xor_zero_l, xor_zero_r}
-use Rattle.gf256.specs.Field.{double, product, product_of_bits}
+use Rattle.parity.specs.gf256_Field.{double, product, product_of_bits}
 use Rattle.parity_lanes.proofs.Lanes.{xor-len, xor_lane, bit_taken, bit_left, bits_none}
 use Rattle.parity_lanes.proofs.sectors.times_lanes.Goals as goal
 use Rattle.parity_lanes.proofs.sectors.times_lanes.Goals.{then-taken-eq1, else-taken-eq1}

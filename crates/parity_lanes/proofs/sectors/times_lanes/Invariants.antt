@@ -1,7 +1,7 @@
 use Rattle.std.proofs.Common.{◌≡◌, ℕ, ◌-◌, ◌<◌, length, get_or}
 use Rattle.std.specs.Int.Bits.{bit_xor}
 use lib.Lanes.{Each1}
-use Rattle.gf256.specs.Field.{product, product_of_bits}
+use Rattle.parity.specs.gf256_Field.{product, product_of_bits}
 use Rattle.parity_lanes.proofs.sectors.times_lanes.Given as goal
 
 abbrev pub invariant-loop-bit : goal.invariant-loop-bit

@@ -1,7 +1,7 @@
 use Rattle.std.proofs.Common.{◌≡◌, ℕ, ◌+◌, ◌-◌, ◌*◌, ◌<◌, true, get_or, sym, ap, ap₂, ◌∙◌, arith}
 use Rattle.std.proofs.lemmas.Simd.{get_or-replicate}
 use Rattle.std.specs.Int.Bits.{bit_xor}
-use Rattle.gf256.specs.Field.{double}
+use Rattle.parity.specs.gf256_Field.{double}
 use Rattle.parity.specs.Exponents.{is_data, exponent}
 use Rattle.parity.specs.Rows.{byte_of}
 use Rattle.parity_lanes.proofs.Lanes.{xor_lane, loaded_byte}

@@ -1,6 +1,6 @@
 use Rattle.std.proofs.Common.{◌≡◌, ◌≢◌, ℕ, ◌+◌, ◌-◌, ◌*◌, ◌<◌, inl, inr, true, false, sym, ap, ◌∙◌, arith}
 use Rattle.std.proofs.lemmas.Bool.{cases_lt}
-use Rattle.gf256.specs.Field.{power_of_two}
+use Rattle.parity.specs.gf256_Field.{power_of_two}
 use Rattle.parity.specs.Exponents.{is_q, is_data, exponent}
 use Rattle.parity.specs.Parity.{p_byte, q_byte}
 use Rattle.parity.specs.Rows.{byte_of, bytes_at}

@@ -1,11 +1,11 @@
 use Rattle.std.proofs.Common.{◌≡◌, ◌≤◌, ◌+◌, ◌-◌, ◌*◌, ◌/◌, ◌^◌, ℕ, true, refl, ap, arith}
 use Rattle.std.proofs.Math.Nat.{div-le_self}
 use Rattle.std.proofs.lemmas.Nat.{mul-le}
-use Rattle.md_base.specs.declared.places.Shape.{Shape}
-use Rattle.md_base.specs.Shapes.{is_valid_shape, data_disks, stripe_sectors}
-use Rattle.geometry.specs.Geometry.{ceiling}
-use Rattle.geometry.proofs.ClosedForms.{rounded_up_at, ceiling_below}
-use Rattle.geometry.proofs.Valid.{bounded}
+use Rattle.grow_asked.specs.md_base_the_Shape.{Shape}
+use Rattle.grow_asked.specs.md_base_Shapes.{is_valid_shape, data_disks, stripe_sectors}
+use Rattle.grow_asked.specs.geometry_Geometry.{ceiling}
+use Rattle.grow_asked.proofs.geometry_ClosedForms.{rounded_up_at, ceiling_below}
+use Rattle.grow_asked.proofs.geometry_Valid.{bounded}
 use Rattle.region_mends.proofs.LeftLaws.{few-below}
 use Rattle.region_mends.proofs.counting.stripes_beside.Goals as goal
 

@@ -1,11 +1,11 @@
 use Rattle.std.proofs.Common.{◌≡◌, ◌<◌, ◌/◌, ℕ, true, None, Some, Option, sym, ◌∙◌, subst, arith}
 use Rattle.std.specs.Prelude.{MatchOption, ⊤}
-use Rattle.md_base.specs.declared.answers.Refusal.{Refusal}
-use Rattle.md_base.specs.Sectors.{Sector}
-use Rattle.bank.specs.Tape.{Contents, IsIn}
-use Rattle.md_base.specs.declared.status.Role.TheVariants.{Recovering}
-use Rattle.superblocks.specs.declared.members.Members.{Members}
-use Rattle.superblocks.specs.Reading.{role_state}
+use Rattle.grow_asked.specs.md_base_the_Refusal.{Refusal}
+use Rattle.grow_asked.specs.md_base_Sectors.{Sector}
+use Rattle.grow_asked.specs.bank_Tape.{Contents, IsIn}
+use Rattle.grow_asked.specs.md_base_the_Role_TheVariants.{Recovering}
+use Rattle.grow_asked.specs.superblocks_the_Members.{Members}
+use Rattle.grow_asked.specs.superblocks_Reading.{role_state}
 use Rattle.region_writes.specs.row_io_Rows.{reading_of, present}
 use Rattle.region_writes.specs.list_io_Full.{AreWholeIn, RowStands}
 use Rattle.region_writes.specs.list_io_Writing.{HasFull}

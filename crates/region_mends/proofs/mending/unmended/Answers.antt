@@ -1,7 +1,7 @@
 use Rattle.std.proofs.Common.{◌≤◌, false, Option, sym, ◌∙◌, ap, subst, arith}
 use Rattle.std.specs.Prelude.{IsTrue, length}
-use Rattle.md_base.specs.Shapes.{is_valid_shape}
-use Rattle.md_base.specs.declared.answers.Refusal.{Refusal}
+use Rattle.grow_asked.specs.md_base_Shapes.{is_valid_shape}
+use Rattle.grow_asked.specs.md_base_the_Refusal.{Refusal}
 use Rattle.region_writes.proofs.views_Fit.{force-valid, force-disks}
 use Rattle.region_writes.specs.safe_updates_First.{write_refusal}
 use Rattle.region_mends.specs.declared.stripes.Stripe.{Stripe}

@@ -1,6 +1,6 @@
 use Rattle.std.proofs.Common.{◌/◌, ℕ, ap, ◌∙◌}
-use Rattle.md_base.specs.Shapes.{stripe_sectors}
-use Rattle.md_base.specs.declared.places.Shape.{Shape}
+use Rattle.grow_asked.specs.md_base_Shapes.{stripe_sectors}
+use Rattle.grow_asked.specs.md_base_the_Shape.{Shape}
 use Rattle.region_mends.specs.Mends.{low_end}
 use Rattle.region_writes.proofs.Sides.{high-valid-by}
 use Rattle.region_mends.proofs.stripes.high_stripe.Goals as goal

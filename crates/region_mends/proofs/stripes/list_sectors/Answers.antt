@@ -1,7 +1,7 @@
 use Rattle.std.proofs.Common.{sym, ◌∙◌, ap, subst}
-use Rattle.md_base.specs.declared.places.Shape.{Shape}
-use Rattle.geometry.specs.Geometry.{AreInForce, list_end}
-use Rattle.superblocks.specs.Reading.{shape_of}
+use Rattle.grow_asked.specs.md_base_the_Shape.{Shape}
+use Rattle.grow_asked.specs.geometry_Geometry.{AreInForce, list_end}
+use Rattle.grow_asked.specs.superblocks_Reading.{shape_of}
 use Rattle.region_mends.proofs.stripes.list_sectors.Goals as goal
 
 pub list_end-requires : goal.list_end-requires

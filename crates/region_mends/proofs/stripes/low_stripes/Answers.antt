@@ -1,7 +1,7 @@
 use Rattle.std.proofs.Common.{ap, ◌∙◌, arith}
-use Rattle.md_base.specs.Shapes.{stripe_sectors}
-use Rattle.md_base.specs.declared.places.Shape.{Shape}
-use Rattle.geometry.proofs.ClosedForms.{rounded_up_at, ceiling_below}
+use Rattle.grow_asked.specs.md_base_Shapes.{stripe_sectors}
+use Rattle.grow_asked.specs.md_base_the_Shape.{Shape}
+use Rattle.grow_asked.proofs.geometry_ClosedForms.{rounded_up_at, ceiling_below}
 use Rattle.region_mends.specs.Mends.{low_end, low_shape}
 use Rattle.region_writes.proofs.Sides.{low-valid-by, low-some, low-fits, list-few}
 use Rattle.region_mends.proofs.stripes.low_stripes.Goals as goal

@@ -1,7 +1,7 @@
 use Rattle.std.proofs.Common.{◌≡◌, ◌+◌, ◌-◌, ◌/◌, ℕ, ap, ◌∙◌, arith}
 use Rattle.std.proofs.Math.Nat.{div-le_self}
-use Rattle.md_base.specs.declared.places.Shape.{Shape}
-use Rattle.sb1.specs.declared.sb.Sb.{Sb}
+use Rattle.grow_asked.specs.md_base_the_Shape.{Shape}
+use Rattle.grow_asked.specs.sb1_the_Sb.{Sb}
 use Rattle.region_writes.proofs.views_Fit.{fit-short}
 use Rattle.region_mends.specs.Mends.{high_shape, low_stripes}
 use Rattle.region_writes.proofs.Sides.{high-few}

@@ -1,6 +1,6 @@
 use Rattle.std.proofs.Common.{◌≡◌, ◌*◌, ℕ, Some, ap, sym, ◌∙◌, subst, arith}
 use Rattle.std.specs.Prelude.{IsTrue}
-use Rattle.md_base.specs.Shapes.{is_valid_shape, stripe_sectors}
+use Rattle.grow_asked.specs.md_base_Shapes.{is_valid_shape, stripe_sectors}
 use Rattle.region_mends.specs.declared.stripes.Stripe.{Stripe}
 use Rattle.region_mends.specs.Mends.{relied_sector}
 use Rattle.region_writes.proofs.Sides.{list-few}

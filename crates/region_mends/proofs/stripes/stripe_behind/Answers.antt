@@ -1,6 +1,6 @@
 use Rattle.std.proofs.Common.{◌+◌, ◌-◌, ℕ, ap, sym, ◌∙◌, arith}
 use Rattle.std.proofs.Math.Nat.{div-le_self}
-use Rattle.md_base.specs.declared.places.Shape.{Shape}
+use Rattle.grow_asked.specs.md_base_the_Shape.{Shape}
 use Rattle.region_writes.proofs.views_Fit.{fit-short}
 use Rattle.region_mends.specs.Mends.{high_shape, high_stripe}
 use Rattle.region_writes.proofs.Sides.{high-few}

@@ -1,15 +1,15 @@
 use Rattle.std.proofs.Common.{◌≡◌, inl, inr, ℕ, ◌+◌, ◌*◌, ◌/◌, Option, unwrap_or, sym, ap, subst, arith, ◌∙◌}
-use Rattle.md_base.specs.Shapes.{data_disks}
-use Rattle.bank.specs.Given.{Given}
-use Rattle.bank.specs.Tape.{Contents}
-use Rattle.layout.specs.Layout.{place}
-use Rattle.superblocks.specs.declared.members.Members.{Members}
-use Rattle.row_io.specs.Rows.{reading_of, present}
-use Rattle.row_io.proofs.RowBytes.{on_ok}
-use Rattle.list_io.specs.Calls.{AreLost}
-use Rattle.list_io.specs.Full.{DataStands, RowStands}
-use Rattle.list_io.proofs.LossLaws.{none_lost, lost_then}
-use Rattle.list_io.proofs.ListLaws.{data_by, row_by, present_same}
+use Rattle.safe_rows.specs.md_base_Shapes.{data_disks}
+use Rattle.safe_rows.specs.bank_Given.{Given}
+use Rattle.safe_rows.specs.bank_Tape.{Contents}
+use Rattle.safe_rows.specs.layout_Layout.{place}
+use Rattle.safe_rows.specs.superblocks_the_Members.{Members}
+use Rattle.safe_rows.specs.row_io_Rows.{reading_of, present}
+use Rattle.safe_rows.proofs.row_io_RowBytes.{on_ok}
+use Rattle.safe_rows.specs.list_io_Calls.{AreLost}
+use Rattle.safe_rows.specs.list_io_Full.{DataStands, RowStands}
+use Rattle.safe_rows.proofs.list_io_LossLaws.{none_lost, lost_then}
+use Rattle.safe_rows.proofs.list_io_ListLaws.{data_by, row_by, present_same}
 use Rattle.safe_rows.specs.views_Placed.{IsPlaced, IsInForce}
 use Rattle.safe_rows.proofs.views_Fit.{disks-within}
 use Rattle.safe_rows.proofs.views_LackingWrites.{lost-of}

@@ -1,12 +1,12 @@
 use Rattle.std.proofs.Common.{◌≡◌, ℕ, ◌+◌, ◌/◌, length, sym, ◌∙◌, ap, subst, arith}
 use Rattle.std.specs.Prelude.{is_err}
-use Rattle.bank.specs.Tape.{AreSectors}
-use Rattle.md_base.specs.declared.places.Place.{Place}
-use Rattle.md_base.specs.declared.status.Role.TheVariants.{Whole}
-use Rattle.layout.specs.Layout.{place}
-use Rattle.superblocks.specs.Reading.{role_state, holder, data_offset_of}
-use Rattle.row_io.specs.Rows.{reading_of, present}
-use Rattle.list_io.proofs.LossLaws.{none_lost, slot_lost}
+use Rattle.safe_rows.specs.bank_Tape.{AreSectors}
+use Rattle.safe_rows.specs.md_base_the_Place.{Place}
+use Rattle.safe_rows.specs.md_base_the_Role_TheVariants.{Whole}
+use Rattle.safe_rows.specs.layout_Layout.{place}
+use Rattle.safe_rows.specs.superblocks_Reading.{role_state, holder, data_offset_of}
+use Rattle.safe_rows.specs.row_io_Rows.{reading_of, present}
+use Rattle.safe_rows.proofs.list_io_LossLaws.{none_lost, slot_lost}
 use Rattle.safe_rows.proofs.views_Fit.{force-valid, force-multiple, disks-within, few}
 use Rattle.region_rows.proofs.ChunkReads.{run-listed, run-within}
 use Rattle.region_rows.proofs.chunks.read_run.Goals as goal

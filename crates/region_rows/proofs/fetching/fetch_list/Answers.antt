@@ -1,9 +1,9 @@
 use Rattle.std.proofs.Common.{◌≡◌, ◌≤◌, true, List, length, Option, Some, None, is_some, inl, inr, refl, sym, ◌∙◌, subst, arith, ap, le_trans}
-use Rattle.bank.specs.declared.bank.Operation.{Operation}
-use Rattle.bank.specs.Given.{Given}
-use Rattle.md_base.specs.declared.answers.Refusal.{Refusal}
-use Rattle.superblocks.specs.declared.members.Members.{Members}
-use Rattle.row_io.specs.Rows.{present}
+use Rattle.safe_rows.specs.bank_the_Operation.{Operation}
+use Rattle.safe_rows.specs.bank_Given.{Given}
+use Rattle.safe_rows.specs.md_base_the_Refusal.{Refusal}
+use Rattle.safe_rows.specs.superblocks_the_Members.{Members}
+use Rattle.safe_rows.specs.row_io_Rows.{present}
 use Rattle.safe_rows.specs.flat_history_Sound.{OpensFit}
 use Rattle.safe_rows.specs.shape_changes_Steady.{IsUncleanTold}
 use Rattle.safe_rows.specs.shape_changes_Marking.{AreOthersPresent}
@@ -15,7 +15,7 @@ use Rattle.safe_rows.proofs.views_SafeStretch.{safe-then, safe-lost, over-at, ke
 use Rattle.safe_rows.proofs.views_LackingLists.{none-of}
 use Rattle.safe_rows.proofs.UnusedReads.{read-unused, named-unused}
 use mathlib.Core.List.{not-mem-nil}
-use Rattle.superblocks.specs.Reading.{is_clean}
+use Rattle.safe_rows.specs.superblocks_Reading.{is_clean}
 use Rattle.safe_rows.specs.views_Placed.{IsPlaced}
 use Rattle.safe_rows.specs.views_Moving.{Grows}
 use Rattle.region_rows.proofs.fetching.fetch_list.Goals as goal

@@ -1,6 +1,6 @@
 use Rattle.std.proofs.Common.{◌+◌, ◌/◌, ◌≤◌, length, inl, refl, sym, subst, arith}
-use Rattle.superblocks.specs.declared.members.Members.{Members}
-use Rattle.superblocks.specs.Reading.{list_length}
+use Rattle.safe_rows.specs.superblocks_the_Members.{Members}
+use Rattle.safe_rows.specs.superblocks_Reading.{list_length}
 use Rattle.region_rows.proofs.StretchLaws.{list-short, data-few}
 use Rattle.region_rows.proofs.UnreadLaws.{wider-unread, never-none}
 use Rattle.region_rows.proofs.fetching.read_regions.Goals as goal

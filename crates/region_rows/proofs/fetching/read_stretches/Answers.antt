@@ -1,19 +1,19 @@
 use Rattle.std.proofs.Common.{◌≡◌, ◌⊎◌, ◌+◌, ◌-◌, ◌*◌, ◌/◌, ◌<◌, ◌≤◌, ℕ, [], length, take, drop, inl, inr, refl, sym, ◌∙◌, ap, subst, arith, le_trans}
 use Rattle.std.specs.Prelude.{bit_or}
 use Rattle.std.proofs.lemmas.Bool.{cases_lt}
-use Rattle.md_base.specs.Sectors.{Sector}
-use Rattle.md_base.specs.Shapes.{data_disks}
-use Rattle.md_base.specs.declared.places.Shape.{Shape}
-use Rattle.sb1.specs.declared.sb.Sb.{Sb}
-use Rattle.bank.specs.Tape.{Contents}
-use Rattle.layout.specs.Layout.{place}
-use Rattle.parity.specs.Rows.{sector_of}
-use Rattle.superblocks.specs.declared.members.Members.{Members}
-use Rattle.row_io.specs.Rows.{reading_of, present, members_without}
-use Rattle.list_io.specs.Full.{DataStands, RowStands}
-use Rattle.row_io.proofs.Written.{members_without-none}
-use Rattle.list_io.proofs.LossLaws.{members_then}
-use Rattle.list_io.proofs.ListLaws.{present_same}
+use Rattle.safe_rows.specs.md_base_Sectors.{Sector}
+use Rattle.safe_rows.specs.md_base_Shapes.{data_disks}
+use Rattle.safe_rows.specs.md_base_the_Shape.{Shape}
+use Rattle.safe_rows.specs.sb1_the_Sb.{Sb}
+use Rattle.safe_rows.specs.bank_Tape.{Contents}
+use Rattle.safe_rows.specs.layout_Layout.{place}
+use Rattle.safe_rows.specs.parity_Rows.{sector_of}
+use Rattle.safe_rows.specs.superblocks_the_Members.{Members}
+use Rattle.safe_rows.specs.row_io_Rows.{reading_of, present, members_without}
+use Rattle.safe_rows.specs.list_io_Full.{DataStands, RowStands}
+use Rattle.safe_rows.proofs.row_io_Written.{members_without-none}
+use Rattle.safe_rows.proofs.list_io_LossLaws.{members_then}
+use Rattle.safe_rows.proofs.list_io_ListLaws.{present_same}
 use Rattle.safe_rows.specs.flat_history_Stands.{shape_for}
 use Rattle.safe_rows.specs.views_Placed.{AreWhole, AreLost, IsInForce, IsPlaced}
 use Rattle.safe_rows.specs.views_Moving.{IsMoved}
@@ -25,7 +25,7 @@ use Rattle.region_rows.specs.Stretches.{IsStretch, IsOneRun, IsShapeOf, relied_r
 use Rattle.region_rows.proofs.StretchLaws.{list-short, data-few}
 use Rattle.region_rows.proofs.UnreadLaws.{answer-lacked}
 use Rattle.region_rows.proofs.StretchReads.{part-count, part-long, sector-here, sector-before, sector-read}
-use Rattle.bank.specs.Given.{Given}
+use Rattle.safe_rows.specs.bank_Given.{Given}
 use Rattle.region_rows.proofs.fetching.read_stretches.Goals as goal
 
 -- a shape in force is one before, where slots were lost

@@ -1,9 +1,9 @@
 use Rattle.std.proofs.Common.{◌≡◌, ◌⊎◌, ◌+◌, ◌-◌, ◌<◌, ◌≤◌, ℕ, Option}
-use Rattle.bank.specs.Given.{NeverFalls}
-use Rattle.md_base.specs.Sectors.{Sector}
-use Rattle.md_base.specs.declared.places.Span.{Span}
-use Rattle.parity.specs.Rows.{sector_of}
-use Rattle.row_io.specs.Rows.{present, members_without}
+use Rattle.safe_rows.specs.bank_Given.{NeverFalls}
+use Rattle.safe_rows.specs.md_base_Sectors.{Sector}
+use Rattle.safe_rows.specs.md_base_the_Span.{Span}
+use Rattle.safe_rows.specs.parity_Rows.{sector_of}
+use Rattle.safe_rows.specs.row_io_Rows.{present, members_without}
 use Rattle.safe_rows.specs.shape_views_Windows.{IsShown}
 use Rattle.safe_rows.specs.views_Placed.{AreWhole}
 use Rattle.safe_rows.specs.views_Moving.{IsMoved}

@@ -1,6 +1,6 @@
 use Rattle.std.proofs.Common.{inl, inr, le_trans, le_of_lt, sym, ◌∙◌, subst}
 use Rattle.std.proofs.lemmas.Bool.{cases_lt}
-use Rattle.md_base.specs.declared.places.Shape.{Shape}
+use Rattle.safe_rows.specs.md_base_the_Shape.{Shape}
 use Rattle.safe_rows.specs.views_Lacking.{DoesWithout}
 use Rattle.region_rows.proofs.UnreadLaws.{none-match}
 use Rattle.region_rows.proofs.fetching.too_many_in.Goals as goal

@@ -1,5 +1,5 @@
 use Rattle.std.proofs.Common.{lit<, refl}
-use Rattle.superblocks.proofs.FeatureBits.{masked}
+use Rattle.safe_rows.proofs.superblocks_FeatureBits.{masked}
 use Rattle.region_rows.proofs.stretches.has_backward_bit.Goals as goal
 
 pub returns : goal.returns

@@ -1,9 +1,9 @@
 use Rattle.std.proofs.Common.{◌≡◌, ◌/◌, ◌*◌, ◌<◌, nat_le, Bool, true, false, if◌then◌else◌, ℕ, ap, sym, ◌∙◌, subst, arith}
 use Rattle.std.proofs.lemmas.Bool.Decides.{nat_tests}
-use Rattle.md_base.specs.Shapes.{is_multiple, stripe_sectors}
-use Rattle.md_base.specs.declared.places.Shape.{Shape}
-use Rattle.sb1.specs.declared.sb.Sb.{Sb}
-use Rattle.superblocks.specs.Reading.{list_length}
+use Rattle.safe_rows.specs.md_base_Shapes.{is_multiple, stripe_sectors}
+use Rattle.safe_rows.specs.md_base_the_Shape.{Shape}
+use Rattle.safe_rows.specs.sb1_the_Sb.{Sb}
+use Rattle.safe_rows.specs.superblocks_Reading.{list_length}
 use Rattle.safe_rows.proofs.views_Fit.{fit-short}
 use Rattle.region_rows.specs.Stretches.{relied_rows}
 use Rattle.region_rows.proofs.StretchLaws.{relied-within, relied-stripes}

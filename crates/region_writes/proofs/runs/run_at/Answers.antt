@@ -1,8 +1,8 @@
 use Rattle.std.proofs.Common.{◌≡◌, inl, inr, ℕ, ◌-◌, ◌<◌, ◌≤◌, nat_le, true, false, sym, ◌∙◌, subst, arith}
 use Rattle.std.proofs.lemmas.Bool.{cases_lt}
 use Rattle.std.proofs.lemmas.Bool.Decides.{nat_tests}
-use Rattle.layout.proofs.Places.{place-row_below, place-sector_below}
-use Rattle.layout.specs.Layout.{place}
+use Rattle.region_rows.proofs.layout_Places.{place-row_below, place-sector_below}
+use Rattle.region_rows.specs.layout_Layout.{place}
 use Rattle.region_rows.proofs.views_Fit.{force-valid, fit-short}
 use Rattle.region_writes.proofs.runs.run_at.Goals as goal
 

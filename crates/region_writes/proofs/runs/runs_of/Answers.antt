@@ -1,6 +1,6 @@
 use Rattle.std.proofs.Common.{◌≡◌, inl, inr, ◌<◌, true, refl, sym, ap, arith, false}
-use Rattle.md_base.specs.Shapes.{data_disks}
-use Rattle.superblocks.specs.Reading.{is_reshaping}
+use Rattle.region_rows.specs.md_base_Shapes.{data_disks}
+use Rattle.region_rows.specs.superblocks_Reading.{is_reshaping}
 use Rattle.region_rows.specs.flat_history_Stands.{shape_for}
 use Rattle.region_writes.proofs.Together.{wider-low}
 use Rattle.region_writes.proofs.runs.runs_of.Goals as goal

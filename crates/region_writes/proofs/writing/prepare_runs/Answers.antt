@@ -1,10 +1,10 @@
 use Rattle.std.proofs.Common.{◌≡◌, ◌≤◌, inl, false, List, length, refl, sym, ◌∙◌, subst, arith, le_trans}
-use Rattle.bank.specs.Given.{Given}
-use Rattle.bank.specs.declared.bank.Operation.{Operation}
-use Rattle.superblocks.specs.declared.members.Members.{Members}
-use Rattle.superblocks.specs.Reading.{is_clean}
+use Rattle.region_rows.specs.bank_Given.{Given}
+use Rattle.region_rows.specs.bank_the_Operation.{Operation}
+use Rattle.region_rows.specs.superblocks_the_Members.{Members}
+use Rattle.region_rows.specs.superblocks_Reading.{is_clean}
 use Rattle.region_rows.specs.row_io_Rows.{present}
-use Rattle.list_io.specs.Buffers.{buffered}
+use Rattle.region_rows.specs.list_io_Buffers.{buffered}
 use Rattle.region_rows.specs.views_Placed.{IsPlaced}
 use Rattle.region_rows.specs.views_Moving.{Grows, IsMoved}
 use Rattle.region_rows.specs.views_Rebuilding.{AreSparesFree}

@@ -1,12 +1,12 @@
 use Rattle.std.proofs.Common.{◌≡◌, ◌⊎◌, inl, inr, ◌+◌, ◌-◌, ◌/◌, ◌<◌, ◌≤◌, ℕ, true, List, length, refl, sym, ◌∙◌, subst, arith, le_trans, false}
 use Rattle.std.specs.Prelude.{Contains, slice_index, None, Option, Some}
-use Rattle.md_base.specs.declared.answers.Refusal.{Refusal}
-use Rattle.md_base.specs.declared.places.Shape.{Shape}
-use Rattle.bank.specs.Given.{Given}
-use Rattle.bank.specs.Tape.{disk}
+use Rattle.region_rows.specs.md_base_the_Refusal.{Refusal}
+use Rattle.region_rows.specs.md_base_the_Shape.{Shape}
+use Rattle.region_rows.specs.bank_Given.{Given}
+use Rattle.region_rows.specs.bank_Tape.{disk}
 use Rattle.region_rows.specs.row_io_Rows.{reading_of, present}
-use Rattle.list_io.specs.Buffers.{buffered, AreStanding}
-use Rattle.list_io.specs.Writing.{AreDataFrom}
+use Rattle.region_rows.specs.list_io_Buffers.{buffered, AreStanding}
+use Rattle.region_rows.specs.list_io_Writing.{AreDataFrom}
 use Rattle.region_rows.specs.shape_views_Regions.{place_by}
 use Rattle.region_rows.specs.shape_views_Windows.{IsOfRegion, IsShown}
 use Rattle.region_rows.specs.views_Moving.{IsMoved}
@@ -19,7 +19,7 @@ use Rattle.region_rows.proofs.views_LackingLaws.{since-then, in-either}
 use Rattle.region_rows.proofs.views_LackingLists.{none-of, sectors-whole}
 use Rattle.region_rows.proofs.views_LackingWrites.{standing-later, others-same, others-then}
 use Rattle.region_rows.proofs.views_SafeStretch.{gone-before, safe-then, allowed-later, zeros-later, region-later, grows-longer, over-at, keeps-from}
-use Rattle.superblocks.specs.Reading.{list_length}
+use Rattle.region_rows.specs.superblocks_Reading.{list_length}
 use Rattle.region_rows.specs.flat_history_Sound.{OpensFit}
 use Rattle.region_rows.proofs.shape_changes_Risen.{risen-then, room-first, room-then}
 use Rattle.region_rows.proofs.StretchLaws.{list-short, data-few}

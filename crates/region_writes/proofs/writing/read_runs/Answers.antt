@@ -1,15 +1,15 @@
 use Rattle.std.proofs.Common.{◌≡◌, ℕ, ◌<◌, refl, sym, ◌∙◌, ap, subst, arith, le_trans, true, false}
 use Rattle.std.specs.Prelude.{bit_or, Contains}
-use Rattle.bank.specs.Given.{Given}
-use Rattle.bank.specs.Tape.{Contents}
-use Rattle.sb1.specs.declared.sb.Sb.{Sb}
-use Rattle.superblocks.specs.declared.members.Members.{Members}
+use Rattle.region_rows.specs.bank_Given.{Given}
+use Rattle.region_rows.specs.bank_Tape.{Contents}
+use Rattle.region_rows.specs.sb1_the_Sb.{Sb}
+use Rattle.region_rows.specs.superblocks_the_Members.{Members}
 use Rattle.region_rows.specs.row_io_Rows.{reading_of, present, members_without}
-use Rattle.list_io.specs.Calls.{HasRows}
-use Rattle.list_io.specs.Buffers.{buffered, AreRead}
-use Rattle.list_io.proofs.BufferLaws.{data_read}
-use Rattle.list_io.proofs.ListLaws.{present_same}
-use Rattle.list_io.proofs.LossLaws.{members_then}
+use Rattle.region_rows.specs.list_io_Calls.{HasRows}
+use Rattle.region_rows.specs.list_io_Buffers.{buffered, AreRead}
+use Rattle.region_rows.proofs.list_io_BufferLaws.{data_read}
+use Rattle.region_rows.proofs.list_io_ListLaws.{present_same}
+use Rattle.region_rows.proofs.list_io_LossLaws.{members_then}
 use Rattle.region_rows.specs.views_Placed.{AreLost, IsInForce}
 use Rattle.region_rows.specs.views_Moving.{IsMoved}
 use Rattle.region_rows.proofs.views_MovedLaws.{moved-lost, moved-then}

@@ -1,9 +1,9 @@
 use Rattle.std.proofs.Common.{◌⊎◌, inl, inr, ◌<◌, ℕ, refl, sym, ◌∙◌, subst, ◌≤◌, le_trans}
 use Rattle.std.specs.Prelude.{Contains, slice_index}
-use Rattle.bank.specs.Given.{Given}
-use Rattle.bank.specs.Tape.{disk}
+use Rattle.region_rows.specs.bank_Given.{Given}
+use Rattle.region_rows.specs.bank_Tape.{disk}
 use Rattle.region_rows.specs.row_io_Rows.{reading_of, present}
-use Rattle.list_io.specs.Buffers.{buffered, AreStanding}
+use Rattle.region_rows.specs.list_io_Buffers.{buffered, AreStanding}
 use Rattle.region_rows.specs.views_Moving.{IsMoved}
 use Rattle.region_rows.specs.views_Rebuilding.{AreSparesFree}
 use Rattle.region_rows.specs.views_Lacking.{AreRowsWritten}

@@ -1,15 +1,15 @@
 use Rattle.std.proofs.Common.{◌≡◌, ◌&&◌, ℕ, not, Bool, true, false, length, Some, inl, inr, refl, sym, ◌∙◌, ap, subst, arith, List}
 use Rattle.std.proofs.lemmas.Bool.{cases_lt}
-use Rattle.md_base.specs.Shapes.{has_slot}
-use Rattle.md_base.specs.declared.places.Shape.{Shape}
-use Rattle.bank.specs.declared.bank.Operation.{Operation}
-use Rattle.bank.specs.Given.{Given}
-use Rattle.bank.specs.Tape.{disk}
-use Rattle.layout.proofs.Limits.{limited}
-use Rattle.superblocks.specs.declared.members.Members.{Members}
-use Rattle.superblocks.specs.Reading.{Scope, shape_of}
-use Rattle.superblocks.specs.Outcome.{AreLive}
-use Rattle.superblocks.proofs.SlotSets.{none_above}
+use Rattle.safe_updates.specs.md_base_Shapes.{has_slot}
+use Rattle.safe_updates.specs.md_base_the_Shape.{Shape}
+use Rattle.safe_updates.specs.bank_the_Operation.{Operation}
+use Rattle.safe_updates.specs.bank_Given.{Given}
+use Rattle.safe_updates.specs.bank_Tape.{disk}
+use Rattle.safe_updates.proofs.layout_Limits.{limited}
+use Rattle.safe_updates.specs.superblocks_the_Members.{Members}
+use Rattle.safe_updates.specs.superblocks_Reading.{Scope, shape_of}
+use Rattle.safe_updates.specs.superblocks_Outcome.{AreLive}
+use Rattle.safe_updates.proofs.superblocks_SlotSets.{none_above}
 use Rattle.safe_updates.specs.flat_history_Sound.{OpensFit}
 use Rattle.safe_updates.specs.shape_views_Regions.{ArePlaced}
 use Rattle.safe_updates.specs.shape_changes_Giving.{IsToldOf}
@@ -19,8 +19,8 @@ use Rattle.reshape_updates.specs.shape_ends_Ends.{IsCleared}
 use Rattle.reshape_ends.specs.Begun.{is_idle_spare}
 use Rattle.safe_updates.specs.shape_changes_Changing.{IsChanged, IsSafeChange}
 use Rattle.safe_updates.proofs.shape_changes_PlannedRoles.{live-before}
-use Rattle.backup.specs.Written.{cleared_header}
-use Rattle.backup.specs.Storing.{IsHeaded}
+use Rattle.reshape_updates.specs.backup_Written.{cleared_header}
+use Rattle.reshape_updates.specs.backup_Storing.{IsHeaded}
 use Rattle.reshape_updates.specs.Beginning.{beginning}
 use Rattle.safe_updates.proofs.views_Fit.{roles-still}
 use Rattle.safe_updates.proofs.views_MarkedLaws.{grows-marks, others-updated}

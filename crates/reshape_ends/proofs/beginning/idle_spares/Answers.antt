@@ -1,10 +1,10 @@
 use Rattle.std.proofs.Common.{◌≡◌, ◌≢◌, ◌+◌, ◌&&◌, ◌||◌, ◌==◌, ℕ, Bool, true, false, not, nat_lt, cond, List, inl, inr, refl, sym, ◌∙◌, ap, ap₂, subst, arith}
 use Rattle.std.proofs.lemmas.Bool.{cases_eq}
 use Rattle.std.proofs.lemmas.Bool.Decides.{nat_tests}
-use Rattle.md_base.specs.Shapes.{has_slot}
-use Rattle.md_base.specs.Search.{count_below}
-use Rattle.superblocks.specs.Reads.{has_spare}
-use Rattle.superblocks.proofs.SlotSets.{none_there}
+use Rattle.safe_updates.specs.md_base_Shapes.{has_slot}
+use Rattle.safe_updates.specs.md_base_Search.{count_below}
+use Rattle.safe_updates.specs.superblocks_Reads.{has_spare}
+use Rattle.safe_updates.proofs.superblocks_SlotSets.{none_there}
 use Rattle.reshape_updates.specs.Beginning.{new_role}
 use Rattle.reshape_updates.proofs.Counts.{count-none, count-more, count-most, as-many, byte-is}
 use Rattle.reshape_ends.proofs.beginning.idle_spares.Goals as goal

@@ -1,7 +1,7 @@
 use Rattle.std.proofs.Common.{◌≡◌, ◌+◌, ◌&&◌, ℕ, not, nat_lt}
-use Rattle.md_base.specs.Shapes.{has_slot}
-use Rattle.md_base.specs.Search.{count_below}
-use Rattle.superblocks.specs.Reads.{has_spare}
+use Rattle.safe_updates.specs.md_base_Shapes.{has_slot}
+use Rattle.safe_updates.specs.md_base_Search.{count_below}
+use Rattle.safe_updates.specs.superblocks_Reads.{has_spare}
 use Rattle.reshape_updates.specs.Beginning.{new_role}
 use Rattle.reshape_ends.proofs.beginning.idle_spares.Given as goal
 

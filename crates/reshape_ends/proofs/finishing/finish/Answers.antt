@@ -1,12 +1,12 @@
 use Rattle.std.proofs.Common.{◌<◌, ◌==◌, ℕ, List, refl, sym, ◌∙◌, ap, subst, arith}
 use Rattle.std.specs.Prelude.{◌^◌, ◌-◌}
-use Rattle.bank.specs.declared.bank.Operation.{Operation}
-use Rattle.bank.specs.Given.{Given}
-use Rattle.bank.specs.Tape.{disk}
-use Rattle.superblocks.specs.declared.members.Members.{Members}
-use Rattle.superblocks.specs.Outcome.{AreLive}
-use Rattle.superblocks.proofs.ReadAlike.{count-same}
-use Rattle.superblocks.specs.Updating.{planned_newest}
+use Rattle.safe_updates.specs.bank_the_Operation.{Operation}
+use Rattle.safe_updates.specs.bank_Given.{Given}
+use Rattle.safe_updates.specs.bank_Tape.{disk}
+use Rattle.safe_updates.specs.superblocks_the_Members.{Members}
+use Rattle.safe_updates.specs.superblocks_Outcome.{AreLive}
+use Rattle.safe_updates.proofs.superblocks_ReadAlike.{count-same}
+use Rattle.safe_updates.specs.superblocks_Updating.{planned_newest}
 use Rattle.safe_updates.specs.row_io_Rows.{reading_of, present}
 use Rattle.safe_updates.specs.flat_history_Sound.{OpensFit}
 use Rattle.safe_updates.specs.shape_views_Windows.{IsFlushedRight}

@@ -1,5 +1,5 @@
 use Rattle.std.proofs.Common.{sym, ◌∙◌, ap}
-use Rattle.superblocks.specs.Reading.{holder}
+use Rattle.moving_state.specs.superblocks_Reading.{holder}
 use Rattle.reshape_openings.proofs.recovering.recovering_slots.Goals as goal
 
 pub with-slots-requires : goal.with-slots-requires

@@ -1,8 +1,8 @@
 use Rattle.std.proofs.Common.{◌≡◌, ◌<◌, ℕ, true}
-use Rattle.md_base.specs.Shapes.{has_slot}
-use Rattle.md_base.specs.declared.status.Role.TheVariants.{Recovering}
-use Rattle.superblocks.specs.Reading.{role_state}
-use Rattle.row_io.specs.Rows.{reading_of}
+use Rattle.moving_state.specs.md_base_Shapes.{has_slot}
+use Rattle.moving_state.specs.md_base_the_Role_TheVariants.{Recovering}
+use Rattle.moving_state.specs.superblocks_Reading.{role_state}
+use Rattle.moving_state.specs.row_io_Rows.{reading_of}
 use Rattle.reshape_openings.proofs.recovering.recovering_slots.Given as goal
 
 -- the slots that recover a role before this one

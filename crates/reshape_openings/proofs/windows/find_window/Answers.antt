@@ -1,5 +1,5 @@
 use Rattle.std.proofs.Common.{arith}
-use Rattle.row_io.specs.Rows.{present}
+use Rattle.moving_state.specs.row_io_Rows.{present}
 use Rattle.reshape_openings.proofs.FindLaws.{ok-found}
 use Rattle.reshape_openings.proofs.windows.find_window.Goals as goal
 

@@ -1,22 +1,22 @@
 use Rattle.std.proofs.Common.{◌≡◌, ◌≤◌, ◌&&◌, ℕ, not, refl, sym, ◌∙◌, ap, subst, min, ◌+◌, ◌-◌, arith, List, get_or}
 use Rattle.std.specs.Prelude.{◌^◌}
-use Rattle.md_base.specs.Shapes.{has_slot}
-use Rattle.md_base.specs.declared.status.Role.{Role}
-use Rattle.md_base.specs.declared.status.Role.TheVariants.{Missing}
-use Rattle.bank.specs.Given.{Given}
-use Rattle.superblocks.specs.declared.change.Change.{Change}
-use Rattle.superblocks.specs.declared.members.Members.{Members}
-use Rattle.superblocks.specs.Reading.{role_count, shape_of}
-use Rattle.superblocks.specs.Reads.{SaysSame}
-use Rattle.superblocks.specs.Update.{IsRoleGive, give_of}
-use Rattle.superblocks.specs.Updating.{AreLosses, planned_newest}
-use Rattle.superblocks.specs.Outcome.{with_added, live_set, AreLive, AreGivesOfLive}
+use Rattle.superblock_updates.specs.md_base_Shapes.{has_slot}
+use Rattle.superblock_updates.specs.md_base_the_Role.{Role}
+use Rattle.superblock_updates.specs.md_base_the_Role_TheVariants.{Missing}
+use Rattle.superblock_updates.specs.bank_Given.{Given}
+use Rattle.superblock_updates.specs.superblocks_the_Change.{Change}
+use Rattle.superblock_updates.specs.superblocks_the_Members.{Members}
+use Rattle.superblock_updates.specs.superblocks_Reading.{role_count, shape_of}
+use Rattle.superblock_updates.specs.superblocks_Reads.{SaysSame}
+use Rattle.superblock_updates.specs.superblocks_Update.{IsRoleGive, give_of}
+use Rattle.superblock_updates.specs.superblocks_Updating.{AreLosses, planned_newest}
+use Rattle.superblock_updates.specs.superblocks_Outcome.{with_added, live_set, AreLive, AreGivesOfLive}
 use Rattle.shape_ends.specs.flat_history_Sound.{OpensFit}
 use Rattle.shape_ends.specs.shape_views_Regions.{ArePlaced}
 use Rattle.shape_ends.proofs.shape_views_Alike.{backup-alike}
 use Rattle.shape_ends.specs.shape_changes_Changing.{IsChanged}
 use Rattle.shape_ends.specs.shape_changes_Kinds.{IsTaking}
-use Rattle.layout.proofs.Limits.{limited}
+use Rattle.superblock_updates.proofs.layout_Limits.{limited}
 use Rattle.shape_ends.specs.shape_changes_Updates.{IsLessView, planned_view}
 use Rattle.shape_ends.proofs.Begin.{begin-safe}
 use Rattle.shape_ends.proofs.shape_changes_CalledLaws.{changed-by}

@@ -1,11 +1,11 @@
 use Rattle.std.proofs.Common.{◌≡◌, ◌+◌, ◌<◌, ◌&&◌, ℕ, Bool, cond, nat_lt, set, length, inl, inr, refl, sym, ◌∙◌, ap, ap₂, arith}
 use Rattle.std.proofs.lemmas.Bool.{cases_eq}
 use Rattle.std.proofs.lemmas.List.{same_lists, get_or_default, length-set, get_or-set_same, get_or-set_other}
-use Rattle.md_base.specs.Search.{tabulate, count_below}
-use Rattle.md_base.proofs.Tabulated.{length-tabulate, get_or-tabulate}
-use Rattle.superblocks.specs.declared.change.Give.TheVariants.{Same}
-use Rattle.superblocks.specs.Reads.{has_spare}
-use Rattle.superblocks.specs.Update.{give_of}
+use Rattle.superblock_updates.specs.md_base_Search.{tabulate, count_below}
+use Rattle.superblock_updates.proofs.md_base_Tabulated.{length-tabulate, get_or-tabulate}
+use Rattle.superblock_updates.specs.superblocks_the_Give_TheVariants.{Same}
+use Rattle.superblock_updates.specs.superblocks_Reads.{has_spare}
+use Rattle.superblock_updates.specs.superblocks_Update.{give_of}
 use Rattle.reshape_updates.specs.Beginning.{give_where, new_give}
 use Rattle.reshape_updates.proofs.Counts.{count-none, count-more, count-most, as-many, byte-is}
 use Rattle.reshape_updates.proofs.beginning.new_gives.Goals as goal

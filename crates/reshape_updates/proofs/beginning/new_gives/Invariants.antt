@@ -1,7 +1,7 @@
 use Rattle.std.proofs.Common.{◌≡◌, ◌+◌, ◌<◌, ℕ, length}
-use Rattle.md_base.specs.Search.{count_below}
-use Rattle.superblocks.specs.Reads.{has_spare}
-use Rattle.superblocks.specs.Update.{give_of}
+use Rattle.superblock_updates.specs.md_base_Search.{count_below}
+use Rattle.superblock_updates.specs.superblocks_Reads.{has_spare}
+use Rattle.superblock_updates.specs.superblocks_Update.{give_of}
 use Rattle.reshape_updates.specs.Beginning.{new_give}
 use Rattle.reshape_updates.proofs.beginning.new_gives.Given as goal
 

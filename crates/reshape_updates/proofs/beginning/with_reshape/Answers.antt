@@ -1,7 +1,7 @@
 use Rattle.std.proofs.Common.{◌≤◌, sym, subst}
-use Rattle.md_base.specs.declared.places.Shape.{Shape}
-use Rattle.layout.proofs.Limits.{limited}
-use Rattle.superblocks.specs.Reading.{shape_of}
+use Rattle.superblock_updates.specs.md_base_the_Shape.{Shape}
+use Rattle.superblock_updates.proofs.layout_Limits.{limited}
+use Rattle.superblock_updates.specs.superblocks_Reading.{shape_of}
 use Rattle.reshape_updates.proofs.beginning.with_reshape.Goals as goal
 
 pub difference-requires-clause-count : goal.difference-requires-clause-count

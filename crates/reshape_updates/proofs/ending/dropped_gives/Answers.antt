@@ -1,10 +1,10 @@
 use Rattle.std.proofs.Common.{◌≡◌, ◌<◌, ℕ, set, length, inl, inr, refl, sym, ◌∙◌, ap, arith}
 use Rattle.std.proofs.lemmas.Bool.{cases_eq}
 use Rattle.std.proofs.lemmas.List.{same_lists, get_or_default, length-set, get_or-set_same, get_or-set_other}
-use Rattle.md_base.specs.Search.{tabulate}
-use Rattle.md_base.proofs.Tabulated.{length-tabulate, get_or-tabulate}
-use Rattle.superblocks.specs.declared.change.Give.TheVariants.{Same}
-use Rattle.superblocks.specs.Update.{give_of}
+use Rattle.superblock_updates.specs.md_base_Search.{tabulate}
+use Rattle.superblock_updates.proofs.md_base_Tabulated.{length-tabulate, get_or-tabulate}
+use Rattle.superblock_updates.specs.superblocks_the_Give_TheVariants.{Same}
+use Rattle.superblock_updates.specs.superblocks_Update.{give_of}
 use Rattle.reshape_updates.specs.Ending.{dropped_give}
 use Rattle.reshape_updates.proofs.ending.dropped_gives.Goals as goal
 

@@ -1,5 +1,5 @@
 use Rattle.std.proofs.Common.{◌≡◌, ◌<◌, ℕ, length}
-use Rattle.superblocks.specs.Update.{give_of}
+use Rattle.superblock_updates.specs.superblocks_Update.{give_of}
 use Rattle.reshape_updates.specs.Ending.{dropped_give}
 use Rattle.reshape_updates.proofs.ending.dropped_gives.Given as goal
 

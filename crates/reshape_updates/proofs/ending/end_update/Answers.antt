@@ -1,20 +1,20 @@
 use Rattle.std.proofs.Common.{◌≡◌, ◌≤◌, ◌<◌, ◌&&◌, ℕ, true, not, nat_lt, length, inr, refl, sym, ◌∙◌, ap, subst, min, ◌+◌, ◌-◌, arith, List}
 use Rattle.std.specs.Prelude.{◌^◌}
-use Rattle.md_base.specs.Shapes.{has_slot}
-use Rattle.md_base.specs.declared.status.Role.{Role}
-use Rattle.bank.specs.Given.{Given}
-use Rattle.bank.specs.Tape.{disk}
-use Rattle.superblocks.specs.declared.change.Change.{Change}
-use Rattle.superblocks.specs.declared.members.Members.{Members}
-use Rattle.superblocks.specs.Reading.{role_count, holder}
-use Rattle.superblocks.specs.Reads.{SaysSame, has_spare}
-use Rattle.superblocks.specs.Update.{IsRoleGive, give_of}
-use Rattle.superblocks.specs.Updating.{AreLosses, planned_newest}
-use Rattle.superblocks.specs.Outcome.{with_added, live_set, AreLive, AreGivesOfLive}
+use Rattle.superblock_updates.specs.md_base_Shapes.{has_slot}
+use Rattle.superblock_updates.specs.md_base_the_Role.{Role}
+use Rattle.superblock_updates.specs.bank_Given.{Given}
+use Rattle.superblock_updates.specs.bank_Tape.{disk}
+use Rattle.superblock_updates.specs.superblocks_the_Change.{Change}
+use Rattle.superblock_updates.specs.superblocks_the_Members.{Members}
+use Rattle.superblock_updates.specs.superblocks_Reading.{role_count, holder}
+use Rattle.superblock_updates.specs.superblocks_Reads.{SaysSame, has_spare}
+use Rattle.superblock_updates.specs.superblocks_Update.{IsRoleGive, give_of}
+use Rattle.superblock_updates.specs.superblocks_Updating.{AreLosses, planned_newest}
+use Rattle.superblock_updates.specs.superblocks_Outcome.{with_added, live_set, AreLive, AreGivesOfLive}
 use Rattle.shape_ends.specs.flat_history_Sound.{OpensFit}
 use Rattle.shape_ends.specs.shape_views_Regions.{ArePlaced}
 use Rattle.shape_ends.specs.shape_changes_Changing.{IsChanged}
-use Rattle.superblocks.proofs.ValidFields.{few-roles}
+use Rattle.superblock_updates.proofs.superblocks_ValidFields.{few-roles}
 use Rattle.std.proofs.lemmas.Bool.Decides.{nat_tests}
 use Rattle.shape_ends.specs.shape_changes_Updates.{IsLessView, planned_view}
 use Rattle.shape_ends.proofs.shape_changes_CalledLaws.{changed-by}
@@ -29,9 +29,9 @@ use Rattle.shape_ends.proofs.shape_changes_FitKinds.{dropping-is-fit, dropping-l
 use Rattle.shape_ends.proofs.shape_changes_KeptSafe.{steady-right, told-plan}
 use Rattle.shape_ends.proofs.GrownLaws.{ends}
 use Rattle.shape_ends.proofs.superblock_reads_SaidSlots.{has-slots_below}
-use Rattle.superblocks.specs.Update.{is_planned_spare}
-use Rattle.md_base.proofs.Tabulated.{length-tabulate}
-use Rattle.superblocks.specs.Outcome.{planned_state}
+use Rattle.superblock_updates.specs.superblocks_Update.{is_planned_spare}
+use Rattle.superblock_updates.proofs.md_base_Tabulated.{length-tabulate}
+use Rattle.superblock_updates.specs.superblocks_Outcome.{planned_state}
 use Rattle.reshape_updates.specs.Ending.{ending}
 use Rattle.reshape_updates.proofs.EndedPlan.{ended-alike, count-is, few, disks-are, disks-below, dropped-roles, dropped-spare, dropping, dropping-one, planned-ended-is, planned-fits-is, is-ended, plan-placed-is, without-is}
 use Rattle.reshape_updates.proofs.MoreLess.{less-then}

@@ -1,9 +1,9 @@
 use Rattle.std.proofs.Common.{◌∙◌, ap, drop, List}
 use Rattle.std.specs.Option.{is_some}
 use Rattle.std.proofs.lemmas.List.{take_rest}
-use Rattle.md_base.specs.declared.status.Role.{Role}
-use Rattle.superblocks.specs.Update.{role_from}
-use Rattle.superblocks.proofs.SlotSets.{some_role}
+use Rattle.superblock_updates.specs.md_base_the_Role.{Role}
+use Rattle.superblock_updates.specs.superblocks_Update.{role_from}
+use Rattle.superblock_updates.proofs.superblocks_SlotSets.{some_role}
 use Rattle.reshape_updates.proofs.ending.holds_from.Goals as goal
 
 pub returns : goal.returns

@@ -1,5 +1,5 @@
 use Rattle.std.proofs.Common.{lit<, refl}
-use Rattle.superblocks.proofs.FeatureBits.{masked}
+use Rattle.superblock_updates.proofs.superblocks_FeatureBits.{masked}
 use Rattle.reshape_updates.proofs.position.has_backward_bit.Goals as goal
 
 pub returns : goal.returns

@@ -1,12 +1,12 @@
 use Rattle.std.proofs.Common.{◌≡◌, ◌≤◌, ◌&&◌, ℕ, not, refl, sym, subst, min, ◌+◌, ◌-◌, arith}
 use Rattle.std.specs.Prelude.{◌^◌}
-use Rattle.bank.specs.Given.{Given}
-use Rattle.superblocks.specs.declared.change.Change.{Change}
-use Rattle.superblocks.specs.Reading.{role_count}
-use Rattle.superblocks.specs.Update.{IsRoleGive, give_of}
-use Rattle.superblocks.specs.Updating.{AreLosses}
-use Rattle.superblocks.specs.Outcome.{with_added, live_set, AreLive, AreGivesOfLive}
-use Rattle.md_base.specs.Shapes.{has_slot}
+use Rattle.superblock_updates.specs.bank_Given.{Given}
+use Rattle.superblock_updates.specs.superblocks_the_Change.{Change}
+use Rattle.superblock_updates.specs.superblocks_Reading.{role_count}
+use Rattle.superblock_updates.specs.superblocks_Update.{IsRoleGive, give_of}
+use Rattle.superblock_updates.specs.superblocks_Updating.{AreLosses}
+use Rattle.superblock_updates.specs.superblocks_Outcome.{with_added, live_set, AreLive, AreGivesOfLive}
+use Rattle.superblock_updates.specs.md_base_Shapes.{has_slot}
 use Rattle.shape_ends.specs.flat_history_Sound.{OpensFit}
 use Rattle.shape_ends.specs.shape_views_Regions.{ArePlaced}
 use Rattle.shape_ends.specs.shape_views_Windows.{moved_past}

@@ -1,6 +1,6 @@
 use Rattle.std.proofs.Common.{◌≡◌, ◌+◌, List, ◌++◌, take, drop, map, slice_set, slice_index_or, ◌∙◌, ap, sym, subst, arith}
-use Rattle.md_base.specs.declared.status.Role.{Role}
-use Rattle.md_base.specs.declared.status.Role.TheVariants.{Missing}
+use Rattle.superblocks.specs.md_base_the_Role.{Role}
+use Rattle.superblocks.specs.md_base_the_Role_TheVariants.{Missing}
 use Rattle.row_io.specs.Rows.{role_without}
 use Rattle.row_io.proofs.Tables.{changed-more}
 use Rattle.row_io.proofs.lose.lose_roles.Goals as goal

@@ -1,5 +1,5 @@
 use Rattle.std.proofs.Common.{◌≡◌, ◌*◌, ◌<◌, ℕ, length}
-use Rattle.bank.specs.Given.{NeverFalls}
+use Rattle.superblocks.specs.bank_Given.{NeverFalls}
 use Rattle.row_io.specs.Rows.{present, reading_of, HasSector, HaveFailed}
 use Rattle.row_io.proofs.read.read_held.Given as goal
 

@@ -1,7 +1,7 @@
 use Rattle.std.proofs.Common.{◌≡◌, ℕ, length, List, sym, ◌∙◌, ap, arith, lit<}
 use Rattle.std.proofs.lemmas.List.{take_all}
-use Rattle.md_base.specs.Sectors.{Sector}
-use Rattle.bank.specs.Tape.{AreSectors}
+use Rattle.superblocks.specs.md_base_Sectors.{Sector}
+use Rattle.superblocks.specs.bank_Tape.{AreSectors}
 use Rattle.row_io.proofs.RowBytes.{sector-put_here, sector-put_other, on_ok}
 use Rattle.row_io.specs.Rows.{present}
 use Rattle.row_io.proofs.read.read_into.Goals as goal

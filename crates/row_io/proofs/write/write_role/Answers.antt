@@ -1,5 +1,5 @@
 use Rattle.std.proofs.Common.{◌≡◌, ℕ, ◌+◌, [], Some, append-nil, ◌==◌, refl, sym, ap, ◌∙◌, arith, lit<}
-use Rattle.md_base.specs.Shapes.{has_slot}
+use Rattle.superblocks.specs.md_base_Shapes.{has_slot}
 use Rattle.superblocks.specs.Reading.{role_state, holder}
 use Rattle.row_io.specs.Rows.{reading_of}
 use Rattle.parity.specs.Rows.{sector_of}

@@ -1,8 +1,8 @@
 use Rattle.std.proofs.Common.{◌≡◌, ℕ, Option, Some, ◌∙◌, arith}
-use Rattle.md_base.specs.Sectors.{Sector}
+use Rattle.superblocks.specs.md_base_Sectors.{Sector}
 use Rattle.parity.specs.Rows.{sector_of}
 use Rattle.row_io.specs.Rows.{reading_of}
-use Rattle.bank.specs.Tape.{disk}
+use Rattle.superblocks.specs.bank_Tape.{disk}
 use Rattle.row_io.specs.Writes.{slot_in, place_on, IsWritingTo}
 use Rattle.row_io.proofs.Losses.{failed_more}
 use Rattle.row_io.proofs.Turns.{slots_apart, marks_more, marks_last, written_more}

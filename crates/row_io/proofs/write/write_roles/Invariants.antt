@@ -1,5 +1,5 @@
-use Rattle.bank.specs.Given.{NeverFalls}
-use Rattle.bank.specs.Tape.{EachMark, disk}
+use Rattle.superblocks.specs.bank_Given.{NeverFalls}
+use Rattle.superblocks.specs.bank_Tape.{EachMark, disk}
 use Rattle.parity.specs.Rows.{sector_of}
 use Rattle.std.proofs.Common.{◌≡◌}
 use Rattle.row_io.specs.Rows.{reading_of, HaveFailed}

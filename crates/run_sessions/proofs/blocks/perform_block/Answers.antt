@@ -1,8 +1,8 @@
 use Rattle.std.proofs.Common.{ℕ, ◌≡◌, ◌<◌, ◌≤◌, ◌-◌, true, ◌++◌, ◌∷◌, [], List, Some, length, take, drop, refl, sym, subst, arith, append-nil}
 use Rattle.std.proofs.Math.ListN.{get_or}
 use Rattle.std.specs.List.{AllPass}
-use Rattle.script.specs.Script.{is_within_limits}
-use Rattle.script.specs.declared.lines.Numbered.{Numbered}
+use Rattle.block_answers.specs.script_Script.{is_within_limits}
+use Rattle.block_answers.specs.script_the_Numbered.{Numbered}
 use Rattle.block_answers.specs.run_laws_the_State.{State}
 use Rattle.block_answers.specs.run_laws_Making.{setting_of}
 use Rattle.block_answers.specs.run_laws_States.{histories_in, bank_in, course_in, IsBlockAnswered}

@@ -1,5 +1,5 @@
 use Rattle.std.proofs.Common.{◌≡◌, ℕ, take, ◌++◌, ◌||◌, ◌+◌, Bool, List, length, refl, sym, ◌∙◌, ap, subst}
-use Rattle.script.specs.declared.lines.Numbered.{Numbered}
+use Rattle.block_answers.specs.script_the_Numbered.{Numbered}
 use Rattle.block_answers.specs.run_laws_the_Answered.{Answered}
 use Rattle.block_answers.specs.run_laws_the_LineReply.{LineReply}
 use Rattle.block_answers.specs.run_laws_Histories.{History}

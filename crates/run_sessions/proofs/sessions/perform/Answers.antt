@@ -2,10 +2,10 @@ use Rattle.std.proofs.Common.{◌≡◌, ℕ, ◌+◌, ◌-◌, ◌≤◌, false
 use Rattle.std.specs.Prelude.{IsTrue}
 use Rattle.std.proofs.Math.Seq.{drop-drop}
 use Rattle.std.proofs.lemmas.List.{take_all}
-use Rattle.bank.specs.Given.{Given}
-use Rattle.script.specs.Script.{are_in_turn}
-use Rattle.script.specs.declared.lines.Numbered.{Numbered}
-use Rattle.script.specs.declared.reply.Lane.TheVariants.{Script as InScript}
+use Rattle.block_answers.specs.bank_Given.{Given}
+use Rattle.block_answers.specs.script_Script.{are_in_turn}
+use Rattle.block_answers.specs.script_the_Numbered.{Numbered}
+use Rattle.block_answers.specs.script_the_Lane_TheVariants.{Script as InScript}
 use Rattle.block_answers.specs.run_laws_Ended.{IsRunKept}
 use Rattle.block_answers.specs.run_laws_Making.{setting_of}
 use Rattle.block_answers.specs.run_laws_States.{bank_in}

@@ -1,9 +1,9 @@
 -- The lines so far were performed, and each reply was shown; the others are in turn.
 use Rattle.std.proofs.Common.{◌≡◌, ◌-◌, ◌≤◌, length, drop, vec_capacity, None}
 use Rattle.std.specs.Prelude.{IsTrue}
-use Rattle.bank.specs.Given.{NeverFalls}
-use Rattle.script.specs.Script.{are_in_turn}
-use Rattle.script.specs.declared.reply.Lane.TheVariants.{Script as InScript}
+use Rattle.block_answers.specs.bank_Given.{NeverFalls}
+use Rattle.block_answers.specs.script_Script.{are_in_turn}
+use Rattle.block_answers.specs.script_the_Lane_TheVariants.{Script as InScript}
 use Rattle.block_answers.specs.views_Moving.{Grows}
 use Rattle.block_answers.specs.run_laws_Ended.{IsRunKept}
 use Rattle.block_answers.specs.run_laws_Making.{setting_of}

@@ -1,5 +1,5 @@
 use Rattle.std.proofs.Common.{take, ◌+◌, ◌≡◌, ℕ, [], ◌++◌, ◌∷◌, length, List, Result, inl, refl, ◌∙◌, ap, subst, arith}
-use Rattle.md_base.specs.declared.answers.NoMemory.{NoMemory}
+use Rattle.block_answers.specs.md_base_the_NoMemory.{NoMemory}
 use Rattle.block_answers.specs.run_laws_the_LineReply.{LineReply}
 use Rattle.run_sessions.specs.declared.sessions.Made.{Made}
 use Rattle.block_answers.specs.Shown.{reply_text}

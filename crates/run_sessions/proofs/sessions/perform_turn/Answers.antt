@@ -2,8 +2,8 @@ use Rattle.std.proofs.Common.{ℕ, inl, inr, take, drop, sym, subst, arith}
 use Rattle.std.proofs.Math.ListN.{get_or}
 use Rattle.std.specs.Prelude.{IsTrue}
 use Rattle.std.proofs.lemmas.List.{length-take-le}
-use Rattle.script.specs.Script.{are_in_turn}
-use Rattle.script.specs.declared.reply.Lane.TheVariants.{Script as InScript}
+use Rattle.block_answers.specs.script_Script.{are_in_turn}
+use Rattle.block_answers.specs.script_the_Lane_TheVariants.{Script as InScript}
 use Rattle.run_sessions.specs.Sessions.{IsBlock}
 use Rattle.run_sessions.proofs.BlockReplies.{past-end, begins, behind-first, first-alone, block-some}
 use Rattle.run_sessions.proofs.sessions.perform_turn.Goals as goal

@@ -1,6 +1,6 @@
 use Rattle.std.proofs.Common.{true}
-use Rattle.superblocks.specs.Reading.{is_reshaping}
-use Rattle.flat_history.specs.Legal.{told_left}
+use Rattle.takeover.specs.superblocks_Reading.{is_reshaping}
+use Rattle.takeover.specs.flat_history_Legal.{told_left}
 use Rattle.growing.specs.array_kept_Kept.{scope_in}
 use Rattle.growing.specs.running_words_Parts.{left_in, still_left}
 use Rattle.growing.proofs.moving_laws_MendLaws.{left-some}

@@ -1,6 +1,6 @@
 use Rattle.std.proofs.Common.{false}
-use Rattle.superblocks.specs.Reading.{is_reshaping}
-use Rattle.flat_history.specs.Legal.{told_left}
+use Rattle.takeover.specs.superblocks_Reading.{is_reshaping}
+use Rattle.takeover.specs.flat_history_Legal.{told_left}
 use Rattle.growing.specs.course_kept_Laws.{closed}
 use Rattle.growing.specs.running_words_Parts.{left_in, still_left}
 use Rattle.running.proofs.Checked.{left-by}

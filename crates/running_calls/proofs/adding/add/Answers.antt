@@ -1,8 +1,8 @@
 use Rattle.std.proofs.Common.{◌≡◌, length, refl, sym, ◌∙◌, ap, subst}
 use Rattle.openings.specs.superblocks_Reading.{list_length}
-use Rattle.flat_history.specs.declared.events.Event.TheVariants.{Added}
-use Rattle.flat_history.specs.declared.events.Request.TheVariants.{Add as AsksAdd}
-use Rattle.flat_history.specs.Flat.{next_number}
+use Rattle.call_entries.specs.flat_history_the_Event_TheVariants.{Added}
+use Rattle.call_entries.specs.flat_history_the_Request_TheVariants.{Add as AsksAdd}
+use Rattle.call_entries.specs.flat_history_Flat.{next_number}
 use Rattle.openings.proofs.still_laws_PlansKept.{add-answered}
 use Rattle.openings.specs.running_words_Adding.{IsAddCalled}
 use Rattle.openings.specs.running_State.{parts_in}

@@ -1,9 +1,9 @@
 use Rattle.std.proofs.Common.{◌≡◌, length, refl, sym, ◌∙◌, ap, subst}
 use Rattle.openings.specs.superblocks_Reading.{list_length}
-use Rattle.flat_history.specs.declared.events.Event.TheVariants.{Failed}
-use Rattle.flat_history.specs.declared.events.Request.TheVariants.{Fail as AsksFail}
+use Rattle.call_entries.specs.flat_history_the_Event_TheVariants.{Failed}
+use Rattle.call_entries.specs.flat_history_the_Request_TheVariants.{Fail as AsksFail}
 use Rattle.openings.proofs.still_laws_PlansKept.{add-answered}
-use Rattle.flat_history.specs.Flat.{next_number}
+use Rattle.call_entries.specs.flat_history_Flat.{next_number}
 use Rattle.openings.specs.running_State.{parts_in}
 use Rattle.openings.proofs.running_Closed.{failed-whole}
 use Rattle.openings.proofs.running_Kept.{rest-called, reshape-called}

@@ -1,9 +1,9 @@
 use Rattle.std.proofs.Common.{◌≡◌, length, sym, ◌∙◌, ap, subst}
-use Rattle.md_base.specs.declared.answers.BusyKind.TheVariants.{Reshape}
-use Rattle.md_base.specs.declared.answers.Refusal.TheVariants.{Busy}
+use Rattle.array_kept.specs.md_base_the_BusyKind_TheVariants.{Reshape}
+use Rattle.array_kept.specs.md_base_the_Refusal_TheVariants.{Busy}
 use Rattle.openings.specs.superblocks_Reading.{list_length}
-use Rattle.flat_history.specs.declared.events.Event.TheVariants.{Visible, Refused}
-use Rattle.flat_history.specs.Flat.{next_number}
+use Rattle.call_entries.specs.flat_history_the_Event_TheVariants.{Visible, Refused}
+use Rattle.call_entries.specs.flat_history_Flat.{next_number}
 use Rattle.openings.specs.grow_asked_Left.{phases_of}
 use Rattle.openings.specs.running_words_Parts.{visible_in}
 use Rattle.openings.specs.running_words_Calls.{moving_world}

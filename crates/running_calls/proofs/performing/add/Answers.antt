@@ -1,7 +1,7 @@
 use Rattle.std.proofs.Common.{◌≡◌}
 use Rattle.openings.specs.superblocks_Reading.{list_length}
-use Rattle.flat_history.specs.declared.events.Event.TheVariants.{Added}
-use Rattle.flat_history.specs.declared.events.Request.TheVariants.{Add as AsksAdd}
+use Rattle.call_entries.specs.flat_history_the_Event_TheVariants.{Added}
+use Rattle.call_entries.specs.flat_history_the_Request_TheVariants.{Add as AsksAdd}
 use Rattle.openings.specs.array_kept_Calls.{IsEndOf}
 use Rattle.running_replies.proofs.Fitting.{fits-add}
 use Rattle.running_calls.proofs.Plain.{IsCallAnswered, answered-so, told-answer}

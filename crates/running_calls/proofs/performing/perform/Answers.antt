@@ -1,5 +1,5 @@
 use Rattle.std.proofs.Common.{List, length, ap, arith}
-use Rattle.flat_history.specs.declared.events.Entry.{Entry}
+use Rattle.call_entries.specs.flat_history_the_Entry.{Entry}
 use Rattle.running_calls.proofs.Done.{performed-some}
 use Rattle.running_calls.proofs.Entered.{entered-same, entered-of}
 use Rattle.running_calls.proofs.performing.perform.Goals as goal

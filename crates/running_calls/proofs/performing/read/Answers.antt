@@ -1,9 +1,9 @@
 use Rattle.std.proofs.Common.{◌≡◌, ◌*◌, ◌/◌, ℕ, List, length, drop, sym, ◌∙◌, ap, subst₂, arith}
 use Rattle.std.proofs.lemmas.List.{take_at}
-use Rattle.md_base.specs.Sectors.{Sector, IsWhole, sectors_of}
+use Rattle.array_kept.specs.md_base_Sectors.{Sector, IsWhole, sectors_of}
 use Rattle.openings.specs.superblocks_Reading.{list_length}
-use Rattle.flat_history.specs.declared.events.Event.TheVariants.{Read}
-use Rattle.flat_history.specs.declared.events.Request.TheVariants.{Read as AsksRead}
+use Rattle.call_entries.specs.flat_history_the_Event_TheVariants.{Read}
+use Rattle.call_entries.specs.flat_history_the_Request_TheVariants.{Read as AsksRead}
 use Rattle.openings.specs.array_kept_Calls.{IsAnswered, IsEndOf}
 use Rattle.running_replies.proofs.Fitting.{fits-read}
 use Rattle.running_calls.proofs.Plain.{IsCallAnswered, answered-so, told-answer}

@@ -1,7 +1,7 @@
 use Rattle.std.proofs.Common.{ℕ, sym, subst}
 use Rattle.openings.specs.superblocks_Reading.{list_length}
-use Rattle.flat_history.specs.declared.events.Event.TheVariants.{Visible}
-use Rattle.flat_history.specs.declared.events.Request.TheVariants.{Visible as AsksVisible}
+use Rattle.call_entries.specs.flat_history_the_Event_TheVariants.{Visible}
+use Rattle.call_entries.specs.flat_history_the_Request_TheVariants.{Visible as AsksVisible}
 use Rattle.openings.specs.running_replies_Replies.{IsAnsweredWith}
 use Rattle.running_calls.proofs.GoneOn.{gone-run}
 use Rattle.running_calls.proofs.Ways.{way-same}

@@ -1,18 +1,18 @@
 use Rattle.std.proofs.Common.{◌≡◌, ◌+◌, ◌≤◌, ◌/◌, min, ℕ, Option, List, length, Result, Err, sym, ◌∙◌, ap, subst, arith}
 use Rattle.std.specs.Option.{option_map_or}
-use Rattle.md_base.specs.Sectors.{Sector, sectors_of}
-use Rattle.md_base.proofs.SectorLaws.{length-sectors_of}
-use Rattle.md_base.specs.declared.answers.Fault.{Fault}
-use Rattle.md_base.specs.declared.answers.Fault.TheVariants.{Refused as IsRefusedWith}
-use Rattle.md_base.specs.declared.answers.Refusal.{Refusal}
-use Rattle.md_base.specs.declared.answers.Refusal.TheVariants.{BackupFault}
+use Rattle.array_kept.specs.md_base_Sectors.{Sector, sectors_of}
+use Rattle.array_kept.proofs.md_base_SectorLaws.{length-sectors_of}
+use Rattle.array_kept.specs.md_base_the_Fault.{Fault}
+use Rattle.array_kept.specs.md_base_the_Fault_TheVariants.{Refused as IsRefusedWith}
+use Rattle.array_kept.specs.md_base_the_Refusal.{Refusal}
+use Rattle.array_kept.specs.md_base_the_Refusal_TheVariants.{BackupFault}
 use Rattle.bank.specs.Given.{IsFaulted}
 use Rattle.openings.specs.superblocks_the_Members.{Members}
 use Rattle.openings.specs.superblocks_Reading.{list_length}
-use Rattle.flat_history.specs.declared.events.Entry.{Entry}
-use Rattle.flat_history.specs.declared.events.Event.TheVariants.{Wrote}
-use Rattle.flat_history.specs.declared.events.Request.TheVariants.{Write as AsksWrite}
-use Rattle.flat_history.specs.Flat.{length_of, limit_of, visible_of}
+use Rattle.call_entries.specs.flat_history_the_Entry.{Entry}
+use Rattle.call_entries.specs.flat_history_the_Event_TheVariants.{Wrote}
+use Rattle.call_entries.specs.flat_history_the_Request_TheVariants.{Write as AsksWrite}
+use Rattle.call_entries.specs.flat_history_Flat.{length_of, limit_of, visible_of}
 use Rattle.openings.specs.array_kept_Calls.{IsCausedBy, IsEndOf}
 use Rattle.openings.specs.running_words_Parts.{visible_in}
 use Rattle.openings.specs.running_Calls.{IsWriteLackedIn}

@@ -1,10 +1,10 @@
 use Rattle.std.proofs.Common.{◌≡◌, ℕ, length, sym, ◌∙◌, ap, subst, Err}
 use Rattle.std.specs.Prelude.{⊤}
-use Rattle.md_base.specs.declared.answers.Refusal.TheVariants.{Busy}
-use Rattle.md_base.specs.declared.answers.BusyKind.TheVariants.{Reshape}
+use Rattle.array_kept.specs.md_base_the_Refusal_TheVariants.{Busy}
+use Rattle.array_kept.specs.md_base_the_BusyKind_TheVariants.{Reshape}
 use Rattle.openings.specs.superblocks_Reading.{list_length}
-use Rattle.flat_history.specs.declared.events.Event.TheVariants.{Planned, Refused}
-use Rattle.flat_history.specs.Flat.{next_number}
+use Rattle.call_entries.specs.flat_history_the_Event_TheVariants.{Planned, Refused}
+use Rattle.call_entries.specs.flat_history_Flat.{next_number}
 use Rattle.openings.specs.growing_Replied.{IsGrowReplied}
 use Rattle.openings.proofs.growing_Replied.{grow-went}
 use Rattle.openings.specs.running_words_Calls.{moving_world}

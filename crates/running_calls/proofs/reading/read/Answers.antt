@@ -1,10 +1,10 @@
 use Rattle.std.proofs.Common.{◌≡◌, ◌/◌, length, refl, sym, ◌∙◌, ap, subst}
-use Rattle.md_base.specs.Sectors.{sectors_of}
+use Rattle.array_kept.specs.md_base_Sectors.{sectors_of}
 use Rattle.openings.specs.superblocks_Reading.{list_length}
-use Rattle.flat_history.specs.declared.events.Event.TheVariants.{Read}
-use Rattle.flat_history.specs.declared.events.Request.TheVariants.{Read as AsksRead}
+use Rattle.call_entries.specs.flat_history_the_Event_TheVariants.{Read}
+use Rattle.call_entries.specs.flat_history_the_Request_TheVariants.{Read as AsksRead}
 use Rattle.openings.proofs.still_laws_PlansKept.{add-answered}
-use Rattle.flat_history.specs.Flat.{next_number}
+use Rattle.call_entries.specs.flat_history_Flat.{next_number}
 use Rattle.std.proofs.lemmas.Bool.{true≢false}
 use Rattle.openings.specs.running_State.{parts_in}
 use Rattle.openings.proofs.running_Kept.{rest-called, reshape-called}

@@ -1,9 +1,9 @@
 use Rattle.std.proofs.Common.{◌≡◌, length, refl, sym, ◌∙◌, ap, subst}
 use Rattle.openings.specs.superblocks_Reading.{list_length}
-use Rattle.flat_history.specs.declared.events.Event.TheVariants.{Flushed}
-use Rattle.flat_history.specs.declared.events.Request.TheVariants.{Flush as AsksFlush}
+use Rattle.call_entries.specs.flat_history_the_Event_TheVariants.{Flushed}
+use Rattle.call_entries.specs.flat_history_the_Request_TheVariants.{Flush as AsksFlush}
 use Rattle.openings.proofs.still_laws_PlansKept.{add-answered}
-use Rattle.flat_history.specs.Flat.{next_number}
+use Rattle.call_entries.specs.flat_history_Flat.{next_number}
 use Rattle.openings.specs.running_State.{parts_in}
 use Rattle.openings.proofs.running_Kept.{rest-called, reshape-called}
 use Rattle.running_calls.proofs.settling.flush.Goals as goal

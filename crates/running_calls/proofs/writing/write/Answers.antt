@@ -1,14 +1,14 @@
 use Rattle.std.proofs.Common.{◌≡◌, ℕ, ◌/◌, Option, length, refl, sym, ◌∙◌, ap, subst}
 use Rattle.std.specs.Prelude.{IsSome}
-use Rattle.flat_history.specs.declared.events.Event.TheVariants.{Wrote}
-use Rattle.flat_history.specs.declared.events.Request.TheVariants.{Write as AsksWrite}
+use Rattle.call_entries.specs.flat_history_the_Event_TheVariants.{Wrote}
+use Rattle.call_entries.specs.flat_history_the_Request_TheVariants.{Write as AsksWrite}
 use Rattle.openings.proofs.still_laws_PlansKept.{add-answered}
-use Rattle.flat_history.specs.Flat.{next_number}
+use Rattle.call_entries.specs.flat_history_Flat.{next_number}
 use Rattle.std.proofs.lemmas.Bool.{true≢false}
 use Rattle.openings.specs.running_State.{parts_in}
 use Rattle.openings.proofs.running_Entered.{add-written}
 use Rattle.openings.proofs.running_Kept.{rest-called, reshape-called}
-use Rattle.md_base.specs.Sectors.{sectors_of}
+use Rattle.array_kept.specs.md_base_Sectors.{sectors_of}
 use Rattle.openings.specs.superblocks_Reading.{list_length}
 use Rattle.openings.proofs.running_Chosen.{write-still, write-moving, write-replied, no-backup_fault, on-ok, on-err, err-so}
 use Rattle.running_calls.proofs.writing.write.Goals as goal

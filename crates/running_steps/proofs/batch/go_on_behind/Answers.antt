@@ -1,9 +1,9 @@
 use Rattle.std.proofs.Common.{◌≡◌, ◌≢◌, inr, ℕ, ◌<◌, ◌≤◌, Bool, true, false, List, Option, Result, Ok, Err, MatchOption, refl, sym, subst, arith}
 use Rattle.std.specs.Prelude.{⊤}
-use Rattle.md_base.specs.declared.answers.Refusal.{Refusal}
-use Rattle.md_base.specs.declared.answers.Who.{Who}
-use Rattle.bank.specs.declared.bank.Operation.{Operation}
-use Rattle.bank.specs.Given.{Given}
+use Rattle.running.specs.md_base_the_Refusal.{Refusal}
+use Rattle.running.specs.md_base_the_Who.{Who}
+use Rattle.running.specs.bank_the_Operation.{Operation}
+use Rattle.running.specs.bank_Given.{Given}
 use Rattle.running.specs.running_words_Parts.{RunningParts}
 use Rattle.running_steps.specs.Steps.{IsStepTaken, IsStepDone, IsStepRefused, IsCountedBehind, IsGoneOn}
 use Rattle.running_steps.proofs.batch.go_on_behind.Goals as goal

@@ -1,9 +1,9 @@
 use Rattle.std.proofs.Common.{◌≡◌, ◌≢◌, ◌⊎◌, ℕ, ◌+◌, ◌<◌, Bool, true, false, not, min, inl, inr, [], ◌++◌, refl, sym, ◌∙◌, ap, subst, arith, append-nil}
 use Rattle.std.proofs.lemmas.Bool.{cases_lt, true≢false}
 use Rattle.std.specs.Prelude.{if◌then◌else◌, IfSome, IsTrue}
-use Rattle.md_base.specs.declared.answers.Refusal.TheVariants.{Nothing}
-use Rattle.flat_history.specs.declared.events.Event.TheVariants.{Stepped, Refused}
-use Rattle.flat_history.specs.Legal.{disturbs}
+use Rattle.running.specs.md_base_the_Refusal_TheVariants.{Nothing}
+use Rattle.running.specs.flat_history_the_Event_TheVariants.{Stepped, Refused}
+use Rattle.running.specs.flat_history_Legal.{disturbs}
 use Rattle.running.specs.superblocks_Reading.{list_length, is_reshaping}
 use Rattle.running.specs.array_kept_Calls.{TellNoLoss}
 use Rattle.running.specs.running_words_Parts.{RunningParts, left_in, still_left}

@@ -1,9 +1,9 @@
 use Rattle.std.proofs.Common.{◌≡◌, ◌≢◌, ◌⊎◌, inr, ℕ, ◌<◌, ◌≤◌, Option, Some, None, MatchOption, refl, sym, ◌∙◌, arith}
 use Rattle.std.proofs.lemmas.Bool.{true≢false}
 use Rattle.std.specs.Prelude.{⊤}
-use Rattle.md_base.specs.declared.answers.Refusal.{Refusal}
-use Rattle.flat_history.specs.Fits.{is_lost_event}
-use Rattle.flat_history.specs.Legal.{disturbs}
+use Rattle.running.specs.md_base_the_Refusal.{Refusal}
+use Rattle.running.specs.flat_history_Fits.{is_lost_event}
+use Rattle.running.specs.flat_history_Legal.{disturbs}
 use Rattle.running.specs.Calls.{running_left}
 use Rattle.running.proofs.running_replies_GoneOn.{gone-then, gone-none}
 use Rattle.running_steps.proofs.Plain.{going-of}

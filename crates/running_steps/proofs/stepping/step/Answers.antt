@@ -1,5 +1,5 @@
-use Rattle.md_base.specs.declared.answers.Refusal.TheVariants.{Nothing}
-use Rattle.flat_history.specs.declared.events.Event.TheVariants.{Refused}
+use Rattle.running.specs.md_base_the_Refusal_TheVariants.{Nothing}
+use Rattle.running.specs.flat_history_the_Event_TheVariants.{Refused}
 use Rattle.running.proofs.array_kept_LossLaws.{behind-alone}
 use Rattle.running.proofs.running_replies_GoneOn.{gone-none}
 use Rattle.std.proofs.Common.{refl, ap}

@@ -1,32 +1,32 @@
 use Rattle.std.proofs.Common.{◌≡◌, ◌⊎◌, inl, inr, ⊎_elim, ℕ, ◌<◌, ◌≤◌, ◌&&◌, Bool, true, false, not, replicate, refl, sym, ◌∙◌, ap, subst, arith}
 use Rattle.std.specs.Prelude.{IfSome}
 use Rattle.std.proofs.lemmas.Bool.{cases_lt}
-use Rattle.md_base.specs.Shapes.{has_slot}
-use Rattle.bank.specs.Given.{Given}
-use Rattle.bank.specs.Tape.{EachMark, disk}
-use Rattle.superblocks.specs.declared.change.Give.TheVariants.{Same}
-use Rattle.superblocks.specs.declared.change.Change.{Change}
+use Rattle.safe_updates.specs.md_base_Shapes.{has_slot}
+use Rattle.safe_updates.specs.bank_Given.{Given}
+use Rattle.safe_updates.specs.bank_Tape.{EachMark, disk}
+use Rattle.safe_updates.specs.superblocks_the_Give_TheVariants.{Same}
+use Rattle.safe_updates.specs.superblocks_the_Change.{Change}
 use Rattle.safe_updates.specs.flat_history_Sound.{OpensFit}
-use Rattle.superblocks.specs.Reading.{role_count}
-use Rattle.superblocks.specs.Update.{IsRoleGive, give_of, is_recovery}
-use Rattle.superblocks.specs.Updating.{IsUpdate, IsWrittenBy, AreLosses, AreNamed, IsLater, IsSomeLeft, RisesByOperations, planned_newest}
-use Rattle.superblocks.specs.Outcome.{IsAddable, AreGivesOfLive, AreLive, AreStored, with_added, live_set, is_left, planned_roles, planned_spares}
-use Rattle.superblocks.specs.Reads.{has_spare}
-use Rattle.superblocks.specs.Stages.{AreFirstKept}
-use Rattle.superblocks.specs.Rounds.{round_at, IsInRounds, ArePast}
-use Rattle.superblocks.proofs.SlotSets.{none_above}
+use Rattle.safe_updates.specs.superblocks_Reading.{role_count}
+use Rattle.safe_updates.specs.superblocks_Update.{IsRoleGive, give_of, is_recovery}
+use Rattle.safe_updates.specs.superblocks_Updating.{IsUpdate, IsWrittenBy, AreLosses, AreNamed, IsLater, IsSomeLeft, RisesByOperations, planned_newest}
+use Rattle.safe_updates.specs.superblocks_Outcome.{IsAddable, AreGivesOfLive, AreLive, AreStored, with_added, live_set, is_left, planned_roles, planned_spares}
+use Rattle.safe_updates.specs.superblocks_Reads.{has_spare}
+use Rattle.safe_updates.specs.superblocks_Stages.{AreFirstKept}
+use Rattle.safe_updates.specs.superblocks_Rounds.{round_at, IsInRounds, ArePast}
+use Rattle.safe_updates.proofs.superblocks_SlotSets.{none_above}
 use Rattle.safe_updates.specs.shape_changes_Marking.{adding}
-use Rattle.views.specs.Placed.{IsPlaced}
+use Rattle.safe_updates.specs.views_Placed.{IsPlaced}
 use Rattle.safe_updates.specs.shape_changes_Steady.{AreUnlost}
-use Rattle.views.specs.Rebuilding.{with_spare, AreSparesFree}
-use Rattle.views.proofs.AddedMembers.{addable, placed-with, unlost-roles, free-with, spare-with, live-here}
-use Rattle.views.proofs.Fit.{few as few-placed}
+use Rattle.safe_updates.specs.views_Rebuilding.{with_spare, AreSparesFree}
+use Rattle.safe_updates.proofs.views_AddedMembers.{addable, placed-with, unlost-roles, free-with, spare-with, live-here}
+use Rattle.safe_updates.proofs.views_Fit.{few as few-placed}
 use Rattle.safe_additions.proofs.AddedSafe.{adding-safe}
 use Rattle.safe_additions.proofs.AddedUpdates.{IsAddedBy, told-added, added-moved, added-risen, added-failed, told-spare, told-none, added-stored, added-rest, lost-spare}
-use Rattle.views.proofs.LiveLeft.{left-steady}
+use Rattle.safe_updates.proofs.views_LiveLeft.{left-steady}
 use Rattle.safe_updates.proofs.shape_changes_Kept.{give_of-same}
-use Rattle.views.proofs.MarkedLaws.{grows-marks, others-updated}
-use Rattle.superblocks.proofs.ValidFields.{few-roles}
+use Rattle.safe_updates.proofs.views_MarkedLaws.{grows-marks, others-updated}
+use Rattle.safe_updates.proofs.superblocks_ValidFields.{few-roles}
 use Rattle.safe_additions.proofs.adding.add_member.Given.{Over}
 use Rattle.safe_additions.proofs.adding.add_member.Goals.{After-without}
 use Rattle.safe_additions.proofs.adding.add_member.Goals as goal

@@ -1,9 +1,9 @@
 use Rattle.std.proofs.Common.{◌∙◌, List, sym, subst}
-use Rattle.md_base.specs.Sectors.{Sector}
-use Rattle.bank.specs.declared.bank.Operation.{Operation}
-use Rattle.bank.specs.Given.{Given}
-use Rattle.bank.specs.Tape.{IsIn, disk}
-use Rattle.views.specs.Numbers.{AreSecondEntries}
+use Rattle.safe_updates.specs.md_base_Sectors.{Sector}
+use Rattle.safe_updates.specs.bank_the_Operation.{Operation}
+use Rattle.safe_updates.specs.bank_Given.{Given}
+use Rattle.safe_updates.specs.bank_Tape.{IsIn, disk}
+use Rattle.safe_updates.specs.views_Numbers.{AreSecondEntries}
 use Rattle.safe_additions.proofs.AddedLooks.{done-ok, is-ok, second-left}
 use Rattle.safe_additions.proofs.adding.look_at.Goals as goal
 

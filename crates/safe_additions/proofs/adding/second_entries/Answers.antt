@@ -1,7 +1,7 @@
 use Rattle.std.proofs.Common.{◌∙◌, drop, sym, ap, take_all, arith}
 use Rattle.std.proofs.lemmas.List.{length-drop}
-use Rattle.sb1.specs.declared.sb.Sb.{Sb}
-use Rattle.sb1.proofs.SuperblockLaws.{others-stand}
+use Rattle.safe_updates.specs.sb1_the_Sb.{Sb}
+use Rattle.safe_updates.proofs.sb1_SuperblockLaws.{others-stand}
 use Rattle.safe_additions.proofs.adding.second_entries.Goals as goal
 
 pub returns-clause-entries : goal.returns-clause-entries

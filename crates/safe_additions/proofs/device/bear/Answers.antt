@@ -1,6 +1,6 @@
 use Rattle.std.proofs.Common.{◌≡◌, ℕ, ◌==◌, List, refl, ap, subst, arith}
 use Rattle.std.specs.Prelude.{slice_index}
-use Rattle.views.specs.Numbers.{bearers}
+use Rattle.safe_updates.specs.views_Numbers.{bearers}
 use Rattle.safe_additions.proofs.Bearers.{AreBearersOf, bearers-set, bearers-all}
 use Rattle.safe_additions.proofs.device.bear.Goals as goal
 

@@ -1,6 +1,6 @@
 use Rattle.std.proofs.Common.{◌==◌}
 use Rattle.std.specs.Prelude.{slice_index}
-use Rattle.views.specs.Numbers.{bearers}
+use Rattle.safe_updates.specs.views_Numbers.{bearers}
 use Rattle.safe_additions.proofs.Bearers.{AreBearersOf}
 use Rattle.safe_additions.proofs.device.bear.Given as goal
 

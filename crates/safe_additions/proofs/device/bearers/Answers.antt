@@ -1,6 +1,6 @@
 use Rattle.std.proofs.Common.{◌≡◌, Bool, true, false, sym, ◌∙◌, ap, subst, arith, ◌||◌, ◌==◌}
-use Rattle.superblocks.proofs.SlotSets.{none_there}
-use Rattle.views.specs.Numbers.{bearers}
+use Rattle.safe_updates.proofs.superblocks_SlotSets.{none_there}
+use Rattle.safe_updates.specs.views_Numbers.{bearers}
 use Rattle.safe_additions.proofs.Bearers.{bearers-with, bearers-without, bearers-still}
 use Rattle.safe_additions.proofs.device.bearers.Goals as goal
 

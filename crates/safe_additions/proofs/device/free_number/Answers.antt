@@ -1,10 +1,10 @@
 use Rattle.std.proofs.Common.{◌≡◌, ◌<◌, ◌≤◌, ◌==◌, ◌&&◌, ℕ, Bool, true, false, not, nat_le, get_or, length, sym, ◌∙◌, ap, ap₂, arith, below_more}
 use Rattle.std.proofs.lemmas.Bool.Decides.{nat_tests}
 use Rattle.std.proofs.lemmas.List.{get_or_default}
-use Rattle.md_base.proofs.Least.{least_below-none}
-use Rattle.superblocks.specs.Reading.{entry_of}
-use Rattle.superblocks.proofs.Searches.{least_below-first}
-use Rattle.views.specs.Numbers.{is_carried}
+use Rattle.safe_updates.proofs.md_base_Least.{least_below-none}
+use Rattle.safe_updates.specs.superblocks_Reading.{entry_of}
+use Rattle.safe_updates.proofs.superblocks_Searches.{least_below-first}
+use Rattle.safe_updates.specs.views_Numbers.{is_carried}
 use Rattle.safe_additions.proofs.device.free_number.Goals as goal
 use Rattle.safe_additions.proofs.device.free_number.Goals.{else-work-number-eq0-via-then-work-number-eq0+else-entry_of-ge65534, else-work-number-eq0-via-else-work-number-eq0}
 

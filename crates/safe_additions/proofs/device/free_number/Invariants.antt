@@ -1,6 +1,6 @@
 use Rattle.std.proofs.Common.{◌≡◌, ◌<◌, ◌&&◌, ℕ, false, not, nat_le}
-use Rattle.superblocks.specs.Reading.{entry_of}
-use Rattle.views.specs.Numbers.{is_carried}
+use Rattle.safe_updates.specs.superblocks_Reading.{entry_of}
+use Rattle.safe_updates.specs.views_Numbers.{is_carried}
 use Rattle.safe_additions.proofs.device.free_number.Given as goal
 
 -- no number before this one is free

@@ -3,14 +3,14 @@ use Rattle.std.proofs.lemmas.Bool.{cases_lt}
 use Rattle.std.proofs.lemmas.Bool.Decides.{nat_tests}
 use Rattle.std.specs.Prelude.{OnOk, Result, Ok, Err}
 use Rattle.std.specs.Result.{is_err}
-use Rattle.parity.specs.Rows.{sector_of}
-use Rattle.row_io.specs.Rows.{reading_of, present}
-use Rattle.list_io.specs.declared.outcome.Unavailable.{Unavailable}
-use Rattle.list_io.specs.Calls.{IsAsked, IsListed}
-use Rattle.list_io.proofs.LossLaws.{lost_then, rows_by}
-use Rattle.list_io.proofs.ListLaws.{asked_more, followed, present_same}
+use Rattle.safe_updates.specs.parity_Rows.{sector_of}
+use Rattle.safe_updates.specs.row_io_Rows.{reading_of, present}
+use Rattle.safe_updates.specs.list_io_the_Unavailable.{Unavailable}
+use Rattle.safe_updates.specs.list_io_Calls.{IsAsked, IsListed}
+use Rattle.safe_updates.proofs.list_io_LossLaws.{lost_then, rows_by}
+use Rattle.safe_updates.proofs.list_io_ListLaws.{asked_more, followed, present_same}
 use Rattle.safe_updates.specs.views_Lacking.{IsAskedBeyond}
-use Rattle.md_base.specs.Shapes.{data_disks}
+use Rattle.safe_updates.specs.md_base_Shapes.{data_disks}
 use Rattle.safe_updates.proofs.views_Fit.{has-rows, force-valid, short}
 use Rattle.safe_updates.proofs.views_Stripes.{row-beyond}
 use Rattle.safe_rows.proofs.ReadParts.{sector-front, sector-back, listed-mended, listed-beyond}

@@ -1,12 +1,12 @@
 use Rattle.std.proofs.Common.{◌≡◌, inl, inr, ℕ, ◌+◌, ◌*◌, ◌/◌, ◌<◌, ◌≤◌, refl, sym, ◌∙◌, ap, subst, arith, le_trans}
-use Rattle.md_base.specs.Shapes.{data_disks}
-use Rattle.md_base.specs.declared.places.Shape.{Shape}
-use Rattle.md_base.specs.declared.status.Role.TheVariants.{Recovering}
-use Rattle.bank.specs.Given.{Given}
-use Rattle.superblocks.specs.Reading.{role_state, rows_held, data_offset_of, holder}
-use Rattle.row_io.specs.Rows.{reading_of, present}
-use Rattle.list_io.specs.Buffers.{IsTouched}
-use Rattle.list_io.specs.Writing.{HasFull}
+use Rattle.safe_updates.specs.md_base_Shapes.{data_disks}
+use Rattle.safe_updates.specs.md_base_the_Shape.{Shape}
+use Rattle.safe_updates.specs.md_base_the_Role_TheVariants.{Recovering}
+use Rattle.safe_updates.specs.bank_Given.{Given}
+use Rattle.safe_updates.specs.superblocks_Reading.{role_state, rows_held, data_offset_of, holder}
+use Rattle.safe_updates.specs.row_io_Rows.{reading_of, present}
+use Rattle.safe_updates.specs.list_io_Buffers.{IsTouched}
+use Rattle.safe_updates.specs.list_io_Writing.{HasFull}
 use Rattle.safe_updates.specs.flat_history_Sound.{OpensFit}
 use Rattle.safe_updates.specs.views_Moving.{IsMoved}
 use Rattle.safe_updates.specs.views_Lacking.{IsOfStripe, DataStandsAmong, RowsStandAmong}

@@ -1,10 +1,10 @@
 use Rattle.std.proofs.Common.{◌≡◌, ◌-◌, ◌≤◌, ℕ, length, vec_capacity}
-use Rattle.bank.specs.Given.{NeverFalls}
-use Rattle.md_base.specs.Sectors.{Sector}
-use Rattle.md_base.specs.declared.status.Role.TheVariants.{Recovering}
-use Rattle.superblocks.specs.Reading.{is_clean, role_state, rows_held}
-use Rattle.row_io.specs.Rows.{reading_of, present}
-use Rattle.list_io.specs.Writing.{HasFull}
+use Rattle.safe_updates.specs.bank_Given.{NeverFalls}
+use Rattle.safe_updates.specs.md_base_Sectors.{Sector}
+use Rattle.safe_updates.specs.md_base_the_Role_TheVariants.{Recovering}
+use Rattle.safe_updates.specs.superblocks_Reading.{is_clean, role_state, rows_held}
+use Rattle.safe_updates.specs.row_io_Rows.{reading_of, present}
+use Rattle.safe_updates.specs.list_io_Writing.{HasFull}
 use Rattle.safe_updates.specs.views_Moving.{Grows, IsMoved}
 use Rattle.safe_updates.specs.shape_changes_Safety.{HasRoomLeft, IsRisen}
 use Rattle.safe_updates.specs.views_Lacking.{HaveFailedSince, DataStandsAmong, RowsStandAmong, IsOfStripe}

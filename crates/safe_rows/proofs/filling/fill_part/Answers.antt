@@ -1,15 +1,15 @@
 use Rattle.std.proofs.Common.{◌≡◌, ℕ, ◌<◌, ◌≤◌, true, List, length, inl, inr, refl, sym, ◌∙◌, ap, subst, arith, le_trans}
 use Rattle.std.specs.Prelude.{MatchOption, ⊤, Option, Contains, is_some, slice_index}
 use mathlib.Core.List.{not-mem-nil}
-use Rattle.md_base.specs.declared.answers.Refusal.{Refusal}
-use Rattle.bank.specs.Given.{Given, NeverFalls}
-use Rattle.bank.specs.declared.bank.Operation.{Operation}
-use Rattle.superblocks.specs.declared.members.Members.{Members}
-use Rattle.superblocks.specs.Reading.{holder, is_clean, shape_of}
-use Rattle.row_io.specs.Rows.{present, reading_of}
-use Rattle.list_io.specs.Buffers.{AreDistinct, HasData, IsTouched}
-use Rattle.list_io.specs.Writing.{AreDataFrom, HasFull}
-use Rattle.list_io.proofs.BufferLaws.{data_read}
+use Rattle.safe_updates.specs.md_base_the_Refusal.{Refusal}
+use Rattle.safe_updates.specs.bank_Given.{Given, NeverFalls}
+use Rattle.safe_updates.specs.bank_the_Operation.{Operation}
+use Rattle.safe_updates.specs.superblocks_the_Members.{Members}
+use Rattle.safe_updates.specs.superblocks_Reading.{holder, is_clean, shape_of}
+use Rattle.safe_updates.specs.row_io_Rows.{present, reading_of}
+use Rattle.safe_updates.specs.list_io_Buffers.{AreDistinct, HasData, IsTouched}
+use Rattle.safe_updates.specs.list_io_Writing.{AreDataFrom, HasFull}
+use Rattle.safe_updates.proofs.list_io_BufferLaws.{data_read}
 use Rattle.safe_updates.specs.flat_history_Sound.{OpensFit}
 use Rattle.safe_updates.specs.views_Placed.{AreLost, IsPlaced}
 use Rattle.safe_updates.specs.shape_changes_Marking.{AreOthersPresent}

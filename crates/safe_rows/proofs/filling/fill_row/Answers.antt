@@ -1,17 +1,17 @@
 use Rattle.std.proofs.Common.{◌≡◌, ℕ, ◌+◌, ◌∷◌, [], refl, sym, ◌∙◌, ap, subst, arith, inl, List, take}
-use Rattle.bank.specs.declared.bank.Operation.TheVariants.{Write}
-use Rattle.bank.specs.Tape.{Did, disk}
-use Rattle.bank.proofs.Marks.{each_mark-map}
-use Rattle.parity.specs.Rows.{sector_of}
-use Rattle.row_io.proofs.Turns.{marks_last}
-use Rattle.superblocks.specs.Reading.{holder}
+use Rattle.safe_updates.specs.bank_the_Operation_TheVariants.{Write}
+use Rattle.safe_updates.specs.bank_Tape.{Did, disk}
+use Rattle.safe_updates.proofs.bank_Marks.{each_mark-map}
+use Rattle.safe_updates.specs.parity_Rows.{sector_of}
+use Rattle.safe_updates.proofs.row_io_Turns.{marks_last}
+use Rattle.safe_updates.specs.superblocks_Reading.{holder}
 use Rattle.safe_updates.specs.views_Rebuilding.{IsFilling}
 use Rattle.safe_rows.proofs.FillingLaws.{AreFilled, row_write, filled-present, filled-more, write-stands, marks-written, filled-none}
-use Rattle.row_io.specs.Rows.{present}
+use Rattle.safe_updates.specs.row_io_Rows.{present}
 use Rattle.safe_updates.proofs.views_LackingWrites.{marks-here}
 use Rattle.safe_updates.proofs.views_MovedLaws.{grows-none}
 use Rattle.std.specs.Prelude.{Result}
-use Rattle.bank.specs.declared.bank.Operation.{Operation}
+use Rattle.safe_updates.specs.bank_the_Operation.{Operation}
 use Rattle.safe_updates.specs.views_Moving.{Grows}
 use Rattle.safe_rows.proofs.filling.fill_row.Goals as goal
 

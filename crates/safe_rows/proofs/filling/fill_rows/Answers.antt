@@ -1,15 +1,15 @@
 use Rattle.std.proofs.Common.{◌≡◌, inr, ℕ, ◌<◌, ◌≤◌, true, not, eq-eqb, refl, sym, ◌∙◌, ap, subst, arith, inl, le_trans}
 use Rattle.std.specs.Prelude.{Contains}
-use Rattle.bank.specs.Given.{Given}
-use Rattle.bank.specs.Tape.{disk}
-use Rattle.bank.proofs.Marks.{each_mark-map}
-use Rattle.superblocks.specs.Reading.{role_state, holder, is_clean}
-use Rattle.superblocks.specs.declared.members.Members.{Members}
-use Rattle.md_base.specs.declared.status.Role.TheVariants.{Recovering}
-use Rattle.md_base.specs.Shapes.{has_slot}
-use Rattle.row_io.specs.Rows.{reading_of, present}
-use Rattle.list_io.specs.Writing.{AreSuperblocksKept}
-use Rattle.list_io.proofs.LossLaws.{slot_lost, recovering-after}
+use Rattle.safe_updates.specs.bank_Given.{Given}
+use Rattle.safe_updates.specs.bank_Tape.{disk}
+use Rattle.safe_updates.proofs.bank_Marks.{each_mark-map}
+use Rattle.safe_updates.specs.superblocks_Reading.{role_state, holder, is_clean}
+use Rattle.safe_updates.specs.superblocks_the_Members.{Members}
+use Rattle.safe_updates.specs.md_base_the_Role_TheVariants.{Recovering}
+use Rattle.safe_updates.specs.md_base_Shapes.{has_slot}
+use Rattle.safe_updates.specs.row_io_Rows.{reading_of, present}
+use Rattle.safe_updates.specs.list_io_Writing.{AreSuperblocksKept}
+use Rattle.safe_updates.proofs.list_io_LossLaws.{slot_lost, recovering-after}
 use Rattle.safe_updates.specs.flat_history_Sound.{OpensFit}
 use Rattle.safe_updates.specs.views_Placed.{AreLost, IsPlaced}
 use Rattle.safe_updates.specs.shape_changes_Marking.{AreOthersPresent}

@@ -1,8 +1,8 @@
 use Rattle.std.proofs.Common.{rules, ◌≡◌, ℕ, ◌<◌, true, false, get_or, eqb, eq-eqb, Option, Some, inl, inr, refl, sym, ◌∙◌, ap, arith}
 use Rattle.std.specs.Option.{option_eq}
-use Rattle.md_base.specs.declared.places.RowRoles.{RowRoles}
-use Rattle.parity.specs.Rows.{IsRowRoles}
-use Rattle.row_io.proofs.NewRow.{new_row}
+use Rattle.safe_updates.specs.md_base_the_RowRoles.{RowRoles}
+use Rattle.safe_updates.specs.parity_Rows.{IsRowRoles}
+use Rattle.safe_updates.proofs.row_io_NewRow.{new_row}
 use Rattle.safe_rows.proofs.FillingLaws.{made-full, plain-full}
 use Rattle.safe_rows.proofs.filling.make_sector.Goals as goal
 

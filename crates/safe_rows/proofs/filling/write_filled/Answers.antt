@@ -1,20 +1,20 @@
 use Rattle.std.proofs.Common.{◌≡◌, ◌+◌, ◌-◌, ◌*◌, ◌≤◌, ℕ, length, take, drop, inl, inr, sym, ◌∙◌, subst, arith, refl, le_trans, lt_of_lt_of_le, le_refl}
 use Rattle.std.specs.Prelude.{slice_index, Contains}
-use Rattle.bank.specs.Given.{Given}
-use Rattle.layout.proofs.Limits.{limited}
-use Rattle.parity.specs.Rows.{sector_of}
-use Rattle.row_io.specs.Rows.{reading_of, present}
-use Rattle.list_io.specs.Buffers.{buffered}
-use Rattle.list_io.specs.Writing.{HasFull}
-use Rattle.list_io.proofs.PartBytes.{sector-part_other}
-use Rattle.list_io.proofs.PutLaws.{data_same}
+use Rattle.safe_updates.specs.bank_Given.{Given}
+use Rattle.safe_updates.proofs.layout_Limits.{limited}
+use Rattle.safe_updates.specs.parity_Rows.{sector_of}
+use Rattle.safe_updates.specs.row_io_Rows.{reading_of, present}
+use Rattle.safe_updates.specs.list_io_Buffers.{buffered}
+use Rattle.safe_updates.specs.list_io_Writing.{HasFull}
+use Rattle.safe_updates.proofs.list_io_PartBytes.{sector-part_other}
+use Rattle.safe_updates.proofs.list_io_PutLaws.{data_same}
 use Rattle.safe_updates.specs.views_Rebuilding.{IsFilledAmong, IsFilling}
 use Rattle.safe_updates.proofs.views_Elements.{contains-at}
 use Rattle.safe_updates.proofs.views_MovedLaws.{grows-then, grows-none}
 use Rattle.safe_updates.proofs.views_MendedParts.{valid-in}
 use Rattle.safe_rows.proofs.FillingLaws.{filled-then, marks-then, full-next, part-is, filled-none}
-use Rattle.bank.specs.Tape.{disk}
-use Rattle.bank.proofs.Causes.{faulted_longer}
+use Rattle.safe_updates.specs.bank_Tape.{disk}
+use Rattle.safe_updates.proofs.bank_Causes.{faulted_longer}
 use Rattle.safe_updates.specs.views_Placed.{IsPlaced}
 use Rattle.safe_updates.proofs.views_LackingWrites.{marks-here}
 use Rattle.safe_rows.proofs.filling.write_filled.Goals as goal

@@ -1,11 +1,11 @@
 use Rattle.std.proofs.Common.{◌≡◌, ◌<◌, ◌≤◌, ℕ, length}
 use Rattle.std.specs.Prelude.{slice_index, Contains}
-use Rattle.bank.specs.Given.{NeverFalls}
-use Rattle.bank.specs.Tape.{EachMark, disk}
-use Rattle.md_base.specs.Sectors.{Sector}
-use Rattle.row_io.specs.Rows.{present, reading_of}
-use Rattle.list_io.specs.Buffers.{buffered}
-use Rattle.list_io.specs.Writing.{AreDataFrom, HasFull}
+use Rattle.safe_updates.specs.bank_Given.{NeverFalls}
+use Rattle.safe_updates.specs.bank_Tape.{EachMark, disk}
+use Rattle.safe_updates.specs.md_base_Sectors.{Sector}
+use Rattle.safe_updates.specs.row_io_Rows.{present, reading_of}
+use Rattle.safe_updates.specs.list_io_Buffers.{buffered}
+use Rattle.safe_updates.specs.list_io_Writing.{AreDataFrom, HasFull}
 use Rattle.safe_updates.specs.views_Moving.{Grows}
 use Rattle.safe_updates.specs.views_Rebuilding.{IsFilling, IsFilledAmong}
 use Rattle.safe_rows.proofs.filling.write_filled.Given as goal

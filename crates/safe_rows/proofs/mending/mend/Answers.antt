@@ -1,10 +1,10 @@
 use Rattle.std.proofs.Common.{inl, inr, ℕ, ◌+◌, ◌*◌, ◌≤◌, refl, sym, ◌∙◌, ap, subst, arith, le_trans}
-use Rattle.bank.specs.Given.{Given}
-use Rattle.bank.specs.Tape.{disk}
-use Rattle.row_io.specs.Rows.{reading_of, present}
-use Rattle.md_base.specs.Shapes.{data_disks}
+use Rattle.safe_updates.specs.bank_Given.{Given}
+use Rattle.safe_updates.specs.bank_Tape.{disk}
+use Rattle.safe_updates.specs.row_io_Rows.{reading_of, present}
+use Rattle.safe_updates.specs.md_base_Shapes.{data_disks}
 use Rattle.safe_updates.specs.shape_views_Regions.{place_by}
-use Rattle.list_io.specs.Buffers.{IsTouched}
+use Rattle.safe_updates.specs.list_io_Buffers.{IsTouched}
 use Rattle.safe_updates.specs.flat_history_Sound.{OpensFit}
 use Rattle.safe_updates.specs.views_Moving.{IsMoved}
 use Rattle.safe_updates.specs.views_Rebuilding.{AreSparesFree}

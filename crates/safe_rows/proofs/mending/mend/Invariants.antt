@@ -1,9 +1,9 @@
 use Rattle.std.proofs.Common.{◌≡◌, ◌-◌, ◌≤◌, ℕ, true, false, length, vec_capacity}
-use Rattle.bank.specs.Given.{NeverFalls}
-use Rattle.bank.specs.Tape.{disk}
-use Rattle.md_base.specs.Sectors.{Sector}
-use Rattle.superblocks.specs.Reading.{is_clean}
-use Rattle.row_io.specs.Rows.{present}
+use Rattle.safe_updates.specs.bank_Given.{NeverFalls}
+use Rattle.safe_updates.specs.bank_Tape.{disk}
+use Rattle.safe_updates.specs.md_base_Sectors.{Sector}
+use Rattle.safe_updates.specs.superblocks_Reading.{is_clean}
+use Rattle.safe_updates.specs.row_io_Rows.{present}
 use Rattle.safe_updates.specs.views_Moving.{Grows, IsMoved}
 use Rattle.safe_updates.specs.shape_changes_Safety.{HasRoomLeft, IsRisen}
 use Rattle.safe_updates.specs.views_Lacking.{HaveFailedSince, DataStandsAmong, IsOfStripe}

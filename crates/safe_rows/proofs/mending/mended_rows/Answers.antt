@@ -1,8 +1,8 @@
 use Rattle.std.proofs.Common.{◌≡◌, ◌*◌, ◌≤◌, ℕ, IfSome, Option, ap, sym, subst, arith, true}
-use Rattle.md_base.specs.Shapes.{is_multiple}
-use Rattle.md_base.specs.declared.places.Shape.{Shape}
-use Rattle.layout.proofs.Places.{chunk_some}
-use Rattle.superblocks.specs.Reading.{shape_of}
+use Rattle.safe_updates.specs.md_base_Shapes.{is_multiple}
+use Rattle.safe_updates.specs.md_base_the_Shape.{Shape}
+use Rattle.safe_updates.proofs.layout_Places.{chunk_some}
+use Rattle.safe_updates.specs.superblocks_Reading.{shape_of}
 use Rattle.safe_updates.specs.views_Status.{stripes_of}
 use Rattle.safe_updates.proofs.views_Stripes.{stripes-multiple, stripes-within}
 use Rattle.safe_rows.proofs.mending.mended_rows.Goals as goal

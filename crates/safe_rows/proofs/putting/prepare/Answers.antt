@@ -1,10 +1,10 @@
 use Rattle.std.proofs.Common.{◌<◌, ℕ, List, length, arith, refl, sym, ◌∙◌, ap, subst, ◌≤◌, le_trans}
-use Rattle.bank.specs.Given.{Given}
-use Rattle.bank.specs.declared.bank.Operation.{Operation}
-use Rattle.superblocks.specs.declared.members.Members.{Members}
-use Rattle.row_io.specs.Rows.{present, reading_of}
-use Rattle.list_io.specs.Buffers.{buffered}
-use Rattle.list_io.proofs.BufferLaws.{data_read}
+use Rattle.safe_updates.specs.bank_Given.{Given}
+use Rattle.safe_updates.specs.bank_the_Operation.{Operation}
+use Rattle.safe_updates.specs.superblocks_the_Members.{Members}
+use Rattle.safe_updates.specs.row_io_Rows.{present, reading_of}
+use Rattle.safe_updates.specs.list_io_Buffers.{buffered}
+use Rattle.safe_updates.proofs.list_io_BufferLaws.{data_read}
 use Rattle.safe_updates.specs.views_Placed.{IsPlaced, AreLost, IsInForce}
 use Rattle.safe_updates.specs.shape_changes_Marking.{AreOthersPresent}
 use Rattle.safe_updates.specs.views_Moving.{Grows, IsMoved}
@@ -22,7 +22,7 @@ use Rattle.safe_updates.proofs.views_SafeStretch.{safe-then, safe-lost, over-at,
 use Rattle.safe_rows.proofs.UnusedReads.{read-unused, named-unused}
 use Rattle.safe_rows.proofs.CallLaws.{roles-left}
 use Rattle.safe_rows.proofs.RefusedLaws.{lacking-unwritten}
-use Rattle.superblocks.specs.Reading.{is_clean}
+use Rattle.safe_updates.specs.superblocks_Reading.{is_clean}
 use Rattle.safe_updates.specs.views_Lacking.{DoesWithout}
 use Rattle.safe_rows.proofs.putting.prepare.Goals as goal
 

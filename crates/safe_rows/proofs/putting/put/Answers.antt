@@ -1,10 +1,10 @@
 use Rattle.std.proofs.Common.{◌≡◌, ◌-◌, ◌<◌, ℕ, List, length, inl, refl, sym, ◌∙◌, ap, subst, arith, ◌≤◌, le_trans}
 use Rattle.std.specs.Prelude.{Contains, slice_index, None, ⊤}
-use Rattle.bank.specs.Given.{Given}
-use Rattle.bank.specs.Tape.{disk}
-use Rattle.row_io.specs.Rows.{reading_of, present}
-use Rattle.list_io.specs.Buffers.{buffered, AreStanding, IsTouched, AreDistinct}
-use Rattle.list_io.specs.Writing.{AreDataFrom}
+use Rattle.safe_updates.specs.bank_Given.{Given}
+use Rattle.safe_updates.specs.bank_Tape.{disk}
+use Rattle.safe_updates.specs.row_io_Rows.{reading_of, present}
+use Rattle.safe_updates.specs.list_io_Buffers.{buffered, AreStanding, IsTouched, AreDistinct}
+use Rattle.safe_updates.specs.list_io_Writing.{AreDataFrom}
 use Rattle.safe_updates.specs.shape_views_Regions.{place_by}
 use Rattle.safe_updates.specs.shape_views_Windows.{IsOfRegion}
 use Rattle.safe_updates.specs.views_Moving.{IsMoved}

@@ -1,7 +1,7 @@
 use Rattle.std.proofs.Common.{refl, sym, ◌∙◌, subst, ◌≤◌, le_trans}
-use Rattle.bank.specs.Given.{Given}
-use Rattle.bank.specs.Tape.{disk}
-use Rattle.row_io.specs.Rows.{present}
+use Rattle.safe_updates.specs.bank_Given.{Given}
+use Rattle.safe_updates.specs.bank_Tape.{disk}
+use Rattle.safe_updates.specs.row_io_Rows.{present}
 use Rattle.safe_updates.specs.shape_changes_Marking.{AreOthersPresent}
 use Rattle.safe_updates.specs.views_Rebuilding.{AreSparesFree}
 use Rattle.safe_updates.specs.views_Under.{IsRestKept}

@@ -1,11 +1,11 @@
 use Rattle.std.specs.Prelude.{MatchOption, ⊤, Option}
-use Rattle.md_base.specs.declared.answers.Refusal.{Refusal}
+use Rattle.safe_updates.specs.md_base_the_Refusal.{Refusal}
 use Rattle.std.proofs.Common.{inl, inr, List, sym, subst, ap}
-use Rattle.bank.specs.Given.{Given}
-use Rattle.bank.specs.Tape.{IsIn}
-use Rattle.md_base.specs.Sectors.{Sector}
-use Rattle.row_io.proofs.Turns.{marks_last}
-use Rattle.row_io.specs.Rows.{present}
+use Rattle.safe_updates.specs.bank_Given.{Given}
+use Rattle.safe_updates.specs.bank_Tape.{IsIn}
+use Rattle.safe_updates.specs.md_base_Sectors.{Sector}
+use Rattle.safe_updates.proofs.row_io_Turns.{marks_last}
+use Rattle.safe_updates.specs.row_io_Rows.{present}
 use Rattle.safe_updates.specs.views_Placed.{AreLost}
 use Rattle.safe_updates.specs.views_Lacking.{AreRowsWritten, LacksTooMany}
 use Rattle.safe_updates.proofs.views_MemberLaws.{are_lost}
@@ -19,8 +19,8 @@ use Rattle.safe_updates.proofs.shape_changes_Risen.{risen-lost}
 use Rattle.safe_updates.proofs.views_SafeStretch.{safe-put}
 use Rattle.safe_updates.proofs.Unused.{unused-role}
 use Rattle.safe_rows.proofs.CallLaws.{roles-left}
-use Rattle.superblocks.specs.declared.members.Members.{Members}
-use Rattle.superblocks.specs.Reading.{is_clean}
+use Rattle.safe_updates.specs.superblocks_the_Members.{Members}
+use Rattle.safe_updates.specs.superblocks_Reading.{is_clean}
 use Rattle.safe_rows.proofs.putting.write_stretch.Goals as goal
 
 pub write_touched-written-requires-clause-rows : goal.write_touched-written-requires-clause-rows

@@ -2,11 +2,11 @@ use Rattle.std.proofs.Common.{◌≡◌, ◌<◌, ℕ, inl, inr, Bool, true, fal
 use Rattle.std.specs.Prelude.{◌^◌, ◌-◌}
 use Rattle.std.proofs.lemmas.Bool.{cases_lt, agree_below_at}
 use Rattle.std.proofs.lemmas.List.{get_or_past}
-use Rattle.md_base.specs.Shapes.{has_slot}
-use Rattle.md_base.specs.declared.status.Role.{Role}
-use Rattle.md_base.specs.declared.status.Role.TheVariants.{Missing}
-use Rattle.superblocks.specs.Reading.{role_count, holder}
-use Rattle.superblocks.proofs.SlotSets.{none_above}
+use Rattle.layout.specs.md_base_Shapes.{has_slot}
+use Rattle.layout.specs.md_base_the_Role.{Role}
+use Rattle.layout.specs.md_base_the_Role_TheVariants.{Missing}
+use Rattle.superblock_updates.specs.superblocks_Reading.{role_count, holder}
+use Rattle.superblock_updates.proofs.superblocks_SlotSets.{none_above}
 use Rattle.views.proofs.Fit.{few}
 use Rattle.safe_updates.proofs.flushes.flush_members.Goals as goal
 

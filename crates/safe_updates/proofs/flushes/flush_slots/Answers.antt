@@ -1,5 +1,5 @@
 use Rattle.std.proofs.Common.{◌<◌, ◌∙◌, arith}
-use Rattle.bank.specs.Given.{Given}
+use Rattle.superblock_updates.specs.bank_Given.{Given}
 use Rattle.views.proofs.Flushed.{tried-step, added-both, counts-on}
 use Rattle.safe_updates.proofs.flushes.flush_slots.Goals as goal
 

@@ -1,10 +1,10 @@
 use Rattle.std.proofs.Common.{◌≡◌, ◌⊎◌, ℕ, inl, inr, Bool, true, false, ◌||◌, Some, None, Option, length, get_or, sym, ap, ◌∙◌, arith, refl}
 use Rattle.std.proofs.lemmas.Bool.{cases_eq, cases_lt}
 use Rattle.std.proofs.lemmas.List.{get_or_past}
-use Rattle.md_base.specs.Shapes.{has_slot}
-use Rattle.md_base.specs.declared.status.Role.TheVariants.{Missing}
-use Rattle.superblocks.specs.Reading.{holder}
-use Rattle.superblocks.specs.Update.{is_held_by}
+use Rattle.layout.specs.md_base_Shapes.{has_slot}
+use Rattle.layout.specs.md_base_the_Role_TheVariants.{Missing}
+use Rattle.superblock_updates.specs.superblocks_Reading.{holder}
+use Rattle.superblock_updates.specs.superblocks_Update.{is_held_by}
 use Rattle.views.proofs.MarkLaws.{held-holder, holder-held}
 use Rattle.safe_updates.proofs.flushes.holders.Goals as goal
 

@@ -1,7 +1,7 @@
 use Rattle.std.proofs.Common.{◌≡◌, ◌<◌, ℕ, true, Some}
-use Rattle.md_base.specs.Shapes.{has_slot}
-use Rattle.superblocks.specs.Reading.{role_state, holder}
-use Rattle.row_io.specs.Rows.{reading_of}
+use Rattle.layout.specs.md_base_Shapes.{has_slot}
+use Rattle.superblock_updates.specs.superblocks_Reading.{role_state, holder}
+use Rattle.views.specs.row_io_Rows.{reading_of}
 use Rattle.safe_updates.proofs.flushes.holders.Given as goal
 
 abbrev pub invariant-loop-role : goal.invariant-loop-role

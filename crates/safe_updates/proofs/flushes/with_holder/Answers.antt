@@ -1,5 +1,5 @@
 use Rattle.std.proofs.Common.{inl, inr, ap}
-use Rattle.superblocks.specs.Reading.{holder}
+use Rattle.superblock_updates.specs.superblocks_Reading.{holder}
 use Rattle.safe_updates.proofs.flushes.with_holder.Goals as goal
 
 pub with-requires : goal.with-requires

@@ -1,10 +1,10 @@
 use Rattle.std.proofs.Common.{ℕ, refl, sym, ◌∙◌, ap, subst, arith}
-use Rattle.bank.specs.Given.{Given}
-use Rattle.bank.specs.Tape.{Contents, disk}
-use Rattle.md_base.specs.Sectors.{Sector}
-use Rattle.superblocks.specs.declared.members.Members.{Members}
-use Rattle.superblocks.specs.Reading.{holder}
-use Rattle.row_io.specs.Rows.{present}
+use Rattle.superblock_updates.specs.bank_Given.{Given}
+use Rattle.superblock_updates.specs.bank_Tape.{Contents, disk}
+use Rattle.layout.specs.md_base_Sectors.{Sector}
+use Rattle.superblock_updates.specs.superblocks_the_Members.{Members}
+use Rattle.superblock_updates.specs.superblocks_Reading.{holder}
+use Rattle.views.specs.row_io_Rows.{present}
 use Rattle.views.specs.flat_history_World.{World}
 use Rattle.views.specs.flat_history_Sound.{OpensFit}
 use Rattle.views.specs.Flushing.{OnlyFlushesAdded}

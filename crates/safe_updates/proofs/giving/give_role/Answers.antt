@@ -1,13 +1,13 @@
 use Rattle.std.proofs.Common.{◌≡◌, ◌<◌, inl, inr, ℕ, ◌&&◌, ◌||◌, Bool, false, not, Some, refl, sym, ◌∙◌, ap, subst, arith}
 use Rattle.std.proofs.lemmas.Bool.{cases_eq, cases_lt}
-use Rattle.md_base.specs.Shapes.{has_slot}
-use Rattle.superblocks.proofs.ValidFields.{few-roles}
-use Rattle.bank.specs.Given.{Given}
-use Rattle.superblocks.specs.declared.change.Change.{Change}
-use Rattle.superblocks.specs.Reading.{shape_of, role_count}
-use Rattle.superblocks.specs.Update.{IsRoleGive, give_of}
-use Rattle.superblocks.specs.Outcome.{AreLive, AreGivesOfLive, is_in_update, with_added}
-use Rattle.superblocks.proofs.SlotSets.{none_above}
+use Rattle.layout.specs.md_base_Shapes.{has_slot}
+use Rattle.superblock_updates.proofs.superblocks_ValidFields.{few-roles}
+use Rattle.superblock_updates.specs.bank_Given.{Given}
+use Rattle.superblock_updates.specs.superblocks_the_Change.{Change}
+use Rattle.superblock_updates.specs.superblocks_Reading.{shape_of, role_count}
+use Rattle.superblock_updates.specs.superblocks_Update.{IsRoleGive, give_of}
+use Rattle.superblock_updates.specs.superblocks_Outcome.{AreLive, AreGivesOfLive, is_in_update, with_added}
+use Rattle.superblock_updates.proofs.superblocks_SlotSets.{none_above}
 use Rattle.views.specs.flat_history_Sound.{OpensFit}
 use Rattle.views.specs.shape_changes_Marking.{giving}
 use Rattle.views.proofs.MarkedLaws.{grows-marks, others-of}
@@ -19,9 +19,9 @@ use Rattle.safe_updates.proofs.GivingDone.{given-left, losses-done}
 use Rattle.views.specs.shape_changes_Changing.{IsChanged}
 use Rattle.views.proofs.shape_changes_CalledLaws.{changed-by}
 use Rattle.views.proofs.shape_changes_ChangeSafe.{told-changed, risen-changed}
-use Rattle.role_changes.proofs.GivenSafe.{giving-stays-safe}
+use Rattle.views.proofs.role_changes_GivenSafe.{giving-stays-safe}
 use Rattle.safe_updates.proofs.GivenPlan.{gives-live, receiver-of, spare-receives}
-use Rattle.superblocks.specs.declared.members.Members.{Members}
+use Rattle.superblock_updates.specs.superblocks_the_Members.{Members}
 use Rattle.views.specs.Placed.{IsPlaced}
 use Rattle.safe_updates.proofs.MadeWhole.{role-within}
 use Rattle.safe_updates.proofs.giving.give_role.Given.{Over}

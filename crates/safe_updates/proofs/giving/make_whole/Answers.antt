@@ -1,21 +1,21 @@
 use Rattle.std.proofs.Common.{◌≡◌, inl, inr, ℕ, ◌&&◌, ◌||◌, Bool, true, false, not, refl, sym, ◌∙◌, ap, subst, arith}
 use Rattle.std.specs.Prelude.{None, ⊤}
 use Rattle.std.proofs.lemmas.Bool.{cases_eq, cases_lt}
-use Rattle.md_base.specs.Shapes.{has_slot}
+use Rattle.layout.specs.md_base_Shapes.{has_slot}
 use Rattle.layout.proofs.Limits.{limited}
-use Rattle.md_base.specs.Sectors.{Sector}
-use Rattle.bank.specs.Given.{Given}
-use Rattle.bank.specs.Tape.{EachMark, disk}
-use Rattle.superblocks.specs.declared.change.Change.{Change}
-use Rattle.superblocks.specs.Reading.{holder, shape_of}
-use Rattle.superblocks.specs.Update.{IsRoleGive, give_of}
-use Rattle.superblocks.specs.Stages.{AreFirstKept}
-use Rattle.superblocks.specs.Rounds.{round_at, IsInRounds, ArePast}
-use Rattle.superblocks.specs.Outcome.{AreLive, AreGivesOfLive, is_in_update, live_set, with_added}
-use Rattle.superblocks.proofs.SlotSets.{none_above}
+use Rattle.layout.specs.md_base_Sectors.{Sector}
+use Rattle.superblock_updates.specs.bank_Given.{Given}
+use Rattle.superblock_updates.specs.bank_Tape.{EachMark, disk}
+use Rattle.superblock_updates.specs.superblocks_the_Change.{Change}
+use Rattle.superblock_updates.specs.superblocks_Reading.{holder, shape_of}
+use Rattle.superblock_updates.specs.superblocks_Update.{IsRoleGive, give_of}
+use Rattle.superblock_updates.specs.superblocks_Stages.{AreFirstKept}
+use Rattle.superblock_updates.specs.superblocks_Rounds.{round_at, IsInRounds, ArePast}
+use Rattle.superblock_updates.specs.superblocks_Outcome.{AreLive, AreGivesOfLive, is_in_update, live_set, with_added}
+use Rattle.superblock_updates.proofs.superblocks_SlotSets.{none_above}
 use Rattle.views.specs.flat_history_World.{World}
 use Rattle.views.specs.flat_history_Sound.{OpensFit}
-use Rattle.row_io.specs.Rows.{present}
+use Rattle.views.specs.row_io_Rows.{present}
 use Rattle.views.specs.shape_views_Regions.{DoWithout}
 use Rattle.views.specs.Lacking.{RowsStand}
 use Rattle.views.specs.Rebuilding.{IsFlushedFull}
@@ -32,10 +32,10 @@ use Rattle.safe_updates.proofs.GivenMoved.{moved-given, failed-given, holders-mo
 use Rattle.safe_updates.proofs.GivingDone.{given-left, losses-done}
 use Rattle.safe_updates.proofs.MadeWhole.{holder-receives, held-already, IsMoreBack, back-same, back-given, makable}
 use Rattle.views.specs.shape_changes_Changing.{IsChanged, IsSafeChange}
-use Rattle.role_changes.specs.Making.{IsMade}
+use Rattle.views.specs.role_changes_Making.{IsMade}
 use Rattle.views.proofs.shape_changes_CalledLaws.{changed-by}
 use Rattle.views.proofs.shape_changes_ChangeSafe.{told-changed, told-marks, risen-changed, one-stretch, change-named}
-use Rattle.role_changes.proofs.MadeSafe.{making-safe}
+use Rattle.views.proofs.role_changes_MadeSafe.{making-safe}
 use Rattle.safe_updates.proofs.GivenPlan.{gives-live}
 use Rattle.safe_updates.proofs.giving.make_whole.Given.{Over}
 use Rattle.safe_updates.proofs.giving.make_whole.Goals.{After-without}

@@ -1,12 +1,12 @@
 use Rattle.std.proofs.Common.{◌≡◌, ◌≤◌, refl, sym, subst, min, ◌+◌, ◌-◌, arith}
 use Rattle.std.specs.Prelude.{◌^◌}
-use Rattle.bank.specs.Given.{Given}
-use Rattle.bank.specs.Tape.{disk}
-use Rattle.superblocks.specs.declared.change.Change.{Change}
-use Rattle.superblocks.specs.Reading.{role_count}
-use Rattle.superblocks.specs.Update.{IsRoleGive, give_of}
-use Rattle.superblocks.specs.Updating.{ArePlanned}
-use Rattle.superblocks.specs.Outcome.{with_added, live_set, is_left, AreLive, AreGivesOfLive}
+use Rattle.superblock_updates.specs.bank_Given.{Given}
+use Rattle.superblock_updates.specs.bank_Tape.{disk}
+use Rattle.superblock_updates.specs.superblocks_the_Change.{Change}
+use Rattle.superblock_updates.specs.superblocks_Reading.{role_count}
+use Rattle.superblock_updates.specs.superblocks_Update.{IsRoleGive, give_of}
+use Rattle.superblock_updates.specs.superblocks_Updating.{ArePlanned}
+use Rattle.superblock_updates.specs.superblocks_Outcome.{with_added, live_set, is_left, AreLive, AreGivesOfLive}
 use Rattle.views.specs.Placed.{IsPlaced}
 use Rattle.views.specs.shape_changes_Marking.{marking}
 use Rattle.views.proofs.shape_changes_Kept.{give_of-same}

@@ -1,5 +1,5 @@
 use Rattle.std.proofs.Common.{◌≡◌, ◌<◌, ℕ, true}
-use Rattle.row_io.specs.Rows.{reading_of}
+use Rattle.views.specs.row_io_Rows.{reading_of}
 use Rattle.views.specs.Placed.{is_vacant}
 use Rattle.views.specs.Lacking.{IsNamed}
 use Rattle.safe_updates.proofs.naming.has_unnamed.Given as goal

@@ -1,5 +1,5 @@
 use Rattle.std.proofs.Common.{◌≢◌, ◌<◌, ℕ}
-use Rattle.superblocks.specs.Reading.{entry_of}
+use Rattle.superblock_updates.specs.superblocks_Reading.{entry_of}
 use Rattle.safe_updates.proofs.naming.is_named.Given as goal
 
 -- no device before this one has the role

@@ -1,12 +1,12 @@
 use Rattle.std.proofs.Common.{◌≡◌, ℕ, ◌<◌, ◌≤◌, Bool, true, false, not, ◌&&◌, List, length, inl, inr, refl, subst, sym, ◌∙◌, arith}
 use Rattle.std.proofs.lemmas.Bool.{cases_lt}
-use Rattle.md_base.specs.Shapes.{has_slot}
-use Rattle.bank.specs.Given.{Given}
-use Rattle.bank.specs.Tape.{disk}
-use Rattle.bank.proofs.Marks.{each_mark-map}
-use Rattle.superblocks.specs.Outcome.{live_set}
-use Rattle.superblocks.proofs.SlotSets.{none_above}
-use Rattle.row_io.specs.Rows.{reading_of}
+use Rattle.layout.specs.md_base_Shapes.{has_slot}
+use Rattle.superblock_updates.specs.bank_Given.{Given}
+use Rattle.superblock_updates.specs.bank_Tape.{disk}
+use Rattle.superblock_updates.proofs.bank_Marks.{each_mark-map}
+use Rattle.superblock_updates.specs.superblocks_Outcome.{live_set}
+use Rattle.superblock_updates.proofs.superblocks_SlotSets.{none_above}
+use Rattle.views.specs.row_io_Rows.{reading_of}
 use Rattle.views.specs.Placed.{IsPlaced}
 use Rattle.views.specs.shape_changes_Marking.{marking}
 use Rattle.safe_updates.specs.Named.{AreDataKept}

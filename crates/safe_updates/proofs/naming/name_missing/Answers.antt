@@ -1,13 +1,13 @@
 use Rattle.std.proofs.Common.{inl, refl, arith, ◌≡◌, sym, ◌∙◌, true, ℕ, ◌<◌}
-use Rattle.bank.specs.Tape.{disk}
+use Rattle.superblock_updates.specs.bank_Tape.{disk}
 use Rattle.safe_updates.specs.Named.{AreDataKept}
 use Rattle.views.specs.flat_history_Sound.{OpensFit}
 use Rattle.views.proofs.LiveLeft.{left-steady}
 use Rattle.views.proofs.Fit.{few}
 use Rattle.views.proofs.HeldRows.{vacant-missing}
-use Rattle.row_io.specs.Rows.{reading_of}
-use Rattle.superblocks.specs.declared.members.Members.{Members}
-use Rattle.superblocks.specs.Reading.{role_count}
+use Rattle.views.specs.row_io_Rows.{reading_of}
+use Rattle.superblock_updates.specs.superblocks_the_Members.{Members}
+use Rattle.superblock_updates.specs.superblocks_Reading.{role_count}
 use Rattle.views.specs.Placed.{is_vacant, AreWhole}
 use Rattle.views.specs.Lacking.{IsNamed}
 use Rattle.safe_updates.proofs.RolesNamed.{unnamed-named}

@@ -1,10 +1,10 @@
 use Rattle.std.proofs.Common.{◌≡◌, ◌≤◌, ◌&&◌, Bool, false, nat_lt, not, inl, inr, sym, ◌∙◌, ap, arith}
 use Rattle.std.proofs.lemmas.Bool.{cases_lt}
 use Rattle.std.proofs.lemmas.Bool.Decides.{nat_tests}
-use Rattle.md_base.specs.Shapes.{has_slot}
-use Rattle.row_io.specs.Rows.{reading_of}
+use Rattle.layout.specs.md_base_Shapes.{has_slot}
+use Rattle.views.specs.row_io_Rows.{reading_of}
 use Rattle.views.specs.Placed.{is_vacant}
-use Rattle.superblocks.proofs.SlotSets.{none_above}
+use Rattle.superblock_updates.proofs.superblocks_SlotSets.{none_above}
 use Rattle.safe_updates.proofs.naming.newly_vacant.Goals as goal
 
 pub returns : goal.returns

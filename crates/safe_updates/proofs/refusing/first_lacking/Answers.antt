@@ -1,10 +1,10 @@
 use Rattle.std.proofs.Common.{◌≡◌, ◌≤◌, ◌<◌, ◌+◌, ◌&&◌, ℕ, Bool, true, false, nat_le, Some, option_map, sym, ◌∙◌, ap, ap₂, arith, below_more}
 use Rattle.std.proofs.lemmas.Bool.Decides.{nat_tests}
-use Rattle.md_base.proofs.Least.{least_below-none}
-use Rattle.md_base.specs.declared.places.Place.{Place}
+use Rattle.layout.proofs.md_base_Least.{least_below-none}
+use Rattle.layout.specs.md_base_the_Place.{Place}
 use Rattle.layout.specs.Layout.{place}
-use Rattle.superblocks.proofs.Searches.{least_below-first}
-use Rattle.row_io.specs.Rows.{reading_of, is_missing}
+use Rattle.superblock_updates.proofs.superblocks_Searches.{least_below-first}
+use Rattle.views.specs.row_io_Rows.{reading_of, is_missing}
 use Rattle.safe_updates.specs.First.{is_lacking}
 use Rattle.safe_updates.proofs.refusing.first_lacking.Goals.{else-at-mended-via-then-at-mended+else-is_missing, else-at-mended-via-else-at-mended}
 use Rattle.safe_updates.proofs.refusing.first_lacking.Goals as goal

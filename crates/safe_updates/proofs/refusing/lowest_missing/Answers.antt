@@ -1,8 +1,8 @@
 use Rattle.std.proofs.Common.{◌≡◌, ◌&&◌, Bool, false, not, sym, ◌∙◌, ap, ap₂, arith, below_more}
-use Rattle.md_base.proofs.Least.{least_below-none}
+use Rattle.layout.proofs.md_base_Least.{least_below-none}
 use Rattle.layout.specs.Layout.{is_parity_only}
-use Rattle.superblocks.proofs.Searches.{least_below-first}
-use Rattle.row_io.specs.Rows.{reading_of, is_missing}
+use Rattle.superblock_updates.proofs.superblocks_Searches.{least_below-first}
+use Rattle.views.specs.row_io_Rows.{reading_of, is_missing}
 use Rattle.safe_updates.proofs.refusing.lowest_missing.Goals.{else-is_missing-via-then-is_missing+else-not-parity_only, else-is_missing-via-else-is_missing}
 use Rattle.safe_updates.proofs.refusing.lowest_missing.Goals as goal
 

@@ -1,6 +1,6 @@
 use Rattle.std.proofs.Common.{◌≡◌, ◌<◌, ◌&&◌, ℕ, false, not}
 use Rattle.layout.specs.Layout.{is_parity_only}
-use Rattle.row_io.specs.Rows.{reading_of, is_missing}
+use Rattle.views.specs.row_io_Rows.{reading_of, is_missing}
 use Rattle.safe_updates.proofs.refusing.lowest_missing.Given as goal
 
 -- no role before this one is missing and has data

@@ -1,5 +1,5 @@
 use Rattle.std.proofs.Common.{◌+◌, ℕ, Option, option_map, sym, ◌∙◌, ap}
-use Rattle.md_base.specs.declared.answers.Refusal.TheVariants.{NotResynced}
+use Rattle.superblock_updates.specs.md_base_the_Refusal_TheVariants.{NotResynced}
 use Rattle.layout.specs.Layout.{place}
 use Rattle.safe_updates.specs.First.{first_lacking}
 use Rattle.safe_updates.proofs.RefusingLaws.{few-first, told-few, none-beyond}

@@ -1,5 +1,5 @@
 use Rattle.std.proofs.Common.{◌≡◌, false, take}
-use Rattle.superblocks.specs.Reads.{has_spare}
+use Rattle.superblock_updates.specs.superblocks_Reads.{has_spare}
 use Rattle.safe_updates.proofs.roles.is_spare.Given as goal
 
 -- it is none of those before this one

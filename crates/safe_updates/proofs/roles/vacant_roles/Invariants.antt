@@ -1,6 +1,6 @@
 use Rattle.std.proofs.Common.{◌≡◌, ℕ, ◌&&◌, nat_lt}
-use Rattle.md_base.specs.Shapes.{has_slot}
-use Rattle.row_io.specs.Rows.{reading_of}
+use Rattle.layout.specs.md_base_Shapes.{has_slot}
+use Rattle.views.specs.row_io_Rows.{reading_of}
 use Rattle.views.specs.Placed.{is_vacant}
 use Rattle.safe_updates.proofs.roles.vacant_roles.Given as goal
 

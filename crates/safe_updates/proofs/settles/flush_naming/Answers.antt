@@ -1,8 +1,8 @@
 use Rattle.std.proofs.Common.{refl, sym, ◌∙◌, ap, subst, arith, inl, inr, ⊎_elim, ◌≤◌, le_trans}
-use Rattle.bank.specs.Given.{Given}
-use Rattle.bank.specs.Tape.{Contents, disk}
-use Rattle.superblocks.specs.Reading.{is_clean}
-use Rattle.row_io.specs.Rows.{present, reading_of}
+use Rattle.superblock_updates.specs.bank_Given.{Given}
+use Rattle.superblock_updates.specs.bank_Tape.{Contents, disk}
+use Rattle.superblock_updates.specs.superblocks_Reading.{is_clean}
+use Rattle.views.specs.row_io_Rows.{present, reading_of}
 use Rattle.views.specs.Placed.{AreWhole, AreLost, IsPlaced}
 use Rattle.views.specs.shape_changes_Marking.{AreOthersPresent}
 use Rattle.views.specs.Rebuilding.{AreSparesFree}
@@ -10,7 +10,7 @@ use Rattle.views.proofs.Flushed.{contents-added}
 use Rattle.views.proofs.MovedLaws.{moved-lost, moved-then, lost-none, moved-from, grows-then}
 use Rattle.views.proofs.LackingLaws.{since-lost, since-then, in-second, holders-flushed, holders-fewer, holders-at}
 use Rattle.views.specs.flat_history_Sound.{OpensFit}
-use Rattle.superblocks.specs.declared.members.Members.{Members}
+use Rattle.superblock_updates.specs.superblocks_the_Members.{Members}
 use Rattle.views.specs.shape_changes_Steady.{IsNamedOver, IsUncleanTold}
 use Rattle.views.proofs.MarkedSafe.{lost-safe, added-longer}
 use Rattle.views.proofs.SafeStretch.{safe-then, over-at, keeps-from}

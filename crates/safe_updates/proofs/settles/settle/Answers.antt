@@ -1,8 +1,8 @@
 use Rattle.std.proofs.Common.{◌≡◌, inl, ◌||◌, Bool, true, false, refl, sym, ◌∙◌, ap, subst, ◌≤◌, le_trans}
 use Rattle.std.specs.Prelude.{Option, Some, None, MatchOption, is_some, ⊤}
-use Rattle.md_base.specs.declared.answers.Refusal.{Refusal}
-use Rattle.bank.specs.Given.{Given}
-use Rattle.bank.specs.Tape.{disk}
+use Rattle.superblock_updates.specs.md_base_the_Refusal.{Refusal}
+use Rattle.superblock_updates.specs.bank_Given.{Given}
+use Rattle.superblock_updates.specs.bank_Tape.{disk}
 use Rattle.views.specs.flat_history_Sound.{OpensFit}
 use Rattle.views.specs.shape_views_Regions.{DoWithout}
 use Rattle.views.specs.Lacking.{AreTooMany}
@@ -19,8 +19,8 @@ use Rattle.views.proofs.MarkedSafe.{settled-markable}
 use Rattle.views.proofs.shape_changes_Risen.{risen-then, room-first, room-then}
 use Rattle.views.proofs.SafeStretch.{gone-before, safe-then, allowed-later, grows-longer, over-at, keeps-from}
 use Rattle.safe_updates.proofs.SettledSafe.{settled-safe, clean-settled}
-use Rattle.superblocks.specs.declared.members.Members.{Members}
-use Rattle.row_io.specs.Rows.{reading_of, present}
+use Rattle.superblock_updates.specs.superblocks_the_Members.{Members}
+use Rattle.views.specs.row_io_Rows.{reading_of, present}
 use Rattle.views.proofs.MovedLaws.{moved-then, moved-from, grows-then}
 use Rattle.views.proofs.LackingLaws.{since-then, in-either, holders-fewer, holders-at}
 use Rattle.views.specs.Placed.{IsPlaced}

@@ -1,11 +1,11 @@
 use Rattle.std.proofs.Common.{◌≡◌, ℕ, ◌<◌, true, subst, arith}
 use Rattle.std.specs.Prelude.{MatchOption, None}
-use Rattle.md_base.specs.Shapes.{has_slot}
+use Rattle.layout.specs.md_base_Shapes.{has_slot}
 use Rattle.views.specs.shape_views_Regions.{DoWithout}
 use Rattle.views.specs.Lacking.{AreTooMany}
 use Rattle.views.proofs.LiveLeft.{some-held}
 use Rattle.views.proofs.MemberLaws.{some_slot}
-use Rattle.superblocks.proofs.ValidFields.{few-roles}
+use Rattle.superblock_updates.proofs.superblocks_ValidFields.{few-roles}
 use Rattle.safe_updates.proofs.settles.unmarked.Goals as goal
 
 pub returns-then-holders-eq0-clause-left : goal.returns-then-holders-eq0-clause-left

@@ -1,5 +1,5 @@
 use Rattle.std.proofs.Common.{rules, ◌<◌, List, length, ◌∙◌, ap}
-use Rattle.flat_history.specs.declared.events.Epoch.{Epoch}
+use Rattle.reopened_laws.specs.flat_history_the_Epoch.{Epoch}
 use Rattle.run_sessions.specs.run_laws_Histories.{history_of, histories_of}
 use Rattle.script_runs.specs.Runs.{mark_behind}
 use Rattle.script_runs.proofs.Marks.{kept_set, ended_more}

@@ -1,5 +1,5 @@
 use Rattle.std.proofs.Common.{◌≡◌, ℕ, ◌+◌, ◌-◌, ◌≤◌, [], ◌∷◌, ◌++◌, length, refl, sym, ap, ◌∙◌, subst, le_refl, arith}
-use Rattle.flat_history.specs.declared.events.Epoch.{Epoch}
+use Rattle.reopened_laws.specs.flat_history_the_Epoch.{Epoch}
 use Rattle.run_sessions.specs.superblocks_Reading.{list_length}
 use Rattle.run_sessions.specs.run_laws_Ended.{IsRunKept, AreFormer}
 use Rattle.run_sessions.specs.run_laws_States.{histories_in, bank_in, RunsOwn}
@@ -10,7 +10,7 @@ use Rattle.run_sessions.specs.run_laws_the_State.{State}
 use Rattle.run_sessions.specs.run_laws_the_State_TheVariants.{Running}
 use Rattle.run_sessions.proofs.run_laws_AskLaws.{asked_halt, halt_grew}
 use Rattle.script_runs.proofs.Ends.{ended_idle, ended_running}
-use Rattle.flat_history.specs.declared.events.Event.TheVariants.{Halted}
+use Rattle.reopened_laws.specs.flat_history_the_Event_TheVariants.{Halted}
 use Rattle.run_sessions.specs.run_laws_Histories.{histories_of}
 use Rattle.run_sessions.specs.run_laws_Written.{IsWritten}
 use Rattle.run_sessions.proofs.line_asks_Writing.{entered_end, written_idle, written_ended}

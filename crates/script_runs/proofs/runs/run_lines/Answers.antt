@@ -1,5 +1,5 @@
 use Rattle.std.proofs.Common.{sym, subst}
-use Rattle.bank.specs.Given.{Given, NeverFalls}
+use Rattle.reopened_laws.specs.bank_Given.{Given, NeverFalls}
 use Rattle.run_sessions.specs.run_laws_Ended.{AreLegal, AreRight}
 use Rattle.run_sessions.specs.views_Moving.{Grows}
 use Rattle.script_runs.specs.Kept.{AreKept}

@@ -1,6 +1,6 @@
 use Rattle.std.proofs.Common.{◌++◌, codes, decimal, ap, lit≤}
 use Rattle.uuid.specs.Text.{hyphenated_text, lower}
-use Rattle.superblocks.specs.Reading.{entry_of}
+use Rattle.script.specs.superblocks_Reading.{entry_of}
 use Rattle.status_text.specs.Texts.{entry_text}
 use Rattle.status_text.proofs.AppendedOn.{then, then_few, failed, failed_few, longer, retold, at_most}
 use Rattle.status_text.proofs.examine.push_owner.Goals as goal

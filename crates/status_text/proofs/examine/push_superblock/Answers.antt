@@ -1,5 +1,5 @@
 use Rattle.std.proofs.Common.{codes, ap, ◌∙◌}
-use Rattle.superblocks.specs.Reading.{is_clean}
+use Rattle.script.specs.superblocks_Reading.{is_clean}
 use Rattle.status_text.specs.Texts.{fields_text, clean_word}
 use Rattle.status_text.proofs.AppendedOn.{then, failed, longer, retold}
 use Rattle.status_text.proofs.examine.push_superblock.Goals as goal

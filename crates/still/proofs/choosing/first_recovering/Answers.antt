@@ -1,6 +1,6 @@
 use Rattle.std.proofs.Common.{sym, ◌∙◌, ap, arith}
-use Rattle.md_base.proofs.Least.{least_below-none}
-use Rattle.superblocks.specs.Reading.{shape_of, role_state}
+use Rattle.array_state.proofs.md_base_Least.{least_below-none}
+use Rattle.election.specs.superblocks_Reading.{shape_of, role_state}
 use Rattle.still.specs.row_io_Rows.{reading_of}
 use Rattle.still.specs.Rebuilding.{recovers}
 use Rattle.still.proofs.Lowest.{lowest-reached}

@@ -1,5 +1,5 @@
 use Rattle.std.proofs.Common.{◌≡◌, ◌<◌, ℕ, false}
-use Rattle.superblocks.specs.Reading.{role_state}
+use Rattle.election.specs.superblocks_Reading.{role_state}
 use Rattle.still.specs.row_io_Rows.{reading_of}
 use Rattle.still.specs.Rebuilding.{recovers}
 use Rattle.still.proofs.choosing.first_recovering.Given as goal

@@ -1,6 +1,6 @@
 use Rattle.std.proofs.Common.{sym, ◌∙◌, arith}
-use Rattle.md_base.proofs.Least.{least_below-none}
-use Rattle.superblocks.specs.Reads.{has_spare}
+use Rattle.array_state.proofs.md_base_Least.{least_below-none}
+use Rattle.election.specs.superblocks_Reads.{has_spare}
 use Rattle.still.proofs.Lowest.{lowest-reached}
 use Rattle.still.proofs.choosing.first_spare.Goals as goal
 

@@ -1,5 +1,5 @@
 use Rattle.std.proofs.Common.{◌≡◌, ◌<◌, ℕ, false}
-use Rattle.superblocks.specs.Reads.{has_spare}
+use Rattle.election.specs.superblocks_Reads.{has_spare}
 use Rattle.still.proofs.choosing.first_spare.Given as goal
 
 -- no lower one passes

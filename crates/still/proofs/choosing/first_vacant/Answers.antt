@@ -1,7 +1,7 @@
 use Rattle.std.proofs.Common.{not, is_some, sym, ◌∙◌, ap, arith}
-use Rattle.md_base.specs.declared.status.Role.{Role}
-use Rattle.md_base.proofs.Least.{least_below-none}
-use Rattle.superblocks.specs.Reading.{shape_of, holder}
+use Rattle.array_state.specs.md_base_the_Role.{Role}
+use Rattle.array_state.proofs.md_base_Least.{least_below-none}
+use Rattle.election.specs.superblocks_Reading.{shape_of, holder}
 use Rattle.still.specs.row_io_Rows.{reading_of}
 use Rattle.still.specs.views_Placed.{is_vacant}
 use Rattle.still.proofs.Lowest.{lowest-reached}

@@ -1,16 +1,16 @@
 use Rattle.std.proofs.Common.{◌≡◌, ℕ, List, [], ◌∷◌, ◌++◌, Option, Err, inl, refl, sym, ◌∙◌, ap, subst, arith, ◌⊎◌, true}
 use denote.Builtin.{unit}
-use Rattle.md_base.specs.declared.answers.Refusal.{Refusal}
-use Rattle.md_base.specs.declared.answers.Refusal.TheVariants.{SlotFault}
-use Rattle.md_base.specs.declared.answers.Fault.TheVariants.{Refused as IsRefusedWith}
-use Rattle.bank.specs.Given.{Given}
-use Rattle.superblocks.specs.declared.members.Members.{Members}
-use Rattle.superblocks.specs.Reading.{list_length, is_clean}
-use Rattle.flat_history.specs.declared.events.Entry.{Entry}
-use Rattle.flat_history.specs.declared.events.Event.TheVariants.{Refused}
-use Rattle.flat_history.specs.Flat.{next_number}
-use Rattle.flat_history.specs.Plain.{entries_of}
-use Rattle.views.proofs.MovedLaws.{grows-none}
+use Rattle.still.specs.md_base_the_Refusal.{Refusal}
+use Rattle.still.specs.md_base_the_Refusal_TheVariants.{SlotFault}
+use Rattle.still.specs.md_base_the_Fault_TheVariants.{Refused as IsRefusedWith}
+use Rattle.still.specs.bank_Given.{Given}
+use Rattle.still.specs.superblocks_the_Members.{Members}
+use Rattle.still.specs.superblocks_Reading.{list_length, is_clean}
+use Rattle.still.specs.flat_history_the_Entry.{Entry}
+use Rattle.still.specs.flat_history_the_Event_TheVariants.{Refused}
+use Rattle.still.specs.flat_history_Flat.{next_number}
+use Rattle.still.specs.flat_history_Plain.{entries_of}
+use Rattle.still.proofs.views_MovedLaws.{grows-none}
 use Rattle.still.specs.array_kept_Calls.{IsUnaddable, IsAddedFor, IsWorkAdded}
 use Rattle.still.proofs.array_kept_LossLaws.{ended-behind}
 use Rattle.still.proofs.array_kept_ReadyLaws.{scope-same}
@@ -22,9 +22,9 @@ use Rattle.still.proofs.still_laws_Kept.{ready, rows-same, roomier}
 use Rattle.still.proofs.still_laws_StepLaws.{shapes-same, stepped, refused-going}
 use Rattle.still.proofs.still_laws_AddLaws.{unaddable-refused}
 use Rattle.still.proofs.still_laws_PlainAdds.{unaddable-plain}
-use Rattle.superblocks.specs.Reads.{has_spare}
-use Rattle.views.specs.Numbers.{bears}
-use Rattle.views.specs.Placed.{AreWhole, AreStillHeld}
+use Rattle.still.specs.superblocks_Reads.{has_spare}
+use Rattle.still.specs.views_Numbers.{bears}
+use Rattle.still.specs.views_Placed.{AreWhole, AreStillHeld}
 use Rattle.still.proofs.calls_kept_AddedNumbers.{work-kept}
 use Rattle.still.proofs.Asked.{entries-alike, undone-stepped}
 use Rattle.still_calls.proofs.adding.add.Goals as goal

@@ -1,10 +1,10 @@
 use Rattle.std.proofs.Common.{◌<◌, length, subst, arith}
 use Rattle.std.specs.Prelude.{◌^◌}
-use Rattle.bank.specs.Given.{Given}
-use Rattle.superblocks.specs.declared.members.Members.{Members}
-use Rattle.views.specs.Lacking.{AreUnnamed}
-use Rattle.views.specs.Placed.{IsPlaced}
-use Rattle.views.proofs.Fit.{few}
+use Rattle.still.specs.bank_Given.{Given}
+use Rattle.still.specs.superblocks_the_Members.{Members}
+use Rattle.still.specs.views_Lacking.{AreUnnamed}
+use Rattle.still.specs.views_Placed.{IsPlaced}
+use Rattle.still.proofs.views_Fit.{few}
 use Rattle.still_calls.proofs.adding.is_held_up.Goals as goal
 
 few-roles : (given : Given) (m : Members) → IsPlaced given m → length m.roles < 2 ^ 32

@@ -1,26 +1,26 @@
 use Rattle.std.proofs.Common.{◌≡◌, inl, inr, ◌+◌, ◌<◌, ◌≤◌, ◌==◌, ℕ, true, false, List, [], ◌∷◌, ◌++◌, Some, refl, sym, ◌∙◌, ap, subst, arith, ◌⊎◌}
 use Rattle.std.specs.Prelude.{IfSome}
-use Rattle.md_base.specs.declared.answers.Refusal.{Refusal}
-use Rattle.md_base.specs.declared.answers.Refusal.TheVariants.{SlotFault}
-use Rattle.md_base.specs.declared.places.Shape.{Shape}
-use Rattle.md_base.specs.Shapes.{has_slot}
-use Rattle.bank.specs.Given.{Given}
-use Rattle.superblocks.specs.Reading.{list_length, is_clean}
-use Rattle.flat_history.specs.declared.events.Entry.{Entry}
-use Rattle.flat_history.specs.declared.events.Event.TheVariants.{Refused, Added}
-use Rattle.flat_history.specs.Flat.{next_number}
-use Rattle.flat_history.specs.Plain.{entries_of}
-use Rattle.views.specs.Lacking.{AreUnnamed}
-use Rattle.views.specs.Numbers.{bears, bearing, free_number}
-use Rattle.views.specs.Placed.{IsPlaced, AreStillHeld, AreWhole}
-use Rattle.views.specs.Rebuilding.{AreSparesFree, with_spare}
-use Rattle.views.proofs.BearerLaws.{bears-more}
-use Rattle.views.proofs.Flushed.{contents-added}
-use Rattle.views.proofs.LiveLeft.{without-left}
-use Rattle.views.proofs.MovedLaws.{grows-then}
-use Rattle.views.proofs.Still.{count-still}
-use Rattle.call_entries.specs.Losing.{losses_of}
-use Rattle.call_entries.proofs.CallLaws.{losses-are}
+use Rattle.still.specs.md_base_the_Refusal.{Refusal}
+use Rattle.still.specs.md_base_the_Refusal_TheVariants.{SlotFault}
+use Rattle.still.specs.md_base_the_Shape.{Shape}
+use Rattle.still.specs.md_base_Shapes.{has_slot}
+use Rattle.still.specs.bank_Given.{Given}
+use Rattle.still.specs.superblocks_Reading.{list_length, is_clean}
+use Rattle.still.specs.flat_history_the_Entry.{Entry}
+use Rattle.still.specs.flat_history_the_Event_TheVariants.{Refused, Added}
+use Rattle.still.specs.flat_history_Flat.{next_number}
+use Rattle.still.specs.flat_history_Plain.{entries_of}
+use Rattle.still.specs.views_Lacking.{AreUnnamed}
+use Rattle.still.specs.views_Numbers.{bears, bearing, free_number}
+use Rattle.still.specs.views_Placed.{IsPlaced, AreStillHeld, AreWhole}
+use Rattle.still.specs.views_Rebuilding.{AreSparesFree, with_spare}
+use Rattle.still.proofs.views_BearerLaws.{bears-more}
+use Rattle.still.proofs.views_Flushed.{contents-added}
+use Rattle.still.proofs.views_LiveLeft.{without-left}
+use Rattle.still.proofs.views_MovedLaws.{grows-then}
+use Rattle.still.proofs.views_Still.{count-still}
+use Rattle.still.specs.call_entries_Losing.{losses_of}
+use Rattle.still.proofs.call_entries_CallLaws.{losses-are}
 use Rattle.still.specs.array_kept_Kept.{scope_in}
 use Rattle.still.specs.array_kept_Calls.{IsFirstOffset, IsUnaddable, IsWorkAdded}
 use Rattle.still.proofs.array_kept_LossLaws.{losses-behind, ended-behind}
@@ -40,11 +40,11 @@ use Rattle.still.proofs.still_laws_AddLaws as law
 use Rattle.still.proofs.kept_history_Records.{begins-going}
 use Rattle.still.proofs.still_laws_PlainBehind.{refused-plain}
 use Rattle.still.proofs.still_laws_PlainAdds.{added-plain, unadded-plain}
-use Rattle.superblocks.specs.Reads.{has_spare}
-use Rattle.views.proofs.Fit.{valid}
+use Rattle.still.specs.superblocks_Reads.{has_spare}
+use Rattle.still.proofs.views_Fit.{valid}
 use Rattle.still.proofs.Rested.{entries-same, idle-stepped, room-1, room-49, shape-few, shape-known}
 use Rattle.still.specs.shape_changes_Marking.{AreOthersPresent}
-use Rattle.row_io.specs.Rows.{present}
+use Rattle.still.specs.row_io_Rows.{present}
 use Rattle.still_calls.proofs.adding.make_spare.Goals as goal
 
 pub look_at-requires-clause-slot : goal.look_at-requires-clause-slot

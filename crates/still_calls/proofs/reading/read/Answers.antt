@@ -3,32 +3,32 @@ use Rattle.std.specs.Prelude.{IsTrue}
 use Rattle.std.proofs.Math.Nat.{le_trans}
 use Rattle.std.proofs.lemmas.List.{take-append-le}
 use Rattle.std.specs.Vec.{with_items}
-use Rattle.md_base.specs.Sectors.{Sector, sectors_of, IsWhole}
-use Rattle.md_base.specs.Shapes.{data_disks, is_multiple}
-use Rattle.md_base.proofs.SectorLaws.{length-sectors_of}
-use Rattle.md_base.specs.declared.places.Shape.{Shape}
+use Rattle.still.specs.md_base_Sectors.{Sector, sectors_of, IsWhole}
+use Rattle.still.specs.md_base_Shapes.{data_disks, is_multiple}
+use Rattle.still.proofs.md_base_SectorLaws.{length-sectors_of}
+use Rattle.still.specs.md_base_the_Shape.{Shape}
 use Rattle.still.proofs.layout_Limits.{limited}
-use Rattle.superblocks.specs.Reading.{shape_of, list_length, is_clean}
-use Rattle.flat_history.specs.declared.events.Entry.{Entry}
-use Rattle.flat_history.specs.declared.events.Event.TheVariants.{Read, Refused}
-use Rattle.flat_history.specs.declared.events.Request.TheVariants.{Read as AsksRead}
-use Rattle.flat_history.specs.World.{opening_list}
-use Rattle.flat_history.specs.Flat.{next_number, now}
-use Rattle.flat_history.specs.Plain.{entries_of}
+use Rattle.still.specs.superblocks_Reading.{shape_of, list_length, is_clean}
+use Rattle.still.specs.flat_history_the_Entry.{Entry}
+use Rattle.still.specs.flat_history_the_Event_TheVariants.{Read, Refused}
+use Rattle.still.specs.flat_history_the_Request_TheVariants.{Read as AsksRead}
+use Rattle.still.specs.flat_history_World.{opening_list}
+use Rattle.still.specs.flat_history_Flat.{next_number, now}
+use Rattle.still.specs.flat_history_Plain.{entries_of}
 use Rattle.still.proofs.shape_views_Stands.{list-still}
-use Rattle.views.specs.Lacking.{IsUnread, mended_rows, HaveRolesFailed}
-use Rattle.views.specs.Placed.{places_of, AreWhole}
-use Rattle.views.specs.Rows.{row_sector}
-use Rattle.views.specs.Whole.{list_size}
-use Rattle.views.proofs.Fit.{valid, short, multiple}
-use Rattle.views.proofs.LackingLaws.{lost-since, shape-without}
-use Rattle.views.proofs.LackingLists.{row-sector}
-use Rattle.views.proofs.MemberLaws.{list-few}
-use Rattle.views.proofs.MovedLaws.{grows-none, moved-same}
-use Rattle.views.proofs.Still.{count-still, without-still}
+use Rattle.still.specs.views_Lacking.{IsUnread, mended_rows, HaveRolesFailed}
+use Rattle.still.specs.views_Placed.{places_of, AreWhole}
+use Rattle.still.specs.views_Rows.{row_sector}
+use Rattle.still.specs.views_Whole.{list_size}
+use Rattle.still.proofs.views_Fit.{valid, short, multiple}
+use Rattle.still.proofs.views_LackingLaws.{lost-since, shape-without}
+use Rattle.still.proofs.views_LackingLists.{row-sector}
+use Rattle.still.proofs.views_MemberLaws.{list-few}
+use Rattle.still.proofs.views_MovedLaws.{grows-none, moved-same}
+use Rattle.still.proofs.views_Still.{count-still, without-still}
 use Rattle.still.specs.safe_updates_First.{read_refusal}
-use Rattle.call_entries.specs.Losing.{losses_of}
-use Rattle.call_entries.proofs.CallLaws.{losses-are, torn-losses}
+use Rattle.still.specs.call_entries_Losing.{losses_of}
+use Rattle.still.proofs.call_entries_CallLaws.{losses-are, torn-losses}
 use Rattle.still.specs.array_kept_Kept.{scope_in}
 use Rattle.still.proofs.array_kept_LossLaws.{losses-behind, ended-behind}
 use Rattle.still.proofs.array_kept_ReadyLaws.{scope-same}
@@ -41,7 +41,7 @@ use Rattle.still.proofs.still_kept_Leaving.{rest-moved}
 use Rattle.still.proofs.still_kept_Reading.{read-stands}
 use Rattle.still.proofs.still_kept_Staying.{IsNamedStill, refused-stands}
 use Rattle.still.proofs.still_kept_Stood.{mended-moved}
-use Rattle.views.proofs.LiveLeft.{without-left}
+use Rattle.still.proofs.views_LiveLeft.{without-left}
 use Rattle.still.specs.running_words_Calls.{moving_world}
 use Rattle.still.proofs.running_words_Called.{not_254, called, alone-lossless, risen-told}
 use Rattle.still.specs.running_words_Parts.{visible_size, still_left}
@@ -54,7 +54,7 @@ use Rattle.still.proofs.still_laws_PlainBehind.{unread-plain, plain-refused, pla
 use Rattle.still.proofs.still_laws_Left.{left-alike}
 use Rattle.still.proofs.still_laws_Reading.{seen, unread-still, refused-first, fetched-holds, read-holds}
 use Rattle.still.proofs.Asked.{known-at, known-behind, room-49, room-1, whole-alike, scratch-fits, entries-alike, undone-called}
-use Rattle.row_io.specs.Rows.{present}
+use Rattle.still.specs.row_io_Rows.{present}
 use Rattle.still.specs.shape_changes_Marking.{AreOthersPresent}
 use Rattle.still_calls.proofs.reading.read.Goals as goal
 

@@ -1,8 +1,8 @@
 use Rattle.std.proofs.Common.{◌≤◌, ◌+◌, ◌*◌, ℕ, refl, sym, ◌∙◌, ap₂, subst, arith}
-use Rattle.md_base.specs.declared.places.Shape.{Shape}
-use Rattle.md_base.specs.Shapes.{data_disks}
-use Rattle.superblocks.specs.Reading.{shape_of}
-use Rattle.views.specs.Lacking.{mended_rows}
+use Rattle.still.specs.md_base_the_Shape.{Shape}
+use Rattle.still.specs.md_base_Shapes.{data_disks}
+use Rattle.still.specs.superblocks_Reading.{shape_of}
+use Rattle.still.specs.views_Lacking.{mended_rows}
 use Rattle.still.specs.safe_updates_First.{read_refusal}
 use Rattle.still.proofs.array_state_FirstLaws.{short-list, past-is, within-is, read-judged}
 use Rattle.still.specs.running_words_Parts.{visible_size}

@@ -1,7 +1,7 @@
 use Rattle.std.proofs.Common.{◌≤◌, ◌+◌, Bool, refl, ◌∙◌, ap, ap₂, arith}
-use Rattle.md_base.specs.declared.places.Shape.{Shape}
-use Rattle.superblocks.specs.Reading.{shape_of}
-use Rattle.views.specs.Lacking.{are_mended, mended_rows}
+use Rattle.still.specs.md_base_the_Shape.{Shape}
+use Rattle.still.specs.superblocks_Reading.{shape_of}
+use Rattle.still.specs.views_Lacking.{are_mended, mended_rows}
 use Rattle.still.specs.safe_updates_First.{write_refusal}
 use Rattle.still.proofs.array_state_FirstLaws.{past-is, within-is, write-judged}
 use Rattle.still.specs.running_words_Parts.{visible_size}

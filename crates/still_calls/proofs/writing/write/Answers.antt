@@ -1,26 +1,26 @@
 use Rattle.std.proofs.Math.Nat.{le_trans}
 use Rattle.std.proofs.Common.{inl, ◌≡◌, ◌+◌, ◌*◌, ◌/◌, ◌≤◌, ◌++◌, ◌∷◌, [], ℕ, Bool, Some, List, length, refl, sym, ◌∙◌, ap, subst, arith}
-use Rattle.md_base.specs.Sectors.{Sector, sectors_of}
-use Rattle.md_base.specs.Shapes.{data_disks}
-use Rattle.md_base.proofs.SectorLaws.{length-sectors_of}
-use Rattle.md_base.specs.declared.places.Shape.{Shape}
-use Rattle.superblocks.specs.Reading.{shape_of, list_length}
-use Rattle.flat_history.specs.declared.events.Entry.{Entry}
-use Rattle.flat_history.specs.declared.events.Event.TheVariants.{Wrote, Refused}
-use Rattle.flat_history.specs.declared.events.Request.TheVariants.{Write as AsksWrite}
-use Rattle.flat_history.specs.Flat.{next_number}
-use Rattle.flat_history.specs.Plain.{entries_of}
+use Rattle.still.specs.md_base_Sectors.{Sector, sectors_of}
+use Rattle.still.specs.md_base_Shapes.{data_disks}
+use Rattle.still.proofs.md_base_SectorLaws.{length-sectors_of}
+use Rattle.still.specs.md_base_the_Shape.{Shape}
+use Rattle.still.specs.superblocks_Reading.{shape_of, list_length}
+use Rattle.still.specs.flat_history_the_Entry.{Entry}
+use Rattle.still.specs.flat_history_the_Event_TheVariants.{Wrote, Refused}
+use Rattle.still.specs.flat_history_the_Request_TheVariants.{Write as AsksWrite}
+use Rattle.still.specs.flat_history_Flat.{next_number}
+use Rattle.still.specs.flat_history_Plain.{entries_of}
 use Rattle.still.proofs.shape_views_Stands.{list-still}
-use Rattle.views.specs.Lacking.{IsUnwritten, LacksTooMany, AreBytes, are_mended, mended_rows, HaveRolesFailed}
-use Rattle.views.specs.Placed.{places_of, AreWhole}
-use Rattle.views.specs.Whole.{list_size}
-use Rattle.views.proofs.LackingLaws.{lost-since, shape-without}
-use Rattle.views.proofs.MemberLaws.{list-few}
-use Rattle.views.proofs.MovedLaws.{grows-none, moved-same}
-use Rattle.views.proofs.Still.{count-still, without-still}
+use Rattle.still.specs.views_Lacking.{IsUnwritten, LacksTooMany, AreBytes, are_mended, mended_rows, HaveRolesFailed}
+use Rattle.still.specs.views_Placed.{places_of, AreWhole}
+use Rattle.still.specs.views_Whole.{list_size}
+use Rattle.still.proofs.views_LackingLaws.{lost-since, shape-without}
+use Rattle.still.proofs.views_MemberLaws.{list-few}
+use Rattle.still.proofs.views_MovedLaws.{grows-none, moved-same}
+use Rattle.still.proofs.views_Still.{count-still, without-still}
 use Rattle.still.specs.safe_updates_First.{write_refusal, call_refusal}
-use Rattle.call_entries.specs.Losing.{losses_of, failure_events}
-use Rattle.call_entries.proofs.CallLaws.{losses-are, torn-losses}
+use Rattle.still.specs.call_entries_Losing.{losses_of, failure_events}
+use Rattle.still.proofs.call_entries_CallLaws.{losses-are, torn-losses}
 use Rattle.still.specs.array_kept_Calls.{IsRefusedFor}
 use Rattle.still.specs.array_kept_Kept.{scope_in}
 use Rattle.still.proofs.array_kept_LossLaws.{losses-behind, losses-failure, ended-behind, ended-failure, torn-told}
@@ -41,10 +41,10 @@ use Rattle.still.proofs.still_laws_PlainBehind.{unwritten-plain, put-plain, plai
 use Rattle.still.proofs.still_laws_Left.{left-alike}
 use Rattle.still.proofs.still_laws_Reading.{seen, unwritten-still, refused-first}
 use Rattle.still.proofs.still_laws_Writing.{put-still, written-still, failed-stands}
-use Rattle.views.proofs.Fit.{valid, multiple, short}
+use Rattle.still.proofs.views_Fit.{valid, multiple, short}
 use Rattle.still.proofs.Rested.{entries-same, idle-called, shape-few, shape-known, room-1, room-49, room-50}
 use Rattle.still.specs.shape_changes_Marking.{AreOthersPresent}
-use Rattle.row_io.specs.Rows.{present}
+use Rattle.still.specs.row_io_Rows.{present}
 use Rattle.still_calls.proofs.writing.write.Goals as goal
 
 -- ---- refused before any row is read

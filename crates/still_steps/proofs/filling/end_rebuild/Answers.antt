@@ -1,26 +1,26 @@
 use Rattle.std.proofs.Common.{◌≡◌, ℕ, ◌≤◌, ◌<◌, [], ◌∷◌, ◌++◌, List, None, length, inl, inr, refl, sym, ◌∙◌, ap, subst, arith, Option}
 use Rattle.std.proofs.lemmas.List.Elements.{All-nil, All-cons}
-use Rattle.md_base.specs.declared.places.Shape.{Shape}
-use Rattle.md_base.specs.declared.status.Role.TheVariants.{Whole, Recovering}
+use Rattle.still.specs.md_base_the_Shape.{Shape}
+use Rattle.still.specs.md_base_the_Role_TheVariants.{Whole, Recovering}
 use Rattle.still.proofs.layout_Limits.{limited}
-use Rattle.superblocks.specs.Reading.{shape_of, list_length, role_state, is_clean}
-use Rattle.row_io.specs.Rows.{reading_of}
-use Rattle.flat_history.specs.declared.events.Entry.{Entry}
-use Rattle.flat_history.specs.declared.events.Event.TheVariants.{Lost, Step, Rebuilt}
-use Rattle.flat_history.specs.declared.events.LostCause.TheVariants.{Fault}
-use Rattle.flat_history.specs.declared.events.StepKind.TheVariants.{RebuildEnded}
-use Rattle.flat_history.specs.Plain.{entries_of}
-use Rattle.flat_history.specs.Transfers.{last_end_from}
-use Rattle.views.specs.Lacking.{AreLostSince, AreTooMany, mended_rows}
-use Rattle.views.specs.Rebuilding.{Held, with_whole}
-use Rattle.views.specs.Status.{left_of, stripes_of}
-use Rattle.views.proofs.Fit.{valid, short}
-use Rattle.views.proofs.GivenMembers.{placed-given, spare-before}
-use Rattle.views.proofs.LackingLaws.{lost-since, never-both}
-use Rattle.views.proofs.Still.{count-still}
-use Rattle.call_entries.specs.Losing.{losses_of}
-use Rattle.call_entries.proofs.CallLaws.{losses-are}
-use Rattle.call_entries.proofs.PlainLaws.{one}
+use Rattle.still.specs.superblocks_Reading.{shape_of, list_length, role_state, is_clean}
+use Rattle.still.specs.row_io_Rows.{reading_of}
+use Rattle.still.specs.flat_history_the_Entry.{Entry}
+use Rattle.still.specs.flat_history_the_Event_TheVariants.{Lost, Step, Rebuilt}
+use Rattle.still.specs.flat_history_the_LostCause_TheVariants.{Fault}
+use Rattle.still.specs.flat_history_the_StepKind_TheVariants.{RebuildEnded}
+use Rattle.still.specs.flat_history_Plain.{entries_of}
+use Rattle.still.specs.flat_history_Transfers.{last_end_from}
+use Rattle.still.specs.views_Lacking.{AreLostSince, AreTooMany, mended_rows}
+use Rattle.still.specs.views_Rebuilding.{Held, with_whole}
+use Rattle.still.specs.views_Status.{left_of, stripes_of}
+use Rattle.still.proofs.views_Fit.{valid, short}
+use Rattle.still.proofs.views_GivenMembers.{placed-given, spare-before}
+use Rattle.still.proofs.views_LackingLaws.{lost-since, never-both}
+use Rattle.still.proofs.views_Still.{count-still}
+use Rattle.still.specs.call_entries_Losing.{losses_of}
+use Rattle.still.proofs.call_entries_CallLaws.{losses-are}
+use Rattle.still.proofs.call_entries_PlainLaws.{one}
 use Rattle.still.specs.array_kept_Kept.{scope_in}
 use Rattle.still.specs.array_kept_Calls.{IsLossBy, WasSpare, AreStripesRebuilt}
 use Rattle.still.proofs.array_kept_LossLaws.{losses-tail, ended-behind}

@@ -1,24 +1,24 @@
 use Rattle.std.proofs.Common.{◌≡◌, ℕ, ◌≤◌, ◌<◌, ◌+◌, [], ◌∷◌, ◌++◌, List, Option, None, length, inl, inr, refl, sym, ◌∙◌, ap, subst, arith}
 use Rattle.std.specs.Prelude.{IfSome}
 use Rattle.std.proofs.lemmas.List.Elements.{All-nil}
-use Rattle.md_base.specs.declared.places.Shape.{Shape}
+use Rattle.still.specs.md_base_the_Shape.{Shape}
 use Rattle.still.proofs.layout_Limits.{limited}
-use Rattle.superblocks.specs.Reading.{shape_of, is_clean, list_length}
-use Rattle.flat_history.specs.declared.events.Entry.{Entry}
-use Rattle.flat_history.specs.declared.events.Event.TheVariants.{Lost, Refused, Step}
-use Rattle.flat_history.specs.declared.events.LostCause.TheVariants.{Fault}
-use Rattle.flat_history.specs.declared.events.StepKind.TheVariants.{RebuildStripe}
-use Rattle.flat_history.specs.Plain.{entries_of}
-use Rattle.flat_history.specs.Transfers.{last_end_from}
-use Rattle.views.specs.declared.work.Work.{Work}
-use Rattle.views.specs.Lacking.{AreLostSince, AreTooMany, LacksTooMany}
-use Rattle.views.specs.Rebuilding.{Held}
-use Rattle.views.specs.Status.{rebuilt_of, left_of, stripes_of}
-use Rattle.views.proofs.Fit.{valid, short}
-use Rattle.views.proofs.LackingLaws.{lost-since, never-both}
-use Rattle.views.proofs.Still.{count-still}
-use Rattle.call_entries.specs.Losing.{losses_of}
-use Rattle.call_entries.proofs.CallLaws.{losses-are}
+use Rattle.still.specs.superblocks_Reading.{shape_of, is_clean, list_length}
+use Rattle.still.specs.flat_history_the_Entry.{Entry}
+use Rattle.still.specs.flat_history_the_Event_TheVariants.{Lost, Refused, Step}
+use Rattle.still.specs.flat_history_the_LostCause_TheVariants.{Fault}
+use Rattle.still.specs.flat_history_the_StepKind_TheVariants.{RebuildStripe}
+use Rattle.still.specs.flat_history_Plain.{entries_of}
+use Rattle.still.specs.flat_history_Transfers.{last_end_from}
+use Rattle.still.specs.views_the_Work.{Work}
+use Rattle.still.specs.views_Lacking.{AreLostSince, AreTooMany, LacksTooMany}
+use Rattle.still.specs.views_Rebuilding.{Held}
+use Rattle.still.specs.views_Status.{rebuilt_of, left_of, stripes_of}
+use Rattle.still.proofs.views_Fit.{valid, short}
+use Rattle.still.proofs.views_LackingLaws.{lost-since, never-both}
+use Rattle.still.proofs.views_Still.{count-still}
+use Rattle.still.specs.call_entries_Losing.{losses_of}
+use Rattle.still.proofs.call_entries_CallLaws.{losses-are}
 use Rattle.still.specs.array_kept_Kept.{scope_in}
 use Rattle.still.specs.array_kept_Calls.{IsLossBy, WasSpare, HasStripeUnbuilt, AreStepsFewer, with_rebuilt, AreSparesFewer, AreStepsKept}
 use Rattle.still.proofs.array_kept_LossLaws.{losses-tail, losses-behind, ended-behind}
@@ -39,7 +39,7 @@ use Rattle.still.proofs.still_laws_RebuildLaws.{alone, held-some, recovering-hel
 use Rattle.still.proofs.still_laws_PlainBehind.{lacks-here, plain-lost, plain-refused}
 use Rattle.still.proofs.still_laws_PlainSteps.{filled-plain}
 use Rattle.still.proofs.Asked.{known-at, known-behind, role-at, role-of-shape, role-behind, sound-behind, next-stripe, step-taken, room-for-step, room-for-losses, done-at-all, refused-at-all, step-entered, one-entered, room-after, room-after-losses}
-use Rattle.views.specs.Placed.{AreStillHeld}
+use Rattle.still.specs.views_Placed.{AreStillHeld}
 use Rattle.std.proofs.Math.Nat.{le_trans}
 use Rattle.still_steps.proofs.filling.fill_stripe.Goals as goal
 

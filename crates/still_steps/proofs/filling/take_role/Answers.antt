@@ -1,22 +1,22 @@
 use Rattle.std.proofs.Common.{◌≡◌, ◌≤◌, ◌<◌, true, [], ◌∷◌, ◌++◌, Some, inl, inr, refl, sym, ◌∙◌, ap, subst, arith}
-use Rattle.md_base.specs.declared.places.Shape.{Shape}
+use Rattle.still.specs.md_base_the_Shape.{Shape}
 use Rattle.still.proofs.layout_Limits.{limited}
-use Rattle.superblocks.specs.Reading.{shape_of, list_length, is_clean}
-use Rattle.superblocks.specs.Reads.{has_spare}
-use Rattle.row_io.specs.Rows.{reading_of}
-use Rattle.flat_history.specs.declared.events.Event.TheVariants.{Step}
-use Rattle.flat_history.specs.declared.events.StepKind.TheVariants.{RebuildTaken}
-use Rattle.flat_history.specs.Plain.{entries_of}
-use Rattle.views.specs.declared.work.Work.{Work}
-use Rattle.views.specs.Lacking.{AreLostSince, AreTooMany}
-use Rattle.views.specs.Placed.{is_vacant}
-use Rattle.views.specs.Rebuilding.{with_recovering}
-use Rattle.views.specs.Status.{left_of, stripes_of}
-use Rattle.views.proofs.Fit.{valid, short}
-use Rattle.views.proofs.GivenMembers.{placed-given, spare-before}
-use Rattle.views.proofs.LackingLaws.{lost-since, never-both}
-use Rattle.views.proofs.Still.{count-still}
-use Rattle.call_entries.specs.Losing.{losses_of}
+use Rattle.still.specs.superblocks_Reading.{shape_of, list_length, is_clean}
+use Rattle.still.specs.superblocks_Reads.{has_spare}
+use Rattle.still.specs.row_io_Rows.{reading_of}
+use Rattle.still.specs.flat_history_the_Event_TheVariants.{Step}
+use Rattle.still.specs.flat_history_the_StepKind_TheVariants.{RebuildTaken}
+use Rattle.still.specs.flat_history_Plain.{entries_of}
+use Rattle.still.specs.views_the_Work.{Work}
+use Rattle.still.specs.views_Lacking.{AreLostSince, AreTooMany}
+use Rattle.still.specs.views_Placed.{is_vacant}
+use Rattle.still.specs.views_Rebuilding.{with_recovering}
+use Rattle.still.specs.views_Status.{left_of, stripes_of}
+use Rattle.still.proofs.views_Fit.{valid, short}
+use Rattle.still.proofs.views_GivenMembers.{placed-given, spare-before}
+use Rattle.still.proofs.views_LackingLaws.{lost-since, never-both}
+use Rattle.still.proofs.views_Still.{count-still}
+use Rattle.still.specs.call_entries_Losing.{losses_of}
 use Rattle.still.specs.array_kept_Kept.{scope_in}
 use Rattle.still.specs.array_kept_Calls.{IsHeldOrGiven, WasSpare, AreStepsFewer, with_rebuilt}
 use Rattle.still.proofs.array_kept_LossLaws.{losses-before, ended-behind}

@@ -1,14 +1,14 @@
 use Rattle.std.proofs.Common.{◌≤◌, [], ◌∷◌, ◌++◌, false, None, inl, inr, refl, sym, ◌∙◌, ap, subst, arith}
-use Rattle.md_base.specs.declared.places.Shape.{Shape}
-use Rattle.superblocks.specs.Reading.{list_length}
-use Rattle.flat_history.specs.declared.events.Event.TheVariants.{Refused, Step}
-use Rattle.flat_history.specs.declared.events.StepKind.TheVariants.{ResyncEnded}
-use Rattle.flat_history.specs.Plain.{entries_of}
-use Rattle.views.specs.Lacking.{AreLostSince, AreTooMany, AreHoldersFlushed}
-use Rattle.views.specs.Status.{left_of}
-use Rattle.views.proofs.LackingLaws.{lost-since, never-both}
-use Rattle.views.proofs.Still.{count-still}
-use Rattle.call_entries.specs.Losing.{losses_of}
+use Rattle.still.specs.md_base_the_Shape.{Shape}
+use Rattle.still.specs.superblocks_Reading.{list_length}
+use Rattle.still.specs.flat_history_the_Event_TheVariants.{Refused, Step}
+use Rattle.still.specs.flat_history_the_StepKind_TheVariants.{ResyncEnded}
+use Rattle.still.specs.flat_history_Plain.{entries_of}
+use Rattle.still.specs.views_Lacking.{AreLostSince, AreTooMany, AreHoldersFlushed}
+use Rattle.still.specs.views_Status.{left_of}
+use Rattle.still.proofs.views_LackingLaws.{lost-since, never-both}
+use Rattle.still.proofs.views_Still.{count-still}
+use Rattle.still.specs.call_entries_Losing.{losses_of}
 use Rattle.still.specs.array_kept_Calls.{IsAllMended, AreSparesFewer}
 use Rattle.still.proofs.array_kept_LossLaws.{losses-behind, ended-behind}
 use Rattle.still.proofs.array_kept_ReadyLaws.{scope-same}
@@ -28,11 +28,11 @@ use Rattle.still.proofs.still_laws_MendLaws.{resync-done, resync-refused}
 use Rattle.still.proofs.array_kept_DegradedLaws.{too-many-here}
 use Rattle.still.proofs.still_laws_PlainBehind.{plain-refused}
 use Rattle.still.proofs.still_laws_PlainSteps.{resynced-plain}
-use Rattle.views.specs.declared.work.Work.{Work}
-use Rattle.views.proofs.Fit.{short}
+use Rattle.still.specs.views_the_Work.{Work}
+use Rattle.still.proofs.views_Fit.{short}
 use Rattle.still.proofs.Asked.{known-at, few-at, known-behind, sound-behind, step-taken, room-for-step, one-entered, step-behind, room-after}
-use Rattle.views.specs.Placed.{AreStillHeld}
-use Rattle.row_io.specs.Rows.{reading_of}
+use Rattle.still.specs.views_Placed.{AreStillHeld}
+use Rattle.still.specs.row_io_Rows.{reading_of}
 use Rattle.still_steps.proofs.mending.end_resync.Goals as goal
 
 -- ---- refused before anything is done

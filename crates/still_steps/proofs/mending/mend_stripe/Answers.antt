@@ -1,14 +1,14 @@
 use Rattle.std.proofs.Common.{◌≡◌, ◌≤◌, ◌<◌, ◌/◌, ◌+◌, [], ◌∷◌, ◌++◌, false, Some, inl, refl, sym, ◌∙◌, ap, subst, arith, Option, ℕ}
-use Rattle.md_base.specs.declared.places.Shape.{Shape}
-use Rattle.superblocks.specs.Reading.{list_length, shape_of}
-use Rattle.flat_history.specs.declared.events.Event.TheVariants.{Refused, Step}
-use Rattle.flat_history.specs.declared.events.StepKind.TheVariants.{ResyncStripe}
-use Rattle.flat_history.specs.Plain.{entries_of}
-use Rattle.views.specs.Lacking.{AreLostSince, IsUnwritten}
-use Rattle.views.specs.Status.{left_of}
-use Rattle.views.proofs.LackingLaws.{lost-since, does-without}
-use Rattle.views.proofs.Still.{count-still}
-use Rattle.call_entries.specs.Losing.{losses_of}
+use Rattle.still.specs.md_base_the_Shape.{Shape}
+use Rattle.still.specs.superblocks_Reading.{list_length, shape_of}
+use Rattle.still.specs.flat_history_the_Event_TheVariants.{Refused, Step}
+use Rattle.still.specs.flat_history_the_StepKind_TheVariants.{ResyncStripe}
+use Rattle.still.specs.flat_history_Plain.{entries_of}
+use Rattle.still.specs.views_Lacking.{AreLostSince, IsUnwritten}
+use Rattle.still.specs.views_Status.{left_of}
+use Rattle.still.proofs.views_LackingLaws.{lost-since, does-without}
+use Rattle.still.proofs.views_Still.{count-still}
+use Rattle.still.specs.call_entries_Losing.{losses_of}
 use Rattle.still.specs.safe_updates_First.{write_refusal}
 use Rattle.still.specs.array_kept_Calls.{HasStripeLeft, IsUnmendable, one_more, AreSparesFewer}
 use Rattle.still.proofs.array_kept_LossLaws.{losses-behind, ended-behind}
@@ -28,8 +28,8 @@ use Rattle.still.proofs.still_laws_StepLaws.{refused-of, shapes-moved, planned-s
 use Rattle.still.proofs.still_laws_MendLaws.{mend-done, mend-refused}
 use Rattle.still.proofs.still_laws_PlainBehind.{unmended-plain, plain-refused}
 use Rattle.still.proofs.still_laws_PlainSteps.{mended-plain}
-use Rattle.views.specs.Placed.{AreStillHeld}
-use Rattle.views.proofs.Fit.{valid, short}
+use Rattle.still.specs.views_Placed.{AreStillHeld}
+use Rattle.still.proofs.views_Fit.{valid, short}
 use Rattle.still.proofs.Rested.{one-less, pending-left, room-of-step, shape-few, shape-known, sound-moved, stripe-fits, stripe-more}
 use Rattle.still_steps.proofs.mending.mend_stripe.Goals as goal
 

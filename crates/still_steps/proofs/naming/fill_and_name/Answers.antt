@@ -1,20 +1,20 @@
 use Rattle.std.proofs.Common.{◌≡◌, inl, inr, ℕ, ◌<◌, ◌||◌, Bool, true, false, not, Some, None, Option, is_some, refl, sym, ◌∙◌, ap, subst, arith, ⊎_elim, ◌≤◌}
-use Rattle.bank.specs.Given.{Given}
-use Rattle.md_base.specs.declared.answers.Refusal.{Refusal}
-use Rattle.md_base.specs.declared.places.Shape.{Shape}
-use Rattle.md_base.specs.declared.status.Role.{Role}
-use Rattle.md_base.specs.declared.status.Role.TheVariants.{Recovering}
-use Rattle.superblocks.specs.declared.members.Members.{Members}
-use Rattle.superblocks.specs.Reading.{holder, role_state, shape_of}
-use Rattle.row_io.specs.Rows.{reading_of, present}
-use Rattle.flat_history.specs.Sound.{OpensFit}
+use Rattle.still.specs.bank_Given.{Given}
+use Rattle.still.specs.md_base_the_Refusal.{Refusal}
+use Rattle.still.specs.md_base_the_Shape.{Shape}
+use Rattle.still.specs.md_base_the_Role.{Role}
+use Rattle.still.specs.md_base_the_Role_TheVariants.{Recovering}
+use Rattle.still.specs.superblocks_the_Members.{Members}
+use Rattle.still.specs.superblocks_Reading.{holder, role_state, shape_of}
+use Rattle.still.specs.row_io_Rows.{reading_of, present}
+use Rattle.still.specs.flat_history_Sound.{OpensFit}
 use Rattle.still.specs.shape_changes_Marking.{AreOthersPresent}
 use Rattle.still.proofs.shape_changes_Risen.{risen-then, room-first, room-then}
-use Rattle.views.specs.Placed.{IsPlaced, is_vacant}
-use Rattle.views.specs.Rebuilding.{AreSparesFree}
-use Rattle.views.proofs.LackingLaws.{since-then, in-either}
-use Rattle.views.proofs.MovedLaws.{grows-then, moved-then, moved-from}
-use Rattle.views.proofs.SafeStretch.{gone-before, safe-then, grows-longer, over-at, keeps-from}
+use Rattle.still.specs.views_Placed.{IsPlaced, is_vacant}
+use Rattle.still.specs.views_Rebuilding.{AreSparesFree}
+use Rattle.still.proofs.views_LackingLaws.{since-then, in-either}
+use Rattle.still.proofs.views_MovedLaws.{grows-then, moved-then, moved-from}
+use Rattle.still.proofs.views_SafeStretch.{gone-before, safe-then, grows-longer, over-at, keeps-from}
 use Rattle.still.proofs.still_kept_Stood.{within-count}
 use Rattle.std.proofs.Math.Nat.{le_trans}
 use Rattle.still_steps.proofs.naming.fill_and_name.Goals as goal

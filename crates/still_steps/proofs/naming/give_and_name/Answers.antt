@@ -1,14 +1,14 @@
 use Rattle.std.proofs.Common.{Some, refl, sym, ◌∙◌, subst, ◌≤◌}
-use Rattle.bank.specs.Given.{Given}
-use Rattle.flat_history.specs.Sound.{OpensFit}
-use Rattle.row_io.specs.Rows.{present}
+use Rattle.still.specs.bank_Given.{Given}
+use Rattle.still.specs.flat_history_Sound.{OpensFit}
+use Rattle.still.specs.row_io_Rows.{present}
 use Rattle.still.specs.shape_changes_Marking.{AreOthersPresent}
 use Rattle.still.proofs.shape_changes_Risen.{risen-then, room-first, room-then}
-use Rattle.views.specs.Placed.{IsPlaced}
-use Rattle.views.specs.Rebuilding.{AreSparesFree, with_recovering}
-use Rattle.views.proofs.LackingLaws.{since-then, in-either}
-use Rattle.views.proofs.MovedLaws.{grows-then, moved-then, moved-from}
-use Rattle.views.proofs.SafeStretch.{gone-before, safe-then, grows-longer, over-at, keeps-from}
+use Rattle.still.specs.views_Placed.{IsPlaced}
+use Rattle.still.specs.views_Rebuilding.{AreSparesFree, with_recovering}
+use Rattle.still.proofs.views_LackingLaws.{since-then, in-either}
+use Rattle.still.proofs.views_MovedLaws.{grows-then, moved-then, moved-from}
+use Rattle.still.proofs.views_SafeStretch.{gone-before, safe-then, grows-longer, over-at, keeps-from}
 use Rattle.still.proofs.calls_kept_RebuildGiven.{receiver-spare, free-then}
 use Rattle.std.proofs.Math.Nat.{le_trans}
 use Rattle.still_steps.proofs.naming.give_and_name.Goals as goal

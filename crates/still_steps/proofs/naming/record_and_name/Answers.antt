@@ -1,24 +1,24 @@
 use Rattle.std.proofs.Common.{None, ◌≡◌, ℕ, ◌==◌, ◌&&◌, Bool, true, false, not, refl, sym, ◌∙◌, ap, subst, arith, ◌≤◌}
 use Rattle.std.proofs.lemmas.Bool.Decides.{nat_tests}
-use Rattle.md_base.specs.declared.status.Role.{Role}
-use Rattle.md_base.specs.declared.status.Role.TheVariants.{Whole}
-use Rattle.bank.specs.Given.{Given}
-use Rattle.flat_history.specs.Sound.{OpensFit}
-use Rattle.flat_history.specs.World.{World}
-use Rattle.superblocks.specs.declared.members.Members.{Members}
-use Rattle.superblocks.specs.Reading.{is_whole, holder, role_state}
-use Rattle.row_io.specs.Rows.{reading_of, present, is_missing}
+use Rattle.still.specs.md_base_the_Role.{Role}
+use Rattle.still.specs.md_base_the_Role_TheVariants.{Whole}
+use Rattle.still.specs.bank_Given.{Given}
+use Rattle.still.specs.flat_history_Sound.{OpensFit}
+use Rattle.still.specs.flat_history_World.{World}
+use Rattle.still.specs.superblocks_the_Members.{Members}
+use Rattle.still.specs.superblocks_Reading.{is_whole, holder, role_state}
+use Rattle.still.specs.row_io_Rows.{reading_of, present, is_missing}
 use Rattle.still.specs.shape_changes_Marking.{AreOthersPresent}
 use Rattle.still.specs.shape_changes_Safety.{HasRoomLeft}
 use Rattle.still.specs.shape_changes_Steady.{IsSafeOver, KeepsSafe, AreGoneTold, IsUncleanTold, given_back}
 use Rattle.still.specs.shape_views_Views.{Ledger}
-use Rattle.views.specs.Moving.{IsMoved}
+use Rattle.still.specs.views_Moving.{IsMoved}
 use Rattle.still.proofs.shape_changes_Risen.{risen-then, room-first, room-then}
-use Rattle.views.specs.Placed.{IsPlaced}
-use Rattle.views.specs.Rebuilding.{AreSparesFree, with_whole}
-use Rattle.views.proofs.LackingLaws.{since-then, in-either}
-use Rattle.views.proofs.MovedLaws.{grows-then, moved-then, moved-from}
-use Rattle.views.proofs.SafeStretch.{gone-before, safe-then, grows-longer, over-at, keeps-from}
+use Rattle.still.specs.views_Placed.{IsPlaced}
+use Rattle.still.specs.views_Rebuilding.{AreSparesFree, with_whole}
+use Rattle.still.proofs.views_LackingLaws.{since-then, in-either}
+use Rattle.still.proofs.views_MovedLaws.{grows-then, moved-then, moved-from}
+use Rattle.still.proofs.views_SafeStretch.{gone-before, safe-then, grows-longer, over-at, keeps-from}
 use Rattle.still.proofs.calls_kept_RebuildGiven.{receiver-recovering, free-then}
 use Rattle.still_steps.proofs.naming.record_and_name.Given.{Over}
 use Rattle.still_steps.proofs.naming.record_and_name.Goals.{After-name_missing-others}

@@ -1,5 +1,5 @@
 use Rattle.std.proofs.Common.{◌≡◌, inl, inr, ℕ, Option, Some, None, sym, ◌∙◌, ap, subst₂}
-use Rattle.superblocks.specs.declared.members.Members.{Members}
+use Rattle.still.specs.superblocks_the_Members.{Members}
 use Rattle.std.specs.Prelude.{unwrap_or}
 use Rattle.still.specs.flat_history_the_StepKind_TheVariants.{RebuildTaken, RebuildStripe, RebuildEnded}
 use Rattle.still.specs.running_words_Parts.{still_left}

@@ -1,8 +1,8 @@
 use Rattle.std.proofs.Common.{◌≡◌, ◌≤◌, [], ◌∷◌, None, inl, refl, sym, ap, subst, arith}
-use Rattle.flat_history.specs.declared.events.Event.TheVariants.{Refused}
-use Rattle.flat_history.specs.Plain.{entries_of}
-use Rattle.views.specs.Lacking.{AreTooMany}
-use Rattle.views.proofs.MovedLaws.{grows-none}
+use Rattle.still.specs.flat_history_the_Event_TheVariants.{Refused}
+use Rattle.still.specs.flat_history_Plain.{entries_of}
+use Rattle.still.specs.views_Lacking.{AreTooMany}
+use Rattle.still.proofs.views_MovedLaws.{grows-none}
 use Rattle.still.specs.array_kept_Calls.{IsUnmendable}
 use Rattle.still.proofs.array_kept_LossLaws.{ended-behind, behind-alone}
 use Rattle.still.proofs.array_kept_ReadyLaws.{scope-same}

@@ -1,6 +1,6 @@
 use Rattle.std.proofs.Common.{true, false, ◌∙◌, sym}
 use Rattle.still.specs.flat_history_the_StepKind_TheVariants.{ResyncStripe, ResyncEnded}
-use Rattle.superblocks.specs.Reading.{list_length}
+use Rattle.still.specs.superblocks_Reading.{list_length}
 use Rattle.still.specs.running_words_Parts.{still_left}
 use Rattle.still_steps.specs.Resyncing.{is_at_end}
 use Rattle.still_steps.proofs.ResyncLaws.{kept-settled, at_end-is, caused-as, ok-so}

@@ -1,5 +1,5 @@
 use Rattle.std.proofs.Common.{◌≡◌, inl, ℕ, Option, Some, None, is_some, Bool, false, sym, ◌∙◌, ap, refl}
-use Rattle.superblocks.specs.Reading.{is_clean, list_length}
+use Rattle.still.specs.superblocks_Reading.{is_clean, list_length}
 use Rattle.still.specs.views_Rebuilding.{Held}
 use Rattle.still.specs.running_words_Parts.{still_left}
 use Rattle.still_steps.specs.Resyncing.{is_at_end}

@@ -1,7 +1,7 @@
 use Rattle.std.proofs.Common.{◌≡◌, ◌∙◌, ap, subst, length, arith}
 use Rattle.std.proofs.lemmas.List.{length-take-le}
-use Rattle.sb1.specs.declared.sb.Sb.{Sb}
-use Rattle.sb1.specs.Superblock.{sb_of, checksum}
+use Rattle.superblocks.specs.sb1_the_Sb.{Sb}
+use Rattle.superblocks.specs.sb1_Superblock.{sb_of, checksum}
 use Rattle.superblock_updates.proofs.pass.put_planned.Goals as goal
 
 pub put_sector-requires-clause-size : goal.put_sector-requires-clause-size

@@ -1,9 +1,9 @@
 use Rattle.std.proofs.Common.{◌≡◌, ℕ, List, Option, ◌&&◌, not, length, sym, ◌∙◌, ap, subst, arith}
 use Rattle.std.specs.Prelude.{IfSome}
-use Rattle.md_base.specs.Search.{tabulate}
-use Rattle.md_base.specs.Shapes.{has_slot}
-use Rattle.md_base.proofs.Tabulated.{length-tabulate}
-use Rattle.sb1.specs.declared.sb.Sb.{Sb}
+use Rattle.superblocks.specs.md_base_Search.{tabulate}
+use Rattle.superblocks.specs.md_base_Shapes.{has_slot}
+use Rattle.bank.proofs.md_base_Tabulated.{length-tabulate}
+use Rattle.superblocks.specs.sb1_the_Sb.{Sb}
 use Rattle.bank.specs.Given.{Given}
 use Rattle.bank.specs.Tape.{EachMark, disk}
 use Rattle.superblocks.specs.declared.members.Members.{Members}

@@ -2,7 +2,7 @@ use Rattle.std.proofs.Common.{◌≡◌, ◌⊎◌, ◌<◌, ◌≤◌, ◌+◌,
 use Rattle.bank.specs.Given.{NeverFalls}
 use Rattle.bank.specs.Tape.{disk, EachMark}
 use Rattle.superblocks.specs.Rounds.{round_at, IsNamed, IsInNamingUpTo}
-use Rattle.md_base.specs.Shapes.{has_slot}
+use Rattle.superblocks.specs.md_base_Shapes.{has_slot}
 use Rattle.superblocks.specs.Updating.{IsUpdate, AreLosses, IsLater, IsRecorded, ArePlanned, AreNamed, IsSomeLeft}
 use Rattle.superblock_updates.proofs.Naming.{left_of}
 use Rattle.superblock_updates.proofs.writing.name_lost.Given as goal

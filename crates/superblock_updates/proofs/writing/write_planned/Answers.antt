@@ -1,6 +1,6 @@
 use Rattle.std.proofs.Common.{◌≡◌, ◌≢◌, inl, inr, ℕ, List, Option, [], ◌∷◌, true, false, refl, sym, ◌∙◌, ap, subst, ⊎_elim, arith}
-use Rattle.sb1.specs.declared.sb.Sb.{Sb}
-use Rattle.md_base.specs.Shapes.{has_slot}
+use Rattle.superblocks.specs.sb1_the_Sb.{Sb}
+use Rattle.superblocks.specs.md_base_Shapes.{has_slot}
 use Rattle.bank.specs.Given.{Given}
 use Rattle.bank.specs.Tape.{EachMark, disk}
 use Rattle.superblocks.specs.declared.members.Members.{Members}

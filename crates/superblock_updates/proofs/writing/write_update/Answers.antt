@@ -1,6 +1,6 @@
 use Rattle.std.proofs.Common.{◌≡◌, inl, inr, ℕ, ◌+◌, ◌-◌, ◌^◌, min, ⊎_elim, ◌≤◌, List, Option, replicate, true, false, refl, sym, ◌∙◌, ap, subst, le_refl, arith}
-use Rattle.sb1.specs.declared.sb.Sb.{Sb}
-use Rattle.md_base.specs.Shapes.{has_slot}
+use Rattle.superblocks.specs.sb1_the_Sb.{Sb}
+use Rattle.superblocks.specs.md_base_Shapes.{has_slot}
 use Rattle.bank.specs.Given.{Given}
 use Rattle.bank.specs.Tape.{EachMark, disk}
 use Rattle.superblocks.specs.declared.members.Members.{Members}
@@ -12,7 +12,7 @@ use Rattle.superblock_updates.proofs.writing.write_update.Goals.{After-name_lost
 use Rattle.superblock_updates.proofs.writing.write_update.Goals as goal
 use Rattle.superblocks.specs.Update.{with_roles}
 use Rattle.superblocks.specs.Writing.{plan_of}
-use Rattle.md_base.specs.Sectors.{Sector}
+use Rattle.bank.specs.md_base_Sectors.{Sector}
 use Rattle.bank.specs.declared.bank.Operation.{Operation}
 use Rattle.bank.proofs.Marks.{each_mark-map, each_mark-both, each_mark-then}
 use Rattle.superblocks.specs.declared.change.Give.{Give}

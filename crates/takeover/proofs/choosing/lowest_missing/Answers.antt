@@ -1,7 +1,7 @@
 use Rattle.std.proofs.Common.{sym, ◌∙◌, arith}
-use Rattle.superblocks.proofs.Searches.{least_below-first}
-use Rattle.superblocks.specs.Reading.{role_count}
-use Rattle.row_io.specs.Rows.{reading_of, is_missing}
+use Rattle.still_calls.proofs.superblocks_Searches.{least_below-first}
+use Rattle.still_calls.specs.superblocks_Reading.{role_count}
+use Rattle.still_calls.specs.row_io_Rows.{reading_of, is_missing}
 use Rattle.takeover.proofs.choosing.lowest_missing.Goals as goal
 
 pub returns-then-is_missing : goal.returns-then-is_missing

@@ -1,5 +1,5 @@
 use Rattle.std.proofs.Common.{◌≡◌, ◌<◌, ℕ, false}
-use Rattle.row_io.specs.Rows.{reading_of, is_missing}
+use Rattle.still_calls.specs.row_io_Rows.{reading_of, is_missing}
 use Rattle.takeover.proofs.choosing.lowest_missing.Given as goal
 
 -- each role before this one is whole

@@ -1,23 +1,23 @@
 use Rattle.std.proofs.Common.{◌≡◌, ℕ, ◌≤◌, ◌-◌, Option, List, ◌∷◌, ◌++◌, length, vec_capacity, refl, sym, ◌∙◌, ap, subst, arith}
 use Rattle.std.specs.Prelude.{IfSome}
-use Rattle.layout.proofs.Limits.{limited}
-use Rattle.grow_plan.specs.Plans.{AreSound}
-use Rattle.superblocks.specs.Reading.{shape_of}
-use Rattle.superblocks.proofs.ValidFields.{few-roles}
-use Rattle.flat_history.specs.declared.events.Entry.{Entry}
-use Rattle.flat_history.specs.declared.events.Event.TheVariants.{Step}
-use Rattle.flat_history.specs.declared.events.StepKind.TheVariants.{TakenOver}
-use Rattle.flat_history.specs.Plain.{entries_of}
-use Rattle.flat_history.specs.Transfers.{last_end_from}
-use Rattle.views.specs.declared.work.Work.{Work}
-use Rattle.views.specs.Status.{left_of, stripes_of}
-use Rattle.views.proofs.Fit.{fit-short}
-use Rattle.call_entries.specs.Losing.{losses_of}
-use Rattle.call_entries.proofs.PlainLaws.{last_end-call}
+use Rattle.takeover_updates.proofs.layout_Limits.{limited}
+use Rattle.still_calls.specs.grow_plan_Plans.{AreSound}
+use Rattle.still_calls.specs.superblocks_Reading.{shape_of}
+use Rattle.still_calls.proofs.superblocks_ValidFields.{few-roles}
+use Rattle.still_calls.specs.flat_history_the_Entry.{Entry}
+use Rattle.still_calls.specs.flat_history_the_Event_TheVariants.{Step}
+use Rattle.still_calls.specs.flat_history_the_StepKind_TheVariants.{TakenOver}
+use Rattle.still_calls.specs.flat_history_Plain.{entries_of}
+use Rattle.still_calls.specs.flat_history_Transfers.{last_end_from}
+use Rattle.still_calls.specs.views_the_Work.{Work}
+use Rattle.still_calls.specs.views_Status.{left_of, stripes_of}
+use Rattle.still_calls.proofs.views_Fit.{fit-short}
+use Rattle.takeover_kept.specs.call_entries_Losing.{losses_of}
+use Rattle.takeover_kept.proofs.call_entries_PlainLaws.{last_end-call}
 use Rattle.still_calls.specs.array_kept_Calls.{AreStepsFewer}
 use Rattle.still_calls.specs.array_kept_Kept.{scope_in}
 use Rattle.still_calls.proofs.array_kept_ReadyLaws.{scope-same}
-use Rattle.grow_asked.specs.Left.{phases_of}
+use Rattle.still_calls.specs.grow_asked_Left.{phases_of}
 use Rattle.still_calls.specs.kept_history_Recorded.{IsCallGoing}
 use Rattle.still_calls.specs.kept_history_Safe.{world_in}
 use Rattle.still_calls.specs.running_words_Calls.{moving_world}

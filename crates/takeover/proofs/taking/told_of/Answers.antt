@@ -1,7 +1,7 @@
 use Rattle.std.proofs.Common.{ap, arith}
-use Rattle.layout.proofs.Limits.{limited}
-use Rattle.md_base.specs.declared.places.Shape.{Shape}
-use Rattle.superblocks.specs.Reading.{shape_of}
+use Rattle.takeover_updates.proofs.layout_Limits.{limited}
+use Rattle.takeover_kept.specs.md_base_the_Shape.{Shape}
+use Rattle.still_calls.specs.superblocks_Reading.{shape_of}
 use Rattle.still_calls.proofs.still_laws_Left.{left-few}
 use Rattle.takeover.proofs.taking.told_of.Goals as goal
 

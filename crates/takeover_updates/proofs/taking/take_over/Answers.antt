@@ -1,18 +1,18 @@
 use Rattle.std.proofs.Common.{◌≡◌, ◌≤◌, ◌&&◌, inl, inr, ℕ, true, not, Bool, Some, refl, sym, ◌∙◌, ap, subst, arith}
 use Rattle.std.proofs.lemmas.Bool.{cases_lt}
-use Rattle.md_base.specs.Shapes.{has_slot}
-use Rattle.bank.specs.Given.{Given}
-use Rattle.bank.specs.Tape.{disk}
-use Rattle.layout.proofs.Limits.{limited}
-use Rattle.superblocks.specs.declared.change.Change.{Change}
-use Rattle.superblocks.specs.declared.members.Members.{Members}
-use Rattle.superblocks.specs.Reading.{role_count, holder}
-use Rattle.superblocks.specs.Reads.{SaysSame, has_spare}
-use Rattle.superblocks.specs.Update.{IsRoleGive, give_of}
-use Rattle.superblocks.specs.Updating.{AreLosses, planned_newest}
-use Rattle.superblocks.specs.Outcome.{with_added, live_set, AreLive, AreGivesOfLive}
-use Rattle.superblocks.proofs.SlotSets.{none_above}
-use Rattle.superblocks.proofs.ValidFields.{few-roles}
+use Rattle.reshape_ends.specs.md_base_Shapes.{has_slot}
+use Rattle.reshape_ends.specs.bank_Given.{Given}
+use Rattle.reshape_ends.specs.bank_Tape.{disk}
+use Rattle.reshape_ends.proofs.layout_Limits.{limited}
+use Rattle.reshape_ends.specs.superblocks_the_Change.{Change}
+use Rattle.reshape_ends.specs.superblocks_the_Members.{Members}
+use Rattle.reshape_ends.specs.superblocks_Reading.{role_count, holder}
+use Rattle.reshape_ends.specs.superblocks_Reads.{SaysSame, has_spare}
+use Rattle.reshape_ends.specs.superblocks_Update.{IsRoleGive, give_of}
+use Rattle.reshape_ends.specs.superblocks_Updating.{AreLosses, planned_newest}
+use Rattle.reshape_ends.specs.superblocks_Outcome.{with_added, live_set, AreLive, AreGivesOfLive}
+use Rattle.reshape_ends.proofs.superblocks_SlotSets.{none_above}
+use Rattle.reshape_ends.proofs.superblocks_ValidFields.{few-roles}
 use Rattle.reshape_ends.proofs.superblock_reads_SaidSlots.{spare-known}
 use Rattle.reshape_ends.specs.flat_history_Sound.{OpensFit}
 use Rattle.reshape_ends.specs.flat_history_World.{World}

@@ -1,33 +1,33 @@
 use Rattle.std.proofs.Common.{◌≡◌, inl, inr, ℕ, ◌+◌, ◌-◌, ◌*◌, ◌≤◌, ◌^◌, ◌==◌, Option, Some, None, List, [], ◌∷◌, ◌++◌, length, vec_capacity, refl, sym, ◌∙◌, ap, subst, arith}
 use Rattle.std.specs.Prelude.{IfSome}
-use Rattle.md_base.specs.declared.answers.Refusal.{Refusal}
-use Rattle.md_base.specs.declared.answers.Refusal.TheVariants.{BackupFault}
-use Rattle.md_base.specs.declared.wishes.Phase.TheVariants.{Reshape}
-use Rattle.bank.specs.Given.{IsFaulted}
-use Rattle.layout.proofs.Limits.{limited}
-use Rattle.geometry.specs.Geometry.{list_end}
-use Rattle.grow_plan.specs.Plans.{AreSound, phase_window}
-use Rattle.superblocks.specs.declared.members.Members.{Members}
-use Rattle.superblocks.specs.Reading.{shape_of, list_length}
-use Rattle.superblocks.proofs.ValidFields.{few-roles}
-use Rattle.flat_history.specs.declared.events.Entry.{Entry}
-use Rattle.flat_history.specs.declared.events.Event.TheVariants.{Step, Refused}
-use Rattle.flat_history.specs.declared.events.StepKind.TheVariants.{Begun}
-use Rattle.flat_history.specs.Plain.{entries_of}
-use Rattle.flat_history.specs.Transfers.{last_end_from}
+use Rattle.moving_steps.specs.md_base_the_Refusal.{Refusal}
+use Rattle.moving_steps.specs.md_base_the_Refusal_TheVariants.{BackupFault}
+use Rattle.moving_steps.specs.md_base_the_Phase_TheVariants.{Reshape}
+use Rattle.moving_steps.specs.bank_Given.{IsFaulted}
+use Rattle.moving_steps.proofs.layout_Limits.{limited}
+use Rattle.moving_steps.specs.geometry_Geometry.{list_end}
+use Rattle.moving_steps.specs.grow_plan_Plans.{AreSound, phase_window}
+use Rattle.moving_steps.specs.superblocks_the_Members.{Members}
+use Rattle.moving_steps.specs.superblocks_Reading.{shape_of, list_length}
+use Rattle.moving_steps.proofs.superblocks_ValidFields.{few-roles}
+use Rattle.moving_steps.specs.flat_history_the_Entry.{Entry}
+use Rattle.moving_steps.specs.flat_history_the_Event_TheVariants.{Step, Refused}
+use Rattle.moving_steps.specs.flat_history_the_StepKind_TheVariants.{Begun}
+use Rattle.moving_steps.specs.flat_history_Plain.{entries_of}
+use Rattle.moving_steps.specs.flat_history_Transfers.{last_end_from}
 use Rattle.moving_steps.specs.shape_changes_Safety.{IsRisen}
 use Rattle.moving_steps.specs.shape_changes_Steady.{KeepsSafe}
 use Rattle.moving_steps.specs.reshape_updates_Beginning.{goes_back}
 use Rattle.moving_steps.specs.reshape_ends_Begun.{begun_plan}
-use Rattle.views.specs.Status.{left_of}
-use Rattle.views.proofs.MovedLaws.{grows-none}
-use Rattle.call_entries.specs.Losing.{losses_of}
-use Rattle.call_entries.proofs.PlainLaws.{last_end-call}
+use Rattle.moving_steps.specs.views_Status.{left_of}
+use Rattle.moving_steps.proofs.views_MovedLaws.{grows-none}
+use Rattle.moving_steps.specs.call_entries_Losing.{losses_of}
+use Rattle.moving_steps.proofs.call_entries_PlainLaws.{last_end-call}
 use Rattle.moving_steps.specs.array_kept_Kept.{scope_in}
 use Rattle.moving_steps.proofs.array_kept_LossLaws.{ended-behind}
 use Rattle.moving_steps.proofs.array_kept_ReadyLaws.{scope-same}
-use Rattle.grow_asked.specs.declared.window.Window.TheVariants.{Closed}
-use Rattle.grow_asked.specs.Left.{phases_of, grow_left}
+use Rattle.moving_steps.specs.grow_asked_the_Window_TheVariants.{Closed}
+use Rattle.moving_steps.specs.grow_asked_Left.{phases_of, grow_left}
 use Rattle.moving_steps.specs.kept_history_Recorded.{IsCallGoing}
 use Rattle.moving_steps.specs.course_kept_Laws.{closed}
 use Rattle.moving_steps.specs.running_words_Parts.{left_in}

@@ -1,7 +1,7 @@
 use Rattle.std.proofs.Common.{List, ap}
 use Rattle.std.specs.Prelude.{IsErr}
-use Rattle.bank.specs.declared.bank.Operation.{Operation}
-use Rattle.row_io.specs.Rows.{present}
+use Rattle.moving_steps.specs.bank_the_Operation.{Operation}
+use Rattle.moving_steps.specs.row_io_Rows.{present}
 use Rattle.still_steps.proofs.still_laws_AddLaws.{ready-same}
 use Rattle.turning.proofs.GivenBack.{err-tape}
 use Rattle.turning.proofs.beginning.fail_backup.Goals as goal

@@ -1,6 +1,6 @@
 use Rattle.std.proofs.Common.{[], ◌∷◌, refl, arith}
-use Rattle.flat_history.specs.declared.events.Event.TheVariants.{Refused}
-use Rattle.flat_history.specs.Plain.{entries_of}
+use Rattle.moving_steps.specs.flat_history_the_Event_TheVariants.{Refused}
+use Rattle.moving_steps.specs.flat_history_Plain.{entries_of}
 use Rattle.moving_steps.specs.array_kept_Kept.{scope_in}
 use Rattle.moving_steps.proofs.array_kept_ReadyLaws.{scope-same}
 use Rattle.moving_steps.proofs.running_words_Lengths.{alone-keeps}

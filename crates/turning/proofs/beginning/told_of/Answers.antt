@@ -1,5 +1,5 @@
 use Rattle.std.proofs.Common.{arith}
-use Rattle.superblocks.proofs.ValidFields.{few-roles}
+use Rattle.moving_steps.proofs.superblocks_ValidFields.{few-roles}
 use Rattle.turning.proofs.beginning.told_of.Goals as goal
 
 pub overflow_cast-count : goal.overflow_cast-count

@@ -1,7 +1,7 @@
 use Rattle.std.proofs.Common.{ℕ, ◌&&◌, nat_lt, ◌∙◌, ap, arith}
-use Rattle.superblocks.proofs.ValidFields.{few-roles}
-use Rattle.row_io.specs.Rows.{reading_of}
-use Rattle.views.specs.Placed.{is_vacant}
+use Rattle.moving_steps.proofs.superblocks_ValidFields.{few-roles}
+use Rattle.moving_steps.specs.row_io_Rows.{reading_of}
+use Rattle.moving_steps.specs.views_Placed.{is_vacant}
 use Rattle.turning.proofs.ending.before_end.Goals as goal
 
 pub overflow_cast-count : goal.overflow_cast-count

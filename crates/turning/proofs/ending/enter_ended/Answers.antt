@@ -1,10 +1,10 @@
 use Rattle.std.proofs.Common.{List, [], ◌∷◌, ◌++◌, sym, ◌∙◌, ap, append_assoc}
-use Rattle.flat_history.specs.declared.events.Entry.{Entry}
-use Rattle.flat_history.specs.declared.events.Event.TheVariants.{Step}
-use Rattle.flat_history.specs.declared.events.StepKind.TheVariants.{Finished}
-use Rattle.flat_history.specs.Plain.{entries_of}
-use Rattle.call_entries.specs.Losing.{losses_of}
-use Rattle.call_entries.proofs.LosingLaws.{entries-both}
+use Rattle.moving_steps.specs.flat_history_the_Entry.{Entry}
+use Rattle.moving_steps.specs.flat_history_the_Event_TheVariants.{Step}
+use Rattle.moving_steps.specs.flat_history_the_StepKind_TheVariants.{Finished}
+use Rattle.moving_steps.specs.flat_history_Plain.{entries_of}
+use Rattle.moving_steps.specs.call_entries_Losing.{losses_of}
+use Rattle.moving_steps.proofs.call_entries_LosingLaws.{entries-both}
 use Rattle.turning.specs.Ended.{ended_length}
 use Rattle.turning.proofs.ending.enter_ended.Goals as goal
 

@@ -1,27 +1,27 @@
 use Rattle.std.proofs.Common.{◌≡◌, ℕ, ◌*◌, ◌≤◌, ◌&&◌, ◌||◌, nat_lt, not, Option, List, [], ◌∷◌, ◌++◌, refl, sym, ◌∙◌, ap, subst, arith}
 use Rattle.std.specs.Prelude.{MatchOption, IfSome}
 use Rattle.std.proofs.lemmas.Bool.{and_parts}
-use Rattle.md_base.specs.Shapes.{has_slot, data_disks}
-use Rattle.md_base.specs.declared.answers.Refusal.{Refusal}
-use Rattle.md_base.specs.declared.places.Shape.{Shape}
-use Rattle.grow_plan.specs.Plans.{AreSound}
-use Rattle.superblocks.specs.Reading.{shape_of, list_length, holder}
-use Rattle.superblocks.proofs.ValidFields.{few-roles}
-use Rattle.row_io.specs.Rows.{reading_of}
-use Rattle.flat_history.specs.declared.events.Event.{Event}
-use Rattle.flat_history.specs.declared.events.Event.TheVariants.{Step, Refused}
-use Rattle.flat_history.specs.declared.events.StepKind.TheVariants.{Finished}
-use Rattle.flat_history.specs.Plain.{entries_of}
-use Rattle.flat_history.specs.Transfers.{last_end_from}
+use Rattle.moving_steps.specs.md_base_Shapes.{has_slot, data_disks}
+use Rattle.moving_steps.specs.md_base_the_Refusal.{Refusal}
+use Rattle.moving_steps.specs.md_base_the_Shape.{Shape}
+use Rattle.moving_steps.specs.grow_plan_Plans.{AreSound}
+use Rattle.moving_steps.specs.superblocks_Reading.{shape_of, list_length, holder}
+use Rattle.moving_steps.proofs.superblocks_ValidFields.{few-roles}
+use Rattle.moving_steps.specs.row_io_Rows.{reading_of}
+use Rattle.moving_steps.specs.flat_history_the_Event.{Event}
+use Rattle.moving_steps.specs.flat_history_the_Event_TheVariants.{Step, Refused}
+use Rattle.moving_steps.specs.flat_history_the_StepKind_TheVariants.{Finished}
+use Rattle.moving_steps.specs.flat_history_Plain.{entries_of}
+use Rattle.moving_steps.specs.flat_history_Transfers.{last_end_from}
 use Rattle.moving_steps.specs.reshape_ends_Finished.{IsOver}
-use Rattle.views.specs.Lacking.{AreTooMany}
-use Rattle.views.specs.Numbers.{bears}
-use Rattle.views.specs.Placed.{is_vacant}
-use Rattle.views.specs.Status.{stripes_of}
-use Rattle.views.proofs.Fit.{count-alike, fit-short}
-use Rattle.views.proofs.LackingLaws.{lost-since, never-both}
-use Rattle.views.proofs.MovedLaws.{grows-none, moved-same}
-use Rattle.call_entries.specs.Losing.{losses_of}
+use Rattle.moving_steps.specs.views_Lacking.{AreTooMany}
+use Rattle.moving_steps.specs.views_Numbers.{bears}
+use Rattle.moving_steps.specs.views_Placed.{is_vacant}
+use Rattle.moving_steps.specs.views_Status.{stripes_of}
+use Rattle.moving_steps.proofs.views_Fit.{count-alike, fit-short}
+use Rattle.moving_steps.proofs.views_LackingLaws.{lost-since, never-both}
+use Rattle.moving_steps.proofs.views_MovedLaws.{grows-none, moved-same}
+use Rattle.moving_steps.specs.call_entries_Losing.{losses_of}
 use Rattle.moving_steps.specs.array_kept_Kept.{scope_in}
 use Rattle.moving_steps.proofs.array_kept_LossLaws.{losses-behind, ended-behind, behind-alone}
 use Rattle.moving_steps.proofs.array_kept_ReadyLaws.{scope-same}
@@ -30,7 +30,7 @@ use Rattle.moving_steps.specs.kept_history_Safe.{world_in}
 use Rattle.moving_steps.proofs.moving_kept_Refusals.{quiet-refusal, refused-right}
 use Rattle.moving_steps.proofs.moving_kept_Resting.{resting-moves}
 use Rattle.moving_steps.proofs.moving_kept_Steps.{missing-since}
-use Rattle.grow_asked.specs.Left.{phases_of}
+use Rattle.moving_steps.specs.grow_asked_Left.{phases_of}
 use Rattle.moving_ends.proofs.Ending.{ending-last}
 use Rattle.moving_steps.specs.moving_state_Due.{due_of}
 use Rattle.moving_steps.specs.moving_state_the_Due_TheVariants.{Finish}

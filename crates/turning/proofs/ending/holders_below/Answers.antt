@@ -1,5 +1,5 @@
 use Rattle.std.proofs.Common.{inl, inr, ap, sym, ◌∙◌}
-use Rattle.superblocks.specs.Reading.{holder}
+use Rattle.moving_steps.specs.superblocks_Reading.{holder}
 use Rattle.turning.proofs.ending.holders_below.Goals as goal
 
 pub with-set-requires : goal.with-set-requires

@@ -1,7 +1,7 @@
 use Rattle.std.proofs.Common.{◌≡◌, ◌<◌, ℕ, true, Some}
-use Rattle.md_base.specs.Shapes.{has_slot}
-use Rattle.superblocks.specs.Reading.{role_state, holder}
-use Rattle.row_io.specs.Rows.{reading_of}
+use Rattle.moving_steps.specs.md_base_Shapes.{has_slot}
+use Rattle.moving_steps.specs.superblocks_Reading.{role_state, holder}
+use Rattle.moving_steps.specs.row_io_Rows.{reading_of}
 use Rattle.turning.proofs.ending.holders_below.Given as goal
 
 -- those of the roles before this one are in the set, and no others

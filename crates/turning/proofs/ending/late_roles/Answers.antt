@@ -1,10 +1,10 @@
 use Rattle.std.proofs.Common.{◌≡◌, ◌≤◌, ◌&&◌, ◌||◌, Bool, true, false, nat_lt, not, inl, inr, refl, sym, ◌∙◌, ap, arith}
 use Rattle.std.proofs.lemmas.Bool.{cases_lt}
 use Rattle.std.proofs.lemmas.Bool.Decides.{nat_tests}
-use Rattle.md_base.specs.Shapes.{has_slot}
-use Rattle.row_io.specs.Rows.{reading_of}
-use Rattle.superblocks.proofs.SlotSets.{none_above}
-use Rattle.views.specs.Placed.{is_vacant}
+use Rattle.moving_steps.specs.md_base_Shapes.{has_slot}
+use Rattle.moving_steps.specs.row_io_Rows.{reading_of}
+use Rattle.moving_steps.proofs.superblocks_SlotSets.{none_above}
+use Rattle.moving_steps.specs.views_Placed.{is_vacant}
 use Rattle.turning.proofs.ending.late_roles.Goals as goal
 
 apart : (a b c : Bool) → ((a && not b) && not c) ≡ (a && not (b || c))

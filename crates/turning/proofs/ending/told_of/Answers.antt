@@ -1,7 +1,7 @@
 use Rattle.std.proofs.Common.{◌&&◌, Bool, not, inl, inr, sym, ◌∙◌, ap, arith}
 use Rattle.std.proofs.lemmas.Bool.{cases_lt}
-use Rattle.md_base.specs.Shapes.{has_slot}
-use Rattle.superblocks.proofs.SlotSets.{none_above}
+use Rattle.moving_steps.specs.md_base_Shapes.{has_slot}
+use Rattle.moving_steps.proofs.superblocks_SlotSets.{none_above}
 use Rattle.turning.proofs.ending.told_of.Goals as goal
 
 pub returns-clause-late_spares : goal.returns-clause-late_spares

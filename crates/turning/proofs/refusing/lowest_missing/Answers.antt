@@ -1,7 +1,7 @@
 use Rattle.std.proofs.Common.{sym, ◌∙◌, arith}
-use Rattle.superblocks.proofs.Searches.{least_below-first}
-use Rattle.superblocks.specs.Reading.{role_count}
-use Rattle.row_io.specs.Rows.{reading_of, is_missing}
+use Rattle.moving_steps.proofs.superblocks_Searches.{least_below-first}
+use Rattle.moving_steps.specs.superblocks_Reading.{role_count}
+use Rattle.moving_steps.specs.row_io_Rows.{reading_of, is_missing}
 use Rattle.turning.proofs.refusing.lowest_missing.Goals as goal
 
 pub returns-then-is_missing : goal.returns-then-is_missing

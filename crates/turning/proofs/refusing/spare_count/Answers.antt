@@ -1,6 +1,6 @@
 use Rattle.std.proofs.Common.{sym, arith}
-use Rattle.superblocks.specs.Reads.{has_spare}
-use Rattle.row_io.proofs.Tables.{count_below-none, count_below-le, count_step}
+use Rattle.moving_steps.specs.superblocks_Reads.{has_spare}
+use Rattle.moving_steps.proofs.row_io_Tables.{count_below-none, count_below-le, count_step}
 use Rattle.turning.proofs.refusing.spare_count.Goals.{then-is_spare, else-is_spare}
 use Rattle.turning.proofs.refusing.spare_count.Goals as goal
 

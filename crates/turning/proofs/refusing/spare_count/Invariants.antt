@@ -1,6 +1,6 @@
 use Rattle.std.proofs.Common.{◌≡◌}
-use Rattle.md_base.specs.Search.{count_below}
-use Rattle.superblocks.specs.Reads.{has_spare}
+use Rattle.moving_steps.specs.md_base_Search.{count_below}
+use Rattle.moving_steps.specs.superblocks_Reads.{has_spare}
 use Rattle.turning.proofs.refusing.spare_count.Given as goal
 
 -- those before this one are counted

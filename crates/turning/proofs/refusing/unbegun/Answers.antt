@@ -1,8 +1,8 @@
 use Rattle.std.proofs.Common.{◌≡◌, ◌-◌, inr, ◌∙◌, ap, arith}
-use Rattle.md_base.specs.declared.answers.Refusal.TheVariants.{NeedSpares}
-use Rattle.md_base.specs.declared.places.Shape.{Shape}
-use Rattle.superblocks.specs.Reading.{shape_of}
-use Rattle.views.specs.Status.{spare_count}
+use Rattle.moving_steps.specs.md_base_the_Refusal_TheVariants.{NeedSpares}
+use Rattle.moving_steps.specs.md_base_the_Shape.{Shape}
+use Rattle.moving_steps.specs.superblocks_Reading.{shape_of}
+use Rattle.moving_steps.specs.views_Status.{spare_count}
 use Rattle.turning.proofs.refusing.unbegun.Goals as goal
 
 pub returns-then-first-have : goal.returns-then-first-have

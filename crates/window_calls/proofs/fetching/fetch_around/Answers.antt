@@ -1,8 +1,8 @@
 use Rattle.std.proofs.Common.{◌≡◌, ◌≤◌, true, List, length, Option, Some, None, is_some, inl, inr, refl, sym, ◌∙◌, subst, arith}
-use Rattle.bank.specs.declared.bank.Operation.{Operation}
-use Rattle.bank.specs.Given.{Given}
-use Rattle.md_base.specs.declared.answers.Refusal.{Refusal}
-use Rattle.superblocks.specs.declared.members.Members.{Members}
+use Rattle.region_rows.specs.bank_the_Operation.{Operation}
+use Rattle.region_rows.specs.bank_Given.{Given}
+use Rattle.region_rows.specs.md_base_the_Refusal.{Refusal}
+use Rattle.region_rows.specs.superblocks_the_Members.{Members}
 use Rattle.window_steps.specs.row_io_Rows.{present}
 use Rattle.window_steps.specs.flat_history_Sound.{OpensFit}
 use Rattle.window_steps.specs.shape_changes_Steady.{IsUncleanTold}

@@ -1,7 +1,7 @@
 use Rattle.std.proofs.Common.{inl, inr, ◌+◌, ◌/◌, length, Option, sym, ap, subst, arith}
 use Rattle.std.specs.Prelude.{MatchOption, IfSome, ⊤}
-use Rattle.md_base.specs.declared.places.Shape.{Shape}
-use Rattle.md_base.specs.declared.places.Span.{Span}
+use Rattle.region_rows.specs.md_base_the_Shape.{Shape}
+use Rattle.region_rows.specs.md_base_the_Span.{Span}
 use Rattle.window_steps.specs.row_io_Rows.{present}
 use Rattle.window_steps.specs.flat_history_Stands.{covers}
 use Rattle.window_steps.specs.window_rows_Copies.{HasWindow, IsRoomFor}

@@ -1,5 +1,5 @@
 use Rattle.std.proofs.Common.{◌≡◌, ℕ, ◌+◌, ◌-◌, ◌<◌, List, ◌∙◌, ap, arith}
-use Rattle.parity.specs.Rows.{sector_of}
+use Rattle.region_rows.specs.parity_Rows.{sector_of}
 use Rattle.window_calls.proofs.Beside.{sector-taken}
 use Rattle.window_calls.proofs.fetching.fill_window.Goals as goal
 

@@ -1,11 +1,11 @@
 use Rattle.std.proofs.Common.{◌≡◌, ◌+◌, ◌-◌, ◌/◌, ℕ, refl, sym, ◌∙◌, ap, subst, arith, Option, Some, None}
 use Rattle.std.specs.Prelude.{MatchOption, ⊤, is_some, true}
-use Rattle.md_base.specs.declared.answers.Refusal.{Refusal}
-use Rattle.md_base.specs.Shapes.{stripe_sectors}
-use Rattle.bank.specs.Given.{Given}
-use Rattle.bank.specs.Tape.{disk}
-use Rattle.geometry.specs.Geometry.{ceiling}
-use Rattle.geometry.proofs.ClosedForms.{rounded_up}
+use Rattle.region_rows.specs.md_base_the_Refusal.{Refusal}
+use Rattle.region_rows.specs.md_base_Shapes.{stripe_sectors}
+use Rattle.region_rows.specs.bank_Given.{Given}
+use Rattle.region_rows.specs.bank_Tape.{disk}
+use Rattle.region_rows.specs.geometry_Geometry.{ceiling}
+use Rattle.region_rows.proofs.geometry_ClosedForms.{rounded_up}
 use Rattle.window_steps.specs.row_io_Rows.{present, reading_of}
 use Rattle.window_steps.specs.list_io_Full.{RowStands}
 use Rattle.window_steps.specs.flat_history_Sound.{OpensFit}

@@ -1,9 +1,9 @@
 use Rattle.std.proofs.Common.{◌≡◌, ◌+◌, ◌-◌, ◌≤◌, ℕ}
-use Rattle.bank.specs.Given.{NeverFalls}
-use Rattle.bank.specs.Tape.{disk}
-use Rattle.md_base.specs.Sectors.{Sector}
-use Rattle.geometry.specs.Geometry.{stripes}
-use Rattle.superblocks.specs.Reading.{is_clean}
+use Rattle.region_rows.specs.bank_Given.{NeverFalls}
+use Rattle.region_rows.specs.bank_Tape.{disk}
+use Rattle.region_rows.specs.md_base_Sectors.{Sector}
+use Rattle.region_rows.specs.geometry_Geometry.{stripes}
+use Rattle.region_rows.specs.superblocks_Reading.{is_clean}
 use Rattle.window_steps.specs.row_io_Rows.{present, reading_of}
 use Rattle.window_steps.specs.flat_history_World.{World}
 use Rattle.window_steps.specs.shape_views_Views.{Ledger}

@@ -1,15 +1,15 @@
 use Rattle.std.proofs.Common.{◌≡◌, ℕ, Option, Some, None, List, sym, ◌∙◌, ap, subst, arith}
 use Rattle.std.specs.Prelude.{MatchOption, ⊤, is_some, true}
-use Rattle.md_base.specs.Sectors.{Sector}
-use Rattle.md_base.specs.declared.answers.Refusal.{Refusal}
-use Rattle.md_base.specs.declared.places.Shape.{Shape}
-use Rattle.md_base.specs.declared.places.Span.{Span}
-use Rattle.bank.specs.Given.{Given}
-use Rattle.bank.specs.declared.bank.Operation.{Operation}
-use Rattle.bank.specs.Tape.{disk}
-use Rattle.geometry.specs.Geometry.{stripes}
-use Rattle.superblocks.specs.declared.members.Members.{Members}
-use Rattle.superblocks.specs.Reading.{final_shape, next_window}
+use Rattle.region_rows.specs.md_base_Sectors.{Sector}
+use Rattle.region_rows.specs.md_base_the_Refusal.{Refusal}
+use Rattle.region_rows.specs.md_base_the_Shape.{Shape}
+use Rattle.region_rows.specs.md_base_the_Span.{Span}
+use Rattle.region_rows.specs.bank_Given.{Given}
+use Rattle.region_rows.specs.bank_the_Operation.{Operation}
+use Rattle.region_rows.specs.bank_Tape.{disk}
+use Rattle.region_rows.specs.geometry_Geometry.{stripes}
+use Rattle.region_rows.specs.superblocks_the_Members.{Members}
+use Rattle.region_rows.specs.superblocks_Reading.{final_shape, next_window}
 use Rattle.window_steps.specs.row_io_Rows.{present, reading_of}
 use Rattle.window_steps.specs.flat_history_World.{World}
 use Rattle.window_steps.specs.flat_history_Sound.{OpensFit}

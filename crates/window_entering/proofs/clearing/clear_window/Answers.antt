@@ -1,11 +1,11 @@
 use Rattle.std.proofs.Common.{ℕ, List, length, sym, ◌∙◌, ap, subst}
-use Rattle.bank.specs.declared.bank.Operation.{Operation}
-use Rattle.bank.specs.Given.{Given}
-use Rattle.bank.specs.Tape.{EachMark, disk}
-use Rattle.bank.proofs.Marks.{each_mark-told}
+use Rattle.region_rows.specs.bank_the_Operation.{Operation}
+use Rattle.region_rows.specs.bank_Given.{Given}
+use Rattle.region_rows.specs.bank_Tape.{EachMark, disk}
+use Rattle.course_kept.proofs.bank_Marks.{each_mark-told}
 use Rattle.course_kept.proofs.row_io_RowBytes.{on_ok}
-use Rattle.backup.specs.Written.{cleared_header}
-use Rattle.backup.specs.Storing.{IsHeading, IsHeaded}
+use Rattle.course_kept.specs.backup_Written.{cleared_header}
+use Rattle.course_kept.specs.backup_Storing.{IsHeading, IsHeaded}
 use Rattle.course_kept.specs.flat_history_Sound.{OpensFit}
 use Rattle.course_kept.specs.shape_views_Views.{Disk}
 use Rattle.course_kept.proofs.shape_views_BackupLaws.{cleared-closed}

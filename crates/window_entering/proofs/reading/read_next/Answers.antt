@@ -1,5 +1,5 @@
 use Rattle.std.proofs.Common.{◌+◌, ◌/◌, None, length, ◌∙◌, arith}
-use Rattle.superblocks.proofs.ValidFields.{few-roles}
+use Rattle.course_kept.proofs.superblocks_ValidFields.{few-roles}
 use Rattle.course_kept.specs.row_io_Rows.{present}
 use Rattle.course_kept.proofs.shape_views_Stands.{span-order, window-inside}
 use Rattle.course_kept.specs.views_Placed.{AreWhole}

@@ -1,8 +1,8 @@
 use Rattle.std.proofs.Common.{ℕ, List, length, ◌∙◌, ap}
-use Rattle.bank.specs.Tape.{disk}
+use Rattle.region_rows.specs.bank_Tape.{disk}
 use Rattle.course_kept.proofs.row_io_RowBytes.{on_ok}
-use Rattle.backup.specs.Written.{header_of}
-use Rattle.backup.specs.Storing.{IsStoringOrNaming}
+use Rattle.course_kept.specs.backup_Written.{header_of}
+use Rattle.course_kept.specs.backup_Storing.{IsStoringOrNaming}
 use Rattle.course_kept.specs.flat_history_Sound.{OpensFit}
 use Rattle.course_kept.specs.shape_views_Views.{Disk}
 use Rattle.course_kept.proofs.shape_views_BackupLaws.{stored-closed}

@@ -1,13 +1,13 @@
 use Rattle.std.proofs.Common.{◌≡◌, ◌≢◌, ◌⊎◌, ℕ, ◌-◌, ◌*◌, ◌++◌, true, Option, Some, None, List, length, take, take_all, sym, ◌∙◌, subst, arith}
 use Rattle.std.specs.Prelude.{MatchOption}
 use Rattle.std.proofs.lemmas.List.{take-append-le}
-use Rattle.md_base.specs.declared.answers.Refusal.{Refusal}
-use Rattle.md_base.specs.declared.answers.Refusal.TheVariants.{BackupFault}
-use Rattle.bank.specs.declared.bank.Operation.{Operation}
-use Rattle.bank.specs.Given.{Given, IsFaulted}
-use Rattle.bank.specs.Tape.{disk}
-use Rattle.superblocks.specs.declared.members.Members.{Members}
-use Rattle.superblocks.specs.Reading.{next_window}
+use Rattle.region_rows.specs.md_base_the_Refusal.{Refusal}
+use Rattle.course_kept.specs.md_base_the_Refusal_TheVariants.{BackupFault}
+use Rattle.region_rows.specs.bank_the_Operation.{Operation}
+use Rattle.region_rows.specs.bank_Given.{Given, IsFaulted}
+use Rattle.region_rows.specs.bank_Tape.{disk}
+use Rattle.course_kept.specs.superblocks_the_Members.{Members}
+use Rattle.course_kept.specs.superblocks_Reading.{next_window}
 use Rattle.course_kept.specs.row_io_Rows.{present}
 use Rattle.course_kept.specs.flat_history_Sound.{OpensFit}
 use Rattle.course_kept.specs.shape_views_Regions.{DoWithout}
@@ -21,8 +21,8 @@ use Rattle.course_kept.proofs.views_LiveLeft.{without-left}
 use Rattle.course_kept.proofs.views_MovedLaws.{grows-then}
 use Rattle.course_kept.proofs.views_SafeStretch.{allowed-later, grows-longer, over-at, keeps-from, safe-then}
 use Rattle.course_kept.proofs.window_steps_CopyLaws.{window-alike}
-use Rattle.grow_asked.specs.declared.window.Window.{Window}
-use Rattle.grow_asked.specs.declared.window.Window.TheVariants.{Closed, Entered, Unsure}
+use Rattle.course_kept.specs.grow_asked_the_Window.{Window}
+use Rattle.course_kept.specs.grow_asked_the_Window_TheVariants.{Closed, Entered, Unsure}
 use Rattle.course_kept.specs.Course.{HasWindowIn, IsStored}
 use Rattle.window_entering.specs.Entering.{window_behind}
 use Rattle.window_entering.proofs.SectionLaws.{read-section}

@@ -1,5 +1,5 @@
 use Rattle.std.proofs.Common.{Bool, sym, subst}
-use Rattle.bank.specs.Tape.{disk}
+use Rattle.region_rows.specs.bank_Tape.{disk}
 use Rattle.course_kept.specs.flat_history_Sound.{OpensFit}
 use Rattle.course_kept.proofs.views_MarkedLaws.{grows-marks}
 use Rattle.course_kept.proofs.views_SafeStretch.{safe-none}

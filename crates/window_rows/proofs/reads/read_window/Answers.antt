@@ -1,13 +1,13 @@
 use Rattle.std.proofs.Common.{◌≡◌, ◌+◌, ◌-◌, ◌*◌, ◌/◌, ◌≤◌, ℕ, length, min, sym, subst, arith}
 use Rattle.std.proofs.Math.Nat.{mul-le-mul_right}
-use Rattle.md_base.specs.declared.places.Shape.{Shape}
-use Rattle.md_base.specs.Shapes.{data_disks}
+use Rattle.layout.specs.md_base_the_Shape.{Shape}
+use Rattle.layout.specs.md_base_Shapes.{data_disks}
 use Rattle.layout.proofs.Limits.{limited}
-use Rattle.parity.specs.Rows.{sector_of}
-use Rattle.superblocks.specs.Reading.{shape_of, final_shape}
-use Rattle.row_io.specs.Rows.{present, reading_of}
-use Rattle.row_io.proofs.RowBytes.{on_ok}
-use Rattle.list_io.specs.Calls.{IsListed}
+use Rattle.reshape_ends.specs.parity_Rows.{sector_of}
+use Rattle.reshape_ends.specs.superblocks_Reading.{shape_of, final_shape}
+use Rattle.reshape_ends.specs.row_io_Rows.{present, reading_of}
+use Rattle.reshape_ends.proofs.row_io_RowBytes.{on_ok}
+use Rattle.reshape_ends.specs.list_io_Calls.{IsListed}
 use Rattle.window_rows.specs.Copies.{AreLackingGood}
 use Rattle.window_rows.proofs.ReadLaws.{the-window, window-read}
 use Rattle.window_rows.proofs.reads.read_window.Goals as goal

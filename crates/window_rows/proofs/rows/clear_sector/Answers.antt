@@ -1,6 +1,6 @@
 use Rattle.std.proofs.Common.{◌∙◌, arith}
-use Rattle.md_base.specs.Sectors.{zero_sector}
-use Rattle.row_io.proofs.RowBytes.{sector-put_here, sector-put_other}
+use Rattle.layout.specs.md_base_Sectors.{zero_sector}
+use Rattle.reshape_ends.proofs.row_io_RowBytes.{sector-put_here, sector-put_other}
 use Rattle.window_rows.proofs.rows.clear_sector.Goals as goal
 
 pub returns-clause-here : goal.returns-clause-here

@@ -1,5 +1,5 @@
 use Rattle.std.proofs.Common.{arith}
-use Rattle.row_io.proofs.RowBytes.{sector-put_other}
+use Rattle.reshape_ends.proofs.row_io_RowBytes.{sector-put_other}
 use Rattle.window_rows.proofs.rows.copy_sector.Goals as goal
 
 pub returns-clause-others : goal.returns-clause-others

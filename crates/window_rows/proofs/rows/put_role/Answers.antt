@@ -1,5 +1,5 @@
 use Rattle.std.proofs.Common.{◌∙◌}
-use Rattle.list_io.proofs.FullLaws.{sector_there}
+use Rattle.reshape_ends.proofs.list_io_FullLaws.{sector_there}
 use Rattle.window_rows.proofs.RowLaws.{copied_here, zero_here}
 use Rattle.window_rows.proofs.rows.put_role.Goals as goal
 

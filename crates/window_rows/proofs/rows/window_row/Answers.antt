@@ -1,9 +1,9 @@
 use Rattle.std.proofs.Common.{◌≡◌, ℕ, inl, inr, sym, ◌∙◌, ap, subst, arith}
 use Rattle.std.proofs.lemmas.Bool.{cases_eq}
 use Rattle.layout.specs.Layout.{row_roles}
-use Rattle.parity.specs.Rows.{sector_of}
-use Rattle.row_io.specs.Writes.{is_parity}
-use Rattle.list_io.specs.Full.{full_sector}
+use Rattle.reshape_ends.specs.parity_Rows.{sector_of}
+use Rattle.reshape_ends.specs.row_io_Writes.{is_parity}
+use Rattle.reshape_ends.specs.list_io_Full.{full_sector}
 use Rattle.window_rows.proofs.rows.window_row.Goals as goal
 
 pub loop-role-preserved : goal.loop-role-preserved

@@ -1,10 +1,10 @@
 use Rattle.std.proofs.Common.{◌≡◌, ◌*◌, ◌<◌, ℕ, false, length}
-use Rattle.md_base.specs.declared.places.Span.{Span}
-use Rattle.md_base.specs.Sectors.{Sector}
+use Rattle.layout.specs.md_base_the_Span.{Span}
+use Rattle.layout.specs.md_base_Sectors.{Sector}
 use Rattle.layout.specs.Layout.{row_roles}
-use Rattle.parity.specs.Rows.{sector_of}
-use Rattle.row_io.specs.Writes.{is_parity}
-use Rattle.list_io.specs.Full.{full_sector}
+use Rattle.reshape_ends.specs.parity_Rows.{sector_of}
+use Rattle.reshape_ends.specs.row_io_Writes.{is_parity}
+use Rattle.reshape_ends.specs.list_io_Full.{full_sector}
 use Rattle.window_rows.specs.Copies.{IsCopied, IsOwnRow}
 use Rattle.window_rows.proofs.rows.window_row.Given as goal
 

@@ -1,8 +1,8 @@
 use Rattle.std.proofs.Common.{◌≡◌, ◌+◌, ◌-◌, ℕ, sym, subst, arith}
-use Rattle.bank.specs.Tape.{disk}
-use Rattle.row_io.specs.Rows.{present, reading_of}
-use Rattle.row_io.proofs.Turns.{marks_last}
-use Rattle.list_io.specs.Writing.{IsFull}
+use Rattle.reshape_ends.specs.bank_Tape.{disk}
+use Rattle.reshape_ends.specs.row_io_Rows.{present, reading_of}
+use Rattle.reshape_ends.proofs.row_io_Turns.{marks_last}
+use Rattle.reshape_ends.specs.list_io_Writing.{IsFull}
 use Rattle.window_rows.specs.Copies.{IsChangedAt, IsOwnRow, IsRowsPlace}
 use Rattle.window_rows.specs.Runs.{reach}
 use Rattle.window_rows.proofs.RunLaws.{reach_within, runs_full, rows_kept}

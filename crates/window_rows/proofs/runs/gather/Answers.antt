@@ -1,7 +1,7 @@
 use Rattle.std.proofs.Common.{◌≡◌, ℕ, inl, inr, sym, ◌∙◌, subst, arith}
 use Rattle.std.proofs.lemmas.Bool.{cases_eq}
-use Rattle.parity.specs.Rows.{sector_of}
-use Rattle.list_io.specs.Buffers.{buffered}
+use Rattle.reshape_ends.specs.parity_Rows.{sector_of}
+use Rattle.reshape_ends.specs.list_io_Buffers.{buffered}
 use Rattle.window_rows.proofs.runs.gather.Goals as goal
 
 pub loop-i-preserved : goal.loop-i-preserved

@@ -1,6 +1,6 @@
 use Rattle.std.proofs.Common.{◌≡◌, ◌<◌, ℕ}
-use Rattle.parity.specs.Rows.{sector_of}
-use Rattle.list_io.specs.Buffers.{buffered}
+use Rattle.reshape_ends.specs.parity_Rows.{sector_of}
+use Rattle.reshape_ends.specs.list_io_Buffers.{buffered}
 use Rattle.window_rows.proofs.runs.gather.Given as goal
 
 abbrev pub invariant-loop-i : goal.invariant-loop-i

@@ -2,9 +2,9 @@ use Rattle.std.proofs.Common.{◌≡◌, ◌+◌, ◌-◌, ◌*◌, ◌≤◌, �
 use Rattle.std.proofs.lemmas.Bool.{cases_eq}
 use borrow.Rule.Slice.PartMut.{put_mid}
 use Rattle.layout.proofs.Limits.{limited}
-use Rattle.list_io.specs.Buffers.{buffered}
-use Rattle.list_io.specs.Full.{full_sector}
-use Rattle.list_io.proofs.PartBytes.{sector-part_here, sector-part_other}
+use Rattle.reshape_ends.specs.list_io_Buffers.{buffered}
+use Rattle.reshape_ends.specs.list_io_Full.{full_sector}
+use Rattle.reshape_ends.proofs.list_io_PartBytes.{sector-part_here, sector-part_other}
 use Rattle.window_rows.specs.Copies.{IsOwnRow}
 use Rattle.window_rows.proofs.runs.make_rows.Goals as goal
 

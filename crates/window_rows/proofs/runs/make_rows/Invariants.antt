@@ -1,8 +1,8 @@
 use Rattle.std.proofs.Common.{◌≡◌, ◌+◌, ◌<◌, ℕ}
-use Rattle.md_base.specs.declared.places.Span.{Span}
-use Rattle.md_base.specs.Sectors.{Sector}
-use Rattle.list_io.specs.Buffers.{buffered}
-use Rattle.list_io.specs.Full.{full_sector}
+use Rattle.layout.specs.md_base_the_Span.{Span}
+use Rattle.layout.specs.md_base_Sectors.{Sector}
+use Rattle.reshape_ends.specs.list_io_Buffers.{buffered}
+use Rattle.reshape_ends.specs.list_io_Full.{full_sector}
 use Rattle.window_rows.specs.Copies.{IsCopied, IsOwnRow}
 use Rattle.window_rows.proofs.runs.make_rows.Given as goal
 

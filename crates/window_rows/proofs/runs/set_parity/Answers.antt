@@ -1,7 +1,7 @@
 use Rattle.std.proofs.Common.{rules, ◌≡◌, ℕ, ◌<◌, get_or, ◌∙◌, ap, arith}
-use Rattle.md_base.specs.declared.places.RowRoles.{RowRoles}
-use Rattle.parity.specs.Rows.{IsRowRoles}
-use Rattle.row_io.proofs.NewRow.{new_row}
+use Rattle.layout.specs.md_base_the_RowRoles.{RowRoles}
+use Rattle.reshape_ends.specs.parity_Rows.{IsRowRoles}
+use Rattle.reshape_ends.proofs.row_io_NewRow.{new_row}
 use Rattle.window_rows.proofs.runs.set_parity.Goals as goal
 
 pub returns : goal.returns

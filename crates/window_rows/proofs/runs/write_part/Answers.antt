@@ -1,7 +1,7 @@
 use Rattle.std.proofs.Common.{◌≡◌, ◌*◌, ◌/◌, ℕ, length, ◌∙◌, subst, arith}
 use Rattle.std.proofs.lemmas.List.{length-take-le}
-use Rattle.bank.specs.Tape.{EachMark, disk}
-use Rattle.row_io.specs.Rows.{reading_of}
+use Rattle.reshape_ends.specs.bank_Tape.{EachMark, disk}
+use Rattle.reshape_ends.specs.row_io_Rows.{reading_of}
 use Rattle.window_rows.specs.Copies.{IsChangedAt}
 use Rattle.window_rows.specs.Runs.{IsRolePlace}
 use Rattle.window_rows.proofs.runs.write_part.Goals as goal

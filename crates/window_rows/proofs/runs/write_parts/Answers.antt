@@ -1,12 +1,12 @@
 use Rattle.std.proofs.Common.{◌≡◌, ◌+◌, ◌≤◌, ℕ, bit_or, inl, inr, refl, sym, ap, ◌∙◌, subst, arith}
 use Rattle.std.proofs.lemmas.Bool.{cases_eq}
-use Rattle.bank.specs.Tape.{disk}
+use Rattle.reshape_ends.specs.bank_Tape.{disk}
 use Rattle.layout.proofs.Limits.{limited}
-use Rattle.superblocks.specs.declared.members.Members.{Members}
-use Rattle.row_io.specs.Rows.{present, reading_of}
-use Rattle.row_io.proofs.Turns.{marks_last}
-use Rattle.list_io.specs.Buffers.{buffered}
-use Rattle.list_io.proofs.LossLaws.{none_lost, lost_then, rows_by}
+use Rattle.reshape_ends.specs.superblocks_the_Members.{Members}
+use Rattle.reshape_ends.specs.row_io_Rows.{present, reading_of}
+use Rattle.reshape_ends.proofs.row_io_Turns.{marks_last}
+use Rattle.reshape_ends.specs.list_io_Buffers.{buffered}
+use Rattle.reshape_ends.proofs.list_io_LossLaws.{none_lost, lost_then, rows_by}
 use Rattle.window_rows.specs.Copies.{IsChangedAt, IsRowsPlace}
 use Rattle.window_rows.specs.Runs.{reach, HasRun, IsRolePlace}
 use Rattle.window_rows.proofs.RunLaws.{marks_same, marks_then, role_rows, apart_by, run_kept, run_fewer, reach_within, reach_falls}

@@ -1,8 +1,8 @@
 use Rattle.std.proofs.Common.{◌≡◌, ◌+◌, ◌<◌, ℕ}
-use Rattle.bank.specs.Tape.{EachMark, disk}
-use Rattle.row_io.specs.Rows.{present, reading_of}
-use Rattle.list_io.specs.Buffers.{buffered}
-use Rattle.list_io.specs.Calls.{AreLost}
+use Rattle.reshape_ends.specs.bank_Tape.{EachMark, disk}
+use Rattle.reshape_ends.specs.row_io_Rows.{present, reading_of}
+use Rattle.reshape_ends.specs.list_io_Buffers.{buffered}
+use Rattle.reshape_ends.specs.list_io_Calls.{AreLost}
 use Rattle.window_rows.specs.Copies.{IsChangedAt, IsRowsPlace}
 use Rattle.window_rows.specs.Runs.{reach, HasRun}
 use Rattle.window_rows.proofs.runs.write_parts.Given as goal

@@ -1,8 +1,8 @@
 use Rattle.std.proofs.Common.{◌+◌, ◌/◌, ℕ, length, sym, ap, ◌∙◌, arith}
 use Rattle.std.specs.Prelude.{is_ok}
-use Rattle.parity.specs.Rows.{sector_of}
-use Rattle.row_io.specs.Rows.{present, reading_of}
-use Rattle.list_io.proofs.LossLaws.{none_lost}
+use Rattle.reshape_ends.specs.parity_Rows.{sector_of}
+use Rattle.reshape_ends.specs.row_io_Rows.{present, reading_of}
+use Rattle.reshape_ends.proofs.list_io_LossLaws.{none_lost}
 use Rattle.window_rows.specs.Runs.{IsRolePlace}
 use Rattle.window_rows.proofs.RunLaws.{run_marks, marks_same, role_place, run_written, run_none, run_lost}
 use Rattle.window_rows.proofs.runs.write_run.Goals as goal

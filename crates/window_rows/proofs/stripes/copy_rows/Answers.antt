@@ -1,10 +1,10 @@
 use Rattle.std.proofs.Common.{◌≡◌, inl, inr, ◌+◌, ◌≤◌, ℕ, sym, ap, ◌∙◌, subst, arith}
-use Rattle.superblocks.specs.declared.members.Members.{Members}
-use Rattle.row_io.specs.Rows.{present}
-use Rattle.row_io.proofs.Written.{members_without-none}
-use Rattle.list_io.specs.Calls.{AreLost}
-use Rattle.list_io.proofs.LossLaws.{none_lost, rows_by}
-use Rattle.list_io.proofs.PutLaws.{none_then}
+use Rattle.reshape_ends.specs.superblocks_the_Members.{Members}
+use Rattle.reshape_ends.specs.row_io_Rows.{present}
+use Rattle.reshape_ends.proofs.row_io_Written.{members_without-none}
+use Rattle.reshape_ends.specs.list_io_Calls.{AreLost}
+use Rattle.reshape_ends.proofs.list_io_LossLaws.{none_lost, rows_by}
+use Rattle.reshape_ends.proofs.list_io_PutLaws.{none_then}
 use Rattle.window_rows.specs.Runs.{reach}
 use Rattle.window_rows.proofs.RunLaws.{reach_one}
 use Rattle.window_rows.proofs.StripeLaws.{marks_more, full_more, kept_more}

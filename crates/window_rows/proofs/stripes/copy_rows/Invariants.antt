@@ -1,10 +1,10 @@
 use Rattle.std.proofs.Common.{◌≡◌, ◌⊎◌, ◌-◌, ◌<◌, ◌≤◌, ℕ}
-use Rattle.bank.specs.Given.{NeverFalls}
-use Rattle.bank.specs.Tape.{EachMark, disk}
-use Rattle.md_base.specs.declared.places.Span.{Span}
-use Rattle.md_base.specs.Sectors.{Sector}
-use Rattle.row_io.specs.Rows.{present, reading_of}
-use Rattle.list_io.specs.Writing.{IsFull, IsRowKept}
+use Rattle.reshape_ends.specs.bank_Given.{NeverFalls}
+use Rattle.reshape_ends.specs.bank_Tape.{EachMark, disk}
+use Rattle.layout.specs.md_base_the_Span.{Span}
+use Rattle.layout.specs.md_base_Sectors.{Sector}
+use Rattle.reshape_ends.specs.row_io_Rows.{present, reading_of}
+use Rattle.reshape_ends.specs.list_io_Writing.{IsFull, IsRowKept}
 use Rattle.window_rows.specs.Copies.{IsCopied, IsOwnRow, IsChangedAt, IsRowsPlace}
 use Rattle.window_rows.proofs.stripes.copy_rows.Given as goal
 

@@ -1,9 +1,9 @@
 use Rattle.std.proofs.Common.{◌+◌, ◌*◌, ◌<◌, ℕ, get_or, arith}
-use Rattle.bank.specs.Tape.{disk}
-use Rattle.bank.proofs.Marks.{each_mark-map}
-use Rattle.row_io.specs.Rows.{present, reading_of}
-use Rattle.list_io.specs.Writing.{AreSuperblocksKept}
-use Rattle.shape_changes.specs.shape_views_Windows.{IsCopying}
+use Rattle.reshape_ends.specs.bank_Tape.{disk}
+use Rattle.reshape_ends.proofs.bank_Marks.{each_mark-map}
+use Rattle.reshape_ends.specs.row_io_Rows.{present, reading_of}
+use Rattle.reshape_ends.specs.list_io_Writing.{AreSuperblocksKept}
+use Rattle.reshape_ends.specs.shape_views_Windows.{IsCopying}
 use Rattle.window_rows.specs.Copies.{tail_of}
 use Rattle.window_rows.proofs.StripeLaws.{stripe_below, own_row, copying, superblocks_kept, own_whole, row_stands}
 use Rattle.window_rows.proofs.stripes.copy_stripe.Goals as goal

@@ -1,5 +1,5 @@
 use Rattle.std.proofs.Common.{◌≡◌, inl, inr, ◌*◌, ◌+◌, ℕ, ap, arith}
-use Rattle.list_io.proofs.LossLaws.{none_lost}
+use Rattle.reshape_ends.proofs.list_io_LossLaws.{none_lost}
 use Rattle.window_rows.proofs.stripes.put_stripe.Goals as goal
 
 pub returns-then-are_too_many-clause-lost : goal.returns-then-are_too_many-clause-lost

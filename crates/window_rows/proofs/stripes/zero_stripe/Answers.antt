@@ -1,10 +1,10 @@
 use Rattle.std.proofs.Common.{◌+◌, ◌*◌, [], refl, arith}
-use Rattle.bank.specs.Tape.{disk}
-use Rattle.bank.proofs.Marks.{each_mark-map}
-use Rattle.row_io.specs.Rows.{present, reading_of}
-use Rattle.list_io.specs.Writing.{AreSuperblocksKept}
-use Rattle.shape_changes.specs.shape_views_Windows.{IsWrittenAt}
-use Rattle.shape_changes.specs.Updates.{IsPastPlace}
+use Rattle.reshape_ends.specs.bank_Tape.{disk}
+use Rattle.reshape_ends.proofs.bank_Marks.{each_mark-map}
+use Rattle.reshape_ends.specs.row_io_Rows.{present, reading_of}
+use Rattle.reshape_ends.specs.list_io_Writing.{AreSuperblocksKept}
+use Rattle.reshape_ends.specs.shape_views_Windows.{IsWrittenAt}
+use Rattle.reshape_ends.specs.shape_changes_Updates.{IsPastPlace}
 use Rattle.window_rows.specs.Copies.{tail_of}
 use Rattle.window_rows.proofs.StripeLaws.{past_below, past_row, zeroing, superblocks_kept, nothing, own_whole, row_stands, nothing_copied}
 use Rattle.window_rows.proofs.stripes.zero_stripe.Goals as goal

@@ -1,24 +1,24 @@
 use Rattle.std.proofs.Common.{◌≡◌, inl, inr, ℕ, ◌+◌, ◌-◌, ◌*◌, List, sym, ap, subst, arith}
-use Rattle.md_base.specs.Sectors.{Sector}
-use Rattle.sb1.specs.declared.sb.Sb.{Sb}
-use Rattle.bank.specs.Tape.{IsIn, disk}
-use Rattle.safe_updates.proofs.Unused.{unused-role}
-use Rattle.safe_updates.proofs.row_io_Turns.{marks_last}
-use Rattle.superblocks.specs.Reading.{shape_of, data_offset_of}
-use Rattle.list_io.specs.Full.{RowStands}
-use Rattle.safe_updates.specs.shape_views_Regions.{backup_of}
-use Rattle.safe_updates.specs.views_Placed.{HaveSameReshape}
-use Rattle.bank.specs.Given.{Given}
-use Rattle.superblocks.specs.declared.members.Members.{Members}
-use Rattle.safe_updates.specs.row_io_Rows.{present, reading_of}
-use Rattle.safe_updates.specs.flat_history_Sound.{OpensFit}
-use Rattle.safe_updates.proofs.shape_changes_Risen.{risen-lost}
-use Rattle.safe_updates.specs.views_Placed.{AreLost}
-use Rattle.safe_updates.proofs.views_Fit.{has-rows, reshape-same}
-use Rattle.safe_updates.proofs.views_MemberLaws.{are_lost}
-use Rattle.safe_updates.proofs.views_MovedLaws.{moved-lost}
-use Rattle.safe_updates.proofs.views_MarkedLaws.{grows-marks}
-use Rattle.safe_updates.proofs.views_LackingLaws.{since-lost}
+use Rattle.window_rows.specs.md_base_Sectors.{Sector}
+use Rattle.window_rows.specs.sb1_the_Sb.{Sb}
+use Rattle.window_rows.specs.bank_Tape.{IsIn, disk}
+use Rattle.window_rows.proofs.safe_updates_Unused.{unused-role}
+use Rattle.window_rows.proofs.row_io_Turns.{marks_last}
+use Rattle.window_rows.specs.superblocks_Reading.{shape_of, data_offset_of}
+use Rattle.window_rows.specs.list_io_Full.{RowStands}
+use Rattle.window_rows.specs.shape_views_Regions.{backup_of}
+use Rattle.window_rows.specs.views_Placed.{HaveSameReshape}
+use Rattle.window_rows.specs.bank_Given.{Given}
+use Rattle.window_rows.specs.superblocks_the_Members.{Members}
+use Rattle.window_rows.specs.row_io_Rows.{present, reading_of}
+use Rattle.window_rows.specs.flat_history_Sound.{OpensFit}
+use Rattle.window_rows.proofs.shape_changes_Risen.{risen-lost}
+use Rattle.window_rows.specs.views_Placed.{AreLost}
+use Rattle.window_rows.proofs.views_Fit.{has-rows, reshape-same}
+use Rattle.window_rows.proofs.views_MemberLaws.{are_lost}
+use Rattle.window_rows.proofs.views_MovedLaws.{moved-lost}
+use Rattle.window_rows.proofs.views_MarkedLaws.{grows-marks}
+use Rattle.window_rows.proofs.views_LackingLaws.{since-lost}
 use Rattle.window_steps.proofs.CopyLaws.{copyable-later, out-of, safe-copied}
 use Rattle.window_steps.proofs.copying.copy_stretch.Goals as goal
 

@@ -1,28 +1,28 @@
 use Rattle.std.proofs.Common.{◌≡◌, ◌⊎◌, inl, inr, ◌/◌, ◌<◌, ℕ, true, List, length, Some, sym, ◌∙◌, ap, subst, arith}
 use Rattle.std.specs.Prelude.{⊤}
-use Rattle.md_base.specs.declared.places.Shape.{Shape}
-use Rattle.md_base.specs.Sectors.{Sector}
-use Rattle.bank.specs.declared.bank.Operation.{Operation}
-use Rattle.bank.specs.Given.{Given}
-use Rattle.bank.specs.Tape.{EachMark, disk}
-use Rattle.bank.proofs.Causes.{faulted_longer}
-use Rattle.bank.proofs.Marks.{each_mark-told}
-use Rattle.superblocks.specs.declared.members.Members.{Members}
-use Rattle.superblocks.specs.Reading.{shape_of, next_window}
-use Rattle.safe_updates.specs.row_io_Rows.{present, reading_of, IsTolerated}
-use Rattle.safe_updates.proofs.row_io_RowBytes.{on_ok}
-use Rattle.list_io.specs.Calls.{IsAsked}
-use Rattle.backup.specs.Written.{header_of}
-use Rattle.backup.specs.Storing.{IsStoring, IsNaming, IsStoringOrNaming}
-use Rattle.safe_updates.specs.flat_history_World.{World}
-use Rattle.safe_updates.specs.flat_history_Sound.{OpensFit}
-use Rattle.safe_updates.specs.shape_views_Views.{Disk, Ledger}
-use Rattle.safe_updates.proofs.shape_views_BackupLaws.{stored-closed}
-use Rattle.safe_updates.specs.shape_changes_Safety.{HasLiveSlot}
-use Rattle.safe_updates.specs.shape_changes_Steady.{IsSafeOver, KeepsSafe}
+use Rattle.window_rows.specs.md_base_the_Shape.{Shape}
+use Rattle.window_rows.specs.md_base_Sectors.{Sector}
+use Rattle.window_rows.specs.bank_the_Operation.{Operation}
+use Rattle.window_rows.specs.bank_Given.{Given}
+use Rattle.window_rows.specs.bank_Tape.{EachMark, disk}
+use Rattle.window_rows.proofs.bank_Causes.{faulted_longer}
+use Rattle.window_rows.proofs.bank_Marks.{each_mark-told}
+use Rattle.window_rows.specs.superblocks_the_Members.{Members}
+use Rattle.window_rows.specs.superblocks_Reading.{shape_of, next_window}
+use Rattle.window_rows.specs.row_io_Rows.{present, reading_of, IsTolerated}
+use Rattle.window_rows.proofs.row_io_RowBytes.{on_ok}
+use Rattle.window_rows.specs.list_io_Calls.{IsAsked}
+use Rattle.window_rows.specs.backup_Written.{header_of}
+use Rattle.window_rows.specs.backup_Storing.{IsStoring, IsNaming, IsStoringOrNaming}
+use Rattle.window_rows.specs.flat_history_World.{World}
+use Rattle.window_rows.specs.flat_history_Sound.{OpensFit}
+use Rattle.window_rows.specs.shape_views_Views.{Disk, Ledger}
+use Rattle.window_rows.proofs.shape_views_BackupLaws.{stored-closed}
+use Rattle.window_rows.specs.shape_changes_Safety.{HasLiveSlot}
+use Rattle.window_rows.specs.shape_changes_Steady.{IsSafeOver, KeepsSafe}
 use Rattle.window_rows.specs.Copies.{IsRoomFor, AreLackingGood}
 use Rattle.window_steps.specs.Entering.{IsRead, IsEnterable}
-use Rattle.safe_updates.proofs.shape_views_Headers.{window-filled, window-short}
+use Rattle.window_rows.proofs.shape_views_Headers.{window-filled, window-short}
 use Rattle.window_steps.proofs.EnterLaws.{read-section, opened, unsure, copyable, read-or, entered, was-read, tolerated, lost-later, none-still, left-live, read-safe, saved-safe}
 use Rattle.window_steps.proofs.entering.enter_window.Given.{Over}
 use Rattle.window_steps.proofs.entering.enter_window.Goals.{After-save-answer}
@@ -88,13 +88,13 @@ returns-clause-each_mark g c = marks g c
 pub returns-clause-active : goal.returns-clause-active
 returns-clause-active g c = on_ok c.save-answer.result (λ named is told scope its.
     opened scope c.read_window-lost.new.members c.args.backup c.args.uuid.now c.args.span.now c.read_window-lost.new.buffer (start g c) (last g c) c.told-uuid (next g c) (filled g c) (small g c) its
-    (rebased g c told (Rattle.backup.specs.Storing.IsNamed c.args.backup (header_of c.args.uuid.now c.args.span.now) c.read_window-lost.new.buffer) (named is told))) c.save-answer.ensures.stored
+    (rebased g c told (Rattle.window_rows.specs.backup_Storing.IsNamed c.args.backup (header_of c.args.uuid.now c.args.span.now) c.read_window-lost.new.buffer) (named is told))) c.save-answer.ensures.stored
 
 pub returns-clause-copyable : goal.returns-clause-copyable
 returns-clause-copyable g c = on_ok c.save-answer.result (λ named told scope its.
     copyable scope c.args.members.now.newest c.read_window-lost.new.members (newest-same g c) c.args.span.now c.requires.next c.args.sectioned c.requires.critical (last g c)
     (λ is. (opened scope c.read_window-lost.new.members c.args.backup c.args.uuid.now c.args.span.now c.read_window-lost.new.buffer (start g c) (last g c) c.told-uuid (next g c) (filled g c) (small g c) (its is)
-    (rebased g c told (Rattle.backup.specs.Storing.IsNamed c.args.backup (header_of c.args.uuid.now c.args.span.now) c.read_window-lost.new.buffer) (named is told))).0)) c.save-answer.ensures.stored
+    (rebased g c told (Rattle.window_rows.specs.backup_Storing.IsNamed c.args.backup (header_of c.args.uuid.now c.args.span.now) c.read_window-lost.new.buffer) (named is told))).0)) c.save-answer.ensures.stored
 
 pub returns-clause-untouched : goal.returns-clause-untouched
 returns-clause-untouched g c = λ is told scope its none.

@@ -1,19 +1,19 @@
 use Rattle.std.proofs.Common.{refl, sym, ◌∙◌, subst, arith}
-use Rattle.bank.specs.Given.{Given}
-use Rattle.bank.specs.Tape.{EachMark, disk}
-use Rattle.bank.proofs.Laws.{kept_in}
-use Rattle.safe_updates.proofs.row_io_Turns.{marks_last}
-use Rattle.safe_updates.specs.row_io_Rows.{present, reading_of}
-use Rattle.safe_updates.specs.shape_views_Windows.{moved_past}
-use Rattle.safe_updates.specs.shape_changes_Marking.{AreOthersPresent}
-use Rattle.safe_updates.proofs.shape_changes_Risen.{risen-then}
-use Rattle.safe_updates.specs.views_Rebuilding.{AreSparesFree}
-use Rattle.safe_updates.specs.views_Under.{IsRestKept}
-use Rattle.safe_updates.proofs.views_LackingLaws.{since-then, in-either, holders-fewer, holders-at}
-use Rattle.safe_updates.proofs.views_MendedParts.{safe-part}
-use Rattle.safe_updates.proofs.views_MovedLaws.{moved-then, moved-from, grows-then}
-use Rattle.safe_updates.specs.Named.{AreDataKept}
-use Rattle.safe_updates.proofs.Unused.{rest-unused, unused-then}
+use Rattle.window_rows.specs.bank_Given.{Given}
+use Rattle.window_rows.specs.bank_Tape.{EachMark, disk}
+use Rattle.window_rows.proofs.bank_Laws.{kept_in}
+use Rattle.window_rows.proofs.row_io_Turns.{marks_last}
+use Rattle.window_rows.specs.row_io_Rows.{present, reading_of}
+use Rattle.window_rows.specs.shape_views_Windows.{moved_past}
+use Rattle.window_rows.specs.shape_changes_Marking.{AreOthersPresent}
+use Rattle.window_rows.proofs.shape_changes_Risen.{risen-then}
+use Rattle.window_rows.specs.views_Rebuilding.{AreSparesFree}
+use Rattle.window_rows.specs.views_Under.{IsRestKept}
+use Rattle.window_rows.proofs.views_LackingLaws.{since-then, in-either, holders-fewer, holders-at}
+use Rattle.window_rows.proofs.views_MendedParts.{safe-part}
+use Rattle.window_rows.proofs.views_MovedLaws.{moved-then, moved-from, grows-then}
+use Rattle.window_rows.specs.safe_updates_Named.{AreDataKept}
+use Rattle.window_rows.proofs.safe_updates_Unused.{rest-unused, unused-then}
 use Rattle.window_steps.proofs.PastLaws.{free-moved}
 use Rattle.window_steps.proofs.recording.move_position.Goals as goal
 

@@ -1,28 +1,28 @@
 use Rattle.std.proofs.Common.{◌≡◌, ℕ, ◌<◌, ◌≤◌, Bool, true, false, not, ◌&&◌, List, length, inl, inr, refl, subst, sym, ◌∙◌, arith}
 use Rattle.std.proofs.lemmas.Bool.{cases_lt}
-use Rattle.md_base.specs.Shapes.{has_slot}
-use Rattle.md_base.specs.Sectors.{Sector}
-use Rattle.bank.specs.Given.{Given}
-use Rattle.bank.specs.Tape.{IsIn, disk}
-use Rattle.bank.proofs.Laws.{kept_in}
-use Rattle.superblocks.specs.declared.members.Members.{Members}
-use Rattle.superblocks.specs.Outcome.{live_set, is_left}
-use Rattle.superblocks.proofs.SlotSets.{none_above}
-use Rattle.safe_updates.specs.row_io_Rows.{reading_of}
-use Rattle.safe_updates.specs.flat_history_Sound.{OpensFit}
-use Rattle.safe_updates.specs.shape_views_Windows.{moved_past}
-use Rattle.safe_updates.specs.shape_changes_Kinds.{recording}
-use Rattle.safe_updates.proofs.shape_changes_ChangeSafe.{told-changed, one-stretch}
-use Rattle.safe_updates.proofs.shape_changes_Kept.{give_of-same}
-use Rattle.safe_updates.proofs.shape_changes_KeptSafe.{kept-safe}
-use Rattle.safe_updates.specs.views_Placed.{IsPlaced, AreLess}
-use Rattle.safe_updates.proofs.views_Fit.{few}
-use Rattle.safe_updates.proofs.views_LackingLaws.{since-failed, holders-updated}
-use Rattle.safe_updates.proofs.views_MarkLaws.{few-planned}
-use Rattle.safe_updates.proofs.views_MarkedLaws.{grows-marks, others-updated, failed-marked}
-use Rattle.safe_updates.proofs.views_MovedLaws.{moved-less}
-use Rattle.safe_updates.proofs.views_PlacedLaws.{placed-less, less-unlost}
-use Rattle.safe_updates.proofs.SparesLaws.{spare-left, spare-stays, free-told, told-were}
+use Rattle.window_rows.specs.md_base_Shapes.{has_slot}
+use Rattle.window_rows.specs.md_base_Sectors.{Sector}
+use Rattle.window_rows.specs.bank_Given.{Given}
+use Rattle.window_rows.specs.bank_Tape.{IsIn, disk}
+use Rattle.window_rows.proofs.bank_Laws.{kept_in}
+use Rattle.window_rows.specs.superblocks_the_Members.{Members}
+use Rattle.window_rows.specs.superblocks_Outcome.{live_set, is_left}
+use Rattle.window_rows.proofs.superblocks_SlotSets.{none_above}
+use Rattle.window_rows.specs.row_io_Rows.{reading_of}
+use Rattle.window_rows.specs.flat_history_Sound.{OpensFit}
+use Rattle.window_rows.specs.shape_views_Windows.{moved_past}
+use Rattle.window_rows.specs.shape_changes_Kinds.{recording}
+use Rattle.window_rows.proofs.shape_changes_ChangeSafe.{told-changed, one-stretch}
+use Rattle.window_rows.proofs.shape_changes_Kept.{give_of-same}
+use Rattle.window_rows.proofs.shape_changes_KeptSafe.{kept-safe}
+use Rattle.window_rows.specs.views_Placed.{IsPlaced, AreLess}
+use Rattle.window_rows.proofs.views_Fit.{few}
+use Rattle.window_rows.proofs.views_LackingLaws.{since-failed, holders-updated}
+use Rattle.window_rows.proofs.views_MarkLaws.{few-planned}
+use Rattle.window_rows.proofs.views_MarkedLaws.{grows-marks, others-updated, failed-marked}
+use Rattle.window_rows.proofs.views_MovedLaws.{moved-less}
+use Rattle.window_rows.proofs.views_PlacedLaws.{placed-less, less-unlost}
+use Rattle.window_rows.proofs.safe_updates_SparesLaws.{spare-left, spare-stays, free-told, told-were}
 use Rattle.window_steps.proofs.PastLaws.{past-placed, past-less, past-clean, since-past}
 use Rattle.window_steps.proofs.recording.put_position.Given.{Over}
 use Rattle.window_steps.proofs.recording.put_position.Goals.{After-without}

@@ -1,25 +1,25 @@
 use Rattle.std.proofs.Common.{◌≡◌, inl, Option, Some, None, refl, sym, ◌∙◌, subst, arith}
 use Rattle.std.specs.Prelude.{MatchOption, is_some, true}
-use Rattle.md_base.specs.declared.answers.Refusal.{Refusal}
-use Rattle.bank.specs.Given.{Given}
-use Rattle.bank.specs.Tape.{disk}
-use Rattle.safe_updates.specs.row_io_Rows.{present, reading_of}
-use Rattle.safe_updates.specs.flat_history_Sound.{OpensFit}
-use Rattle.safe_updates.specs.shape_views_Regions.{DoWithout}
-use Rattle.safe_updates.specs.shape_views_Views.{Disk, IsViewRight}
-use Rattle.safe_updates.specs.shape_views_Windows.{moved_past}
-use Rattle.safe_updates.specs.shape_changes_Marking.{AreOthersPresent}
-use Rattle.safe_updates.specs.shape_changes_Steady.{IsSteady}
-use Rattle.safe_updates.proofs.shape_changes_Risen.{risen-then, room-first, room-then}
-use Rattle.safe_updates.specs.views_Lacking.{AreTooMany}
-use Rattle.safe_updates.specs.views_Moving.{IsMoved}
-use Rattle.safe_updates.specs.views_Rebuilding.{AreSparesFree}
-use Rattle.safe_updates.proofs.views_LackingLaws.{since-then, in-either, holders-at}
-use Rattle.safe_updates.proofs.views_LackingLists.{none-of}
-use Rattle.safe_updates.proofs.views_MovedLaws.{moved-then, grows-then}
-use Rattle.safe_updates.proofs.views_SafeStretch.{safe-then, over-at, keeps-from, grows-longer}
-use Rattle.safe_updates.specs.Unused.{IsUnusedKept}
-use Rattle.safe_updates.proofs.Unused.{rest-unused, unused-then}
+use Rattle.window_rows.specs.md_base_the_Refusal.{Refusal}
+use Rattle.window_rows.specs.bank_Given.{Given}
+use Rattle.window_rows.specs.bank_Tape.{disk}
+use Rattle.window_rows.specs.row_io_Rows.{present, reading_of}
+use Rattle.window_rows.specs.flat_history_Sound.{OpensFit}
+use Rattle.window_rows.specs.shape_views_Regions.{DoWithout}
+use Rattle.window_rows.specs.shape_views_Views.{Disk, IsViewRight}
+use Rattle.window_rows.specs.shape_views_Windows.{moved_past}
+use Rattle.window_rows.specs.shape_changes_Marking.{AreOthersPresent}
+use Rattle.window_rows.specs.shape_changes_Steady.{IsSteady}
+use Rattle.window_rows.proofs.shape_changes_Risen.{risen-then, room-first, room-then}
+use Rattle.window_rows.specs.views_Lacking.{AreTooMany}
+use Rattle.window_rows.specs.views_Moving.{IsMoved}
+use Rattle.window_rows.specs.views_Rebuilding.{AreSparesFree}
+use Rattle.window_rows.proofs.views_LackingLaws.{since-then, in-either, holders-at}
+use Rattle.window_rows.proofs.views_LackingLists.{none-of}
+use Rattle.window_rows.proofs.views_MovedLaws.{moved-then, grows-then}
+use Rattle.window_rows.proofs.views_SafeStretch.{safe-then, over-at, keeps-from, grows-longer}
+use Rattle.window_rows.specs.safe_updates_Unused.{IsUnusedKept}
+use Rattle.window_rows.proofs.safe_updates_Unused.{rest-unused, unused-then}
 use Rattle.window_steps.specs.Recording.{AreOthersFewer}
 use Rattle.window_steps.proofs.CopyLaws.{refused-of}
 use Rattle.window_steps.proofs.PastLaws.{past-moved, past-plain, past-headers, plain-moved, headers-moved, past-right, next-moved, gone-past}

@@ -1,26 +1,26 @@
 use Rattle.std.proofs.Common.{inl, inr, ◌+◌, ◌*◌, refl, sym, ◌∙◌, subst, arith}
 use Rattle.std.proofs.lemmas.Bool.{cases_lt}
-use Rattle.layout.proofs.Places.{chunk_some}
-use Rattle.bank.specs.Given.{Given}
-use Rattle.safe_updates.specs.row_io_Rows.{present, reading_of}
-use Rattle.list_io.specs.Full.{RowStands}
-use Rattle.safe_updates.specs.flat_history_Sound.{OpensFit}
-use Rattle.safe_updates.proofs.shape_changes_Risen.{risen-none, risen-then}
-use Rattle.safe_updates.specs.views_Moving.{IsMoved}
-use Rattle.safe_updates.specs.views_Rebuilding.{AreSparesFree}
-use Rattle.safe_updates.specs.views_Lacking.{AreOtherRowsKept}
-use Rattle.safe_updates.proofs.views_Fit.{force-valid}
-use Rattle.safe_updates.proofs.views_MovedLaws.{moved-then, moved-same, grows-none, grows-then, moved-from}
-use Rattle.safe_updates.proofs.views_LackingLaws.{since-same, since-then, in-either}
-use Rattle.safe_updates.proofs.views_LackingLists.{none-of}
-use Rattle.safe_updates.proofs.views_SafeStretch.{safe-none}
-use Rattle.safe_updates.proofs.views_MendedParts.{safe-part}
-use Rattle.safe_updates.specs.Unused.{IsUnusedKept}
-use Rattle.safe_updates.proofs.Unused.{unused-then}
+use Rattle.window_rows.proofs.layout_Places.{chunk_some}
+use Rattle.window_rows.specs.bank_Given.{Given}
+use Rattle.window_rows.specs.row_io_Rows.{present, reading_of}
+use Rattle.window_rows.specs.list_io_Full.{RowStands}
+use Rattle.window_rows.specs.flat_history_Sound.{OpensFit}
+use Rattle.window_rows.proofs.shape_changes_Risen.{risen-none, risen-then}
+use Rattle.window_rows.specs.views_Moving.{IsMoved}
+use Rattle.window_rows.specs.views_Rebuilding.{AreSparesFree}
+use Rattle.window_rows.specs.views_Lacking.{AreOtherRowsKept}
+use Rattle.window_rows.proofs.views_Fit.{force-valid}
+use Rattle.window_rows.proofs.views_MovedLaws.{moved-then, moved-same, grows-none, grows-then, moved-from}
+use Rattle.window_rows.proofs.views_LackingLaws.{since-same, since-then, in-either}
+use Rattle.window_rows.proofs.views_LackingLists.{none-of}
+use Rattle.window_rows.proofs.views_SafeStretch.{safe-none}
+use Rattle.window_rows.proofs.views_MendedParts.{safe-part}
+use Rattle.window_rows.specs.safe_updates_Unused.{IsUnusedKept}
+use Rattle.window_rows.proofs.safe_updates_Unused.{unused-then}
 use Rattle.window_steps.specs.Copying.{IsOfStripeFrom, AreHeadersKept}
 use Rattle.window_steps.proofs.CopyLaws.{row-later, refused-of, others-join}
 use Rattle.window_steps.proofs.ZeroLaws.{through-moved, past-stripe-moved, zero-moved}
-use Rattle.bank.specs.Tape.{disk}
+use Rattle.window_rows.specs.bank_Tape.{disk}
 use Rattle.window_steps.proofs.zeroing.zero.Goals as goal
 
 pub loop-done-init : goal.loop-done-init

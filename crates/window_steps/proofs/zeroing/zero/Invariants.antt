@@ -1,20 +1,20 @@
 use Rattle.std.proofs.Common.{◌≡◌, ◌-◌, ◌<◌, ◌≤◌, ℕ}
-use Rattle.bank.specs.Given.{NeverFalls}
-use Rattle.md_base.specs.Sectors.{Sector}
-use Rattle.superblocks.specs.Reading.{is_clean}
-use Rattle.safe_updates.specs.row_io_Rows.{present, reading_of}
-use Rattle.list_io.specs.Full.{RowStands}
-use Rattle.safe_updates.specs.flat_history_World.{World}
-use Rattle.safe_updates.specs.shape_views_Views.{Ledger}
-use Rattle.safe_updates.specs.shape_changes_Safety.{HasLiveSlot, HasRoomLeft, IsRisen}
-use Rattle.safe_updates.specs.Named.{AreNamedMissing}
-use Rattle.safe_updates.specs.shape_changes_Steady.{IsSafeOver, KeepsSafe, AreGoneTold, IsUncleanTold}
-use Rattle.safe_updates.specs.views_Moving.{Grows, IsMoved}
-use Rattle.safe_updates.specs.views_Lacking.{HaveFailedSince, AreOtherRowsKept}
+use Rattle.window_rows.specs.bank_Given.{NeverFalls}
+use Rattle.window_rows.specs.md_base_Sectors.{Sector}
+use Rattle.window_rows.specs.superblocks_Reading.{is_clean}
+use Rattle.window_rows.specs.row_io_Rows.{present, reading_of}
+use Rattle.window_rows.specs.list_io_Full.{RowStands}
+use Rattle.window_rows.specs.flat_history_World.{World}
+use Rattle.window_rows.specs.shape_views_Views.{Ledger}
+use Rattle.window_rows.specs.shape_changes_Safety.{HasLiveSlot, HasRoomLeft, IsRisen}
+use Rattle.window_rows.specs.safe_updates_Named.{AreNamedMissing}
+use Rattle.window_rows.specs.shape_changes_Steady.{IsSafeOver, KeepsSafe, AreGoneTold, IsUncleanTold}
+use Rattle.window_rows.specs.views_Moving.{Grows, IsMoved}
+use Rattle.window_rows.specs.views_Lacking.{HaveFailedSince, AreOtherRowsKept}
 use Rattle.window_rows.specs.Copies.{tail_of, IsZeroIn}
-use Rattle.safe_updates.specs.Unused.{IsUnusedKept}
+use Rattle.window_rows.specs.safe_updates_Unused.{IsUnusedKept}
 use Rattle.window_steps.specs.Copying.{IsOfStripeFrom, AreHeadersKept}
-use Rattle.bank.specs.Tape.{disk}
+use Rattle.window_rows.specs.bank_Tape.{disk}
 use Rattle.window_steps.proofs.zeroing.zero.Given as goal
 
 abbrev pub decreases-loop-done : goal.decreases-loop-done

@@ -1,27 +1,27 @@
 use Rattle.std.proofs.Common.{◌≡◌, Bool, true, false, Option, refl, sym, ◌∙◌, subst, arith, inl}
 use Rattle.std.specs.Prelude.{MatchOption}
-use Rattle.md_base.specs.declared.answers.Refusal.{Refusal}
-use Rattle.md_base.specs.declared.places.Shape.{Shape}
-use Rattle.superblocks.specs.Reading.{final_shape}
-use Rattle.bank.specs.Given.{Given}
-use Rattle.safe_updates.specs.row_io_Rows.{present}
-use Rattle.safe_updates.specs.flat_history_Sound.{OpensFit}
-use Rattle.safe_updates.specs.shape_views_Regions.{DoWithout}
-use Rattle.safe_updates.specs.shape_changes_Marking.{AreOthersPresent}
-use Rattle.safe_updates.proofs.shape_changes_Risen.{risen-then, room-then}
-use Rattle.safe_updates.specs.views_Moving.{IsMoved}
-use Rattle.safe_updates.specs.views_Rebuilding.{AreSparesFree}
-use Rattle.safe_updates.specs.views_Under.{IsRestKept}
-use Rattle.safe_updates.specs.views_Lacking.{DoesWithout, AreTooMany}
-use Rattle.safe_updates.proofs.views_HeldRows.{shape-without-before}
+use Rattle.window_rows.specs.md_base_the_Refusal.{Refusal}
+use Rattle.window_rows.specs.md_base_the_Shape.{Shape}
+use Rattle.window_rows.specs.superblocks_Reading.{final_shape}
+use Rattle.window_rows.specs.bank_Given.{Given}
+use Rattle.window_rows.specs.row_io_Rows.{present}
+use Rattle.window_rows.specs.flat_history_Sound.{OpensFit}
+use Rattle.window_rows.specs.shape_views_Regions.{DoWithout}
+use Rattle.window_rows.specs.shape_changes_Marking.{AreOthersPresent}
+use Rattle.window_rows.proofs.shape_changes_Risen.{risen-then, room-then}
+use Rattle.window_rows.specs.views_Moving.{IsMoved}
+use Rattle.window_rows.specs.views_Rebuilding.{AreSparesFree}
+use Rattle.window_rows.specs.views_Under.{IsRestKept}
+use Rattle.window_rows.specs.views_Lacking.{DoesWithout, AreTooMany}
+use Rattle.window_rows.proofs.views_HeldRows.{shape-without-before}
 use Rattle.window_steps.specs.Copying.{IsOfStripeFrom, AreHeadersKept}
-use Rattle.safe_updates.proofs.views_MovedLaws.{moved-then, moved-from, grows-then}
-use Rattle.safe_updates.proofs.views_LackingLaws.{since-then, in-second}
-use Rattle.safe_updates.proofs.views_LackingWrites.{others-then, others-same}
-use Rattle.safe_updates.proofs.views_SafeStretch.{safe-then, over-at, keeps-from}
+use Rattle.window_rows.proofs.views_MovedLaws.{moved-then, moved-from, grows-then}
+use Rattle.window_rows.proofs.views_LackingLaws.{since-then, in-second}
+use Rattle.window_rows.proofs.views_LackingWrites.{others-then, others-same}
+use Rattle.window_rows.proofs.views_SafeStretch.{safe-then, over-at, keeps-from}
 use Rattle.window_steps.proofs.CopyLaws.{row-later}
-use Rattle.bank.specs.Tape.{disk}
-use Rattle.safe_updates.proofs.Unused.{rest-unused, unused-then}
+use Rattle.window_rows.specs.bank_Tape.{disk}
+use Rattle.window_rows.proofs.safe_updates_Unused.{rest-unused, unused-then}
 use Rattle.window_steps.proofs.zeroing.zero_part.Goals as goal
 
 pub name_missing-spares-requires-clause-free : goal.name_missing-spares-requires-clause-free

@@ -1,22 +1,22 @@
 use Rattle.std.proofs.Common.{◌≡◌, inl, inr, ℕ, ◌+◌, ◌-◌, ◌*◌, subst, arith, List}
-use Rattle.superblocks.specs.Reading.{data_offset_of}
-use Rattle.list_io.specs.Full.{RowStands}
-use Rattle.bank.specs.Given.{Given}
-use Rattle.safe_updates.specs.row_io_Rows.{present, reading_of}
-use Rattle.safe_updates.specs.flat_history_Sound.{OpensFit}
-use Rattle.safe_updates.proofs.shape_changes_Risen.{risen-lost}
-use Rattle.safe_updates.specs.views_Placed.{AreLost}
-use Rattle.safe_updates.proofs.views_Fit.{has-rows}
-use Rattle.safe_updates.proofs.views_MemberLaws.{are_lost}
-use Rattle.safe_updates.proofs.views_MovedLaws.{moved-lost}
-use Rattle.safe_updates.proofs.views_MarkedLaws.{grows-marks}
-use Rattle.safe_updates.proofs.views_LackingLaws.{since-lost}
+use Rattle.window_rows.specs.superblocks_Reading.{data_offset_of}
+use Rattle.window_rows.specs.list_io_Full.{RowStands}
+use Rattle.window_rows.specs.bank_Given.{Given}
+use Rattle.window_rows.specs.row_io_Rows.{present, reading_of}
+use Rattle.window_rows.specs.flat_history_Sound.{OpensFit}
+use Rattle.window_rows.proofs.shape_changes_Risen.{risen-lost}
+use Rattle.window_rows.specs.views_Placed.{AreLost}
+use Rattle.window_rows.proofs.views_Fit.{has-rows}
+use Rattle.window_rows.proofs.views_MemberLaws.{are_lost}
+use Rattle.window_rows.proofs.views_MovedLaws.{moved-lost}
+use Rattle.window_rows.proofs.views_MarkedLaws.{grows-marks}
+use Rattle.window_rows.proofs.views_LackingLaws.{since-lost}
 use Rattle.window_steps.proofs.CopyLaws.{out-of}
 use Rattle.window_steps.proofs.ZeroLaws.{safe-zeroed}
-use Rattle.md_base.specs.Sectors.{Sector}
-use Rattle.bank.specs.Tape.{IsIn}
-use Rattle.safe_updates.proofs.row_io_Turns.{marks_last}
-use Rattle.safe_updates.proofs.Unused.{unused-role}
+use Rattle.window_rows.specs.md_base_Sectors.{Sector}
+use Rattle.window_rows.specs.bank_Tape.{IsIn}
+use Rattle.window_rows.proofs.row_io_Turns.{marks_last}
+use Rattle.window_rows.proofs.safe_updates_Unused.{unused-role}
 use Rattle.window_steps.proofs.zeroing.zero_stretch.Goals as goal
 
 pub zero_stripe-zeroed-requires-clause-rows : goal.zero_stripe-zeroed-requires-clause-rows

@@ -1,17 +1,17 @@
 use Rattle.std.proofs.Common.{◌≡◌, ℕ, List, [], ◌∷◌, ◌++◌, Option, Some, Err, true, refl, sym, ◌∙◌, ap, subst, arith, inl}
 use denote.Builtin.{unit}
-use Rattle.md_base.specs.declared.answers.Refusal.{Refusal}
-use Rattle.md_base.specs.declared.answers.Refusal.TheVariants.{SlotFault}
-use Rattle.md_base.specs.declared.answers.Fault.TheVariants.{Refused as IsRefusedWith}
-use Rattle.bank.specs.Given.{Given}
-use Rattle.superblocks.specs.declared.members.Members.{Members}
-use Rattle.superblocks.specs.Reading.{list_length}
-use Rattle.flat_history.specs.declared.events.Entry.{Entry}
-use Rattle.flat_history.specs.declared.events.Event.TheVariants.{Refused}
-use Rattle.flat_history.specs.Flat.{next_number}
-use Rattle.flat_history.specs.Plain.{entries_of}
-use Rattle.views.specs.Numbers.{bears}
-use Rattle.views.proofs.MovedLaws.{grows-none, moved-same}
+use Rattle.array_state.specs.md_base_the_Refusal.{Refusal}
+use Rattle.array_state.specs.md_base_the_Refusal_TheVariants.{SlotFault}
+use Rattle.array_state.specs.md_base_the_Fault_TheVariants.{Refused as IsRefusedWith}
+use Rattle.election.specs.bank_Given.{Given}
+use Rattle.election.specs.superblocks_the_Members.{Members}
+use Rattle.election.specs.superblocks_Reading.{list_length}
+use Rattle.pieces.specs.flat_history_the_Entry.{Entry}
+use Rattle.pieces.specs.flat_history_the_Event_TheVariants.{Refused}
+use Rattle.pieces.specs.flat_history_Flat.{next_number}
+use Rattle.pieces.specs.flat_history_Plain.{entries_of}
+use Rattle.pieces.specs.views_Numbers.{bears}
+use Rattle.pieces.proofs.views_MovedLaws.{grows-none, moved-same}
 use Rattle.moving_laws.specs.array_kept_Kept.{scope_in}
 use Rattle.moving_laws.specs.array_kept_Calls.{IsUnaddable, IsAddedFor}
 use Rattle.moving_laws.proofs.array_kept_LossLaws.{ended-behind}
@@ -24,8 +24,8 @@ use Rattle.moving_laws.specs.Ready.{bytes_in}
 use Rattle.moving_laws.proofs.AddLaws.{with-room, still-called, none-added}
 use Rattle.moving_laws.proofs.running_words_Called.{not_254, called, alone-lossless}
 use Rattle.moving_laws.proofs.Kept.{ready, shapes-same, alone-keeps}
-use Rattle.row_io.specs.Rows.{present}
-use Rattle.views.specs.Lacking.{HaveRolesFailed}
+use Rattle.pieces.specs.row_io_Rows.{present}
+use Rattle.pieces.specs.views_Lacking.{HaveRolesFailed}
 use Rattle.moving.proofs.state.Moving.add.Goals as goal
 
 -- a refusal before the slot is touched

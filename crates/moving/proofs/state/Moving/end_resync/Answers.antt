@@ -1,14 +1,14 @@
 use Rattle.std.proofs.Common.{◌≤◌, [], ◌∷◌, ◌++◌, false, Some, refl, sym, ◌∙◌, subst, arith, ap, None}
-use Rattle.superblocks.specs.Reading.{list_length}
-use Rattle.superblocks.proofs.ValidFields.{few-roles}
-use Rattle.flat_history.specs.declared.events.Event.TheVariants.{Refused, Step}
-use Rattle.flat_history.specs.declared.events.StepKind.TheVariants.{ResyncEnded as EndsResync}
-use Rattle.flat_history.specs.Plain.{entries_of}
-use Rattle.views.specs.Lacking.{AreTooMany, AreHoldersFlushed}
-use Rattle.views.specs.Numbers.{bears}
-use Rattle.views.proofs.LackingLaws.{lost-since, never-both}
-use Rattle.views.proofs.MovedLaws.{grows-none, moved-same}
-use Rattle.call_entries.specs.Losing.{losses_of}
+use Rattle.election.specs.superblocks_Reading.{list_length}
+use Rattle.election.proofs.superblocks_ValidFields.{few-roles}
+use Rattle.pieces.specs.flat_history_the_Event_TheVariants.{Refused, Step}
+use Rattle.pieces.specs.flat_history_the_StepKind_TheVariants.{ResyncEnded as EndsResync}
+use Rattle.pieces.specs.flat_history_Plain.{entries_of}
+use Rattle.pieces.specs.views_Lacking.{AreTooMany, AreHoldersFlushed}
+use Rattle.pieces.specs.views_Numbers.{bears}
+use Rattle.pieces.proofs.views_LackingLaws.{lost-since, never-both}
+use Rattle.pieces.proofs.views_MovedLaws.{grows-none, moved-same}
+use Rattle.array_state.specs.call_entries_Losing.{losses_of}
 use Rattle.moving_laws.specs.array_kept_Kept.{scope_in}
 use Rattle.moving_laws.proofs.array_kept_LossLaws.{losses-behind, ended-behind, behind-alone}
 use Rattle.moving_laws.proofs.array_kept_ReadyLaws.{scope-same}
@@ -25,11 +25,11 @@ use Rattle.moving_laws.specs.Mending.{IsResyncEndDue}
 use Rattle.moving_laws.specs.Ready.{bytes_in}
 use Rattle.moving_laws.proofs.Kept.{ready, ready-with, shapes-same, shapes-moved, alone-keeps, behind-keeps, behind-whole}
 use Rattle.moving_laws.proofs.MendLaws.{aside-right, end-refused, end-done, end-left, rows-good}
-use Rattle.grow_asked.specs.Left.{phases_of}
+use Rattle.pieces.specs.grow_asked_Left.{phases_of}
 use Rattle.moving_laws.specs.array_kept_Calls.{IsRefusedFor}
 use Rattle.moving_laws.proofs.moving_state_ReshapeLaws.{under-way-of}
 use Rattle.moving.proofs.Calls.{room-49, one-less, many-refused, sound-same, zeroed-moved, known-moved, never-falls, room-after-1, room-after-49, step-entered, zero-le}
-use Rattle.row_io.specs.Rows.{reading_of}
+use Rattle.pieces.specs.row_io_Rows.{reading_of}
 use Rattle.moving.proofs.state.Moving.end_resync.Goals as goal
 
 -- ---- refused before anything is done

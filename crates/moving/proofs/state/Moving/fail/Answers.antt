@@ -1,20 +1,20 @@
 use Rattle.std.proofs.Common.{◌≡◌, ℕ, ◌++◌, ◌∷◌, [], List, Some, refl, sym, ◌∙◌, ap, subst, arith, append_assoc, append-nil}
-use Rattle.md_base.specs.declared.answers.Who.{Who}
-use Rattle.md_base.specs.declared.answers.Refusal.TheVariants.{NoSuchRole}
-use Rattle.superblocks.specs.Reading.{list_length, is_clean}
-use Rattle.superblocks.proofs.ValidFields.{few-roles}
-use Rattle.flat_history.specs.declared.events.Entry.{Entry}
-use Rattle.flat_history.specs.declared.events.Event.{Event}
-use Rattle.flat_history.specs.declared.events.Event.TheVariants.{Refused, Lost, Failed}
-use Rattle.flat_history.specs.declared.events.LostCause.TheVariants.{Command}
-use Rattle.flat_history.specs.Flat.{next_number}
-use Rattle.flat_history.specs.Plain.{entries_of}
-use Rattle.views.specs.Numbers.{bears}
-use Rattle.views.proofs.LiveLeft.{holder-left}
-use Rattle.views.proofs.HeldRows.{vacant-moved}
-use Rattle.views.proofs.MovedLaws.{grows-none, moved-same}
-use Rattle.call_entries.specs.Losing.{losses_of}
-use Rattle.call_entries.proofs.PlainLaws.{one}
+use Rattle.array_state.specs.md_base_the_Who.{Who}
+use Rattle.array_state.specs.md_base_the_Refusal_TheVariants.{NoSuchRole}
+use Rattle.election.specs.superblocks_Reading.{list_length, is_clean}
+use Rattle.election.proofs.superblocks_ValidFields.{few-roles}
+use Rattle.pieces.specs.flat_history_the_Entry.{Entry}
+use Rattle.pieces.specs.flat_history_the_Event.{Event}
+use Rattle.pieces.specs.flat_history_the_Event_TheVariants.{Refused, Lost, Failed}
+use Rattle.pieces.specs.flat_history_the_LostCause_TheVariants.{Command}
+use Rattle.pieces.specs.flat_history_Flat.{next_number}
+use Rattle.pieces.specs.flat_history_Plain.{entries_of}
+use Rattle.pieces.specs.views_Numbers.{bears}
+use Rattle.pieces.proofs.views_LiveLeft.{holder-left}
+use Rattle.pieces.proofs.views_HeldRows.{vacant-moved}
+use Rattle.pieces.proofs.views_MovedLaws.{grows-none, moved-same}
+use Rattle.array_state.specs.call_entries_Losing.{losses_of}
+use Rattle.array_state.proofs.call_entries_PlainLaws.{one}
 use Rattle.moving_laws.specs.array_kept_Kept.{scope_in}
 use Rattle.moving_laws.proofs.array_kept_ReadyLaws.{scope-same}
 use Rattle.moving_laws.proofs.array_kept_ReplyLaws.{fail_reply, no_role_reply}
@@ -32,9 +32,9 @@ use Rattle.moving_laws.proofs.running_words_Called.{not_254, called, alone-lossl
 use Rattle.moving_laws.proofs.Kept.{ready, shapes-same, shapes-moved, left-moved, alone-keeps, behind-keeps, takes-lost, lost-here}
 use Rattle.moving_laws.proofs.TakenOut.{moved-all, since-out, taken-out}
 use Rattle.std.proofs.lemmas.List.Elements.{All-nil}
-use Rattle.row_io.specs.Rows.{present}
-use Rattle.flat_history.specs.Transfers.{last_end_from}
-use Rattle.views.specs.Rebuilding.{Held}
+use Rattle.pieces.specs.row_io_Rows.{present}
+use Rattle.pieces.specs.flat_history_Transfers.{last_end_from}
+use Rattle.pieces.specs.views_Rebuilding.{Held}
 use Rattle.moving_laws.specs.array_kept_Calls.{IsLossBy, WasSpare}
 use Rattle.moving_laws.proofs.WriteLaws.{roomed}
 use Rattle.moving.proofs.Calls.{one-of-51, known-moved, fits-longer, never-falls, called-over}

@@ -1,10 +1,10 @@
 use Rattle.std.proofs.Common.{◌≡◌, ℕ, Some, List, [], ◌∷◌, ◌++◌, refl, sym, ◌∙◌, ap, subst, length}
-use Rattle.superblocks.specs.Reading.{Scope}
-use Rattle.flat_history.specs.declared.events.Entry.{Entry}
-use Rattle.flat_history.specs.declared.events.Event.TheVariants.{Halted}
-use Rattle.flat_history.specs.Flat.{next_number}
-use Rattle.flat_history.specs.Plain.{entries_of}
-use Rattle.views.specs.Numbers.{bears}
+use Rattle.election.specs.superblocks_Reading.{Scope}
+use Rattle.pieces.specs.flat_history_the_Entry.{Entry}
+use Rattle.pieces.specs.flat_history_the_Event_TheVariants.{Halted}
+use Rattle.pieces.specs.flat_history_Flat.{next_number}
+use Rattle.pieces.specs.flat_history_Plain.{entries_of}
+use Rattle.pieces.specs.views_Numbers.{bears}
 use Rattle.moving_laws.specs.array_kept_Kept.{scope_in}
 use Rattle.moving_laws.proofs.array_kept_ReadyLaws.{scope-same}
 use Rattle.moving_laws.specs.moving_kept_Moving.{IsMoving}

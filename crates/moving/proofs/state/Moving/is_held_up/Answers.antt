@@ -1,5 +1,5 @@
 use Rattle.std.proofs.Common.{◌<◌, sym, subst, arith}
-use Rattle.superblocks.proofs.ValidFields.{few-roles}
+use Rattle.election.proofs.superblocks_ValidFields.{few-roles}
 use Rattle.moving.proofs.state.Moving.is_held_up.Goals as goal
 
 pub has_unnamed-requires-clause-few : goal.has_unnamed-requires-clause-few

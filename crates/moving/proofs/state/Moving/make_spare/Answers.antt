@@ -1,26 +1,26 @@
 use Rattle.std.proofs.Common.{◌≡◌, inr, ◌+◌, ◌<◌, ◌≤◌, ◌==◌, ℕ, true, false, List, [], ◌∷◌, ◌++◌, Some, refl, sym, ◌∙◌, ap, subst, arith, inl, le_of_eq}
 use Rattle.std.specs.Prelude.{IfSome}
-use Rattle.md_base.specs.Shapes.{has_slot}
-use Rattle.md_base.specs.declared.answers.Refusal.{Refusal}
-use Rattle.md_base.specs.declared.answers.Refusal.TheVariants.{SlotFault}
-use Rattle.bank.specs.Given.{Given}
-use Rattle.bank.specs.Tape.{disk}
-use Rattle.superblocks.specs.Reading.{list_length, is_clean}
-use Rattle.superblocks.proofs.ValidFields.{few-roles}
-use Rattle.flat_history.specs.declared.events.Entry.{Entry}
-use Rattle.flat_history.specs.declared.events.Event.TheVariants.{Refused, Added}
-use Rattle.flat_history.specs.Flat.{next_number}
-use Rattle.flat_history.specs.Plain.{entries_of}
-use Rattle.views.specs.Lacking.{AreUnnamed}
-use Rattle.views.specs.Numbers.{bears, bearing, free_number}
-use Rattle.views.specs.Placed.{IsPlaced}
-use Rattle.views.specs.Rebuilding.{AreSparesFree, with_spare}
-use Rattle.views.specs.Under.{IsRestKept}
-use Rattle.views.proofs.BearerLaws.{bears-more}
-use Rattle.views.proofs.Flushed.{contents-added}
-use Rattle.views.proofs.MovedLaws.{grows-then, moved-same}
-use Rattle.call_entries.specs.Losing.{losses_of}
-use Rattle.call_entries.proofs.CallLaws.{losses-are}
+use Rattle.array_state.specs.md_base_Shapes.{has_slot}
+use Rattle.array_state.specs.md_base_the_Refusal.{Refusal}
+use Rattle.array_state.specs.md_base_the_Refusal_TheVariants.{SlotFault}
+use Rattle.election.specs.bank_Given.{Given}
+use Rattle.election.specs.bank_Tape.{disk}
+use Rattle.election.specs.superblocks_Reading.{list_length, is_clean}
+use Rattle.election.proofs.superblocks_ValidFields.{few-roles}
+use Rattle.pieces.specs.flat_history_the_Entry.{Entry}
+use Rattle.pieces.specs.flat_history_the_Event_TheVariants.{Refused, Added}
+use Rattle.pieces.specs.flat_history_Flat.{next_number}
+use Rattle.pieces.specs.flat_history_Plain.{entries_of}
+use Rattle.pieces.specs.views_Lacking.{AreUnnamed}
+use Rattle.pieces.specs.views_Numbers.{bears, bearing, free_number}
+use Rattle.pieces.specs.views_Placed.{IsPlaced}
+use Rattle.pieces.specs.views_Rebuilding.{AreSparesFree, with_spare}
+use Rattle.pieces.specs.views_Under.{IsRestKept}
+use Rattle.pieces.proofs.views_BearerLaws.{bears-more}
+use Rattle.pieces.proofs.views_Flushed.{contents-added}
+use Rattle.pieces.proofs.views_MovedLaws.{grows-then, moved-same}
+use Rattle.array_state.specs.call_entries_Losing.{losses_of}
+use Rattle.array_state.proofs.call_entries_CallLaws.{losses-are}
 use Rattle.moving_laws.specs.array_kept_Kept.{scope_in}
 use Rattle.moving_laws.specs.array_kept_Calls.{IsFirstOffset, IsUnaddable}
 use Rattle.moving_laws.proofs.array_kept_LossLaws.{losses-behind, ended-behind}

@@ -1,14 +1,14 @@
 use Rattle.std.proofs.Common.{◌≡◌, ◌≤◌, [], ◌∷◌, ◌++◌, None, Some, refl, sym, ◌∙◌, subst, arith, ap}
 use Rattle.std.specs.Prelude.{⊤}
-use Rattle.superblocks.proofs.ValidFields.{few-roles}
-use Rattle.flat_history.specs.declared.events.Event.TheVariants.{Refused, Step}
-use Rattle.flat_history.specs.declared.events.StepKind.TheVariants.{ResyncStripe as MendsStripe}
-use Rattle.flat_history.specs.Plain.{entries_of}
+use Rattle.election.proofs.superblocks_ValidFields.{few-roles}
+use Rattle.pieces.specs.flat_history_the_Event_TheVariants.{Refused, Step}
+use Rattle.pieces.specs.flat_history_the_StepKind_TheVariants.{ResyncStripe as MendsStripe}
+use Rattle.pieces.specs.flat_history_Plain.{entries_of}
 use Rattle.moving_laws.specs.shape_views_Regions.{DoWithout}
-use Rattle.views.proofs.LackingLaws.{lost-since}
-use Rattle.views.proofs.MovedLaws.{grows-none, moved-same}
-use Rattle.views.specs.Numbers.{bears}
-use Rattle.call_entries.specs.Losing.{losses_of}
+use Rattle.pieces.proofs.views_LackingLaws.{lost-since}
+use Rattle.pieces.proofs.views_MovedLaws.{grows-none, moved-same}
+use Rattle.pieces.specs.views_Numbers.{bears}
+use Rattle.array_state.specs.call_entries_Losing.{losses_of}
 use Rattle.moving_laws.specs.array_kept_Kept.{scope_in}
 use Rattle.moving_laws.proofs.array_kept_LossLaws.{losses-behind, ended-behind, behind-alone}
 use Rattle.moving_laws.proofs.array_kept_ReadyLaws.{scope-same}
@@ -22,8 +22,8 @@ use Rattle.moving_laws.specs.Ready.{bytes_in}
 use Rattle.moving_laws.proofs.running_words_Called.{not_254, called, alone-lossless}
 use Rattle.moving_laws.proofs.Kept.{ready, ready-with, shapes-same, shapes-moved, alone-keeps, behind-keeps, behind-whole}
 use Rattle.moving_laws.proofs.MendLaws.{next-of, aside-right, with-buffers, mends-short, not-mended-for, mendable-for, first-for, one-more, refused-why, done-why, mend-step, mend-refused, mend-done, mend-left, was-dirty}
-use Rattle.superblocks.specs.Reading.{is_clean}
-use Rattle.grow_asked.specs.Left.{phases_of}
+use Rattle.election.specs.superblocks_Reading.{is_clean}
+use Rattle.pieces.specs.grow_asked_Left.{phases_of}
 use Rattle.moving.proofs.StepLaws.{one-fewer, room-behind, taken-behind, under-way-moved, zeroed-moved, sound-moved, roles-moved}
 use Rattle.moving.proofs.state.Moving.mend_stripe.Goals as goal
 

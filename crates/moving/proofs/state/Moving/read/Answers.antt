@@ -1,21 +1,21 @@
 use Rattle.std.proofs.Common.{inl, ◌≡◌, ◌+◌, ◌/◌, ◌≤◌, ◌++◌, ◌∷◌, [], ℕ, Option, Some, Result, Ok, Err, List, length, refl, sym, ◌∙◌, ap, subst, arith, append-nil}
 use Rattle.std.specs.Prelude.{OnOk}
 use Rattle.std.proofs.lemmas.List.Elements.{All-nil}
-use Rattle.md_base.specs.declared.places.Span.{Span}
-use Rattle.md_base.specs.Sectors.{Sector, sectors_of}
-use Rattle.md_base.proofs.SectorLaws.{length-sectors_of}
-use Rattle.superblocks.specs.Reading.{list_length}
-use Rattle.flat_history.specs.declared.events.Entry.{Entry}
-use Rattle.flat_history.specs.declared.events.Event.TheVariants.{Read, Refused}
-use Rattle.flat_history.specs.declared.events.Request.TheVariants.{Read as AsksRead}
-use Rattle.flat_history.specs.World.{opening_list}
-use Rattle.flat_history.specs.Flat.{next_number, now}
-use Rattle.flat_history.specs.Plain.{entries_of}
-use Rattle.flat_history.specs.Transfers.{last_end_from}
-use Rattle.views.specs.Rebuilding.{Held}
-use Rattle.views.specs.Numbers.{bears}
-use Rattle.views.proofs.MovedLaws.{grows-none, moved-same}
-use Rattle.call_entries.proofs.CallLaws.{torn-losses}
+use Rattle.array_state.specs.md_base_the_Span.{Span}
+use Rattle.array_state.specs.md_base_Sectors.{Sector, sectors_of}
+use Rattle.array_state.proofs.md_base_SectorLaws.{length-sectors_of}
+use Rattle.election.specs.superblocks_Reading.{list_length}
+use Rattle.pieces.specs.flat_history_the_Entry.{Entry}
+use Rattle.pieces.specs.flat_history_the_Event_TheVariants.{Read, Refused}
+use Rattle.pieces.specs.flat_history_the_Request_TheVariants.{Read as AsksRead}
+use Rattle.pieces.specs.flat_history_World.{opening_list}
+use Rattle.pieces.specs.flat_history_Flat.{next_number, now}
+use Rattle.pieces.specs.flat_history_Plain.{entries_of}
+use Rattle.pieces.specs.flat_history_Transfers.{last_end_from}
+use Rattle.pieces.specs.views_Rebuilding.{Held}
+use Rattle.pieces.specs.views_Numbers.{bears}
+use Rattle.pieces.proofs.views_MovedLaws.{grows-none, moved-same}
+use Rattle.array_state.proofs.call_entries_CallLaws.{torn-losses}
 use Rattle.moving_laws.specs.array_kept_Kept.{scope_in}
 use Rattle.moving_laws.specs.array_kept_Calls.{IsLossBy, WasSpare, IsRefusedFor}
 use Rattle.moving_laws.proofs.array_kept_LossLaws.{ended-behind}
@@ -35,16 +35,16 @@ use Rattle.moving_laws.specs.running_words_Calls.{moving_world}
 use Rattle.moving_laws.proofs.Kept.{ready, shapes-same, alone-keeps}
 use Rattle.moving_laws.proofs.running_words_Called.{not_254, alone-lossless, called}
 use Rattle.moving_laws.proofs.Reading.{none-read, read-quiet, no-sectors, first-right, first-reply}
-use Rattle.md_base.specs.declared.answers.Fault.{Fault as AnyFault}
-use Rattle.md_base.specs.declared.answers.Fault.TheVariants.{Refused as IsRefusedWith, NoMemory}
-use Rattle.bank.specs.Tape.{AreSectors}
+use Rattle.array_state.specs.md_base_the_Fault.{Fault as AnyFault}
+use Rattle.array_state.specs.md_base_the_Fault_TheVariants.{Refused as IsRefusedWith, NoMemory}
+use Rattle.election.specs.bank_Tape.{AreSectors}
 use Rattle.moving_laws.specs.array_kept_Calls.{IsAnswered, OnNoMemory}
 use Rattle.moving_laws.proofs.WriteLaws.{roomed, called-roomed}
 use Rattle.moving_laws.proofs.FirstLaws.{first-short, first-told, first-none, first-seen}
 use Rattle.moving.proofs.Calls.{still-called, one-of-51, whole-as, some-of, called-over, never-falls}
-use Rattle.row_io.specs.Rows.{present}
-use Rattle.superblocks.specs.Reading.{is_clean}
-use Rattle.views.specs.Lacking.{HaveRolesFailed}
+use Rattle.pieces.specs.row_io_Rows.{present}
+use Rattle.election.specs.superblocks_Reading.{is_clean}
+use Rattle.pieces.specs.views_Lacking.{HaveRolesFailed}
 use Rattle.moving_laws.specs.running_words_Calls.{IsCalled}
 use Rattle.moving.proofs.state.Moving.read.Goals as goal
 

@@ -1,25 +1,25 @@
 use Rattle.std.proofs.Common.{◌≡◌, ◌+◌, ◌-◌, ◌*◌, ◌/◌, ◌<◌, ◌≤◌, ◌++◌, ◌∷◌, [], ℕ, Option, Some, None, List, length, take, drop, refl, sym, ◌∙◌, ap, subst, arith}
 use Rattle.std.specs.Prelude.{IfSome}
 use Rattle.std.specs.Vec.{with_items}
-use Rattle.md_base.specs.declared.places.Span.{Span}
-use Rattle.md_base.specs.Sectors.{Sector, IsWhole, sectors_of}
-use Rattle.md_base.proofs.SectorLaws.{length-sectors_of}
-use Rattle.superblocks.specs.Reading.{list_length, is_clean}
-use Rattle.superblocks.proofs.ValidFields.{few-roles}
-use Rattle.row_io.specs.Rows.{present}
-use Rattle.flat_history.specs.declared.events.Entry.{Entry}
-use Rattle.flat_history.specs.declared.events.Event.TheVariants.{Read, Refused}
-use Rattle.flat_history.specs.declared.events.Request.TheVariants.{Read as AsksRead}
-use Rattle.flat_history.specs.World.{World, opening_list}
-use Rattle.flat_history.specs.Flat.{next_number, now}
-use Rattle.flat_history.specs.Plain.{entries_of}
-use Rattle.flat_history.specs.Stands.{shape_for}
-use Rattle.views.specs.Numbers.{bears}
-use Rattle.views.specs.Lacking.{AreLostSince, DoesWithout, HaveRolesFailed}
-use Rattle.views.proofs.LackingLaws.{lost-since}
-use Rattle.views.proofs.LackingLists.{row-sector}
-use Rattle.call_entries.specs.Losing.{losses_of}
-use Rattle.call_entries.proofs.CallLaws.{losses-are, torn-losses}
+use Rattle.array_state.specs.md_base_the_Span.{Span}
+use Rattle.array_state.specs.md_base_Sectors.{Sector, IsWhole, sectors_of}
+use Rattle.array_state.proofs.md_base_SectorLaws.{length-sectors_of}
+use Rattle.election.specs.superblocks_Reading.{list_length, is_clean}
+use Rattle.election.proofs.superblocks_ValidFields.{few-roles}
+use Rattle.pieces.specs.row_io_Rows.{present}
+use Rattle.pieces.specs.flat_history_the_Entry.{Entry}
+use Rattle.pieces.specs.flat_history_the_Event_TheVariants.{Read, Refused}
+use Rattle.pieces.specs.flat_history_the_Request_TheVariants.{Read as AsksRead}
+use Rattle.pieces.specs.flat_history_World.{World, opening_list}
+use Rattle.pieces.specs.flat_history_Flat.{next_number, now}
+use Rattle.pieces.specs.flat_history_Plain.{entries_of}
+use Rattle.pieces.specs.flat_history_Stands.{shape_for}
+use Rattle.pieces.specs.views_Numbers.{bears}
+use Rattle.pieces.specs.views_Lacking.{AreLostSince, DoesWithout, HaveRolesFailed}
+use Rattle.pieces.proofs.views_LackingLaws.{lost-since}
+use Rattle.pieces.proofs.views_LackingLists.{row-sector}
+use Rattle.array_state.specs.call_entries_Losing.{losses_of}
+use Rattle.array_state.proofs.call_entries_CallLaws.{losses-are, torn-losses}
 use Rattle.moving_laws.specs.array_kept_Kept.{scope_in}
 use Rattle.moving_laws.specs.array_kept_Calls.{IsRefusedFor, IsRefusalOf}
 use Rattle.moving_laws.proofs.array_kept_LossLaws.{losses-behind, ended-behind}

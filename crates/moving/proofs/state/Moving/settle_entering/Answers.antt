@@ -1,17 +1,17 @@
 use Rattle.std.proofs.Common.{◌≡◌, ℕ, [], ◌∷◌, ◌++◌, Option, Some, None, is_some, refl, sym, ◌∙◌, ap, subst, arith, inl, List, append-nil, zero-le}
-use Rattle.superblocks.proofs.ValidFields.{few-roles}
-use Rattle.flat_history.specs.declared.events.Event.TheVariants.{Refused}
-use Rattle.flat_history.specs.Flat.{next_number}
-use Rattle.flat_history.specs.Plain.{entries_of}
-use Rattle.views.proofs.LackingLaws.{lost-since, never-both}
-use Rattle.views.proofs.MovedLaws.{grows-none, moved-same}
-use Rattle.call_entries.specs.Losing.{losses_of}
+use Rattle.election.proofs.superblocks_ValidFields.{few-roles}
+use Rattle.pieces.specs.flat_history_the_Event_TheVariants.{Refused}
+use Rattle.pieces.specs.flat_history_Flat.{next_number}
+use Rattle.pieces.specs.flat_history_Plain.{entries_of}
+use Rattle.pieces.proofs.views_LackingLaws.{lost-since, never-both}
+use Rattle.pieces.proofs.views_MovedLaws.{grows-none, moved-same}
+use Rattle.array_state.specs.call_entries_Losing.{losses_of}
 use Rattle.moving_laws.specs.array_kept_Kept.{scope_in}
 use Rattle.moving_laws.proofs.array_kept_LossLaws.{losses-behind, ended-behind, behind-alone, settling-no-loss}
 use Rattle.moving_laws.proofs.array_kept_ReadyLaws.{scope-same, list-same}
 use Rattle.moving_laws.specs.kept_history_Safe.{world_in}
 use Rattle.moving_laws.proofs.kept_history_Records.{begins-going}
-use Rattle.views.specs.Numbers.{bears}
+use Rattle.pieces.specs.views_Numbers.{bears}
 use Rattle.moving_laws.specs.moving_kept_Moving.{IsMoving}
 use Rattle.moving_laws.proofs.moving_kept_Flushing.{flushed-moves, unflushed-moves, AreFlushed}
 use Rattle.moving_laws.proofs.moving_kept_Refusals.{quiet-refusal, refused-right}
@@ -23,11 +23,11 @@ use Rattle.moving_laws.proofs.Kept.{ready, shapes-same, shapes-moved, left-moved
 use Rattle.moving_laws.proofs.running_words_Called.{not_254, alone-lossless, called}
 use Rattle.moving_laws.proofs.Settled.{settling-long, settling-free, settles-so, risen-told, many-of}
 use Rattle.std.proofs.lemmas.List.Elements.{All-nil}
-use Rattle.superblocks.specs.Reading.{list_length}
-use Rattle.flat_history.specs.declared.events.Entry.{Entry}
-use Rattle.flat_history.specs.Transfers.{last_end_from}
-use Rattle.views.specs.Lacking.{AreTooMany}
-use Rattle.views.specs.Rebuilding.{Held}
+use Rattle.election.specs.superblocks_Reading.{list_length}
+use Rattle.pieces.specs.flat_history_the_Entry.{Entry}
+use Rattle.pieces.specs.flat_history_Transfers.{last_end_from}
+use Rattle.pieces.specs.views_Lacking.{AreTooMany}
+use Rattle.pieces.specs.views_Rebuilding.{Held}
 use Rattle.moving_laws.specs.array_kept_Calls.{IsLossBy, WasSpare}
 use Rattle.moving_laws.proofs.array_kept_ReplyLaws.{refused-for, too-many-of}
 use Rattle.moving.proofs.StepLaws.{room-made, behind-roomed, unchanged-roomed, roles-moved}

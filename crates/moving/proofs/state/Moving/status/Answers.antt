@@ -1,17 +1,17 @@
 use Rattle.std.proofs.Common.{◌≡◌, ◌∷◌, ◌++◌, [], Some, List, length, refl, sym, ◌∙◌, ap, ap₂, arith, subst}
-use Rattle.md_base.specs.declared.status.Status.{Status}
-use Rattle.superblocks.proofs.ValidFields.{few-roles}
-use Rattle.flat_history.specs.Flat.{next_number}
-use Rattle.flat_history.specs.Plain.{entries_of}
-use Rattle.flat_history.specs.declared.events.Entry.{Entry}
-use Rattle.flat_history.specs.declared.events.Event.TheVariants.{Shown}
-use Rattle.views.proofs.MovedLaws.{grows-none}
+use Rattle.array_state.specs.md_base_the_Status.{Status}
+use Rattle.election.proofs.superblocks_ValidFields.{few-roles}
+use Rattle.pieces.specs.flat_history_Flat.{next_number}
+use Rattle.pieces.specs.flat_history_Plain.{entries_of}
+use Rattle.pieces.specs.flat_history_the_Entry.{Entry}
+use Rattle.pieces.specs.flat_history_the_Event_TheVariants.{Shown}
+use Rattle.pieces.proofs.views_MovedLaws.{grows-none}
 use Rattle.moving_laws.proofs.array_kept_LossLaws.{ended-behind}
 use Rattle.moving_laws.proofs.array_kept_ReadyLaws.{scope-same, list-same}
 use Rattle.moving_laws.specs.running_words_Parts.{left_in}
 use Rattle.moving_laws.proofs.Kept.{ready, roomier, shapes-same, alone-keeps}
 use Rattle.moving_laws.proofs.Asking.{status-same, shown-moves}
-use Rattle.flat_history.specs.Transfers.{last_end_from}
+use Rattle.pieces.specs.flat_history_Transfers.{last_end_from}
 use Rattle.moving_laws.specs.array_kept_Kept.{scope_in}
 use Rattle.moving_laws.specs.array_kept_Calls.{IsEndOf}
 use Rattle.moving.proofs.Calls.{one-of-2}

@@ -1,7 +1,7 @@
 use Rattle.std.proofs.Common.{◌≤◌, ℕ, Option, List, length, sym, subst}
-use Rattle.flat_history.specs.declared.events.Entry.{Entry}
-use Rattle.flat_history.specs.Epochs.{world_of}
-use Rattle.flat_history.specs.Growing.{EndBy}
+use Rattle.pieces.specs.flat_history_the_Entry.{Entry}
+use Rattle.pieces.specs.flat_history_Epochs.{world_of}
+use Rattle.pieces.specs.flat_history_Growing.{EndBy}
 use Rattle.moving_laws.specs.array_kept_Calls.{IsEndOf}
 use Rattle.moving_laws.specs.history_calls_Reliable.{IsReliable}
 use Rattle.moving_laws.specs.running_words_Calls.{IsEpochKept}

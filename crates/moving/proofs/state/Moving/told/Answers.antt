@@ -1,5 +1,5 @@
 use Rattle.std.proofs.Common.{arith}
-use Rattle.superblocks.proofs.ValidFields.{few-roles}
+use Rattle.election.proofs.superblocks_ValidFields.{few-roles}
 use Rattle.moving.proofs.state.Moving.told.Goals as goal
 
 pub copy_roles-requires : goal.copy_roles-requires

@@ -1,5 +1,5 @@
 use Rattle.std.proofs.Common.{◌≡◌, ◌≤◌, [], ◌∷◌, false, length, ap, sym, ◌∙◌, subst}
-use Rattle.superblocks.specs.Reading.{is_reshaping}
+use Rattle.takeover.specs.superblocks_Reading.{is_reshaping}
 use Rattle.growing.specs.views_Placed.{AreWhole}
 use Rattle.growing.specs.kept_history_Recorded.{IsCallGoing}
 use Rattle.growing.specs.still_laws_Steps.{MayAnswer}

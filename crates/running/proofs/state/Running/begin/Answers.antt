@@ -1,8 +1,8 @@
 use Rattle.std.proofs.Common.{◌≡◌, ◌≤◌, ◌∷◌, List, length, refl, sym, ◌∙◌, ap, subst}
 use Rattle.std.specs.Prelude.{IsSome}
-use Rattle.md_base.specs.declared.wishes.Phase.{Phase}
-use Rattle.md_base.specs.declared.wishes.Phase.TheVariants.{Reshape}
-use Rattle.grow_asked.specs.Left.{phases_of}
+use Rattle.growing.specs.md_base_the_Phase.{Phase}
+use Rattle.growing.specs.md_base_the_Phase_TheVariants.{Reshape}
+use Rattle.takeover.specs.grow_asked_Left.{phases_of}
 use Rattle.growing.specs.turning_Begun.{HasKeptLength}
 use Rattle.growing.specs.views_Status.{left_of}
 use Rattle.running.specs.State.{parts_in}

@@ -1,5 +1,5 @@
 use Rattle.std.proofs.Common.{◌≤◌, length, refl, sym, ◌∙◌, ap, subst, inl}
-use Rattle.flat_history.specs.declared.events.Event.TheVariants.{Refused}
+use Rattle.takeover.specs.flat_history_the_Event_TheVariants.{Refused}
 use Rattle.growing.proofs.still_laws_PlansKept.{add-behind}
 use Rattle.growing.specs.kept_history_Recorded.{IsCallGoing}
 use Rattle.running.specs.State.{parts_in}

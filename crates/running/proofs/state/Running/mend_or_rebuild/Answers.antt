@@ -1,5 +1,5 @@
 use Rattle.std.proofs.Common.{◌≡◌, ◌<◌, ◌≤◌, length, sym, ◌∙◌, ap, subst}
-use Rattle.flat_history.specs.declared.events.StepKind.TheVariants.{RebuildEnded as EndsRebuild}
+use Rattle.takeover.specs.flat_history_the_StepKind_TheVariants.{RebuildEnded as EndsRebuild}
 use Rattle.growing.specs.views_Status.{left_of}
 use Rattle.growing.specs.running_words_Calls.{moving_world}
 use Rattle.growing.specs.still_laws_Steps.{IsCallUnbroken}

@@ -1,6 +1,6 @@
 use Rattle.std.proofs.Common.{◌≡◌, ◌≤◌, List, length, sym, ◌∙◌, ap, subst}
-use Rattle.md_base.specs.declared.wishes.Phase.{Phase}
-use Rattle.grow_asked.specs.Left.{phases_of}
+use Rattle.growing.specs.md_base_the_Phase.{Phase}
+use Rattle.takeover.specs.grow_asked_Left.{phases_of}
 use Rattle.takeover.specs.TakenOver.{IsTakeoverNext}
 use Rattle.growing.specs.kept_history_Recorded.{IsCallGoing}
 use Rattle.growing.specs.views_Status.{left_of}

@@ -1,6 +1,6 @@
 use Rattle.std.proofs.Common.{◌≡◌, ◌<◌, [], ◌∷◌, sym, subst, arith}
 use Rattle.growing.specs.views_Status.{left_of}
-use Rattle.grow_asked.specs.Left.{phases_of}
+use Rattle.takeover.specs.grow_asked_Left.{phases_of}
 use Rattle.growing.proofs.views_Fit.{short}
 use Rattle.running.proofs.Answered.{next-own, next-none, next-begin, next-up, next-down, some-own, some-ahead}
 use Rattle.running.proofs.state.choosing.next_still.Goals as goal

@@ -1,18 +1,18 @@
 use Rattle.std.proofs.Common.{◌≡◌, ◌∙◌, ◌++◌, ℕ, ◌<◌, false, List, refl, sym, ap, subst, arith, ◌≤◌}
-use Rattle.md_base.specs.declared.places.Shape.{Shape}
-use Rattle.md_base.specs.Shapes.{has_slot}
-use Rattle.superblocks.specs.Reading.{Scope, shape_of}
-use Rattle.row_io.specs.Rows.{reading_of}
-use Rattle.flat_history.specs.declared.events.Entry.{Entry}
-use Rattle.flat_history.specs.Plain.{entries_of}
+use Rattle.array_state.specs.md_base_the_Shape.{Shape}
+use Rattle.array_state.specs.md_base_Shapes.{has_slot}
+use Rattle.election.specs.superblocks_Reading.{Scope, shape_of}
+use Rattle.pieces.specs.row_io_Rows.{reading_of}
+use Rattle.pieces.specs.flat_history_the_Entry.{Entry}
+use Rattle.pieces.specs.flat_history_Plain.{entries_of}
 use Rattle.still_laws.specs.array_kept_Kept.{scope_in}
 use Rattle.still_laws.specs.array_kept_Adopting.{opener, absent_losses, found_losses, IsAdoptable}
 use Rattle.still_laws.proofs.array_kept_ReadyLaws.{scope-same}
 use Rattle.still_laws.proofs.calls_kept_AdoptingLaws.{ready_adopted}
-use Rattle.views.proofs.Fit.{valid, roles-still}
+use Rattle.pieces.proofs.views_Fit.{valid, roles-still}
 use Rattle.still_laws.proofs.Adopting.{begins-ready, found-plainly}
 use Rattle.still_laws.specs.Plain.{AreToldPlainly}
-use Rattle.layout.proofs.Limits.{limited}
+use Rattle.election.proofs.layout_Limits.{limited}
 use Rattle.still.proofs.Asked.{known-at}
 use Rattle.still.proofs.state.Still.adopt.Goals as goal
 

@@ -1,7 +1,7 @@
 use Rattle.std.proofs.Common.{◌≤◌, [], ◌∷◌, inl, refl, sym, subst, arith}
-use Rattle.flat_history.specs.Plain.{entries_of}
-use Rattle.views.specs.Rebuilding.{Held}
-use Rattle.views.proofs.MovedLaws.{grows-none}
+use Rattle.pieces.specs.flat_history_Plain.{entries_of}
+use Rattle.pieces.specs.views_Rebuilding.{Held}
+use Rattle.pieces.proofs.views_MovedLaws.{grows-none}
 use Rattle.still_laws.specs.array_kept_Calls.{WasSpare}
 use Rattle.still_laws.proofs.array_kept_LossLaws.{ended-behind}
 use Rattle.still_laws.proofs.array_kept_ReadyLaws.{scope-same}

@@ -1,8 +1,8 @@
 use Rattle.std.proofs.Common.{sym, ◌∙◌, ap, arith}
-use Rattle.md_base.specs.declared.places.Shape.{Shape}
-use Rattle.layout.proofs.Limits.{limited}
-use Rattle.superblocks.specs.Reading.{shape_of}
-use Rattle.views.proofs.Fit.{valid, roles-still}
+use Rattle.array_state.specs.md_base_the_Shape.{Shape}
+use Rattle.election.proofs.layout_Limits.{limited}
+use Rattle.election.specs.superblocks_Reading.{shape_of}
+use Rattle.pieces.proofs.views_Fit.{valid, roles-still}
 use Rattle.still.proofs.state.Still.disks.Goals as goal
 
 pub returns-clause-roles : goal.returns-clause-roles

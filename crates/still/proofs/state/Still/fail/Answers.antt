@@ -1,17 +1,17 @@
 use Rattle.std.proofs.Common.{◌≡◌, ◌++◌, ◌∷◌, [], List, refl, sym, ◌∙◌, ap, subst, arith}
-use Rattle.md_base.specs.declared.answers.Refusal.TheVariants.{NoSuchRole}
-use Rattle.superblocks.specs.Reading.{list_length, is_clean, role_count}
-use Rattle.superblocks.proofs.ValidFields.{few-roles}
-use Rattle.flat_history.specs.declared.events.Entry.{Entry}
-use Rattle.flat_history.specs.declared.events.Event.TheVariants.{Refused, Lost, Failed}
-use Rattle.flat_history.specs.declared.events.LostCause.TheVariants.{Command}
-use Rattle.flat_history.specs.Flat.{next_number}
-use Rattle.flat_history.specs.Plain.{entries_of}
-use Rattle.views.proofs.Fit.{roles-still, count-alike}
-use Rattle.views.proofs.HeldRows.{vacant-moved}
-use Rattle.views.proofs.LiveLeft.{holder-left}
-use Rattle.views.proofs.MovedLaws.{grows-none, moved-same}
-use Rattle.call_entries.specs.Losing.{losses_of}
+use Rattle.array_state.specs.md_base_the_Refusal_TheVariants.{NoSuchRole}
+use Rattle.election.specs.superblocks_Reading.{list_length, is_clean, role_count}
+use Rattle.election.proofs.superblocks_ValidFields.{few-roles}
+use Rattle.pieces.specs.flat_history_the_Entry.{Entry}
+use Rattle.pieces.specs.flat_history_the_Event_TheVariants.{Refused, Lost, Failed}
+use Rattle.pieces.specs.flat_history_the_LostCause_TheVariants.{Command}
+use Rattle.pieces.specs.flat_history_Flat.{next_number}
+use Rattle.pieces.specs.flat_history_Plain.{entries_of}
+use Rattle.pieces.proofs.views_Fit.{roles-still, count-alike}
+use Rattle.pieces.proofs.views_HeldRows.{vacant-moved}
+use Rattle.pieces.proofs.views_LiveLeft.{holder-left}
+use Rattle.pieces.proofs.views_MovedLaws.{grows-none, moved-same}
+use Rattle.array_state.specs.call_entries_Losing.{losses_of}
 use Rattle.still_laws.specs.array_kept_Kept.{scope_in}
 use Rattle.still_laws.proofs.array_kept_ReadyLaws.{scope-same}
 use Rattle.still_laws.proofs.array_kept_ReplyLaws.{fail_reply, no_role_reply}
@@ -27,7 +27,7 @@ use Rattle.still_laws.proofs.Asking.{refused-alone}
 use Rattle.still_laws.proofs.Kept.{ready, rows-same, rows-moved, roomier}
 use Rattle.still_laws.proofs.PlainBehind.{here-plain}
 use Rattle.still_laws.proofs.PlainAdds.{failed-plain}
-use Rattle.superblocks.specs.declared.members.Members.{Members}
+use Rattle.election.specs.superblocks_the_Members.{Members}
 use Rattle.still_laws.specs.array_kept_Calls.{HasRole}
 use Rattle.still.proofs.Asked.{number-behind, same-known, entries-alike, undone-called}
 use Rattle.still.proofs.state.Still.fail.Goals as goal

@@ -1,4 +1,4 @@
-use Rattle.superblocks.specs.Reading.{list_length}
+use Rattle.election.specs.superblocks_Reading.{list_length}
 use Rattle.still_laws.proofs.array_kept_ReplyLaws.{flush_answer}
 use Rattle.still.proofs.state.Still.flush.Goals as goal
 

@@ -1,12 +1,12 @@
 use Rattle.std.proofs.Common.{◌≡◌, ℕ, List, [], ◌∷◌, ◌++◌, length, refl, sym, ◌∙◌, ap, subst, arith}
 use Rattle.std.specs.Prelude.{vec_capacity}
-use Rattle.superblocks.specs.Reading.{Scope}
-use Rattle.flat_history.specs.declared.events.Entry.{Entry}
-use Rattle.flat_history.specs.declared.events.Event.TheVariants.{Halted}
-use Rattle.flat_history.specs.Flat.{next_number}
-use Rattle.flat_history.specs.Growing.{EndBy}
-use Rattle.flat_history.specs.Plain.{entries_of}
-use Rattle.views.proofs.MovedLaws.{grows-none}
+use Rattle.election.specs.superblocks_Reading.{Scope}
+use Rattle.pieces.specs.flat_history_the_Entry.{Entry}
+use Rattle.pieces.specs.flat_history_the_Event_TheVariants.{Halted}
+use Rattle.pieces.specs.flat_history_Flat.{next_number}
+use Rattle.pieces.specs.flat_history_Growing.{EndBy}
+use Rattle.pieces.specs.flat_history_Plain.{entries_of}
+use Rattle.pieces.proofs.views_MovedLaws.{grows-none}
 use Rattle.still_laws.specs.array_kept_Kept.{scope_in}
 use Rattle.still_laws.proofs.array_kept_ReadyLaws.{scope-same}
 use Rattle.still_laws.proofs.kept_history_Records.{begins-going}

@@ -1,6 +1,6 @@
 use Rattle.std.proofs.Common.{sym, ◌∙◌, arith}
 use Rattle.still_laws.proofs.shape_views_Stands.{list-still}
-use Rattle.views.proofs.MemberLaws.{list-few}
+use Rattle.pieces.proofs.views_MemberLaws.{list-few}
 use Rattle.still.proofs.state.Still.length.Goals as goal
 
 pub returns-clause-length : goal.returns-clause-length

@@ -1,13 +1,13 @@
 use Rattle.std.proofs.Common.{◌≡◌, ◌∷◌, ◌++◌, [], ℕ, List, length, refl, sym, ◌∙◌, ap, ap₂, arith}
-use Rattle.superblocks.specs.Reading.{list_length}
-use Rattle.flat_history.specs.Flat.{next_number}
-use Rattle.flat_history.specs.Plain.{entries_of}
-use Rattle.flat_history.specs.declared.events.Entry.{Entry}
-use Rattle.flat_history.specs.declared.events.Event.TheVariants.{Visible, Refused}
-use Rattle.views.proofs.MovedLaws.{grows-none}
+use Rattle.election.specs.superblocks_Reading.{list_length}
+use Rattle.pieces.specs.flat_history_Flat.{next_number}
+use Rattle.pieces.specs.flat_history_Plain.{entries_of}
+use Rattle.pieces.specs.flat_history_the_Entry.{Entry}
+use Rattle.pieces.specs.flat_history_the_Event_TheVariants.{Visible, Refused}
+use Rattle.pieces.proofs.views_MovedLaws.{grows-none}
 use Rattle.still_laws.proofs.array_kept_LossLaws.{ended-behind}
 use Rattle.still_laws.proofs.array_kept_ReadyLaws.{scope-same}
-use Rattle.grow_asked.specs.Left.{phases_of}
+use Rattle.pieces.specs.grow_asked_Left.{phases_of}
 use Rattle.still_laws.proofs.kept_history_Records.{begins-going}
 use Rattle.still_laws.specs.moving_state_Left.{visible_by}
 use Rattle.still_laws.specs.running_words_Parts.{visible_size}
@@ -15,7 +15,7 @@ use Rattle.still_laws.specs.running_words_Visible.{visible_refusal}
 use Rattle.still_laws.proofs.running_words_Lengths.{alone-keeps}
 use Rattle.still_laws.proofs.Kept.{ready, rows-same, roomier}
 use Rattle.still_laws.proofs.Limiting.{unlimited-fits, unlimited-stands, unlimited-plain, visible-fits, visible-ready}
-use Rattle.flat_history.specs.Transfers.{last_end_from}
+use Rattle.pieces.specs.flat_history_Transfers.{last_end_from}
 use Rattle.still.proofs.Rested.{entries-same}
 use Rattle.still.proofs.state.Still.set_visible.Goals as goal
 

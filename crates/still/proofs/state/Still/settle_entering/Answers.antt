@@ -1,12 +1,12 @@
 use Rattle.std.proofs.Common.{◌≡◌, [], ◌∷◌, ◌++◌, refl, sym, ◌∙◌, ap, arith, inl, List, subst}
-use Rattle.superblocks.proofs.ValidFields.{few-roles}
-use Rattle.flat_history.specs.declared.events.Event.TheVariants.{Refused}
-use Rattle.flat_history.specs.Flat.{next_number}
-use Rattle.flat_history.specs.Plain.{entries_of}
-use Rattle.views.proofs.LackingLaws.{lost-since, never-both}
-use Rattle.views.proofs.LiveLeft.{without-left}
-use Rattle.views.proofs.MovedLaws.{grows-none, moved-same}
-use Rattle.call_entries.specs.Losing.{losses_of}
+use Rattle.election.proofs.superblocks_ValidFields.{few-roles}
+use Rattle.pieces.specs.flat_history_the_Event_TheVariants.{Refused}
+use Rattle.pieces.specs.flat_history_Flat.{next_number}
+use Rattle.pieces.specs.flat_history_Plain.{entries_of}
+use Rattle.pieces.proofs.views_LackingLaws.{lost-since, never-both}
+use Rattle.pieces.proofs.views_LiveLeft.{without-left}
+use Rattle.pieces.proofs.views_MovedLaws.{grows-none, moved-same}
+use Rattle.array_state.specs.call_entries_Losing.{losses_of}
 use Rattle.still_laws.specs.array_kept_Kept.{scope_in}
 use Rattle.still_laws.proofs.array_kept_LossLaws.{losses-behind, ended-behind, behind-alone, settling-no-loss}
 use Rattle.still_laws.proofs.array_kept_ReadyLaws.{scope-same}
@@ -22,11 +22,11 @@ use Rattle.still_laws.proofs.Settled.{settled-stands, left-settled, settling-kee
 use Rattle.still_laws.proofs.array_kept_DegradedLaws.{too-many-here}
 use Rattle.still_laws.proofs.PlainBehind.{plain-refused, plain-settled, here-plain}
 use Rattle.std.specs.Prelude.{is_some}
-use Rattle.superblocks.specs.Reading.{list_length}
-use Rattle.row_io.specs.Rows.{reading_of, present}
-use Rattle.flat_history.specs.declared.events.Entry.{Entry}
-use Rattle.views.specs.Lacking.{AreHoldersFlushed, AreTooMany, HaveRolesFailed}
-use Rattle.views.specs.Placed.{AreWhole}
+use Rattle.election.specs.superblocks_Reading.{list_length}
+use Rattle.pieces.specs.row_io_Rows.{reading_of, present}
+use Rattle.pieces.specs.flat_history_the_Entry.{Entry}
+use Rattle.pieces.specs.views_Lacking.{AreHoldersFlushed, AreTooMany, HaveRolesFailed}
+use Rattle.pieces.specs.views_Placed.{AreWhole}
 use Rattle.still_laws.specs.shape_changes_Marking.{AreOthersPresent}
 use Rattle.still_laws.specs.array_kept_Calls.{IsRefusedFor}
 use Rattle.still_laws.proofs.array_kept_ReplyLaws.{refused-for, too-many-of}

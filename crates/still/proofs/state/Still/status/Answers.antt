@@ -1,28 +1,28 @@
 use Rattle.std.proofs.Common.{◌≡◌, ◌∷◌, ◌++◌, [], List, length, refl, sym, ◌∙◌, ap, ap₂, subst, arith, ◌≤◌, ℕ, ◌<◌}
-use Rattle.md_base.specs.declared.status.Status.{Status}
-use Rattle.superblocks.proofs.ValidFields.{few-roles}
-use Rattle.flat_history.specs.Flat.{next_number}
-use Rattle.flat_history.specs.Plain.{entries_of}
-use Rattle.flat_history.specs.declared.events.Entry.{Entry}
-use Rattle.flat_history.specs.declared.events.Event.TheVariants.{Shown}
+use Rattle.array_state.specs.md_base_the_Status.{Status}
+use Rattle.election.proofs.superblocks_ValidFields.{few-roles}
+use Rattle.pieces.specs.flat_history_Flat.{next_number}
+use Rattle.pieces.specs.flat_history_Plain.{entries_of}
+use Rattle.pieces.specs.flat_history_the_Entry.{Entry}
+use Rattle.pieces.specs.flat_history_the_Event_TheVariants.{Shown}
 use Rattle.still_laws.proofs.array_kept_LossLaws.{ended-behind}
 use Rattle.still_laws.proofs.array_kept_ReadyLaws.{scope-same, list-same}
 use Rattle.still_laws.specs.running_words_Parts.{still_left, RunningParts}
 use Rattle.still_laws.proofs.running_words_Lengths.{alone-keeps}
 use Rattle.still_laws.proofs.Kept.{ready, rows-same, roomier}
 use Rattle.still_laws.proofs.Asking.{status-same, shown-stands}
-use Rattle.views.proofs.MovedLaws.{grows-none}
+use Rattle.pieces.proofs.views_MovedLaws.{grows-none}
 use Rattle.still_laws.proofs.kept_history_Records.{begins-going}
 use Rattle.still_laws.proofs.PlainBehind.{shown-plain}
-use Rattle.flat_history.specs.Transfers.{last_end_from}
-use Rattle.bank.specs.Given.{Given}
-use Rattle.bank.specs.declared.bank.Operation.{Operation}
+use Rattle.pieces.specs.flat_history_Transfers.{last_end_from}
+use Rattle.election.specs.bank_Given.{Given}
+use Rattle.election.specs.bank_the_Operation.{Operation}
 use Rattle.still_laws.specs.array_kept_Calls.{IsEndOf}
 use Rattle.still_laws.specs.array_kept_Kept.{scope_in}
 use Rattle.still_laws.specs.running_words_Calls.{moving_world, IsSameReshape}
 use Rattle.still_laws.proofs.StepLaws.{IsSameEpoch}
-use Rattle.superblocks.specs.Reading.{is_backward, shape_of, final_shape}
-use Rattle.superblocks.specs.declared.members.Members.{Members}
+use Rattle.election.specs.superblocks_Reading.{is_backward, shape_of, final_shape}
+use Rattle.election.specs.superblocks_the_Members.{Members}
 use Rattle.still.proofs.Rested.{entries-same}
 use Rattle.still.proofs.state.Still.status.Goals as goal
 

@@ -1,5 +1,5 @@
 use Rattle.std.proofs.Common.{ℕ, sym, ◌∙◌, ap, arith}
-use Rattle.superblocks.specs.Reading.{list_length}
+use Rattle.election.specs.superblocks_Reading.{list_length}
 use Rattle.still_laws.specs.moving_state_Left.{visible_by}
 use Rattle.still.proofs.state.Still.visible.Goals as goal
 

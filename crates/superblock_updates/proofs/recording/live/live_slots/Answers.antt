@@ -1,5 +1,5 @@
 use Rattle.std.proofs.Common.{◌≡◌, ℕ, ◌&&◌, nat_lt, subst, arith}
-use Rattle.md_base.specs.Shapes.{has_slot}
+use Rattle.superblocks.specs.md_base_Shapes.{has_slot}
 use Rattle.superblocks.specs.Outcome.{is_in_update}
 use Rattle.superblocks.proofs.SlotSets.{is-set_of}
 use Rattle.superblock_updates.proofs.recording.live.live_slots.Goals as goal

@@ -1,5 +1,5 @@
 use Rattle.std.proofs.Common.{◌≡◌, Some, slice_set, sym, ◌∙◌, ap, arith}
-use Rattle.sb1.specs.declared.sb.Sb.{Sb}
+use Rattle.superblocks.specs.sb1_the_Sb.{Sb}
 use Rattle.superblocks.specs.Outcome.{with_added}
 use Rattle.superblocks.proofs.SlotSets.{without_one}
 use Rattle.superblock_updates.proofs.recording.live.take_added.Goals as goal

@@ -1,5 +1,5 @@
 use Rattle.std.proofs.Common.{sym, ◌∙◌, arith}
-use Rattle.md_base.specs.Shapes.{has_slot}
+use Rattle.superblocks.specs.md_base_Shapes.{has_slot}
 use Rattle.superblock_updates.proofs.Passes.{slot_below}
 use Rattle.superblocks.proofs.StoredSlots.{keeping-first, keeping-set, keeping-none, keeping-all}
 use Rattle.superblock_updates.proofs.recording.own.keep_own.Goals.{then-contains, else-contains}

@@ -1,4 +1,4 @@
-use Rattle.md_base.specs.Shapes.{has_slot}
+use Rattle.superblocks.specs.md_base_Shapes.{has_slot}
 use Rattle.superblocks.proofs.StoredSlots.{Keeping}
 use Rattle.superblock_updates.proofs.recording.own.keep_own.Given as goal
 

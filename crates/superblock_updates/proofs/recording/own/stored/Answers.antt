@@ -1,5 +1,5 @@
 use Rattle.std.proofs.Common.{Some, ap, arith}
-use Rattle.sb1.specs.declared.sb.Sb.{Sb}
+use Rattle.superblocks.specs.sb1_the_Sb.{Sb}
 use Rattle.superblock_updates.proofs.recording.own.stored.Goals as goal
 
 pub returns : goal.returns

@@ -1,7 +1,7 @@
 use Rattle.std.proofs.Common.{List, take, ◌∙◌, ap, arith}
-use Rattle.md_base.specs.declared.status.Role.{Role}
-use Rattle.md_base.specs.declared.status.Role.TheVariants.{Missing}
-use Rattle.md_base.specs.Search.{tabulate}
+use Rattle.bank.specs.md_base_the_Role.{Role}
+use Rattle.bank.specs.md_base_the_Role_TheVariants.{Missing}
+use Rattle.superblocks.specs.md_base_Search.{tabulate}
 use Rattle.superblocks.specs.Outcome.{planned_state}
 use Rattle.superblock_updates.proofs.RoleStates.{take-tabulate}
 use Rattle.superblock_updates.proofs.recording.roles.keep_roles.Goals as goal

@@ -1,6 +1,6 @@
 use Rattle.std.proofs.Common.{◌≡◌, refl, sym, ◌∙◌, ap, arith}
 use Rattle.std.proofs.lemmas.List.{take_all, length-set}
-use Rattle.md_base.specs.Search.{tabulate}
+use Rattle.superblocks.specs.md_base_Search.{tabulate}
 use Rattle.superblocks.specs.Outcome.{planned_state}
 use Rattle.superblock_updates.proofs.RoleStates.{tabulate-first, states-more}
 use Rattle.superblock_updates.proofs.recording.roles.planned_states.Goals as goal

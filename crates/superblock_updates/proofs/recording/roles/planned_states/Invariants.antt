@@ -1,5 +1,5 @@
 use Rattle.std.proofs.Common.{◌≡◌, length, take}
-use Rattle.md_base.specs.Search.{tabulate}
+use Rattle.superblocks.specs.md_base_Search.{tabulate}
 use Rattle.superblocks.specs.Outcome.{planned_state}
 use Rattle.superblock_updates.proofs.recording.roles.planned_states.Given as goal
 

@@ -1,5 +1,5 @@
 use Rattle.std.proofs.Common.{List, ℕ, ◌∙◌, ap}
-use Rattle.md_base.specs.Shapes.{has_slot}
+use Rattle.superblocks.specs.md_base_Shapes.{has_slot}
 use Rattle.superblocks.proofs.SlotSets.{slots-same}
 use Rattle.superblock_updates.proofs.recording.spares.keep_spares.Goals as goal
 

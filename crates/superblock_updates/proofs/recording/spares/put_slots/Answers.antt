@@ -1,5 +1,5 @@
 use Rattle.std.proofs.Common.{List, ℕ, ◌++◌, [], ◌∷◌, length, length-append, sym, ◌∙◌, ap, arith}
-use Rattle.md_base.specs.Shapes.{has_slot}
+use Rattle.superblocks.specs.md_base_Shapes.{has_slot}
 use Rattle.superblocks.proofs.SlotSets.{slots-first, slots-more, slots-none}
 use Rattle.superblock_updates.proofs.recording.spares.put_slots.Goals.{then-contains, else-contains}
 use Rattle.superblock_updates.proofs.recording.spares.put_slots.Goals as goal

@@ -1,5 +1,5 @@
 use Rattle.std.proofs.Common.{◌≡◌, ◌≤◌, length}
-use Rattle.md_base.specs.Shapes.{has_slot}
+use Rattle.superblocks.specs.md_base_Shapes.{has_slot}
 use Rattle.superblocks.specs.Outcome.{slots_below}
 use Rattle.superblock_updates.proofs.recording.spares.put_slots.Given as goal
 

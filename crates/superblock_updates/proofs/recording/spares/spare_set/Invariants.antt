@@ -1,5 +1,5 @@
 use Rattle.std.proofs.Common.{◌≡◌, ℕ, not, ◌&&◌, nat_lt}
-use Rattle.md_base.specs.Shapes.{has_slot}
+use Rattle.superblocks.specs.md_base_Shapes.{has_slot}
 use Rattle.superblocks.specs.Update.{is_planned_spare, give_of}
 use Rattle.superblock_updates.proofs.recording.spares.spare_set.Given as goal
 

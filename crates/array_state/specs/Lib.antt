@@ -1,0 +1,15 @@
+pub use Rattle.calls_kept.specs.call_entries_Losing
+pub use Rattle.calls_kept.specs.md_base_the_Fault
+pub use Rattle.calls_kept.specs.md_base_the_Fault_TheVariants
+pub use Rattle.calls_kept.specs.md_base_the_Phase
+pub use Rattle.calls_kept.specs.md_base_the_Refusal_TheVariants
+pub use Rattle.calls_kept.specs.md_base_the_Status
+pub use Rattle.calls_kept.specs.md_base_the_Who
+pub use Rattle.safe_rows.specs.md_base_Search
+pub use Rattle.safe_rows.specs.md_base_Sectors
+pub use Rattle.safe_rows.specs.md_base_Shapes
+pub use Rattle.safe_rows.specs.md_base_the_Refusal
+pub use Rattle.safe_rows.specs.md_base_the_Role
+pub use Rattle.safe_rows.specs.md_base_the_Role_TheVariants
+pub use Rattle.safe_rows.specs.md_base_the_Shape
+pub use Rattle.safe_rows.specs.md_base_the_Span

@@ -1,0 +1,11 @@
+pub use Rattle.still_kept.specs.call_entries_Losing
+pub use Rattle.still_kept.specs.md_base_Search
+pub use Rattle.still_kept.specs.md_base_Shapes
+pub use Rattle.still_kept.specs.md_base_the_Phase
+pub use Rattle.still_kept.specs.md_base_the_Phase_TheVariants
+pub use Rattle.still_kept.specs.md_base_the_Refusal
+pub use Rattle.still_kept.specs.md_base_the_Refusal_TheVariants
+pub use Rattle.still_kept.specs.md_base_the_Role
+pub use Rattle.still_kept.specs.md_base_the_Role_TheVariants
+pub use Rattle.still_kept.specs.md_base_the_Shape
+pub use Rattle.still_kept.specs.md_base_the_Who
