@@ -97,7 +97,7 @@ module _ (setting : Setting) (old : List Entry) (history : History) (members : M
   losses-behind done [] was told = tt
   losses-behind done (e ∷ more) (one, was) told = (
     loss-since setting (old ++ done) history (MayHoldSince members done) (WasMemberSince members done) (λ t role slot had. held-since (history_world setting history) old done members (since t) role slot had)
-    (λ t slot was. was-since (history_world setting history) old done members (since t) slot was) e.event one (All-head (λ e. IsRefusalTold setting e.event) e more told),
+        (λ t slot was. was-since (history_world setting history) old done members (since t) slot was) e.event one (All-head (λ e. IsRefusalTold setting e.event) e more told),
     subst (λ (l : List Entry). AreLossesBehind setting history l more) (sym (append_assoc old done (e ∷ [])))
         (losses-behind (done ++ e ∷ []) more was (All-tail (λ e. IsRefusalTold setting e.event) e more told)),
   )

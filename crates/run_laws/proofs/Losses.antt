@@ -335,7 +335,7 @@ module _ (setting : Setting) (old : List Entry) (history : History) (members : M
   losses-behind done [] was told = tt
   losses-behind done (e ∷ more) (one, was) told = (
     loss-since setting (old ++ done) history (MayHoldBehind members done) (WasSpareOrHolder members) (λ t role slot had. along-held done role slot t had)
-    (λ t slot was. along-was done slot t was) e.event one (All-head (λ e. IsRefusalTold setting e.event) e more told),
+        (λ t slot was. along-was done slot t was) e.event one (All-head (λ e. IsRefusalTold setting e.event) e more told),
     subst (λ (l : List Entry). AreLossesBehind setting history l more) (sym (append_assoc old done (e ∷ [])))
         (losses-behind (done ++ e ∷ []) more was (All-tail (λ e. IsRefusalTold setting e.event) e more told)),
   )

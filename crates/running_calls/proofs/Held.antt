@@ -126,7 +126,7 @@ module _ (old mid : Members) (first before now : ℕ → ℕ) (one : List Entry)
   losses-later done [] was = tt
   losses-later done (e ∷ more) (loss, was) = (
     loss-wider early late (λ s. omega arith) (MayHoldSince mid done) (MayHoldSince old (one ++ done)) (WasMemberSince mid done) (WasMemberSince old (one ++ done))
-    (λ role slot had. may-then old mid one held done role slot had) (was-before done) e.event loss,
+        (λ role slot had. may-then old mid one held done role slot had) (was-before done) e.event loss,
     subst (λ (l : List Entry). AreLossesSince old first now l more) (sym (append_assoc one done (e ∷ []))) (losses-later (done ++ e ∷ []) more was),
   )
 
@@ -161,7 +161,7 @@ pub losses-behind : (members : Members) (before now : ℕ → ℕ) (done xs : Li
 losses-behind members before now done [] rises was = tt
 losses-behind members before now done (x ∷ xs) rises (loss, was) = (
   loss-wider (λ s. omega arith) rises (λ s. omega arith) (MayHoldBehind members done) (MayHoldSince members done) (WasSpareOrHolder members) (WasMemberSince members done)
-  (λ role slot had. may-behind members done role slot had) (λ slot was. inl was) x.event loss,
+      (λ role slot had. may-behind members done role slot had) (λ slot was. inl was) x.event loss,
   losses-behind members before now (done ++ x ∷ []) xs rises was,
 )
 
