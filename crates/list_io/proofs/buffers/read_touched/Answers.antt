@@ -1,4 +1,4 @@
-use Rattle.std.proofs.Common.{◌≡◌, ◌++◌, ℕ, List, length, take, drop, sym, ◌∙◌, subst, arith}
+use Rattle.std.proofs.Common.{◌≡◌, ◌++◌, ℕ, List, length, take, drop, sym, ◌∙◌, ap, subst, arith}
 use Rattle.std.proofs.lemmas.List.{take-append-le, take_all}
 use Rattle.std.specs.Prelude.{Contains}
 use Rattle.row_io.specs.Rows.{present, reading_of}
@@ -30,3 +30,9 @@ pub returns-clause-below : goal.returns-clause-below
 returns-clause-below g c = λ row has.
     touched-below c.args.shape.now c.args.members.now.newest.size c.args.first c.args.count row c.requires.rows.valid c.requires.rows.multiple c.requires.within
     (c.touched_rows.ensures.touched.only row has)
+
+pub returns-clause-size : goal.returns-clause-size
+returns-clause-size g c =
+    let size : length c.read_rows.new.buffer ≡ c.args.buffer.now.len = c.read_rows.auto.buffer ∙ c.as_mut_slice.ensures.len in
+    ap (λ (l : List ℕ). length l) (written_back c.args.buffer.now.len c.read_rows.new.buffer (drop (length c.read_rows.new.buffer) c.args.buffer.now.items) size)
+    ∙ c.read_rows.auto.buffer ∙ ap (λ (l : List ℕ). length l) c.as_mut_slice.ensures.value

@@ -1,4 +1,4 @@
-use Rattle.std.proofs.Common.{arith}
+use Rattle.std.proofs.Common.{◌∙◌, arith}
 use Rattle.list_io.proofs.LossLaws.{none_lost}
 use Rattle.list_io.proofs.lists.fill_in.Goals as goal
 
@@ -7,3 +7,6 @@ returns-then-are_too_many-clause-lost g c = none_lost c.args.shape.now c.args.me
 
 pub returns-then-not-synced-clause-lost : goal.returns-then-not-synced-clause-lost
 returns-then-not-synced-clause-lost g c = none_lost c.args.shape.now c.args.members.now (g.B.Bank.faults_of c.args.bank.now) (g.B.Bank.faults_of c.args.bank.now) (λ s. omega arith)
+
+pub returns-in-Ok-clause-filled : goal.returns-in-Ok-clause-filled
+returns-in-Ok-clause-filled g c = λ told. c.copy_sector.ensures.here ∙ c.in-Ok.ensures.sectors told c.args.at.role c.requires.role

@@ -5,7 +5,7 @@ use Rattle.row_io.specs.parity_Rows.{sector_of}
 use Rattle.row_io.specs.Rows.{present, reading_of, is_held, held_sector, standing_sector}
 use Rattle.row_io.specs.superblocks_the_Members.{Members}
 use Rattle.list_io.proofs.LossLaws.{lost_then, row_in, rows_by, tolerated_by}
-use Rattle.list_io.proofs.ListLaws.{answered, lacks_by, listed_held, listed_filled, present_same}
+use Rattle.list_io.proofs.ListLaws.{answered, asked_more, lacks_by, listed_held, listed_filled, present_same}
 use Rattle.list_io.proofs.lists.read_one.Goals as goal
 
 pub returns-in_default-clause-answer : goal.returns-in_default-clause-answer
@@ -43,3 +43,17 @@ returns-clause-sector g c =
     (subst (λ (at : Place). v ≡ standing_sector before (reading_of new) c.args.shape.now at.row at.role) c.place-at.ensures.place
     (filled told ∙ ap (λ e. standing_sector e (reading_of new) c.args.shape.now c.place-at.result.row c.place-at.result.role) (present_same c.in-Some.ensures.given (c.in-Some.ensures.tape told)))))
     c.fill_in-filled.ensures.answer c.fill_in-filled.ensures.synced c.fill_in-filled.ensures.filled
+
+pub read_held-requires-clause-row : goal.read_held-requires-clause-row
+read_held-requires-clause-row g c = row_in c.requires.rows (c.place-at.ensures.row c.args.members.now.newest.size c.requires.rows.multiple c.requires.within)
+
+pub returns-clause-answer : goal.returns-clause-answer
+returns-clause-answer g c =
+    asked_more c.args.shape.now c.args.synced (reading_of c.fill_in-filled.new.members) (λ role. role ≡ c.place-at.result.role) (λ role. (place c.args.shape.now c.args.x).role ≡ role) c.fill_in-filled.result.answer
+    (λ role is. sym (is ∙ ap (λ (p : Place). p.role) c.place-at.ensures.place)) c.fill_in-filled.ensures.answer
+
+pub returns-clause-others : goal.returns-clause-others
+returns-clause-others g c = λ i ne. c.fill_in-filled.ensures.others i ne ∙ c.read_held.ensures.others i ne
+
+pub returns-clause-tape : goal.returns-clause-tape
+returns-clause-tape g c = λ told. c.fill_in-filled.ensures.tape told ∙ c.read_held.ensures.tape told

@@ -1,10 +1,10 @@
-use Rattle.std.proofs.Common.{◌≡◌, ◌+◌, ◌-◌, ◌*◌, ◌<◌, ◌≤◌, ℕ, List, length, take, drop, inr, sym, ◌∙◌, subst, arith}
+use Rattle.std.proofs.Common.{◌≡◌, ◌+◌, ◌-◌, ◌*◌, ◌<◌, ◌≤◌, ℕ, List, length, take, drop, inr, sym, ◌∙◌, subst, arith, Some, ap}
 use Rattle.std.specs.Prelude.{slice_index, Contains}
 use Rattle.layout.proofs.Limits.{limited}
 use Rattle.layout.specs.md_base_Sectors.{Sector}
 use Rattle.row_io.specs.parity_Rows.{sector_of}
 use Rattle.row_io.specs.superblocks_the_Members.{Members}
-use Rattle.row_io.specs.Rows.{present, reading_of}
+use Rattle.row_io.specs.Rows.{present, reading_of, members_without}
 use Rattle.list_io.specs.Calls.{AreLost}
 use Rattle.list_io.specs.Buffers.{buffered, AreStanding}
 use Rattle.list_io.specs.Writing.{AreDataOf, AreDataFrom}
@@ -13,6 +13,11 @@ use Rattle.list_io.proofs.LossLaws.{none_lost, rows_by, row_in}
 use Rattle.list_io.proofs.PartBytes.{sector-part, sector-part_other}
 use Rattle.list_io.proofs.PutLaws.{marks_more, standing_later, data_same, none_then, full_more, rebuilt_more, kept_more}
 use Rattle.row_io.proofs.Written.{members_without-none}
+use Rattle.row_io.specs.bank_Given.{NeverFalls}
+use Rattle.row_io.proofs.bank_Causes.{faulted_longer}
+use Rattle.layout.specs.md_base_the_Shape.{Shape}
+use Rattle.row_io.specs.superblocks_Reading.{role_state, holder}
+use Rattle.row_io.specs.Writes.{AreApart}
 use Rattle.list_io.proofs.puts.write_rows.Goals as goal
 
 pub rewrite_row-lost-requires-clause-row : goal.rewrite_row-lost-requires-clause-row
@@ -161,3 +166,19 @@ returns-clause-rebuilt g c = λ list list' written told own i low lt. c.loop-i.i
 
 pub returns-clause-others : goal.returns-clause-others
 returns-clause-others g c = λ told row apart. c.loop-i.invariant.others told row (λ j low lt. apart j low (omega (arith, lt, c.loop-i.auto.i-end c.requires.start)))
+
+pub rewrite_row-lost-requires-clause-apart : goal.rewrite_row-lost-requires-clause-apart
+rewrite_row-lost-requires-clause-apart g c = subst (λ (m : Members). AreApart (reading_of m)) (sym c.loop-i.invariant.members) c.requires.apart
+
+-- what a row lost, counted from the beginning
+lost_from : {shape : Shape} {old mid new : Members} {lost : ℕ} {first before after : ℕ → ℕ} → mid ≡ old → NeverFalls first before → AreLost shape mid new lost before after → AreLost shape old new lost first after
+lost_from {lost = lost} {first = first} {before = before} {after = after} same never one = record {
+  members = one.members ∙ ap (members_without lost) same;
+  failed = λ s gone.
+      let f = one.failed s gone in
+      (faulted_longer s first before after after (never s) (omega arith) (one.never_falls s) f.0, f.1, f.2, subst (λ (m : Members). holder (role_state (reading_of m) f.1) ≡ Some s) same f.3);
+  never_falls = λ s. omega (arith, never s, one.never_falls s);
+}
+
+pub returns-then-lost-ne0-clause-lost : goal.returns-then-lost-ne0-clause-lost
+returns-then-lost-ne0-clause-lost g c = lost_from c.loop-i.invariant.members c.loop-i.invariant.never_falls c.rewrite_row-lost.ensures.lost

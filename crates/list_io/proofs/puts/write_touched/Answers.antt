@@ -6,7 +6,7 @@ use Rattle.row_io.proofs.bank_Marks.{each_mark-map}
 use Rattle.row_io.specs.Rows.{present, reading_of}
 use Rattle.list_io.specs.Buffers.{buffered}
 use Rattle.list_io.specs.Writing.{AreDataFrom, IsPutting, AreSuperblocksKept}
-use Rattle.list_io.proofs.LossLaws.{none_lost}
+use Rattle.list_io.proofs.LossLaws.{none_lost, rows_by}
 use Rattle.list_io.proofs.PutLaws.{superblocks_kept, standing_after}
 use Rattle.list_io.proofs.puts.write_touched.Goals as goal
 
@@ -51,3 +51,18 @@ returns-clause-standing g c = λ told i low lt.
     (λ role is. ap (λ (l : List ℕ). buffered l i role) back ∙ c.write_rows-lost.ensures.rest i role low lt is ∙ ap (λ (l : List ℕ). buffered l i role) c.as_mut_slice.ensures.value)
     (c.write_rows-lost.ensures.others told row (λ j from to. c.requires.once j i (omega (arith, low, to)) lt))
     (c.requires.standing told i (omega (arith, low, c.write_rows-lost.ensures.reached)) lt)
+
+pub returns-clause-size : goal.returns-clause-size
+returns-clause-size g c =
+    let size : length c.write_rows-lost.new.buffer ≡ c.args.buffer.now.len = c.write_rows-lost.auto.buffer ∙ c.as_mut_slice.ensures.len in
+    ap (λ (l : List ℕ). length l) (written_back c.args.buffer.now.len c.write_rows-lost.new.buffer (drop (length c.write_rows-lost.new.buffer) c.args.buffer.now.items) size)
+    ∙ c.write_rows-lost.auto.buffer ∙ ap (λ (l : List ℕ). length l) c.as_mut_slice.ensures.value
+
+pub answer_of-requires : goal.answer_of-requires
+answer_of-requires g c = (rows_by c.args.members.now c.write_rows-lost.result.lost c.write_rows-lost.ensures.given c.write_rows-lost.ensures.lost.members c.requires.rows).roles
+
+pub returns-clause-rest : goal.returns-clause-rest
+returns-clause-rest g c = λ i role low lt is.
+    let size : length c.write_rows-lost.new.buffer ≡ c.args.buffer.now.len = c.write_rows-lost.auto.buffer ∙ c.as_mut_slice.ensures.len in
+    ap (λ (l : List ℕ). buffered l i role) (written_back c.args.buffer.now.len c.write_rows-lost.new.buffer (drop (length c.write_rows-lost.new.buffer) c.args.buffer.now.items) size)
+    ∙ c.write_rows-lost.ensures.rest i role low lt is ∙ ap (λ (l : List ℕ). buffered l i role) c.as_mut_slice.ensures.value

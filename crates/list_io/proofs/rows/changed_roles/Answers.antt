@@ -1,4 +1,4 @@
-use Rattle.std.proofs.Common.{ℕ, inl, inr, sym, ◌∙◌, ap, subst, arith}
+use Rattle.std.proofs.Common.{◌≡◌, ℕ, Bool, true, false, inl, inr, sym, ◌∙◌, ap, subst, arith}
 use Rattle.std.proofs.lemmas.Bool.{cases_eq}
 use Rattle.layout.specs.md_base_Shapes.{has_slot}
 use Rattle.layout.specs.Layout.{row_roles}
@@ -8,9 +8,12 @@ use Rattle.row_io.specs.Writes.{is_parity}
 use Rattle.list_io.specs.Writing.{HasOther, IsChanged}
 use Rattle.list_io.proofs.rows.changed_roles.Goals as goal
 
+false-true : {X : Type 0} {b : Bool} → b ≡ false → b ≡ true → X
+false-true off on = absurd (cc)
+
 pub loop-role-init : goal.loop-role-init
 loop-role-init c = record {
-  changed = λ role there. absurd (let e = none_there role in cc);
+  changed = λ role there. false-true (none_there role) there;
   left = λ role lt not plain. absurd (omega (arith, lt));
 }
 
@@ -28,7 +31,7 @@ loop-role-preserved c =
         | inl same ↦ subst (λ (r : ℕ). HasOther shape c.args.first c.args.count r c.args.row) (sym same)
             (did.left (ap (has_slot c.with_changed-changed.result) (sym same) ∙ not) (ap (is_parity (row_roles shape c.args.row)) (sym same) ∙ plain))
         | inr other ↦ was.left role (omega (arith, lt, other)) (elim (bool_cases (has_slot c.loop-role.changed role)) [
-          | inl here ↦ absurd (let e = did.stay role here in cc)
+          | inl here ↦ false-true not (did.stay role here)
           | inr gone ↦ gone
         ]) plain
       ];

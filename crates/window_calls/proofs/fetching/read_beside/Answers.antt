@@ -1,4 +1,5 @@
-use Rattle.std.proofs.Common.{◌≡◌, inl, inr, ℕ, ◌+◌, ◌-◌, ◌*◌, ◌/◌, ◌≤◌, true, List, [], length, take, drop, Option, Some, None, is_some, refl, sym, ◌∙◌, ap, subst, arith}
+use Rattle.std.proofs.Common.{◌≡◌, inl, inr, ℕ, ◌+◌, ◌-◌, ◌*◌, ◌/◌, ◌≤◌, true, List, [], length, take, drop, Option, Some, None, is_some, refl, sym, ◌∙◌, ap, subst, le_trans, arith}
+use mathlib.Core.List.{not-mem-nil}
 use Rattle.std.specs.Prelude.{bit_or}
 use Rattle.std.proofs.lemmas.Bool.{cases_lt}
 use borrow.Rule.Slice.PartMut.{put_mid}
@@ -20,6 +21,8 @@ use Rattle.region_rows.proofs.StretchReads.{part-long, list-among, rows-among}
 use Rattle.region_rows.proofs.StretchLaws.{list-short, data-few}
 use Rattle.window_calls.specs.Fetching.{IsShapeBeside}
 use Rattle.window_calls.proofs.Beside.{unread-beside, shape-beside, put-long, before-part, window-part, behind-part, list-to-moved, rows-to-moved}
+use Rattle.region_rows.specs.bank_Given.{Given}
+use Rattle.window_steps.specs.views_Placed.{IsPlaced}
 use Rattle.window_calls.proofs.fetching.read_beside.Goals as goal
 
 pub overflow_add-first : goal.overflow_add-first
@@ -185,8 +188,6 @@ returns-clause-moved g c =
     let new = c.read_regions.new.members in
     let given = g.B.Bank.given c.args.bank.now in
     let given1 = g.B.Bank.given c.read_regions-refusal.new.bank in
-    let tape0 = g.B.Bank.tape c.args.bank.now in
-    let tape1 = g.B.Bank.tape c.read_regions-refusal.new.bank in
     let did = c.read_regions-refusal.ensures in
     let then = c.read_regions.ensures in
     let moved2 : IsMoved given k new = moved-from given given1 k k new did.given refl then.moved in
@@ -195,15 +196,8 @@ returns-clause-moved g c =
 pub returns-clause-lost : goal.returns-clause-lost
 returns-clause-lost g c =
     let m = c.args.members.now in
-    let k = c.read_regions-refusal.new.members in
-    let new = c.read_regions.new.members in
-    let given = g.B.Bank.given c.args.bank.now in
-    let given1 = g.B.Bank.given c.read_regions-refusal.new.bank in
-    let tape0 = g.B.Bank.tape c.args.bank.now in
-    let tape1 = g.B.Bank.tape c.read_regions-refusal.new.bank in
     let did = c.read_regions-refusal.ensures in
     let then = c.read_regions.ensures in
-    let moved2 : IsMoved given k new = moved-from given given1 k k new did.given refl then.moved in
     (bit_or did.lost.0 then.lost.0, then.lost.1 ∙ ap (members_without then.lost.0) did.lost.1 ∙ members_then did.lost.0 then.lost.0 m)
 
 pub returns-clause-failed : goal.returns-clause-failed
@@ -211,24 +205,16 @@ returns-clause-failed g c =
     let m = c.args.members.now in
     let k = c.read_regions-refusal.new.members in
     let new = c.read_regions.new.members in
-    let given = g.B.Bank.given c.args.bank.now in
-    let given1 = g.B.Bank.given c.read_regions-refusal.new.bank in
-    let tape0 = g.B.Bank.tape c.args.bank.now in
-    let tape1 = g.B.Bank.tape c.read_regions-refusal.new.bank in
     let did = c.read_regions-refusal.ensures in
     let then = c.read_regions.ensures in
-    let moved2 : IsMoved given k new = moved-from given given1 k k new did.given refl then.moved in
     since-then m k new 0 0 0 (g.B.Bank.faults_of c.args.bank.now) (g.B.Bank.faults_of c.read_regions-refusal.new.bank) (g.B.Bank.faults_of c.read_regions.new.bank) did.counts then.counts did.failed then.failed (in-second 0)
 
 pub returns-clause-kept : goal.returns-clause-kept
 returns-clause-kept g c =
-    let m = c.args.members.now in
     let k = c.read_regions-refusal.new.members in
     let new = c.read_regions.new.members in
     let given = g.B.Bank.given c.args.bank.now in
     let given1 = g.B.Bank.given c.read_regions-refusal.new.bank in
-    let tape0 = g.B.Bank.tape c.args.bank.now in
-    let tape1 = g.B.Bank.tape c.read_regions-refusal.new.bank in
     let did = c.read_regions-refusal.ensures in
     let then = c.read_regions.ensures in
     let moved2 : IsMoved given k new = moved-from given given1 k k new did.given refl then.moved in
@@ -351,4 +337,13 @@ pub returns-clause-tape : goal.returns-clause-tape
 returns-clause-tape g c = λ told. c.read_regions.ensures.tape told ∙ c.read_regions-refusal.ensures.tape told
 
 pub returns-clause-counts : goal.returns-clause-counts
-returns-clause-counts g c = λ s. let first = c.read_regions-refusal.ensures.counts s in let second = c.read_regions.ensures.counts s in omega (arith, first, second)
+returns-clause-counts g c = λ s. le_trans (c.read_regions-refusal.ensures.counts s) (c.read_regions.ensures.counts s)
+
+-- ---- what the searches would find too, for longer
+
+pub is_some-requires : goal.is_some-requires
+is_some-requires g c κs a has = absurd (not-mem-nil has)
+
+pub read_regions-requires-clause-placed : goal.read_regions-requires-clause-placed
+read_regions-requires-clause-placed g c =
+    subst (λ (b : Given). IsPlaced b c.read_regions-refusal.new.members) (sym c.read_regions-refusal.ensures.given) c.read_regions-refusal.ensures.moved.placed

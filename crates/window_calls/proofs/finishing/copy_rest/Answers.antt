@@ -1,4 +1,5 @@
-use Rattle.std.proofs.Common.{◌≡◌, ◌+◌, ◌-◌, ◌/◌, ℕ, refl, sym, ◌∙◌, ap, subst, arith, Option, Some, None}
+use Rattle.std.proofs.Common.{◌≡◌, ◌+◌, ◌-◌, ◌/◌, ◌≤◌, ℕ, refl, sym, ◌∙◌, ap, subst, le_trans, arith, Option, Some, None}
+use mathlib.Core.List.{not-mem-nil}
 use Rattle.std.specs.Prelude.{MatchOption, ⊤, is_some, true}
 use Rattle.region_rows.specs.md_base_the_Refusal.{Refusal}
 use Rattle.region_rows.specs.md_base_Shapes.{stripe_sectors}
@@ -11,6 +12,7 @@ use Rattle.window_steps.specs.list_io_Full.{RowStands}
 use Rattle.window_steps.specs.flat_history_Sound.{OpensFit}
 use Rattle.window_steps.specs.shape_views_Windows.{IsCopyable}
 use Rattle.window_steps.proofs.shape_changes_Risen.{risen-none, risen-then}
+use Rattle.window_steps.specs.views_Placed.{IsPlaced}
 use Rattle.window_steps.specs.views_Moving.{IsMoved}
 use Rattle.window_steps.specs.views_Rebuilding.{AreSparesFree}
 use Rattle.window_steps.specs.views_Lacking.{IsOfStripe, AreOtherRowsKept}
@@ -27,6 +29,11 @@ use Rattle.window_calls.specs.Finishing.{AreStripesCopied}
 use Rattle.window_calls.proofs.Windows.{still-copied, one-more, rest-kept}
 use Rattle.window_calls.proofs.finishing.copy_rest.Goals as goal
 
+-- an answer that is some isn't none
+never : (o : Option Refusal) → is_some o ≡ true → o ≡ None → ⊥
+never None is none = absurd (cc)
+never (Some refusal) is none = absurd (cc)
+
 -- ---- numbers
 
 pub overflow_add-at : goal.overflow_add-at
@@ -41,7 +48,6 @@ loop-at-init g c =
     let m = c.args.members.now in
     let given = g.B.Bank.given c.args.bank.now in
     let tape0 = g.B.Bank.tape c.args.bank.now in
-    let begins : c.args.span.now.lo / c.stripe_sectors-sectors.result ≡ c.args.span.now.lo / stripe_sectors c.args.shape.now = ap (λ (n : ℕ). c.args.span.now.lo / n) c.stripe_sectors-sectors.ensures.value in
     let none : c.args.span.now.lo / c.stripe_sectors-sectors.result + c.args.from - c.args.span.now.lo / c.stripe_sectors-sectors.result ≡ c.args.from = omega arith in
     record {
       moved = moved-same given given m m refl refl c.requires.placed c.requires.unlost;
@@ -96,82 +102,25 @@ returns-then-is_some-clause-moved g c =
     let m = c.args.members.now in
     let n = c.loop-at.members in
     let new = c.copy-part.new.members in
-    let tape0 = g.B.Bank.tape c.args.bank.now in
-    let tape1 = g.B.Bank.tape c.loop-at.bank in
-    let tape2 = g.B.Bank.tape c.copy-part.new.bank in
-    let f0 = g.B.Bank.faults_of c.args.bank.now in
-    let f1 = g.B.Bank.faults_of c.loop-at.bank in
-    let f2 = g.B.Bank.faults_of c.copy-part.new.bank in
-    let shape = c.args.shape.now in
-    let span = c.args.span.now in
-    let at = c.loop-at.at in
-    let first : ℕ = c.args.span.now.lo / c.stripe_sectors-sectors.result in
-    let begins : first ≡ span.lo / stripe_sectors shape = ap (λ (n : ℕ). span.lo / n) c.stripe_sectors-sectors.ensures.value in
-    let ends : c.div_ceil-end.result ≡ ceiling span.hi (stripe_sectors shape) =
-    rounded_up c.div_ceil-end.result span.hi c.stripe_sectors-sectors.result (stripe_sectors shape) c.stripe_sectors-sectors.ensures.positive c.stripe_sectors-sectors.ensures.value c.div_ceil-end.ensures in
-    let reached = was.reached in
-    let test = c.loop-at-test.true in
     let moved : IsMoved given n new = moved-from given given1 n n new was.given refl did.moved in
-    let kept : g.B.Bank.tells → AreOtherRowsKept (IsOfStripe shape at) (reading_of new) (present given tape1) (present given tape2) =
-    λ told. subst (λ (b : Given). AreOtherRowsKept (IsOfStripe shape at) (reading_of new) (present b tape1) (present b tape2)) was.given (did.others told) in
     moved-then given m n new was.moved moved
 
 pub returns-then-is_some-clause-failed : goal.returns-then-is_some-clause-failed
 returns-then-is_some-clause-failed g c =
     let was = c.loop-at.invariant in
     let did = c.copy-part.ensures in
-    let given = g.B.Bank.given c.args.bank.now in
-    let given1 = g.B.Bank.given c.loop-at.bank in
     let m = c.args.members.now in
     let n = c.loop-at.members in
     let new = c.copy-part.new.members in
-    let tape0 = g.B.Bank.tape c.args.bank.now in
-    let tape1 = g.B.Bank.tape c.loop-at.bank in
-    let tape2 = g.B.Bank.tape c.copy-part.new.bank in
     let f0 = g.B.Bank.faults_of c.args.bank.now in
     let f1 = g.B.Bank.faults_of c.loop-at.bank in
     let f2 = g.B.Bank.faults_of c.copy-part.new.bank in
-    let shape = c.args.shape.now in
-    let span = c.args.span.now in
-    let at = c.loop-at.at in
-    let first : ℕ = c.args.span.now.lo / c.stripe_sectors-sectors.result in
-    let begins : first ≡ span.lo / stripe_sectors shape = ap (λ (n : ℕ). span.lo / n) c.stripe_sectors-sectors.ensures.value in
-    let ends : c.div_ceil-end.result ≡ ceiling span.hi (stripe_sectors shape) =
-    rounded_up c.div_ceil-end.result span.hi c.stripe_sectors-sectors.result (stripe_sectors shape) c.stripe_sectors-sectors.ensures.positive c.stripe_sectors-sectors.ensures.value c.div_ceil-end.ensures in
-    let reached = was.reached in
-    let test = c.loop-at-test.true in
-    let moved : IsMoved given n new = moved-from given given1 n n new was.given refl did.moved in
-    let kept : g.B.Bank.tells → AreOtherRowsKept (IsOfStripe shape at) (reading_of new) (present given tape1) (present given tape2) =
-    λ told. subst (λ (b : Given). AreOtherRowsKept (IsOfStripe shape at) (reading_of new) (present b tape1) (present b tape2)) was.given (did.others told) in
     since-then m n new c.loop-at.spares c.copy-part.result.spares _ f0 f1 f2 was.counts did.counts was.failed did.failed (in-either c.loop-at.spares c.copy-part.result.spares)
 
 pub returns-then-is_some-clause-grows : goal.returns-then-is_some-clause-grows
 returns-then-is_some-clause-grows g c =
     let was = c.loop-at.invariant in
     let did = c.copy-part.ensures in
-    let given = g.B.Bank.given c.args.bank.now in
-    let given1 = g.B.Bank.given c.loop-at.bank in
-    let m = c.args.members.now in
-    let n = c.loop-at.members in
-    let new = c.copy-part.new.members in
-    let tape0 = g.B.Bank.tape c.args.bank.now in
-    let tape1 = g.B.Bank.tape c.loop-at.bank in
-    let tape2 = g.B.Bank.tape c.copy-part.new.bank in
-    let f0 = g.B.Bank.faults_of c.args.bank.now in
-    let f1 = g.B.Bank.faults_of c.loop-at.bank in
-    let f2 = g.B.Bank.faults_of c.copy-part.new.bank in
-    let shape = c.args.shape.now in
-    let span = c.args.span.now in
-    let at = c.loop-at.at in
-    let first : ℕ = c.args.span.now.lo / c.stripe_sectors-sectors.result in
-    let begins : first ≡ span.lo / stripe_sectors shape = ap (λ (n : ℕ). span.lo / n) c.stripe_sectors-sectors.ensures.value in
-    let ends : c.div_ceil-end.result ≡ ceiling span.hi (stripe_sectors shape) =
-    rounded_up c.div_ceil-end.result span.hi c.stripe_sectors-sectors.result (stripe_sectors shape) c.stripe_sectors-sectors.ensures.positive c.stripe_sectors-sectors.ensures.value c.div_ceil-end.ensures in
-    let reached = was.reached in
-    let test = c.loop-at-test.true in
-    let moved : IsMoved given n new = moved-from given given1 n n new was.given refl did.moved in
-    let kept : g.B.Bank.tells → AreOtherRowsKept (IsOfStripe shape at) (reading_of new) (present given tape1) (present given tape2) =
-    λ told. subst (λ (b : Given). AreOtherRowsKept (IsOfStripe shape at) (reading_of new) (present b tape1) (present b tape2)) was.given (did.others told) in
     grows-then was.grows did.grows
 
 pub returns-then-is_some-clause-others : goal.returns-then-is_some-clause-others
@@ -186,9 +135,6 @@ returns-then-is_some-clause-others g c =
     let tape0 = g.B.Bank.tape c.args.bank.now in
     let tape1 = g.B.Bank.tape c.loop-at.bank in
     let tape2 = g.B.Bank.tape c.copy-part.new.bank in
-    let f0 = g.B.Bank.faults_of c.args.bank.now in
-    let f1 = g.B.Bank.faults_of c.loop-at.bank in
-    let f2 = g.B.Bank.faults_of c.copy-part.new.bank in
     let shape = c.args.shape.now in
     let span = c.args.span.now in
     let at = c.loop-at.at in
@@ -207,29 +153,6 @@ pub returns-then-is_some-clause-rise : goal.returns-then-is_some-clause-rise
 returns-then-is_some-clause-rise g c =
     let was = c.loop-at.invariant in
     let did = c.copy-part.ensures in
-    let given = g.B.Bank.given c.args.bank.now in
-    let given1 = g.B.Bank.given c.loop-at.bank in
-    let m = c.args.members.now in
-    let n = c.loop-at.members in
-    let new = c.copy-part.new.members in
-    let tape0 = g.B.Bank.tape c.args.bank.now in
-    let tape1 = g.B.Bank.tape c.loop-at.bank in
-    let tape2 = g.B.Bank.tape c.copy-part.new.bank in
-    let f0 = g.B.Bank.faults_of c.args.bank.now in
-    let f1 = g.B.Bank.faults_of c.loop-at.bank in
-    let f2 = g.B.Bank.faults_of c.copy-part.new.bank in
-    let shape = c.args.shape.now in
-    let span = c.args.span.now in
-    let at = c.loop-at.at in
-    let first : ℕ = c.args.span.now.lo / c.stripe_sectors-sectors.result in
-    let begins : first ≡ span.lo / stripe_sectors shape = ap (λ (n : ℕ). span.lo / n) c.stripe_sectors-sectors.ensures.value in
-    let ends : c.div_ceil-end.result ≡ ceiling span.hi (stripe_sectors shape) =
-    rounded_up c.div_ceil-end.result span.hi c.stripe_sectors-sectors.result (stripe_sectors shape) c.stripe_sectors-sectors.ensures.positive c.stripe_sectors-sectors.ensures.value c.div_ceil-end.ensures in
-    let reached = was.reached in
-    let test = c.loop-at-test.true in
-    let moved : IsMoved given n new = moved-from given given1 n n new was.given refl did.moved in
-    let kept : g.B.Bank.tells → AreOtherRowsKept (IsOfStripe shape at) (reading_of new) (present given tape1) (present given tape2) =
-    λ told. subst (λ (b : Given). AreOtherRowsKept (IsOfStripe shape at) (reading_of new) (present b tape1) (present b tape2)) was.given (did.others told) in
     risen-then was.rise did.rise
 
 pub returns-then-is_some-clause-safe : goal.returns-then-is_some-clause-safe
@@ -244,21 +167,9 @@ returns-then-is_some-clause-safe g c =
     let tape0 = g.B.Bank.tape c.args.bank.now in
     let tape1 = g.B.Bank.tape c.loop-at.bank in
     let tape2 = g.B.Bank.tape c.copy-part.new.bank in
-    let f0 = g.B.Bank.faults_of c.args.bank.now in
-    let f1 = g.B.Bank.faults_of c.loop-at.bank in
-    let f2 = g.B.Bank.faults_of c.copy-part.new.bank in
-    let shape = c.args.shape.now in
     let span = c.args.span.now in
-    let at = c.loop-at.at in
     let first : ℕ = c.args.span.now.lo / c.stripe_sectors-sectors.result in
-    let begins : first ≡ span.lo / stripe_sectors shape = ap (λ (n : ℕ). span.lo / n) c.stripe_sectors-sectors.ensures.value in
-    let ends : c.div_ceil-end.result ≡ ceiling span.hi (stripe_sectors shape) =
-    rounded_up c.div_ceil-end.result span.hi c.stripe_sectors-sectors.result (stripe_sectors shape) c.stripe_sectors-sectors.ensures.positive c.stripe_sectors-sectors.ensures.value c.div_ceil-end.ensures in
-    let reached = was.reached in
-    let test = c.loop-at-test.true in
     let moved : IsMoved given n new = moved-from given given1 n n new was.given refl did.moved in
-    let kept : g.B.Bank.tells → AreOtherRowsKept (IsOfStripe shape at) (reading_of new) (present given tape1) (present given tape2) =
-    λ told. subst (λ (b : Given). AreOtherRowsKept (IsOfStripe shape at) (reading_of new) (present b tape1) (present b tape2)) was.given (did.others told) in
     λ told world ledger room gone unclean able safe.
     safe-part world given given1 ledger m n new tape0 tape1 tape2 told was.given was.moved.placed moved did.grows was.rise room gone
     (λ first gone1. was.safe told world ledger first gone1 unclean able safe)
@@ -270,28 +181,11 @@ returns-then-is_some-clause-copyable g c =
     let was = c.loop-at.invariant in
     let did = c.copy-part.ensures in
     let given = g.B.Bank.given c.args.bank.now in
-    let given1 = g.B.Bank.given c.loop-at.bank in
-    let m = c.args.members.now in
     let n = c.loop-at.members in
     let new = c.copy-part.new.members in
-    let tape0 = g.B.Bank.tape c.args.bank.now in
     let tape1 = g.B.Bank.tape c.loop-at.bank in
     let tape2 = g.B.Bank.tape c.copy-part.new.bank in
-    let f0 = g.B.Bank.faults_of c.args.bank.now in
-    let f1 = g.B.Bank.faults_of c.loop-at.bank in
-    let f2 = g.B.Bank.faults_of c.copy-part.new.bank in
-    let shape = c.args.shape.now in
     let span = c.args.span.now in
-    let at = c.loop-at.at in
-    let first : ℕ = c.args.span.now.lo / c.stripe_sectors-sectors.result in
-    let begins : first ≡ span.lo / stripe_sectors shape = ap (λ (n : ℕ). span.lo / n) c.stripe_sectors-sectors.ensures.value in
-    let ends : c.div_ceil-end.result ≡ ceiling span.hi (stripe_sectors shape) =
-    rounded_up c.div_ceil-end.result span.hi c.stripe_sectors-sectors.result (stripe_sectors shape) c.stripe_sectors-sectors.ensures.positive c.stripe_sectors-sectors.ensures.value c.div_ceil-end.ensures in
-    let reached = was.reached in
-    let test = c.loop-at-test.true in
-    let moved : IsMoved given n new = moved-from given given1 n n new was.given refl did.moved in
-    let kept : g.B.Bank.tells → AreOtherRowsKept (IsOfStripe shape at) (reading_of new) (present given tape1) (present given tape2) =
-    λ told. subst (λ (b : Given). AreOtherRowsKept (IsOfStripe shape at) (reading_of new) (present b tape1) (present b tape2)) was.given (did.others told) in
     λ told world able.
     subst (λ (b : Given). IsCopyable world.scope n span (disk b.start tape1) → IsCopyable world.scope new span (disk b.start tape2)) was.given (did.copyable told world) (was.copyable told world able)
 
@@ -300,28 +194,9 @@ returns-then-is_some-clause-headers g c =
     let was = c.loop-at.invariant in
     let did = c.copy-part.ensures in
     let given = g.B.Bank.given c.args.bank.now in
-    let given1 = g.B.Bank.given c.loop-at.bank in
-    let m = c.args.members.now in
-    let n = c.loop-at.members in
     let new = c.copy-part.new.members in
-    let tape0 = g.B.Bank.tape c.args.bank.now in
     let tape1 = g.B.Bank.tape c.loop-at.bank in
     let tape2 = g.B.Bank.tape c.copy-part.new.bank in
-    let f0 = g.B.Bank.faults_of c.args.bank.now in
-    let f1 = g.B.Bank.faults_of c.loop-at.bank in
-    let f2 = g.B.Bank.faults_of c.copy-part.new.bank in
-    let shape = c.args.shape.now in
-    let span = c.args.span.now in
-    let at = c.loop-at.at in
-    let first : ℕ = c.args.span.now.lo / c.stripe_sectors-sectors.result in
-    let begins : first ≡ span.lo / stripe_sectors shape = ap (λ (n : ℕ). span.lo / n) c.stripe_sectors-sectors.ensures.value in
-    let ends : c.div_ceil-end.result ≡ ceiling span.hi (stripe_sectors shape) =
-    rounded_up c.div_ceil-end.result span.hi c.stripe_sectors-sectors.result (stripe_sectors shape) c.stripe_sectors-sectors.ensures.positive c.stripe_sectors-sectors.ensures.value c.div_ceil-end.ensures in
-    let reached = was.reached in
-    let test = c.loop-at-test.true in
-    let moved : IsMoved given n new = moved-from given given1 n n new was.given refl did.moved in
-    let kept : g.B.Bank.tells → AreOtherRowsKept (IsOfStripe shape at) (reading_of new) (present given tape1) (present given tape2) =
-    λ told. subst (λ (b : Given). AreOtherRowsKept (IsOfStripe shape at) (reading_of new) (present b tape1) (present b tape2)) was.given (did.others told) in
     λ told s v may. was.headers told s v
     (subst (λ (b : Given). AreHeadersKept (disk b.start tape1) (disk b.start tape2)) was.given (did.headers told) s v may)
 
@@ -339,30 +214,7 @@ pub returns-then-is_some-clause-counts : goal.returns-then-is_some-clause-counts
 returns-then-is_some-clause-counts g c =
     let was = c.loop-at.invariant in
     let did = c.copy-part.ensures in
-    let given = g.B.Bank.given c.args.bank.now in
-    let given1 = g.B.Bank.given c.loop-at.bank in
-    let m = c.args.members.now in
-    let n = c.loop-at.members in
-    let new = c.copy-part.new.members in
-    let tape0 = g.B.Bank.tape c.args.bank.now in
-    let tape1 = g.B.Bank.tape c.loop-at.bank in
-    let tape2 = g.B.Bank.tape c.copy-part.new.bank in
-    let f0 = g.B.Bank.faults_of c.args.bank.now in
-    let f1 = g.B.Bank.faults_of c.loop-at.bank in
-    let f2 = g.B.Bank.faults_of c.copy-part.new.bank in
-    let shape = c.args.shape.now in
-    let span = c.args.span.now in
-    let at = c.loop-at.at in
-    let first : ℕ = c.args.span.now.lo / c.stripe_sectors-sectors.result in
-    let begins : first ≡ span.lo / stripe_sectors shape = ap (λ (n : ℕ). span.lo / n) c.stripe_sectors-sectors.ensures.value in
-    let ends : c.div_ceil-end.result ≡ ceiling span.hi (stripe_sectors shape) =
-    rounded_up c.div_ceil-end.result span.hi c.stripe_sectors-sectors.result (stripe_sectors shape) c.stripe_sectors-sectors.ensures.positive c.stripe_sectors-sectors.ensures.value c.div_ceil-end.ensures in
-    let reached = was.reached in
-    let test = c.loop-at-test.true in
-    let moved : IsMoved given n new = moved-from given given1 n n new was.given refl did.moved in
-    let kept : g.B.Bank.tells → AreOtherRowsKept (IsOfStripe shape at) (reading_of new) (present given tape1) (present given tape2) =
-    λ told. subst (λ (b : Given). AreOtherRowsKept (IsOfStripe shape at) (reading_of new) (present b tape1) (present b tape2)) was.given (did.others told) in
-    λ s. let one = was.counts s in let two = did.counts s in omega (arith, one, two)
+    λ s. le_trans (was.counts s) (did.counts s)
 
 pub returns-then-is_some-clause-stands : goal.returns-then-is_some-clause-stands
 returns-then-is_some-clause-stands g c =
@@ -370,24 +222,16 @@ returns-then-is_some-clause-stands g c =
     let did = c.copy-part.ensures in
     let given = g.B.Bank.given c.args.bank.now in
     let given1 = g.B.Bank.given c.loop-at.bank in
-    let m = c.args.members.now in
     let n = c.loop-at.members in
     let new = c.copy-part.new.members in
-    let tape0 = g.B.Bank.tape c.args.bank.now in
     let tape1 = g.B.Bank.tape c.loop-at.bank in
     let tape2 = g.B.Bank.tape c.copy-part.new.bank in
-    let f0 = g.B.Bank.faults_of c.args.bank.now in
-    let f1 = g.B.Bank.faults_of c.loop-at.bank in
-    let f2 = g.B.Bank.faults_of c.copy-part.new.bank in
     let shape = c.args.shape.now in
     let span = c.args.span.now in
     let at = c.loop-at.at in
     let first : ℕ = c.args.span.now.lo / c.stripe_sectors-sectors.result in
     let begins : first ≡ span.lo / stripe_sectors shape = ap (λ (n : ℕ). span.lo / n) c.stripe_sectors-sectors.ensures.value in
-    let ends : c.div_ceil-end.result ≡ ceiling span.hi (stripe_sectors shape) =
-    rounded_up c.div_ceil-end.result span.hi c.stripe_sectors-sectors.result (stripe_sectors shape) c.stripe_sectors-sectors.ensures.positive c.stripe_sectors-sectors.ensures.value c.div_ceil-end.ensures in
     let reached = was.reached in
-    let test = c.loop-at-test.true in
     let moved : IsMoved given n new = moved-from given given1 n n new was.given refl did.moved in
     let kept : g.B.Bank.tells → AreOtherRowsKept (IsOfStripe shape at) (reading_of new) (present given tape1) (present given tape2) =
     λ told. subst (λ (b : Given). AreOtherRowsKept (IsOfStripe shape at) (reading_of new) (present b tape1) (present b tape2)) was.given (did.others told) in
@@ -398,10 +242,6 @@ returns-then-is_some-clause-named g c = some-match _ c.copy-part.result.refusal 
 
 pub returns-then-is_some-clause-all : goal.returns-then-is_some-clause-all
 returns-then-is_some-clause-all g c = λ none. absurd (never c.copy-part.result.refusal (sym c.is_some.ensures ∙ c.if-is_some.true) none)
-  where
-    never : (o : Option Refusal) → is_some o ≡ true → o ≡ None → ⊥
-    never None is none = absurd (cc)
-    never (Some refusal) is none = absurd (cc)
 
 -- ---- and where it is copied
 
@@ -457,7 +297,7 @@ loop-at-preserved g c =
       unused = λ told. unused-then given m n (disk given.start tape0) (disk given.start tape1) (disk given.start tape2) was.moved (was.unused told)
           (subst (λ (b : Given). IsUnusedKept n (disk b.start tape1) (disk b.start tape2)) was.given (did.unused told));
       given = did.given ∙ was.given;
-      counts = λ s. let one = was.counts s in let two = did.counts s in omega (arith, one, two);
+      counts = λ s. le_trans (was.counts s) (did.counts s);
     }
 
 pub returns-clause-all : goal.returns-clause-all
@@ -472,3 +312,23 @@ returns-clause-all g c = λ none.
     let within = c.loop-at.invariant.within in
     let test = c.loop-at-test.false in
     omega (arith, begins, ends, reached, within, test)
+
+-- ---- what the searches would find too, for longer
+
+pub copy-part-requires-clause-slots : goal.copy-part-requires-clause-slots
+copy-part-requires-clause-slots g c = subst (λ (b : Given). b.slots ≤ 32) (sym c.loop-at.invariant.given) c.requires.slots
+
+pub copy-part-requires-clause-placed : goal.copy-part-requires-clause-placed
+copy-part-requires-clause-placed g c = subst (λ (b : Given). IsPlaced b c.loop-at.members) (sym c.loop-at.invariant.given) c.loop-at.invariant.moved.placed
+
+pub copy-part-requires-clause-unlost : goal.copy-part-requires-clause-unlost
+copy-part-requires-clause-unlost g c = c.loop-at.invariant.moved.unlost
+
+pub returns-then-is_some-clause-clean : goal.returns-then-is_some-clause-clean
+returns-then-is_some-clause-clean g c = c.copy-part.ensures.clean ∙ c.loop-at.invariant.clean
+
+pub returns-then-is_some-clause-given : goal.returns-then-is_some-clause-given
+returns-then-is_some-clause-given g c = c.copy-part.ensures.given ∙ c.loop-at.invariant.given
+
+pub is_some-requires : goal.is_some-requires
+is_some-requires g c κs a has = absurd (not-mem-nil has)

@@ -1,4 +1,5 @@
-use Rattle.std.proofs.Common.{◌≡◌, ℕ, Option, Some, None, List, sym, ◌∙◌, ap, subst, arith}
+use Rattle.std.proofs.Common.{◌≡◌, ◌≤◌, ℕ, Option, Some, None, List, sym, ◌∙◌, ap, subst, le_trans}
+use mathlib.Core.List.{not-mem-nil}
 use Rattle.std.specs.Prelude.{MatchOption, ⊤, is_some, true}
 use Rattle.region_rows.specs.md_base_Sectors.{Sector}
 use Rattle.region_rows.specs.md_base_the_Refusal.{Refusal}
@@ -18,6 +19,7 @@ use Rattle.window_steps.specs.shape_views_Views.{AreHeadersFit, Ledger}
 use Rattle.window_steps.specs.shape_views_Windows.{HasNoSection, moved_past}
 use Rattle.window_steps.specs.shape_changes_Marking.{AreOthersPresent}
 use Rattle.window_steps.proofs.shape_changes_Risen.{risen-then, room-first, room-then}
+use Rattle.window_steps.specs.views_Placed.{IsPlaced}
 use Rattle.window_steps.specs.views_Moving.{IsMoved}
 use Rattle.window_steps.specs.views_Rebuilding.{AreSparesFree}
 use Rattle.window_steps.specs.views_Lacking.{AreOtherRowsKept}
@@ -261,7 +263,7 @@ pub returns-clause-rise : goal.returns-clause-rise
 returns-clause-rise g c = risen-then c.copy_rest-copied.ensures.rise c.record-recorded.ensures.rise
 
 pub returns-clause-counts : goal.returns-clause-counts
-returns-clause-counts g c = λ s. let one = c.copy_rest-copied.ensures.counts s in let two = c.record-recorded.ensures.counts s in omega (arith, one, two)
+returns-clause-counts g c = λ s. le_trans (c.copy_rest-copied.ensures.counts s) (c.record-recorded.ensures.counts s)
 
 pub returns-clause-safe : goal.returns-clause-safe
 returns-clause-safe g c = λ told world ledger room gone unclean list was safe.
@@ -276,3 +278,21 @@ returns-clause-safe g c = λ told world ledger room gone unclean list was safe.
     (put.safe told world ledger (room-then (tape2 g c) told room did.rise) gone (λ dirty. unclean (sym did.clean ∙ dirty)) list
     (λ none. subst (λ (b : Given). IsCopiedWindow (OpensFit world) world.scope ledger (n g c) c.args.span.now list (present b (tape1 g c)) (disk b.start (tape1 g c))) (sym did.given) window)
     (over-at world (given g c) (given1 g c) ledger (n g c) (tape1 g c) did.given early.next)))
+
+-- ---- what the searches would find too, for longer
+
+pub record-recorded-requires-clause-slots : goal.record-recorded-requires-clause-slots
+record-recorded-requires-clause-slots g c = subst (λ (b : Given). b.slots ≤ 32) (sym c.copy_rest-copied.ensures.given) c.requires.slots
+
+pub record-recorded-requires-clause-placed : goal.record-recorded-requires-clause-placed
+record-recorded-requires-clause-placed g c =
+    subst (λ (b : Given). IsPlaced b c.copy_rest-copied.new.members) (sym c.copy_rest-copied.ensures.given) c.copy_rest-copied.ensures.moved.placed
+
+pub record-recorded-requires-clause-unlost : goal.record-recorded-requires-clause-unlost
+record-recorded-requires-clause-unlost g c = c.copy_rest-copied.ensures.moved.unlost
+
+pub returns-clause-given : goal.returns-clause-given
+returns-clause-given g c = c.record-recorded.ensures.given ∙ c.copy_rest-copied.ensures.given
+
+pub is_some-requires : goal.is_some-requires
+is_some-requires g c κs a has = absurd (not-mem-nil has)

@@ -6,7 +6,7 @@ use Rattle.window_rows.proofs.rows.put_role.Goals as goal
 pub returns-in_default-clause-full : goal.returns-in_default-clause-full
 returns-in_default-clause-full c = λ tail list own copied here.
     let found = sector_there c.args.shape.now c.args.role c.args.row c.requires.shape c.requires.role here in
-    absurd (let back = c.at.ensures.back found.0 found.1 in let none = c.in_default.is in cc)
+    absurd (c.in_default.ensures.stands found.0 found.1)
 
 pub returns-then-contains-clause-full : goal.returns-then-contains-clause-full
 returns-then-contains-clause-full c = λ tail list own copied here.

@@ -1,4 +1,5 @@
-use Rattle.std.proofs.Common.{inl, inr, ◌+◌, ◌*◌, refl, sym, ◌∙◌, subst, arith}
+use Rattle.std.proofs.Common.{inl, inr, ◌+◌, ◌*◌, refl, sym, ◌∙◌, subst, arith, ◌≤◌, le_trans}
+use mathlib.Core.List.{not-mem-nil}
 use Rattle.std.proofs.lemmas.Bool.{cases_lt}
 use Rattle.window_rows.proofs.layout_Places.{chunk_some}
 use Rattle.window_rows.specs.bank_Given.{Given}
@@ -21,6 +22,7 @@ use Rattle.window_rows.proofs.views_SafeStretch.{safe-none}
 use Rattle.window_rows.proofs.views_MendedParts.{safe-part}
 use Rattle.window_steps.specs.Copying.{IsOfStripeFrom, AreHeadersKept}
 use Rattle.window_steps.proofs.CopyLaws.{row-later, window-alike, tail-alike, refused-of, others-join}
+use Rattle.window_rows.specs.views_Placed.{IsPlaced}
 use Rattle.window_steps.proofs.copying.copy.Goals as goal
 
 pub loop-done-init : goal.loop-done-init
@@ -95,7 +97,7 @@ pub returns-then-is_some-clause-rise : goal.returns-then-is_some-clause-rise
 returns-then-is_some-clause-rise g c = risen-then c.loop-done.invariant.rise c.copy_part-part.ensures.rise
 
 pub returns-then-is_some-clause-counts : goal.returns-then-is_some-clause-counts
-returns-then-is_some-clause-counts g c = λ s. let one = c.loop-done.invariant.counts s in let two = c.copy_part-part.ensures.counts s in omega (arith, one, two)
+returns-then-is_some-clause-counts g c = λ s. le_trans (c.loop-done.invariant.counts s) (c.copy_part-part.ensures.counts s)
 
 pub returns-then-is_some-clause-safe : goal.returns-then-is_some-clause-safe
 returns-then-is_some-clause-safe g c = λ told world ledger room gone unclean able safe.
@@ -192,7 +194,7 @@ loop-done-preserved g c =
       unused = λ told. unused-then given m n (disk given.start tape0) (disk given.start tape1) (disk given.start tape2) was.moved (was.unused told)
           (subst (λ (b : Given). IsUnusedKept n (disk b.start tape1) (disk b.start tape2)) was.given (did.unused told));
       given = did.given ∙ was.given;
-      counts = λ s. let one = was.counts s in let two = did.counts s in omega (arith, one, two);
+      counts = λ s. le_trans (was.counts s) (did.counts s);
     }
 
 pub returns-clause-stands : goal.returns-clause-stands
@@ -215,3 +217,23 @@ returns-clause-named g c =
     let same = c.from-chunk.ensures in
     let some = chunk_some c.args.shape.now (force-valid c.args.members.now.newest c.requires.placed.fit c.args.shape.now (inr c.requires.shape)) in
     c.loop-done.invariant.named (omega (arith, end, same, some))
+
+-- ---- what the searches would find too, for longer
+
+pub copy_part-part-requires-clause-slots : goal.copy_part-part-requires-clause-slots
+copy_part-part-requires-clause-slots g c = subst (λ (b : Given). b.slots ≤ 32) (sym c.loop-done.invariant.given) c.requires.slots
+
+pub copy_part-part-requires-clause-placed : goal.copy_part-part-requires-clause-placed
+copy_part-part-requires-clause-placed g c = subst (λ (b : Given). IsPlaced b c.loop-done.members) (sym c.loop-done.invariant.given) c.loop-done.invariant.moved.placed
+
+pub copy_part-part-requires-clause-unlost : goal.copy_part-part-requires-clause-unlost
+copy_part-part-requires-clause-unlost g c = c.loop-done.invariant.moved.unlost
+
+pub returns-then-is_some-clause-clean : goal.returns-then-is_some-clause-clean
+returns-then-is_some-clause-clean g c = c.copy_part-part.ensures.clean ∙ c.loop-done.invariant.clean
+
+pub returns-then-is_some-clause-given : goal.returns-then-is_some-clause-given
+returns-then-is_some-clause-given g c = c.copy_part-part.ensures.given ∙ c.loop-done.invariant.given
+
+pub is_some-requires : goal.is_some-requires
+is_some-requires g c κs a has = absurd (not-mem-nil has)

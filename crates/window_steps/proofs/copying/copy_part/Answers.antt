@@ -1,4 +1,4 @@
-use Rattle.std.proofs.Common.{◌≡◌, Bool, true, false, Option, refl, sym, ◌∙◌, subst, arith}
+use Rattle.std.proofs.Common.{◌≡◌, Bool, true, false, Option, refl, sym, ◌∙◌, subst, ◌≤◌, le_trans, ℕ}
 use Rattle.std.specs.Prelude.{MatchOption}
 use Rattle.window_rows.specs.md_base_the_Refusal.{Refusal}
 use Rattle.window_rows.specs.md_base_the_Shape.{Shape}
@@ -24,7 +24,12 @@ use Rattle.window_rows.proofs.views_LackingLaws.{since-then, in-second}
 use Rattle.window_rows.proofs.views_LackingWrites.{others-then, others-same}
 use Rattle.window_rows.proofs.views_SafeStretch.{safe-then, over-at, keeps-from}
 use Rattle.window_steps.proofs.CopyLaws.{row-later, copyable-later, kept-less}
+use Rattle.window_rows.specs.views_Placed.{IsPlaced}
 use Rattle.window_steps.proofs.copying.copy_part.Goals as goal
+
+-- the first sector is none of those of a superblock
+zero-apart : ◌≡◌ {A = ℕ} 0 8 → ⊥
+zero-apart e = absurd (cc)
 
 pub name_missing-spares-requires-clause-free : goal.name_missing-spares-requires-clause-free
 name_missing-spares-requires-clause-free g c =
@@ -98,7 +103,7 @@ pub returns-clause-rise : goal.returns-clause-rise
 returns-clause-rise g c = risen-then c.copy_stretch-done.ensures.rise c.name_missing-spares.ensures.rise
 
 pub returns-clause-counts : goal.returns-clause-counts
-returns-clause-counts g c = λ s. let one = c.copy_stretch-done.ensures.counts s in let two = c.name_missing-spares.ensures.counts s in omega (arith, one, two)
+returns-clause-counts g c = λ s. le_trans (c.copy_stretch-done.ensures.counts s) (c.name_missing-spares.ensures.counts s)
 
 pub returns-clause-safe : goal.returns-clause-safe
 returns-clause-safe g c = λ told world ledger room gone unclean able safe.
@@ -127,7 +132,7 @@ returns-clause-copyable g c = λ told world able.
     let kept = subst (λ (b : Given). EachMark g.B.Bank.tells b.start tape1 tape2 (AreDataKept (disk b.start tape1))) did.given named.«data» in
     let last = marks_last kept told in
     copyable-later world.scope n new named.moved.reshape named.moved.shape named.moved.size c.args.span.now (disk given.start tape1) (disk given.start tape2)
-    (λ header may. kept-less (disk given.start tape1 (backup_of world.scope) 0) (disk given.start tape2 (backup_of world.scope) 0) (last (backup_of world.scope) 0 (λ e. absurd (cc))) header may)
+    (λ header may. kept-less (disk given.start tape1 (backup_of world.scope) 0) (disk given.start tape2 (backup_of world.scope) 0) (last (backup_of world.scope) 0 zero-apart) header may)
     (did.copyable told world able)
 
 pub returns-clause-headers : goal.returns-clause-headers
@@ -138,7 +143,7 @@ returns-clause-headers g c = λ told s v may.
     let tape2 = g.B.Bank.tape c.name_missing-spares.new.bank in
     let kept = subst (λ (b : Given). EachMark g.B.Bank.tells b.start tape1 tape2 (AreDataKept (disk b.start tape1))) did.given c.name_missing-spares.ensures.«data» in
     let last = marks_last kept told in
-    did.headers told s v (kept-less (disk given.start tape1 s 0) (disk given.start tape2 s 0) (last s 0 (λ e. absurd (cc))) v may)
+    did.headers told s v (kept-less (disk given.start tape1 s 0) (disk given.start tape2 s 0) (last s 0 zero-apart) v may)
 
 pub returns-clause-unused : goal.returns-clause-unused
 returns-clause-unused g c = λ told.
@@ -151,3 +156,20 @@ returns-clause-unused g c = λ told.
     subst (λ (b : Given). IsRestKept n (disk b.start tape1) (disk b.start tape2)) did.given (c.name_missing-spares.ensures.rest told) in
     unused-then given c.args.members.now n (disk given.start (g.B.Bank.tape c.args.bank.now)) (disk given.start tape1) (disk given.start tape2) did.moved (did.unused told)
     (rest-unused n (disk given.start tape1) (disk given.start tape2) named)
+
+-- ---- what the searches would find too, for longer
+
+pub name_missing-spares-requires-clause-slots : goal.name_missing-spares-requires-clause-slots
+name_missing-spares-requires-clause-slots g c = subst (λ (b : Given). b.slots ≤ 32) (sym c.copy_stretch-done.ensures.given) c.requires.slots
+
+pub name_missing-spares-requires-clause-placed : goal.name_missing-spares-requires-clause-placed
+name_missing-spares-requires-clause-placed g c = subst (λ (b : Given). IsPlaced b c.copy_stretch-done.new.members) (sym c.copy_stretch-done.ensures.given) c.copy_stretch-done.ensures.moved.placed
+
+pub name_missing-spares-requires-clause-unlost : goal.name_missing-spares-requires-clause-unlost
+name_missing-spares-requires-clause-unlost g c = c.copy_stretch-done.ensures.moved.unlost
+
+pub returns-clause-clean : goal.returns-clause-clean
+returns-clause-clean g c = c.name_missing-spares.ensures.clean ∙ c.copy_stretch-done.ensures.clean
+
+pub returns-clause-given : goal.returns-clause-given
+returns-clause-given g c = c.name_missing-spares.ensures.given ∙ c.copy_stretch-done.ensures.given

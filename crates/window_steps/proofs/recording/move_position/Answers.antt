@@ -1,4 +1,4 @@
-use Rattle.std.proofs.Common.{refl, sym, ◌∙◌, subst, arith}
+use Rattle.std.proofs.Common.{refl, sym, ◌∙◌, subst, arith, ◌≤◌, le_trans}
 use Rattle.window_rows.specs.bank_Given.{Given}
 use Rattle.window_rows.specs.bank_Tape.{EachMark, disk}
 use Rattle.window_rows.proofs.bank_Laws.{kept_in}
@@ -15,6 +15,7 @@ use Rattle.window_rows.proofs.views_MovedLaws.{moved-then, moved-from, grows-the
 use Rattle.window_rows.specs.safe_updates_Named.{AreDataKept}
 use Rattle.window_rows.proofs.safe_updates_Unused.{rest-unused, unused-then}
 use Rattle.window_steps.proofs.PastLaws.{free-moved}
+use Rattle.window_rows.specs.views_Placed.{IsPlaced}
 use Rattle.window_steps.proofs.recording.move_position.Goals as goal
 
 pub name_missing-named-requires-clause-free : goal.name_missing-named-requires-clause-free
@@ -91,7 +92,7 @@ pub returns-clause-rise : goal.returns-clause-rise
 returns-clause-rise g c = risen-then c.put_position-put.ensures.rise c.name_missing-named.ensures.rise
 
 pub returns-clause-counts : goal.returns-clause-counts
-returns-clause-counts g c = λ s. let one = c.put_position-put.ensures.counts s in let two = c.name_missing-named.ensures.counts s in omega (arith, one, two)
+returns-clause-counts g c = λ s. le_trans (c.put_position-put.ensures.counts s) (c.name_missing-named.ensures.counts s)
 
 pub returns-clause-safe : goal.returns-clause-safe
 returns-clause-safe g c = λ told world ledger room gone unclean right safe.
@@ -108,3 +109,17 @@ returns-clause-safe g c = λ told world ledger room gone unclean right safe.
     safe-part world given given1 ledger m n new tape0 tape1 tape2 told did.given did.moved.placed (moved-from given given1 n n new did.given refl named.moved) named.grows did.rise room gone
     (λ first gone1. did.safe told world ledger first gone1 right safe)
     (λ then now. named.safe told world ledger then gone (λ dirty. unclean (sym did.clean ∙ dirty)) now)
+
+-- ---- what the searches would find too, for longer
+
+pub name_missing-named-requires-clause-slots : goal.name_missing-named-requires-clause-slots
+name_missing-named-requires-clause-slots g c = subst (λ (b : Given). b.slots ≤ 32) (sym c.put_position-put.ensures.given) c.requires.slots
+
+pub name_missing-named-requires-clause-placed : goal.name_missing-named-requires-clause-placed
+name_missing-named-requires-clause-placed g c = subst (λ (b : Given). IsPlaced b c.put_position-put.new.members) (sym c.put_position-put.ensures.given) c.put_position-put.ensures.moved.placed
+
+pub name_missing-named-requires-clause-unlost : goal.name_missing-named-requires-clause-unlost
+name_missing-named-requires-clause-unlost g c = c.put_position-put.ensures.moved.unlost
+
+pub returns-clause-given : goal.returns-clause-given
+returns-clause-given g c = c.name_missing-named.ensures.given ∙ c.put_position-put.ensures.given

@@ -28,6 +28,17 @@ use Rattle.window_steps.proofs.recording.put_position.Given.{Over}
 use Rattle.window_steps.proofs.recording.put_position.Goals.{After-without}
 use Rattle.window_steps.proofs.recording.put_position.Goals as goal
 
+both : (a b : Bool) → (a && b) ≡ true → (a ≡ true) × (b ≡ true)
+both true b e = (refl, e)
+both false b e = absurd (cc)
+
+flip : (b : Bool) → not b ≡ true → b ≡ false
+flip true e = absurd (cc)
+flip false e = refl
+
+off-on : (b : Bool) → b ≡ false → b ≡ true → ⊥
+off-on b off on = absurd (cc)
+
 pub holders-held-requires-clause-small : goal.holders-held-requires-clause-small
 holders-held-requires-clause-small g c role slot held = (c.requires.placed.holders role slot held).small
 
@@ -92,18 +103,10 @@ returns-clause-failed g c =
       | inr told ↦ inr told
     ]))
   where
-    both : (a b : Bool) → (a && b) ≡ true → (a ≡ true) × (b ≡ true)
-    both true b e = (refl, e)
-    both false b e = absurd (cc)
-
-    flip : (b : Bool) → not b ≡ true → b ≡ false
-    flip true e = absurd (cc)
-    flip false e = refl
-
     small : (slot : ℕ) → has_slot c.without.result slot ≡ true → slot < 32
     small slot has = elim (cases_lt slot 32) [
       | inl below ↦ below
-      | inr above ↦ absurd (let e = none_above c.without.result slot (omega arith) above in cc)
+      | inr above ↦ absurd (off-on (has_slot c.without.result slot) (none_above c.without.result slot (omega arith) above) has)
     ]
 
 pub returns-clause-grows : goal.returns-clause-grows

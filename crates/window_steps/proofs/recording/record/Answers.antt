@@ -1,4 +1,5 @@
-use Rattle.std.proofs.Common.{◌≡◌, inl, Option, Some, None, refl, sym, ◌∙◌, subst, arith}
+use Rattle.std.proofs.Common.{◌≡◌, inl, Option, Some, None, refl, sym, ◌∙◌, subst, ◌≤◌, le_trans}
+use mathlib.Core.List.{not-mem-nil}
 use Rattle.std.specs.Prelude.{MatchOption, is_some, true}
 use Rattle.window_rows.specs.md_base_the_Refusal.{Refusal}
 use Rattle.window_rows.specs.bank_Given.{Given}
@@ -25,6 +26,7 @@ use Rattle.window_steps.proofs.CopyLaws.{refused-of}
 use Rattle.window_steps.proofs.PastLaws.{past-moved, past-plain, past-headers, plain-moved, headers-moved, past-right, next-moved, gone-past}
 use Rattle.window_steps.proofs.recording.record.Given.{Over}
 use Rattle.window_steps.proofs.recording.record.Goals.{After-move_position-moved}
+use Rattle.window_rows.specs.views_Placed.{IsPlaced}
 use Rattle.window_steps.proofs.recording.record.Goals as goal
 
 pub move_position-moved-requires-clause-free : goal.move_position-moved-requires-clause-free
@@ -178,7 +180,7 @@ pub returns-clause-rise : goal.returns-clause-rise
 returns-clause-rise g c = risen-then c.flush_naming-flushed.ensures.rise c.move_position-moved.ensures.rise
 
 pub returns-clause-counts : goal.returns-clause-counts
-returns-clause-counts g c = λ s. let one = c.flush_naming-flushed.ensures.counts s in let two = c.move_position-moved.ensures.counts s in omega (arith, one, two)
+returns-clause-counts g c = λ s. le_trans (c.flush_naming-flushed.ensures.counts s) (c.move_position-moved.ensures.counts s)
 
 pub returns-clause-safe : goal.returns-clause-safe
 returns-clause-safe g c = λ told world ledger room gone unclean list copied safe.
@@ -202,3 +204,20 @@ returns-clause-safe g c = λ told world ledger room gone unclean list copied saf
     (next.safe told world ledger (room-then tape2 told room did.rise) gone (λ dirty. unclean (sym did.clean ∙ dirty))
     (subst (λ (b : Given). IsSteady (OpensFit world) world.scope b ledger n (disk b.start tape1) → IsViewRight (OpensFit world) world.scope b ledger (moved_past span n) (disk b.start tape1)) (sym did.given) right)
     (over-at world (given g c told) given1 ledger n tape1 did.given early.next)))
+
+-- ---- what the searches would find too, for longer
+
+pub move_position-moved-requires-clause-slots : goal.move_position-moved-requires-clause-slots
+move_position-moved-requires-clause-slots g c = subst (λ (b : Given). b.slots ≤ 32) (sym c.flush_naming-flushed.ensures.given) c.requires.slots
+
+pub move_position-moved-requires-clause-placed : goal.move_position-moved-requires-clause-placed
+move_position-moved-requires-clause-placed g c = subst (λ (b : Given). IsPlaced b c.flush_naming-flushed.new.members) (sym c.flush_naming-flushed.ensures.given) c.flush_naming-flushed.ensures.moved.placed
+
+pub move_position-moved-requires-clause-unlost : goal.move_position-moved-requires-clause-unlost
+move_position-moved-requires-clause-unlost g c = c.flush_naming-flushed.ensures.moved.unlost
+
+pub returns-clause-given : goal.returns-clause-given
+returns-clause-given g c = c.move_position-moved.ensures.given ∙ c.flush_naming-flushed.ensures.given
+
+pub is_some-requires : goal.is_some-requires
+is_some-requires g c κs a has = absurd (not-mem-nil has)

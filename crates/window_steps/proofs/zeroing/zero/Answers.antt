@@ -1,4 +1,5 @@
-use Rattle.std.proofs.Common.{inl, inr, ◌+◌, ◌*◌, refl, sym, ◌∙◌, subst, arith}
+use Rattle.std.proofs.Common.{inl, inr, ◌+◌, ◌*◌, refl, sym, ◌∙◌, subst, arith, ◌≤◌, le_trans}
+use mathlib.Core.List.{not-mem-nil}
 use Rattle.std.proofs.lemmas.Bool.{cases_lt}
 use Rattle.window_rows.proofs.layout_Places.{chunk_some}
 use Rattle.window_rows.specs.bank_Given.{Given}
@@ -21,6 +22,7 @@ use Rattle.window_steps.specs.Copying.{IsOfStripeFrom, AreHeadersKept}
 use Rattle.window_steps.proofs.CopyLaws.{row-later, refused-of, others-join}
 use Rattle.window_steps.proofs.ZeroLaws.{through-moved, past-stripe-moved, zero-moved}
 use Rattle.window_rows.specs.bank_Tape.{disk}
+use Rattle.window_rows.specs.views_Placed.{IsPlaced}
 use Rattle.window_steps.proofs.zeroing.zero.Goals as goal
 
 pub loop-done-init : goal.loop-done-init
@@ -96,7 +98,7 @@ pub returns-then-is_some-clause-rise : goal.returns-then-is_some-clause-rise
 returns-then-is_some-clause-rise g c = risen-then c.loop-done.invariant.rise c.zero_part-part.ensures.rise
 
 pub returns-then-is_some-clause-counts : goal.returns-then-is_some-clause-counts
-returns-then-is_some-clause-counts g c = λ s. let one = c.loop-done.invariant.counts s in let two = c.zero_part-part.ensures.counts s in omega (arith, one, two)
+returns-then-is_some-clause-counts g c = λ s. le_trans (c.loop-done.invariant.counts s) (c.zero_part-part.ensures.counts s)
 
 pub returns-then-is_some-clause-safe : goal.returns-then-is_some-clause-safe
 returns-then-is_some-clause-safe g c = λ told world ledger room gone unclean safe.
@@ -162,7 +164,7 @@ loop-done-preserved g c =
           (λ first gone1. was.safe told world ledger first gone1 unclean safe)
           (λ then now. did.safe told world ledger then gone (λ dirty. unclean (sym was.clean ∙ dirty)) now);
       given = did.given ∙ was.given;
-      counts = λ s. let one = was.counts s in let two = did.counts s in omega (arith, one, two);
+      counts = λ s. le_trans (was.counts s) (did.counts s);
     }
 
 pub returns-clause-stands : goal.returns-clause-stands
@@ -202,3 +204,23 @@ returns-then-is_some-clause-unused g c = λ told.
     let tape2 = g.B.Bank.tape c.zero_part-part.new.bank in
     unused-then given c.args.members.now n (disk given.start (g.B.Bank.tape c.args.bank.now)) (disk given.start tape1) (disk given.start tape2) was.moved (was.unused told)
     (subst (λ (b : Given). IsUnusedKept n (disk b.start tape1) (disk b.start tape2)) was.given (c.zero_part-part.ensures.unused told))
+
+-- ---- what the searches would find too, for longer
+
+pub zero_part-part-requires-clause-slots : goal.zero_part-part-requires-clause-slots
+zero_part-part-requires-clause-slots g c = subst (λ (b : Given). b.slots ≤ 32) (sym c.loop-done.invariant.given) c.requires.slots
+
+pub zero_part-part-requires-clause-placed : goal.zero_part-part-requires-clause-placed
+zero_part-part-requires-clause-placed g c = subst (λ (b : Given). IsPlaced b c.loop-done.members) (sym c.loop-done.invariant.given) c.loop-done.invariant.moved.placed
+
+pub zero_part-part-requires-clause-unlost : goal.zero_part-part-requires-clause-unlost
+zero_part-part-requires-clause-unlost g c = c.loop-done.invariant.moved.unlost
+
+pub returns-then-is_some-clause-clean : goal.returns-then-is_some-clause-clean
+returns-then-is_some-clause-clean g c = c.zero_part-part.ensures.clean ∙ c.loop-done.invariant.clean
+
+pub returns-then-is_some-clause-given : goal.returns-then-is_some-clause-given
+returns-then-is_some-clause-given g c = c.zero_part-part.ensures.given ∙ c.loop-done.invariant.given
+
+pub is_some-requires : goal.is_some-requires
+is_some-requires g c κs a has = absurd (not-mem-nil has)

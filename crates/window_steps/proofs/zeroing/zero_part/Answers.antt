@@ -1,4 +1,4 @@
-use Rattle.std.proofs.Common.{◌≡◌, Bool, true, false, Option, refl, sym, ◌∙◌, subst, arith, inl}
+use Rattle.std.proofs.Common.{◌≡◌, Bool, true, false, Option, refl, sym, ◌∙◌, subst, inl, ◌≤◌, le_trans, ℕ}
 use Rattle.std.specs.Prelude.{MatchOption}
 use Rattle.window_rows.specs.md_base_the_Refusal.{Refusal}
 use Rattle.window_rows.specs.md_base_the_Shape.{Shape}
@@ -22,7 +22,12 @@ use Rattle.window_rows.proofs.views_SafeStretch.{safe-then, over-at, keeps-from}
 use Rattle.window_steps.proofs.CopyLaws.{row-later}
 use Rattle.window_rows.specs.bank_Tape.{disk}
 use Rattle.window_rows.proofs.safe_updates_Unused.{rest-unused, unused-then}
+use Rattle.window_rows.specs.views_Placed.{IsPlaced}
 use Rattle.window_steps.proofs.zeroing.zero_part.Goals as goal
+
+-- the first sector is none of those of a superblock
+zero-apart : ◌≡◌ {A = ℕ} 0 8 → ⊥
+zero-apart e = absurd (cc)
 
 pub name_missing-spares-requires-clause-free : goal.name_missing-spares-requires-clause-free
 name_missing-spares-requires-clause-free g c =
@@ -96,7 +101,7 @@ pub returns-clause-rise : goal.returns-clause-rise
 returns-clause-rise g c = risen-then c.zero_stretch-done.ensures.rise c.name_missing-spares.ensures.rise
 
 pub returns-clause-counts : goal.returns-clause-counts
-returns-clause-counts g c = λ s. let one = c.zero_stretch-done.ensures.counts s in let two = c.name_missing-spares.ensures.counts s in omega (arith, one, two)
+returns-clause-counts g c = λ s. le_trans (c.zero_stretch-done.ensures.counts s) (c.name_missing-spares.ensures.counts s)
 
 pub returns-clause-safe : goal.returns-clause-safe
 returns-clause-safe g c = λ told world ledger room gone unclean safe.
@@ -119,7 +124,7 @@ returns-clause-headers g c = λ told s v may.
     let tape1 = g.B.Bank.tape c.zero_stretch-done.new.bank in
     let tape2 = g.B.Bank.tape c.name_missing-spares.new.bank in
     let named : AreHeadersKept (disk (g.B.Bank.given c.args.bank.now).start tape1) (disk (g.B.Bank.given c.args.bank.now).start tape2) =
-    subst (λ (b : Given). AreHeadersKept (disk b.start tape1) (disk b.start tape2)) did.given (λ s1 v1 may1. c.name_missing-spares.ensures.rest told s1 0 v1 (inl (λ e. absurd (cc))) may1) in
+    subst (λ (b : Given). AreHeadersKept (disk b.start tape1) (disk b.start tape2)) did.given (λ s1 v1 may1. c.name_missing-spares.ensures.rest told s1 0 v1 (inl zero-apart) may1) in
     did.headers told s v (named s v may)
 
 pub returns-clause-unused : goal.returns-clause-unused
@@ -133,3 +138,20 @@ returns-clause-unused g c = λ told.
     subst (λ (b : Given). IsRestKept n (disk b.start tape1) (disk b.start tape2)) did.given (c.name_missing-spares.ensures.rest told) in
     unused-then given c.args.members.now n (disk given.start (g.B.Bank.tape c.args.bank.now)) (disk given.start tape1) (disk given.start tape2) did.moved (did.unused told)
     (rest-unused n (disk given.start tape1) (disk given.start tape2) named)
+
+-- ---- what the searches would find too, for longer
+
+pub name_missing-spares-requires-clause-slots : goal.name_missing-spares-requires-clause-slots
+name_missing-spares-requires-clause-slots g c = subst (λ (b : Given). b.slots ≤ 32) (sym c.zero_stretch-done.ensures.given) c.requires.slots
+
+pub name_missing-spares-requires-clause-placed : goal.name_missing-spares-requires-clause-placed
+name_missing-spares-requires-clause-placed g c = subst (λ (b : Given). IsPlaced b c.zero_stretch-done.new.members) (sym c.zero_stretch-done.ensures.given) c.zero_stretch-done.ensures.moved.placed
+
+pub name_missing-spares-requires-clause-unlost : goal.name_missing-spares-requires-clause-unlost
+name_missing-spares-requires-clause-unlost g c = c.zero_stretch-done.ensures.moved.unlost
+
+pub returns-clause-clean : goal.returns-clause-clean
+returns-clause-clean g c = c.name_missing-spares.ensures.clean ∙ c.zero_stretch-done.ensures.clean
+
+pub returns-clause-given : goal.returns-clause-given
+returns-clause-given g c = c.name_missing-spares.ensures.given ∙ c.zero_stretch-done.ensures.given
