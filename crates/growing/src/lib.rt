@@ -14,5 +14,5 @@ pub use running_replies::{Bank, Fault, NoMemory, Phase, Refusal, Shape, Who, fin
 pub use turning::{
     Course, Due, Moving, Opened, Room, Still, answer, begin_reshape, due_step, enter_all_absent,
     finish_reshape, first_recovering, found_numbers, list_sectors, make_room, room_for, step,
-    steps_left, still_step, write, zeros,
+    steps_left, still_step, zeros,
 };

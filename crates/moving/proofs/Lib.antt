@@ -68,3 +68,15 @@ pub use Rattle.pieces.proofs.grow_plan_Sound
 pub use Rattle.pieces.proofs.row_io_Losses
 pub use Rattle.pieces.proofs.views_MarkLaws
 pub use Rattle.pieces.proofs.views_MemberLaws
+pub use Rattle.array_state.proofs.md_base_SectorLaws
+pub use Rattle.moving_laws.proofs.Reading as moving_laws_Reading
+pub use Rattle.pieces.proofs.views_LackingLists
+pub use Rattle.moving_laws.proofs.running_words_Replies
+pub use Rattle.moving_laws.proofs.calls_kept_AddLaws
+pub use Rattle.moving_laws.proofs.moving_kept_AddedSpare
+pub use Rattle.moving_laws.proofs.AddLaws as moving_laws_AddLaws
+pub use Rattle.pieces.proofs.views_BearerLaws
+pub use Rattle.pieces.proofs.views_Flushed
+pub use Rattle.moving_laws.proofs.calls_kept_AddedKept
+pub use Rattle.moving_laws.proofs.calls_kept_AddedNumbers
+pub use Rattle.moving_laws.proofs.calls_kept_AddedLosses

@@ -63,3 +63,9 @@ pub use Rattle.pieces.specs.grow_asked_Asked
 pub use Rattle.pieces.specs.grow_asked_Fitting
 pub use Rattle.pieces.specs.grow_asked_the_Window
 pub use Rattle.pieces.specs.grow_asked_the_Window_TheVariants
+pub use Rattle.pieces.specs.flat_history_the_Request_TheVariants
+pub use Rattle.moving_laws.specs.history_calls_Reliable
+pub use Rattle.array_state.specs.md_base_the_Span
+pub use Rattle.array_state.specs.md_base_the_Fault
+pub use Rattle.moving_laws.specs.window_calls_Fetching
+pub use Rattle.pieces.specs.views_Under

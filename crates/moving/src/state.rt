@@ -8,7 +8,6 @@ ghost use Rattle.pieces.specs.flat_history_Flat.{next_number};
 ghost use Rattle.pieces.specs.grow_asked_Left.{phases_of, zeroed_by, IsReshapeUnderWay, IsWindowRight};
 ghost use Rattle.moving_laws.specs.running_words_Parts.{left_in};
 
-mod adding;
 mod asking;
 mod ending;
 mod examining;
@@ -16,7 +15,6 @@ mod failing;
 mod going;
 mod mending;
 mod parting;
-mod reading;
 mod settling;
 
 use election::{Bank, Members};

@@ -77,3 +77,25 @@ pub use Rattle.still_kept.proofs.superblocks_ValidFields
 pub use Rattle.still_kept.proofs.views_LackingLaws
 pub use Rattle.still_kept.proofs.views_LiveLeft
 pub use Rattle.still_kept.proofs.views_Still
+pub use Rattle.moving.proofs.md_base_SectorLaws
+pub use Rattle.moving.proofs.array_kept_ReplyLaws
+pub use Rattle.moving.proofs.moving_laws_Reading
+pub use Rattle.moving.proofs.moving_laws_WriteLaws
+pub use Rattle.moving.proofs.moving_laws_FirstLaws
+pub use Rattle.moving.proofs.Calls as moving_Calls
+pub use Rattle.moving.proofs.views_LackingLists
+pub use Rattle.moving.proofs.calls_kept_ReadLaws
+pub use Rattle.moving.proofs.running_words_Replies
+pub use Rattle.moving.proofs.moving_laws_Settled
+pub use Rattle.moving.proofs.calls_kept_AddLaws
+pub use Rattle.moving.proofs.moving_kept_AddedSpare
+pub use Rattle.moving.proofs.moving_laws_AddLaws
+pub use Rattle.moving.proofs.views_BearerLaws
+pub use Rattle.moving.proofs.views_Flushed
+pub use Rattle.moving.proofs.calls_kept_AddedKept
+pub use Rattle.moving.proofs.calls_kept_AddedNumbers
+pub use Rattle.moving.proofs.calls_kept_AddedLosses
+pub use Rattle.moving.proofs.StepLaws as moving_StepLaws
+pub use Rattle.moving.proofs.moving_laws_BarredLaws
+pub use Rattle.moving.proofs.moving_kept_Writing
+pub use Rattle.moving.proofs.moving_laws_WriteReplies

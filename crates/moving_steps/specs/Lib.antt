@@ -96,3 +96,15 @@ pub use Rattle.still_kept.specs.sb1_the_Sb
 pub use Rattle.still_kept.specs.superblocks_Reads
 pub use Rattle.still_kept.specs.views_Moving
 pub use Rattle.still_kept.specs.views_Status
+pub use Rattle.moving.specs.flat_history_the_Request_TheVariants
+pub use Rattle.still_kept.specs.md_base_the_Fault_TheVariants
+pub use Rattle.moving.specs.moving_laws_Refusing
+pub use Rattle.moving.specs.history_calls_Reliable
+pub use Rattle.moving.specs.region_writes_Runs
+pub use Rattle.moving.specs.safe_updates_First
+pub use Rattle.moving.specs.md_base_the_Span
+pub use Rattle.moving.specs.md_base_the_Fault
+pub use Rattle.moving.specs.window_calls_Fetching
+pub use Rattle.moving.specs.views_Under
+pub use Rattle.moving.specs.grow_asked_the_Window
+pub use Rattle.moving.specs.moving_state_Left

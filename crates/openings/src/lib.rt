@@ -14,6 +14,7 @@ pub use ending::{halt, stop};
 pub use examining::examine;
 pub use finding::open_running;
 pub use running_steps::{
-    Moving, PlannedGrow, Running, State, Still, add_still, check_moving, check_still, plan_grow,
-    read_still, refuse_grow, refuse_limit, steps, write_moving, write_still,
+    Moving, PlannedGrow, Running, State, Still, add_moving, add_still, check_moving, check_still,
+    plan_grow, read_moving, read_still, refuse_grow, refuse_limit, steps, write_moving,
+    write_still,
 };

@@ -6,7 +6,8 @@ mod state;
 pub use growing::{
     Bank, Course, Fault, Moving, NoMemory, Opened, PlannedGrow, Refusal, Room, Shape, Still, Who,
     enter_all_absent, final_in, found_numbers, list_sectors, plan_grow, refuse_grow, refuse_limit,
-    room_for, shape_in, write as write_moving, zeros,
+    room_for, shape_in, zeros,
 };
+pub use moving_calls::{add as add_moving, read as read_moving, write as write_moving};
 pub use state::{Next, Running, State, check_moving, check_still};
 pub use takeover::{Event, Pieces, add as add_still, read as read_still, write as write_still};

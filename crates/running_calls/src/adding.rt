@@ -43,7 +43,7 @@ pub fn add<B: Bank>(array: &mut Running<B>, who: Who, slot: u32) -> Result<(), F
             done
         }
         State::Moving(moving) => {
-            let done = moving.add(who, slot);
+            let done = openings::add_moving(moving, who, slot);
             check_moving(moving);
             done
         }

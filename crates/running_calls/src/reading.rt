@@ -59,7 +59,7 @@ pub fn read<B: Bank>(
             done
         }
         State::Moving(moving) => {
-            let done = moving.read(who, at, into);
+            let done = openings::read_moving(moving, who, at, into);
             check_moving(moving);
             done
         }

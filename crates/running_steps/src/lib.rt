@@ -7,8 +7,9 @@ mod turns;
 
 pub use batch::steps;
 pub use running::{
-    Course, Moving, Opened, Pieces, PlannedGrow, Room, Running, State, Still, add_still,
-    check_moving, check_still, enter_all_absent, final_in, found_numbers, list_sectors, plan_grow,
-    read_still, refuse_grow, refuse_limit, room_for, shape_in, write_moving, write_still, zeros,
+    Course, Moving, Opened, Pieces, PlannedGrow, Room, Running, State, Still, add_moving,
+    add_still, check_moving, check_still, enter_all_absent, final_in, found_numbers, list_sectors,
+    plan_grow, read_moving, read_still, refuse_grow, refuse_limit, room_for, shape_in,
+    write_moving, write_still, zeros,
 };
 pub use stepping::step;

@@ -10,6 +10,6 @@ pub use ending::finish_reshape;
 pub use moving_steps::{
     Course, Due, Event, Members, Moving, PhasesLeft, Room, all_left, answer, contains, due_step,
     enter_all_absent, found_numbers, holds_role, judge_grow, list_sectors, make_room, plan_of,
-    room_for, step, steps_left, write, zeros,
+    room_for, step, steps_left, zeros,
 };
 pub use still_steps::{Opened, Still, first_recovering, still_step};

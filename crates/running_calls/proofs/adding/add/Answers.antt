@@ -59,7 +59,7 @@ invariant_of-array g c = elim c.match-array.branch [
   | in-Moving w ↦
       let was = rw w.in-Moving.is at c.array.invariant in
       let old = w.in-Moving.moving in
-      let new = w.add-done-in-Moving.new.self in
+      let new = w.add-done-in-Moving.new.moving in
       let did = w.add-done-in-Moving.ensures in
       let added = add-answered c.args.who (list_length old.parts.members.newest) (AsksAdd c.args.slot) (Added c.args.slot) w.add-done-in-Moving.result did.answered refl in
       rw (w.array-inside-is, w.check_moving.ensures.same) (reshape-added g.B.Bank.given g.B.Bank.tape (length c.array.inside.window.items) old new did.given added did.called w.check_moving.ensures.active w.check_moving.ensures.within was)

@@ -35,7 +35,7 @@ returns-clause-caused g c = elim c.match-array.branch [
       rw (← c.array.view_is, w.in-Still.is, w.array-inside-is, w.check_still.ensures.same, w.result-is) (read-still w.in-Still.still c.args.at (length c.args.into.now / 512) w.in-Still.still.parts.members w.read-done.new.still.parts.members w.read-done.result rest.now.still w.read-done.ensures.caused)
   | in-Moving w ↦
       let active = rw w.in-Moving.is at c.array.invariant in
-      rw (← c.array.view_is, w.in-Moving.is, w.array-inside-is, w.check_moving.ensures.same, w.result-is) (read-moving w.in-Moving.moving c.args.at (length c.args.into.now / 512) w.in-Moving.moving.parts.members w.read-done-in-Moving.new.self.parts.members w.read-done-in-Moving.result active.active w.read-done-in-Moving.ensures.caused)
+      rw (← c.array.view_is, w.in-Moving.is, w.array-inside-is, w.check_moving.ensures.same, w.result-is) (read-moving w.in-Moving.moving c.args.at (length c.args.into.now / 512) w.in-Moving.moving.parts.members w.read-done-in-Moving.new.moving.parts.members w.read-done-in-Moving.result active.active w.read-done-in-Moving.ensures.caused)
 ]
 
 pub returns-clause-active : goal.returns-clause-active
@@ -60,7 +60,7 @@ invariant_of-array g c = elim c.match-array.branch [
   | in-Moving w ↦
       let was = rw w.in-Moving.is at c.array.invariant in
       let old = w.in-Moving.moving in
-      let new = w.read-done-in-Moving.new.self in
+      let new = w.read-done-in-Moving.new.moving in
       let did = w.read-done-in-Moving.ensures in
       let added = add-answered c.args.who (list_length old.parts.members.newest) (AsksRead c.args.at (length c.args.into.now / 512)) (Read c.args.at (sectors_of w.read-done-in-Moving.new.into)) w.read-done-in-Moving.result did.answered refl in
       rw (w.array-inside-is, w.check_moving.ensures.same) (reshape-called g.B.Bank.given g.B.Bank.tape (length c.array.inside.window.items) old new did.given added did.called w.check_moving.ensures.active w.check_moving.ensures.within was)
