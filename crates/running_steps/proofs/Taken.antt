@@ -43,7 +43,8 @@ use Rattle.running_steps.proofs.Events.{EachOf, each-losses, each-own, any-none,
 use Rattle.running_steps.proofs.Went.{held-same, losses-along, epoch-itself}
 use Rattle.running.proofs.Kept.{aim-taken}
 use Rattle.running_steps.proofs.Ways.{turn-told, way-members}
-use Rattle.running_steps.proofs.Plain.{open-still, still-runs, fewer-as, plain-refused}
+use Rattle.running_steps.proofs.Plain.{open-still, fewer-as, plain-refused}
+use Rattle.running.proofs.Answered.{left-still}
 
 -- no reshape is active, so the call that goes on has kept the length
 still-open : {B : Type 0} (array : RunningParts B) (who : Who) → is_reshaping array.parts.members.newest ≡ false → IsOpenFor array who → HasKeptLength array.parts.entries who
@@ -63,7 +64,7 @@ module _ {B : Type 0} (tells : Type 0) (given : B → Given) (tape : B → List 
     one = inl (count-one who end [] (Step TakenOver left) (losses_of roles spares) tt refl (each-losses IsNoStep (λ role. refl) (λ slot. refl) roles spares));
     over_told = sym (any-none is_finish (IsOfStep (running_left new)) (of-unfinished (running_left new)) inner each);
     left = λ none. fewer-as old.parts.entries new.parts.entries (still_left old.parts.work old.parts.members old.ahead) (still_left new.parts.work new.parts.members new.ahead) (running_left old) (running_left new)
-        (still-runs old still) runs was.left;
+        (left-still old still) runs was.left;
     next_open = λ none some kept. open-still new who was.newest.still
         (kept-more inner (still-open old who still kept) was.entered.is own lengthless (any-none is_done (IsOfStep (running_left new)) (of-undone (running_left new) some) inner each));
     going = going-more inner open_ was.entered.is own;
@@ -121,7 +122,7 @@ module _ {B : Type 0} (tells : Type 0) (given : B → Given) (tape : B → List 
       inner = entries_of who end events
 
       runs : running_left new ≡ left
-      runs = still-runs new was.newest.still
+      runs = left-still new was.newest.still
 
       of-step : EachOf (IsOfStep (running_left new)) events
       of-step = (sym runs, each-losses (IsOfStep (running_left new)) (λ role. tt) (λ slot. tt) roles spares)
