@@ -77,3 +77,4 @@ pub use Rattle.still_kept.proofs.superblocks_ValidFields
 pub use Rattle.still_kept.proofs.views_LackingLaws
 pub use Rattle.still_kept.proofs.views_LiveLeft
 pub use Rattle.still_kept.proofs.views_Still
+pub use Rattle.moving.proofs.moving_laws_WriteLaws
