@@ -1,9 +1,8 @@
 -- Where nothing speaks against a plan, no role is missing, and nothing is left to do before it.
-use Rattle.std.proofs.Common.{◌≡◌, inl, inr, ℕ, zero, suc, ◌+◌, ◌*◌, ◌<◌, Bool, true, false, not, cond, min, Option, Some, None, List, [], ◌∷◌, length, refl, sym, ◌∙◌, ap, subst, arith, eq-or-lt_of_le, le_of_suc-le-suc}
-use Rattle.std.specs.Prelude.{◌⊎◌, is_some}
-use Rattle.std.specs.Option.{option_or}
+use Rattle.std.proofs.Common.{◌≡◌, ℕ, zero, suc, ◌+◌, ◌*◌, ◌<◌, Bool, true, false, not, cond, min, Option, Some, None, List, [], ◌∷◌, length, refl, sym, ◌∙◌, ap, subst, arith}
+use Rattle.std.specs.Prelude.{is_some}
 use Rattle.std.proofs.Math.Nat.{min-le_left}
-use Rattle.running_replies.specs.md_base_Search.{least_below, count_below}
+use Rattle.running_replies.specs.md_base_Search.{count_below}
 use Rattle.running_replies.specs.md_base_the_Refusal.{Refusal}
 use Rattle.running_replies.specs.md_base_the_Refusal_TheVariants.{Busy, Degraded, PastEnd, TooManyMissing, NotResynced, NoSuchRole, NoSuchSlot, SlotTaken, SlotTooSmall, BackupFault, Nothing}
 use Rattle.running_replies.specs.md_base_the_BusyKind_TheVariants.{Resync, Plan}
@@ -28,6 +27,7 @@ use Rattle.turning.proofs.grow_asked_FirstLaws.{judged, none-exactly}
 use Rattle.turning.specs.still_kept_Still.{AreNoneMissing}
 use Rattle.turning.specs.still_laws_Plain.{MayTellPlainly}
 use Rattle.turning.proofs.still_kept_Refusals.{IsRefusedStill}
+use Rattle.turning.proofs.still_steps_Lowest.{lowest-fails}
 
 -- ---- what speaks against it
 
@@ -58,17 +58,6 @@ grow-plainly a wish BackupFault is = absurd is
 grow-plainly a wish refusal is = tt
 
 -- ---- no role is missing
-
-lowest-fails : (n : ℕ) (test : ℕ → Bool) → least_below n test ≡ None → (k : ℕ) → k < n → test k ≡ false
-unfolding least_below
-lowest-fails zero test none k lt = absurd (omega (arith, lt))
-lowest-fails (suc n) test none k lt = by (least_below n test) (test n) refl none (λ found. lowest-fails n test found k) (eq-or-lt_of_le (le_of_suc-le-suc lt))
-  where
-    by : (o : Option ℕ) (b : Bool) → test n ≡ b → option_or o (cond b (Some n) None) ≡ None → (o ≡ None → k < n → test k ≡ false) → (k ≡ n) ⊎ (k < n) → test k ≡ false
-    by (Some j) b here none lesser at_place = absurd cc
-    by None true here none lesser at_place = absurd cc
-    by None false here none lesser (inr below) = lesser refl below
-    by None false here none lesser (inl same) = ap test same ∙ here
 
 -- none is where each role is whole
 none-lowest : (m : Members) → ((role : ℕ) → lowest_missing m ≡ Some role → ⊥) → AreNoneMissing m

@@ -47,3 +47,4 @@ pub use Rattle.turning.proofs.history_laws_GrowingLaws
 mod Parted
 pub use Rattle.running_replies.proofs.bank_Causes
 pub use Rattle.running_replies.proofs.md_base_Tabulated
+pub use Rattle.turning.proofs.moving_laws_WriteLaws

@@ -1,5 +1,5 @@
 -- What is told of an array by its parts is told of the array, and of one that is as it was.
-use Rattle.std.proofs.Common.{◌≡◌, true, false, Bool, ℕ, ◌*◌, ◌<◌, ◌≤◌, Some, List, refl, sym, ◌∙◌, ap, subst, arith}
+use Rattle.std.proofs.Common.{◌≡◌, true, false, Bool, ℕ, ◌<◌, ◌≤◌, Some, List, refl, sym, ◌∙◌, ap, subst, arith}
 use Rattle.std.specs.Prelude.{IfSome}
 use Rattle.running_replies.specs.md_base_the_Who.{Who}
 use Rattle.running_replies.specs.md_base_the_Wish.{Wish}
@@ -81,6 +81,3 @@ pub ahead-same : {B : Type 0} (old new : RunningParts B) → new ≡ old → new
 ahead-same {B} old new = ap (λ (x : RunningParts B). x.ahead)
 
 -- ---- numbers
-
-pub room-for : (n steps room : ℕ) → 50 * steps < room → 1 ≤ steps → n ≤ 50 → n ≤ room
-room-for n steps room left some few = omega arith

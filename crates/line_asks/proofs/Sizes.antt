@@ -23,20 +23,10 @@ use Rattle.run_laws.specs.kept_history_Recorded.{entry_of}
 use Rattle.run_laws.specs.moving_laws_Writing.{IsRepliedBehind, IsWriteReplied}
 use Rattle.run_laws.specs.Asked.{IsSizedBy}
 use Rattle.run_laws.proofs.AskLaws.{one, entries_of-append}
+use Rattle.run_laws.proofs.running_calls_Leaving.{tells-or-leaves}
 
 abbrev step : ℕ → Entry → ℕ
 step n e = length_after n e.event
-
--- entries that tell a length tell it whatever was before; others leave it
-tells-or-leaves : (entries : List Entry) → ((n : ℕ) → length_of n entries ≡ n) ⊎ ((n m : ℕ) → length_of n entries ≡ length_of m entries)
-tells-or-leaves [] = inl (λ n. refl)
-tells-or-leaves (e ∷ entries) = of e.event refl (tells-or-leaves entries)
-  where
-    of : (event : Event) → e.event ≡ event → ((n : ℕ) → length_of n entries ≡ n) ⊎ ((n m : ℕ) → length_of n entries ≡ length_of m entries)
-        → ((n : ℕ) → length_of n (e ∷ entries) ≡ n) ⊎ ((n m : ℕ) → length_of n (e ∷ entries) ≡ length_of m (e ∷ entries))
-    of (Resized k) is rest = inr (λ n m. ap (λ (x : Event). length_of (length_after n x) entries) is ∙ sym (ap (λ (x : Event). length_of (length_after m x) entries) is))
-    of event is (inl leaves) = inl (λ n. ap (λ (x : Event). length_of (length_after n x) entries) is ∙ leaves n)
-    of event is (inr tells) = inr (λ n m. tells (length_after n e.event) (length_after m e.event))
 
 -- the list has one length by all entries, whether it is counted from the length before the call or from that behind it
 pub sized-now : {a b : ℕ} {old new : List Entry} → length_of a old ≡ a → IsSizedBy a b old new → (length_of a new ≡ b) × (length_of b new ≡ b)

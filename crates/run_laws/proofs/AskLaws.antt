@@ -162,7 +162,7 @@ asked_at {size = size} {request = request} {old = old} {new = new} {event = even
       at_end = at_end;
     }
 
-get-last : (xs : List Entry) (e : Entry) → slice_get (xs ++ e ∷ []) (length xs) ≡ Some e
+pub get-last : (xs : List Entry) (e : Entry) → slice_get (xs ++ e ∷ []) (length xs) ≡ Some e
 get-last [] e = refl
 get-last (x ∷ xs) e = get-last xs e
 

@@ -23,3 +23,4 @@ pub use Rattle.running_calls.proofs.md_base_Tabulated
 pub use Rattle.script.proofs.flat_history_LegalLaws
 pub use Rattle.script.proofs.flat_history_OneShapeLegal
 pub use Rattle.script.proofs.flat_history_SoundLaws
+pub use Rattle.running_calls.proofs.Leaving as running_calls_Leaving

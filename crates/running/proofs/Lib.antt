@@ -38,3 +38,4 @@ pub use Rattle.growing.proofs.Replied as growing_Replied
 pub use Rattle.growing.proofs.Windows as growing_Windows
 pub use Rattle.growing.proofs.bank_Causes
 pub use Rattle.growing.proofs.md_base_Tabulated
+pub use Rattle.growing.proofs.moving_laws_WriteLaws

@@ -53,7 +53,7 @@ ahead-kept (e ∷ entries) all b none =
     (kept e.event (All-head TellsSome e entries all)).ahead b (ahead-kept entries (All-tail TellsSome e entries all) (ahead_after b e.event) none)
 
 -- nor do they tell one then that begins, or is planned
-both-none : (a b : Bool) → a ≡ false → b ≡ false → (a || b) ≡ false
+pub both-none : (a b : Bool) → a ≡ false → b ≡ false → (a || b) ≡ false
 both-none false b first second = second
 both-none true b first second = absurd (cc)
 

@@ -169,7 +169,7 @@ none-first p xs ys none = by (list_any p xs) (sym (list_any-append p xs ys) ∙ 
     by false is = refl
     by true is = absurd (cc)
 
-none-second : (p : Entry → Bool) (xs ys : List Entry) → list_any p (xs ++ ys) ≡ false → list_any p ys ≡ false
+pub none-second : (p : Entry → Bool) (xs ys : List Entry) → list_any p (xs ++ ys) ≡ false → list_any p ys ≡ false
 none-second p xs ys none = by (list_any p xs) (sym (list_any-append p xs ys) ∙ none)
   where
     by : (a : Bool) → (a || list_any p ys) ≡ false → list_any p ys ≡ false

@@ -57,8 +57,9 @@ use Rattle.running_steps.proofs.Events.{EachOf, each-losses, each-entry, each-ow
 use Rattle.running_steps.proofs.Went.{epoch-itself, held-behind, held-same, losses-along}
 use Rattle.running.proofs.still_laws_PlansKept.{aim-begun}
 use Rattle.running_steps.proofs.Ways.{turn-told, way-members}
-use Rattle.running_steps.proofs.Plain.{open-moving, still-runs, active-runs, plain-refused}
+use Rattle.running_steps.proofs.Plain.{open-moving, plain-refused}
 use Rattle.running_steps.proofs.Refusals.{faulted-in}
+use Rattle.running.proofs.Answered.{left-moving, left-still}
 
 -- ---- the slots that the plan of a begin gives roles: those that had them, and spares
 
@@ -218,14 +219,14 @@ module _ {B : Type 0} (tells : Type 0) (given : B → Given) (tape : B → List 
       told = IsRefusalToldBy old.parts.backup (faults old.parts.bank) (faults new.parts.bank)
 
       runs : running_left new ≡ left
-      runs = active-runs new was.start.active
+      runs = left-moving new was.start.active
 
       going : IsCallGoing new.parts.entries who
       going = going-more inner goes was.entered.is
           (each-own MayGoOn who end events (each-begun MayGoOn left roles spares size back tt tt (each-losses MayGoOn (λ role. tt) (λ slot. tt) roles spares)))
 
       fewer : running_left new + 1 ≡ running_left old
-      fewer = ap (λ (n : ℕ). n + 1) runs ∙ was.left ∙ sym (still-runs old still)
+      fewer = ap (λ (n : ℕ). n + 1) runs ∙ was.left ∙ sym (left-still old still)
 
   -- ---- it doesn't
 

@@ -37,8 +37,8 @@ use Rattle.running_steps.proofs.Events.{EachOf, each-behind, each-losses, each-e
 use Rattle.running_steps.proofs.Went.{epoch-itself, losses-along}
 use Rattle.running.proofs.still_laws_PlansKept.{aim-ended}
 use Rattle.running_steps.proofs.Ways.{turn-told}
-use Rattle.running_steps.proofs.Plain.{still-runs}
 use Rattle.running_steps.proofs.Begun.{losses-long}
+use Rattle.running.proofs.Answered.{left-still}
 
 -- ---- what is entered
 
@@ -102,7 +102,7 @@ module _ {B : Type 0} (tells : Type 0) (given : B → Given) (tape : B → List 
     inner = inner;
     is = was.entered.is;
     own = each-own MayGoOn who end events (each MayGoOn (λ role. tt) (λ slot. tt) tt tt);
-    told = each-entry (TellsLeft (running_left new)) who end events (each (TellsLeft (running_left new)) (λ role. tt) (λ slot. tt) (sym (still-runs new was.over.still)) tt);
+    told = each-entry (TellsLeft (running_left new)) who end events (each (TellsLeft (running_left new)) (λ role. tt) (λ slot. tt) (sym (left-still new was.over.still)) tt);
     one = inl (count-one who end (losses_of roles spares) (Step Finished left) (ended_length before size ++ losses_of late late_spares) (each-losses IsNoStep (λ role. refl) (λ slot. refl) roles spares) refl
         (each-rest IsNoStep late late_spares before size refl (each-losses IsNoStep (λ role. refl) (λ slot. refl) late late_spares)));
     over_told = sym finished;

@@ -24,9 +24,10 @@ use Rattle.running_steps.specs.Steps.{IsStepDone, IsStepRefused}
 use Rattle.running_steps.proofs.Events.{IsStepEntries}
 use Rattle.running_steps.proofs.Went.{epoch-of, long-same, held-only}
 use Rattle.running_steps.proofs.Ways.{way-shaped, way-same}
-use Rattle.running_steps.proofs.Plain.{active-runs, fewer-as, IsPlainStep, plain-done, plain-refused}
+use Rattle.running_steps.proofs.Plain.{fewer-as, IsPlainStep, plain-done, plain-refused}
 use Rattle.running_steps.proofs.Refusals.{many-so, moved-ends}
 use Rattle.running_steps.proofs.Own.{step-entries}
+use Rattle.running.proofs.Answered.{left-moving}
 
 pub moved-did : {B : Type 0} (tells : Type 0) (given : B → Given) (tape : B → List Operation) (faults : B → ℕ → ℕ) (old new : RunningParts B)
     → IsMendCalled tells (given old.parts.bank) (tape old.parts.bank) (tape new.parts.bank) (faults old.parts.bank) (faults new.parts.bank) old new → given new.parts.bank ≡ given old.parts.bank
@@ -57,10 +58,10 @@ module _ {B : Type 0} (tells : Type 0) (given : B → Given) (tape : B → List 
       → left_in new.parts.work new.parts.members new.course new.ahead + 1 ≡ left_in old.parts.work old.parts.members old.course old.ahead → IsStepDone tells given tape faults who old new false
   moved-done due ne was given_is behind one =
       plain-done tells given tape faults who old new (Held old.parts.members) (moved-did tells given tape faults old new was given_is active later)
-      (subst (λ (n : ℕ). IsStepEntries who old.parts.entries new.parts.entries n) (sym (active-runs new later))
+      (subst (λ (n : ℕ). IsStepEntries who old.parts.entries new.parts.entries n) (sym (left-moving new later))
       (step-entries who old.parts.entries new.parts.entries (kind_of due) (left_in new.parts.work new.parts.members new.course new.ahead) (due-kind due (left_in new.parts.work new.parts.members new.course new.ahead) ne) behind))
       goes (later ∙ sym active)
-      (fewer-as old.parts.entries new.parts.entries (left_in old.parts.work old.parts.members old.course old.ahead) (left_in new.parts.work new.parts.members new.course new.ahead) (running_left old) (running_left new) (active-runs old active) (active-runs new later)
+      (fewer-as old.parts.entries new.parts.entries (left_in old.parts.work old.parts.members old.course old.ahead) (left_in new.parts.work new.parts.members new.course new.ahead) (running_left old) (running_left new) (left-moving old active) (left-moving new later)
       (record { one = λ quiet. one; some = λ quiet. omega (arith, one) }))
       (λ none. absurd (let both : true ≡ false = sym later ∙ none in cc))
 

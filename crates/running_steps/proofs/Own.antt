@@ -31,8 +31,9 @@ use Rattle.running_steps.specs.Steps.{IsStepDone, IsStepRefused}
 use Rattle.running_steps.proofs.Events.{IsOfStep, IsStepEntries, entries-behind, entries-lost}
 use Rattle.running_steps.proofs.Went.{epoch-of, long-same}
 use Rattle.running_steps.proofs.Ways.{way-same}
-use Rattle.running_steps.proofs.Plain.{still-runs, fewer-as, IsPlainStep, plain-done, plain-refused}
+use Rattle.running_steps.proofs.Plain.{fewer-as, IsPlainStep, plain-done, plain-refused}
 use Rattle.running_steps.proofs.Refusals.{own-ends, own-cause}
+use Rattle.running.proofs.Answered.{left-still}
 
 own-did : {B : Type 0} (tells : Type 0) (given : B → Given) (tape : B → List Operation) (faults : B → ℕ → ℕ) (old new : RunningParts B)
     → IsStepped tells (given old.parts.bank) (tape old.parts.bank) (tape new.parts.bank) (IsHeldOrDue old.parts.work old.parts.members) (faults old.parts.bank) (faults new.parts.bank) old new
@@ -112,10 +113,10 @@ module _ {B : Type 0} (tells : Type 0) (given : B → Given) (tape : B → List 
       → AreStepsFewer old.parts.entries new.parts.entries (still_left old.parts.work old.parts.members old.ahead) (still_left new.parts.work new.parts.members new.ahead) → IsClosable new → IsStepDone tells given tape faults who old new false
   own-done x entered fewer closes =
       plain-done tells given tape faults who old new (IsHeldOrDue old.parts.work old.parts.members) (own-did tells given tape faults old new was held given_is still later)
-      (subst (λ (n : ℕ). IsStepEntries who old.parts.entries new.parts.entries n) (sym (still-runs new later))
+      (subst (λ (n : ℕ). IsStepEntries who old.parts.entries new.parts.entries n) (sym (left-still new later))
       (own-entries who old.parts.entries new.parts.entries old.parts.work old.parts.members new.parts.members (still_left new.parts.work new.parts.members new.ahead) x entered))
       goes (later ∙ sym still)
-      (fewer-as old.parts.entries new.parts.entries (still_left old.parts.work old.parts.members old.ahead) (still_left new.parts.work new.parts.members new.ahead) (running_left old) (running_left new) (still-runs old still) (still-runs new later) fewer) (λ none. closes)
+      (fewer-as old.parts.entries new.parts.entries (still_left old.parts.work old.parts.members old.ahead) (still_left new.parts.work new.parts.members new.ahead) (running_left old) (running_left new) (left-still old still) (left-still new later) fewer) (λ none. closes)
 
   pub own-refused : (T : Type 0) (refusal : Refusal) → IsStepEntered {T = T} who old.parts.entries new.parts.entries old.parts.work old.parts.members new.parts.members (still_left new.parts.work new.parts.members new.ahead) (Err (IsRefusedWith refusal))
       → IsRefusedFor (list_length old.parts.members.newest) 0 (IsUndone old.parts.work old.parts.members) old.parts.members new.parts.members refusal → MayEndSteps new refusal → IsStepRefused tells given tape faults who old new refusal

@@ -1,5 +1,5 @@
 -- A step that neither begins nor ends a reshape, and one that is refused.
-use Rattle.std.proofs.Common.{◌≡◌, inl, ℕ, ◌<◌, ◌++◌, Bool, true, false, cond, List, [], ◌∷◌, MatchBool, refl, sym, ◌∙◌, ap, subst, arith, append-nil}
+use Rattle.std.proofs.Common.{◌≡◌, inl, ℕ, ◌<◌, ◌++◌, Bool, true, false, List, [], ◌∷◌, MatchBool, refl, sym, ◌∙◌, ap, subst, arith, append-nil}
 use Rattle.std.proofs.lemmas.List.Elements.{All-nil, All-weaker}
 use Rattle.std.specs.List.{All, list_any}
 use Rattle.running.specs.md_base_the_Refusal.{Refusal}
@@ -21,7 +21,7 @@ use Rattle.running.specs.array_kept_Calls.{AreHeldOrSpare, WasSpare, AreLossesBy
 use Rattle.running.specs.grow_asked_Left.{phases_of}
 use Rattle.running.specs.grow_asked_the_PhasesLeft.{PhasesLeft}
 use Rattle.running.specs.kept_history_Recorded.{MayGoOn, IsCallGoing}
-use Rattle.running.specs.running_words_Parts.{RunningParts, left_in, still_left}
+use Rattle.running.specs.running_words_Parts.{RunningParts}
 use Rattle.running.specs.still_laws_Steps.{IsClosable}
 use Rattle.running.specs.turning_Begun.{is_resize, HasKeptLength}
 use Rattle.running.specs.running_replies_Replies.{EndsRunningSteps, IsRefusalBy, IsRefusalToldBy}
@@ -58,12 +58,6 @@ open-begins array who number = by (is_reshaping array.parts.members.newest)
     by false = record { goes = goes; lengths = refl; steps = refl }
 
 -- ---- the steps that are left
-
-pub still-runs : {B : Type 0} (array : RunningParts B) → is_reshaping array.parts.members.newest ≡ false → running_left array ≡ still_left array.parts.work array.parts.members array.ahead
-still-runs array still = ap (λ (b : Bool). cond b (left_in array.parts.work array.parts.members array.course array.ahead) (still_left array.parts.work array.parts.members array.ahead)) still
-
-pub active-runs : {B : Type 0} (array : RunningParts B) → is_reshaping array.parts.members.newest ≡ true → running_left array ≡ left_in array.parts.work array.parts.members array.course array.ahead
-active-runs array active = ap (λ (b : Bool). cond b (left_in array.parts.work array.parts.members array.course array.ahead) (still_left array.parts.work array.parts.members array.ahead)) active
 
 pub fewer-as : (old new : List Entry) (a b c d : ℕ) → c ≡ a → d ≡ b → AreStepsFewer old new a b → AreStepsFewer old new c d
 fewer-as old new a b c d first second was = record {

@@ -1,10 +1,8 @@
 -- What steps keep: where an array goes, and its roles as long as nothing turns.
-use Rattle.std.proofs.Common.{◌≡◌, inl, inr, ℕ, ◌++◌, ◌||◌, Bool, true, false, List, length, drop, refl, sym, ◌∙◌, ap, subst, arith, append_assoc}
+use Rattle.std.proofs.Common.{◌≡◌, inl, ℕ, ◌++◌, true, false, List, length, drop, refl, sym, ◌∙◌, ap, subst, append_assoc}
 use Rattle.std.proofs.Math.Seq.{drop-append_seam}
-use Rattle.std.proofs.lemmas.List.Folds.{list_any-append}
 use Rattle.std.specs.List.{list_any}
 use Rattle.running.specs.bank_Given.{NeverFalls}
-use Rattle.running.proofs.bank_Causes.{faulted_longer}
 use Rattle.running.specs.superblocks_the_Members.{Members}
 use Rattle.running.specs.superblocks_Reading.{is_reshaping, shape_of, final_shape}
 use Rattle.running.specs.flat_history_the_Entry.{Entry}
@@ -16,6 +14,8 @@ use Rattle.running.specs.running_words_Calls.{IsSameReshape}
 use Rattle.running.proofs.Kept.{aim-same}
 use Rattle.running.proofs.running_replies_GoneOn.{none-first}
 use Rattle.running_steps.specs.Steps.{is_turn, has_turned, KeepsItsWay}
+use Rattle.running.proofs.running_replies_GoneOn.{none-second}
+use Rattle.running.proofs.moving_laws_WriteLaws.{failed-then}
 
 -- ---- what is told
 
@@ -23,13 +23,6 @@ use Rattle.running_steps.specs.Steps.{is_turn, has_turned, KeepsItsWay}
 pub turn-told : {P : Type 0} (old new inner : List Entry) → new ≡ old ++ inner → list_any (λ e. is_turn e.event) inner ≡ true → has_turned old new ≡ false → P
 turn-told old new inner is told none =
     absurd (let here : has_turned old new ≡ true = ap (list_any (λ e. is_turn e.event)) (ap (drop (length old)) is ∙ drop-append_seam old inner) ∙ told in let both : true ≡ false = sym here ∙ none in cc)
-
-none-second : (p : Entry → Bool) (xs ys : List Entry) → list_any p (xs ++ ys) ≡ false → list_any p ys ≡ false
-none-second p xs ys none = by (list_any p xs) (sym (list_any-append p xs ys) ∙ none)
-  where
-    by : (a : Bool) → (a || list_any p ys) ≡ false → list_any p ys ≡ false
-    by false is = is
-    by true is = absurd (cc)
 
 module _ (old mid new more rest : List Entry) (first : mid ≡ old ++ more) (second : new ≡ mid ++ rest) where
   all-told : list_any (λ e. is_turn e.event) (more ++ rest) ≡ has_turned old new
@@ -42,15 +35,6 @@ module _ (old mid new more rest : List Entry) (first : mid ≡ old ++ more) (sec
   unturned-second none = ap (list_any (λ e. is_turn e.event)) (ap (drop (length mid)) second ∙ drop-append_seam mid rest) ∙ none-second (λ e. is_turn e.event) more rest (all-told ∙ none)
 
 -- ---- some steps, and more of them
-
-failed-then : (a b c : Members) (f g h : ℕ → ℕ) → NeverFalls f g → NeverFalls g h → HaveRolesFailed a b f g → HaveRolesFailed b c g h → HaveRolesFailed a c f h
-failed-then a b c f g h early late one two role slot held = elim (one role slot held) [
-  | inl still ↦ elim (two role slot still) [
-    | inl there ↦ inl there
-    | inr failed ↦ inr (faulted_longer slot f g h h (early slot) (omega arith) (late slot) failed)
-  ]
-  | inr failed ↦ inr (faulted_longer slot f f g h (omega arith) (late slot) (early slot) failed)
-]
 
 pub way-none : {B : Type 0} (f : ℕ → ℕ) (array : RunningParts B) → KeepsItsWay f f array array
 way-none f array = record { aim = refl; size = refl; limit = refl; unturned = λ none. record { active = refl; shape = refl; final = refl; ahead = refl }; roles = λ still none role slot held. inl held }

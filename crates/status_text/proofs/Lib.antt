@@ -1,3 +1,3 @@
 pub mod UuidLaws
-pub mod AppendedOn
+pub mod Grouped
 pub mod LoopLines

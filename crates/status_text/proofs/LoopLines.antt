@@ -1,23 +1,8 @@
 -- Lines that a loop appends, one after another.
-use Rattle.std.proofs.Common.{◌≡◌, ℕ, ◌+◌, ◌<◌, ◌≤◌, List, [], ◌∷◌, ◌++◌, length, get_or, drop, codes, decimal, ap, sym, ◌∙◌, arith, length-append, append-nil, append_assoc, Vec, vec_capacity, Ok, Err}
+use Rattle.std.proofs.Common.{◌≡◌, ℕ, ◌+◌, ◌<◌, ◌≤◌, List, [], ◌∷◌, ◌++◌, length, get_or, drop, codes, decimal, ap, sym, ◌∙◌, append-nil}
 use Rattle.std.proofs.lemmas.List.{drop_more, drop_all}
 use Rattle.script.specs.md_base_the_Role.{Role}
-use Rattle.script.specs.Appends.{Appends}
 use Rattle.status_text.specs.Texts.{holder, role_lines, spare_lines}
-
--- one piece more of what is left
-pub goes_on : {Z T E : Type 0} {old new : Vec ℕ Z} {x : T} {a : List ℕ} (rest whole : List ℕ) → Appends {Z = Z} {T = T} {E = E} old new (Ok x) a
-    → old.items ++ (a ++ rest) ≡ whole → new.items ++ rest ≡ whole
-goes_on {old = old} {a = a} rest whole told is = ap (λ t. t ++ rest) told.whole ∙ append_assoc old.items a rest ∙ is
-
--- one piece more has no room, so the whole has none
-pub ends : {Z T E : Type 0} {old mid new : Vec ℕ Z} {e : E} {a : List ℕ} (rest whole : List ℕ) → vec_capacity old ≤ vec_capacity mid
-    → mid.items ++ (a ++ rest) ≡ old.items ++ whole → Appends {Z = Z} {T = T} {E = E} mid new (Err e) a → Appends {Z = Z} {T = T} {E = E} old new (Err e) whole
-ends {old = old} {mid = mid} {a = a} rest whole room is told = record {
-  whole = tt;
-  full = omega (arith, room, told.full, ap length is, length-append mid.items a, length-append mid.items (a ++ rest), length-append a rest, length-append old.items whole);
-  room = omega (arith, room, told.room);
-}
 
 -- one role of those that are left, and the others
 pub one_role : (rs : List Role) (i : ℕ) (x : Role) (text whole : List ℕ) → i < length rs → text ++ role_lines i (drop i rs) ≡ whole

@@ -58,3 +58,4 @@ pub use Rattle.moving_steps.proofs.grow_asked_PlanLaws
 pub use Rattle.moving_steps.proofs.grow_plan_Sound
 pub use Rattle.moving_steps.proofs.layout_Limits
 pub use Rattle.moving_steps.proofs.superblocks_ValidFields
+pub use Rattle.moving_steps.proofs.moving_laws_WriteLaws

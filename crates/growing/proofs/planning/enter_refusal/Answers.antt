@@ -21,8 +21,9 @@ use Rattle.growing.specs.Planned.{asked_in}
 use Rattle.growing.proofs.Idle.{grow-plain, grow-shaped, grow-plainly}
 use Rattle.growing.proofs.Fitting.{told-by, first-of, refusal-fits}
 use Rattle.growing.proofs.Told.{reply-as, end-as}
-use Rattle.growing.proofs.Parted.{before-as, both-limit, both-ahead, room-for}
+use Rattle.growing.proofs.Parted.{before-as, both-limit, both-ahead}
 use Rattle.growing.proofs.planning.enter_refusal.Goals as goal
+use Rattle.turning.proofs.Parted.{room-for}
 
 pub of_pieces-requires : goal.of_pieces-requires
 of_pieces-requires g c =

@@ -1,7 +1,7 @@
 use Rattle.std.proofs.Common.{◌++◌, codes, decimal, ap}
 use Rattle.status_text.specs.Texts.{state_lines, reshape_line, role_lines, spare_lines}
-use Rattle.status_text.proofs.AppendedOn.{then, failed, longer, retold}
 use Rattle.status_text.proofs.detail.push_detail.Goals as goal
+use Rattle.script.proofs.AppendLaws.{then, retold, failed, longer}
 
 pub returns-in_err-push_shape-clause-appended : goal.returns-in_err-push_shape-clause-appended
 returns-in_err-push_shape-clause-appended c = failed c.from_residual.ensures.0 (longer (codes "left " ++ decimal c.args.status.now.left) (longer (spare_lines c.args.status.now.spares) (longer (role_lines 0 c.args.status.now.roles) (longer (reshape_line c.args.status.now.target c.args.status.now) (longer (state_lines c.args.status.now) c.in_err-push_shape.ensures.appended)))))

@@ -1,7 +1,7 @@
 use Rattle.std.proofs.Common.{append-nil, ◌++◌, codes, decimal, sym, lit≤}
 use Rattle.status_text.specs.Texts.{holder}
-use Rattle.status_text.proofs.AppendedOn.{then, then_few, failed, failed_few, longer, retold, at_most}
 use Rattle.status_text.proofs.detail.push_role.Goals as goal
+use Rattle.script.proofs.AppendLaws.{then, retold, failed, failed_few, longer, then_few, at_most}
 
 pub returns-in_err-push_counted-clause-appended : goal.returns-in_err-push_counted-clause-appended
 returns-in_err-push_counted-clause-appended c = failed c.from_residual.ensures.0 (retold (sym (append-nil (codes "role " ++ decimal c.args.role ++ holder c.args.state ++ codes "\n"))) (longer (codes "\n") (longer (holder c.args.state) c.in_err-push_counted.ensures.appended)))

@@ -1,8 +1,8 @@
 use Rattle.std.proofs.Common.{◌+◌, ◌++◌, drop, le_trans, arith}
 use Rattle.status_text.specs.Texts.{role_lines}
-use Rattle.status_text.proofs.AppendedOn.{failed}
-use Rattle.status_text.proofs.LoopLines.{goes_on, ends, one_role, all_roles}
+use Rattle.status_text.proofs.LoopLines.{one_role, all_roles}
 use Rattle.status_text.proofs.detail.push_roles.Goals as goal
+use Rattle.script.proofs.AppendLaws.{failed, goes_on, ends}
 
 pub loop-role-preserved : goal.loop-role-preserved
 loop-role-preserved c =

@@ -1,8 +1,9 @@
 use Rattle.std.proofs.Common.{◌++◌, codes, decimal, ap, lit≤}
 use Rattle.script.specs.Texts.{layout_text}
 use Rattle.status_text.specs.Texts.{shape_lines}
-use Rattle.status_text.proofs.AppendedOn.{regroup, then, then_few, failed, failed_few, longer, retold, at_most}
+use Rattle.status_text.proofs.Grouped.{regroup}
 use Rattle.status_text.proofs.detail.push_shape.Goals as goal
+use Rattle.script.proofs.AppendLaws.{then, retold, failed, failed_few, longer, then_few, at_most}
 
 pub returns-in_err-push_counted_line-clause-appended : goal.returns-in_err-push_counted_line-clause-appended
 unfolding shape_lines

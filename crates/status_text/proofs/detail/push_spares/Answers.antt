@@ -1,8 +1,8 @@
 use Rattle.std.proofs.Common.{◌+◌, ◌++◌, drop, le_trans, arith}
 use Rattle.status_text.specs.Texts.{spare_lines}
-use Rattle.status_text.proofs.AppendedOn.{failed}
-use Rattle.status_text.proofs.LoopLines.{goes_on, ends, one_spare, all_spares}
+use Rattle.status_text.proofs.LoopLines.{one_spare, all_spares}
 use Rattle.status_text.proofs.detail.push_spares.Goals as goal
+use Rattle.script.proofs.AppendLaws.{failed, goes_on, ends}
 
 pub loop-slot-preserved : goal.loop-slot-preserved
 loop-slot-preserved c =

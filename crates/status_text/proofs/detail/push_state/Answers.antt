@@ -1,7 +1,8 @@
 use Rattle.std.proofs.Common.{◌++◌, codes, decimal}
 use Rattle.status_text.specs.Texts.{state_lines, clean_word}
-use Rattle.status_text.proofs.AppendedOn.{regroup, then, failed, longer, retold}
+use Rattle.status_text.proofs.Grouped.{regroup}
 use Rattle.status_text.proofs.detail.push_state.Goals as goal
+use Rattle.script.proofs.AppendLaws.{then, retold, failed, longer}
 
 pub returns-in_err-push_counted_line-clause-appended : goal.returns-in_err-push_counted_line-clause-appended
 unfolding state_lines

@@ -1,8 +1,8 @@
 use Rattle.std.proofs.Common.{◌++◌, codes, decimal, ap, lit≤}
 use Rattle.script.specs.Texts.{layout_text}
 use Rattle.status_text.specs.Texts.{target_text}
-use Rattle.status_text.proofs.AppendedOn.{then, then_few, failed, failed_few, longer, retold, at_most}
 use Rattle.status_text.proofs.detail.push_target.Goals as goal
+use Rattle.script.proofs.AppendLaws.{then, retold, failed, failed_few, longer, then_few, at_most}
 
 pub returns-in_err-push_words-clause-appended : goal.returns-in_err-push_words-clause-appended
 unfolding target_text

@@ -1,6 +1,6 @@
 use Rattle.std.proofs.Common.{◌++◌, codes, decimal, ap, lit≤}
-use Rattle.status_text.proofs.AppendedOn.{then, then_few, failed, failed_few, longer, retold, at_most}
 use Rattle.status_text.proofs.examine.push_fields.Goals as goal
+use Rattle.script.proofs.AppendLaws.{then, retold, failed, failed_few, longer, then_few, at_most}
 
 pub returns-in_err-push_counted-clause-appended : goal.returns-in_err-push_counted-clause-appended
 returns-in_err-push_counted-clause-appended c = failed c.from_residual.ensures.0 (longer (codes " features " ++ decimal c.args.sb.now.feature_map) (longer (codes " size " ++ decimal c.args.sb.now.size) (longer (codes " disks " ++ decimal c.args.sb.now.raid_disks) (longer (codes " chunk " ++ decimal c.args.sb.now.chunksize) (longer (codes " layout " ++ decimal c.args.sb.now.layout) (longer (codes " level " ++ decimal c.args.sb.now.level) c.in_err-push_counted.ensures.appended))))))

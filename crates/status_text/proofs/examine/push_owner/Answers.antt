@@ -2,8 +2,8 @@ use Rattle.std.proofs.Common.{◌++◌, codes, decimal, ap, lit≤}
 use Rattle.uuid.specs.Text.{hyphenated_text, lower}
 use Rattle.script.specs.superblocks_Reading.{entry_of}
 use Rattle.status_text.specs.Texts.{entry_text}
-use Rattle.status_text.proofs.AppendedOn.{then, then_few, failed, failed_few, longer, retold, at_most}
 use Rattle.status_text.proofs.examine.push_owner.Goals as goal
+use Rattle.script.proofs.AppendLaws.{then, retold, failed, failed_few, longer, then_few, at_most}
 
 pub returns-in_err-push_words-clause-appended : goal.returns-in_err-push_words-clause-appended
 returns-in_err-push_words-clause-appended c = failed c.from_residual.ensures.0 (longer (entry_text (entry_of c.args.sb.now c.args.sb.now.dev_number)) (longer (codes " role ") (longer (codes " dev " ++ decimal c.args.sb.now.dev_number) (longer (hyphenated_text lower c.args.sb.now.set_uuid) c.in_err-push_words.ensures.appended))))

@@ -1,8 +1,8 @@
 use Rattle.std.proofs.Common.{codes, ap, ◌∙◌}
 use Rattle.script.specs.superblocks_Reading.{is_clean}
 use Rattle.status_text.specs.Texts.{fields_text, clean_word}
-use Rattle.status_text.proofs.AppendedOn.{then, failed, longer, retold}
 use Rattle.status_text.proofs.examine.push_superblock.Goals as goal
+use Rattle.script.proofs.AppendLaws.{then, retold, failed, longer}
 
 pub returns-in_err-push_owner-clause-appended : goal.returns-in_err-push_owner-clause-appended
 returns-in_err-push_owner-clause-appended c = failed c.from_residual.ensures.0 (longer (clean_word (is_clean c.args.sb.now)) (longer (codes " ") (longer (fields_text c.args.sb.now) c.in_err-push_owner.ensures.appended)))

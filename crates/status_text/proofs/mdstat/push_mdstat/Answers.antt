@@ -1,7 +1,7 @@
 use Rattle.std.proofs.Common.{◌++◌, codes, decimal, ap}
 use Rattle.status_text.specs.Texts.{roles_in_brief, reshape_in_brief, left_in_brief}
-use Rattle.status_text.proofs.AppendedOn.{then, failed, longer, retold}
 use Rattle.status_text.proofs.mdstat.push_mdstat.Goals as goal
+use Rattle.script.proofs.AppendLaws.{then, retold, failed, longer}
 
 pub returns-in_err-push_counted-clause-appended : goal.returns-in_err-push_counted-clause-appended
 returns-in_err-push_counted-clause-appended c = failed c.from_residual.ensures.0 (longer (left_in_brief c.args.status.now.left) (longer (reshape_in_brief c.args.status.now.target c.args.status.now) (longer (codes " sectors") (longer (codes " " ++ decimal c.args.status.now.visible) (longer (roles_in_brief c.args.status.now.roles) (retold (ap (λ i. codes "md: raid" ++ decimal i) c.from.ensures) c.in_err-push_counted.ensures.appended))))))

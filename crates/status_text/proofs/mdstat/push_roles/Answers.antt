@@ -1,7 +1,7 @@
 use Rattle.std.proofs.Common.{count_by, ◌++◌, codes, decimal, ap}
 use Rattle.status_text.specs.Texts.{is_whole, marks}
-use Rattle.status_text.proofs.AppendedOn.{then, failed, longer, retold}
 use Rattle.status_text.proofs.mdstat.push_roles.Goals as goal
+use Rattle.script.proofs.AppendLaws.{then, retold, failed, longer}
 
 pub returns-in_err-push_counted-clause-appended : goal.returns-in_err-push_counted-clause-appended
 returns-in_err-push_counted-clause-appended c = failed c.from_residual.ensures.0 (longer (codes "]") (longer (marks c.args.roles.now) (longer (codes "] [") (longer (codes "/" ++ decimal (count_by is_whole c.args.roles.now)) c.in_err-push_counted.ensures.appended))))

@@ -1,6 +1,6 @@
 use Rattle.std.proofs.Common.{codes}
-use Rattle.status_text.proofs.AppendedOn.{then, failed, longer}
 use Rattle.status_text.proofs.words.push_counted_line.Goals as goal
+use Rattle.script.proofs.AppendLaws.{then, failed, longer}
 
 pub returns-in_err-push_counted-clause-appended : goal.returns-in_err-push_counted-clause-appended
 returns-in_err-push_counted-clause-appended c = failed c.from_residual.ensures.0 (longer (codes "\n") c.in_err-push_counted.ensures.appended)
