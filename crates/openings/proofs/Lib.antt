@@ -29,4 +29,3 @@ pub use Rattle.running_steps.proofs.growing_Replied
 pub use Rattle.running_steps.proofs.growing_Windows
 pub use Rattle.running_steps.proofs.running_Chosen
 pub use Rattle.running_steps.proofs.running_Entered
-pub use Rattle.running_steps.proofs.Went as running_steps_Went

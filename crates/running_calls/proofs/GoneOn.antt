@@ -1,9 +1,10 @@
 -- What callers' calls leave, one after another, and from what each kind of call says.
-use Rattle.std.proofs.Common.{◌≡◌, ◌⊎◌, inl, inr, ℕ, true, false, Option, List, [], ◌∷◌, ◌++◌, Result, Ok, Err, refl, sym, ◌∙◌, ap, subst, arith, append_assoc, append-nil}
+use Rattle.std.proofs.Common.{◌≡◌, ◌⊎◌, inl, inr, ℕ, ◌*◌, min, true, false, Option, List, [], ◌∷◌, ◌++◌, Result, Ok, Err, refl, sym, ◌∙◌, ap, subst, arith, append_assoc, append-nil}
 use Rattle.std.proofs.lemmas.Bool.Decides.{nat_tests}
 use Rattle.std.proofs.lemmas.List.Sums.{fold-append}
 use Rattle.std.specs.Prelude.{IsTrue}
 use Rattle.std.specs.List.{list_any}
+use Rattle.array_kept.specs.md_base_Shapes.{data_disks}
 use Rattle.array_kept.specs.md_base_the_Who.{Who}
 use Rattle.array_kept.specs.md_base_the_Fault.{Fault}
 use Rattle.array_kept.specs.md_base_the_Fault_TheVariants.{Refused as IsRefusedWith, NoMemory as WantsMemory}
@@ -22,6 +23,7 @@ use Rattle.call_entries.specs.flat_history_the_Request_TheVariants.{Add as AsksA
 use Rattle.call_entries.specs.flat_history_Flat.{length_of, length_after}
 use Rattle.call_entries.specs.flat_history_Legal.{call_before}
 use Rattle.call_entries.specs.flat_history_Reshaped.{is_planned}
+use Rattle.call_entries.specs.flat_history_World.{World}
 use Rattle.call_entries.proofs.PlainLaws.{one}
 use Rattle.openings.specs.views_Moving.{Grows}
 use Rattle.openings.specs.views_Placed.{AreStillHeld}
@@ -30,7 +32,7 @@ use Rattle.openings.specs.array_kept_Calls.{AreSparesFewer, WasSpare, AreLossesB
 use Rattle.openings.specs.grow_asked_the_PhasesLeft.{PhasesLeft}
 use Rattle.openings.specs.grow_asked_Left.{phases_of}
 use Rattle.openings.specs.running_words_Parts.{RunningParts}
-use Rattle.openings.specs.running_words_Calls.{IsCalled}
+use Rattle.openings.specs.running_words_Calls.{IsSameReshape, IsCalled}
 use Rattle.openings.specs.running_words_Adding.{IsAddCalled}
 use Rattle.openings.specs.running_replies_Replies.{HasToldBy}
 use Rattle.openings.specs.running_replies_Going.{is_begin, IsSameEpoch, HasRunOn}
@@ -41,7 +43,6 @@ use Rattle.running_calls.proofs.Plain.{IsCallEntered, IsCallAnswered, inside-of}
 use Rattle.running_calls.proofs.Held.{any-right, none-left, none-right, may-then, spares-then, losses-later, since-append, since-wider, held-behind, losses-behind, held-kept, losses-of}
 use Rattle.running_calls.proofs.Told.{told-none, told-entered}
 use Rattle.running_calls.proofs.Ways.{way-none, way-then, way-plain, way-same}
-use Rattle.openings.proofs.running_steps_Went.{long-same, epoch-of}
 
 module _ {B : Type 0} (tells : Type 0) (given : B → Given) (tape : B → List Operation) (faults : B → ℕ → ℕ) where
   -- nothing
@@ -115,6 +116,13 @@ module _ {B : Type 0} (tells : Type 0) (given : B → Given) (tape : B → List 
   }
 
 -- ---- one call
+
+-- the list is as long as the shapes and the size say
+pub long-same : {B tells : Type 0} {before after : World} (old new : RunningParts B) → IsSameReshape tells old new before after → list_length new.parts.members.newest ≡ list_length old.parts.members.newest
+long-same old new same i = min (data_disks (same.array.shape i)) (data_disks (same.final i)) * same.array.size i
+
+pub epoch-of : {B tells : Type 0} {before after : World} (old new : RunningParts B) → IsSameReshape tells old new before after → IsSameEpoch old new
+epoch-of old new same = record { uuid = same.array.uuid; given = same.array.given; first = same.array.first; backup = same.array.backup }
 
 module _ {B : Type 0} (tells : Type 0) (given : B → Given) (tape : B → List Operation) (faults : B → ℕ → ℕ) (old new : RunningParts B) where
   -- What a call did that neither begins nor ends a reshape, beside what it entered: each spare was one, or was added.

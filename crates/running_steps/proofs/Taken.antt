@@ -21,7 +21,7 @@ use Rattle.running.specs.flat_history_OneShape.{IsOfCall}
 use Rattle.running.specs.flat_history_Plain.{entries_of}
 use Rattle.running.specs.flat_history_Reshaped.{is_done}
 use Rattle.running.specs.takeover_updates_TakingOver.{taken_plan}
-use Rattle.running.specs.takeover_TakenOver.{IsTakeoverNext, IsUntaken, IsLevelTaken, IsUntouched}
+use Rattle.running.specs.takeover_TakenOver.{IsTakeoverNext, IsUntaken, IsLevelTaken, IsUntouched, StaysItself}
 use Rattle.running.proofs.takeover_TakenFrom.{WasSpareOrHeld, plan-may, taken-roles, taken-spares}
 use Rattle.running.specs.call_entries_Losing.{losses_of}
 use Rattle.running.proofs.call_entries_PlainLaws.{one}
@@ -36,15 +36,18 @@ use Rattle.running.specs.running_words_Parts.{RunningParts, still_left}
 use Rattle.running.specs.still_laws_Steps.{IsClosable}
 use Rattle.running.specs.turning_Begun.{is_resize, HasKeptLength}
 use Rattle.running.specs.running_replies_Replies.{EndsRunningSteps, IsRefusalBy, IsRefusalToldBy}
-use Rattle.running.specs.running_replies_Going.{is_finish, MayBeDropped}
+use Rattle.running.specs.running_replies_Going.{is_finish, MayBeDropped, IsSameEpoch}
 use Rattle.running.specs.Calls.{running_left, MayEndSteps}
 use Rattle.running_steps.specs.Steps.{TellsLeft, IsOpenFor, IsStepDone, IsStepRefused}
 use Rattle.running_steps.proofs.Events.{EachOf, each-losses, each-own, any-none, count-one, IsNoStep, IsOfStep, of-goes, of-told, of-lengthless, of-unfinished, of-undone, of-unrefused, long-kept, going-more, kept-more}
-use Rattle.running_steps.proofs.Went.{held-same, losses-along, epoch-itself}
+use Rattle.running_steps.proofs.Went.{held-same, losses-along}
 use Rattle.running.proofs.Kept.{aim-taken}
 use Rattle.running_steps.proofs.Ways.{turn-told, way-members}
 use Rattle.running_steps.proofs.Plain.{open-still, fewer-as, plain-refused}
 use Rattle.running.proofs.Answered.{left-still}
+
+epoch-taken : {B : Type 0} (old new : RunningParts B) → StaysItself old new → IsSameEpoch old new
+epoch-taken old new same = record { uuid = same.uuid; given = same.given; first = same.first; backup = same.backup }
 
 -- no reshape is active, so the call that goes on has kept the length
 still-open : {B : Type 0} (array : RunningParts B) (who : Who) → is_reshaping array.parts.members.newest ≡ false → IsOpenFor array who → HasKeptLength array.parts.entries who
@@ -89,7 +92,7 @@ module _ {B : Type 0} (tells : Type 0) (given : B → Given) (tape : B → List 
       grows = was.grows;
       never_falls = was.never_falls;
       given_is = given_is;
-      same = epoch-itself old new was.same;
+      same = epoch-taken old new was.same;
       active = λ none begun. was.newest.still;
       ahead = λ none unplanned. absurd (ahead-some next none);
     };
@@ -174,7 +177,7 @@ module _ {B : Type 0} (tells : Type 0) (given : B → Given) (tape : B → List 
         grows = grows-none (λ t. ap tape back.bank);
         never_falls = same-faults back.bank;
         given_is = ap given back.bank;
-        epoch = epoch-itself old new back.same;
+        epoch = epoch-taken old new back.same;
         active = λ still. ap (λ (m : Members). is_reshaping m.newest) back.members ∙ still;
         ahead = back.ahead;
         kept = way-members (faults old.parts.bank) (faults new.parts.bank) old new back.members back.ahead back.same.limit;

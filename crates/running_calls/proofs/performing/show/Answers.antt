@@ -1,7 +1,6 @@
 use Rattle.std.proofs.Common.{refl}
-use Rattle.running_calls.proofs.GoneOn.{gone-same, gone-shown}
+use Rattle.running_calls.proofs.GoneOn.{gone-same, epoch-of, gone-shown}
 use Rattle.running_calls.proofs.performing.show.Goals as goal
-use Rattle.openings.proofs.running_steps_Went.{epoch-of}
 
 pub returns-in-Ok-clause-shown : goal.returns-in-Ok-clause-shown
 returns-in-Ok-clause-shown g c =
