@@ -51,7 +51,7 @@ recovery-zero work m (suc n) none =
     of (Recovering slot) is = absurd (none n slot is)
     of Missing is = refl
 
-count-zero : (n : ℕ) (test : ℕ → Bool) → ((k : ℕ) → k < n → test k ≡ false) → count_below n test ≡ 0
+pub count-zero : (n : ℕ) (test : ℕ → Bool) → ((k : ℕ) → k < n → test k ≡ false) → count_below n test ≡ 0
 unfolding count_below
 count-zero zero test none = refl
 count-zero (suc n) test none = let before = count-zero n test (λ k lt. none k (omega (arith, lt))) in let here : cond (test n) 1 0 ≡ 0 = ap {B = ℕ} (λ (b : Bool). cond b 1 0) (none n (omega arith)) in omega (arith, before, here)
