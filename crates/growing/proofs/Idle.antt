@@ -1,8 +1,7 @@
 -- Where nothing speaks against a plan, no role is missing, and nothing is left to do before it.
-use Rattle.std.proofs.Common.{◌≡◌, ℕ, zero, suc, ◌+◌, ◌*◌, ◌<◌, Bool, true, false, not, cond, min, Option, Some, None, List, [], ◌∷◌, length, refl, sym, ◌∙◌, ap, subst, arith}
+use Rattle.std.proofs.Common.{◌≡◌, ℕ, zero, suc, ◌+◌, ◌*◌, ◌<◌, true, false, not, min, Option, Some, None, List, [], ◌∷◌, length, refl, sym, ◌∙◌, ap, subst, arith}
 use Rattle.std.specs.Prelude.{is_some}
 use Rattle.std.proofs.Math.Nat.{min-le_left}
-use Rattle.running_replies.specs.md_base_Search.{count_below}
 use Rattle.running_replies.specs.md_base_the_Refusal.{Refusal}
 use Rattle.running_replies.specs.md_base_the_Refusal_TheVariants.{Busy, Degraded, PastEnd, TooManyMissing, NotResynced, NoSuchRole, NoSuchSlot, SlotTaken, SlotTooSmall, BackupFault, Nothing}
 use Rattle.running_replies.specs.md_base_the_BusyKind_TheVariants.{Resync, Plan}
@@ -28,6 +27,7 @@ use Rattle.turning.specs.still_kept_Still.{AreNoneMissing}
 use Rattle.turning.specs.still_laws_Plain.{MayTellPlainly}
 use Rattle.turning.proofs.still_kept_Refusals.{IsRefusedStill}
 use Rattle.turning.proofs.still_steps_Lowest.{lowest-fails}
+use Rattle.turning.proofs.EndedLeft.{count-zero}
 
 -- ---- what speaks against it
 
@@ -86,14 +86,6 @@ whole-held (Whole slot) is = refl
 whole-held (Recovering slot) is = absurd (cc)
 whole-held Missing is = absurd (cc)
 
-counted-none : (n : ℕ) (test : ℕ → Bool) → ((k : ℕ) → k < n → test k ≡ false) → count_below n test ≡ 0
-unfolding count_below
-counted-none zero test none = refl
-counted-none (suc n) test none =
-    let before : count_below n test ≡ 0 = counted-none n test (λ k lt. none k (omega (arith, lt))) in
-    let last : ◌≡◌ {A = ℕ} (cond (test n) 1 0) 0 = ap (λ (b : Bool). cond b 1 0) (none n (omega arith)) in
-    omega (arith, before, last)
-
 module _ (work : Work) (m : Members) (whole : (role : ℕ) → role < (shape_of m.newest).disks → is_missing (reading_of m) role ≡ false) where
   none-recovers : (n : ℕ) → ((role : ℕ) → role < n → role < (shape_of m.newest).disks) → recovery_left work m n ≡ 0
   unfolding recovery_left
@@ -104,7 +96,7 @@ module _ (work : Work) (m : Members) (whole : (role : ℕ) → role < (shape_of 
       omega (arith, before, last)
 
   none-vacant : vacant_count m ≡ 0
-  none-vacant = counted-none (shape_of m.newest).disks (is_vacant (reading_of m)) (λ role lt. whole-held (role_state (reading_of m) role) (whole role lt))
+  none-vacant = count-zero (shape_of m.newest).disks (is_vacant (reading_of m)) (λ role lt. whole-held (role_state (reading_of m) role) (whole role lt))
 
   pub none-left : work.resync ≡ None → left_of work m ≡ 0
   none-left synced =

@@ -27,6 +27,7 @@ use Rattle.turning.proofs.kept_history_Growing.{contents-grown}
 use Rattle.running_replies.specs.history_calls_Reliable.{IsReliable}
 use Rattle.turning.specs.still_laws_Steps.{IsCallUnbroken}
 use Rattle.turning.proofs.still_laws_PlansKept.{reliable-before}
+use Rattle.turning.proofs.still_laws_RebuildLaws.{ends-behind}
 
 -- ---- lengths that were kept are so later
 
@@ -39,10 +40,6 @@ lengths-grown world ops [] ends kept = All-nil (λ e. IsLengthKept (grown world 
 lengths-grown world ops (x ∷ xs) ends kept =
     All-cons (λ e. IsLengthKept (grown world ops) e.end e.event) x xs (length-grown world ops x.end x.event ends.0 (All-head (λ e. IsLengthKept world e.end e.event) x xs kept))
     (lengths-grown world ops xs ends.1 (All-tail (λ e. IsLengthKept world e.end e.event) x xs kept))
-
-ends-behind : (n : ℕ) (xs ys : List Entry) → EndBy n (xs ++ ys) → EndBy n ys
-ends-behind n [] ys ends = ends
-ends-behind n (x ∷ xs) ys ends = ends-behind n xs ys ends.1
 
 pub open-grown : (world : World) (ops : List Operation) (call : List Entry) → EndBy (length world.tape) call → IsOpenBehind world call → IsOpenBehind (grown world ops) call
 open-grown world ops call ends was = record { kept = lengths-grown world ops call ends was.kept; steps = was.steps }

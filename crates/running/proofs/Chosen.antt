@@ -41,10 +41,6 @@ pub err-so : {T E : Type 0} (r : Result T E) {F G : Type 0} → (F → G) → On
 err-so (Ok x) so fact = tt
 err-so (Err e) so fact = so fact
 
-pub ok-so : {T E : Type 0} (r : Result T E) {F G : Type 0} → (F → G) → OnOk r F → OnOk r G
-ok-so (Ok x) so fact = so fact
-ok-so (Err e) so fact = tt
-
 -- ---- why a read or a write isn't done
 
 module _ {B : Type 0} (array : RunningParts B) (at count : ℕ) (old new : Members) {T : Type 0} (result : Result T Fault) where

@@ -15,7 +15,7 @@ use Rattle.growing.specs.bank_the_Operation.{Operation}
 use Rattle.takeover.specs.superblocks_the_Members.{Members}
 use Rattle.takeover.specs.flat_history_the_Entry.{Entry}
 use Rattle.takeover.specs.flat_history_the_Event.{Event}
-use Rattle.takeover.specs.flat_history_the_Event_TheVariants.{Planned, Refused, Resized, Shown, Step}
+use Rattle.takeover.specs.flat_history_the_Event_TheVariants.{Refused, Resized, Shown, Step}
 use Rattle.takeover.specs.flat_history_the_Request.{Request}
 use Rattle.takeover.specs.flat_history_the_StepKind.{StepKind}
 use Rattle.takeover.specs.flat_history_the_StepKind_TheVariants.{Finished, Begun, TakenOver, RebuildEnded}
@@ -40,6 +40,7 @@ use Rattle.growing.specs.turning_Begun.{begun_length, IsBegunWith}
 use Rattle.growing.specs.turning_Ended.{ended_length, IsEndedWith}
 use Rattle.takeover.specs.TakenOver.{IsTakenWith}
 use Rattle.growing.proofs.still_laws_PlansKept.{PlanNone, AddNoPlan, none-behind, add-entered, add-behind, add-behind_all, add-nothing, add-step}
+use Rattle.growing.proofs.still_laws_PlansKept.{inside-none}
 
 -- ---- lists
 
@@ -56,10 +57,6 @@ pub losses-none : (who : Who) (end roles spares : ℕ) → PlanNone (entries_of 
 losses-none who end roles spares = subst (λ (l : List Event). PlanNone (entries_of who end l)) (append-nil (losses_of roles spares)) (none-behind who end roles spares [] refl)
 
 -- ---- a write
-
-inside-none : (event : Event) → StandsInside event → is_planned event ≡ false
-inside-none (Planned left wish) inside = absurd inside
-inside-none event inside = refl
 
 call-none : (who : Who) (call : List Entry) → All (λ e. IsOfCall who e × StandsInside e.event) call → PlanNone call
 call-none who [] own = refl

@@ -141,7 +141,7 @@ add-step who kind left (Err (IsRefusedWith refusal)) is = add-behind (Refused re
 add-step who kind left (Err NoMemory) is = absurd is
 
 -- what stands inside a call is no plan
-inside-none : (event : Event) → StandsInside event → is_planned event ≡ false
+pub inside-none : (event : Event) → StandsInside event → is_planned event ≡ false
 inside-none (Planned left wish) inside = absurd inside
 inside-none event inside = refl
 

@@ -181,7 +181,7 @@ module _ {tells : Type 0} {given : Given} {tape tape' : List Operation} {scope :
 
 -- ---- the end
 
-ends-behind : (mark : ℕ) (xs ys : List Entry) → EndBy mark (xs ++ ys) → EndBy mark ys
+pub ends-behind : (mark : ℕ) (xs ys : List Entry) → EndBy mark (xs ++ ys) → EndBy mark ys
 ends-behind mark [] ys ends = ends
 ends-behind mark (x ∷ xs) ys ends = ends-behind mark xs ys ends.1
 

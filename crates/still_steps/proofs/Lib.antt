@@ -29,3 +29,4 @@ pub use Rattle.still.proofs.superblock_reads_SaidLists
 pub use Rattle.still.proofs.superblock_reads_SaidSlots
 mod RebuildParts
 mod StepParts
+pub use Rattle.still.proofs.still_laws_RebuildLaws

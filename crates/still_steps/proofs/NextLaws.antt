@@ -45,7 +45,7 @@ no-recovery work members (suc n) none =
     let here = no-steps (stripes_of members) (rebuilt_of work n) (role_state (reading_of members) n) (none n (omega arith)) in
     omega (arith, before, here)
 
-none-times : (m n : ℕ) → m ≡ 0 → m * n ≡ 0
+pub none-times : (m n : ℕ) → m ≡ 0 → m * n ≡ 0
 none-times m n is = let none : 0 * n ≡ 0 = omega arith in ap (λ (k : ℕ). k * n) is ∙ none
 
 -- With no resync pending and a step left, a rebuild is next.

@@ -18,7 +18,7 @@ use Rattle.still_calls.specs.superblocks_the_Give.{Give}
 use Rattle.still_calls.specs.superblocks_the_Members.{Members}
 use Rattle.still_calls.specs.superblocks_Outcome.{is_planned_holder, held_state, planned_state}
 use Rattle.still_calls.specs.superblocks_Reading.{is_reshaping, is_whole, shape_of, role_count, role_state, holder}
-use Rattle.still_calls.specs.superblocks_Update.{give_of, is_held_by, planned_role}
+use Rattle.still_calls.specs.superblocks_Update.{give_of, planned_role}
 use Rattle.still_calls.proofs.superblock_reads_SaidLists.{held-holder}
 use Rattle.still_calls.proofs.superblock_reads_SaidSlots.{below-length}
 use Rattle.still_calls.proofs.superblocks_ValidFields.{few-roles}
@@ -39,14 +39,10 @@ use Rattle.takeover_updates.specs.TakingOver.{CanTakeUp, CanTakeOver, taking_ove
 use Rattle.takeover_updates.proofs.TakenPlan.{count, gives-or, live, one-holder}
 use Rattle.still_calls.specs.still_kept_Still.{AreNoneMissing}
 use Rattle.takeover.proofs.Chosen.{whole-slot}
+use Rattle.still_calls.proofs.views_MarkLaws.{holder-held}
 
 same-slot : (a b : ℕ) → a ≡ b → (a == b) ≡ true
 same-slot a b is = grind (arith, nat_tests, is)
-
-held-by : (slot : ℕ) (state : Role) → holder state ≡ Some slot → is_held_by slot state ≡ true
-held-by slot (Whole s) is = let both : s ≡ slot = cc in same-slot s slot both
-held-by slot (Recovering s) is = let both : s ≡ slot = cc in same-slot s slot both
-held-by slot Missing is = absurd (cc)
 
 lt-true : (a b : ℕ) → a < b → nat_lt a b ≡ true
 lt-true a b lt = grind (arith, nat_tests, lt)
@@ -105,7 +101,7 @@ module _ (given : Given) (old : Members) (to : Shape) (slot : ℕ) (placed : IsP
             let one : role ≡ to.disks = placed.apart role to.disks slot (held ∙ ap (λ (n : ℕ). Some n) same) (ap holder down.last) in
             omega (arith, one, stays))
         | inr (inr (apart, here)) ↦ ap (λ (g : Give). planned_role old.roles g s) here
-            ∙ role_from-found s 0 old.roles role (held-by s (get_or old.roles role Missing) held)
+            ∙ role_from-found s 0 old.roles role (holder-held s (get_or old.roles role Missing) held)
             (λ j is. placed.apart j role s (held-holder s (get_or old.roles j Missing) is) held)
             ∙ (let e : 0 + role ≡ role = omega arith in ap (λ (n : ℕ). Some n) e)
       ]

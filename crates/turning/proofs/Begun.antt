@@ -77,13 +77,13 @@ use Rattle.moving_steps.proofs.moving_kept_Shortened.{array-shortens}
 use Rattle.moving_steps.proofs.still_kept_Bridges.{stands-kept}
 use Rattle.moving_steps.specs.running_words_Parts.{still_left}
 use Rattle.moving_steps.proofs.running_words_Called.{not_254}
-use Rattle.moving_steps.proofs.running_words_Lengths.{IsLengthKept, behind-keeps}
 use Rattle.moving_steps.proofs.running_words_VisibleLaws.{limit-kept}
 use Rattle.still_steps.specs.still_laws_Ready.{IsReady as IsReadyStill}
 use Rattle.moving_steps.specs.moving_laws_Ready.{IsReady as IsReadyMoving}
 use Rattle.moving_steps.proofs.moving_laws_Kept.{left_by}
 use Rattle.turning.specs.Begun.{begun_length, is_resize, HasKeptLength, IsBackupAt, CanBegin}
 use Rattle.turning.proofs.Planned.{none-recovering, begin-live, lost-missing}
+use Rattle.still_steps.proofs.still_laws_StepLaws.{losses-keep}
 
 -- ---- what is asked
 
@@ -204,11 +204,6 @@ begun-counted new behind to moved planned left active final moved_is planned_is 
     ∙ ap (λ (b : Bool). cond b (reshape_left new.newest Closed 0) 0 + phases_steps (final_shape new.newest) new.newest.size (phases_of behind)) (sym active)
 
 -- ---- what is entered
-
--- losses leave the length of the list, and its limit
-losses-keep : (who : Who) (end roles spares : ℕ) → IsLengthKept (entries_of who end (losses_of roles spares))
-losses-keep who end roles spares =
-    subst (λ (l : List Event). IsLengthKept (entries_of who end l)) (append-nil (losses_of roles spares)) (behind-keeps who end roles spares [] (record { long = λ n. refl; free = λ limit. refl }))
 
 -- its limit stays
 begun-free : (who : Who) (end left roles spares n : ℕ) (back : Bool) (limit : Option ℕ)

@@ -1,5 +1,5 @@
 -- The steps that are left once a reshape ended: one fewer where no role was missing and its call lost nothing.
-use Rattle.std.proofs.Common.{◌≡◌, ◌⊎◌, inl, inr, ℕ, zero, suc, ◌+◌, ◌*◌, ◌<◌, ◌≤◌, ◌||◌, min, max, Bool, true, false, not, cond, is_some, List, [], ◌∷◌, ◌++◌, Option, None, refl, sym, ◌∙◌, ap, arith}
+use Rattle.std.proofs.Common.{◌≡◌, ◌⊎◌, inl, inr, ℕ, zero, suc, ◌+◌, ◌<◌, ◌≤◌, ◌||◌, min, max, Bool, true, false, not, cond, is_some, List, [], ◌∷◌, ◌++◌, Option, None, refl, sym, ◌∙◌, ap, arith}
 use Rattle.std.specs.List.{list_any}
 use Rattle.std.proofs.lemmas.Bool.{cases_eq}
 use Rattle.std.proofs.lemmas.List.Folds.{list_any-append}
@@ -34,6 +34,7 @@ use Rattle.moving_ends.proofs.Ended.{IsStepped}
 use Rattle.moving_ends.proofs.Ending.{only-lost}
 use Rattle.moving_steps.specs.running_words_Parts.{still_left}
 use Rattle.moving_steps.proofs.moving_laws_Kept.{left_by}
+use Rattle.still_steps.proofs.NextLaws.{none-times}
 
 -- ---- nothing is to be rebuilt
 
@@ -50,7 +51,7 @@ recovery-zero work m (suc n) none =
     of (Recovering slot) is = absurd (none n slot is)
     of Missing is = refl
 
-count-zero : (n : ℕ) (test : ℕ → Bool) → ((k : ℕ) → k < n → test k ≡ false) → count_below n test ≡ 0
+pub count-zero : (n : ℕ) (test : ℕ → Bool) → ((k : ℕ) → k < n → test k ≡ false) → count_below n test ≡ 0
 unfolding count_below
 count-zero zero test none = refl
 count-zero (suc n) test none = let before = count-zero n test (λ k lt. none k (omega (arith, lt))) in let here : cond (test n) 1 0 ≡ 0 = ap {B = ℕ} (λ (b : Bool). cond b 1 0) (none n (omega arith)) in omega (arith, before, here)
@@ -62,9 +63,6 @@ held-there Missing e = absurd (cc)
 
 whole-filled : (m : Members) (role : ℕ) → is_missing (reading_of m) role ≡ false → is_vacant (reading_of m) role ≡ false
 whole-filled m role is = let there = held-there (role_state (reading_of m) role) is in ap (λ (s : Role). not (is_some (holder s))) there.1
-
-none-times : (m n : ℕ) → m ≡ 0 → m * n ≡ 0
-none-times m n is = let none : 0 * n ≡ 0 = omega arith in ap (λ (k : ℕ). k * n) is ∙ none
 
 none-least : (m n : ℕ) → m ≡ 0 → min m n ≡ 0
 none-least m n is = omega (arith, is)

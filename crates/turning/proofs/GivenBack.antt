@@ -1,11 +1,10 @@
 -- An array without a reshape whose backup failed as one was to begin goes on as it was: nothing but the backup's header was tried.
-use Rattle.std.proofs.Common.{◌≡◌, ◌≢◌, ◌⊎◌, inl, inr, ℕ, ◌+◌, true, false, Option, Some, Result, Ok, Err, List, [], ◌∷◌, ◌++◌, length, refl, sym, ◌∙◌, subst, arith}
+use Rattle.std.proofs.Common.{◌≡◌, ◌≢◌, ◌⊎◌, inl, inr, ℕ, ◌+◌, true, false, Option, Some, Result, Ok, Err, List, [], ◌∷◌, ◌++◌, length, refl, sym, ◌∙◌, arith}
 use Rattle.std.specs.Prelude.{IsErr, OnErr}
 use Rattle.moving_steps.specs.md_base_Sectors.{Sector}
 use Rattle.moving_steps.specs.md_base_the_Refusal.{Refusal}
 use Rattle.moving_steps.specs.md_base_the_Refusal_TheVariants.{BackupFault, PastEnd, TooManyMissing, NotResynced}
 use Rattle.moving_steps.specs.md_base_the_Who.{Who}
-use Rattle.moving_steps.specs.md_base_the_Shape.{Shape}
 use Rattle.moving_steps.specs.md_base_the_Phase.{Phase}
 use Rattle.moving_steps.specs.bank_the_Operation.{Operation}
 use Rattle.moving_steps.specs.bank_Given.{Given}
@@ -36,7 +35,7 @@ use Rattle.moving_steps.proofs.still_kept_Quiet.{early-stands}
 use Rattle.moving_steps.proofs.still_kept_Refusals.{quiet-refusal, IsRefusedStill, refused-right}
 use Rattle.moving_steps.proofs.still_kept_Resting.{resting-stands}
 use Rattle.moving_steps.proofs.running_words_Called.{not_254, risen-told}
-use Rattle.turning.specs.Begun.{IsUnbegun, IsPlain}
+use Rattle.turning.specs.Begun.{IsPlain}
 
 -- ---- refusals
 
@@ -46,10 +45,6 @@ plain-refused resync m (PastEnd visible) plain = absurd plain
 plain-refused resync m (TooManyMissing count most) plain = absurd plain
 plain-refused resync m (NotResynced role) plain = absurd plain
 plain-refused resync m refusal plain = tt
-
-pub unbegun-plain : (m : Members) (to : Shape) (refusal : Refusal) → IsUnbegun m to refusal → IsPlain refusal
-unbegun-plain m to refusal (inl (role, first, is)) = subst IsPlain (sym is) tt
-unbegun-plain m to refusal (inr (whole, few, is)) = subst IsPlain (sym is) tt
 
 -- phases are ahead only where a plan was told
 pub ahead-told : {Told : Type 0} (ahead : List Phase) (next : Phase) (behind : List Phase) → (ahead ≡ []) ⊎ Told → ahead ≡ next ∷ behind → Told

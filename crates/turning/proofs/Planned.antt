@@ -19,7 +19,7 @@ use Rattle.moving_steps.specs.superblocks_the_Give.{Give}
 use Rattle.moving_steps.specs.superblocks_the_Members.{Members}
 use Rattle.moving_steps.specs.superblocks_Outcome.{is_planned_holder, held_state, planned_state}
 use Rattle.moving_steps.specs.superblocks_Reading.{is_reshaping, is_whole, shape_of, role_count, role_state, holder}
-use Rattle.moving_steps.specs.superblocks_Update.{give_of, is_held_by, planned_role}
+use Rattle.moving_steps.specs.superblocks_Update.{give_of, planned_role}
 use Rattle.moving_steps.proofs.superblock_reads_SaidLists.{held-holder}
 use Rattle.moving_steps.specs.row_io_Rows.{reading_of, is_missing}
 use Rattle.moving_steps.specs.shape_changes_Safety.{HasLiveSlot}
@@ -44,6 +44,7 @@ use Rattle.moving_steps.proofs.history_calls_Behind.{IsAmong}
 use Rattle.moving_steps.specs.still_kept_Still.{AreNoneMissing}
 use Rattle.moving_steps.proofs.still_kept_Stood.{within-count}
 use Rattle.turning.specs.Begun.{CanBegin}
+use Rattle.moving_steps.proofs.views_MarkLaws.{holder-held}
 
 -- ---- one role
 
@@ -59,11 +60,6 @@ whole-held Missing slot held none = absurd (cc)
 
 same-slot : (a b : ℕ) → a ≡ b → (a == b) ≡ true
 same-slot a b is = grind (arith, nat_tests, is)
-
-held-by : (slot : ℕ) (state : Role) → holder state ≡ Some slot → is_held_by slot state ≡ true
-held-by slot (Whole s) is = let both : s ≡ slot = cc in same-slot s slot both
-held-by slot (Recovering s) is = let both : s ≡ slot = cc in same-slot s slot both
-held-by slot Missing is = absurd (cc)
 
 -- no slot recovers a role where none is missing
 pub none-recovering : (given : Given) (m : Members) → IsPlaced given m → AreNoneMissing m → HasNoneRecovering m
@@ -112,7 +108,7 @@ module _ (given : Given) (old : Members) (to : Shape) (placed : IsPlaced given o
       gets : (slot : ℕ) → holder (role_state (reading_of old) role) ≡ Some slot → planned_role old.roles (give_of ch.gives slot) slot ≡ Some role
       gets slot held = elim (new-or old.spares first to.disks slot) [
         | inl same ↦ ap (λ (g : Give). planned_role old.roles g slot) same
-            ∙ role_from-found slot 0 old.roles role (held-by slot (get_or old.roles role Missing) held)
+            ∙ role_from-found slot 0 old.roles role (holder-held slot (get_or old.roles role Missing) held)
             (λ j is. placed.apart j role slot (held-holder slot (get_or old.roles j Missing) is) held)
             ∙ (let e : 0 + role ≡ role = omega arith in ap (λ (n : ℕ). Some n) e)
         | inr (other, new) ↦ absurd ((free slot new.spare).none role held)
