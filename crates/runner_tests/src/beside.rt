@@ -2,9 +2,9 @@
 
 ghost use Rattle.std.specs.Prelude.◌≡◌;
 
-use crate::runs::{PLAIN, Row, bank_of, count_of, source_of, words_of};
+use crate::runs::{PLAIN, Row, bank_of, source_of};
 use door_bank::Words;
-use runner::{Pace, run};
+use script_runs::{Pace, run_script};
 use std::alloc::Global;
 use std::sync::Wait;
 use std::test::Fail;
@@ -25,10 +25,9 @@ fn status_beside(
     alloc: Global,
     words: &Words,
 ) -> Result<u8, Fail> {
-    let command = words_of(alloc, BESIDE.words)?;
     let mut source = source_of(alloc, &BESIDE)?;
     let mut sink = MemorySink::new(alloc, 4096, Vec::new(alloc))?;
-    let memory = bank_of(alloc, &BESIDE, count_of(alloc, &command)?)?;
+    let memory = bank_of(alloc, &BESIDE)?;
     let bank = words.bank(memory, [77, 0, 0, 0])?;
     let pace = Pace::new(
         |_, _| -> u64
@@ -38,7 +37,16 @@ fn status_beside(
             1
         },
     );
-    let report = run(rt, alloc, &command, &mut source, &mut sink, bank, pace);
+    let report = run_script(
+        rt,
+        alloc,
+        None,
+        &mut source,
+        &mut sink,
+        bank,
+        Some(7),
+        &pace,
+    );
     Ok(report.status)
 }
 

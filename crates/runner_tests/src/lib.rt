@@ -1,4 +1,4 @@
-//! Tests of `runner`: runs in which a call fails, whose replies are worked out by hand, and the parts of a run.
+//! Tests of `script_runs`: runs in which a call fails, whose replies are worked out by hand, and the parts of a run.
 #![tactic(auto)]
 
 #[cfg(test)]

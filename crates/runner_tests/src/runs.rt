@@ -2,13 +2,11 @@
 //! replies are worked out by hand, those of `grow` are of an engine that was written from the rules alone. Runs in which nothing fails are
 //! in `examples/cases`.
 
-ghost use Rattle.std.specs.Prelude.{◌≡◌, length, map, string_bytes, IfOk, IfSome};
-ghost use Rattle.command_words.specs.Words.{asked_by, command_in, slots_for};
+ghost use Rattle.std.specs.Prelude.{◌≡◌, length, IfOk};
 
 use bank::MemoryBank;
-use command_words::{Command, command_of};
-use runner::{Pace, Report, run};
-use std::alloc::{AllocError, Global};
+use script_runs::{Pace, Report, run_script};
+use std::alloc::Global;
 use std::process::Abort;
 use std::sync::Wait;
 use std::test::Fail;
@@ -18,11 +16,10 @@ use text_io::{MemorySink, MemorySource};
 const CREATE: &str =
     "create 6ba7b810-9dad-11d1-80b4-00c04fd430c8 level=5 disks=3 chunk=8 size=40 offset=16\n";
 
-/// A run: its words, whether the line above stands first, the lines behind it, the length of a slot and how many operations
-/// the bank has room for, and the numbers of the calls of bank, source and sink that fail; and then the status and the replies.
+/// A run: whether the line above stands first, the lines behind it, the length of a slot and how many operations the bank has room
+/// for, and the numbers of the calls of bank, source and sink that fail; and then the status and the replies.
 #[derive(Clone, Copy)]
 pub struct Row {
-    pub words: &'static [&'static str],
     pub create: bool,
     pub lines: &'static str,
     pub length: u64,
@@ -36,25 +33,16 @@ pub struct Row {
 
 /// Slots in which an array of 128 rows has room, and the backup a window of 96 sectors.
 pub const PLAIN: Row = Row {
-    words: &["memory"],
     create: true,
     lines: "",
     length: 160,
-    room: 18_432,
+    room: 8_192,
     calls: &[],
     pulls: &[],
     pushes: &[],
     status: 0,
     output: b"",
 };
-
-pub fn words_of(alloc: Global, words: &[&str]) -> Result<Vec<String>, Fail> {
-    let mut strings = Vec::new(alloc);
-    for word in words {
-        strings.push(String::from_str(alloc, word)?)?;
-    }
-    Ok(strings)
-}
 
 pub fn source_of(alloc: Global, row: &Row) -> Result<MemorySource, Fail> {
     let mut text = Vec::new(alloc);
@@ -66,36 +54,11 @@ pub fn source_of(alloc: Global, row: &Row) -> Result<MemorySource, Fail> {
     Ok(MemorySource::new(text, pulls))
 }
 
-// So many slots as the command needs.
-fn slots_of(command: &Command) -> usize
-    ensures { result ≡ slots_for (asked_by command.now) }
+/// Eight slots, the last of which is the backup.
+pub fn bank_of(alloc: Global, row: &Row) -> Result<MemoryBank, Fail>
+    ensures { IfOk result (λ bank. length bank.start ≡ 8) }
 {
-    match command {
-        Command::Memory => 8,
-        Command::Run(paths) => paths.slots.len(),
-        Command::Demo(_) => 6,
-    }
-}
-
-// Those that the words' command needs; words that are none get no slot.
-pub fn count_of(alloc: Global, words: &[String]) -> Result<usize, Fail>
-    ensures { IfOk result (λ slots. IfSome (command_in (map string_bytes words.now)) (λ command. slots ≡ slots_for command)) }
-{
-    match command_of(alloc, words) {
-        Ok(Some(command)) => Ok(slots_of(&command)),
-        Ok(None) => Ok(0),
-        Err(_) => Err(AllocError {}.into()),
-    }
-}
-
-/// So many slots.
-pub fn bank_of(alloc: Global, row: &Row, slots: usize) -> Result<MemoryBank, Fail>
-    ensures { IfOk result (λ bank. length bank.start ≡ slots) }
-{
-    if slots > 32 {
-        return Err(Fail::from("too many slots"));
-    }
-    let lengths = vec![in alloc; row.length; slots]?;
+    let lengths = vec![in alloc; row.length; 8]?;
     let calls = Vec::from_slice(alloc, row.calls)?;
     Ok(MemoryBank::new(alloc, lengths, row.room, calls)?)
 }
@@ -106,17 +69,25 @@ fn ran<R: Threads + Wait + Sync>(
     alloc: Global,
     row: &Row,
 ) -> Result<(Report<MemoryBank>, Vec<u8>), Fail> {
-    let words = words_of(alloc, row.words)?;
     let mut source = source_of(alloc, row)?;
     let pushes = Vec::from_slice(alloc, row.pushes)?;
     let mut sink = MemorySink::new(alloc, 4096, pushes)?;
-    let bank = bank_of(alloc, row, count_of(alloc, &words)?)?;
+    let bank = bank_of(alloc, row)?;
     let pace = Pace::new(
         |_, _| -> u64
             ensures { result ≡ 1 }
         { 1 },
     );
-    let report = run(rt, alloc, &words, &mut source, &mut sink, bank, pace);
+    let report = run_script(
+        rt,
+        alloc,
+        None,
+        &mut source,
+        &mut sink,
+        bank,
+        Some(7),
+        &pace,
+    );
     let taken = Vec::from_slice(alloc, sink.bytes())?;
     Ok((report, taken))
 }
@@ -142,7 +113,7 @@ fn compare<R: Threads + Wait + Sync + Abort>(
 // Lines behind `create`, and the calls of the bank that fail. The array has 40 rows on three of the bank's eight slots.
 // Making it takes 147 calls: 7 reads and 8 flushes, as all slots are looked at; 3 * (40 writes and a flush) for the zeros;
 // 3 * (a read, a write and a flush) for the superblocks.
-const RUNS: [Row; 13] = [
+const RUNS: [Row; 12] = [
     // the first read of a row fails, and its sector is filled in
     Row {
         lines: "read 0 1\n",
@@ -195,14 +166,6 @@ const RUNS: [Row; 13] = [
         calls: &[147],
         status: 1,
         output: b"created\nrefused 9 SlotFault 1\nread 8 1: zero x1\nmd: raid5 [3/2] [U_U] 80 sectors\n",
-        ..PLAIN
-    },
-    // a demo reads nothing
-    Row {
-        words: &["demo", "1"],
-        lines: "a line that is bad\n",
-        pulls: &[0],
-        output: b"created\nadded 4\nwrote 0 96\nwrote 96 96\nflushed\nplanned 14\na: wrote 0 96\na: read 0 96: seed 1001 x96\na: wrote 0 48\na: flushed\nb: wrote 96 96\nb: read 96 96: seed 2001 x96\nworker: left 0\nwaited left 0\nstopped\nassembled level 5 disks 5 chunk 8 size 64 layout left-symmetric visible 256 left 0\nread 0 96: seed 1002 x48 seed 1001 x48\nread 96 96: seed 2001 x96\nstopped\n",
         ..PLAIN
     },
     Row {
