@@ -1,6 +1,6 @@
 //! The text of a script, and the pace.
 
-use runner::{Pace, TextFault, read_text};
+use script_runs::{Pace, TextFault, read_text};
 use std::alloc::Global;
 use std::process::Abort;
 use std::test::Fail;
