@@ -45,9 +45,8 @@ use Rattle.turning.proofs.Ended.{kept-or-failed, late-held, length-same, ended-r
 use Rattle.turning.proofs.EndedStill.{IsFinished, ended-long}
 use Rattle.turning.proofs.Finishing.{end-due, flush-failed, refused-behind, final-few, dropped-or-failed, spare-or-dropped, spares-kept, spares-told, dropped-told, none-lost, roles-told, finish-stepped, finish-left}
 use Rattle.turning.proofs.Parted.{both-given, both-course, both-steps, room-for-two}
-use Rattle.turning.proofs.Told.{many-as, behind-as, ended-as}
+use Rattle.turning.proofs.Told.{many-as, behind-as, called-as, ended-as}
 use Rattle.turning.proofs.ending.finish_reshape.Goals as goal
-use Rattle.moving_steps.proofs.Told.{called-as}
 
 -- ---- refused before anything is done
 
