@@ -38,7 +38,8 @@ use Rattle.line_answers.proofs.line_asks_Writing.{written-inside}
 use Rattle.line_answers.specs.run_laws_States.{running_history, histories_in, IsCaller, IsGrown, AreLossesBehind, AreLossesSince, RunsOwn, IsBlockTurn}
 use Rattle.line_answers.specs.Turning.{IsTurningTold}
 use Rattle.line_answers.proofs.line_asks_Apart.{apart-all, own-all}
-use Rattle.line_answers.proofs.line_asks_Legal.{grows_longer, former_grown, accepted-grown}
+use Rattle.line_answers.proofs.line_asks_Legal.{former_grown, accepted-grown}
+use Rattle.line_answers.proofs.views_SafeStretch.{grows-longer}
 use Rattle.line_answers.proofs.run_laws_Losses.{IsHistoryLater, told-behind, held-more, held-before, may-held, loss-since, losses-last}
 use Rattle.line_answers.proofs.line_asks_Sizes.{sized-now}
 use Rattle.line_answers.proofs.run_laws_Told.{IsRefusalTold, HasTold, told_more}
@@ -133,7 +134,7 @@ module _ {B tells : Type 0} (given : B → Given) (tape : B → List Operation) 
   block-going ended = record {
     backup_is = went.same.backup ∙ was.backup_is;
     former = λ t. former_grown (given old.parts.bank) backup old.parts.first new.parts.first epochs.items went.grows t (omega (arith, went.same.first)) (was.former t);
-    begun = λ t. omega (arith, went.same.first, was.begun t, grows_longer went.grows t);
+    begun = λ t. omega (arith, went.same.first, was.begun t, grows-longer went.grows t);
     accepted = accepted-grown (given old.parts.bank) backup (running_history old.parts) (running_history new.parts) went.grows later.same was.begun was.accepted;
     held = λ t. subst (λ (l : List Entry). AreHeldSince (world_at (given old.parts.bank) (tape new.parts.bank) backup (running_history new.parts)) l new.parts.members) (sym went.grown)
         (held-now (world_at (given old.parts.bank) (tape new.parts.bank) backup (running_history new.parts)) old.parts.entries went.more old.parts.members
@@ -146,7 +147,7 @@ module _ {B tells : Type 0} (given : B → Given) (tape : B → List Operation) 
       → IsWritten (setting_of tells (given old.parts.bank) (tape old.parts.bank) (tape new.parts.bank) backup (faults old.parts.bank) (faults new.parts.bank)) (histories_in (Running old epochs)) (histories_in (Running new epochs)) (λ slot. ⊥)
   block-written ended t =
       written-inside (setting_of tells (given old.parts.bank) (tape old.parts.bank) (tape new.parts.bank) backup (faults old.parts.bank) (faults new.parts.bank)) (histories_of epochs.items) (running_history old.parts) (running_history new.parts) (λ slot. ⊥)
-      went.same.first (was.begun t) (grows_longer went.grows t) (was.ended t) (ended t)
+      went.same.first (was.begun t) (grows-longer went.grows t) (was.ended t) (ended t)
 
   module _ (own : RunsOwn (Running old epochs)) (entered : IsBlockEntered old.parts.entries new.parts.entries) (turning : IsTurningTold (is_reshaping new.parts.members.newest) (phases_of new.ahead) new.parts.entries)
       (told : IsLeftTold (record_of new)) (limited : limit_of new.parts.entries ≡ new.limit) where

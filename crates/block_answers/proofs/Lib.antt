@@ -14,3 +14,5 @@ pub use Rattle.line_answers.proofs.run_laws_Plain
 pub use Rattle.line_answers.proofs.run_laws_Worlds
 pub use Rattle.line_answers.proofs.line_asks_Writing
 pub use Rattle.line_answers.proofs.run_laws_Causes
+pub use Rattle.line_answers.proofs.views_SafeStretch
+pub use Rattle.line_answers.proofs.views_MovedLaws

@@ -8,7 +8,7 @@ use Rattle.running_replies.specs.array_kept_Calls.{AreSparesFewer, AreHeldOrSpar
 use Rattle.turning.specs.running_words_Adding.{AreSparesBut}
 use Rattle.growing.specs.Plans.{IsAside}
 
-not-so : (b : Bool) → (b ≡ true → ⊥) → b ≡ false
+pub not-so : (b : Bool) → (b ≡ true → ⊥) → b ≡ false
 not-so true none = absurd (none refl)
 not-so false none = refl
 

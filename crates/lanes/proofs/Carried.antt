@@ -19,7 +19,7 @@ use Rattle.lanes.specs.ServingLaws.{performed-called, sized-since, earlier-on, e
 use Rattle.lanes.specs.Lanes.{own_requests, known_of, carried_by, IsToldBy, IsAnswered}
 
 -- what holds of what is known
-known-has : {T : Type 0} (known : Option T) (some : is_some known ≡ true) (P : T → Type 0) → MatchOption known ⊥ P → P (known_of known some)
+pub known-has : {T : Type 0} (known : Option T) (some : is_some known ≡ true) (P : T → Type 0) → MatchOption known ⊥ P → P (known_of known some)
 known-has (Some k) some P fact = fact
 known-has None some P fact = absurd fact
 

@@ -84,7 +84,7 @@ of-short (q ∷ requests) (Done place old ∷ replies) request rest each all =
     ap (λ (l : List (Request × ℕ)). (q, place) ∷ l) (of-short requests replies request rest each all)
 of-short (q ∷ requests) (Short ∷ replies) request rest each all = absurd all
 
-stands-on : (caller : ℕ) (entries more : List Entry) (reply : Reply) → StandsIn caller entries reply → StandsIn caller (entries ++ more) reply
+pub stands-on : (caller : ℕ) (entries more : List Entry) (reply : Reply) → StandsIn caller entries reply → StandsIn caller (entries ++ more) reply
 stands-on caller entries more (Done at event) stands = one (slice_get entries at) refl stands
   where
     one : (found : Option Entry) → slice_get entries at ≡ found → MatchOption found ⊥ (λ e. (e.caller ≡ caller) × (e.event ≡ event))

@@ -1,5 +1,5 @@
 -- What passes that are back tell of the array.
-use Rattle.std.proofs.Common.{◌≡◌, ◌≢◌, ℕ, ◌≤◌, Bool, true, if◌then◌else◌, List, [], ◌∷◌, ◌++◌, length, refl, sym, ap, ◌∙◌, subst, Option, Some, None, is_some, MatchOption, slice_get, arith, length-append, eq-eqb, ne_eqb}
+use Rattle.std.proofs.Common.{◌≡◌, ◌≢◌, ℕ, ◌≤◌, Bool, if◌then◌else◌, List, [], ◌∷◌, ◌++◌, length, refl, sym, ap, ◌∙◌, subst, MatchOption, arith, length-append, eq-eqb, ne_eqb}
 use Rattle.std.specs.List.{All}
 use Rattle.std.proofs.lemmas.List.Elements.{All-weaker}
 use Rattle.running_calls.specs.bank_the_Operation.{Operation}
@@ -10,36 +10,21 @@ use Rattle.lanes.specs.running_words_Parts.{RunningParts}
 use Rattle.lanes.specs.running_calls_Entered.{HasEntered}
 use Rattle.lanes.specs.running_calls_Going.{HasGoneOn}
 use Rattle.lanes.specs.running_calls_the_Reply.{Reply}
-use Rattle.lanes.specs.running_calls_the_Reply_TheVariants.{Done, NoMemory as Short}
 use Rattle.turn_lock.specs.declared.call.Call.{Call}
 use Rattle.turn_lock.specs.declared.lock.Pass.{Pass}
 use Rattle.turn_lock.specs.declared.view.View.{View}
 use Rattle.turn_lock.specs.Turns.{mine_of, fresh, resting}
 use Rattle.turn_lock.specs.Passes.{LockId, AreNew, calls_by, Ended}
 use Rattle.lanes.specs.seen_laws_Callers.{AreReplied, HasCalled}
-use Rattle.lanes.proofs.seen_laws_PlaceLaws.{there, still-replied}
+use Rattle.lanes.proofs.seen_laws_PlaceLaws.{still-replied}
 use Rattle.lanes.specs.declared.worker.Worked.{Worked}
 use Rattle.lanes.specs.Lane.{StandsIn, done_of}
 use Rattle.lanes.specs.Serving.{most_entries, sectors_of, IsEarlier, IsSound, HasMade, requests_of, array_ways}
 use Rattle.lanes.specs.Lanes.{known_of, own_requests, carried_by}
 use Rattle.lanes.specs.Threads.{HasPassed, HasWorkedBy}
 use Rattle.lanes.specs.Blocks.{HasRun}
-
--- what holds of what is known
-known-has : {T : Type 0} (known : Option T) (some : is_some known ≡ true) (P : T → Type 0) → MatchOption known ⊥ P → P (known_of known some)
-known-has (Some k) some P fact = fact
-known-has None some P fact = absurd fact
-
--- what stands in a history stands in a longer one
-stands-on : (caller : ℕ) (entries more : List Entry) (reply : Reply) → StandsIn caller entries reply → StandsIn caller (entries ++ more) reply
-stands-on caller entries more (Done at event) stands = one (slice_get entries at) refl stands
-  where
-    one : (found : Option Entry) → slice_get entries at ≡ found → MatchOption found ⊥ (λ e. (e.caller ≡ caller) × (e.event ≡ event))
-        → MatchOption (slice_get (entries ++ more) at) ⊥ (λ e. (e.caller ≡ caller) × (e.event ≡ event))
-    one None is stands = absurd stands
-    one (Some e) is stands =
-        subst (λ (found : Option Entry). MatchOption found ⊥ (λ e. (e.caller ≡ caller) × (e.event ≡ event))) (sym (there entries more at e is)) stands
-stands-on caller entries more Short stands = tt
+use Rattle.lanes.proofs.Done.{stands-on}
+use Rattle.lanes.proofs.Carried.{known-has}
 
 -- what is so of one way of making requests is so of another
 pub worked-by : (One Other : List Request → List Reply → Type 0) (answers : ℕ → ℕ → ℕ → Type 0) (left : ℕ) (worked : Worked)

@@ -1,5 +1,5 @@
 -- A slot's superblock was looked at: nothing else has changed.
-use Rattle.std.proofs.Common.{◌≡◌, ℕ, ◌<◌, ◌≤◌, Option, List, ◌∷◌, [], ◌++◌, length, refl, sym, ◌∙◌, ap, subst, append-nil, Result, Ok, Err}
+use Rattle.std.proofs.Common.{◌≡◌, ℕ, ◌<◌, ◌≤◌, Option, List, ◌∷◌, [], ◌++◌, length, refl, sym, ◌∙◌, ap, subst, Result, Ok, Err}
 use Rattle.std.specs.Prelude.{IfOk, OnErr, IsErr}
 use Rattle.std.specs.Global.{Vec}
 use Rattle.line_asks.specs.md_base_the_Refusal.{Refusal}
@@ -12,7 +12,6 @@ use Rattle.line_asks.specs.sb1_the_Sb.{Sb}
 use Rattle.line_asks.specs.sb1_Superblock.{superblock_in}
 use Rattle.line_asks.specs.flat_history_the_Epoch.{Epoch}
 use Rattle.line_asks.specs.flat_history_Reopened.{OpensAccepted}
-use Rattle.line_asks.specs.views_Moving.{Grows}
 use Rattle.line_asks.specs.running_words_Parts.{RunningParts}
 use Rattle.line_asks.specs.views_Parts.{Parts}
 use Rattle.line_asks.specs.script_the_Line_TheVariants.{Examine}
@@ -26,10 +25,6 @@ use Rattle.line_asks.specs.run_laws_Making.{Setting, world_at, AreHeldSince}
 use Rattle.line_asks.specs.run_laws_States.{IsTurn, RunsOwn, running_history}
 use Rattle.line_answers.proofs.Turns.{grown_kept}
 use Rattle.line_asks.proofs.run_laws_Losses.{losses-kept}
-
--- the same tape only grows
-pub grows_same : {tells : Type 0} {before after : List Operation} → (tells → after ≡ before) → Grows tells before after
-grows_same {before = before} same = record { more = λ t. ([], same t ∙ sym (append-nil before)) }
 
 -- what is kept of the arrays that ran stays so over the same tape
 pub former_stays : {tells : Type 0} {before after : List Operation} (given : Given) (backup : Option ℕ) (epochs : List Epoch) → (tells → after ≡ before)

@@ -17,3 +17,5 @@ pub use Rattle.line_asks.proofs.Sizes as line_asks_Sizes
 pub use Rattle.line_asks.proofs.run_laws_Told
 pub use Rattle.line_asks.proofs.running_calls_GoneOn
 pub use Rattle.line_asks.proofs.Called as line_asks_Called
+pub use Rattle.line_asks.proofs.views_SafeStretch
+pub use Rattle.line_asks.proofs.views_MovedLaws

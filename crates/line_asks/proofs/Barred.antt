@@ -1,6 +1,6 @@
 -- A write that was refused for the backup: the array is in a reshape, and has a backup that failed.
 use Rattle.std.proofs.Common.{◌≡◌, ℕ, ◌+◌, ◌≤◌, ◌/◌, Bool, true, false, Option, Some, None, Result, Err, List, length, refl, subst, arith}
-use Rattle.std.specs.Prelude.{MatchBool, MatchOption, IfSome, IsSome, nat_lt}
+use Rattle.std.specs.Prelude.{MatchOption, IfSome, IsSome}
 use Rattle.run_laws.specs.md_base_Sectors.{sectors_of}
 use Rattle.run_laws.proofs.md_base_SectorLaws.{length-sectors_of}
 use Rattle.run_laws.specs.md_base_the_Fault.{Fault}
@@ -12,22 +12,13 @@ use Rattle.run_laws.specs.superblocks_the_Members.{Members}
 use Rattle.run_laws.specs.flat_history_the_Entry.{Entry}
 use Rattle.run_laws.specs.flat_history_the_Event_TheVariants.{Wrote}
 use Rattle.run_laws.specs.flat_history_the_Request_TheVariants.{Write as AsksWrite}
-use Rattle.run_laws.specs.flat_history_Fits.{IsReadRefused}
-use Rattle.run_laws.specs.flat_history_Transfers.{IsRefusedAt, IsPastEnd}
 use Rattle.run_laws.specs.array_kept_Calls.{IsAnswered, IsCausedBy}
 use Rattle.run_laws.proofs.AskLaws.{barred_within}
-
--- a reply of an array of one shape doesn't tell it
-none-barred : (visible to : ℕ) → IsRefusedAt visible to IsReadRefused BackupFault → ⊥
-none-barred visible to is = by (nat_lt visible to) is
-  where
-    by : (b : Bool) → MatchBool b (IsPastEnd BackupFault) (IsReadRefused BackupFault × (IsPastEnd BackupFault → ⊥)) → ⊥
-    by true is = is
-    by false is = is.0
+use Rattle.run_laws.proofs.Turned.{unbarred}
 
 not-still : {T : Type 0} (size at : ℕ) (body : List (List ℕ)) (who : Who) (old new : List Entry) (r : Result T Fault) → IsAnswered size (AsksWrite at body) who old new (Wrote at body) r → r ≡ Err (IsRefusedWith BackupFault) → ⊥
 not-still {T = T} size at body who old new r answered is =
-    none-barred _ _ (subst (λ (x : Result T Fault). IsAnswered size (AsksWrite at body) who old new (Wrote at body) x) is answered).fits.answers
+    unbarred _ _ (subst (λ (x : Result T Fault). IsAnswered size (AsksWrite at body) who old new (Wrote at body) x) is answered).fits.answers
 
 -- so it is in a reshape, where it has a backup
 pub barred-backup : (moving : Bool) (backup : Option ℕ) (Failed : ℕ → Type 0) → ((moving ≡ false) → ⊥) → (moving ≡ true → IsSome backup) → IfSome backup Failed → MatchOption backup ⊥ Failed

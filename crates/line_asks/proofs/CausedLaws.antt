@@ -34,8 +34,9 @@ use Rattle.run_laws.specs.script_the_Line_TheVariants.{Fail, Add, ArraySize, Gro
 use Rattle.run_laws.specs.Asked.{IsAskedAt, IsAsked}
 use Rattle.run_laws.specs.Caused.{Record, record_of, IsSeen, IsJudgedBy, IsJudgedAt}
 use Rattle.run_laws.specs.Showing.{TellsArray, IsToldAt}
-use Rattle.run_laws.proofs.AskLaws.{one, entry_there, entries_of-append}
+use Rattle.run_laws.proofs.AskLaws.{one, entry_there}
 use Rattle.run_laws.proofs.Turned.{last-there}
+use Rattle.run_laws.proofs.history_laws_OneShapeGrowing.{entries-both}
 
 -- ---- a record is shown as its array is
 
@@ -155,7 +156,7 @@ module _ (given : Given) (array : Record) (line : Line) (new : List Entry) (plac
   -- which may stand behind events of its call
   judged-behind : (who : Who) (end : ℕ) (inner : List Event) (event : Event) → new ≡ array.parts.entries ++ entries_of who end (inner ++ event ∷ []) → IsJudgedBy given array line event → IsJudgedAt given array line new place
   judged-behind who end inner event is judged =
-      judged-last (entries_of who end inner) (one who end event) (is ∙ ap (λ (l : List Entry). array.parts.entries ++ l) (entries_of-append who end inner (event ∷ []))) judged
+      judged-last (entries_of who end inner) (one who end event) (is ∙ ap (λ (l : List Entry). array.parts.entries ++ l) (entries-both who end inner (event ∷ []))) judged
 
 module _ (size : ℕ) (who : Who) (given : Given) (array : Record) (new : List Entry) (place : ℕ) (at_end : place + 1 ≡ length new) where
   -- an add

@@ -36,8 +36,9 @@ use Rattle.run_laws.specs.script_the_Line_TheVariants.{Read as ReadLine, Write a
 use Rattle.run_laws.specs.Asked.{IsAskedAt}
 use Rattle.run_laws.specs.Caused.{record_of}
 use Rattle.run_laws.specs.Records.{IsShapeKept, IsWorkKept, IsOnlyLess, IsLessByFaults, IsWithSpare, IsAsItWas, IsUntouched, IsLeftBy, IsLeftAt}
-use Rattle.run_laws.proofs.AskLaws.{one, entry_there, entries_of-append}
+use Rattle.run_laws.proofs.AskLaws.{one, entry_there}
 use Rattle.run_laws.proofs.Turned.{last-there}
+use Rattle.run_laws.proofs.history_laws_OneShapeGrowing.{entries-both}
 
 -- ---- what each call keeps
 
@@ -95,7 +96,7 @@ module _ {B : Type 0} (before now : ℕ → ℕ) (old new : RunningParts B) (who
   left-behind : (line : Line) (end : ℕ) (inner : List Event) (event : Event) → new.parts.entries ≡ old.parts.entries ++ entries_of who end (inner ++ event ∷ []) → IsLeftBy before now (record_of old) (record_of new) line event
       → IsLeftAt before now (record_of old) (record_of new) line new.parts.entries place
   left-behind line end inner event is left =
-      left-last line (entries_of who end inner) (one who end event) (is ∙ ap (λ (l : List Entry). old.parts.entries ++ l) (entries_of-append who end inner (event ∷ []))) left
+      left-last line (entries_of who end inner) (one who end event) (is ∙ ap (λ (l : List Entry). old.parts.entries ++ l) (entries-both who end inner (event ∷ []))) left
 
   -- a read, a write and a flush
   module _ (size : ℕ) (less : IsLessByFaults before now (record_of old) (record_of new)) where

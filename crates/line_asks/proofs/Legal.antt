@@ -1,5 +1,5 @@
 -- The histories of the arrays that ran stay legal as the tape grows.
-use Rattle.std.proofs.Common.{◌≡◌, ℕ, ◌≤◌, List, [], ◌∷◌, ◌++◌, length, Option, sym, ◌∙◌, ap, subst, arith, append-nil, length-append}
+use Rattle.std.proofs.Common.{◌≡◌, ℕ, ◌≤◌, List, [], ◌∷◌, ◌++◌, length, Option, sym, ◌∙◌, subst, arith, append-nil, length-append}
 use Rattle.std.proofs.lemmas.List.Elements.{All-push, All-weaker, All-nil, All-cons, All-head, All-tail}
 use Rattle.run_laws.specs.bank_Given.{Given}
 use Rattle.run_laws.specs.bank_the_Operation.{Operation}
@@ -35,6 +35,7 @@ use Rattle.run_laws.specs.States.{running_history}
 use Rattle.run_laws.proofs.Losses.{IsSameOpening, IsHistoryLater, AreHeldOn, world_same, held-later, held-on}
 use Rattle.run_laws.proofs.Worlds.{room-before, fills-before, keeps-before, accepted-later, safe-longer, sound-longer}
 use Rattle.run_laws.specs.Ended.{IsLegalEpoch, AreLegal, IfReliable, IfShapeKept, IsSafeEpoch, AreSafe, next_mark, AreRising, AreFormer, IsGoing}
+use Rattle.run_laws.proofs.views_SafeStretch.{grows-longer}
 
 ends_later : (a b : ℕ) (entries : List Entry) → a ≤ b → EndBy a entries → EndBy b entries
 ends_later a b [] le was = tt
@@ -106,9 +107,6 @@ next_within tape (f ∷ epochs) (one, rest) = let later = next_within tape epoch
 longer_than : (before more : List Operation) → length before ≤ length (before ++ more)
 longer_than before more = let long = length-append before more in omega (arith, long)
 
-pub grows_longer : {tells : Type 0} {before after : List Operation} → Grows tells before after → tells → length before ≤ length after
-grows_longer {before = before} grows told = let more = grows.more told in let long = longer_than before (more.0) in let is = ap (λ (l : List Operation). length l) (more.1) in omega (arith, long, is)
-
 -- the arrays that ran before
 pub former_grown : {tells : Type 0} {before after : List Operation} (given : Given) (backup : Option ℕ) (a b : ℕ) (epochs : List Epoch) → Grows tells before after → tells → a ≤ b → AreFormer given before backup a epochs → AreFormer given after backup b epochs
 former_grown {before = before} {after = after} given backup a b epochs grows told le was =
@@ -134,7 +132,7 @@ former_none given tape backup mark epochs empty = subst (λ (l : List Epoch). Ar
 pub idle_grown : {tells : Type 0} {before after : List Operation} (given : Given) (backup : Option ℕ) (olds news : List Epoch) → news ≡ olds → Grows tells before after
     → (tells → AreFormer given before backup (length before) olds) → tells → AreFormer given after backup (length after) news
 idle_grown {before = before} {after = after} given backup olds news same grows was told =
-    former_same given after backup (length after) olds news same (former_grown given backup (length before) (length after) olds grows told (grows_longer grows told) (was told))
+    former_same given after backup (length after) olds news same (former_grown given backup (length before) (length after) olds grows told (grows-longer grows told) (was told))
 
 -- what an opening found goes on to be refused for nothing
 pub accepted-grown : {tells : Type 0} {before after : List Operation} (given : Given) (backup : Option ℕ) (old new : History) → Grows tells before after → IsSameOpening old new → (tells → old.first ≤ length before)
@@ -150,7 +148,7 @@ pub going_grown : {B tells : Type 0} {before after : List Operation} (given : Gi
 going_grown {after = after} given backup old new epochs grows later same on ended was = record {
   backup_is = same ∙ was.backup_is;
   former = λ t. former_grown given backup old.first new.first epochs grows t (omega (arith, later.same.first)) (was.former t);
-  begun = λ t. omega (arith, later.same.first, was.begun t, grows_longer grows t);
+  begun = λ t. omega (arith, later.same.first, was.begun t, grows-longer grows t);
   accepted = accepted-grown given backup (running_history old) (running_history new) grows later.same was.begun was.accepted;
   held = λ t. held-on (world_at given after backup (running_history new)) new.entries old.members (held-later given backup (running_history old) (running_history new) old.members grows later was.held t) new.members on;
   ended = ended;
@@ -168,7 +166,7 @@ pub going_begun : {B tells : Type 0} {before after : List Operation} (given : Gi
     → (tells → AreFormer given before backup (length before) olds) → IsGoing tells given after backup array news
 going_begun {before = before} {after = after} given backup olds news array same grows backup_is first accepted held ended was = record {
   backup_is = backup_is;
-  former = λ t. former_same given after backup array.first olds news same (former_grown given backup (length before) array.first olds grows t (omega (arith, first t, grows_longer grows t)) (was t));
+  former = λ t. former_same given after backup array.first olds news same (former_grown given backup (length before) array.first olds grows t (omega (arith, first t, grows-longer grows t)) (was t));
   begun = λ t. omega (arith, first t);
   accepted = accepted;
   held = held;
@@ -181,7 +179,7 @@ pub legal_epoch : {B tells : Type 0} {before after : List Operation} (given : Gi
     → (tells → IfReliable given after backup epoch (IsEpochKept given after backup epoch)) → (tells → IfShapeKept given after backup epoch (IsPlainEpoch given after backup epoch))
     → tells → IsLegalEpoch given after backup epoch
 legal_epoch given backup array epochs epoch grows same was ends right plain told = record {
-  begun = omega (arith, same.first, was.begun told, grows_longer grows told);
+  begun = omega (arith, same.first, was.begun told, grows-longer grows told);
   accepted = accepted-grown given backup (running_history array) (history_of epoch) grows same was.begun was.accepted told;
   ends = ends told;
   legal = λ relied. (right told relied).legal;

@@ -22,3 +22,5 @@ pub use Rattle.run_laws.proofs.views_Still
 pub use Rattle.run_laws.proofs.history_laws_OneShapeGrowing
 pub use Rattle.run_laws.proofs.flat_history_OneShapeLegal
 pub use Rattle.run_laws.proofs.md_base_Tabulated
+pub use Rattle.run_laws.proofs.views_SafeStretch
+pub use Rattle.run_laws.proofs.views_MovedLaws

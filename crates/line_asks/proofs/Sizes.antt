@@ -22,8 +22,9 @@ use Rattle.run_laws.proofs.array_kept_ReplyLaws.{inside-losses}
 use Rattle.run_laws.specs.kept_history_Recorded.{entry_of}
 use Rattle.run_laws.specs.moving_laws_Writing.{IsRepliedBehind, IsWriteReplied}
 use Rattle.run_laws.specs.Asked.{IsSizedBy}
-use Rattle.run_laws.proofs.AskLaws.{one, entries_of-append}
+use Rattle.run_laws.proofs.AskLaws.{one}
 use Rattle.run_laws.proofs.running_calls_Leaving.{tells-or-leaves}
+use Rattle.run_laws.proofs.history_laws_OneShapeGrowing.{entries-both}
 
 abbrev step : ℕ → Entry → ℕ
 step n e = length_after n e.event
@@ -71,7 +72,7 @@ sized-last {a = a} inner e same inside leaves is = record {
 
 sized-replied : {a b size : ℕ} {request : Request} {who : Who} {old new : List Entry} {event : Event} → b ≡ a → ((n : ℕ) → length_after n event ≡ n) → IsReplied size request who old new event → IsSizedBy a b old new
 sized-replied {who = who} {old = old} {event = event} same leaves was =
-    sized-last (entries_of who was.end was.inner) (one who was.end event) same was.inside leaves (was.is ∙ ap (λ (l : List Entry). old ++ l) (entries_of-append who was.end was.inner (event ∷ [])))
+    sized-last (entries_of who was.end was.inner) (one who was.end event) same was.inside leaves (was.is ∙ ap (λ (l : List Entry). old ++ l) (entries-both who was.end was.inner (event ∷ [])))
 
 pub sized-answered : {a b : ℕ} (size : ℕ) (request : Request) (who : Who) {old new : List Entry} (event : Event) (r : Result (Unit {0}) Fault) → b ≡ a → ((n : ℕ) → length_after n event ≡ n) → IsAnswered size request who old new event r → IsSizedBy a b old new
 sized-answered size request who event (Ok x) same leaves was = sized-replied same leaves was
@@ -81,7 +82,7 @@ sized-answered size request who event (Err NoMemory) same leaves was = sized-non
 pub sized-behind : {a b : ℕ} {who : Who} {old new : List Entry} {event : Event} → b ≡ a → ((n : ℕ) → length_after n event ≡ n) → IsBehind who old new event → IsSizedBy a b old new
 sized-behind {who = who} {old = old} {event = event} same leaves was =
     sized-last (entries_of who was.end (losses_of was.roles was.spares)) (one who was.end event) same (inside-losses who was.end (losses_of was.roles was.spares) (losses-are was.roles was.spares)) leaves
-    (was.is ∙ ap (λ (l : List Entry). old ++ l) (entries_of-append who was.end (losses_of was.roles was.spares) (event ∷ [])))
+    (was.is ∙ ap (λ (l : List Entry). old ++ l) (entries-both who was.end (losses_of was.roles was.spares) (event ∷ [])))
 
 pub sized-entered : {a b : ℕ} {tells : Type 0} {tape : List Operation} {who : Who} {old new : List Entry} {event : Event} → b ≡ a → ((n : ℕ) → length_after n event ≡ n) → IsEntered tells tape who old new (event ∷ []) → IsSizedBy a b old new
 sized-entered {a = a} {who = who} {event = event} same leaves was = record { more = one who was.end event ∷ []; grown = was.is; sized = same ∙ sym (leaves a) }

@@ -41,7 +41,7 @@ use Rattle.run_laws.specs.Making.{Setting, setting_of}
 use Rattle.run_laws.specs.Replies.{spec_of}
 use Rattle.run_laws.specs.States.{running_history, histories_in, bank_in}
 use Rattle.run_laws.specs.Written.{IsWithin, IsInEpoch, MayWrite, HasWritten, AreSpans, IsWritten, IsWrittenBy}
-use Rattle.line_asks.proofs.Legal.{grows_longer}
+use Rattle.run_laws.proofs.views_SafeStretch.{grows-longer}
 
 -- ---- inside an epoch
 
@@ -177,7 +177,7 @@ written_going {B = B} tells given tape backup faults old new epochs state line r
     subst (λ (s : State B). IsWrittenBy (setting_of tells given (tape old.parts.bank) (tape (bank_in s)) backup (faults old.parts.bank) (faults (bank_in s))) (histories_in (Running old epochs)) (histories_in s) line r) (sym is)
     (written-any (setting_of tells given (tape old.parts.bank) (tape new.parts.bank) backup (faults old.parts.bank) (faults new.parts.bank)) (histories_in (Running old epochs)) (histories_in (Running new epochs)) line r
     (written-inside (setting_of tells given (tape old.parts.bank) (tape new.parts.bank) backup (faults old.parts.bank) (faults new.parts.bank)) (histories_of epochs.items) (running_history old.parts) (running_history new.parts) (λ slot. ⊥)
-    first (was.begun t) (grows_longer grows t) (was.ended t) (going.ended t)))
+    first (was.begun t) (grows-longer grows t) (was.ended t) (going.ended t)))
   where
     going : IsGoing tells given (tape new.parts.bank) backup new.parts epochs.items
     going = subst (λ (s : State B). IsRunKept tells given (tape (bank_in s)) backup s) is kept

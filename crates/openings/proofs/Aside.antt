@@ -34,14 +34,11 @@ use Rattle.assemble.specs.Made.{IsNew}
 use Rattle.assemble.proofs.PlacedFound.{placed-found}
 use Rattle.moving_opens.specs.found_members_Found.{AreElected}
 use Rattle.moving_opens.proofs.found_members_Placed.{live-there, holder-there-is}
+use Rattle.running_steps.proofs.growing_Aside.{not-so}
 
 -- so it is of the slot, if one is the backup
 abbrev pub IsAsideOf : Option ℕ → Members → Type 0
 IsAsideOf backup members = (slot : ℕ) → backup ≡ Some slot → (has_spare members.spares slot ≡ false) × ((role : ℕ) → Held members role slot → ⊥)
-
-not-true : (b : Bool) → (b ≡ true → ⊥) → b ≡ false
-not-true true none = absurd (none refl)
-not-true false none = refl
 
 one-of : (a b : ℕ) → Some a ≡ Some b → a ≡ b
 one-of a b e = cc
@@ -61,7 +58,7 @@ module _ (bank : Given) (given : ℕ) (m : Members) (are : AreElected bank given
 
   pub elected-aside : IsAsideOf backup m
   elected-aside slot is = (
-    not-true (has_spare m.spares slot) (λ spare. (let found = live-there bank given m are fit slot (or-right (list_any (is_held_by slot) m.roles) (has_spare m.spares slot) spare) in
+    not-so (has_spare m.spares slot) (λ spare. (let found = live-there bank given m are fit slot (or-right (list_any (is_held_by slot) m.roles) (has_spare m.spares slot) spare) in
         none-some found.0 (sym (no-own slot is) ∙ found.1))),
     λ role held. (let found = holder-there-is bank given m are fit role slot held in none-some found.0 (sym (no-own slot is) ∙ found.1)),
   )

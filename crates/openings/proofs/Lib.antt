@@ -18,7 +18,7 @@ pub use Rattle.moving_opens.proofs.grow_asked_FirstLaws
 pub use Rattle.running_steps.proofs.history_laws_OneShapeGrowing
 pub use Rattle.running_steps.proofs.history_laws_ReshapedLaws
 pub use Rattle.running_steps.proofs.history_laws_GrowingLaws
-mod Handed
+pub mod Handed
 pub use Rattle.running_steps.proofs.still_laws_PlansKept
 pub use Rattle.running_steps.proofs.running_Closed
 pub use Rattle.running_steps.proofs.running_Kept

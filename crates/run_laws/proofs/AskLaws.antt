@@ -44,14 +44,11 @@ use Rattle.script.specs.Seeds.{seeded, seed_sector}
 use Rattle.run_laws.specs.Asked.{script_who, IsAskedAt}
 use Rattle.run_laws.specs.Making.{is_added}
 use Rattle.run_laws.specs.Replies.{FitsLine, IsReplyAt, IsRepliedAt}
+use Rattle.running_calls.proofs.history_laws_OneShapeGrowing.{entries-both}
 
 -- the entry of an event of a call
 abbrev pub one : Who → ℕ → Event → Entry
 one who end event = record { caller = who.caller; number = who.number; end = end; event = event }
-
-pub entries_of-append : (who : Who) (end : ℕ) (xs ys : List Event) → entries_of who end (xs ++ ys) ≡ entries_of who end xs ++ entries_of who end ys
-entries_of-append who end [] ys = refl
-entries_of-append who end (x ∷ xs) ys = ap (λ (l : List Entry). one who end x ∷ l) (entries_of-append who end xs ys)
 
 -- the entries of a call's events are of that call
 own_call : (who : Who) (end : ℕ) (events : List Event) → All (λ e. IsOfCall who e) (entries_of who end events)
@@ -60,7 +57,7 @@ own_call who end (event ∷ events) = All-cons (λ e. IsOfCall who e) (one who e
 
 -- the last of them stands alone
 last_alone : {new : List Entry} (old : List Entry) (who : Who) (end : ℕ) (inner : List Event) (event : Event) → new ≡ old ++ entries_of who end (inner ++ event ∷ []) → new ≡ old ++ (entries_of who end inner ++ one who end event ∷ [])
-last_alone old who end inner event is = is ∙ ap (λ (l : List Entry). old ++ l) (entries_of-append who end inner (event ∷ []))
+last_alone old who end inner event is = is ∙ ap (λ (l : List Entry). old ++ l) (entries-both who end inner (event ∷ []))
 
 -- something stands behind the former entries
 longer : {new : List Entry} (old inner : List Entry) (e : Entry) → new ≡ old ++ (inner ++ e ∷ []) → 1 ≤ length new

@@ -1,5 +1,5 @@
 -- Why nothing was made or found stays a cause, over a longer time and where the slots hold the same.
-use Rattle.std.proofs.Common.{◌≡◌, ℕ, ◌+◌, ◌-◌, ◌^◌, ◌<◌, ◌≤◌, ◌==◌, ◌&&◌, inl, inr, Bool, true, false, Option, Some, None, List, [], ◌∷◌, ◌++◌, length, refl, sym, ◌∙◌, ap, subst, arith, append-nil, append_assoc, take_all}
+use Rattle.std.proofs.Common.{◌≡◌, ℕ, ◌+◌, ◌-◌, ◌^◌, ◌<◌, ◌≤◌, ◌==◌, ◌&&◌, inl, inr, Bool, true, false, Option, Some, None, List, [], ◌∷◌, length, refl, sym, ◌∙◌, ap, subst, arith, append-nil, take_all}
 use Rattle.std.proofs.lemmas.Bool.{cases_eq}
 use Rattle.std.proofs.lemmas.Bool.Decides.{nat_tests}
 use Rattle.std.specs.Prelude.{is_some, nat_le, if◌then◌else◌, MatchOption, IfSome, ⊤}
@@ -114,11 +114,6 @@ below-grows was = record { more = λ t. let added = was t in (added.0, added.2) 
 
 pub grows-none : {tells : Type 0} (tape : List Operation) → Grows tells tape tape
 grows-none tape = record { more = λ t. ([], sym (append-nil tape)) }
-
-pub grows-then : {tells : Type 0} {first mid last : List Operation} → Grows tells first mid → Grows tells mid last → Grows tells first last
-grows-then {first = first} was next = record {
-  more = λ t. let one = was.more t in let two = next.more t in (one.0 ++ two.0, two.1 ∙ ap (λ (l : List Operation). l ++ two.0) (one.1) ∙ append_assoc first (one.0) (two.0));
-}
 
 pub flushes-grow : {tells : Type 0} {old new : List Operation} → (tells → OnlyFlushesAdded old new) → Grows tells old new
 flushes-grow was = record { more = λ t. let added = was t in (added.0, added.2) }

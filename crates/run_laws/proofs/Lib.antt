@@ -24,3 +24,5 @@ pub use Rattle.script.proofs.flat_history_LegalLaws
 pub use Rattle.script.proofs.flat_history_OneShapeLegal
 pub use Rattle.script.proofs.flat_history_SoundLaws
 pub use Rattle.running_calls.proofs.Leaving as running_calls_Leaving
+pub use Rattle.running_calls.proofs.views_SafeStretch
+pub use Rattle.running_calls.proofs.views_MovedLaws

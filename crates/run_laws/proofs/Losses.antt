@@ -33,11 +33,12 @@ use Rattle.run_laws.specs.Histories.{History}
 use Rattle.run_laws.specs.Making.{Setting, world_at, history_world, HeldAtFirst, MissingAtFirst, SpareAtFirst, is_added, IsSpareSince, MayHaveHeld, AreHeldSince}
 use Rattle.run_laws.specs.States.{running_history, IsRoleLossSince, IsRefusalSince, IsLossSince, with_entries, AreLossesBehind, AreLossesSince, AreLossesFrom, AreGrown}
 use Rattle.running_calls.specs.views_Parts.{Parts}
-use Rattle.run_laws.proofs.AskLaws.{one, entries_of-append}
+use Rattle.run_laws.proofs.AskLaws.{one}
 use Rattle.run_laws.proofs.Causes.{faulted-wider}
 use Rattle.run_laws.proofs.Growth.{IsWider, world_stays}
 use Rattle.run_laws.proofs.Told.{IsRefusalTold, HasTold, told_more}
 use Rattle.run_laws.proofs.Worlds.{held-longer, missing-longer, spare-longer}
+use Rattle.running_calls.proofs.history_laws_OneShapeGrowing.{entries-both}
 
 -- ---- what may have held a role since the opening
 
@@ -367,7 +368,7 @@ pub each-absent : (P : Entry → Type 0) (who : Who) (end : ℕ) (r : Reading) (
 unfolding absent_losses
 each-absent P who end r zero each = All-nil P
 each-absent P who end r (suc n) each =
-    subst (λ (l : List Entry). All P l) (sym (entries_of-append who end (absent_losses r n) (absent_loss r n)))
+    subst (λ (l : List Entry). All P l) (sym (entries-both who end (absent_losses r n) (absent_loss r n)))
     (All-append P (entries_of who end (absent_losses r n)) (entries_of who end (absent_loss r n)) (each-absent P who end r n (λ role lt. each role (omega (arith, lt)))) (by_role (role_state r n) refl))
   where
     found : (state : Role) → role_state r n ≡ state → not (is_whole state) ≡ true → P (one who end (Lost n Absent)) × P (one who end (Lost n Recovering))

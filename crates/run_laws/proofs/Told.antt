@@ -1,7 +1,7 @@
 -- The refusals that calls told, and their causes.
-use Rattle.std.proofs.Common.{◌≡◌, ℕ, ◌+◌, Bool, true, false, Option, List, [], ◌∷◌, ◌++◌, length, drop, Result, Ok, Err, refl, sym, ◌∙◌, ap, subst, append_assoc, append-nil}
+use Rattle.std.proofs.Common.{◌≡◌, ℕ, ◌+◌, Bool, true, false, Option, List, [], ◌∷◌, ◌++◌, length, drop, Result, Ok, Err, refl, sym, ◌∙◌, ap, subst, append-nil}
 use Rattle.std.proofs.Math.Seq.{drop-append_seam}
-use Rattle.std.proofs.lemmas.List.Elements.{All-nil, All-cons, All-append, All-push, All-weaker}
+use Rattle.std.proofs.lemmas.List.Elements.{All-nil, All-cons, All-push, All-weaker}
 use Rattle.std.specs.Prelude.{nat_lt, MatchBool}
 use Rattle.std.specs.List.{All}
 use Rattle.running_calls.specs.bank_Given.{Given, IsFaulted}
@@ -31,7 +31,8 @@ use Rattle.running_calls.specs.moving_laws_Writing.{IsRepliedBehind, IsWriteRepl
 use Rattle.script.specs.flat_history_Legal.{call_before}
 use Rattle.running_calls.specs.running_replies_Replies.{IsRefusalBy, IsRefusalToldBy, HasToldBy}
 use Rattle.run_laws.specs.Making.{Setting}
-use Rattle.run_laws.proofs.AskLaws.{one, entries_of-append}
+use Rattle.run_laws.proofs.AskLaws.{one}
+use Rattle.running_calls.proofs.history_laws_OneShapeGrowing.{entries-both}
 
 -- a refusal that the event tells has its cause
 abbrev pub IsRefusalTold : Setting → Event → Type 0
@@ -72,7 +73,7 @@ module _ (backup : Option ℕ) (before now : ℕ → ℕ) where
   told_last who end inner event inside is told = record {
     more = entries_of who end (inner ++ event ∷ []);
     grown = is;
-    told = subst (λ (l : List Entry). All Told l) (sym (entries_of-append who end inner (event ∷ [])))
+    told = subst (λ (l : List Entry). All Told l) (sym (entries-both who end inner (event ∷ [])))
         (All-push Told (entries_of who end inner) (one who end event) (All-weaker (λ e. StandsInside e.event) Told (λ e is. inside_told e.event is) (entries_of who end inner) inside) told);
   }
 
@@ -184,11 +185,3 @@ module _ (backup : Option ℕ) (before now : ℕ → ℕ) where
       same_slot is = cc
   told_added size slot who given backup_is old new members after (Err (IsRefusedWith refusal)) was added = told_added_by was (λ failed is. absurd (cc))
   told_added size slot who given backup_is old new members after (Err WantsMemory) was added = told_none was
-
--- one after the other
-pub told_then : {backup : Option ℕ} {before now : ℕ → ℕ} {old mid new : List Entry} → HasToldBy backup before now old mid → HasToldBy backup before now mid new → HasToldBy backup before now old new
-told_then {backup = backup} {before = before} {now = now} {old = old} one two = record {
-  more = one.more ++ two.more;
-  grown = two.grown ∙ ap (λ (l : List Entry). l ++ two.more) one.grown ∙ append_assoc old one.more two.more;
-  told = All-append (λ e. IsRefusalToldBy backup before now e.event) one.more two.more one.told two.told;
-}

@@ -44,6 +44,7 @@ use Rattle.run_laws.specs.Showing.{IsShown}
 use Rattle.running_calls.specs.Turning.{active_after, may_be_active, may_be_ahead, IsTellable, IsTurningTold}
 use Rattle.running_calls.proofs.Turned.{none_left, TellsSome, both-none, active-before, ahead-before, active-unbegun, ahead-unplanned, inside-some}
 use Rattle.run_laws.proofs.AskLaws.{one, get-last}
+use Rattle.running_calls.proofs.Entered.{is_steps, unstepped}
 
 -- ---- the reply at its place
 
@@ -180,34 +181,17 @@ module _ {B : Type 0} (tells : Type 0) (given : B → Given) (tape : B → List 
 
 -- ---- the replies to the lines that ask no step
 
--- the request asks for steps, or writes
-abbrev pub is_steps : Request → Bool
-is_steps (AsksSteps most) = true
-is_steps request = false
-
 abbrev pub is_write : Request → Bool
 is_write (AsksWrite at body) = true
 is_write request = false
 
 -- none is refused for the backup, but a write
-unbarred : (visible to : ℕ) → IsRefusedAt visible to IsReadRefused BackupFault → ⊥
+pub unbarred : (visible to : ℕ) → IsRefusedAt visible to IsReadRefused BackupFault → ⊥
 unbarred visible to is = by (nat_lt visible to) is
   where
     by : (b : Bool) → MatchBool b (IsPastEnd BackupFault) (IsReadRefused BackupFault × (IsPastEnd BackupFault → ⊥)) → ⊥
     by true is = is
     by false is = is.0
-
-unstepped : (size : ℕ) (before call : List Entry) (request : Request) (event : Event) → is_steps request ≡ false → RunningAnswers size before call request event → none_left event ≡ false
-unstepped size before call (AsksSteps most) event unasked is = absurd (cc)
-unstepped size before call (AsksRead at count) (Stepped done left ended) unasked is = absurd is
-unstepped size before call (AsksWrite at body) (Stepped done left ended) unasked is = absurd is
-unstepped size before call AsksFlush (Stepped done left ended) unasked is = absurd is
-unstepped size before call (AsksFail role) (Stepped done left ended) unasked is = absurd is
-unstepped size before call (AsksAdd slot) (Stepped done left ended) unasked is = absurd is
-unstepped size before call (AsksVisible limit) (Stepped done left ended) unasked is = absurd is
-unstepped size before call (AsksGrow wish) (Stepped done left ended) unasked is = absurd is
-unstepped size before call AsksShow (Stepped done left ended) unasked is = absurd is
-unstepped size before call request event unasked is = refl
 
 told-by : (size : ℕ) (before call : List Entry) (request : Request) (event : Event) → is_steps request ≡ false → is_write request ≡ false → RunningAnswers size before call request event → (Active Ahead : Type 0) → MayTellBy Active Ahead event
 told-by size before call (AsksSteps most) event unasked other is Active Ahead = absurd (cc)

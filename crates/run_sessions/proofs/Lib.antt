@@ -14,3 +14,4 @@ pub use Rattle.block_answers.proofs.run_laws_Losses
 pub use Rattle.block_answers.proofs.line_answers_Turns
 pub use Rattle.block_answers.proofs.run_laws_Plain
 pub use Rattle.block_answers.proofs.line_asks_Writing
+pub use Rattle.block_answers.proofs.views_SafeStretch

@@ -28,7 +28,7 @@ use Rattle.run_sessions.specs.declared.sessions.Stop.TheVariants.{WriteFault, No
 use Rattle.run_sessions.specs.declared.sessions.Session.{Session}
 use Rattle.block_answers.specs.run_laws_Histories.{History, histories_of, entry_at}
 use Rattle.block_answers.specs.run_laws_Making.{Setting, setting_of}
-use Rattle.block_answers.proofs.line_asks_Legal.{grows_longer}
+use Rattle.block_answers.proofs.views_SafeStretch.{grows-longer}
 use Rattle.block_answers.specs.run_laws_Replies.{Course, at_rest, course_after, course_of, IsAnswer, IsAnswerIn, mark_reached, mark_shown, IsEnd, IsReplyTo, AreReplies, AreInOrder}
 use Rattle.block_answers.specs.Shown.{reply_text, report_text, has_refusal}
 use Rattle.block_answers.specs.run_laws_States.{histories_in, course_in, record_in, RunsOwn, IsOfScript, AreOfScript, AreLossesFrom, AreGrown, EndsBetween, IsCourseShort, IsBeside, AreAnswersBeside, AreRecordedBeside, course_beside}
@@ -214,7 +214,7 @@ module _ {B bank_tells : Type 0} {given : Given} {backup : Option ℕ} {first_ta
       recorded = subst (λ (rs : List LineReply). AreRecorded (setting_of bank_tells given first_tape tape backup start now) (histories_in new.state) (at_rest 0) None (take (length rs) lines) rs performed.last) (sym same) (records_still none.grown);
       recorded_now = λ going_on. absurd (let both : Some WantsMemory ≡ None = sym stop ∙ going_on in cc);
       losses = losses_add (setting_of bank_tells given first_tape mid_tape backup start mid) (setting_of bank_tells given mid_tape tape backup mid now) (setting_of bank_tells given first_tape tape backup start now) wider_was wider_step (histories_in old.state) (histories_in new.state) none.grown performed.losses none.losses;
-      ends = λ t. subst (λ (rs : List LineReply). AreInOrder (length first_tape) (length tape) rs) (sym same) (order_later (length first_tape) (length mid_tape) (length tape) old.replies.items (grows_longer grew t) (performed.ends t));
+      ends = λ t. subst (λ (rs : List LineReply). AreInOrder (length first_tape) (length tape) rs) (sym same) (order_later (length first_tape) (length mid_tape) (length tape) old.replies.items (grows-longer grew t) (performed.ends t));
       refused = refused ∙ performed.refused ∙ sym ((shown_still none.grown).1) ∙ ap (λ (rs : List LineReply). has_refusal (histories_in new.state) lines rs) (sym same);
       written = λ t. subst (λ (rs : List LineReply). AreWritesPlaced (setting_of bank_tells given first_tape tape backup start now) (histories_in new.state) new.stopped lines rs) (sym same)
           (subst (λ (o : Option Stop). AreWritesPlaced (setting_of bank_tells given first_tape tape backup start now) (histories_in new.state) o lines old.replies.items) (sym stop)
@@ -443,7 +443,7 @@ module _ {B bank_tells : Type 0} {given : Given} {backup : Option ℕ} {first_ta
     block_ends : bank_tells → AreInOrder (length first_tape) (length tape) new.replies.items
     block_ends t = subst (λ (rs : List LineReply). AreInOrder (length first_tape) (length tape) rs) (sym did.shown.shown.more)
         (order-then (length first_tape) (length mid_tape) (length tape) old.replies.items made (performed.ends t)
-        (λ from le. ordered bank_tells hs (length mid_tape) (length tape) t from le (grows_longer grew t) (told_before hs) block did.whats made lanes answers did.shown.shown.told (did.answered.ends t)))
+        (λ from le. ordered bank_tells hs (length mid_tape) (length tape) t from le (grows-longer grew t) (told_before hs) block did.whats made lanes answers did.shown.shown.told (did.answered.ends t)))
 
     block_performed : IsPerformed wide lines new
     block_performed = record {

@@ -52,6 +52,7 @@ use Rattle.takeover.proofs.TakenFrom.{WasSpareOrHeld, taken-roles, taken-spares}
 use Rattle.running.specs.State.{IsStillNow, AreTakeovers, IsOneReshape, AreBacked, IsNextBacked, IsWithin, IsBackupAside, AreClosedIdle, IsAtRest, IsInReshape}
 use Rattle.running.proofs.Closed.{closed-kept, closed-ended, closed-taken}
 use Rattle.running.proofs.Entered.{add-begun, begun-turns, add-ended, add-taken}
+use Rattle.growing.proofs.Aside.{not-so}
 
 -- ---- the history
 
@@ -175,10 +176,6 @@ pub record LeavesAhead {B : Type 0} (old new : RunningParts B) : Type 0 where
   pub held : (role slot : ℕ) → Held new.parts.members role slot → MayHold old.parts.members role slot
   pub spares : (slot : ℕ) → old.parts.backup ≡ Some slot → has_spare new.parts.members.spares slot ≡ true → has_spare old.parts.members.spares slot ≡ true
 
-not-true : (b : Bool) → (b ≡ true → ⊥) → b ≡ false
-not-true true none = absurd (none refl)
-not-true false none = refl
-
 clash : {P : Type 0} {b : Bool} → b ≡ false → b ≡ true → P
 clash off on = absurd (let both : true ≡ false = sym on ∙ off in cc)
 
@@ -190,7 +187,7 @@ module _ {B : Type 0} {tells : Type 0} (given : B → Given) (tape : B → List 
   aside-kept was slot is =
       let before : old.parts.backup ≡ Some slot = sym on.backup ∙ is in
       let apart = was slot before in
-      (not-true (has_spare new.parts.members.spares slot) (λ spare. clash apart.0 (leaves.spares slot before spare)), λ role held. none role apart (leaves.held role slot held))
+      (not-so (has_spare new.parts.members.spares slot) (λ spare. clash apart.0 (leaves.spares slot before spare)), λ role held. none role apart (leaves.held role slot held))
     where
       none : (role : ℕ) → (has_spare old.parts.members.spares slot ≡ false) × ((role : ℕ) → Held old.parts.members role slot → ⊥) → MayHold old.parts.members role slot → ⊥
       none role apart (inl held) = apart.1 role held
@@ -431,7 +428,7 @@ rest-ended given tape window old new given_is did apart now within was = record 
   within = within;
   one = takeovers-one (phases_of new.ahead) last;
   next = takeovers-backed (given new.parts.bank) window new.parts.backup (shape_of new.parts.members.newest) new.parts.members.newest.size (phases_of new.ahead) last;
-  aside = λ slot is. (not-true (has_spare new.parts.members.spares slot) (λ spare. spared slot (apart slot (before slot is)) (did.spares slot spare)), λ role held. (apart slot (before slot is)).1 role (did.held role slot held));
+  aside = λ slot is. (not-so (has_spare new.parts.members.spares slot) (λ spare. spared slot (apart slot (before slot is)) (did.spares slot spare)), λ role held. (apart slot (before slot is)).1 role (did.held role slot held));
   closed = closed-ended new did.entered;
   plans = plans-on given tape old new (record {
     given_is = given_is;
@@ -490,7 +487,7 @@ rest-taken {behind = behind} given tape window to old new given_is next did now 
   next = backed-same window given_is did.same.backup did.newest.shape did.newest.size (ap phases_of did.ahead)
       (backed-behind (given old.parts.bank) window old.parts.backup (shape_of old.parts.members.newest) old.parts.members.newest.size (phases_of old.ahead) (phases_of behind) to next was.next);
   aside = λ slot is. (
-    not-true (has_spare new.parts.members.spares slot) (λ spare. spared slot (apart slot is) (taken-spares old.parts.members to did.slot did.chosen new.parts.members did.spares slot spare)),
+    not-so (has_spare new.parts.members.spares slot) (λ spare. spared slot (apart slot is) (taken-spares old.parts.members to did.slot did.chosen new.parts.members did.spares slot spare)),
     λ role held. held-none role slot (apart slot is) (taken-roles old.parts.members to did.slot did.chosen new.parts.members did.held role slot held),
   );
   closed = closed-taken new did.entered;

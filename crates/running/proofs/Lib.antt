@@ -39,3 +39,4 @@ pub use Rattle.growing.proofs.Windows as growing_Windows
 pub use Rattle.growing.proofs.bank_Causes
 pub use Rattle.growing.proofs.md_base_Tabulated
 pub use Rattle.growing.proofs.moving_laws_WriteLaws
+pub use Rattle.growing.proofs.Aside as growing_Aside

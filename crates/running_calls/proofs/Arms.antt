@@ -13,11 +13,6 @@ use Rattle.openings.specs.running_words_Parts.{RunningParts}
 use Rattle.running_calls.specs.Entered.{RestsBehind}
 use Rattle.running_calls.specs.Replies.{told_by, IsPerformed, IsCountedBy}
 
--- a fact without the event
-pub ok-any : {T E : Type 0} (result : Result T E) (Fact : Type 0) → Fact → IfOk result (λ x. Fact)
-ok-any (Ok x) Fact fact = fact
-ok-any (Err e) Fact fact = tt
-
 -- where the event isn't told, memory was short
 pub told-unchanged : {T : Type 0} (Fact : Type 0) (event : Event) (result : Result T Fault) (told : Result Event NoMemory) → told ≡ told_by result event → OnNoMemory result Fact → IfErr told (λ none. Fact)
 told-unchanged Fact event (Ok x) told is fact = subst (λ (r : Result Event NoMemory). IfErr r (λ none. Fact)) (sym is) tt

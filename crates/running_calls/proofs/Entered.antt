@@ -117,11 +117,11 @@ answer-goes size before call AsksShow Halted is = absurd is
 answer-goes size before call request event is = tt
 
 -- the request asks for steps
-abbrev is_steps : Request → Bool
+abbrev pub is_steps : Request → Bool
 is_steps (AsksSteps most) = true
 is_steps request = false
 
-unstepped : (size : ℕ) (before call : List Entry) (request : Request) (event : Event) → is_steps request ≡ false → RunningAnswers size before call request event → none_left event ≡ false
+pub unstepped : (size : ℕ) (before call : List Entry) (request : Request) (event : Event) → is_steps request ≡ false → RunningAnswers size before call request event → none_left event ≡ false
 unstepped size before call (AsksSteps most) event unasked is = absurd (cc)
 unstepped size before call (AsksRead at count) (Stepped done left ended) unasked is = absurd is
 unstepped size before call (AsksWrite at body) (Stepped done left ended) unasked is = absurd is

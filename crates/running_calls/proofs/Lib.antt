@@ -26,3 +26,5 @@ pub use Rattle.array_kept.proofs.md_base_SectorLaws
 pub use Rattle.array_kept.proofs.md_base_Tabulated
 pub use Rattle.bank.proofs.Images as bank_Images
 pub use Rattle.bank.proofs.Laws as bank_Laws
+pub use Rattle.call_entries.proofs.views_SafeStretch
+pub use Rattle.openings.proofs.views_MovedLaws

@@ -37,3 +37,4 @@ pub use Rattle.running.proofs.growing_Replied
 pub use Rattle.running.proofs.growing_Windows
 pub use Rattle.running.proofs.Chosen as running_Chosen
 pub use Rattle.running.proofs.Entered as running_Entered
+pub use Rattle.running.proofs.growing_Aside

@@ -35,7 +35,7 @@ use Rattle.run_sessions.specs.Writes.{AreWritesPlaced}
 use Rattle.run_sessions.specs.run_laws_Written.{IsWritten}
 use Rattle.run_sessions.specs.views_Moving.{Grows}
 use Rattle.run_sessions.proofs.run_laws_AskLaws.{one, with_reply}
-use Rattle.run_sessions.proofs.line_asks_Legal.{grows_longer}
+use Rattle.run_sessions.proofs.views_SafeStretch.{grows-longer}
 use Rattle.run_sessions.proofs.WritesPlaced.{placed-end, quiet-between}
 use Rattle.run_sessions.proofs.run_laws_Growth.{IsWider, replies_stay, replies_front, courses_stay, cut_stays}
 use Rattle.run_sessions.proofs.line_asks_RecordLaws.{records-stay}
@@ -172,8 +172,8 @@ module _ {B bank_tells : Type 0} {given : Given} {backup : Option ℕ} {tape : L
     halted = ended.halted;
     script = ended.script;
     ends = performed.ends;
-    written = λ t. end_written t (grows_longer grows t) (written t);
-    quiet = λ t. quiet-between (setting_of bank_tells given first_tape tape backup start now) (stop_of status) lines session.replies.items (length tape) epochs (rising t) (end_written t (grows_longer grows t) (written t));
+    written = λ t. end_written t (grows-longer grows t) (written t);
+    quiet = λ t. quiet-between (setting_of bank_tells given first_tape tape backup start now) (stop_of status) lines session.replies.items (length tape) epochs (rising t) (end_written t (grows-longer grows t) (written t));
   }
 
   end_setting : IsWider (setting_of bank_tells given tape tape backup now now) (setting_of bank_tells given first_tape tape backup start now)

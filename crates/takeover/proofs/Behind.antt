@@ -1,5 +1,5 @@
 -- In the plan of a takeover each role has a holder, where none was missing: all are whole, but for the last one of level 6, which its slot recovers. So what is missing behind its update was lost in it, or is Q.
-use Rattle.std.proofs.Common.{◌≡◌, ◌⊎◌, inl, inr, ℕ, ◌+◌, ◌-◌, ◌<◌, ◌≤◌, ◌==◌, ◌&&◌, nat_lt, true, false, not, Option, Some, None, get_or, length, refl, sym, ◌∙◌, ap, subst, arith}
+use Rattle.std.proofs.Common.{◌≡◌, ◌⊎◌, inl, inr, ℕ, ◌+◌, ◌-◌, ◌<◌, ◌≤◌, ◌&&◌, nat_lt, true, false, not, Option, Some, None, get_or, length, refl, sym, ◌∙◌, ap, subst, arith}
 use Rattle.std.specs.Prelude.{IsTrue, is_some}
 use Rattle.std.specs.Option.{option_map_or}
 use Rattle.std.proofs.lemmas.Bool.{cases_lt, and_parts}
@@ -40,9 +40,6 @@ use Rattle.takeover_updates.proofs.TakenPlan.{count, gives-or, live, one-holder}
 use Rattle.still_calls.specs.still_kept_Still.{AreNoneMissing}
 use Rattle.takeover.proofs.Chosen.{whole-slot}
 use Rattle.still_calls.proofs.views_MarkLaws.{holder-held}
-
-same-slot : (a b : ℕ) → a ≡ b → (a == b) ≡ true
-same-slot a b is = grind (arith, nat_tests, is)
 
 lt-true : (a b : ℕ) → a < b → nat_lt a b ≡ true
 lt-true a b lt = grind (arith, nat_tests, lt)

@@ -49,7 +49,7 @@ pub use Rattle.moving_steps.proofs.row_io_Losses
 pub use Rattle.moving_steps.proofs.history_laws_OneShapeGrowing
 pub use Rattle.moving_steps.proofs.history_laws_ReshapedLaws
 pub use Rattle.moving_steps.proofs.history_laws_GrowingLaws
-mod Parted
+pub mod Parted
 pub use Rattle.moving_steps.proofs.flat_history_OneShapeReplies
 pub use Rattle.moving_steps.proofs.geometry_Valid
 pub use Rattle.moving_steps.proofs.grow_asked_FirstLaws

@@ -1,5 +1,5 @@
 -- In the plan of a begin each role has a holder, where none was missing and there were spares enough. So what is missing behind its update was lost in it.
-use Rattle.std.proofs.Common.{◌≡◌, inl, inr, ℕ, ◌+◌, ◌<◌, ◌≤◌, ◌==◌, ◌&&◌, nat_lt, true, false, not, Option, Some, None, List, get_or, length, refl, sym, ◌∙◌, ap, arith}
+use Rattle.std.proofs.Common.{◌≡◌, inl, inr, ℕ, ◌+◌, ◌<◌, ◌≤◌, ◌&&◌, nat_lt, true, false, not, Option, Some, None, List, get_or, length, refl, sym, ◌∙◌, ap, arith}
 use Rattle.std.specs.Prelude.{is_some}
 use Rattle.std.specs.Option.{option_map_or}
 use Rattle.std.proofs.lemmas.Bool.{cases_lt, and_parts}
@@ -57,9 +57,6 @@ whole-held : (state : Role) (slot : ℕ) → holder state ≡ Some slot → ((t 
 whole-held (Whole t) slot held none = refl
 whole-held (Recovering t) slot held none = absurd (none t refl)
 whole-held Missing slot held none = absurd (cc)
-
-same-slot : (a b : ℕ) → a ≡ b → (a == b) ≡ true
-same-slot a b is = grind (arith, nat_tests, is)
 
 -- no slot recovers a role where none is missing
 pub none-recovering : (given : Given) (m : Members) → IsPlaced given m → AreNoneMissing m → HasNoneRecovering m

@@ -11,7 +11,7 @@ use Rattle.line_asks.specs.run_laws_the_Answered.{Answered}
 use Rattle.line_asks.specs.run_laws_the_State.{State}
 use Rattle.line_asks.specs.run_laws_the_State_TheVariants.{Running as IsRunning}
 use Rattle.line_asks.specs.run_laws_Ended.{IsRunKept}
-use Rattle.line_asks.proofs.Legal.{grows_longer, going_grown, going_asked}
+use Rattle.line_asks.proofs.Legal.{going_grown, going_asked}
 use Rattle.line_asks.proofs.run_laws_Losses.{losses-of, losses-steps, held-before, on-lost, on-added}
 use Rattle.line_asks.proofs.Called.{epoch-opening, epoch-later, ran-sized, ran-later, ran-on, parts-unchanged, told-backup}
 use Rattle.line_asks.specs.superblocks_Reading.{list_length}
@@ -23,6 +23,7 @@ use Rattle.line_asks.proofs.Statuses.{going_detail, going_mdstat}
 use Rattle.line_asks.specs.run_laws_Written.{HasWritten}
 use Rattle.line_asks.proofs.Writing.{written-nothing, written_going}
 use Rattle.line_answers.proofs.answers.answer_running.Goals as goal
+use Rattle.line_asks.proofs.views_SafeStretch.{grows-longer}
 
 pub ask_write-requires-clause-turning : goal.ask_write-requires-clause-turning
 ask_write-requires-clause-turning g c = c.requires.own.turning
@@ -68,7 +69,7 @@ returns-in-Read-clause-answered g c =
     (subst (λ (s : State g.row.B.Denot). IsTurnOrNone (setting_of g.B.Bank.tells (g.B.Bank.given array.parts.bank) (g.B.Bank.tape array.parts.bank) (g.B.Bank.tape (bank_in s)) c.args.backup (g.B.Bank.faults_of array.parts.bank) (g.B.Bank.faults_of (bank_in s))) (IsRunning array c.args.epochs) s (Read c.in-Read.at c.in-Read.count) on.result.1) (sym on.ensures.state)
     (subst (λ (r : Result Answered NoMemory). IsTurnOrNone (setting_of g.B.Bank.tells (g.B.Bank.given array.parts.bank) (g.B.Bank.tape array.parts.bank) (g.B.Bank.tape new.parts.bank) c.args.backup (g.B.Bank.faults_of array.parts.bank) (g.B.Bank.faults_of new.parts.bank)) (IsRunning array c.args.epochs) (IsRunning new c.args.epochs) (Read c.in-Read.at c.in-Read.count) r) (sym on.ensures.answer)
     (turn_of_ask (setting_of g.B.Bank.tells (g.B.Bank.given array.parts.bank) (g.B.Bank.tape array.parts.bank) (g.B.Bank.tape new.parts.bank) c.args.backup (g.B.Bank.faults_of array.parts.bank) (g.B.Bank.faults_of new.parts.bank)) array new c.args.epochs c.requires.own (losses-of (setting_of g.B.Bank.tells (g.B.Bank.given array.parts.bank) (g.B.Bank.tape array.parts.bank) (g.B.Bank.tape new.parts.bank) c.args.backup (g.B.Bank.faults_of array.parts.bank) (g.B.Bank.faults_of new.parts.bank)) (running_history new.parts) (held-before (g.B.Bank.given array.parts.bank) c.args.backup (running_history array.parts) (running_history new.parts) array.parts.members did.grows (epoch-opening same) c.requires.former.held) did.losses (told-backup c.requires.former.backup_is did.told)) same.uuid same.given same.first did.sized did.turning on.ensures.told
-    (Read c.in-Read.at c.in-Read.count) c.ask_read.result (λ p asked. going_read c.in-Read.at c.in-Read.count asked) (grows_longer did.grows) did.ended did.tellable (same.backup ∙ c.requires.former.backup_is) (unjudged-asked (list_length array.parts.members.newest) (Read c.in-Read.at c.in-Read.count) array.parts.entries new.parts.entries (g.B.Bank.given array.parts.bank) (record_of array) c.ask_read.result did.asked (λ event. tt)) did.left did.asked)))
+    (Read c.in-Read.at c.in-Read.count) c.ask_read.result (λ p asked. going_read c.in-Read.at c.in-Read.count asked) (grows-longer did.grows) did.ended did.tellable (same.backup ∙ c.requires.former.backup_is) (unjudged-asked (list_length array.parts.members.newest) (Read c.in-Read.at c.in-Read.count) array.parts.entries new.parts.entries (g.B.Bank.given array.parts.bank) (record_of array) c.ask_read.result did.asked (λ event. tt)) did.left did.asked)))
 
 pub returns-in-Write-clause-answered : goal.returns-in-Write-clause-answered
 returns-in-Write-clause-answered g c =
@@ -81,7 +82,7 @@ returns-in-Write-clause-answered g c =
     (subst (λ (s : State g.row.B.Denot). IsTurnOrNone (setting_of g.B.Bank.tells (g.B.Bank.given array.parts.bank) (g.B.Bank.tape array.parts.bank) (g.B.Bank.tape (bank_in s)) c.args.backup (g.B.Bank.faults_of array.parts.bank) (g.B.Bank.faults_of (bank_in s))) (IsRunning array c.args.epochs) s (Write c.in-Write.at c.in-Write.count c.in-Write.seed) on.result.1) (sym on.ensures.state)
     (subst (λ (r : Result Answered NoMemory). IsTurnOrNone (setting_of g.B.Bank.tells (g.B.Bank.given array.parts.bank) (g.B.Bank.tape array.parts.bank) (g.B.Bank.tape new.parts.bank) c.args.backup (g.B.Bank.faults_of array.parts.bank) (g.B.Bank.faults_of new.parts.bank)) (IsRunning array c.args.epochs) (IsRunning new c.args.epochs) (Write c.in-Write.at c.in-Write.count c.in-Write.seed) r) (sym on.ensures.answer)
     (turn_of_ask (setting_of g.B.Bank.tells (g.B.Bank.given array.parts.bank) (g.B.Bank.tape array.parts.bank) (g.B.Bank.tape new.parts.bank) c.args.backup (g.B.Bank.faults_of array.parts.bank) (g.B.Bank.faults_of new.parts.bank)) array new c.args.epochs c.requires.own (losses-of (setting_of g.B.Bank.tells (g.B.Bank.given array.parts.bank) (g.B.Bank.tape array.parts.bank) (g.B.Bank.tape new.parts.bank) c.args.backup (g.B.Bank.faults_of array.parts.bank) (g.B.Bank.faults_of new.parts.bank)) (running_history new.parts) (held-before (g.B.Bank.given array.parts.bank) c.args.backup (running_history array.parts) (running_history new.parts) array.parts.members did.grows (epoch-opening same) c.requires.former.held) did.losses (told-backup c.requires.former.backup_is did.told)) same.uuid same.given same.first did.sized did.turning on.ensures.told
-    (Write c.in-Write.at c.in-Write.count c.in-Write.seed) c.ask_write.result (λ p asked. going_write c.in-Write.at c.in-Write.count c.in-Write.seed asked) (grows_longer did.grows) did.ended did.tellable (same.backup ∙ c.requires.former.backup_is) (unjudged-asked (list_length array.parts.members.newest) (Write c.in-Write.at c.in-Write.count c.in-Write.seed) array.parts.entries new.parts.entries (g.B.Bank.given array.parts.bank) (record_of array) c.ask_write.result did.asked (λ event. tt)) did.left did.asked)))
+    (Write c.in-Write.at c.in-Write.count c.in-Write.seed) c.ask_write.result (λ p asked. going_write c.in-Write.at c.in-Write.count c.in-Write.seed asked) (grows-longer did.grows) did.ended did.tellable (same.backup ∙ c.requires.former.backup_is) (unjudged-asked (list_length array.parts.members.newest) (Write c.in-Write.at c.in-Write.count c.in-Write.seed) array.parts.entries new.parts.entries (g.B.Bank.given array.parts.bank) (record_of array) c.ask_write.result did.asked (λ event. tt)) did.left did.asked)))
 
 pub returns-in-Flush-clause-answered : goal.returns-in-Flush-clause-answered
 returns-in-Flush-clause-answered g c =
@@ -94,7 +95,7 @@ returns-in-Flush-clause-answered g c =
     (subst (λ (s : State g.row.B.Denot). IsTurnOrNone (setting_of g.B.Bank.tells (g.B.Bank.given array.parts.bank) (g.B.Bank.tape array.parts.bank) (g.B.Bank.tape (bank_in s)) c.args.backup (g.B.Bank.faults_of array.parts.bank) (g.B.Bank.faults_of (bank_in s))) (IsRunning array c.args.epochs) s Flush on.result.1) (sym on.ensures.state)
     (subst (λ (r : Result Answered NoMemory). IsTurnOrNone (setting_of g.B.Bank.tells (g.B.Bank.given array.parts.bank) (g.B.Bank.tape array.parts.bank) (g.B.Bank.tape new.parts.bank) c.args.backup (g.B.Bank.faults_of array.parts.bank) (g.B.Bank.faults_of new.parts.bank)) (IsRunning array c.args.epochs) (IsRunning new c.args.epochs) Flush r) (sym on.ensures.answer)
     (turn_of_ask (setting_of g.B.Bank.tells (g.B.Bank.given array.parts.bank) (g.B.Bank.tape array.parts.bank) (g.B.Bank.tape new.parts.bank) c.args.backup (g.B.Bank.faults_of array.parts.bank) (g.B.Bank.faults_of new.parts.bank)) array new c.args.epochs c.requires.own (losses-of (setting_of g.B.Bank.tells (g.B.Bank.given array.parts.bank) (g.B.Bank.tape array.parts.bank) (g.B.Bank.tape new.parts.bank) c.args.backup (g.B.Bank.faults_of array.parts.bank) (g.B.Bank.faults_of new.parts.bank)) (running_history new.parts) (held-before (g.B.Bank.given array.parts.bank) c.args.backup (running_history array.parts) (running_history new.parts) array.parts.members did.grows (epoch-opening same) c.requires.former.held) did.losses (told-backup c.requires.former.backup_is did.told)) same.uuid same.given same.first did.sized did.turning on.ensures.told
-    Flush c.ask_flush.result (λ p asked. going_flush asked) (grows_longer did.grows) did.ended did.tellable (same.backup ∙ c.requires.former.backup_is) (unjudged-asked (list_length array.parts.members.newest) Flush array.parts.entries new.parts.entries (g.B.Bank.given array.parts.bank) (record_of array) c.ask_flush.result did.asked (λ event. tt)) did.left did.asked)))
+    Flush c.ask_flush.result (λ p asked. going_flush asked) (grows-longer did.grows) did.ended did.tellable (same.backup ∙ c.requires.former.backup_is) (unjudged-asked (list_length array.parts.members.newest) Flush array.parts.entries new.parts.entries (g.B.Bank.given array.parts.bank) (record_of array) c.ask_flush.result did.asked (λ event. tt)) did.left did.asked)))
 
 pub returns-in-Detail-clause-answered : goal.returns-in-Detail-clause-answered
 returns-in-Detail-clause-answered g c =
@@ -107,7 +108,7 @@ returns-in-Detail-clause-answered g c =
     (subst (λ (s : State g.row.B.Denot). IsTurnOrNone (setting_of g.B.Bank.tells (g.B.Bank.given array.parts.bank) (g.B.Bank.tape array.parts.bank) (g.B.Bank.tape (bank_in s)) c.args.backup (g.B.Bank.faults_of array.parts.bank) (g.B.Bank.faults_of (bank_in s))) (IsRunning array c.args.epochs) s Detail on.result.1) (sym on.ensures.state)
     (subst (λ (r : Result Answered NoMemory). IsTurnOrNone (setting_of g.B.Bank.tells (g.B.Bank.given array.parts.bank) (g.B.Bank.tape array.parts.bank) (g.B.Bank.tape new.parts.bank) c.args.backup (g.B.Bank.faults_of array.parts.bank) (g.B.Bank.faults_of new.parts.bank)) (IsRunning array c.args.epochs) (IsRunning new c.args.epochs) Detail r) (sym on.ensures.answer)
     (turn_of_ask (setting_of g.B.Bank.tells (g.B.Bank.given array.parts.bank) (g.B.Bank.tape array.parts.bank) (g.B.Bank.tape new.parts.bank) c.args.backup (g.B.Bank.faults_of array.parts.bank) (g.B.Bank.faults_of new.parts.bank)) array new c.args.epochs c.requires.own (losses-of (setting_of g.B.Bank.tells (g.B.Bank.given array.parts.bank) (g.B.Bank.tape array.parts.bank) (g.B.Bank.tape new.parts.bank) c.args.backup (g.B.Bank.faults_of array.parts.bank) (g.B.Bank.faults_of new.parts.bank)) (running_history new.parts) (held-before (g.B.Bank.given array.parts.bank) c.args.backup (running_history array.parts) (running_history new.parts) array.parts.members did.grows (epoch-opening same) c.requires.former.held) did.losses (told-backup c.requires.former.backup_is did.told)) same.uuid same.given same.first did.sized did.turning on.ensures.told
-    Detail c.ask_show.result (λ p asked. going_detail asked) (grows_longer did.grows) did.ended did.tellable (same.backup ∙ c.requires.former.backup_is) (detail-judged (g.B.Bank.given array.parts.bank) array new.parts.entries c.ask_show.result did.shown) (untouched-asked (list_length array.parts.members.newest) Detail array.parts.entries new.parts.entries (g.B.Bank.faults_of array.parts.bank) (g.B.Bank.faults_of new.parts.bank) (record_of array) (record_of new) c.ask_show.result did.asked did.left (λ event is. is)) did.asked)))
+    Detail c.ask_show.result (λ p asked. going_detail asked) (grows-longer did.grows) did.ended did.tellable (same.backup ∙ c.requires.former.backup_is) (detail-judged (g.B.Bank.given array.parts.bank) array new.parts.entries c.ask_show.result did.shown) (untouched-asked (list_length array.parts.members.newest) Detail array.parts.entries new.parts.entries (g.B.Bank.faults_of array.parts.bank) (g.B.Bank.faults_of new.parts.bank) (record_of array) (record_of new) c.ask_show.result did.asked did.left (λ event is. is)) did.asked)))
 
 pub returns-in-Mdstat-clause-answered : goal.returns-in-Mdstat-clause-answered
 returns-in-Mdstat-clause-answered g c =
@@ -120,7 +121,7 @@ returns-in-Mdstat-clause-answered g c =
     (subst (λ (s : State g.row.B.Denot). IsTurnOrNone (setting_of g.B.Bank.tells (g.B.Bank.given array.parts.bank) (g.B.Bank.tape array.parts.bank) (g.B.Bank.tape (bank_in s)) c.args.backup (g.B.Bank.faults_of array.parts.bank) (g.B.Bank.faults_of (bank_in s))) (IsRunning array c.args.epochs) s Mdstat on.result.1) (sym on.ensures.state)
     (subst (λ (r : Result Answered NoMemory). IsTurnOrNone (setting_of g.B.Bank.tells (g.B.Bank.given array.parts.bank) (g.B.Bank.tape array.parts.bank) (g.B.Bank.tape new.parts.bank) c.args.backup (g.B.Bank.faults_of array.parts.bank) (g.B.Bank.faults_of new.parts.bank)) (IsRunning array c.args.epochs) (IsRunning new c.args.epochs) Mdstat r) (sym on.ensures.answer)
     (turn_of_ask (setting_of g.B.Bank.tells (g.B.Bank.given array.parts.bank) (g.B.Bank.tape array.parts.bank) (g.B.Bank.tape new.parts.bank) c.args.backup (g.B.Bank.faults_of array.parts.bank) (g.B.Bank.faults_of new.parts.bank)) array new c.args.epochs c.requires.own (losses-of (setting_of g.B.Bank.tells (g.B.Bank.given array.parts.bank) (g.B.Bank.tape array.parts.bank) (g.B.Bank.tape new.parts.bank) c.args.backup (g.B.Bank.faults_of array.parts.bank) (g.B.Bank.faults_of new.parts.bank)) (running_history new.parts) (held-before (g.B.Bank.given array.parts.bank) c.args.backup (running_history array.parts) (running_history new.parts) array.parts.members did.grows (epoch-opening same) c.requires.former.held) did.losses (told-backup c.requires.former.backup_is did.told)) same.uuid same.given same.first did.sized did.turning on.ensures.told
-    Mdstat c.ask_show-in-Mdstat.result (λ p asked. going_mdstat asked) (grows_longer did.grows) did.ended did.tellable (same.backup ∙ c.requires.former.backup_is) (mdstat-judged (g.B.Bank.given array.parts.bank) array new.parts.entries c.ask_show-in-Mdstat.result did.shown) (untouched-asked (list_length array.parts.members.newest) Mdstat array.parts.entries new.parts.entries (g.B.Bank.faults_of array.parts.bank) (g.B.Bank.faults_of new.parts.bank) (record_of array) (record_of new) c.ask_show-in-Mdstat.result did.asked_brief did.left (λ event is. is)) did.asked_brief)))
+    Mdstat c.ask_show-in-Mdstat.result (λ p asked. going_mdstat asked) (grows-longer did.grows) did.ended did.tellable (same.backup ∙ c.requires.former.backup_is) (mdstat-judged (g.B.Bank.given array.parts.bank) array new.parts.entries c.ask_show-in-Mdstat.result did.shown) (untouched-asked (list_length array.parts.members.newest) Mdstat array.parts.entries new.parts.entries (g.B.Bank.faults_of array.parts.bank) (g.B.Bank.faults_of new.parts.bank) (record_of array) (record_of new) c.ask_show-in-Mdstat.result did.asked_brief did.left (λ event is. is)) did.asked_brief)))
 
 pub returns-in-Fail-clause-answered : goal.returns-in-Fail-clause-answered
 returns-in-Fail-clause-answered g c =
@@ -133,7 +134,7 @@ returns-in-Fail-clause-answered g c =
     (subst (λ (s : State g.row.B.Denot). IsTurnOrNone (setting_of g.B.Bank.tells (g.B.Bank.given array.parts.bank) (g.B.Bank.tape array.parts.bank) (g.B.Bank.tape (bank_in s)) c.args.backup (g.B.Bank.faults_of array.parts.bank) (g.B.Bank.faults_of (bank_in s))) (IsRunning array c.args.epochs) s (Fail c.in-Fail.role) on.result.1) (sym on.ensures.state)
     (subst (λ (r : Result Answered NoMemory). IsTurnOrNone (setting_of g.B.Bank.tells (g.B.Bank.given array.parts.bank) (g.B.Bank.tape array.parts.bank) (g.B.Bank.tape new.parts.bank) c.args.backup (g.B.Bank.faults_of array.parts.bank) (g.B.Bank.faults_of new.parts.bank)) (IsRunning array c.args.epochs) (IsRunning new c.args.epochs) (Fail c.in-Fail.role) r) (sym on.ensures.answer)
     (turn_of_ask (setting_of g.B.Bank.tells (g.B.Bank.given array.parts.bank) (g.B.Bank.tape array.parts.bank) (g.B.Bank.tape new.parts.bank) c.args.backup (g.B.Bank.faults_of array.parts.bank) (g.B.Bank.faults_of new.parts.bank)) array new c.args.epochs c.requires.own (losses-of (setting_of g.B.Bank.tells (g.B.Bank.given array.parts.bank) (g.B.Bank.tape array.parts.bank) (g.B.Bank.tape new.parts.bank) c.args.backup (g.B.Bank.faults_of array.parts.bank) (g.B.Bank.faults_of new.parts.bank)) (running_history new.parts) (held-before (g.B.Bank.given array.parts.bank) c.args.backup (running_history array.parts) (running_history new.parts) array.parts.members did.grows (epoch-opening same) c.requires.former.held) did.losses (told-backup c.requires.former.backup_is did.told)) same.uuid same.given same.first did.sized did.turning on.ensures.told
-    (Fail c.in-Fail.role) c.ask_fail.result (λ p asked. going_fail c.in-Fail.role asked) (grows_longer did.grows) did.ended did.tellable (same.backup ∙ c.requires.former.backup_is) did.judged did.left did.asked)))
+    (Fail c.in-Fail.role) c.ask_fail.result (λ p asked. going_fail c.in-Fail.role asked) (grows-longer did.grows) did.ended did.tellable (same.backup ∙ c.requires.former.backup_is) did.judged did.left did.asked)))
 
 pub returns-in-Add-clause-answered : goal.returns-in-Add-clause-answered
 returns-in-Add-clause-answered g c =
@@ -146,7 +147,7 @@ returns-in-Add-clause-answered g c =
     (subst (λ (s : State g.row.B.Denot). IsTurnOrNone (setting_of g.B.Bank.tells (g.B.Bank.given array.parts.bank) (g.B.Bank.tape array.parts.bank) (g.B.Bank.tape (bank_in s)) c.args.backup (g.B.Bank.faults_of array.parts.bank) (g.B.Bank.faults_of (bank_in s))) (IsRunning array c.args.epochs) s (Add c.in-Add.slot) on.result.1) (sym on.ensures.state)
     (subst (λ (r : Result Answered NoMemory). IsTurnOrNone (setting_of g.B.Bank.tells (g.B.Bank.given array.parts.bank) (g.B.Bank.tape array.parts.bank) (g.B.Bank.tape new.parts.bank) c.args.backup (g.B.Bank.faults_of array.parts.bank) (g.B.Bank.faults_of new.parts.bank)) (IsRunning array c.args.epochs) (IsRunning new c.args.epochs) (Add c.in-Add.slot) r) (sym on.ensures.answer)
     (turn_of_ask (setting_of g.B.Bank.tells (g.B.Bank.given array.parts.bank) (g.B.Bank.tape array.parts.bank) (g.B.Bank.tape new.parts.bank) c.args.backup (g.B.Bank.faults_of array.parts.bank) (g.B.Bank.faults_of new.parts.bank)) array new c.args.epochs c.requires.own (losses-of (setting_of g.B.Bank.tells (g.B.Bank.given array.parts.bank) (g.B.Bank.tape array.parts.bank) (g.B.Bank.tape new.parts.bank) c.args.backup (g.B.Bank.faults_of array.parts.bank) (g.B.Bank.faults_of new.parts.bank)) (running_history new.parts) (held-before (g.B.Bank.given array.parts.bank) c.args.backup (running_history array.parts) (running_history new.parts) array.parts.members did.grows (epoch-opening same) c.requires.former.held) did.losses (told-backup c.requires.former.backup_is did.told)) same.uuid same.given same.first did.sized did.turning on.ensures.told
-    (Add c.in-Add.slot) c.ask_add.result (λ p asked. going_add c.in-Add.slot asked) (grows_longer did.grows) did.ended did.tellable (same.backup ∙ c.requires.former.backup_is) did.judged did.left did.asked)))
+    (Add c.in-Add.slot) c.ask_add.result (λ p asked. going_add c.in-Add.slot asked) (grows-longer did.grows) did.ended did.tellable (same.backup ∙ c.requires.former.backup_is) did.judged did.left did.asked)))
 
 pub returns-in-ArraySize-clause-answered : goal.returns-in-ArraySize-clause-answered
 returns-in-ArraySize-clause-answered g c =
@@ -160,7 +161,7 @@ returns-in-ArraySize-clause-answered g c =
     (subst (λ (s : State g.row.B.Denot). IsTurnOrNone (setting_of g.B.Bank.tells (g.B.Bank.given array.parts.bank) (g.B.Bank.tape array.parts.bank) (g.B.Bank.tape (bank_in s)) c.args.backup (g.B.Bank.faults_of array.parts.bank) (g.B.Bank.faults_of (bank_in s))) (IsRunning array c.args.epochs) s (ArraySize c.in-ArraySize.limit) on.result.1) (sym on.ensures.state)
     (subst (λ (r : Result Answered NoMemory). IsTurnOrNone (setting_of g.B.Bank.tells (g.B.Bank.given array.parts.bank) (g.B.Bank.tape array.parts.bank) (g.B.Bank.tape new.parts.bank) c.args.backup (g.B.Bank.faults_of array.parts.bank) (g.B.Bank.faults_of new.parts.bank)) (IsRunning array c.args.epochs) (IsRunning new c.args.epochs) (ArraySize c.in-ArraySize.limit) r) (sym on.ensures.answer)
     (turn_of_ask (setting_of g.B.Bank.tells (g.B.Bank.given array.parts.bank) (g.B.Bank.tape array.parts.bank) (g.B.Bank.tape new.parts.bank) c.args.backup (g.B.Bank.faults_of array.parts.bank) (g.B.Bank.faults_of new.parts.bank)) array new c.args.epochs c.requires.own (losses-steps (setting_of g.B.Bank.tells (g.B.Bank.given array.parts.bank) (g.B.Bank.tape array.parts.bank) (g.B.Bank.tape new.parts.bank) c.args.backup (g.B.Bank.faults_of array.parts.bank) (g.B.Bank.faults_of new.parts.bank)) array.parts.entries (running_history new.parts) array.parts.members (held-before (g.B.Bank.given array.parts.bank) c.args.backup (running_history array.parts) (running_history new.parts) array.parts.members went.grows (epoch-opening same) c.requires.former.held) went.more went.grown went.losses (told-backup c.requires.former.backup_is went.refusals)) same.uuid same.given same.first (ran-sized went) did.turning on.ensures.told
-    (ArraySize c.in-ArraySize.limit) c.ask_visible.result (λ p asked. going_visible c.in-ArraySize.limit asked) (grows_longer went.grows) did.ended did.tellable (same.backup ∙ c.requires.former.backup_is) did.judged did.left did.asked)))
+    (ArraySize c.in-ArraySize.limit) c.ask_visible.result (λ p asked. going_visible c.in-ArraySize.limit asked) (grows-longer went.grows) did.ended did.tellable (same.backup ∙ c.requires.former.backup_is) did.judged did.left did.asked)))
 
 pub returns-in-Grow-clause-answered : goal.returns-in-Grow-clause-answered
 returns-in-Grow-clause-answered g c =
@@ -174,7 +175,7 @@ returns-in-Grow-clause-answered g c =
     (subst (λ (s : State g.row.B.Denot). IsTurnOrNone (setting_of g.B.Bank.tells (g.B.Bank.given array.parts.bank) (g.B.Bank.tape array.parts.bank) (g.B.Bank.tape (bank_in s)) c.args.backup (g.B.Bank.faults_of array.parts.bank) (g.B.Bank.faults_of (bank_in s))) (IsRunning array c.args.epochs) s (Grow c.in-Grow.wish) on.result.1) (sym on.ensures.state)
     (subst (λ (r : Result Answered NoMemory). IsTurnOrNone (setting_of g.B.Bank.tells (g.B.Bank.given array.parts.bank) (g.B.Bank.tape array.parts.bank) (g.B.Bank.tape new.parts.bank) c.args.backup (g.B.Bank.faults_of array.parts.bank) (g.B.Bank.faults_of new.parts.bank)) (IsRunning array c.args.epochs) (IsRunning new c.args.epochs) (Grow c.in-Grow.wish) r) (sym on.ensures.answer)
     (turn_of_ask (setting_of g.B.Bank.tells (g.B.Bank.given array.parts.bank) (g.B.Bank.tape array.parts.bank) (g.B.Bank.tape new.parts.bank) c.args.backup (g.B.Bank.faults_of array.parts.bank) (g.B.Bank.faults_of new.parts.bank)) array new c.args.epochs c.requires.own (losses-steps (setting_of g.B.Bank.tells (g.B.Bank.given array.parts.bank) (g.B.Bank.tape array.parts.bank) (g.B.Bank.tape new.parts.bank) c.args.backup (g.B.Bank.faults_of array.parts.bank) (g.B.Bank.faults_of new.parts.bank)) array.parts.entries (running_history new.parts) array.parts.members (held-before (g.B.Bank.given array.parts.bank) c.args.backup (running_history array.parts) (running_history new.parts) array.parts.members went.grows (epoch-opening same) c.requires.former.held) went.more went.grown went.losses (told-backup c.requires.former.backup_is went.refusals)) same.uuid same.given same.first (ran-sized went) did.turning on.ensures.told
-    (Grow c.in-Grow.wish) c.ask_grow.result (λ p asked. going_grow c.in-Grow.wish asked) (grows_longer went.grows) did.ended did.tellable (same.backup ∙ c.requires.former.backup_is) did.judged did.left did.asked)))
+    (Grow c.in-Grow.wish) c.ask_grow.result (λ p asked. going_grow c.in-Grow.wish asked) (grows-longer went.grows) did.ended did.tellable (same.backup ∙ c.requires.former.backup_is) did.judged did.left did.asked)))
 
 pub returns-in-Step-clause-answered : goal.returns-in-Step-clause-answered
 returns-in-Step-clause-answered g c =
@@ -188,7 +189,7 @@ returns-in-Step-clause-answered g c =
     (subst (λ (s : State g.row.B.Denot). IsTurnOrNone (setting_of g.B.Bank.tells (g.B.Bank.given array.parts.bank) (g.B.Bank.tape array.parts.bank) (g.B.Bank.tape (bank_in s)) c.args.backup (g.B.Bank.faults_of array.parts.bank) (g.B.Bank.faults_of (bank_in s))) (IsRunning array c.args.epochs) s (Step c.in-Step.most) on.result.1) (sym on.ensures.state)
     (subst (λ (r : Result Answered NoMemory). IsTurnOrNone (setting_of g.B.Bank.tells (g.B.Bank.given array.parts.bank) (g.B.Bank.tape array.parts.bank) (g.B.Bank.tape new.parts.bank) c.args.backup (g.B.Bank.faults_of array.parts.bank) (g.B.Bank.faults_of new.parts.bank)) (IsRunning array c.args.epochs) (IsRunning new c.args.epochs) (Step c.in-Step.most) r) (sym on.ensures.answer)
     (turn_of_ask (setting_of g.B.Bank.tells (g.B.Bank.given array.parts.bank) (g.B.Bank.tape array.parts.bank) (g.B.Bank.tape new.parts.bank) c.args.backup (g.B.Bank.faults_of array.parts.bank) (g.B.Bank.faults_of new.parts.bank)) array new c.args.epochs c.requires.own (losses-steps (setting_of g.B.Bank.tells (g.B.Bank.given array.parts.bank) (g.B.Bank.tape array.parts.bank) (g.B.Bank.tape new.parts.bank) c.args.backup (g.B.Bank.faults_of array.parts.bank) (g.B.Bank.faults_of new.parts.bank)) array.parts.entries (running_history new.parts) array.parts.members (held-before (g.B.Bank.given array.parts.bank) c.args.backup (running_history array.parts) (running_history new.parts) array.parts.members went.grows (epoch-opening same) c.requires.former.held) went.more went.grown went.losses (told-backup c.requires.former.backup_is went.refusals)) same.uuid same.given same.first (ran-sized went) did.turning on.ensures.told
-    (Step c.in-Step.most) c.ask_steps.result (λ p asked. going_steps c.in-Step.most asked) (grows_longer went.grows) did.ended did.tellable (same.backup ∙ c.requires.former.backup_is) did.judged (stepped-asked (list_length array.parts.members.newest) c.in-Step.most array.parts.entries new.parts.entries (g.B.Bank.faults_of array.parts.bank) (g.B.Bank.faults_of new.parts.bank) (record_of array) (record_of new) c.ask_steps.result did.asked did.stepped) did.asked)))
+    (Step c.in-Step.most) c.ask_steps.result (λ p asked. going_steps c.in-Step.most asked) (grows-longer went.grows) did.ended did.tellable (same.backup ∙ c.requires.former.backup_is) did.judged (stepped-asked (list_length array.parts.members.newest) c.in-Step.most array.parts.entries new.parts.entries (g.B.Bank.faults_of array.parts.bank) (g.B.Bank.faults_of new.parts.bank) (record_of array) (record_of new) c.ask_steps.result did.asked did.stepped) did.asked)))
 
 pub returns-in-Wait-clause-answered : goal.returns-in-Wait-clause-answered
 returns-in-Wait-clause-answered g c =
@@ -202,7 +203,7 @@ returns-in-Wait-clause-answered g c =
     (subst (λ (s : State g.row.B.Denot). IsTurnOrNone (setting_of g.B.Bank.tells (g.B.Bank.given array.parts.bank) (g.B.Bank.tape array.parts.bank) (g.B.Bank.tape (bank_in s)) c.args.backup (g.B.Bank.faults_of array.parts.bank) (g.B.Bank.faults_of (bank_in s))) (IsRunning array c.args.epochs) s Wait on.result.1) (sym on.ensures.state)
     (subst (λ (r : Result Answered NoMemory). IsTurnOrNone (setting_of g.B.Bank.tells (g.B.Bank.given array.parts.bank) (g.B.Bank.tape array.parts.bank) (g.B.Bank.tape new.parts.bank) c.args.backup (g.B.Bank.faults_of array.parts.bank) (g.B.Bank.faults_of new.parts.bank)) (IsRunning array c.args.epochs) (IsRunning new c.args.epochs) Wait r) (sym on.ensures.answer)
     (turn_of_wait (setting_of g.B.Bank.tells (g.B.Bank.given array.parts.bank) (g.B.Bank.tape array.parts.bank) (g.B.Bank.tape new.parts.bank) c.args.backup (g.B.Bank.faults_of array.parts.bank) (g.B.Bank.faults_of new.parts.bank)) array new c.args.epochs c.requires.own (losses-steps (setting_of g.B.Bank.tells (g.B.Bank.given array.parts.bank) (g.B.Bank.tape array.parts.bank) (g.B.Bank.tape new.parts.bank) c.args.backup (g.B.Bank.faults_of array.parts.bank) (g.B.Bank.faults_of new.parts.bank)) array.parts.entries (running_history new.parts) array.parts.members (held-before (g.B.Bank.given array.parts.bank) c.args.backup (running_history array.parts) (running_history new.parts) array.parts.members went.grows (epoch-opening same) c.requires.former.held) went.more went.grown went.losses (told-backup c.requires.former.backup_is went.refusals)) same.uuid same.given same.first (ran-sized went) did.turning on.ensures.told
-    c.ask_wait.result (grows_longer went.grows) did.ended did.tellable (same.backup ∙ c.requires.former.backup_is) did.stepped did.asked)))
+    c.ask_wait.result (grows-longer went.grows) did.ended did.tellable (same.backup ∙ c.requires.former.backup_is) did.stepped did.asked)))
 
 pub returns-in-Create-clause-answered : goal.returns-in-Create-clause-answered
 returns-in-Create-clause-answered g c =

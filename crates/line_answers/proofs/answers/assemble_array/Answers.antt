@@ -20,7 +20,7 @@ use Rattle.line_asks.specs.run_laws_the_Answered_TheVariants.{Outside as Answere
 use Rattle.line_asks.specs.run_laws_the_Outside_TheVariants.{Assembled}
 use Rattle.line_asks.specs.run_laws_the_State_TheVariants.{Idle as IsIdle, Running as IsRunning}
 use Rattle.line_asks.proofs.run_laws_Causes.{flushes-grow, grows-none, assemble-refused, backup-known}
-use Rattle.line_asks.proofs.Legal.{grows_longer, idle_grown, accepted-grown, going_begun}
+use Rattle.line_asks.proofs.Legal.{idle_grown, accepted-grown, going_begun}
 use Rattle.line_asks.specs.superblocks_the_Members.{Members}
 use Rattle.line_asks.proofs.CausedLaws.{shown-later}
 use Rattle.line_answers.proofs.Found.{found_here}
@@ -30,6 +30,7 @@ use Rattle.line_asks.specs.run_laws_Histories.{histories_of}
 use Rattle.line_asks.specs.run_laws_Written.{MayWrite, HasWritten, IsWritten}
 use Rattle.line_asks.proofs.Writing.{written_idle, idle_flushes, opened_flushes}
 use Rattle.line_answers.proofs.answers.assemble_array.Goals as goal
+use Rattle.line_asks.proofs.views_SafeStretch.{grows-longer}
 
 pub open_running-requires-clause-backup : goal.open_running-requires-clause-backup
 open_running-requires-clause-backup g c = backup-known (g.B.Bank.given c.args.bank).slots c.args.backup c.requires.bank.last
@@ -49,7 +50,7 @@ returns-in-Ok-status-clause-answered g c =
     subst (λ (b : g.row.B.Denot). IsTurn (setting_of g.B.Bank.tells (g.B.Bank.given c.args.bank) (g.B.Bank.tape c.args.bank) (g.B.Bank.tape b) c.args.backup (g.B.Bank.faults_of c.args.bank) (g.B.Bank.faults_of b)) (IsIdle c.args.bank c.args.epochs) (IsRunning array c.has_room.new.epochs) (AsksAssemble c.args.uuid) (AnsweredOutside (Assembled c.next_epoch-epoch.result c.in-Ok-status.status))) (sym told.bank)
     (subst (λ (n : ℕ). IsTurn setting (IsIdle c.args.bank c.args.epochs) (IsRunning array c.has_room.new.epochs) (AsksAssemble c.args.uuid) (AnsweredOutside (Assembled n c.in-Ok-status.status))) (sym c.next_epoch-epoch.ensures)
     (turn_found setting c.args.bank c.args.epochs c.has_room.new.epochs c.has_room.ensures.same c.requires.own array
-    (c.has_room.ensures.room yes) (c.has_room.ensures.few yes) (grows_longer (flushes-grow did.tape)) found c.args.uuid (found_here (g.B.Bank.given c.args.bank) (g.B.Bank.tape found.parts.bank) c.args.backup c.args.uuid found did.found) told.same.array.uuid told.same.array.given told.same.array.first c.in-Ok-status.status told.told
+    (c.has_room.ensures.room yes) (c.has_room.ensures.few yes) (grows-longer (flushes-grow did.tape)) found c.args.uuid (found_here (g.B.Bank.given c.args.bank) (g.B.Bank.tape found.parts.bank) c.args.backup c.args.uuid found did.found) told.same.array.uuid told.same.array.given told.same.array.first c.in-Ok-status.status told.told
     (subst (λ (w : Who). IsEntered g.B.Bank.tells (g.B.Bank.tape found.parts.bank) w found.parts.entries array.parts.entries (Shown c.in-Ok-status.status ∷ [])) c.script_call-who.ensures told.entered) told.members told.same.ahead told.same.array.backup
     (shown-later found array told.members told.work told.course told.same.ahead told.same.limit c.in-Ok-status.status told.told)))
 
@@ -67,7 +68,7 @@ returns-in-Refused-clause-answered g c =
     let tape = g.B.Bank.tape left in
     let setting = setting_of g.B.Bank.tells (g.B.Bank.given c.args.bank) (g.B.Bank.tape c.args.bank) (g.B.Bank.tape left) c.args.backup (g.B.Bank.faults_of c.args.bank) (g.B.Bank.faults_of left) in
     subst (λ (what : Answered). IsTurn setting (IsIdle c.args.bank c.args.epochs) (IsIdle left c.has_room.new.epochs) (AsksAssemble c.args.uuid) what) (sym c.refused.ensures)
-    (turn_idle setting c.args.bank c.args.epochs c.has_room.new.epochs c.has_room.ensures.same c.requires.own left (AsksAssemble c.args.uuid) c.in-Refused.refusal (grows_longer (flushes-grow did.left_tape))
+    (turn_idle setting c.args.bank c.args.epochs c.has_room.new.epochs c.has_room.ensures.same c.requires.own left (AsksAssemble c.args.uuid) c.in-Refused.refusal (grows-longer (flushes-grow did.left_tape))
     (subst (λ (f : Fault). HasFoundNone g.B.Bank.tells given (contents given.start tape (length tape)) c.args.backup c.args.uuid (g.B.Bank.faults_of c.args.bank) (g.B.Bank.faults_of left) f) c.in-Refused.is
     (assemble-refused given c.args.backup c.args.uuid (g.B.Bank.tape c.args.bank) tape c.in-Err.left.1 did.left_counts.never_falls did.left_tape did.refused)))
 

@@ -13,7 +13,7 @@ use Rattle.line_asks.specs.run_laws_States.{IsTurn, running_history}
 use Rattle.line_asks.specs.run_laws_the_Answered.{Answered}
 use Rattle.line_asks.specs.run_laws_the_State_TheVariants.{Idle as IsIdle}
 use Rattle.line_asks.proofs.run_laws_Causes.{below-grows, below-present, grows-none, create-refused, used-same}
-use Rattle.line_asks.proofs.Legal.{grows_longer, idle_grown, going_begun}
+use Rattle.line_asks.proofs.Legal.{idle_grown, going_begun}
 use Rattle.line_answers.proofs.Found.{opened_accepted, opened_held}
 use Rattle.line_answers.proofs.Turns.{turn_created, turn_idle, no_turn_idle}
 use Rattle.line_asks.specs.run_laws_the_Answered_TheVariants.{Outside as IsOutside}
@@ -24,6 +24,7 @@ use Rattle.line_asks.specs.run_laws_Histories.{histories_of}
 use Rattle.line_asks.specs.run_laws_Written.{MayWrite, HasWritten, IsWritten}
 use Rattle.line_asks.proofs.Writing.{written_idle, opened_below, create_refused, create_short}
 use Rattle.line_answers.proofs.answers.create_array.Goals as goal
+use Rattle.line_asks.proofs.views_SafeStretch.{grows-longer}
 
 pub returns-then-not-has_room-clause-answered : goal.returns-then-not-has_room-clause-answered
 returns-then-not-has_room-clause-answered g c =
@@ -37,7 +38,7 @@ returns-in-Ok-clause-answered g c =
     let before = g.B.Bank.tape c.args.bank in
     let after = g.B.Bank.tape c.in-Ok.array.parts.bank in
     turn_created (setting_of g.B.Bank.tells (g.B.Bank.given c.args.bank) (g.B.Bank.tape c.args.bank) (g.B.Bank.tape c.in-Ok.array.parts.bank) c.args.backup (g.B.Bank.faults_of c.args.bank) (g.B.Bank.faults_of c.in-Ok.array.parts.bank)) c.args.bank c.args.epochs c.has_room.new.epochs c.has_room.ensures.same c.requires.own c.in-Ok.array
-    (c.has_room.ensures.room yes) (c.has_room.ensures.few yes) (grows_longer (below-grows did.tape)) c.args.line did.unrefused did.created did.planless did.unlimited
+    (c.has_room.ensures.room yes) (c.has_room.ensures.few yes) (grows-longer (below-grows did.tape)) c.args.line did.unrefused did.created did.planless did.unlimited
     (λ t. used-same (scope_of given c.args.backup c.in-Ok.array.parts.given c.args.line.uuid) (contents given.start before (length before)) (contents given.start after (length after)) c.args.line.shape.disks
     (below-present given.start c.args.line.shape.disks before after (did.tape t)) ∙ did.free t)
 
@@ -49,7 +50,7 @@ returns-in-Refused-clause-answered g c =
     let tape = g.B.Bank.tape left in
     let setting = setting_of g.B.Bank.tells (g.B.Bank.given c.args.bank) (g.B.Bank.tape c.args.bank) (g.B.Bank.tape left) c.args.backup (g.B.Bank.faults_of c.args.bank) (g.B.Bank.faults_of left) in
     subst (λ (what : Answered). IsTurn setting (IsIdle c.args.bank c.args.epochs) (IsIdle left c.has_room.new.epochs) (AsksCreate c.args.line) what) (sym c.refused.ensures)
-    (turn_idle setting c.args.bank c.args.epochs c.has_room.new.epochs c.has_room.ensures.same c.requires.own left (AsksCreate c.args.line) c.in-Refused.refusal (grows_longer (below-grows did.left_tape))
+    (turn_idle setting c.args.bank c.args.epochs c.has_room.new.epochs c.has_room.ensures.same c.requires.own left (AsksCreate c.args.line) c.in-Refused.refusal (grows-longer (below-grows did.left_tape))
     (subst (λ (f : Fault). HasCreateCause g.B.Bank.tells given (contents given.start tape (length tape)) c.args.backup (spec_of c.args.line) (g.B.Bank.faults_of c.args.bank) (g.B.Bank.faults_of left) f) c.in-Refused.is
     (create-refused given c.args.backup (spec_of c.args.line) (g.B.Bank.tape c.args.bank) tape c.in-Err.left.1 did.left_counts.never_falls did.left_tape did.refused)))
 

@@ -17,7 +17,7 @@ use Rattle.line_asks.specs.running_replies_Replies.{IsRefusalToldBy}
 use Rattle.line_asks.specs.bank_Given.{Given}
 use Rattle.line_asks.specs.run_laws_Ended.{IfReliable, IfShapeKept}
 use Rattle.line_asks.specs.still_laws_Plain.{IsPlainEpoch}
-use Rattle.line_asks.proofs.Legal.{grows_longer, going_grown, former_more, legal_epoch}
+use Rattle.line_asks.proofs.Legal.{going_grown, former_more, legal_epoch}
 use Rattle.line_asks.proofs.Sizes.{sized-none, sized-behind}
 use Rattle.line_asks.proofs.run_laws_Told.{told_none, told_behind, stop_told}
 use Rattle.line_asks.proofs.run_laws_Losses.{losses-of, held-before, on-lost}
@@ -32,6 +32,7 @@ use Rattle.line_answers.proofs.Turns.{turn_ended, turn_asked, no_turn, at_the_en
 use Rattle.line_asks.specs.run_laws_Written.{HasWritten}
 use Rattle.line_asks.proofs.Writing.{written_ended, written_going}
 use Rattle.line_answers.proofs.answers.stop_array.Goals as goal
+use Rattle.line_asks.proofs.views_SafeStretch.{grows-longer}
 
 pub overflow_sub-len : goal.overflow_sub-len
 overflow_sub-len g c = subst (λ n. 1 ≤ n) (sym c.len.ensures) (behind_grew c.script_call-who.result c.in-Ok.ensures.stopped)
@@ -50,7 +51,7 @@ returns-in-Ok-clause-answered g c =
     let asked = asked_stop (list_length array.parts.members.newest) (c.len.result - 1) c.script_call-who.result c.script_call-who.ensures did.stopped (place _ _ grew c.len.ensures) in
     subst (λ (what : Answered). IsTurn setting (IsRunning array c.args.epochs) (IsIdle c.in-Ok.ended.0 c.push_reserved.new.self) AsksStop what) (sym c.inside-what.ensures)
     (turn_ended setting array epoch c.in-Ok.ended.0 c.args.epochs c.push_reserved.new.self items c.requires.own (losses-of setting (history_of epoch) (held-before (g.B.Bank.given array.parts.bank) c.args.backup (running_history array.parts) (history_of epoch) array.parts.members did.grows (record { uuid = did.uuid; given = did.slots; first = did.first }) c.requires.former.held) did.losses (told_behind c.args.backup (g.B.Bank.faults_of array.parts.bank) (g.B.Bank.faults_of c.in-Ok.ended.0) did.stopped tt)) did.uuid did.slots did.first AsksStop (c.len.result - 1) asked.0 (asked-tellable asked.0 (stop-told asked.0.event asked.0.fits)) tt
-    (λ t. at_the_end setting array.parts.entries epoch.entries.items asked.0 epoch.first t (grows_longer did.grows t) did.ended) (ap (λ (e : Event). is_end e) (asked.1)))
+    (λ t. at_the_end setting array.parts.entries epoch.entries.items asked.0 epoch.first t (grows-longer did.grows t) did.ended) (ap (λ (e : Event). is_end e) (asked.1)))
 
 pub last_place-requires : goal.last_place-requires
 last_place-requires g c =
@@ -84,7 +85,7 @@ returns-in-Refused-clause-answered g c =
     (asked-tellable asked.0 (stop-told asked.0.event asked.0.fits)) (same.backup ∙ c.requires.former.backup_is)
     (unjudged-asked size AsksStop array.parts.entries left.parts.entries setting.given (record_of array) (Ok c.last_place.result) asked.0 (λ event. tt))
     (left-unstopped setting.before setting.now array left asked.0 _ asked.1 (left-called did.called did.left_active did.left_failed)
-    (subst (λ (f : Fault). IsFaultFor size 0 AreTooMany array.parts.members left.parts.members f) c.in-Refused.is did.caused)) (λ t. at_the_end setting array.parts.entries left.parts.entries asked.0 left.parts.first t (grows_longer did.called.grows t) did.called.ended) (ap (λ (e : Event). is_end e) (asked.1)))
+    (subst (λ (f : Fault). IsFaultFor size 0 AreTooMany array.parts.members left.parts.members f) c.in-Refused.is did.caused)) (λ t. at_the_end setting array.parts.entries left.parts.entries asked.0 left.parts.first t (grows-longer did.called.grows t) did.called.ended) (ap (λ (e : Event). is_end e) (asked.1)))
 
 pub returns-in-Ok-clause-former : goal.returns-in-Ok-clause-former
 returns-in-Ok-clause-former g c =
@@ -120,7 +121,7 @@ returns-in-Ok-clause-written g c told =
     let did = c.in-Ok.ensures in
     let items : c.push_reserved.new.self.items ≡ c.args.epochs.items ++ epoch ∷ [] = c.push_reserved.ensures.items in
     let setting = setting_of g.B.Bank.tells (g.B.Bank.given array.parts.bank) (g.B.Bank.tape array.parts.bank) (g.B.Bank.tape c.in-Ok.ended.0) c.args.backup (g.B.Bank.faults_of array.parts.bank) (g.B.Bank.faults_of c.in-Ok.ended.0) in
-    written_ended setting array c.in-Ok.ended.0 epoch c.args.epochs c.push_reserved.new.self (HasWritten (g.B.Bank.given array.parts.bank) c.args.backup AsksStop _) items did.first (c.requires.former.begun told) (grows_longer did.grows told)
+    written_ended setting array c.in-Ok.ended.0 epoch c.args.epochs c.push_reserved.new.self (HasWritten (g.B.Bank.given array.parts.bank) c.args.backup AsksStop _) items did.first (c.requires.former.begun told) (grows-longer did.grows told)
     (c.requires.former.ended told) (did.ended told)
 
 pub returns-in-NoMemory-clause-written : goal.returns-in-NoMemory-clause-written

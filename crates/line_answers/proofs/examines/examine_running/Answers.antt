@@ -9,9 +9,10 @@ use Rattle.line_asks.specs.run_laws_States.{IsTurn, histories_in}
 use Rattle.line_asks.specs.run_laws_Written.{IsWritten, HasWritten}
 use Rattle.line_asks.specs.run_laws_the_Answered.{Answered}
 use Rattle.line_asks.specs.run_laws_the_State_TheVariants.{Running as IsRunning}
-use Rattle.line_answers.proofs.Examined.{grows_same, looked_at, failed_at, unexamined_running, examined_running}
+use Rattle.line_answers.proofs.Examined.{looked_at, failed_at, unexamined_running, examined_running}
 use Rattle.line_asks.proofs.Writing.{written-nothing}
 use Rattle.line_answers.proofs.examines.examine_running.Goals as goal
+use Rattle.line_asks.proofs.views_MovedLaws.{grows-none}
 
 pub returns-then-slot-slots-clause-answered : goal.returns-then-slot-slots-clause-answered
 returns-then-slot-slots-clause-answered g c =
@@ -48,4 +49,4 @@ returns-clause-written g c told =
     (written-nothing setting (histories_in (IsRunning array c.args.epochs)) (HasWritten (g.B.Bank.given array.parts.bank) c.args.backup (Examine c.args.slot) c.told.result) (omega (arith, ap (λ (l : List Operation). length l) (did.tape told))))
 
 pub returns-clause-grows : goal.returns-clause-grows
-returns-clause-grows g c = grows_same c.examine-found.ensures.tape
+returns-clause-grows g c = grows-none c.examine-found.ensures.tape

@@ -13,11 +13,12 @@ use Rattle.run_sessions.specs.Sessions.{IsTurnStep}
 use Rattle.block_answers.specs.run_laws_the_LineReply.{LineReply}
 use Rattle.run_sessions.specs.declared.sessions.Session.{Session}
 use Rattle.block_answers.specs.run_laws_the_State_TheVariants.{Idle}
-use Rattle.block_answers.proofs.run_laws_Causes.{grows-none, grows-then}
+use Rattle.block_answers.proofs.run_laws_Causes.{grows-none}
+use Rattle.block_answers.proofs.views_MovedLaws.{grows-then}
 use Rattle.block_answers.proofs.line_asks_Legal.{former_none}
 use Rattle.run_sessions.proofs.Showing.{none-stopped}
 use Rattle.run_sessions.proofs.Steps.{performed_none, shown_none, turn_step, turn_count}
-use Rattle.run_sessions.proofs.Unmoved.{none-former, grows-same}
+use Rattle.run_sessions.proofs.Unmoved.{grows-same}
 use Rattle.run_sessions.proofs.sessions.perform.Goals as goal
 
 -- the lines from this one on
@@ -107,7 +108,7 @@ returns-then-is_some-clause-grows g c = grows-then c.loop-next.invariant.grows c
 
 pub returns-in_default-clause-former : goal.returns-in_default-clause-former
 returns-in_default-clause-former g c told =
-    none-former (g.B.Bank.given c.args.bank) (g.B.Bank.tape c.args.bank) c.args.backup (length (g.B.Bank.tape c.args.bank)) c.new.result.items c.new.ensures.items
+    former_none (g.B.Bank.given c.args.bank) (g.B.Bank.tape c.args.bank) c.args.backup (length (g.B.Bank.tape c.args.bank)) c.new.result.items c.new.ensures.items
 
 pub returns-in_default-clause-grows : goal.returns-in_default-clause-grows
 returns-in_default-clause-grows g c = grows-same refl

@@ -7,9 +7,10 @@ use Rattle.running_replies.proofs.Fitting.{fits-add}
 use Rattle.running_calls.proofs.Plain.{IsCallAnswered, answered-so, told-answer}
 use Rattle.running_calls.proofs.Told.{told-answered, add-told}
 use Rattle.running_calls.proofs.GoneOn.{plain-added, gone-added}
-use Rattle.running_calls.proofs.Arms.{ok-any, told-unchanged}
+use Rattle.running_calls.proofs.Arms.{told-unchanged}
 use Rattle.running_calls.proofs.performing.add.Given.{Over}
 use Rattle.running_calls.proofs.performing.add.Goals as goal
+use Rattle.openings.proofs.Handed.{ok-any}
 
 entered : (g : Over) (c : goal.After-told g)
     → IsCallAnswered (list_length c.args.array.now.parts.members.newest) (AsksAdd c.args.slot) c.args.who c.args.array.now.parts.entries c.add-answer.new.array.parts.entries (Added c.args.slot) c.add-answer.result

@@ -3,10 +3,11 @@ use Rattle.std.specs.Prelude.{⊤}
 use Rattle.call_entries.specs.flat_history_the_Request.{Request}
 use Rattle.call_entries.specs.flat_history_the_Request_TheVariants.{Read as AsksRead, Write as AsksWrite, Flush as AsksFlush, Fail as AsksFail, Add as AsksAdd, Visible as AsksVisible, Grow as AsksGrow, Steps as AsksSteps, Show as AsksShow}
 use Rattle.running_calls.specs.Replies.{IsAskable}
-use Rattle.running_calls.proofs.Arms.{ok-any, performed-as, counted-as, rests-as}
+use Rattle.running_calls.proofs.Arms.{performed-as, counted-as, rests-as}
 use Rattle.running_calls.proofs.GoneOn.{gone-run}
 use Rattle.running_calls.proofs.Ways.{way-stepped}
 use Rattle.running_calls.proofs.performing.answer.Goals as goal
+use Rattle.openings.proofs.Handed.{ok-any}
 
 pub returns-in-Steps-clause-went : goal.returns-in-Steps-clause-went
 returns-in-Steps-clause-went g c =

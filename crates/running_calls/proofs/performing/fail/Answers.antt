@@ -7,9 +7,10 @@ use Rattle.running_replies.proofs.Fitting.{fits-fail}
 use Rattle.running_calls.proofs.Plain.{IsCallAnswered, answered-so, told-answer}
 use Rattle.running_calls.proofs.Told.{told-answered, fail-told}
 use Rattle.running_calls.proofs.GoneOn.{plain-called, gone-answered}
-use Rattle.running_calls.proofs.Arms.{ok-any, told-unchanged}
+use Rattle.running_calls.proofs.Arms.{told-unchanged}
 use Rattle.running_calls.proofs.performing.fail.Given.{Over}
 use Rattle.running_calls.proofs.performing.fail.Goals as goal
+use Rattle.openings.proofs.Handed.{ok-any}
 
 entered : (g : Over) (c : goal.After-told g)
     → IsCallAnswered (list_length c.args.array.now.parts.members.newest) (AsksFail c.args.role) c.args.who c.args.array.now.parts.entries c.fail-answer.new.array.parts.entries (Failed c.args.role) c.fail-answer.result

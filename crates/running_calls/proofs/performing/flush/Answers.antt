@@ -7,9 +7,10 @@ use Rattle.running_replies.proofs.Fitting.{fits-flush}
 use Rattle.running_calls.proofs.Plain.{IsCallAnswered, answered-so, told-answer}
 use Rattle.running_calls.proofs.Told.{told-answered, flush-told}
 use Rattle.running_calls.proofs.GoneOn.{plain-called, gone-answered}
-use Rattle.running_calls.proofs.Arms.{ok-any, told-unchanged}
+use Rattle.running_calls.proofs.Arms.{told-unchanged}
 use Rattle.running_calls.proofs.performing.flush.Given.{Over}
 use Rattle.running_calls.proofs.performing.flush.Goals as goal
+use Rattle.openings.proofs.Handed.{ok-any}
 
 entered : (g : Over) (c : goal.After-told g) → IsCallAnswered (list_length c.args.array.now.parts.members.newest) AsksFlush c.args.who c.args.array.now.parts.entries c.flush-answer.new.array.parts.entries Flushed c.flush-answer.result
 entered g c =

@@ -9,9 +9,10 @@ use Rattle.running_replies.proofs.Fitting.{fits-read}
 use Rattle.running_calls.proofs.Plain.{IsCallAnswered, answered-so, told-answer}
 use Rattle.running_calls.proofs.Told.{told-answered, read-told}
 use Rattle.running_calls.proofs.GoneOn.{gone-none, plain-called, gone-answered}
-use Rattle.running_calls.proofs.Arms.{ok-any, told-unchanged}
+use Rattle.running_calls.proofs.Arms.{told-unchanged}
 use Rattle.running_calls.proofs.performing.read.Given.{Over}
 use Rattle.running_calls.proofs.performing.read.Goals as goal
+use Rattle.openings.proofs.Handed.{ok-any}
 
 sectors_in : (n len : ℕ) → len ≡ n * 512 → len / 512 ≡ n
 sectors_in n len is = omega (arith, is)

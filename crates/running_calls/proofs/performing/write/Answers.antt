@@ -20,9 +20,10 @@ use Rattle.openings.specs.moving_laws_Writing.{IsWriteReplied}
 use Rattle.running_calls.proofs.Plain.{IsCallAnswered, answered-written, told-answer}
 use Rattle.running_calls.proofs.Told.{told-answered, write-told, backup-failed}
 use Rattle.running_calls.proofs.GoneOn.{plain-called, gone-answered}
-use Rattle.running_calls.proofs.Arms.{ok-any, told-unchanged}
+use Rattle.running_calls.proofs.Arms.{told-unchanged}
 use Rattle.running_calls.proofs.performing.write.Given.{Over}
 use Rattle.running_calls.proofs.performing.write.Goals as goal
+use Rattle.openings.proofs.Handed.{ok-any}
 
 count_in : (bytes : List ℕ) (body : List Sector) → sectors_of bytes ≡ body → length bytes / 512 ≡ length body
 count_in bytes body is = sym (length-sectors_of bytes) ∙ ap (λ (l : List Sector). length l) is
