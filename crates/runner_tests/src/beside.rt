@@ -1,6 +1,6 @@
 //! That the worker runs beside the lanes.
 
-ghost use Rattle.std.specs.Prelude.◌≡◌;
+ghost use Rattle.std.specs.Prelude.{◌≡◌};
 
 use crate::runs::{PLAIN, Row, bank_of, source_of};
 use door_bank::Words;
