@@ -161,7 +161,3 @@ demo_for (Demo size) = Some size
 -- that of the words
 abbrev pub demo_in : List Text → Option ℕ
 demo_in words = option_map_or demo_for (command_in words) None
-
--- the size of a demo is from 1 to 64
-abbrev pub IsDemoSize : ℕ → Type 0
-IsDemoSize size = (1 ≤ size) × (size ≤ 64)

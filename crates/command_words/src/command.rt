@@ -1,7 +1,8 @@
 //! The command that the words name.
 
 ghost use Rattle.std.specs.Prelude.{◌≡◌, true, false, map, option_map, string_bytes, IfOk, IfSome, OnErr};
-ghost use Rattle.command_words.specs.Words.{asked_by, command_in, is_memory, is_run, is_demo, is_parsed, demo_for, IsDemoSize};
+ghost use Rattle.demo_script.specs.Demo.{IsDemoSize};
+ghost use Rattle.command_words.specs.Words.{asked_by, command_in, is_memory, is_run, is_demo, is_parsed, demo_for};
 
 use crate::paths::{Paths, paths_of};
 use crate::sizes::demo_size;

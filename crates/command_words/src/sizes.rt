@@ -2,7 +2,8 @@
 
 ghost use Rattle.std.specs.Prelude.{◌≡◌, map, string_bytes, IfOk, IfSome};
 ghost use Rattle.clap.specs.Words.{found_of, rows_of};
-ghost use Rattle.command_words.specs.Words.{size_of, size_found, size_in, IsDemoSize};
+ghost use Rattle.demo_script.specs.Demo.{IsDemoSize};
+ghost use Rattle.command_words.specs.Words.{size_of, size_found, size_in};
 
 use crate::parsing::parse_demo;
 use clap::ArgMatches;

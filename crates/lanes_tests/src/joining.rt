@@ -10,6 +10,7 @@ use bank::Bank;
 use flat_history::{Epoch, Request};
 use lanes::{Joined, Pace, Reply, Running, Worked, run_block};
 use md_base::Who;
+use running_calls::status;
 use std::alloc::Global;
 use std::sync::Wait;
 use std::test::Fail;
@@ -49,7 +50,7 @@ fn shown<B: Bank>(array: Running<B>) -> Running<B>
 {
     let mut array = array;
     let number = array.next_number(0);
-    let _ = array.status(Who { caller: 0, number });
+    let _ = status(&mut array, Who { caller: 0, number });
     array
 }
 

@@ -7,6 +7,7 @@ use bank::{Bank, MemoryBank};
 use flat_history::{Epoch, Event, Request};
 use lanes::{CreateSpec, Reply, Running, create_array, open_running, perform};
 use md_base::{Sectors, Shape, Who, Wish};
+use running_calls::halt;
 use std::alloc::Global;
 use std::test::Fail;
 
@@ -101,7 +102,7 @@ fn next_call<B: Bank>(array: &Running<B>) -> Who
 /// The bank of an array that is halted, and what became of it.
 pub(crate) fn halted<B: Bank>(array: Running<B>) -> (B, Epoch) {
     let who = next_call(&array);
-    array.halt(who)
+    halt(array, who)
 }
 
 // Whether a reply tells that the request was done.

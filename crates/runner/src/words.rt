@@ -4,7 +4,8 @@ ghost use Rattle.std.specs.Prelude.{◌≡◌, ◌⊎◌, ◌<◌, ◌≤◌, �
 ghost use Rattle.script_runs.specs.bank_Given.{NeverFalls};
 ghost use Rattle.script_runs.specs.views_Moving.{Grows};
 ghost use Rattle.script_runs.specs.text_io_Causes.{HasRisen};
-ghost use Rattle.command_words.specs.Words.{asked_by as asked_of, command_in, is_parsed, slots_for, backup_in, demo_for, demo_in, IsDemoSize};
+ghost use Rattle.script_runs.specs.demo_script_Demo.{IsDemoSize};
+ghost use Rattle.command_words.specs.Words.{asked_by as asked_of, command_in, is_parsed, slots_for, backup_in, demo_for, demo_in};
 ghost use Rattle.script_runs.specs.lanes_Pace.{AnswersSteps, asked_by};
 ghost use Rattle.script_runs.specs.run_laws_Ended.{AreLegal, AreRight};
 ghost use Rattle.script_runs.specs.Kept.{AreKept};

@@ -8,3 +8,4 @@ pub use Rattle.run_sessions.specs.run_laws_Making
 pub use Rattle.run_sessions.specs.run_laws_States
 pub use Rattle.reopened_laws.specs.bank_Given
 pub use Rattle.run_sessions.specs.text_io_Causes
+pub use Rattle.demo_script.specs.Demo as demo_script_Demo

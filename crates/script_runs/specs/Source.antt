@@ -30,7 +30,3 @@ pub record IsPiece (tells : Type 0) (old new text longer : List ℕ) (room pulle
 -- only a source whose count of failures rose is called failed
 abbrev pub IsCaused : ℕ → ℕ → TextFault → Type 0
 IsCaused before now fault = fault ≡ Failed → HasRisen before now
-
--- how large a demo may be, as `command_words` has it
-abbrev pub IsDemoSize : ℕ → Type 0
-IsDemoSize size = (1 ≤ size) × (size ≤ 64)

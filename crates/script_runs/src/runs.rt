@@ -5,6 +5,7 @@ ghost use Rattle.std.specs.List.{AllPass};
 ghost use Rattle.reopened_laws.specs.bank_Given.{NeverFalls};
 ghost use Rattle.run_sessions.specs.views_Moving.{Grows};
 ghost use Rattle.run_sessions.specs.text_io_Causes.{HasRisen};
+ghost use Rattle.demo_script.specs.Demo.{IsDemoSize};
 ghost use Rattle.demo_script.specs.script_Script.{is_within_limits, may_ask, are_in_turn};
 ghost use Rattle.demo_script.specs.script_the_Lane_TheVariants.{Script as InScript};
 ghost use Rattle.run_sessions.specs.lanes_Pace.{AnswersSteps, asked_by};

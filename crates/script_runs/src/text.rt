@@ -1,6 +1,7 @@
 // The text of a script is read whole before any of it is performed.
 ghost use Rattle.std.specs.Prelude.{◌≡◌, ◌<◌, ◌≤◌, length, IfOk, IfErr, IfSome};
-ghost use Rattle.script_runs.specs.Source.{IsDemoSize, IsTextOf, IsTextFor, IsPiece, IsCaused};
+ghost use Rattle.demo_script.specs.Demo.{IsDemoSize};
+ghost use Rattle.script_runs.specs.Source.{IsTextOf, IsTextFor, IsPiece, IsCaused};
 
 use demo_script::demo_text;
 use run_sessions::Source;
