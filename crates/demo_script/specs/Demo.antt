@@ -1,5 +1,5 @@
 -- The script that a demo performs: what it writes, how it grows beside two lanes, and what is read behind it.
-use Rattle.std.specs.Prelude.{ℕ, zero, suc, ◌≤◌, ◌×◌, ◌+◌, ◌-◌, ◌*◌, List, [], ◌++◌, codes, decimal}
+use Rattle.std.specs.Prelude.{ℕ, zero, suc, ◌≤◌, ◌+◌, ◌-◌, ◌*◌, List, [], ◌++◌, codes, decimal}
 
 -- the size of a demo is from 1 to 64
 abbrev pub IsDemoSize : ℕ → Type 0
