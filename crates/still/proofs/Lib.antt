@@ -78,3 +78,4 @@ pub use Rattle.pieces.proofs.views_MemberLaws
 pub use Rattle.pieces.proofs.views_MovedLaws
 pub use Rattle.pieces.proofs.views_SafeStretch
 pub use Rattle.pieces.proofs.views_Still
+pub use Rattle.array_state.proofs.md_base_Least
