@@ -2,14 +2,14 @@
 use Rattle.std.proofs.Common.{◌≡◌, ◌≢◌, ℕ, zero, suc, ◌^◌, ◌<◌, ◌≤◌, ◌==◌, ◌⊎◌, inl, inr, Bool, true, false, not, ◌&&◌, cond, nat_le, nat_lt, Option, Some, None, refl, sym, ◌∙◌, ap, ap₂, arith, eq-or-lt_of_le, le_of_suc-le-suc}
 use Rattle.std.proofs.lemmas.Bool.Decides.{nat_tests}
 use Rattle.std.specs.Option.{option_or}
-use Rattle.array_kept.specs.md_base_Search.{least_below}
-use Rattle.array_kept.specs.md_base_Shapes.{is_valid_shape, is_level, is_layout, is_chunk, is_disk_count, is_multiple}
-use Rattle.array_kept.specs.md_base_the_ShapeField_TheVariants.{Level, Layout, Chunk, Disks, Size, Offset}
+use Rattle.found_members.specs.md_base_Search.{least_below}
+use Rattle.found_members.specs.md_base_Shapes.{is_valid_shape, is_level, is_layout, is_chunk, is_disk_count, is_multiple}
+use Rattle.found_members.specs.md_base_the_ShapeField_TheVariants.{Level, Layout, Chunk, Disks, Size, Offset}
 use Rattle.bank.proofs.md_base_Least.{least_below-none}
 use Rattle.bank.specs.Given.{Given}
 use Rattle.assemble.specs.declared.spec.CreateSpec.{CreateSpec}
 use Rattle.assemble.specs.Creating.{member_slots, is_row_count, is_offset, bad_field, rows_end, short_member, HasRoom, IsLastSlot}
-use Rattle.array_kept.specs.superblocks_Reading.{is_backup}
+use Rattle.found_members.specs.superblocks_Reading.{is_backup}
 
 -- ---- the least number that passes
 

@@ -8,20 +8,20 @@ use Rattle.std.proofs.lemmas.Bool.Decides.{nat_tests}
 use Rattle.std.proofs.lemmas.Slice.Eq.{bytes_eq-Decides}
 use Rattle.bank.specs.md_base_the_Fault.{Fault}
 use Rattle.bank.specs.md_base_the_Fault_TheVariants.{Refused, NoMemory}
-use Rattle.array_kept.specs.md_base_the_Refusal.{Refusal}
-use Rattle.array_kept.specs.md_base_the_Refusal_TheVariants.{NoSuperblock, BackupAbsent, MembersMissing}
-use Rattle.array_kept.specs.md_base_the_Shape.{Shape}
-use Rattle.array_kept.specs.md_base_Shapes.{has_slot, tolerance}
-use Rattle.array_kept.specs.sb1_the_Sb.{Sb}
+use Rattle.found_members.specs.md_base_the_Refusal.{Refusal}
+use Rattle.found_members.specs.md_base_the_Refusal_TheVariants.{NoSuperblock, BackupAbsent, MembersMissing}
+use Rattle.found_members.specs.md_base_the_Shape.{Shape}
+use Rattle.found_members.specs.md_base_Shapes.{has_slot, tolerance}
+use Rattle.found_members.specs.sb1_the_Sb.{Sb}
 use Rattle.bank.specs.Given.{Given, sizes}
 use Rattle.bank.specs.Tape.{Contents}
-use Rattle.array_kept.specs.superblocks_the_Members.{Members}
-use Rattle.array_kept.specs.superblocks_Reading.{Scope, Reading, reading, reading_of, reading_by, newest_of, newer, of_array, superblocks, seen_superblock, is_backup, is_reshaping, shape_of, final_shape, target_of, shapes_in_force}
-use Rattle.array_kept.specs.superblocks_Verdict.{members_refusal, members_verdict, first_of_all, fresh_from, unsupported, bad_field, two_holders, members_missing, missing_count, too_many, dirty_degraded, off_unit, AreValidShapes}
-use Rattle.array_kept.specs.superblocks_Election.{seen_superblocks, uuid_for, reading_in, IsElected}
-use Rattle.array_kept.specs.superblocks_Writing.{AreWritable}
-use Rattle.array_kept.specs.superblocks_Found.{AreInSectors}
-use Rattle.array_kept.proofs.superblocks_ValidFields.{valid-shapes}
+use Rattle.found_members.specs.superblocks_the_Members.{Members}
+use Rattle.found_members.specs.superblocks_Reading.{Scope, Reading, reading, reading_of, reading_by, newest_of, newer, of_array, superblocks, seen_superblock, is_backup, is_reshaping, shape_of, final_shape, target_of, shapes_in_force}
+use Rattle.found_members.specs.superblocks_Verdict.{members_refusal, members_verdict, first_of_all, fresh_from, unsupported, bad_field, two_holders, members_missing, missing_count, too_many, dirty_degraded, off_unit, AreValidShapes}
+use Rattle.found_members.specs.superblocks_Election.{seen_superblocks, uuid_for, reading_in, IsElected}
+use Rattle.found_members.specs.superblocks_Writing.{AreWritable}
+use Rattle.found_members.specs.superblocks_Found.{AreInSectors}
+use Rattle.found_members.proofs.superblocks_ValidFields.{valid-shapes}
 use Rattle.election.proofs.Elected.{map-tabulate}
 use Rattle.safe_additions.specs.shape_views_Regions.{DoWithout}
 use Rattle.safe_additions.specs.flat_history_Stands.{verdict, refusal_of, backup_absent, has_room, reach_of}

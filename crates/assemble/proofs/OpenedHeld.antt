@@ -2,26 +2,26 @@
 use Rattle.std.proofs.Common.{◌≡◌, ℕ, ◌≤◌, ◌<◌, Bool, true, false, cond, not, ◌||◌, ◌&&◌, nat_lt, nat_le, List, [], ◌∷◌, ◌++◌, length, get_or, Option, Some, None, refl, sym, ◌∙◌, ap, ap₂, subst}
 use Rattle.std.specs.Option.{option_or, option_map_or}
 use Rattle.std.proofs.lemmas.List.{get_or-take}
-use Rattle.array_kept.specs.md_base_the_Refusal.{Refusal}
-use Rattle.array_kept.specs.md_base_the_Refusal_TheVariants.{NoSuperblock}
-use Rattle.array_kept.specs.md_base_Sectors.{Sector}
-use Rattle.array_kept.specs.md_base_Shapes.{has_slot}
-use Rattle.array_kept.proofs.md_base_Tabulated.{get_or-tabulate}
-use Rattle.array_kept.specs.sb1_the_Sb.{Sb}
-use Rattle.array_kept.specs.sb1_Superblock.{is_valid, sb_of}
+use Rattle.found_members.specs.md_base_the_Refusal.{Refusal}
+use Rattle.found_members.specs.md_base_the_Refusal_TheVariants.{NoSuperblock}
+use Rattle.found_members.specs.md_base_Sectors.{Sector}
+use Rattle.found_members.specs.md_base_Shapes.{has_slot}
+use Rattle.found_members.proofs.md_base_Tabulated.{get_or-tabulate}
+use Rattle.found_members.specs.sb1_the_Sb.{Sb}
+use Rattle.found_members.specs.sb1_Superblock.{is_valid, sb_of}
 use Rattle.bank.specs.declared.bank.Operation.{Operation}
 use Rattle.bank.specs.Given.{Given}
 use Rattle.bank.specs.Tape.{Contents, contents, disk, IsIn}
-use Rattle.array_kept.specs.superblocks_the_Members.{Members}
-use Rattle.array_kept.specs.superblocks_Reading.{Scope, Reading, reading, reading_by, superblocks, newest_of, is_seen, is_backup, of_array}
-use Rattle.array_kept.specs.superblocks_Verdict.{members_refusal}
-use Rattle.array_kept.specs.superblocks_Update.{own_in, is_live}
-use Rattle.array_kept.specs.superblocks_Outcome.{set_of, is_in_update, live_set}
-use Rattle.array_kept.specs.superblocks_Held.{own_at}
-use Rattle.array_kept.specs.superblocks_Stages.{AreLeft}
-use Rattle.array_kept.specs.superblocks_Election.{reading_in}
-use Rattle.array_kept.specs.superblocks_Found.{IsInSectors, AreInSectors}
-use Rattle.array_kept.proofs.superblocks_SlotSets.{has-set_of}
+use Rattle.found_members.specs.superblocks_the_Members.{Members}
+use Rattle.found_members.specs.superblocks_Reading.{Scope, Reading, reading, reading_by, superblocks, newest_of, is_seen, is_backup, of_array}
+use Rattle.found_members.specs.superblocks_Verdict.{members_refusal}
+use Rattle.found_members.specs.superblocks_Update.{own_in, is_live}
+use Rattle.found_members.specs.superblocks_Outcome.{set_of, is_in_update, live_set}
+use Rattle.found_members.specs.superblocks_Held.{own_at}
+use Rattle.found_members.specs.superblocks_Stages.{AreLeft}
+use Rattle.found_members.specs.superblocks_Election.{reading_in}
+use Rattle.found_members.specs.superblocks_Found.{IsInSectors, AreInSectors}
+use Rattle.found_members.proofs.superblocks_SlotSets.{has-set_of}
 use Rattle.safe_additions.proofs.superblock_reads_Accepted.{IsAccepted, is-accepted}
 use Rattle.safe_additions.proofs.superblock_reads_SaidSlots.{read-parts}
 use Rattle.safe_additions.proofs.superblock_reads_FoundHeld.{found-of, found-held, found-exact, found-said, live-seen}
@@ -29,7 +29,7 @@ use Rattle.safe_additions.proofs.superblock_reads_StageReads.{held-reads}
 use Rattle.safe_additions.specs.flat_history_Stands.{verdict, refusal_of, backup_absent}
 use Rattle.safe_additions.specs.shape_changes_Marking.{marking}
 use Rattle.safe_additions.specs.shape_changes_Held.{IsHeldBy}
-use Rattle.array_kept.specs.Adopting.{AreNumbersKept}
+use Rattle.found_members.specs.array_kept_Adopting.{AreNumbersKept}
 use Rattle.assemble.specs.declared.opening.Opened.{Opened}
 use Rattle.assemble.specs.Opening.{scope_of, IsOpened, AreFlushed}
 use Rattle.assemble.proofs.SafeLaws.{one}

@@ -7,24 +7,24 @@ use Rattle.std.proofs.lemmas.Bool.{cases_lt}
 use Rattle.std.proofs.lemmas.Bool.Decides.{nat_tests}
 use Rattle.std.proofs.lemmas.List.{get_or-take, get_or_past, length-take}
 use Rattle.std.proofs.lemmas.List.Folds.{list_any-append}
-use Rattle.array_kept.specs.md_base_the_Role.{Role}
-use Rattle.array_kept.specs.md_base_the_Role_TheVariants.{Whole, Recovering, Missing}
-use Rattle.array_kept.specs.md_base_the_Refusal.{Refusal}
-use Rattle.array_kept.specs.md_base_the_Refusal_TheVariants.{NoSuperblock, BadField}
-use Rattle.array_kept.specs.md_base_Shapes.{is_multiple, is_level, is_layout, has_slot}
-use Rattle.array_kept.specs.md_base_Search.{tabulate}
-use Rattle.array_kept.proofs.md_base_Tabulated.{length-tabulate, get_or-tabulate}
-use Rattle.array_kept.specs.sb1_the_Sb.{Sb}
-use Rattle.array_kept.specs.geometry_Geometry.{is_size}
+use Rattle.found_members.specs.md_base_the_Role.{Role}
+use Rattle.found_members.specs.md_base_the_Role_TheVariants.{Whole, Recovering, Missing}
+use Rattle.found_members.specs.md_base_the_Refusal.{Refusal}
+use Rattle.found_members.specs.md_base_the_Refusal_TheVariants.{NoSuperblock, BadField}
+use Rattle.found_members.specs.md_base_Shapes.{is_multiple, is_level, is_layout, has_slot}
+use Rattle.found_members.specs.md_base_Search.{tabulate}
+use Rattle.found_members.proofs.md_base_Tabulated.{length-tabulate, get_or-tabulate}
+use Rattle.found_members.specs.sb1_the_Sb.{Sb}
+use Rattle.found_members.specs.geometry_Geometry.{is_size}
 use Rattle.bank.specs.Given.{Given, sizes}
-use Rattle.array_kept.specs.superblocks_the_Members.{Members}
-use Rattle.array_kept.specs.superblocks_Reading.{Reading, reading_by, newest_of, holder_from, spares_from, holds_role, state_of, is_fresh, is_spare, is_recovering, lies_within, is_reshaping, entry_of, role_count, role_state, holder, data_offset_of}
-use Rattle.array_kept.specs.superblocks_Verdict.{members_refusal, bad_field, judged_fields, first_bad_entry, is_bad_size}
-use Rattle.array_kept.specs.superblocks_Election.{reading_in, IsElected}
-use Rattle.array_kept.specs.superblocks_Update.{is_held_by, is_live}
-use Rattle.array_kept.specs.superblocks_Writing.{IsMember, AreWritable}
+use Rattle.found_members.specs.superblocks_the_Members.{Members}
+use Rattle.found_members.specs.superblocks_Reading.{Reading, reading_by, newest_of, holder_from, spares_from, holds_role, state_of, is_fresh, is_spare, is_recovering, lies_within, is_reshaping, entry_of, role_count, role_state, holder, data_offset_of}
+use Rattle.found_members.specs.superblocks_Verdict.{members_refusal, bad_field, judged_fields, first_bad_entry, is_bad_size}
+use Rattle.found_members.specs.superblocks_Election.{reading_in, IsElected}
+use Rattle.found_members.specs.superblocks_Update.{is_held_by, is_live}
+use Rattle.found_members.specs.superblocks_Writing.{IsMember, AreWritable}
 use Rattle.safe_additions.proofs.superblock_reads_Accepted.{IsAccepted, is-accepted}
-use Rattle.array_kept.proofs.superblocks_ValidFields.{few-roles}
+use Rattle.found_members.proofs.superblocks_ValidFields.{few-roles}
 use Rattle.safe_additions.specs.row_io_Rows.{reading_of}
 use Rattle.safe_additions.proofs.row_io_Apart.{readings-are-apart}
 use Rattle.safe_additions.specs.views_Placed.{IsPlaced}

@@ -3,17 +3,17 @@ use Rattle.std.proofs.Common.{◌≡◌, inl, inr, ℕ, zero, suc, ◌<◌, Bool
 use Rattle.std.specs.Prelude.{⊤}
 use Rattle.std.specs.Prelude.{⊤}
 use Rattle.bank.specs.md_base_the_Span.{Span}
-use Rattle.array_kept.specs.md_base_Sectors.{Sector}
-use Rattle.array_kept.specs.md_base_Shapes.{has_slot}
-use Rattle.array_kept.proofs.md_base_Tabulated.{length-tabulate, get_or-tabulate}
-use Rattle.array_kept.specs.sb1_the_Sb.{Sb}
+use Rattle.found_members.specs.md_base_Sectors.{Sector}
+use Rattle.found_members.specs.md_base_Shapes.{has_slot}
+use Rattle.found_members.proofs.md_base_Tabulated.{length-tabulate, get_or-tabulate}
+use Rattle.found_members.specs.sb1_the_Sb.{Sb}
 use Rattle.bank.specs.declared.bank.Operation.{Operation}
 use Rattle.bank.specs.Given.{Given}
 use Rattle.bank.specs.Tape.{Contents, contents, disk, IsIn}
 use Rattle.bank.proofs.Images.{image-now}
-use Rattle.array_kept.specs.superblocks_Reading.{Reading, reading, is_reshaping, shape_of, final_shape, is_backward, next_window, list_length}
-use Rattle.array_kept.specs.superblocks_Election.{reading_in}
-use Rattle.array_kept.specs.geometry_Geometry.{window}
+use Rattle.found_members.specs.superblocks_Reading.{Reading, reading, is_reshaping, shape_of, final_shape, is_backward, next_window, list_length}
+use Rattle.found_members.specs.superblocks_Election.{reading_in}
+use Rattle.found_members.specs.geometry_Geometry.{window}
 use Rattle.safe_additions.specs.flat_history_ActiveSection.{active_section}
 use Rattle.safe_additions.specs.flat_history_Stands.{stands, standing_sector, placed_sector, shape_for, covers}
 use Rattle.safe_additions.specs.flat_history_Flat.{IsAllowed, values_of}

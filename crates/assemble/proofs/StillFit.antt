@@ -1,12 +1,12 @@
 -- The shapes in force fit where no reshape is active.
 use Rattle.std.proofs.Common.{◌≡◌, ◌==◌, ◌||◌, true, false, not, cond, Bool, None, Some, sym, ap, subst}
-use Rattle.array_kept.specs.md_base_the_Shape.{Shape}
-use Rattle.array_kept.specs.md_base_the_Refusal_TheVariants.{PositionNotOnUnit}
-use Rattle.array_kept.specs.md_base_Shapes.{is_valid_shape, is_multiple}
-use Rattle.array_kept.specs.sb1_the_Sb.{Sb}
-use Rattle.array_kept.specs.geometry_Geometry.{is_size}
-use Rattle.array_kept.specs.superblocks_Reading.{is_reshaping, shape_of, final_shape, list_length}
-use Rattle.array_kept.specs.superblocks_Verdict.{unit_of}
+use Rattle.found_members.specs.md_base_the_Shape.{Shape}
+use Rattle.found_members.specs.md_base_the_Refusal_TheVariants.{PositionNotOnUnit}
+use Rattle.found_members.specs.md_base_Shapes.{is_valid_shape, is_multiple}
+use Rattle.found_members.specs.sb1_the_Sb.{Sb}
+use Rattle.found_members.specs.geometry_Geometry.{is_size}
+use Rattle.found_members.specs.superblocks_Reading.{is_reshaping, shape_of, final_shape, list_length}
+use Rattle.found_members.specs.superblocks_Verdict.{unit_of}
 use Rattle.safe_additions.specs.shape_views_Regions.{AreShapesFit}
 use Rattle.safe_additions.proofs.shape_views_Stands.{final-still}
 

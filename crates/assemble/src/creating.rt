@@ -1,7 +1,7 @@
 //! Whether an array can be made over a bank, without a device call.
 
 ghost use Rattle.std.specs.Prelude.{◌≡◌, ◌+◌, ◌-◌, ◌<◌, ◌≤◌, ◌^◌, IfNone, IfSome, IsTrue};
-ghost use Rattle.array_kept.specs.md_base_Shapes.{is_valid_shape};
+ghost use Rattle.found_members.specs.md_base_Shapes.{is_valid_shape};
 ghost use Rattle.assemble.specs.Creating.{IsLastSlot, member_slots, is_row_count, is_offset, bad_field, rows_end, short_member, create_refusal, HasRoom};
 
 use crate::spec::CreateSpec;
