@@ -32,8 +32,8 @@ use Rattle.found_members.specs.array_kept_Adopting.{IsAdoptable}
 use Rattle.assemble.specs.declared.opening.Opened.{Opened}
 use Rattle.assemble.specs.Opening.{scope_of, IsOpened, AreFlushed}
 use Rattle.assemble.proofs.FoundRows.{list-length, list-stands, list-whole, rows-stand}
-use Rattle.assemble.proofs.Judged.{elected-does}
-use Rattle.assemble.proofs.PlacedFound.{few-spares}
+use Rattle.found_members.proofs.Elected.{elected-does}
+use Rattle.found_members.proofs.Placed.{few-spares}
 use Rattle.assemble.proofs.OpenedHeld.{numbers-kept, opened-held}
 use Rattle.found_members.specs.superblocks_Reads.{has_spare}
 use Rattle.found_members.proofs.superblocks_Searches.{any_below-some}

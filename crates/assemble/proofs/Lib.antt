@@ -11,7 +11,6 @@ pub mod NewLaws
 pub mod NewZeros
 pub mod StillFit
 pub mod FoundRows
-pub mod PlacedFound
 pub mod Adopting
 pub mod RunningLaws
 pub mod NewSound

@@ -36,7 +36,7 @@ use Rattle.assemble.specs.Opening.{scope_of, AreGiven, AreFlushed, IsOpened}
 use Rattle.assemble.specs.Filling.{AreZeros}
 use Rattle.assemble.specs.Made.{IsNew}
 use Rattle.assemble.specs.Running.{opened_of, IsBegun, OpensWithZeros, IsCreated, IsAssembled}
-use Rattle.assemble.proofs.Judged.{elected-does}
+use Rattle.found_members.proofs.Elected.{elected-does}
 use Rattle.assemble.proofs.SafeLaws.{opened-told}
 use Rattle.assemble.proofs.NewSound.{whole-sound}
 use Rattle.assemble.proofs.NewZeros.{new-arrays-are-zeros}

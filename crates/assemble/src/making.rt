@@ -26,9 +26,9 @@ use crate::spec::CreateSpec;
 use crate::storing::store_members;
 use crate::used::{first_slot, used_slot};
 use crate::zeros::zero_members;
-use array_kept::Refusal;
 use bank::{Bank, Fault};
 use election::Members;
+use found_members::Refusal;
 use std::alloc::Global;
 
 // The lists, and a bit for each slot of the bank.
