@@ -185,6 +185,6 @@ module _ {tells : Type 0} (bank : Given) (tape : List Operation) (backup : Optio
     good = rows-are;
     flushed = holders-flushed;
     next = held-next;
-    numbers = λ told. numbers-kept bank tape backup asked opened told is inside (flushed told);
+    numbers = λ told. numbers-kept bank tape backup asked opened told is inside (flushed told) few (stand told);
     newest = newest-is;
   }

@@ -14,6 +14,7 @@ use Rattle.bank.proofs.Images.{image-now}
 use Rattle.found_members.specs.superblocks_Reading.{Reading, reading, is_reshaping, shape_of, final_shape, is_backward, next_window, list_length}
 use Rattle.found_members.specs.superblocks_Election.{reading_in}
 use Rattle.found_members.specs.geometry_Geometry.{window}
+use Rattle.found_members.proofs.Held.{one}
 use Rattle.safe_additions.specs.flat_history_ActiveSection.{active_section}
 use Rattle.safe_additions.specs.flat_history_Stands.{stands, standing_sector, placed_sector, shape_for, covers}
 use Rattle.safe_additions.specs.flat_history_Flat.{IsAllowed, values_of}
@@ -26,10 +27,6 @@ use Rattle.safe_additions.proofs.flat_history_GivenLaws.{only-given-seen}
 use Rattle.assemble.specs.declared.opening.Opened.{Opened}
 use Rattle.assemble.specs.Opening.{IsOpened, AreFlushed}
 use Rattle.assemble.specs.Safe.{world_of, OpeningsAreSafe}
-
-pub one : {a v : Sector} → IsIn (v ∷ []) a → a ≡ v
-one (inl same) = same
-one (inr none) = absurd none
 
 -- at the opening each sector may have the value that it has
 first-value : (list : List Sector) (x : ℕ) → x < length list → IsIn (take 1 (drop x list)) (get_or list x [])
