@@ -30,7 +30,6 @@ pub use Rattle.moving_kept.proofs.window_steps_CopyLaws
 pub use Rattle.moving_kept.proofs.window_steps_PastLaws
 pub use Rattle.moving_kept.proofs.BegunCall as moving_kept_BegunCall
 pub use Rattle.moving_kept.proofs.BegunMembers as moving_kept_BegunMembers
-pub use Rattle.moving_kept.proofs.Shortened as moving_kept_Shortened
 pub use Rattle.moving_kept.proofs.call_entries_LeftLaws
 pub use Rattle.moving_kept.proofs.call_entries_CallLaws
 pub use Rattle.moving_kept.proofs.call_entries_LosingLaws

@@ -6,7 +6,6 @@ pub use Rattle.moving_laws.proofs.moving_kept_BegunCall
 pub use Rattle.moving_laws.proofs.moving_kept_BegunMembers
 pub use Rattle.moving_laws.proofs.moving_kept_Refusals
 pub use Rattle.moving_laws.proofs.moving_kept_Resting
-pub use Rattle.moving_laws.proofs.moving_kept_Shortened
 pub use Rattle.moving_laws.proofs.moving_kept_Staying
 pub use Rattle.moving_laws.proofs.moving_kept_Steps
 pub use Rattle.moving_laws.proofs.moving_state_DueLaws

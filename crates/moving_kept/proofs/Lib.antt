@@ -24,8 +24,6 @@ pub mod Beginning
 pub mod Begun
 pub mod BegunCall
 pub mod BegunMembers
-pub mod Shortening
-pub mod Shortened
 pub use Rattle.course_mends.proofs.Ends as course_mends_Ends
 pub use Rattle.course_mends.proofs.Mended as course_mends_Mended
 pub use Rattle.course_mends.proofs.Windows as course_mends_Windows

@@ -73,7 +73,7 @@ use Rattle.moving_steps.specs.course_kept_Laws.{closed}
 use Rattle.moving_steps.specs.moving_kept_Moving.{IsMoving}
 use Rattle.moving_steps.proofs.moving_kept_BegunCall.{IsBegunBy}
 use Rattle.moving_steps.proofs.moving_kept_BegunMembers.{array-begins}
-use Rattle.moving_steps.proofs.moving_kept_Shortened.{array-shortens}
+use Rattle.moving_ends.proofs.Shortened.{array-shortens}
 use Rattle.moving_steps.proofs.still_kept_Bridges.{stands-kept}
 use Rattle.moving_steps.specs.running_words_Parts.{still_left}
 use Rattle.moving_steps.proofs.running_words_Called.{not_254}

@@ -6,60 +6,60 @@ use Rattle.std.specs.List.{list_any}
 use Rattle.std.specs.Option.{option_map_or}
 use Rattle.std.proofs.lemmas.Bool.Decides.{nat_tests}
 use Rattle.std.proofs.lemmas.List.Sums.{fold-append}
-use Rattle.history_calls.specs.md_base_Search.{all_below}
-use Rattle.history_calls.specs.md_base_Sectors.{Sector}
-use Rattle.history_calls.specs.md_base_the_Who.{Who}
-use Rattle.history_calls.specs.md_base_the_Shape.{Shape}
-use Rattle.course_mends.specs.bank_the_Operation.{Operation}
-use Rattle.course_mends.specs.bank_Given.{Given, sizes}
-use Rattle.course_mends.specs.bank_Tape.{IsIn, disk}
-use Rattle.course_mends.specs.sb1_the_Sb.{Sb}
-use Rattle.course_mends.specs.superblocks_the_Members.{Members}
-use Rattle.course_mends.specs.superblocks_Reading.{Scope, Reading, shape_of, final_shape, list_length, role_count}
-use Rattle.course_mends.specs.row_io_Rows.{reading_of, is_missing}
-use Rattle.course_mends.specs.flat_history_the_Entry.{Entry}
-use Rattle.course_mends.specs.flat_history_the_Event.{Event}
-use Rattle.course_mends.specs.flat_history_the_Event_TheVariants.{Resized, Step}
-use Rattle.course_mends.specs.flat_history_the_StepKind_TheVariants.{Begun}
-use Rattle.course_mends.specs.flat_history_Epochs.{HasRoomForEvents}
-use Rattle.course_mends.specs.flat_history_Flat.{length_of, values_of, values_after, now, is_same_call, last_of}
-use Rattle.course_mends.specs.flat_history_Flat.{resized as cut}
-use Rattle.course_mends.specs.flat_history_Growing.{EndBy}
-use Rattle.course_mends.specs.flat_history_Legal.{told_left, level_at, level_after, call_before, disturbs, is_loss, last_but_losses, is_all_gone, IsLengthOfLevel, IsUnkeptLength, IsResizedAfter, IsResized}
-use Rattle.course_mends.specs.flat_history_Losses.{is_gone_after, is_unsynced, unsettles, loses}
-use Rattle.course_mends.specs.flat_history_OneShape.{is_lost, is_unsettled}
-use Rattle.course_mends.specs.flat_history_Plain.{entries_of}
-use Rattle.course_mends.specs.flat_history_Sound.{OpensFit}
-use Rattle.course_mends.specs.flat_history_World.{World, contents_at, reading_at, opening_list}
-use Rattle.history_calls.proofs.history_laws_OneShapeGrowing.{AreFaults}
-use Rattle.course_mends.specs.shape_views_Views.{Ledger}
-use Rattle.course_mends.specs.shape_changes_Changing.{IsSafeChange}
-use Rattle.course_mends.specs.shape_changes_Safety.{HasLiveSlot, HasRoomLeft, IsRisen}
-use Rattle.course_mends.specs.views_Placed.{IsPlaced}
-use Rattle.course_mends.specs.shape_changes_Steady.{AreUnlost, IsMoreTold, IsSafeNow, IsSafeOver, AreGoneTold}
-use Rattle.course_mends.specs.shape_ends_Ends.{IsToldWith}
-use Rattle.course_mends.proofs.views_SoundViews.{throughout-changed}
-use Rattle.history_calls.specs.call_entries_Losing.{losses_of}
-use Rattle.history_calls.proofs.call_entries_CallLaws.{losses-are}
-use Rattle.history_calls.proofs.call_entries_PlainLaws.{last_end-call}
-use Rattle.history_calls.proofs.call_entries_StepLaws.{faults-are}
-use Rattle.history_calls.specs.kept_history_Recorded.{IsHistoryKept, IsLegalCall, IsCallGoing, IsOpenBehind, entry_of, ends_reshape, gives_some}
-use Rattle.history_calls.specs.kept_history_Safe.{world_in, IsFilledRight, IsSafeHistory}
-use Rattle.history_calls.specs.kept_history_Told.{told_now, told_by}
-use Rattle.history_calls.proofs.kept_history_Growing.{reading-grown, opening-grown, fit-grown, gone-grown, unsynced-grown, now-grown, room-before, room-now}
-use Rattle.history_calls.proofs.kept_history_Ledgers.{more-then, any-gone, unclean-now, unsynced-still, none-ends}
-use Rattle.history_calls.proofs.kept_history_Longer.{regains-none}
-use Rattle.history_calls.proofs.kept_history_Lengths.{length-now}
-use Rattle.history_calls.proofs.kept_history_Lists.{newest-in}
-use Rattle.history_calls.proofs.kept_history_Calls.{now-live}
-use Rattle.history_calls.proofs.kept_history_Entered.{AreAdding, told-adding, settle-none, values-more, values-adding, length-adding, gone-was, gone-lost}
-use Rattle.history_calls.proofs.kept_history_KeptCalls.{kept-call}
-use Rattle.history_calls.proofs.kept_history_Reshapes.{call-ends_none}
-use Rattle.history_calls.proofs.kept_history_Turned.{begun-old, filled-before}
-use Rattle.history_calls.proofs.kept_history_Turns.{turned-length, turned-values, resized-call}
-use Rattle.history_calls.specs.Reliable.{IsReliable, AreToldGone}
+use Rattle.moving_kept.specs.md_base_Search.{all_below}
+use Rattle.moving_kept.specs.md_base_Sectors.{Sector}
+use Rattle.moving_kept.specs.md_base_the_Who.{Who}
+use Rattle.moving_kept.specs.md_base_the_Shape.{Shape}
+use Rattle.moving_kept.specs.bank_the_Operation.{Operation}
+use Rattle.moving_kept.specs.bank_Given.{Given, sizes}
+use Rattle.moving_kept.specs.bank_Tape.{IsIn, disk}
+use Rattle.moving_kept.specs.sb1_the_Sb.{Sb}
+use Rattle.moving_kept.specs.superblocks_the_Members.{Members}
+use Rattle.moving_kept.specs.superblocks_Reading.{Scope, Reading, shape_of, final_shape, list_length, role_count}
+use Rattle.moving_kept.specs.row_io_Rows.{reading_of, is_missing}
+use Rattle.moving_kept.specs.flat_history_the_Entry.{Entry}
+use Rattle.moving_kept.specs.flat_history_the_Event.{Event}
+use Rattle.moving_kept.specs.flat_history_the_Event_TheVariants.{Resized, Step}
+use Rattle.moving_kept.specs.flat_history_the_StepKind_TheVariants.{Begun}
+use Rattle.moving_kept.specs.flat_history_Epochs.{HasRoomForEvents}
+use Rattle.moving_kept.specs.flat_history_Flat.{length_of, values_of, values_after, now, is_same_call, last_of}
+use Rattle.moving_kept.specs.flat_history_Flat.{resized as cut}
+use Rattle.moving_kept.specs.flat_history_Growing.{EndBy}
+use Rattle.moving_kept.specs.flat_history_Legal.{told_left, level_at, level_after, call_before, disturbs, is_loss, last_but_losses, is_all_gone, IsLengthOfLevel, IsUnkeptLength, IsResizedAfter, IsResized}
+use Rattle.moving_kept.specs.flat_history_Losses.{is_gone_after, is_unsynced, unsettles, loses}
+use Rattle.moving_kept.specs.flat_history_OneShape.{is_lost, is_unsettled}
+use Rattle.moving_kept.specs.flat_history_Plain.{entries_of}
+use Rattle.moving_kept.specs.flat_history_Sound.{OpensFit}
+use Rattle.moving_kept.specs.flat_history_World.{World, contents_at, reading_at, opening_list}
+use Rattle.moving_kept.proofs.history_laws_OneShapeGrowing.{AreFaults}
+use Rattle.moving_kept.specs.shape_views_Views.{Ledger}
+use Rattle.moving_kept.specs.shape_changes_Changing.{IsSafeChange}
+use Rattle.moving_kept.specs.shape_changes_Safety.{HasLiveSlot, HasRoomLeft, IsRisen}
+use Rattle.moving_kept.specs.views_Placed.{IsPlaced}
+use Rattle.moving_kept.specs.shape_changes_Steady.{AreUnlost, IsMoreTold, IsSafeNow, IsSafeOver, AreGoneTold}
+use Rattle.moving_kept.specs.shape_ends_Ends.{IsToldWith}
+use Rattle.moving_kept.proofs.views_SoundViews.{throughout-changed}
+use Rattle.moving_kept.specs.call_entries_Losing.{losses_of}
+use Rattle.moving_kept.proofs.call_entries_CallLaws.{losses-are}
+use Rattle.moving_kept.proofs.call_entries_PlainLaws.{last_end-call}
+use Rattle.moving_kept.proofs.call_entries_StepLaws.{faults-are}
+use Rattle.moving_kept.specs.kept_history_Recorded.{IsHistoryKept, IsLegalCall, IsCallGoing, IsOpenBehind, entry_of, ends_reshape, gives_some}
+use Rattle.moving_kept.specs.kept_history_Safe.{world_in, IsFilledRight, IsSafeHistory}
+use Rattle.moving_kept.specs.kept_history_Told.{told_now, told_by}
+use Rattle.moving_kept.proofs.kept_history_Growing.{reading-grown, opening-grown, fit-grown, gone-grown, unsynced-grown, now-grown, room-before, room-now}
+use Rattle.moving_kept.proofs.kept_history_Ledgers.{more-then, any-gone, unclean-now, unsynced-still, none-ends}
+use Rattle.moving_kept.proofs.kept_history_Longer.{regains-none}
+use Rattle.moving_kept.proofs.kept_history_Lengths.{length-now}
+use Rattle.moving_kept.proofs.kept_history_Lists.{newest-in}
+use Rattle.moving_kept.proofs.kept_history_Calls.{now-live}
+use Rattle.moving_kept.proofs.kept_history_Entered.{AreAdding, told-adding, settle-none, values-more, values-adding, length-adding, gone-was, gone-lost}
+use Rattle.moving_kept.proofs.kept_history_KeptCalls.{kept-call}
+use Rattle.moving_kept.proofs.kept_history_Reshapes.{call-ends_none}
+use Rattle.moving_kept.proofs.kept_history_Turned.{begun-old, filled-before}
+use Rattle.moving_kept.proofs.kept_history_Turns.{turned-length, turned-values, resized-call}
+use Rattle.moving_kept.specs.history_calls_Reliable.{IsReliable, AreToldGone}
 use Rattle.moving_kept.proofs.Beginning.{told_before}
-use Rattle.history_calls.proofs.Behind.{IsAmong, early-losses, inner-of, legal-losses, or-false}
+use Rattle.moving_kept.proofs.history_calls_Behind.{IsAmong, early-losses, inner-of, legal-losses, or-false}
 use Rattle.moving_kept.proofs.NoneLeft.{all_below-each, none-held}
 use Rattle.moving_kept.proofs.ReadShapes.{HasShapesOf, IsEitherRead}
 
