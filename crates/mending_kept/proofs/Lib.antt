@@ -36,7 +36,6 @@ pub use Rattle.moving_kept.proofs.call_entries_LosingLaws
 pub use Rattle.moving_kept.proofs.views_MovedLaws
 pub use Rattle.moving_kept.proofs.views_LackingLaws
 pub use Rattle.moving_kept.proofs.views_LiveLeft
-pub use Rattle.moving_kept.proofs.views_BearerLaws
 pub use Rattle.moving_kept.proofs.views_Fit
 pub use Rattle.moving_kept.proofs.views_LackingLists
 pub use Rattle.moving_kept.proofs.views_HeldRows
@@ -66,3 +65,4 @@ pub use Rattle.moving_kept.proofs.superblock_reads_SaidSlots
 pub use Rattle.moving_kept.proofs.history_laws_OneShapeGrowing
 pub use Rattle.moving_kept.proofs.history_laws_ReshapedLaws
 pub use Rattle.moving_kept.proofs.history_laws_GrowingLaws
+pub use Rattle.moving_kept.proofs.call_entries_BearerLaws

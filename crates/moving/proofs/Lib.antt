@@ -74,8 +74,8 @@ pub use Rattle.moving_laws.proofs.running_words_Replies
 pub use Rattle.moving_laws.proofs.calls_kept_AddLaws
 pub use Rattle.moving_laws.proofs.moving_kept_AddedSpare
 pub use Rattle.moving_laws.proofs.AddLaws as moving_laws_AddLaws
-pub use Rattle.pieces.proofs.views_BearerLaws
 pub use Rattle.pieces.proofs.views_Flushed
 pub use Rattle.moving_laws.proofs.calls_kept_AddedKept
 pub use Rattle.moving_laws.proofs.calls_kept_AddedNumbers
 pub use Rattle.moving_laws.proofs.calls_kept_AddedLosses
+pub use Rattle.moving_laws.proofs.call_entries_BearerLaws

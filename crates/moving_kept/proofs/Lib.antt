@@ -71,7 +71,6 @@ pub use Rattle.history_calls.proofs.call_entries_CallLaws
 pub use Rattle.history_calls.proofs.call_entries_LeftLaws
 pub use Rattle.course_mends.proofs.views_Fit
 pub use Rattle.course_mends.proofs.views_LiveLeft
-pub use Rattle.history_calls.proofs.views_BearerLaws
 pub use Rattle.history_calls.proofs.kept_history_Growing
 pub use Rattle.history_calls.proofs.kept_history_Ledgers
 pub use Rattle.history_calls.proofs.kept_history_Lists
@@ -162,3 +161,4 @@ pub use Rattle.course_mends.proofs.parity_OwnFills
 pub use Rattle.course_mends.proofs.parity_Refilled
 pub use Rattle.window_calls.proofs.layout_Limits
 pub use Rattle.window_calls.proofs.layout_Places
+pub use Rattle.history_calls.proofs.call_entries_BearerLaws

@@ -89,7 +89,6 @@ pub use Rattle.moving.proofs.moving_laws_Settled
 pub use Rattle.moving.proofs.calls_kept_AddLaws
 pub use Rattle.moving.proofs.moving_kept_AddedSpare
 pub use Rattle.moving.proofs.moving_laws_AddLaws
-pub use Rattle.moving.proofs.views_BearerLaws
 pub use Rattle.moving.proofs.views_Flushed
 pub use Rattle.moving.proofs.calls_kept_AddedKept
 pub use Rattle.moving.proofs.calls_kept_AddedNumbers
@@ -98,3 +97,4 @@ pub use Rattle.moving.proofs.StepLaws as moving_StepLaws
 pub use Rattle.moving.proofs.moving_laws_BarredLaws
 pub use Rattle.moving.proofs.moving_kept_Writing
 pub use Rattle.moving.proofs.moving_laws_WriteReplies
+pub use Rattle.moving.proofs.call_entries_BearerLaws

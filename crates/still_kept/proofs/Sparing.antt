@@ -36,7 +36,7 @@ use Rattle.moving_kept.specs.views_Numbers.{bears, bearing, IsOfScope}
 use Rattle.moving_kept.specs.views_Rebuilding.{with_spare}
 use Rattle.moving_kept.specs.views_Status.{stripes_of}
 use Rattle.moving_kept.proofs.views_AddedRows.{list-with, among-with, rebuilt-with}
-use Rattle.moving_kept.proofs.views_BearerLaws.{bears-more}
+use Rattle.moving_kept.proofs.call_entries_BearerLaws.{bears-more}
 use Rattle.moving_kept.proofs.views_Flushed.{contents-added}
 use Rattle.moving_kept.proofs.views_HeldRows.{missing-before, vacant-missing}
 use Rattle.moving_kept.proofs.views_MarkedSafe.{added-longer, flushed-safe}

@@ -16,7 +16,7 @@ use Rattle.moving_steps.specs.views_Numbers.{bears, bearing, free_number}
 use Rattle.moving_steps.specs.views_Placed.{IsPlaced}
 use Rattle.moving_steps.specs.views_Rebuilding.{AreSparesFree, with_spare}
 use Rattle.moving_steps.specs.views_Under.{IsRestKept}
-use Rattle.moving_steps.proofs.views_BearerLaws.{bears-more}
+use Rattle.moving_steps.proofs.call_entries_BearerLaws.{bears-more}
 use Rattle.moving_steps.proofs.views_Flushed.{contents-added}
 use Rattle.moving_steps.proofs.views_MovedLaws.{grows-then, moved-same}
 use Rattle.moving_steps.specs.call_entries_Losing.{losses_of}

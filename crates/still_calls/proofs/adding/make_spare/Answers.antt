@@ -14,7 +14,7 @@ use Rattle.still.specs.views_Lacking.{AreUnnamed}
 use Rattle.still.specs.views_Numbers.{bears, bearing, free_number}
 use Rattle.still.specs.views_Placed.{IsPlaced, AreStillHeld, AreWhole}
 use Rattle.still.specs.views_Rebuilding.{AreSparesFree, with_spare}
-use Rattle.still.proofs.views_BearerLaws.{bears-more}
+use Rattle.still.proofs.call_entries_BearerLaws.{bears-more}
 use Rattle.still.proofs.views_Flushed.{contents-added}
 use Rattle.still.proofs.views_LiveLeft.{without-left}
 use Rattle.still.proofs.views_MovedLaws.{grows-then}
