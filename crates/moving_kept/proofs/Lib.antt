@@ -82,7 +82,6 @@ pub use Rattle.course_mends.proofs.shape_ends_GrownStanding
 pub use Rattle.course_mends.proofs.views_Still
 pub use Rattle.course_mends.proofs.views_SoundViews
 pub use Rattle.course_mends.proofs.views_HeldRows
-pub use Rattle.course_mends.proofs.views_MarkEnds
 pub use Rattle.history_calls.proofs.kept_history_Lengths
 pub use Rattle.history_calls.proofs.kept_history_Entered
 pub use Rattle.history_calls.proofs.kept_history_Calls
@@ -162,3 +161,4 @@ pub use Rattle.course_mends.proofs.parity_Refilled
 pub use Rattle.window_calls.proofs.layout_Limits
 pub use Rattle.window_calls.proofs.layout_Places
 pub use Rattle.history_calls.proofs.call_entries_BearerLaws
+pub use Rattle.course_mends.proofs.safe_updates_MarkEnds

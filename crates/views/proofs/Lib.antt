@@ -17,7 +17,6 @@ pub mod PutLists
 pub mod Stripes
 pub mod AddedMembers
 pub mod AddedRows
-pub mod MarkEnds
 pub mod LiveLeft
 pub mod MarkedSafe
 pub mod SoundViews

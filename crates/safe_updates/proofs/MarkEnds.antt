@@ -2,25 +2,25 @@
 use Rattle.std.proofs.Common.{◌≡◌, ◌⊎◌, inl, inr, ⊎_elim, ℕ, ◌<◌, ◌||◌, ◌&&◌, Bool, true, false, not, cond, nat_lt, max, List, Option, Some, None, unwrap_or, replicate, refl, sym, ◌∙◌, ap, arith}
 use Rattle.std.specs.List.{list_any}
 use Rattle.std.proofs.lemmas.Bool.Decides.{nat_tests}
-use Rattle.role_changes.specs.md_base_Shapes.{has_slot}
-use Rattle.role_changes.specs.md_base_the_Shape.{Shape}
-use Rattle.role_changes.specs.md_base_the_Role.{Role}
-use Rattle.role_changes.specs.superblocks_the_Give.{Give}
-use Rattle.role_changes.specs.superblocks_the_Give_TheVariants.{Same}
-use Rattle.role_changes.specs.superblocks_the_Members.{Members}
-use Rattle.role_changes.specs.superblocks_Reading.{is_reshaping, shape_of, role_count}
-use Rattle.role_changes.specs.superblocks_Update.{give_of, is_held_by, is_planned_spare}
-use Rattle.role_changes.specs.superblocks_Updating.{IsSomeLeft}
-use Rattle.role_changes.specs.superblocks_Outcome.{live_set, planned_spares}
-use Rattle.role_changes.specs.superblocks_Reads.{has_spare}
-use Rattle.role_changes.proofs.superblocks_ReadLists.{by_bool}
-use Rattle.role_changes.proofs.superblock_reads_SaidSlots.{has-slots_below}
-use Rattle.role_changes.proofs.superblocks_UpdateReads.{some-or-all}
+use Rattle.layout.specs.md_base_Shapes.{has_slot}
+use Rattle.layout.specs.md_base_the_Shape.{Shape}
+use Rattle.layout.specs.md_base_the_Role.{Role}
+use Rattle.superblock_updates.specs.superblocks_the_Give.{Give}
+use Rattle.superblock_updates.specs.superblocks_the_Give_TheVariants.{Same}
+use Rattle.superblock_updates.specs.superblocks_the_Members.{Members}
+use Rattle.superblock_updates.specs.superblocks_Reading.{is_reshaping, shape_of, role_count}
+use Rattle.superblock_updates.specs.superblocks_Update.{give_of, is_held_by, is_planned_spare}
+use Rattle.superblock_updates.specs.superblocks_Updating.{IsSomeLeft}
+use Rattle.superblock_updates.specs.superblocks_Outcome.{live_set, planned_spares}
+use Rattle.superblock_updates.specs.superblocks_Reads.{has_spare}
+use Rattle.superblock_updates.proofs.superblocks_ReadLists.{by_bool}
+use Rattle.views.proofs.superblock_reads_SaidSlots.{has-slots_below}
+use Rattle.superblock_updates.proofs.superblocks_UpdateReads.{some-or-all}
 use Rattle.views.specs.Placed.{AreLess}
-use Rattle.role_changes.specs.shape_changes_Marking.{marking}
-use Rattle.role_changes.specs.shape_changes_Safety.{HasLiveSlot}
-use Rattle.role_changes.proofs.shape_changes_Kept.{give_of-same}
-use Rattle.role_changes.proofs.shape_changes_Without.{any-without, live-is}
+use Rattle.views.specs.shape_changes_Marking.{marking}
+use Rattle.views.specs.shape_changes_Safety.{HasLiveSlot}
+use Rattle.views.proofs.shape_changes_Kept.{give_of-same}
+use Rattle.views.proofs.shape_changes_Without.{any-without, live-is}
 
 -- ---- a live slot is left, or none
 
