@@ -263,7 +263,7 @@ pending-more dirty entries more none =
     or_none true b e = refl
     or_none false b e = e
 
-unsynced-more : (world : World) (entries more : List Entry) → list_any (λ e. is_resync_end e.event) more ≡ false → is_unsynced world (entries ++ more) ≡ is_unsynced world entries
+pub unsynced-more : (world : World) (entries more : List Entry) → list_any (λ e. is_resync_end e.event) more ≡ false → is_unsynced world (entries ++ more) ≡ is_unsynced world entries
 unsynced-more world entries more none = pending-more (was_dirty world) entries more none
 
 -- ---- more that is told

@@ -21,9 +21,10 @@ use Rattle.array_kept.proofs.history_laws_GrowingLaws.{calls-owe}
 use Rattle.array_kept.proofs.history_laws_OneShapeGrowing.{one}
 use Rattle.array_kept.specs.shape_views_Views.{Disk, IsSeenRight, ledger_of}
 use Rattle.array_kept.proofs.shape_views_Judged.{views-safe}
+use Rattle.array_kept.proofs.LedgerLaws.{judged_by}
 use Rattle.kept_history.specs.Safe.{world_in, IsFilledRight}
 use Rattle.kept_history.proofs.Growing.{longer-by}
-use Rattle.kept_history.proofs.Ledgers.{judged_by, none-gone}
+use Rattle.kept_history.proofs.Ledgers.{none-gone}
 
 -- ---- how many entries were made by a mark
 
