@@ -15,15 +15,13 @@ use Rattle.array_kept.specs.shape_views_Views.{Ledger}
 use Rattle.array_kept.specs.shape_changes_Steady.{IsMoreTold}
 use Rattle.array_kept.proofs.LedgerLaws.{judged_by, none-ends, unsynced-more}
 use Rattle.array_kept.proofs.flat_history_OneShapeGone.{surely-unsettled, perhaps-unsettled}
+use Rattle.array_kept.proofs.views_Still.{told-same}
 use Rattle.kept_history.specs.Safe.{TakesNone}
 use Rattle.kept_history.specs.Told.{told_now, told_by}
 use Rattle.kept_history.proofs.Tests.{neither, or-none, or-left, or-right, or-assoc, weaken, none-take, none-drop}
 
-pub more-alike : (told : Ledger) → IsMoreTold told told
-more-alike told = record { size = refl; values = λ x lt v may. may; gone = λ role is. is; unclean = λ is. is; reshaping = λ is. is; carried = λ slot number is. is }
-
 pub more-equal : (told more : Ledger) → told ≡ more → IsMoreTold told more
-more-equal told more same = subst (IsMoreTold told) same (more-alike told)
+more-equal told more same = subst (IsMoreTold told) same (told-same told)
 
 pub more-then : (told mid more : Ledger) → IsMoreTold told mid → IsMoreTold mid more → IsMoreTold told more
 more-then told mid more first second = record {
