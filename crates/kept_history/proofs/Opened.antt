@@ -25,11 +25,12 @@ use Rattle.array_kept.proofs.flat_history_OneShapeLegal.{last-snoc}
 use Rattle.array_kept.proofs.history_laws_OneShapeGrowing.{inner-of}
 use Rattle.array_kept.specs.shape_changes_Safety.{HasLiveSlot}
 use Rattle.array_kept.specs.shape_changes_Steady.{IsSafeOver}
+use Rattle.array_kept.proofs.RecordLaws.{ends-at}
 use Rattle.kept_history.specs.Recorded.{IsHistoryKept, entry_of, IsReshapedCall}
 use Rattle.kept_history.specs.Safe.{world_in, IsFilledRight, IsCounted, IsNowRight, IsSafeHistory}
 use Rattle.kept_history.specs.Told.{told_now}
 use Rattle.kept_history.proofs.Entered.{AreAdding, lengths-stay}
-use Rattle.kept_history.proofs.Marks.{ends-at, rest-whole, safe-after}
+use Rattle.kept_history.proofs.Marks.{rest-whole, safe-after}
 use Rattle.kept_history.proofs.Records.{end-snoc, until-all, call_end-is, same-call}
 use Rattle.kept_history.proofs.Reshapes.{ends-none, call-reshaped}
 use Rattle.kept_history.proofs.Seen.{seen-now}

@@ -24,10 +24,12 @@ use Rattle.array_kept.specs.flat_history_World.{World, until, contents_at}
 use Rattle.array_kept.proofs.flat_history_LegalLaws.{histories-stay-legal, rest-apart, another-behind}
 use Rattle.array_kept.proofs.flat_history_OneShapeLegal.{last-snoc}
 use Rattle.array_kept.proofs.history_laws_OneShapeGrowing.{AreFaults, next-begins, none-another}
+use Rattle.array_kept.proofs.MadeLaws.{ends-by}
+use Rattle.array_kept.proofs.RecordLaws.{ends-call}
 use Rattle.kept_history.specs.Recorded.{entry_of, IsLegalCall, MayGoOn, IsCallGoing, IsLengthKept, gives_some}
 use Rattle.kept_history.proofs.Growing.{longer-by}
 use Rattle.kept_history.proofs.Longer.{event-longer}
-use Rattle.kept_history.proofs.Marks.{ends-by, ends-both, ends-call, rest-whole}
+use Rattle.kept_history.proofs.Marks.{ends-both, rest-whole}
 
 -- ---- a call that begins or goes on
 
