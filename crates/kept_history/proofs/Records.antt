@@ -5,7 +5,7 @@ use Rattle.std.specs.List.{list_any, All}
 use Rattle.std.specs.Option.{option_map_or}
 use Rattle.std.proofs.lemmas.Bool.Decides.{nat_tests}
 use Rattle.std.proofs.lemmas.List.{take-append-drop, take-take, length-take-le}
-use Rattle.std.proofs.lemmas.List.Elements.{All-nil, All-append, All-cons, All-head, All-tail}
+use Rattle.std.proofs.lemmas.List.Elements.{All-nil, All-append, All-head, All-tail}
 use Rattle.array_kept.specs.md_base_the_Who.{Who}
 use Rattle.array_kept.specs.bank_the_Operation.{Operation}
 use Rattle.array_kept.specs.bank_Tape.{Contents, value_after}
@@ -26,6 +26,7 @@ use Rattle.array_kept.proofs.flat_history_OneShapeLegal.{last-snoc}
 use Rattle.array_kept.proofs.history_laws_OneShapeGrowing.{AreFaults, next-begins, none-another}
 use Rattle.array_kept.proofs.MadeLaws.{ends-by}
 use Rattle.array_kept.proofs.RecordLaws.{ends-call}
+use Rattle.array_kept.proofs.call_entries_StepLaws.{of-call}
 use Rattle.kept_history.specs.Recorded.{entry_of, IsLegalCall, MayGoOn, IsCallGoing, IsLengthKept, gives_some}
 use Rattle.kept_history.proofs.Growing.{longer-by}
 use Rattle.kept_history.proofs.Longer.{event-longer}
@@ -63,10 +64,6 @@ same-call who a b mine yours = same a.caller b.caller a.number b.number (mine.0 
   where
     same : (c d n m : ℕ) → c ≡ d → n ≡ m → ((c == d) && (n == m)) ≡ true
     same c d n m callers numbers = grind (arith, nat_tests, callers, numbers)
-
-pub of-call : (who : Who) (end : ℕ) (events : List Event) → All (λ e. IsOfCall who e) (entries_of who end events)
-of-call who end [] = All-nil (λ e. IsOfCall who e)
-of-call who end (event ∷ events) = All-cons (λ e. IsOfCall who e) (entry_of who end event) (entries_of who end events) (refl, refl) (of-call who end events)
 
 -- what is of the call stands behind an entry of it
 rest-own : (who : Who) (e : Entry) (xs : List Entry) → IsOfCall who e → All (λ e. IsOfCall who e) xs → rest_of_call e xs ≡ xs
