@@ -24,8 +24,8 @@ use Rattle.array_kept.proofs.shape_views_Judged.{views-safe}
 use Rattle.array_kept.proofs.LedgerLaws.{judged_by}
 use Rattle.array_kept.proofs.MadeLaws.{made-both, made-past, made-before, made-from, call-length, ends-by}
 use Rattle.array_kept.proofs.RecordLaws.{ends-call}
+use Rattle.array_kept.proofs.SafeLaws.{longer-by}
 use Rattle.kept_history.specs.Safe.{world_in, IsFilledRight}
-use Rattle.kept_history.proofs.Growing.{longer-by}
 use Rattle.kept_history.proofs.Ledgers.{none-gone}
 
 -- ---- how many entries were made by a mark

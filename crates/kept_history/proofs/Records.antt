@@ -27,8 +27,8 @@ use Rattle.array_kept.proofs.history_laws_OneShapeGrowing.{AreFaults, next-begin
 use Rattle.array_kept.proofs.MadeLaws.{ends-by}
 use Rattle.array_kept.proofs.RecordLaws.{ends-call}
 use Rattle.array_kept.proofs.call_entries_StepLaws.{of-call}
+use Rattle.array_kept.proofs.SafeLaws.{longer-by}
 use Rattle.kept_history.specs.Recorded.{entry_of, IsLegalCall, MayGoOn, IsCallGoing, IsLengthKept, gives_some}
-use Rattle.kept_history.proofs.Growing.{longer-by}
 use Rattle.kept_history.proofs.Longer.{event-longer}
 use Rattle.kept_history.proofs.Marks.{ends-both, rest-whole}
 
