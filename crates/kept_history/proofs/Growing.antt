@@ -1,5 +1,5 @@
 -- What is told of a history stays so as the tape grows.
-use Rattle.std.proofs.Common.{◌≡◌, ℕ, ◌+◌, ◌-◌, ◌<◌, ◌≤◌, ◌&&◌, ◌||◌, Bool, true, false, not, Option, List, [], ◌∷◌, ◌++◌, length, fold, refl, sym, ◌∙◌, ap, ap₂, subst, arith}
+use Rattle.std.proofs.Common.{◌≡◌, ℕ, ◌+◌, ◌-◌, ◌<◌, ◌≤◌, ◌&&◌, ◌||◌, Bool, false, not, Option, List, [], ◌∷◌, ◌++◌, length, fold, refl, sym, ◌∙◌, ap, ap₂, subst, arith}
 use Rattle.std.specs.Prelude.{◌^◌, IfSome, IsTrue}
 use Rattle.std.specs.Option.{option_map_or}
 use Rattle.std.specs.List.{list_any, list_all}
@@ -21,6 +21,7 @@ use Rattle.array_kept.specs.flat_history_World.{World, contents_at, reading_at, 
 use Rattle.array_kept.specs.shape_changes_Safety.{HasLiveSlot, HasRoomLeft}
 use Rattle.array_kept.proofs.flat_history_OneShapeGone.{gives-rebuilt as gives-plain, takes-lost as takes-plain}
 use Rattle.array_kept.proofs.SafeLaws.{room-at, room-less, longer-by}
+use Rattle.array_kept.proofs.flat_history_LegalLaws.{both}
 use Rattle.kept_history.specs.Safe.{IsCounted, IsReshapeFit, OpensOnCourse}
 use Rattle.kept_history.specs.Told.{told_now, told_by}
 
@@ -77,10 +78,6 @@ module _ (world : World) (ops : List Operation) where
   takes-grown (e ∷ entries) role ends = ap₂ (λ (a b : Bool). a || b) (loses-grown role e ends.0) (takes-grown entries role ends.1)
 
 -- ---- entries that turn no shape
-
-both : (a b : Bool) → (a && b) ≡ true → (a ≡ true) × (b ≡ true)
-both true b e = (refl, e)
-both false b e = absurd (cc)
 
 module _ (world : World) (role : ℕ) where
   -- what they take is what they tell lost
