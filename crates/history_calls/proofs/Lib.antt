@@ -47,3 +47,4 @@ pub use Rattle.kept_history.proofs.array_kept_ToldLosses
 pub use Rattle.kept_history.proofs.md_base_SectorLaws
 pub use Rattle.kept_history.proofs.md_base_Tabulated
 pub use Rattle.kept_history.proofs.call_entries_BearerLaws
+pub use Rattle.kept_history.proofs.array_kept_IdleLaws

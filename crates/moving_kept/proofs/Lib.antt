@@ -162,3 +162,4 @@ pub use Rattle.window_calls.proofs.layout_Limits
 pub use Rattle.window_calls.proofs.layout_Places
 pub use Rattle.history_calls.proofs.call_entries_BearerLaws
 pub use Rattle.course_mends.proofs.safe_updates_MarkEnds
+pub use Rattle.history_calls.proofs.array_kept_IdleLaws
