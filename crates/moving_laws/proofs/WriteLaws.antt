@@ -76,10 +76,11 @@ use Rattle.running_words.specs.Calls.{IsCalled, IsStepTaken}
 use Rattle.running_words.specs.Parts.{RunningParts}
 use Rattle.running_words.specs.Parts.{visible_size}
 use Rattle.running_words.proofs.VisibleLaws.{visible-is, visible-within}
+use Rattle.running_words.proofs.Lengths.{IsLengthKept}
 use Rattle.moving_laws.specs.Ready.{bytes_in, IsReady}
 use Rattle.moving_laws.specs.Writing.{IsWindowOpen, steps_in, TouchesWindow, IsWriteLacked, IsPutEntered, IsWriteEntered}
 use Rattle.running_words.proofs.Called.{not_254}
-use Rattle.moving_laws.proofs.Kept.{IsLengthKept, behind-keeps, behind-whole, takes-lost, long-same, left_by, left-moved}
+use Rattle.moving_laws.proofs.Kept.{behind-keeps, behind-whole, takes-lost, long-same, left_by, left-moved}
 use Rattle.moving_laws.proofs.Relied.{pending-at, unsynced-right}
 use Rattle.moving_laws.proofs.RecordLaws.{shapes-past, past-of, since-past, record-some, closed-bare, moved-none, moved-if}
 
