@@ -52,9 +52,8 @@ use Rattle.mending_kept.specs.moving_kept_Moving.{IsMoving}
 use Rattle.mending_kept.proofs.moving_kept_MoreSteps.{recorded-moves}
 use Rattle.mending_kept.proofs.moving_kept_Staying.{refused-moves}
 use Rattle.mending_kept.proofs.moving_kept_Steps.{AreMissingSince, missing-since}
-use Rattle.running_words.proofs.Called.{not_254}
+use Rattle.running_words.proofs.Called.{not_254, risen-told}
 use Rattle.moving_laws.proofs.Kept.{AreSameShapes, left_by, left-moved}
-use Rattle.moving_laws.proofs.Settled.{risen-told}
 
 -- ---- members whose position moved
 

@@ -20,8 +20,8 @@ use Rattle.moving_laws.proofs.moving_kept_Steps.{missing-since}
 use Rattle.moving_laws.specs.running_words_Parts.{left_in}
 use Rattle.moving_laws.specs.Ready.{bytes_in}
 use Rattle.moving_laws.proofs.Kept.{ready, shapes-same, shapes-moved, left-moved, behind-keeps, behind-whole, live-of, roomier}
-use Rattle.moving_laws.proofs.running_words_Called.{not_254, alone-lossless, called}
-use Rattle.moving_laws.proofs.Settled.{settling-long, settling-free, settles-so, risen-told, many-of}
+use Rattle.moving_laws.proofs.running_words_Called.{not_254, alone-lossless, called, risen-told, many-of}
+use Rattle.moving_laws.proofs.Settled.{settling-long, settling-free, settles-so}
 use Rattle.std.proofs.lemmas.List.Elements.{All-nil}
 use Rattle.election.specs.superblocks_Reading.{list_length}
 use Rattle.pieces.specs.flat_history_the_Entry.{Entry}
