@@ -55,6 +55,7 @@ use Rattle.moving_laws.specs.Ready.{bytes_in}
 use Rattle.running_words.specs.Calls.{IsCopyDue}
 use Rattle.moving_laws.proofs.Kept.{left_by, left-moved}
 use Rattle.mending_kept.proofs.kept_history_Turned.{fills-on_course}
+use Rattle.moving_laws.proofs.WriteLaws.{same-span, same-count, same-flag}
 
 -- ---- the number of a call that goes on
 
@@ -83,15 +84,6 @@ going-few entries who goes few = by goes.call goes.is goes.own
         omega (arith, few, next)
 
 -- ---- the window that is open
-
-same-span : (s t : Span) (m n : ℕ) (a b : Bool) → Entered s m a ≡ Entered t n b → s ≡ t
-same-span s t m n a b e = cc
-
-same-count : (s t : Span) (m n : ℕ) (a b : Bool) → Entered s m a ≡ Entered t n b → m ≡ n
-same-count s t m n a b e = cc
-
-same-flag : (s t : Span) (m n : ℕ) (a b : Bool) → Entered s m a ≡ Entered t n b → a ≡ b
-same-flag s t m n a b e = cc
 
 -- a stripe of the window that is found open is to be copied, and no stripe behind the list is zeroed
 pub due-is : {B : Type 0} (array : RunningParts B) (span : Span) (copied : ℕ) (sectioned : Bool) → IsCopyDue array → array.course.window ≡ Entered span copied sectioned

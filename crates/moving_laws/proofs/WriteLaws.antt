@@ -110,13 +110,13 @@ touched-open array of x inside = by array.course.window refl inside
         let zero = none-zeroed span next in
         record { span = span; copied = copied; sectioned = sectioned; is = λ i. record { window = is i; zeroed = zero i } }
 
-same-span : (s t : Span) (m n : ℕ) (a b : Bool) → Entered s m a ≡ Entered t n b → s ≡ t
+pub same-span : (s t : Span) (m n : ℕ) (a b : Bool) → Entered s m a ≡ Entered t n b → s ≡ t
 same-span s t m n a b e = cc
 
-same-count : (s t : Span) (m n : ℕ) (a b : Bool) → Entered s m a ≡ Entered t n b → m ≡ n
+pub same-count : (s t : Span) (m n : ℕ) (a b : Bool) → Entered s m a ≡ Entered t n b → m ≡ n
 same-count s t m n a b e = cc
 
-same-flag : (s t : Span) (m n : ℕ) (a b : Bool) → Entered s m a ≡ Entered t n b → a ≡ b
+pub same-flag : (s t : Span) (m n : ℕ) (a b : Bool) → Entered s m a ≡ Entered t n b → a ≡ b
 same-flag s t m n a b e = cc
 
 -- the window that is found open is that one
