@@ -31,7 +31,7 @@ pub use Rattle.still_kept.proofs.reshape_updates_BegunPlan
 pub use Rattle.still_kept.proofs.reshape_updates_EndedPlan
 pub use Rattle.still_kept.proofs.reshape_updates_NewRoles
 pub use Rattle.still_kept.proofs.reshape_updates_Taken
-mod Told
+pub mod Told
 pub use Rattle.moving.proofs.kept_history_Entered
 pub use Rattle.moving.proofs.kept_history_Tests
 pub use Rattle.moving.proofs.kept_history_Ledgers
