@@ -206,7 +206,7 @@ unrelied-short newest fit relied x lt far = elim (cases_lt relied (list_length n
 ]
 
 -- nor are they only while a resync is pending
-short-pending : (newest : Sb) (resync : Option ℕ) (relied : ℕ) → relied ≡ relied_sector newest resync → relied < list_length newest → is_some resync ≡ true
+pub short-pending : (newest : Sb) (resync : Option ℕ) (relied : ℕ) → relied ≡ relied_sector newest resync → relied < list_length newest → is_some resync ≡ true
 short-pending newest None relied relies short = absurd (let all : relied ≡ list_length newest = relies in omega (arith, all, short))
 short-pending newest (Some mended) relied relies short = refl
 

@@ -1,6 +1,5 @@
 -- Where parity isn't relied on in each row, a resync is pending, and a refusal that tells so is right by the history.
-use Rattle.std.proofs.Common.{◌≡◌, ℕ, ◌<◌, ◌≤◌, Bool, true, false, Option, Some, None, List, [], ◌++◌, refl, sym, ◌∙◌, subst, arith, append-nil}
-use Rattle.std.specs.Prelude.{is_some}
+use Rattle.std.proofs.Common.{◌≡◌, ℕ, ◌<◌, ◌≤◌, Bool, true, false, Option, List, [], ◌++◌, sym, ◌∙◌, subst, arith, append-nil}
 use Rattle.std.specs.List.{list_any}
 use Rattle.running_words.specs.md_base_the_Refusal.{Refusal}
 use Rattle.running_words.specs.md_base_the_Refusal_TheVariants.{NotResynced}
@@ -33,11 +32,7 @@ use Rattle.mending_kept.proofs.region_writes_Together.{shape-force}
 use Rattle.mending_kept.specs.region_mends_Mends.{relied_sector}
 use Rattle.mending_kept.specs.course_kept_the_Course.{Course}
 use Rattle.mending_kept.specs.moving_kept_Moving.{IsMoving}
-use Rattle.mending_kept.proofs.moving_kept_Writing.{unrelied-short}
-
-short-pending : (newest : Sb) (resync : Option ℕ) (relied : ℕ) → relied ≡ relied_sector newest resync → relied < list_length newest → is_some resync ≡ true
-short-pending newest None relied relies short = absurd (let all : relied ≡ list_length newest = relies in omega (arith, all, short))
-short-pending newest (Some mended) relied relies short = refl
+use Rattle.mending_kept.proofs.moving_kept_Writing.{unrelied-short, short-pending}
 
 none-ended : (who : Who) (end roles spares : ℕ) → list_any (λ e. is_resync_end e.event) (entries_of who end (losses_of roles spares)) ≡ false
 none-ended who end roles spares =
