@@ -71,6 +71,7 @@ use Rattle.moving_ends.proofs.history_calls_Plans.{behind-all, ArePlannedTo, pla
 use Rattle.moving_ends.specs.moving_kept_Moving.{HasListStill, IsStillKept}
 use Rattle.moving_ends.proofs.moving_kept_Beginning.{safe-over}
 use Rattle.moving_ends.proofs.Consistent.{consistent-at}
+use Rattle.moving_ends.proofs.Ended.{disturbs-entries}
 use Rattle.takeover_kept.proofs.TakenMembers.{IsTaken, still-then, taken-then, taken-long, stands-then, rows-then}
 
 -- What the takeover of a level leaves: its members are the plan's, but for lost slots; its update is safe from one ledger to another; and what is missing then was missing, or is told lost, or is
@@ -97,10 +98,6 @@ come-losses [] are = refl
 come-losses (Lost role Fault ∷ xs) are = come-losses xs are
 come-losses (SpareLost slot ∷ xs) are = come-losses xs are
 come-losses (event ∷ xs) are = absurd are
-
-disturbs-entries : (who : Who) (end : ℕ) (xs : List Event) → list_any (λ e. disturbs e.event) (entries_of who end xs) ≡ list_any disturbs xs
-disturbs-entries who end [] = refl
-disturbs-entries who end (x ∷ xs) = ap (λ (b : Bool). disturbs x || b) (disturbs-entries who end xs)
 
 -- a level that has another tolerance is turned
 turned-up : (level : ℕ) → tolerance_of level ≡ 1 → (level == 6) ≡ false
