@@ -1,5 +1,5 @@
 -- A flush, a stop, or the end of a resync, from what `settle` leaves; and a flush or a stop that is refused since too many are missing.
-use Rattle.std.proofs.Common.{◌≡◌, inl, inr, ℕ, ◌<◌, ◌≤◌, ◌==◌, ◌&&◌, Bool, true, false, not, Option, Some, None, List, [], ◌∷◌, ◌++◌, length, refl, sym, ◌∙◌, ap, subst, arith}
+use Rattle.std.proofs.Common.{◌≡◌, inl, inr, ℕ, ◌<◌, ◌≤◌, ◌==◌, ◌&&◌, Bool, true, false, not, List, [], ◌∷◌, ◌++◌, length, refl, sym, ◌∙◌, ap, subst, arith}
 use Rattle.std.specs.Prelude.{IsFalse, IfSome, IsSome, is_some, ⊤}
 use Rattle.moving_kept.specs.md_base_Sectors.{Sector}
 use Rattle.moving_kept.specs.md_base_Shapes.{tolerance, tolerance_of}
@@ -86,11 +86,6 @@ flush-is = takes-newest Flushed refl (λ n. refl) (λ n. refl) (λ x values. ref
 
 pub stop-is : IsSettlement Stopped
 stop-is = takes-newest Stopped refl (λ n. refl) (λ n. refl) (λ x values. refl)
-
--- where no resync is pending, all rows are mended
-pub all-mended : (m : Members) (resync : Option ℕ) (unsynced : Bool) → unsynced ≡ is_some resync → unsynced ≡ false → m.newest.size ≤ mended_rows resync m
-all-mended m None unsynced same synced = omega arith
-all-mended m (Some mended) unsynced same synced = absurd (let no = sym same ∙ synced in cc)
 
 module _ (tells : Type 0) (given : Given) (tape tape' : List Operation) (scope : Scope) (first : ℕ) (entries : List Entry) (old new : Members) (work : Work) (left : ℕ)
     (who : Who) (end roles spares : ℕ) (before after : ℕ → ℕ) (unsynced : Bool)
