@@ -66,3 +66,4 @@ pub use Rattle.moving_kept.proofs.history_laws_OneShapeGrowing
 pub use Rattle.moving_kept.proofs.history_laws_ReshapedLaws
 pub use Rattle.moving_kept.proofs.history_laws_GrowingLaws
 pub use Rattle.moving_kept.proofs.call_entries_BearerLaws
+pub use Rattle.moving_kept.proofs.ReadShapes as moving_kept_ReadShapes

@@ -34,13 +34,13 @@ use Rattle.pieces.proofs.views_MovedLaws.{grows-none, moved-same}
 use Rattle.moving_laws.specs.shape_changes_Steady.{AreUnlost}
 use Rattle.moving_laws.specs.array_kept_Calls.{by_answer, IsLossBy, WasSpare, IsEndOf, IsRefusedFor, IsBehind}
 use Rattle.moving_laws.proofs.array_kept_ReplyLaws.{too-many-of, refused-for}
-use Rattle.moving_laws.proofs.Kept.{AreSameShapes}
 use Rattle.moving_laws.specs.running_words_Parts.{RunningParts}
 use Rattle.moving_laws.specs.running_words_Calls.{IsCalled, IsCopyDue, IsRecordDue, IsZeroDue}
 use Rattle.moving_laws.specs.moving_state_Due.{IsDue}
 use Rattle.moving_laws.specs.moving_state_the_Due_TheVariants.{Copy, Record, Zero}
 use Rattle.moving_laws.specs.Mending.{IsMendCalled}
 use Rattle.moving_laws.proofs.running_words_Called.{called}
+use Rattle.moving_laws.proofs.moving_kept_ReadShapes.{HasShapesOf}
 
 -- nothing was done
 pub still-called : {B tells : Type 0} {given : Given} {tape : List Operation} {faults : ℕ → ℕ} (array : RunningParts B)
@@ -150,7 +150,7 @@ zeroed-moved {old = old} {new = new} cleared moved few =
     omega (arith, few, same)
 
 -- the phases ahead of them are as sound
-pub sound-same : {old new : Sb} (phases : List Phase) → AreSameShapes old new → AreSound (final_shape old) old.size phases → AreSound (final_shape new) new.size phases
+pub sound-same : {old new : Sb} (phases : List Phase) → HasShapesOf old new → AreSound (final_shape old) old.size phases → AreSound (final_shape new) new.size phases
 sound-same {old = old} {new = new} phases same sound =
     subst (λ (s : Shape). AreSound s new.size phases) (sym same.final) (subst (λ (n : ℕ). AreSound (final_shape old) n phases) (sym same.size) sound)
 
