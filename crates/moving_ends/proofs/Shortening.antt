@@ -1,7 +1,7 @@
 -- A reshape that makes the list shorter begins in an array that had none: the call tells its step, the new length, and what its update lost. Where no live slot is left, no slot
 -- need have kept that length, but all roles are gone.
-use Rattle.std.proofs.Common.{◌≡◌, ◌≢◌, ◌⊎◌, inl, inr, ℕ, ◌+◌, ◌<◌, ◌≤◌, ◌==◌, ◌&&◌, ◌||◌, nat_lt, max, not, Bool, true, false, cond, unwrap_or, Option, Some, None, List, [], ◌∷◌, ◌++◌, length, refl, sym, ◌∙◌, ap, subst, arith, append_assoc, append-nil}
-use Rattle.std.specs.Prelude.{IsFalse, IsTrue, IfSome, MatchOption, fold, filter, slice_index_or, ⊤}
+use Rattle.std.proofs.Common.{◌≡◌, ◌≢◌, ◌⊎◌, inl, inr, ℕ, ◌+◌, ◌<◌, ◌≤◌, ◌==◌, ◌&&◌, ◌||◌, nat_lt, max, Bool, true, false, cond, Option, Some, None, List, [], ◌∷◌, ◌++◌, length, refl, sym, ◌∙◌, ap, subst, arith, append_assoc, append-nil}
+use Rattle.std.specs.Prelude.{IsFalse, IsTrue, IfSome, MatchOption, fold, slice_index_or, ⊤}
 use Rattle.std.specs.List.{list_any}
 use Rattle.std.specs.Option.{option_map_or}
 use Rattle.std.proofs.lemmas.Bool.Decides.{nat_tests}
@@ -22,10 +22,10 @@ use Rattle.moving_kept.specs.flat_history_the_Event.{Event}
 use Rattle.moving_kept.specs.flat_history_the_Event_TheVariants.{Resized, Step}
 use Rattle.moving_kept.specs.flat_history_the_StepKind_TheVariants.{Begun}
 use Rattle.moving_kept.specs.flat_history_Epochs.{HasRoomForEvents}
-use Rattle.moving_kept.specs.flat_history_Flat.{length_of, values_of, values_after, now, is_same_call, last_of}
+use Rattle.moving_kept.specs.flat_history_Flat.{length_of, values_of, values_after, now, is_same_call}
 use Rattle.moving_kept.specs.flat_history_Flat.{resized as cut}
 use Rattle.moving_kept.specs.flat_history_Growing.{EndBy}
-use Rattle.moving_kept.specs.flat_history_Legal.{told_left, level_at, level_after, call_before, disturbs, is_loss, last_but_losses, is_all_gone, IsLengthOfLevel, IsUnkeptLength, IsResizedAfter, IsResized}
+use Rattle.moving_kept.specs.flat_history_Legal.{told_left, level_at, level_after, call_before, disturbs, is_all_gone, IsLengthOfLevel, IsUnkeptLength, IsResizedAfter, IsResized}
 use Rattle.moving_kept.specs.flat_history_Losses.{is_gone_after, is_unsynced, unsettles, loses}
 use Rattle.moving_kept.specs.flat_history_OneShape.{is_lost, is_unsettled}
 use Rattle.moving_kept.specs.flat_history_Plain.{entries_of}
@@ -62,6 +62,7 @@ use Rattle.moving_kept.proofs.Beginning.{told_before}
 use Rattle.moving_kept.proofs.history_calls_Behind.{IsAmong, early-losses, inner-of, legal-losses, or-false}
 use Rattle.moving_kept.proofs.NoneLeft.{all_below-each, none-held}
 use Rattle.moving_kept.proofs.ReadShapes.{HasShapesOf, IsEitherRead}
+use Rattle.moving_kept.proofs.history_calls_LastStep.{last-step}
 
 -- What the begin of such a reshape leaves: its update is safe from one ledger to another, what is missing then was missing among the roles of the old shape or is told
 -- lost, what is read at its end says the shapes as before or as planned, and the list has its new length, that of a shape of the array's level.
@@ -87,14 +88,6 @@ pub record IsShorteningCall (given : Given) (tape : List Operation) (scope : Sco
       → IsSafeOver (world_in given tape scope first) given told old tape → IsSafeChange (OpensFit (world_in given tape scope first)) scope given told more new tape tape'
 
 -- ---- the last entry that is no loss
-
-last-kept : (xs : List Entry) (e : Entry) → is_loss e.event ≡ false → last_but_losses (xs ++ e ∷ []) ≡ Some e
-last-kept [] e none = ap (λ (b : Bool). last_of (cond (not b) (e ∷ []) [])) none
-last-kept (x ∷ xs) e none = by (is_loss x.event) (last-kept xs e none)
-  where
-    by : (b : Bool) → last_of (filter (λ e. not (is_loss e.event)) (xs ++ e ∷ [])) ≡ Some e → last_of (cond (not b) (x ∷ filter (λ e. not (is_loss e.event)) (xs ++ e ∷ [])) (filter (λ e. not (is_loss e.event)) (xs ++ e ∷ []))) ≡ Some e
-    by true rest = rest
-    by false rest = ap (λ (o : Option Entry). Some (unwrap_or o x)) rest
 
 module _ (given : Given) (tape : List Operation) (scope : Scope) (first : ℕ) (entries : List Entry) (old plan new : Members) (carried carried' : ℕ → ℕ → Bool) (who : Who) (left n roles spares : ℕ) (ops : List Operation)
     (sizes_are : scope.sizes ≡ sizes given) (begun : first ≤ length tape) (ends : EndBy (length tape) entries) (recorded : length_of (length (opening_list (world_in given tape scope first))) entries ≡ list_length old.newest)
@@ -365,7 +358,7 @@ module _ (given : Given) (tape : List Operation) (scope : Scope) (first : ℕ) (
 
     -- the length is what the members that are left say
     resized-legal : IsReliable later all → IsResized later (entries ++ entry ∷ []) change_entry more n
-    resized-legal fills = subst (λ (o : Option Entry). MatchOption o ⊥ (λ last. IsTrue (is_same_call last change_entry) × IsResizedAfter later (entries ++ entry ∷ []) change_entry more n last.event)) (sym (last-kept entries entry refl)) (
+    resized-legal fills = subst (λ (o : Option Entry). MatchOption o ⊥ (λ last. IsTrue (is_same_call last change_entry) × IsResizedAfter later (entries ++ entry ∷ []) change_entry more n last.event)) (sym (last-step entries entry refl)) (
       same-call who.caller who.number,
       record {
         changes =
