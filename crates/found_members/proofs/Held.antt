@@ -31,15 +31,12 @@ use Rattle.array_kept.specs.shape_changes_Held.{IsHeldBy}
 use Rattle.array_kept.specs.shape_views_Views.{Disk}
 use Rattle.array_kept.specs.Kept.{scope_in}
 use Rattle.array_kept.specs.Adopting.{AreNumbersKept}
+use Rattle.array_kept.proofs.flat_history_LegalLaws.{both}
 use Rattle.found_members.specs.Found.{AreStored}
 
 pub one : {a v : Sector} → IsIn (v ∷ []) a → a ≡ v
 one (inl same) = same
 one (inr none) = absurd none
-
-both : (a b : Bool) → (a && b) ≡ true → (a ≡ true) × (b ≡ true)
-both true b h = (refl, h)
-both false b h = absurd (cc)
 
 -- a reading that is refused for nothing isn't refused for its members
 no-refusal : (scope : Scope) (c : Contents) (r : Reading) → reading scope c ≡ Some r → verdict scope c ≡ None → members_refusal scope.sizes.sectors r ≡ None

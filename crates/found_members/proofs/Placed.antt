@@ -29,6 +29,7 @@ use Rattle.array_kept.specs.shape_changes_Steady.{AreUnlost}
 use Rattle.array_kept.specs.views_Rebuilding.{AreSparesFree}
 use Rattle.array_kept.specs.shape_views_Regions.{AreShapesFit}
 use Rattle.array_kept.proofs.views_MarkLaws.{held-holder}
+use Rattle.array_kept.proofs.flat_history_LegalLaws.{both}
 use Rattle.found_members.specs.Found.{AreElected}
 use Rattle.found_members.proofs.Elected.{elected-valid, reading-made}
 
@@ -137,10 +138,6 @@ held-any (suc n) f s is = by (list_any (is_held_by s) (tabulate n f)) (is_held_b
     by false false lesser here is = absurd (cc)
 
 -- ---- the members
-
-both : (a b : Bool) → (a && b) ≡ true → (a ≡ true) × (b ≡ true)
-both true b e = (refl, e)
-both false b e = absurd (cc)
 
 -- the last two of five
 last-two : (a b c d e : Bool) → (a && b && c && d && e) ≡ true → (d ≡ true) × (e ≡ true)
