@@ -146,10 +146,10 @@ match_false : (b : Bool) (P Q : Type 0) → b ≡ false → Q → MatchBool b P 
 match_false true P Q e q = absurd cc
 match_false false P Q e q = q
 
-past_at : (visible to told : ℕ) → visible < to → IsRefusedAt visible to IsReadRefused (PastEnd told)
+pub past_at : (visible to told : ℕ) → visible < to → IsRefusedAt visible to IsReadRefused (PastEnd told)
 past_at visible to told lt = match_true (nat_lt visible to) (IsPastEnd (PastEnd told)) (IsReadRefused (PastEnd told) × ¬ IsPastEnd (PastEnd told)) (grind (arith, nat_tests, lt)) tt
 
-missing_at : (visible to : ℕ) (refusal : Refusal) → to ≤ visible → IsOfMissing refusal → IsRefusedAt visible to IsReadRefused refusal
+pub missing_at : (visible to : ℕ) (refusal : Refusal) → to ≤ visible → IsOfMissing refusal → IsRefusedAt visible to IsReadRefused refusal
 missing_at visible to refusal le of = match_false (nat_lt visible to) (IsPastEnd refusal) (IsReadRefused refusal × ¬ IsPastEnd refusal) (grind (arith, nat_tests, le)) of
 
 -- what a call that transfers up to `to` may be refused with; no call but one of these is refused past the end
