@@ -72,7 +72,7 @@ none_before entries who end event number = by (reverse entries) (last_of entries
         some_same : (a b : Entry) → ◌≡◌ {A = Option Entry} (Some a) (Some b) → a ≡ b
         some_same a b e = ap (λ (o : Option Entry). unwrap_or o a) e
 
-torn_before : (request : Request) (e : Entry) (zs tail : List Entry) → rest_of_call e tail ≡ [] → AreTornOf request zs → AreTornOf request (rest_of_call e (zs ++ tail))
+pub torn_before : (request : Request) (e : Entry) (zs tail : List Entry) → rest_of_call e tail ≡ [] → AreTornOf request zs → AreTornOf request (rest_of_call e (zs ++ tail))
 torn_before request e [] tail none torn = subst (λ (l : List Entry). AreTornOf request l) (sym none) tt
 torn_before request e (z ∷ zs) tail none torn = by (is_same_call e z) (torn_before request e zs tail none torn.1)
   where
