@@ -47,7 +47,7 @@ use Rattle.moving_kept.specs.kept_history_Recorded.{IsHistoryKept, IsLegalCall, 
 use Rattle.moving_kept.specs.kept_history_Safe.{world_in, IsFilledRight, IsSafeHistory}
 use Rattle.moving_kept.specs.kept_history_Told.{told_now, told_by}
 use Rattle.moving_kept.proofs.kept_history_Growing.{reading-grown, opening-grown, fit-grown, gone-grown, unsynced-grown, now-grown, room-before, room-now}
-use Rattle.moving_kept.proofs.kept_history_Ledgers.{more-then, any-gone, unclean-now, unsynced-still, none-ends}
+use Rattle.moving_kept.proofs.kept_history_Ledgers.{more-then, any-gone, unclean-now}
 use Rattle.moving_kept.proofs.kept_history_Longer.{regains-none}
 use Rattle.moving_kept.proofs.kept_history_Lengths.{length-now}
 use Rattle.moving_kept.proofs.kept_history_Lists.{newest-in}
@@ -63,6 +63,7 @@ use Rattle.moving_kept.proofs.history_calls_Behind.{IsAmong, early-losses, inner
 use Rattle.moving_kept.proofs.NoneLeft.{all_below-each, none-held}
 use Rattle.moving_kept.proofs.ReadShapes.{HasShapesOf, IsEitherRead}
 use Rattle.moving_kept.proofs.history_calls_LastStep.{last-step}
+use Rattle.moving_kept.proofs.array_kept_LedgerLaws.{none-ends, unsynced-more}
 
 -- What the begin of such a reshape leaves: its update is safe from one ledger to another, what is missing then was missing among the roles of the old shape or is told
 -- lost, what is read at its end says the shapes as before or as planned, and the list has its new length, that of a shape of the array's level.
@@ -303,7 +304,7 @@ module _ (given : Given) (tape : List Operation) (scope : Scope) (first : ℕ) (
 
   -- and a resync is as pending
   pub shortened-unsynced : is_unsynced later all ≡ is_unsynced world entries
-  shortened-unsynced = unsynced-grown world ops begun all ∙ unsynced-still world entries added (none-ends added (settle-none more adds-more))
+  shortened-unsynced = unsynced-grown world ops begun all ∙ unsynced-more world entries added (none-ends added (settle-none more adds-more))
 
   -- each sector that the list keeps has the value that it had
   pub shortened-values : (x : ℕ) → x < n → now (opening_list later) all x ≡ now (opening_list world) entries x

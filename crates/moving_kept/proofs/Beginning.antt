@@ -40,7 +40,7 @@ use Rattle.history_calls.specs.kept_history_Recorded.{IsHistoryKept, IsLegalCall
 use Rattle.history_calls.specs.kept_history_Safe.{world_in, IsFilledRight, IsSafeHistory}
 use Rattle.history_calls.specs.kept_history_Told.{told_now, told_by}
 use Rattle.history_calls.proofs.kept_history_Growing.{reading-grown, opening-grown, gone-grown, unsynced-grown, now-grown, room-before, room-now}
-use Rattle.history_calls.proofs.kept_history_Ledgers.{more-then, any-gone, unclean-now, unsynced-still, none-ends}
+use Rattle.history_calls.proofs.kept_history_Ledgers.{more-then, any-gone, unclean-now}
 use Rattle.history_calls.proofs.kept_history_Longer.{regains-none}
 use Rattle.history_calls.proofs.kept_history_Calls.{now-live}
 use Rattle.history_calls.proofs.kept_history_Entered.{AreAdding, told-adding, settle-none, values-more, values-adding, length-adding, gone-was, gone-lost}
@@ -50,6 +50,7 @@ use Rattle.history_calls.proofs.kept_history_Turned.{begun-old, filled-before}
 use Rattle.history_calls.proofs.kept_history_Turns.{either-call}
 use Rattle.history_calls.specs.Reliable.{IsReliable, AreToldGone}
 use Rattle.history_calls.proofs.Behind.{IsAmong, early-losses, inner-of, legal-losses, or-false}
+use Rattle.history_calls.proofs.array_kept_LedgerLaws.{none-ends, unsynced-more}
 use Rattle.moving_kept.specs.Moving.{IsStillKept}
 use Rattle.moving_kept.proofs.ReadShapes.{IsShapeRead}
 
@@ -296,7 +297,7 @@ module _ (given : Given) (tape : List Operation) (scope : Scope) (first : ℕ) (
 
   -- and a resync is as pending
   pub begun-unsynced : is_unsynced later all ≡ is_unsynced world entries
-  begun-unsynced = unsynced-grown world ops begun all ∙ unsynced-still world entries added (none-ends added (settle-none added adds-all))
+  begun-unsynced = unsynced-grown world ops begun all ∙ unsynced-more world entries added (none-ends added (settle-none added adds-all))
 
   -- each sector of the list has the value that it had
   pub begun-values : (x : ℕ) → now (opening_list later) all x ≡ now (opening_list world) entries x

@@ -25,7 +25,6 @@ use Rattle.mending_kept.specs.call_entries_Losing.{losses_of}
 use Rattle.mending_kept.proofs.call_entries_CallLaws.{losses-are, ends-losses}
 use Rattle.mending_kept.specs.kept_history_Safe.{world_in}
 use Rattle.mending_kept.proofs.kept_history_Growing.{unsynced-grown}
-use Rattle.mending_kept.proofs.kept_history_Ledgers.{unsynced-still}
 use Rattle.running_words.specs.history_calls_Reliable.{AreToldGone}
 use Rattle.mending_kept.specs.region_rows_Stretches.{relied_rows}
 use Rattle.mending_kept.proofs.region_writes_Together.{shape-force}
@@ -33,6 +32,7 @@ use Rattle.mending_kept.specs.region_mends_Mends.{relied_sector}
 use Rattle.mending_kept.specs.course_kept_the_Course.{Course}
 use Rattle.mending_kept.specs.moving_kept_Moving.{IsMoving}
 use Rattle.mending_kept.proofs.moving_kept_Writing.{unrelied-short, short-pending}
+use Rattle.mending_kept.proofs.array_kept_LedgerLaws.{unsynced-more}
 
 none-ended : (who : Who) (end roles spares : ℕ) → list_any (λ e. is_resync_end e.event) (entries_of who end (losses_of roles spares)) ≡ false
 none-ended who end roles spares =
@@ -53,7 +53,7 @@ module _ {tells : Type 0} {given : Given} {tape : List Operation} {scope : Scope
       let lost = entries_of who end (losses_of roles spares) in
       subst (λ (l : List Operation). is_unsynced (world_in given l scope first) (entries ++ lost) ≡ true) (sym g.1)
       (unsynced-grown (world_in given tape scope first) g.0 (was.recorded t).begun (entries ++ lost)
-      ∙ unsynced-still (world_in given tape scope first) entries lost (none-ended who end roles spares)
+      ∙ unsynced-more (world_in given tape scope first) entries lost (none-ended who end roles spares)
       ∙ pends)
 
 -- a role is missing while a resync is pending

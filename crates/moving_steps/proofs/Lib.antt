@@ -98,3 +98,5 @@ pub use Rattle.moving.proofs.moving_laws_BarredLaws
 pub use Rattle.moving.proofs.moving_kept_Writing
 pub use Rattle.moving.proofs.moving_laws_WriteReplies
 pub use Rattle.moving.proofs.call_entries_BearerLaws
+pub use Rattle.moving.proofs.array_kept_LedgerLaws
+pub use Rattle.moving.proofs.array_kept_RecordLaws

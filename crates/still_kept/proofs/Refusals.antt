@@ -28,9 +28,9 @@ use Rattle.moving_kept.proofs.views_Fit.{force-disks}
 use Rattle.moving_kept.specs.call_entries_Losing.{losses_of}
 use Rattle.moving_kept.proofs.call_entries_CallLaws.{losses-are, ends-losses}
 use Rattle.moving_kept.specs.kept_history_Safe.{world_in}
-use Rattle.moving_kept.proofs.kept_history_Ledgers.{unsynced-still}
 use Rattle.moving_kept.specs.history_calls_Reliable.{AreToldGone}
 use Rattle.moving_kept.proofs.Refusals.{missing-told, tolerated-told}
+use Rattle.moving_kept.proofs.array_kept_LedgerLaws.{unsynced-more}
 use Rattle.still_kept.proofs.Leaving.{unsynced-later}
 
 -- Why a call is refused, by the members that it leaves: too many roles are missing, or a role is while a resync is pending; other refusals tell nothing that
@@ -75,5 +75,5 @@ pub unsynced-behind : (tells : Type 0) (given : Given) (tape tape' : List Operat
     → tells → is_unsynced (world_in given tape' scope first) (entries ++ entries_of who end (losses_of roles spares)) ≡ is_unsynced (world_in given tape scope first) entries
 unsynced-behind tells given tape tape' scope first entries who end roles spares grows begun t =
     unsynced-later given scope first (entries ++ entries_of who end (losses_of roles spares)) grows begun t
-    ∙ unsynced-still (world_in given tape scope first) entries (entries_of who end (losses_of roles spares))
+    ∙ unsynced-more (world_in given tape scope first) entries (entries_of who end (losses_of roles spares))
     (subst (λ (l : List Event). list_any (λ e. is_resync_end e.event) (entries_of who end l) ≡ false) (append-nil (losses_of roles spares)) (ends-losses who end (losses_of roles spares) [] (losses-are roles spares)))

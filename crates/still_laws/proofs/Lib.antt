@@ -63,3 +63,4 @@ pub use Rattle.still_kept.proofs.shape_changes_Kept
 pub use Rattle.still_kept.proofs.superblock_reads_SaidLists
 pub use Rattle.still_kept.proofs.superblock_reads_SaidSlots
 pub use Rattle.still_kept.proofs.call_entries_BearerLaws
+pub use Rattle.still_kept.proofs.calls_kept_SettledLaws

@@ -62,7 +62,6 @@ use Rattle.still_kept.specs.grow_asked_the_PhasesLeft.{PhasesLeft}
 use Rattle.still_kept.specs.grow_asked_Left.{phases_of}
 use Rattle.still_kept.specs.kept_history_Recorded.{IsCallGoing}
 use Rattle.still_kept.specs.kept_history_Safe.{world_in}
-use Rattle.still_kept.proofs.kept_history_Ledgers.{unsynced-still}
 use Rattle.running_words.specs.Parts.{visible_size, still_left}
 use Rattle.running_words.specs.Plans.{turns_shape, KeepsShape}
 use Rattle.running_words.proofs.VisibleLaws.{visible-within}
@@ -70,6 +69,7 @@ use Rattle.still_kept.specs.Still.{AreAtRest}
 use Rattle.still_kept.proofs.Reading.{visible-behind, now-behind}
 use Rattle.still_kept.proofs.Stood.{within-count}
 use Rattle.still_kept.proofs.array_kept_IdleLaws.{recovered-none, counted-none, min-none, no-resync, times-none}
+use Rattle.still_kept.proofs.array_kept_LedgerLaws.{unsynced-more}
 use Rattle.still_laws.specs.Plain.{MayTellPlainly, AreToldPlainly, IsPlainKept}
 use Rattle.still_laws.specs.Ready.{IsReady}
 use Rattle.still_laws.specs.Steps.{IsEndedRight, MayEndNow, IsStepsReplyNow}
@@ -149,7 +149,7 @@ module _ {tells : Type 0} {given : Given} {tape tape' : List Operation} {scope :
 
   pending-lost : tells → is_unsynced (world_in given tape scope first) (entries ++ entries_of who end (losses_of roles spares)) ≡ is_some work.resync
   pending-lost t =
-      unsynced-still world entries (entries_of who end losses)
+      unsynced-more world entries (entries_of who end losses)
       (alone (λ (l : List Event). list_any (λ e. is_resync_end e.event) (entries_of who end l) ≡ false) (ends-losses who end losses [] (losses-are roles spares)))
       ∙ was.kept.pending t
 
@@ -241,7 +241,7 @@ module _ {tells : Type 0} {given : Given} {tape tape' : List Operation} {scope :
         (
           refusal-behind (TooManyMissing count most) (visible_of (length (opening_list world)) ((entries ++ entries_of who end losses) ++ one who end (Torn at (sectors_of from)) ∷ []))
               ((entries ++ entries_of who end losses) ++ one who end (Torn at (sectors_of from)) ∷ []) many p
-              (unsynced-still world (entries ++ entries_of who end losses) (one who end (Torn at (sectors_of from)) ∷ []) refl ∙ pending-lost t) refl
+              (unsynced-more world (entries ++ entries_of who end losses) (one who end (Torn at (sectors_of from)) ∷ []) refl ∙ pending-lost t) refl
               (told-more new (entries ++ entries_of who end losses) (one who end (Torn at (sectors_of from)) ∷ []) (λ role. refl) (told-lost p)),
           tt,
           tt,

@@ -58,7 +58,7 @@ use Rattle.still_kept.proofs.kept_history_Calls.{now-live}
 use Rattle.still_kept.proofs.kept_history_Entered.{AreAdding, told-adding, settle-none, values-more, values-adding, length-adding, gone-was, gone-lost}
 use Rattle.still_kept.proofs.kept_history_Growing.{reading-grown, opening-grown, gone-grown, unsynced-grown, now-grown, room-before, room-now}
 use Rattle.still_kept.proofs.kept_history_KeptCalls.{kept-call}
-use Rattle.still_kept.proofs.kept_history_Ledgers.{any-gone, unclean-now, unsynced-still, none-ends}
+use Rattle.still_kept.proofs.kept_history_Ledgers.{any-gone, unclean-now}
 use Rattle.still_kept.proofs.kept_history_Lengths.{now-drawn}
 use Rattle.still_kept.proofs.kept_history_Longer.{regains-none}
 use Rattle.still_kept.proofs.kept_history_Reshapes.{call-ends_none}
@@ -72,6 +72,7 @@ use Rattle.moving_ends.specs.moving_kept_Moving.{HasListStill, IsStillKept}
 use Rattle.moving_ends.proofs.moving_kept_Beginning.{safe-over}
 use Rattle.moving_ends.proofs.Consistent.{consistent-at}
 use Rattle.moving_ends.proofs.Ended.{disturbs-entries}
+use Rattle.still_kept.proofs.array_kept_LedgerLaws.{none-ends, unsynced-more}
 use Rattle.takeover_kept.proofs.TakenMembers.{IsTaken, still-then, taken-then, taken-long, stands-then, rows-then}
 
 -- What the takeover of a level leaves: its members are the plan's, but for lost slots; its update is safe from one ledger to another; and what is missing then was missing, or is told lost, or is
@@ -327,7 +328,7 @@ module _ (given : Given) (tape : List Operation) (scope : Scope) (first : ℕ) (
 
   -- a resync is as pending
   pub taken-unsynced : is_unsynced later all ≡ is_unsynced world entries
-  taken-unsynced = unsynced-grown world ops begun all ∙ unsynced-still world entries added (none-ends added (settle-none added adds-all))
+  taken-unsynced = unsynced-grown world ops begun all ∙ unsynced-more world entries added (none-ends added (settle-none added adds-all))
 
   -- ---- the list
 

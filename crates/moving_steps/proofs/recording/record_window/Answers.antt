@@ -24,13 +24,14 @@ use Rattle.moving.proofs.moving_kept_Steps.{missing-since}
 use Rattle.moving.specs.running_words_Calls.{IsRecordDue}
 use Rattle.moving.specs.running_words_Parts.{left_in}
 use Rattle.moving.specs.moving_laws_Ready.{bytes_in}
-use Rattle.moving.proofs.running_words_Called.{not_254, called, alone-lossless}
-use Rattle.moving.proofs.moving_laws_Kept.{ready, ready-moved, shapes-same, shapes-moved, alone-keeps, behind-keeps, behind-whole, live-of}
-use Rattle.moving.proofs.moving_laws_Settled.{many-of}
-use Rattle.moving.proofs.moving_laws_RecordLaws.{window-next, same-span, all_copied, record-left, moved-if, moved-none, safe-none-of, shapes-past, since-past, record-refused, record-done}
+use Rattle.moving.proofs.running_words_Called.{not_254, called, alone-lossless, many-of}
+use Rattle.moving.proofs.moving_laws_Kept.{ready, ready-moved, shapes-same, shapes-moved, behind-keeps, behind-whole, live-of}
+use Rattle.moving.proofs.moving_laws_RecordLaws.{window-next, all_copied, record-left, moved-if, moved-none, safe-none-of, shapes-past, since-past, record-refused, record-done}
 use Rattle.still_kept.specs.grow_asked_Left.{phases_of}
 use Rattle.moving.proofs.StepLaws.{one-fewer, room-behind, taken-behind, under-way-moved, sound-moved, roles-past}
 use Rattle.moving.proofs.Calls.{closed-sure}
+use Rattle.moving.proofs.running_words_Lengths.{alone-keeps}
+use Rattle.moving.proofs.moving_laws_WriteLaws.{same-span}
 use Rattle.moving_steps.proofs.recording.record_window.Goals as goal
 
 -- ---- refused before anything is done

@@ -11,7 +11,7 @@ use Rattle.still_laws.specs.array_kept_Kept.{scope_in}
 use Rattle.still_laws.proofs.array_kept_LossLaws.{losses-behind, ended-behind, behind-alone, settling-no-loss}
 use Rattle.still_laws.proofs.array_kept_ReadyLaws.{scope-same}
 use Rattle.still_laws.proofs.kept_history_Records.{begins-going}
-use Rattle.still_laws.proofs.still_kept_Flushing.{IsFlushedStill, all-mended, unflushed-stands}
+use Rattle.still_laws.proofs.still_kept_Flushing.{IsFlushedStill, unflushed-stands}
 use Rattle.still_laws.specs.running_words_Parts.{visible_size, still_left}
 use Rattle.still_laws.proofs.running_words_Called.{not_254, called, alone-lossless, risen-told, many-of}
 use Rattle.still_laws.proofs.running_words_Lengths.{alone-keeps, behind-keeps}
@@ -30,6 +30,7 @@ use Rattle.pieces.specs.views_Placed.{AreWhole}
 use Rattle.still_laws.specs.shape_changes_Marking.{AreOthersPresent}
 use Rattle.still_laws.specs.array_kept_Calls.{IsRefusedFor}
 use Rattle.still_laws.proofs.array_kept_ReplyLaws.{refused-for, too-many-of}
+use Rattle.still_laws.proofs.calls_kept_SettledLaws.{all-mended}
 use Rattle.still.proofs.Rested.{count-moved, from-0, le-of, room-1, room-49}
 use Rattle.still.proofs.Asked.{entries-alike, undone-called}
 use Rattle.still.proofs.state.Still.settle_entering.Goals as goal
