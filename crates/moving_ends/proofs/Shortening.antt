@@ -31,7 +31,7 @@ use Rattle.moving_kept.specs.flat_history_OneShape.{is_lost, is_unsettled}
 use Rattle.moving_kept.specs.flat_history_Plain.{entries_of}
 use Rattle.moving_kept.specs.flat_history_Sound.{OpensFit}
 use Rattle.moving_kept.specs.flat_history_World.{World, contents_at, reading_at, opening_list}
-use Rattle.moving_kept.proofs.history_laws_OneShapeGrowing.{AreFaults}
+use Rattle.moving_kept.proofs.history_laws_OneShapeGrowing.{AreFaults, call-ends}
 use Rattle.moving_kept.specs.shape_views_Views.{Ledger}
 use Rattle.moving_kept.specs.shape_changes_Changing.{IsSafeChange}
 use Rattle.moving_kept.specs.shape_changes_Safety.{HasLiveSlot, HasRoomLeft, IsRisen}
@@ -41,7 +41,6 @@ use Rattle.moving_kept.specs.shape_ends_Ends.{IsToldWith}
 use Rattle.moving_kept.proofs.views_SoundViews.{throughout-changed}
 use Rattle.moving_kept.specs.call_entries_Losing.{losses_of}
 use Rattle.moving_kept.proofs.call_entries_CallLaws.{losses-are}
-use Rattle.moving_kept.proofs.call_entries_PlainLaws.{last_end-call}
 use Rattle.moving_kept.proofs.call_entries_StepLaws.{faults-are}
 use Rattle.moving_kept.specs.kept_history_Recorded.{IsHistoryKept, IsLegalCall, IsCallGoing, IsOpenBehind, entry_of, ends_reshape, gives_some}
 use Rattle.moving_kept.specs.kept_history_Safe.{world_in, IsFilledRight, IsSafeHistory}
@@ -405,5 +404,5 @@ module _ (given : Given) (tape : List Operation) (scope : Scope) (first : ℕ) (
         kept-call (IsReliable world entries) (IsReliable later all) world ops (list_length old.newest) (list_length new.newest) entries who (Step Begun left ∷ Resized n ∷ losses_of roles spares) goes kept
         right-before caller (λ fills. inl behind)
         (turned-length later entries who end (Step Begun left ∷ []) n (losses_of roles spares) faults (length (opening_list world)) ∙ sym call.sized)
-        (last_end-call first entries who end (Step Begun left) (Resized n ∷ losses_of roles spares))
+        (call-ends first entries who end (Step Begun left) (Resized n ∷ losses_of roles spares))
         (λ fills. shortened-legal fills told) (λ fills fit. call-ends_none later entries who end (Step Begun left ∷ Resized n ∷ losses_of roles spares) (shortened-ends_none some))

@@ -78,3 +78,4 @@ pub use Rattle.pieces.proofs.views_MovedLaws
 pub use Rattle.pieces.proofs.views_SafeStretch
 pub use Rattle.pieces.proofs.views_Still
 pub use Rattle.still_laws.proofs.call_entries_BearerLaws
+pub use Rattle.still_laws.proofs.history_laws_OneShapeGrowing

@@ -50,7 +50,6 @@ use Rattle.still_kept.proofs.views_HeldRows.{missing-moved}
 use Rattle.still_kept.proofs.views_SoundViews.{throughout-changed}
 use Rattle.still_kept.specs.call_entries_Losing.{losses_of}
 use Rattle.still_kept.proofs.call_entries_CallLaws.{AreLossEvents, losses-are}
-use Rattle.still_kept.proofs.call_entries_PlainLaws.{last_end-call}
 use Rattle.still_kept.specs.kept_history_Recorded.{IsHistoryKept, IsLegalCall, IsReshapedCall, IsCallGoing, entry_of, ends_reshape, gives_some}
 use Rattle.still_kept.specs.kept_history_Safe.{world_in, IsFilledRight, IsSafeHistory}
 use Rattle.still_kept.specs.kept_history_Told.{told_now, told_by}
@@ -73,6 +72,7 @@ use Rattle.moving_ends.proofs.moving_kept_Beginning.{safe-over}
 use Rattle.moving_ends.proofs.Consistent.{consistent-at}
 use Rattle.moving_ends.proofs.Ended.{disturbs-entries}
 use Rattle.still_kept.proofs.array_kept_LedgerLaws.{none-ends, unsynced-more}
+use Rattle.still_kept.proofs.history_laws_OneShapeGrowing.{call-ends}
 use Rattle.takeover_kept.proofs.TakenMembers.{IsTaken, still-then, taken-then, taken-long, stands-then, rows-then}
 
 -- What the takeover of a level leaves: its members are the plan's, but for lost slots; its update is safe from one ledger to another; and what is missing then was missing, or is told lost, or is
@@ -415,7 +415,7 @@ module _ (given : Given) (tape : List Operation) (scope : Scope) (first : ℕ) (
   taken-recorded goes caller =
       kept-call (IsReliable world entries) (IsReliable later all) world ops (list_length old.newest) (list_length new.newest) entries who (Step TakenOver left ∷ losses_of roles spares) goes recorded taken-before caller
       (λ right. inr gives-all)
-      (length-adding (length (opening_list world)) entries added adds-all ∙ recorded.sized ∙ sym long) (last_end-call first entries who end (Step TakenOver left) (losses_of roles spares))
+      (length-adding (length (opening_list world)) entries added adds-all ∙ recorded.sized ∙ sym long) (call-ends first entries who end (Step TakenOver left) (losses_of roles spares))
       (λ right. taken-legal) taken-right
 
   -- ---- each mark
