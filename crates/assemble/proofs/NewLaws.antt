@@ -28,6 +28,7 @@ use Rattle.found_members.specs.superblocks_Writing.{IsMember, AreWritable}
 use Rattle.found_members.specs.superblocks_Found.{AreInSectors}
 use Rattle.safe_additions.specs.row_io_Rows.{reading_of as members_reading}
 use Rattle.safe_additions.specs.flat_history_Stands.{verdict}
+use Rattle.safe_additions.proofs.safe_updates_RefusingLaws.{least-none}
 use Rattle.assemble.specs.declared.spec.CreateSpec.{CreateSpec}
 use Rattle.safe_additions.specs.views_Placed.{IsPlaced}
 use Rattle.assemble.specs.Opening.{scope_of, IsOpened, AreGiven}
@@ -40,7 +41,7 @@ use Rattle.safe_additions.specs.views_Flushing.{OnlyFlushesAdded, OnlyItsSlotsFa
 use Rattle.safe_additions.proofs.views_Flushed.{contents-added}
 use Rattle.safe_additions.proofs.views_Still.{count-still}
 use Rattle.assemble.proofs.FillLaws.{present-same}
-use Rattle.assemble.proofs.CreateLaws.{fewer, not-backup, least_below-fails}
+use Rattle.assemble.proofs.CreateLaws.{fewer, not-backup}
 use Rattle.assemble.proofs.Judged.{verdict-for, still_none}
 use Rattle.assemble.proofs.MadeLaws.{elected-made}
 use Rattle.assemble.proofs.StillFit.{still-fit}
@@ -323,7 +324,7 @@ module _ (bank : Given) (backup : Option ℕ) (spec : CreateSpec) (room : HasRoo
           let same : c s ≡ before s = (λ i k. others s k past i) in
           ap (λ f. of_array spec.uuid (cond (has_slot given s && not (is_backup backup s)) (superblock_in ((sizes bank).sectors s) f) None)) same
           ∙ none-of (of_array spec.uuid (seen_superblock scope before s))
-          (from disks s (is_some (of_array spec.uuid (seen_superblock scope before s))) past (least_below-fails bank.slots (is_used scope before disks) free s within))
+          (from disks s (is_some (of_array spec.uuid (seen_superblock scope before s))) past (least-none bank.slots (is_used scope before disks) free s within))
           ∙ sym (filled.own.none s past)
 
       are-stored : superblocks scope c ≡ take bank.slots own
