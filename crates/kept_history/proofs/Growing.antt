@@ -8,6 +8,9 @@ use Rattle.array_kept.proofs.bank_Laws.{contents-earlier}
 use Rattle.array_kept.specs.superblocks_the_Members.{Members}
 use Rattle.array_kept.specs.superblocks_Reading.{Reading, reading, is_clean, is_reshaping}
 use Rattle.array_kept.specs.flat_history_the_Entry.{Entry}
+use Rattle.array_kept.specs.flat_history_the_Event.{Event}
+use Rattle.array_kept.specs.flat_history_the_Event_TheVariants.{Lost, Rebuilt, Step}
+use Rattle.array_kept.specs.flat_history_the_StepKind_TheVariants.{Begun, TakenOver}
 use Rattle.array_kept.specs.flat_history_Epochs.{HasRoomForEvents}
 use Rattle.array_kept.specs.flat_history_Flat.{length_of, values_of}
 use Rattle.array_kept.specs.flat_history_Growing.{grown, EndBy}
@@ -19,7 +22,6 @@ use Rattle.array_kept.specs.flat_history_Sound.{OpensFit}
 use Rattle.array_kept.specs.flat_history_Stands.{stands}
 use Rattle.array_kept.specs.flat_history_World.{World, contents_at, reading_at, opening_list}
 use Rattle.array_kept.specs.shape_changes_Safety.{HasLiveSlot, HasRoomLeft}
-use Rattle.array_kept.proofs.flat_history_OneShapeGone.{gives-rebuilt as gives-plain, takes-lost as takes-plain}
 use Rattle.array_kept.proofs.SafeLaws.{room-at, room-less, longer-by}
 use Rattle.array_kept.proofs.flat_history_LegalLaws.{both}
 use Rattle.kept_history.specs.Safe.{IsCounted, IsReshapeFit, OpensOnCourse}
@@ -78,6 +80,16 @@ module _ (world : World) (ops : List Operation) where
   takes-grown (e ∷ entries) role ends = ap₂ (λ (a b : Bool). a || b) (loses-grown role e ends.0) (takes-grown entries role ends.1)
 
 -- ---- entries that turn no shape
+
+takes-plain : (found : Option Reading) (role : ℕ) (event : Event) → keeps_shape_event event ≡ true → takes found role event ≡ loses_role role event
+takes-plain found role (Lost lost cause) keeps = refl
+takes-plain found role (Step TakenOver left) keeps = absurd (cc)
+takes-plain found role event keeps = refl
+
+gives-plain : (found : Option Reading) (role : ℕ) (event : Event) → keeps_shape_event event ≡ true → gives_back found role event ≡ gives_role role event
+gives-plain found role (Rebuilt rebuilt) keeps = refl
+gives-plain found role (Step Begun left) keeps = absurd (cc)
+gives-plain found role event keeps = refl
 
 module _ (world : World) (role : ℕ) where
   -- what they take is what they tell lost

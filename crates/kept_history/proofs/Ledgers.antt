@@ -14,7 +14,6 @@ use Rattle.array_kept.specs.flat_history_World.{World, opening_list}
 use Rattle.array_kept.specs.shape_views_Views.{Ledger}
 use Rattle.array_kept.specs.shape_changes_Steady.{IsMoreTold}
 use Rattle.array_kept.proofs.LedgerLaws.{judged_by, none-ends, unsynced-more}
-use Rattle.array_kept.proofs.flat_history_OneShapeGone.{surely-unsettled, perhaps-unsettled}
 use Rattle.array_kept.proofs.views_Still.{told-same}
 use Rattle.kept_history.specs.Safe.{TakesNone}
 use Rattle.kept_history.specs.Told.{told_now, told_by}
@@ -90,6 +89,27 @@ none-gone world entries none k j role =
 
 -- ---- what is unclean
 
+unsettled-is : (was : Bool) (xs : List Entry) → fold unsettled_surely was xs ≡ (was && not (list_any (λ e. settles e.event) xs) || is_unsettled xs)
+unsettled-is was [] = same was
+  where
+    same : (b : Bool) → b ≡ (b && true || false)
+    same true = refl
+    same false = refl
+unsettled-is was (x ∷ xs) = unsettled-is (unsettled_surely was x) xs ∙ regroup was (settles x.event) (unsettles x.event) (list_any (λ e. settles e.event) xs) (is_unsettled xs)
+  where
+    regroup : (was ends begins later rest : Bool) → ((was && not ends || begins) && not later || rest) ≡ (was && not (ends || later) || (begins && not later || rest))
+    regroup true true true later rest = refl
+    regroup true true false later rest = refl
+    regroup true false true true rest = refl
+    regroup true false true false rest = refl
+    regroup true false false true rest = refl
+    regroup true false false false rest = refl
+    regroup false ends begins later rest = refl
+
+unsettled-perhaps : (was : Bool) (xs : List Entry) → fold unsettled_perhaps was xs ≡ (was || list_any (λ e. unsettles e.event) xs)
+unsettled-perhaps was [] = sym (or-none was false refl)
+unsettled-perhaps was (x ∷ xs) = unsettled-perhaps (was || unsettles x.event) xs ∙ or-assoc was (unsettles x.event) (list_any (λ e. unsettles e.event) xs)
+
 unsettled-any : (was : Bool) (xs : List Entry) → fold unsettled_surely was xs ≡ true → (was || list_any (λ e. unsettles e.event) xs) ≡ true
 unsettled-any was [] is = or-left was false is
 unsettled-any was (x ∷ xs) is = weaken was (settles x.event) (unsettles x.event) (list_any (λ e. unsettles e.event) xs) (unsettled-any (was && not (settles x.event) || unsettles x.event) xs is)
@@ -108,7 +128,7 @@ any-unsettled was (x ∷ xs) none is =
 
 unsettled-behind : (xs ys : List Entry) → is_unsettled (xs ++ ys) ≡ fold unsettled_surely (is_unsettled xs) ys
 unsettled-behind xs ys =
-    sym (surely-unsettled false (xs ++ ys)) ∙ fold-append unsettled_surely false xs ys ∙ ap (λ (b : Bool). fold unsettled_surely b ys) (surely-unsettled false xs)
+    sym (unsettled-is false (xs ++ ys)) ∙ fold-append unsettled_surely false xs ys ∙ ap (λ (b : Bool). fold unsettled_surely b ys) (unsettled-is false xs)
 
 -- what wasn't resynced behind more entries wasn't before
 unsynced-before : (world : World) (xs ys : List Entry) → is_unsynced world (xs ++ ys) ≡ true → is_unsynced world xs ≡ true
@@ -165,7 +185,7 @@ module _ (world : World) (carried : ℕ → ℕ → Bool) (reshaping : Bool) whe
       unclean =
           (λ i. is_unsynced world (take-append_seam entries (more ++ rest) i) || fold unsettled_perhaps (fold unsettled_surely false (take-append_seam entries (more ++ rest) i)) (range i))
           ∙ ap (λ (b : Bool). is_unsynced world entries || b)
-          (perhaps-unsettled (fold unsettled_surely false entries) more ∙ ap (λ (b : Bool). b || list_any (λ e. unsettles e.event) more) (surely-unsettled false entries))
+          (unsettled-perhaps (fold unsettled_surely false entries) more ∙ ap (λ (b : Bool). b || list_any (λ e. unsettles e.event) more) (unsettled-is false entries))
 
   -- And one at which each entry is made is judged by as much as the whole history tells.
   pub now-ledger : (entries : List Entry) → IsMoreTold (told_now world carried reshaping entries) (judged_by world entries (length entries) (length entries))
@@ -188,7 +208,7 @@ module _ (world : World) (carried : ℕ → ℕ → Bool) (reshaping : Bool) whe
       unclean : is_unclean world entries (length entries) (length entries) ≡ (is_unsynced world entries || is_unsettled entries)
       unclean =
           (λ i. is_unsynced world (take-length entries i) || fold unsettled_perhaps (fold unsettled_surely false (take-length entries i)) (take (none (length entries) i) (drop (length entries) entries)))
-          ∙ ap (λ (b : Bool). is_unsynced world entries || b) (surely-unsettled false entries)
+          ∙ ap (λ (b : Bool). is_unsynced world entries || b) (unsettled-is false entries)
 
   -- ---- a call and its history
 
