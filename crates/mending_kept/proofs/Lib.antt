@@ -69,3 +69,4 @@ pub use Rattle.moving_kept.proofs.call_entries_BearerLaws
 pub use Rattle.moving_kept.proofs.ReadShapes as moving_kept_ReadShapes
 pub use Rattle.moving_kept.proofs.array_kept_LedgerLaws
 pub use Rattle.moving_kept.proofs.array_kept_RecordLaws
+pub use Rattle.moving_kept.proofs.array_kept_DegradedLaws

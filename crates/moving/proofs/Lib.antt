@@ -81,3 +81,4 @@ pub use Rattle.moving_laws.proofs.calls_kept_AddedLosses
 pub use Rattle.moving_laws.proofs.call_entries_BearerLaws
 pub use Rattle.moving_laws.proofs.array_kept_LedgerLaws
 pub use Rattle.moving_laws.proofs.array_kept_RecordLaws
+pub use Rattle.moving_laws.proofs.array_kept_DegradedLaws

@@ -71,3 +71,4 @@ pub use Rattle.mending_kept.proofs.call_entries_BearerLaws
 pub use Rattle.mending_kept.proofs.moving_kept_ReadShapes
 pub use Rattle.mending_kept.proofs.array_kept_LedgerLaws
 pub use Rattle.mending_kept.proofs.array_kept_RecordLaws
+pub use Rattle.mending_kept.proofs.array_kept_DegradedLaws

@@ -100,3 +100,4 @@ pub use Rattle.moving.proofs.moving_laws_WriteReplies
 pub use Rattle.moving.proofs.call_entries_BearerLaws
 pub use Rattle.moving.proofs.array_kept_LedgerLaws
 pub use Rattle.moving.proofs.array_kept_RecordLaws
+pub use Rattle.moving.proofs.array_kept_DegradedLaws

@@ -109,3 +109,4 @@ pub use Rattle.moving_kept.proofs.layout_Places
 pub use Rattle.moving_kept.proofs.call_entries_BearerLaws
 pub use Rattle.moving_kept.proofs.array_kept_IdleLaws
 pub use Rattle.calls_kept.proofs.SettledLaws as calls_kept_SettledLaws
+pub use Rattle.calls_kept.proofs.WriteLaws as calls_kept_WriteLaws

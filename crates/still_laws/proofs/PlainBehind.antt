@@ -52,7 +52,7 @@ use Rattle.still_kept.proofs.call_entries_PlainLaws.{one}
 use Rattle.still_kept.proofs.call_entries_StepLaws.{faults-are, call-stepped}
 use Rattle.still_kept.specs.array_kept_Calls.{IsSettling, IsRefusedHere, IsRefusedFor, IsUnmendable}
 use Rattle.still_kept.specs.array_kept_Kept.{AreTold}
-use Rattle.still_kept.proofs.array_kept_DegradedLaws.{told-since, refusal-right, too-many-here, unread-here, unwritten-here, refused-here, pending-of}
+use Rattle.still_kept.proofs.array_kept_DegradedLaws.{told-since, refusal-right, too-many-here, unread-here, unwritten-here, refused-here, pending-of, within-count}
 use Rattle.still_kept.proofs.array_kept_KeptLaws.{left-lost}
 use Rattle.still_kept.proofs.array_kept_NowLaws.{sectors_of-at}
 use Rattle.still_kept.proofs.array_kept_OnlyLaws.{MakeSpares, only-more, only-since}
@@ -67,7 +67,6 @@ use Rattle.running_words.specs.Plans.{turns_shape, KeepsShape}
 use Rattle.running_words.proofs.VisibleLaws.{visible-within}
 use Rattle.still_kept.specs.Still.{AreAtRest}
 use Rattle.still_kept.proofs.Reading.{visible-behind, now-behind}
-use Rattle.still_kept.proofs.Stood.{within-count}
 use Rattle.still_kept.proofs.array_kept_IdleLaws.{recovered-none, counted-none, min-none, no-resync, times-none}
 use Rattle.still_kept.proofs.array_kept_LedgerLaws.{unsynced-more}
 use Rattle.still_laws.specs.Plain.{MayTellPlainly, AreToldPlainly, IsPlainKept}
