@@ -335,7 +335,7 @@ legal-losses world before who end (event ∷ xs) tail are call = absurd are
 -- ---- the number of a call that goes on
 
 -- behind entries of one call the caller's next number is one more than the call's
-own-next : (who : Who) (start : ℕ) (x : Entry) (call : List Entry) → All (λ e. IsOfCall who e × MayGoOn e.event) (x ∷ call)
+pub own-next : (who : Who) (start : ℕ) (x : Entry) (call : List Entry) → All (λ e. IsOfCall who e × MayGoOn e.event) (x ∷ call)
     → fold (number_after who.caller) start (x ∷ call) ≡ who.number + 1
 own-next who start x [] own =
     let mine = (All-head (λ e. IsOfCall who e × MayGoOn e.event) x [] own).0 in
