@@ -1,5 +1,5 @@
 -- What is kept of the history after a call, by what the call entered.
-use Rattle.std.proofs.Common.{◌≡◌, inl, inr, ℕ, ◌≤◌, ◌==◌, ◌&&◌, ◌⊎◌, Bool, true, false, cond, Option, Some, None, List, [], ◌∷◌, ◌++◌, length, take, take_all, drop, unwrap_or, MatchBool, refl, sym, ◌∙◌, ap, subst, subst₂, arith, append_assoc, append-nil}
+use Rattle.std.proofs.Common.{◌≡◌, inl, inr, ℕ, ◌+◌, ◌≤◌, ◌==◌, ◌&&◌, ◌⊎◌, Bool, true, false, cond, Option, Some, None, List, [], ◌∷◌, ◌++◌, length, take, take_all, drop, unwrap_or, MatchBool, refl, sym, ◌∙◌, ap, subst, subst₂, arith, append_assoc, append-nil}
 use Rattle.std.specs.Prelude.{IsFalse, fold, ⊤}
 use Rattle.std.specs.List.{list_any, All}
 use Rattle.std.specs.Option.{option_map_or}
@@ -335,7 +335,7 @@ legal-losses world before who end (event ∷ xs) tail are call = absurd are
 -- ---- the number of a call that goes on
 
 -- behind entries of one call the caller's next number is one more than the call's
-pub own-next : (who : Who) (start : ℕ) (x : Entry) (call : List Entry) → All (λ e. IsOfCall who e × MayGoOn e.event) (x ∷ call)
+own-next : (who : Who) (start : ℕ) (x : Entry) (call : List Entry) → All (λ e. IsOfCall who e × MayGoOn e.event) (x ∷ call)
     → fold (number_after who.caller) start (x ∷ call) ≡ who.number + 1
 own-next who start x [] own =
     let mine = (All-head (λ e. IsOfCall who e × MayGoOn e.event) x [] own).0 in
