@@ -66,7 +66,6 @@ pub use Rattle.moving_kept.proofs.history_laws_OneShapeGrowing
 pub use Rattle.moving_kept.proofs.history_laws_ReshapedLaws
 pub use Rattle.moving_kept.proofs.history_laws_GrowingLaws
 pub use Rattle.moving_kept.proofs.call_entries_BearerLaws
-pub use Rattle.moving_kept.proofs.ReadShapes as moving_kept_ReadShapes
 pub use Rattle.moving_kept.proofs.array_kept_LedgerLaws
 pub use Rattle.moving_kept.proofs.array_kept_RecordLaws
 pub use Rattle.moving_kept.proofs.array_kept_DegradedLaws

@@ -56,21 +56,26 @@ use Rattle.mending_kept.proofs.region_mends_LeftLaws.{left-stays}
 use Rattle.running_words.specs.Parts.{left_in}
 use Rattle.running_words.proofs.VisibleLaws.{limit-kept}
 use Rattle.running_words.proofs.Lengths.{IsLengthKept}
-use Rattle.mending_kept.proofs.moving_kept_ReadShapes.{HasShapesOf}
 use Rattle.moving_laws.specs.Ready.{bytes_in, IsReady}
 
 -- ---- superblocks of the same reshape
 
-pub shapes-same : (sb : Sb) → HasShapesOf sb sb
+-- the same shapes over the same rows
+pub record AreSameShapes (old new : Sb) : Type 0 where
+  pub shape : shape_of new ≡ shape_of old
+  pub final : final_shape new ≡ final_shape old
+  pub size : new.size ≡ old.size
+
+pub shapes-same : (sb : Sb) → AreSameShapes sb sb
 shapes-same sb = record { shape = refl; final = refl; size = refl }
 
-pub shapes-moved : (given : Given) (old new : Members) → IsMoved given old new → HasShapesOf old.newest new.newest
+pub shapes-moved : (given : Given) (old new : Members) → IsMoved given old new → AreSameShapes old.newest new.newest
 shapes-moved given old new moved = record { shape = moved.shape; final = moved.reshape.final; size = moved.size }
 
-reach-same : (old new : Sb) → HasShapesOf old new → reach_of new ≡ reach_of old
+reach-same : (old new : Sb) → AreSameShapes old new → reach_of new ≡ reach_of old
 reach-same old new same = λ i. min (unit (same.shape i) (same.final i)) (min (data_disks (same.shape i)) (data_disks (same.final i)) * same.size i)
 
-pub long-same : (old new : Sb) → HasShapesOf old new → list_length new ≡ list_length old
+pub long-same : (old new : Sb) → AreSameShapes old new → list_length new ≡ list_length old
 long-same old new same = λ i. min (data_disks (same.shape i)) (data_disks (same.final i)) * same.size i
 
 -- the steps that are left of an array whose resync has come so far
@@ -151,7 +156,7 @@ takes-before {tape = tape} {tape' = tape'} given scope first entries added grows
 pub ready-moved : {tells : Type 0} {given given' : Given} {tape tape' : List Operation} {scope scope' : Scope} {first first' : ℕ} {entries mid entries' : List Entry} {members members' : Members}
     {work work' : Work} {course course' : Course} {ahead : PhasesLeft} {limit : Option ℕ} {window window' : List ℕ} {steps steps' room room' rows buffer far_rows far_buffer : ℕ} {before after : ℕ → ℕ} (added : List Entry)
     → IsReady tells given tape scope first entries members work course ahead limit window before steps room rows buffer far_rows far_buffer
-    → Grows tells tape tape' → HasShapesOf members.newest members'.newest
+    → Grows tells tape tape' → AreSameShapes members.newest members'.newest
     → IsMoving tells given tape' scope first (entries ++ added) members' (bears work') work'.resync course' (bytes_in course'.window window') (left_in work' members' course' ahead)
     → ((span : Span) → course'.window ≡ Unsure span → (course.window ≡ Unsure span) ⊎ (0 < after (backup_of scope)))
     → length window' ≡ length window → NeverFalls before after → IsLengthKept added
@@ -190,7 +195,7 @@ ready-moved {tells = tells} {given = given} {given' = given'} {tape' = tape'} {s
 pub ready-with : {tells : Type 0} {given given' : Given} {tape tape' : List Operation} {scope scope' : Scope} {first first' : ℕ} {entries mid entries' : List Entry} {members members' : Members}
     {work work' : Work} {course : Course} {zeroed : ℕ} {ahead : PhasesLeft} {limit : Option ℕ} {window window' : List ℕ} {steps steps' room room' rows buffer far_rows far_buffer : ℕ} {before after : ℕ → ℕ} (added : List Entry)
     → IsReady tells given tape scope first entries members work course ahead limit window before steps room rows buffer far_rows far_buffer
-    → Grows tells tape tape' → HasShapesOf members.newest members'.newest
+    → Grows tells tape tape' → AreSameShapes members.newest members'.newest
     → IsMoving tells given tape' scope first (entries ++ added) members' (bears work') work'.resync (record course { zeroed = zeroed }) (bytes_in course.window window') (left_in work' members' (record course { zeroed = zeroed }) ahead)
     → length window' ≡ length window → NeverFalls before after → IsLengthKept added
     → (TakesNone (world_in given tape' scope first) (entries ++ added) → AreWhole members → AreWhole members')
@@ -202,7 +207,7 @@ ready-with added was grows same kept = ready-moved added was grows same kept (λ
 pub ready : {tells : Type 0} {given given' : Given} {tape tape' : List Operation} {scope scope' : Scope} {first first' : ℕ} {entries mid entries' : List Entry} {members members' : Members}
     {work : Work} {course : Course} {zeroed : ℕ} {ahead : PhasesLeft} {limit : Option ℕ} {window window' : List ℕ} {steps steps' room room' rows buffer far_rows far_buffer : ℕ} {before after : ℕ → ℕ} (added : List Entry)
     → IsReady tells given tape scope first entries members work course ahead limit window before steps room rows buffer far_rows far_buffer
-    → Grows tells tape tape' → HasShapesOf members.newest members'.newest
+    → Grows tells tape tape' → AreSameShapes members.newest members'.newest
     → IsMoving tells given tape' scope first (entries ++ added) members' (bears work) work.resync (record course { zeroed = zeroed }) (bytes_in course.window window') (left_in work members' (record course { zeroed = zeroed }) ahead)
     → length window' ≡ length window → NeverFalls before after → IsLengthKept added
     → (TakesNone (world_in given tape' scope first) (entries ++ added) → AreWhole members → AreWhole members')

@@ -68,7 +68,6 @@ pub use Rattle.mending_kept.proofs.history_laws_OneShapeGrowing
 pub use Rattle.mending_kept.proofs.history_laws_ReshapedLaws
 pub use Rattle.mending_kept.proofs.history_laws_GrowingLaws
 pub use Rattle.mending_kept.proofs.call_entries_BearerLaws
-pub use Rattle.mending_kept.proofs.moving_kept_ReadShapes
 pub use Rattle.mending_kept.proofs.array_kept_LedgerLaws
 pub use Rattle.mending_kept.proofs.array_kept_RecordLaws
 pub use Rattle.mending_kept.proofs.array_kept_DegradedLaws

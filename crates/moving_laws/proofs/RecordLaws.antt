@@ -53,8 +53,7 @@ use Rattle.mending_kept.proofs.moving_kept_MoreSteps.{recorded-moves}
 use Rattle.mending_kept.proofs.moving_kept_Staying.{refused-moves}
 use Rattle.mending_kept.proofs.moving_kept_Steps.{AreMissingSince, missing-since}
 use Rattle.running_words.proofs.Called.{not_254, risen-told}
-use Rattle.mending_kept.proofs.moving_kept_ReadShapes.{HasShapesOf}
-use Rattle.moving_laws.proofs.Kept.{left_by, left-moved}
+use Rattle.moving_laws.proofs.Kept.{AreSameShapes, left_by, left-moved}
 
 -- ---- members whose position moved
 
@@ -62,7 +61,7 @@ use Rattle.moving_laws.proofs.Kept.{left_by, left-moved}
 abbrev pub all_copied : Members → Span → Bool → Course
 all_copied m span sectioned = entered span (stripes (final_shape m.newest) span.lo span.hi) sectioned
 
-pub shapes-past : (given : Given) (old new : Members) (span : Span) → IsMoved given (moved_past span old) new → HasShapesOf old.newest new.newest
+pub shapes-past : (given : Given) (old new : Members) (span : Span) → IsMoved given (moved_past span old) new → AreSameShapes old.newest new.newest
 shapes-past given old new span moved = record { shape = moved.shape; final = moved.reshape.final; size = moved.size }
 
 -- what was lost, by the members before it

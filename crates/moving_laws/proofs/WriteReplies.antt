@@ -28,13 +28,14 @@ use Rattle.mending_kept.proofs.call_entries_CallLaws.{AreLossEvents, losses-are,
 use Rattle.mending_kept.proofs.call_entries_LosingLaws.{entries-both}
 use Rattle.running_words.specs.array_kept_Calls.{StandsInside, IsRefusedFor, IsCausedBy}
 use Rattle.running_words.proofs.array_kept_NowLaws.{length-more}
-use Rattle.running_words.proofs.array_kept_ReplyLaws.{IsOfMissing, none_before, too-many-of, write_kind, torn_before}
+use Rattle.running_words.proofs.array_kept_ReplyLaws.{IsOfMissing, none_before, too-many-of, torn_before}
 use Rattle.mending_kept.specs.grow_asked_the_Window.{Window}
 use Rattle.mending_kept.specs.kept_history_Recorded.{entry_of}
 use Rattle.running_words.specs.moving_state_Due.{open_in}
 use Rattle.moving_laws.specs.Writing.{IsWriteLacked, IsFinishedFirst, IsWriteEntered, IsRepliedBehind, IsWriteAnswered}
 use Rattle.running_words.specs.moving_state_Left.{visible_by}
 use Rattle.running_words.proofs.VisibleLaws.{visible-is, limit-kept}
+use Rattle.running_words.proofs.Replies.{write_kind}
 use Rattle.moving_laws.proofs.WriteLaws.{torn-missing}
 
 -- ---- the entries of a call before its reply

@@ -23,7 +23,7 @@ use Rattle.moving_state.proofs.call_entries_LosingLaws.{entries-both}
 use Rattle.moving_state.proofs.call_entries_CallLaws.{losses-are, length-losses, limit-losses, torn-losses, torn-both}
 use Rattle.moving_state.specs.array_kept_Calls.{StandsInside, IsReplied, IsRefusedFor}
 use Rattle.moving_state.proofs.array_kept_NowLaws.{length-more}
-use Rattle.moving_state.proofs.array_kept_ReplyLaws.{replied, inside-losses, none-inside, IsOfMissing, missing_at, past_at, write_kind}
+use Rattle.moving_state.proofs.array_kept_ReplyLaws.{replied, inside-losses, none-inside, IsOfMissing, missing_at, past_at}
 use Rattle.moving_state.specs.Left.{visible_by}
 use Rattle.running_words.proofs.VisibleLaws.{visible-is, limit-kept}
 
@@ -38,6 +38,12 @@ pub read_kind : (at count : ℕ) → IsRefusable (AsksRead at count) (at + count
 read_kind at count = record {
   past = λ size visible told before seen lt call. past_at (visible_of size before) (at + count) told (rw seen lt);
   missing = λ size visible refusal before seen le of call. missing_at (visible_of size before) (at + count) refusal (rw seen le) of;
+}
+
+pub write_kind : (at : ℕ) (body : List Sector) → IsRefusable (AsksWrite at body) (at + length body)
+write_kind at body = record {
+  past = λ size visible told before seen lt call. past_at (visible_of size before) (at + length body) told (rw seen lt);
+  missing = λ size visible refusal before seen le of call. missing_at (visible_of size before) (at + length body) refusal (rw seen le) of;
 }
 
 -- ---- replies
