@@ -25,7 +25,7 @@ use Rattle.still.specs.array_kept_Calls.{IsRefusedFor}
 use Rattle.still.specs.array_kept_Kept.{scope_in}
 use Rattle.still.proofs.array_kept_LossLaws.{losses-behind, losses-failure, ended-behind, ended-failure, torn-told}
 use Rattle.still.proofs.array_kept_ReadyLaws.{scope-same}
-use Rattle.still.proofs.array_kept_ReplyLaws.{inside-losses, replied, unwritten-of, refused-for, write_kind}
+use Rattle.still.proofs.array_kept_ReplyLaws.{inside-losses, replied, unwritten-of, refused-for}
 use Rattle.still.proofs.calls_kept_ReadLaws.{some-of}
 use Rattle.still.proofs.array_state_FirstLaws.{call-within}
 use Rattle.still.proofs.kept_history_Records.{begins-going}
@@ -33,7 +33,7 @@ use Rattle.still.proofs.still_kept_Writing.{wrote-stands}
 use Rattle.still.specs.running_words_Parts.{visible_size, still_left, visible_in}
 use Rattle.still.proofs.running_words_Called.{not_254, called, alone-lossless}
 use Rattle.still.proofs.running_words_Lengths.{alone-keeps, behind-keeps, failure-keeps}
-use Rattle.still.proofs.running_words_Replies.{refused_reply, failed_reply}
+use Rattle.still.proofs.running_words_Replies.{refused_reply, failed_reply, write_kind}
 use Rattle.still.proofs.running_words_VisibleLaws.{visible-within}
 use Rattle.still.proofs.still_laws_Asking.{refused-alone}
 use Rattle.still.proofs.still_laws_Kept.{ready, rows-same, rows-moved, with-buffers, roomier}
