@@ -585,7 +585,7 @@ too-many-here visible resync m refusal (inl many) = subst (IsRefusedHere visible
 too-many-here visible resync m refusal (inr many) = subst (IsRefusedHere visible resync m) (sym many.1.told) (inr (many.0, record { above = many.1.above; told = refl }))
 
 -- a role of the shape is one of the array's
-within-count : (given : Given) (m : Members) → IsPlaced given m → (role : ℕ) → role < (shape_of m.newest).disks → role < role_count m.newest
+pub within-count : (given : Given) (m : Members) → IsPlaced given m → (role : ℕ) → role < (shape_of m.newest).disks → role < role_count m.newest
 within-count given m placed role below = let within = force-disks m.newest placed.fit (shape_of m.newest) (inl refl) in omega (arith, below, within)
 
 -- a sector that lies behind the mended rows

@@ -18,7 +18,7 @@ use Rattle.call_entries.specs.views_Placed.{is_vacant}
 use Rattle.call_entries.specs.views_Status.{stripes_of, rebuilt_of, vacant_count, spare_count, resync_left, role_left, recovery_left, left_of}
 use Rattle.array_kept.specs.Kept.{world_in, IsKept}
 
-counted-none : (n : ℕ) (f : ℕ → Bool) → count_below n f ≡ 0 → (k : ℕ) → k < n → f k ≡ true → ⊥
+pub counted-none : (n : ℕ) (f : ℕ → Bool) → count_below n f ≡ 0 → (k : ℕ) → k < n → f k ≡ true → ⊥
 unfolding count_below
 counted-none zero f none k lt is = omega (arith, lt)
 counted-none (suc n) f none k lt is = elim (cases_lt k n) [
@@ -29,7 +29,7 @@ counted-none (suc n) f none k lt is = elim (cases_lt k n) [
       omega (arith, none, one)
 ]
 
-recovered-none : (work : Work) (members : Members) (n : ℕ) → recovery_left work members n ≡ 0 → (role slot : ℕ) → role < n → role_state (reading_of members) role ≡ Recovering slot → ⊥
+pub recovered-none : (work : Work) (members : Members) (n : ℕ) → recovery_left work members n ≡ 0 → (role slot : ℕ) → role < n → role_state (reading_of members) role ≡ Recovering slot → ⊥
 unfolding recovery_left
 recovered-none work members zero none role slot lt is = omega (arith, lt)
 recovered-none work members (suc n) none role slot lt is = elim (cases_lt role n) [
@@ -41,17 +41,17 @@ recovered-none work members (suc n) none role slot lt is = elim (cases_lt role n
       omega (arith, none, some)
 ]
 
-times-none : (a k : ℕ) → a * (k + 2) ≡ 0 → a ≡ 0
+pub times-none : (a k : ℕ) → a * (k + 2) ≡ 0 → a ≡ 0
 times-none zero k none = refl
 times-none (suc n) k none = absurd (let more = suc-mul n (k + 2) in omega (arith, none, more))
 
-min-none : (a b : ℕ) → min a b ≡ 0 → (a ≡ 0) ⊎ (b ≡ 0)
+pub min-none : (a b : ℕ) → min a b ≡ 0 → (a ≡ 0) ⊎ (b ≡ 0)
 min-none a b none = elim (cases_lt a b) [
   | inl below ↦ inl (let low : a ≤ min a b = le-min (omega arith) (omega (arith, below)) in omega (arith, low, none))
   | inr above ↦ inr (let low : b ≤ min a b = le-min above (omega arith) in omega (arith, low, none))
 ]
 
-no-resync : (resync : Option ℕ) (members : Members) → resync_left resync members ≡ 0 → is_some resync ≡ false
+pub no-resync : (resync : Option ℕ) (members : Members) → resync_left resync members ≡ 0 → is_some resync ≡ false
 no-resync None members none = refl
 no-resync (Some mended) members none = absurd (omega (arith, none))
 

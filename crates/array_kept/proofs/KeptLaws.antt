@@ -153,7 +153,7 @@ module _ {tells : Type 0} {given : Given} {tape : List Operation} {scope : Scope
 -- ---- the history
 
 -- a slot that more entries tell added is used behind them
-used-added : (opening : ShapeOpening) (entries added : List Entry) (slot : ℕ) → IsTrue (list_any (λ e. adds_slot slot e.event) added) → IsTrue (is_used_now opening (entries ++ added) slot)
+pub used-added : (opening : ShapeOpening) (entries added : List Entry) (slot : ℕ) → IsTrue (list_any (λ e. adds_slot slot e.event) added) → IsTrue (is_used_now opening (entries ++ added) slot)
 used-added opening entries added slot told =
     ap (λ (b : Bool). opening.used slot || b) (list_any-append (λ e. adds_slot slot e.event) entries added)
     ∙ last (opening.used slot) (list_any (λ e. adds_slot slot e.event) entries) (list_any (λ e. adds_slot slot e.event) added) told

@@ -263,7 +263,7 @@ pending-more dirty entries more none =
     or_none true b e = refl
     or_none false b e = e
 
-unsynced-more : (world : World) (entries more : List Entry) → list_any (λ e. is_resync_end e.event) more ≡ false → is_unsynced world (entries ++ more) ≡ is_unsynced world entries
+pub unsynced-more : (world : World) (entries more : List Entry) → list_any (λ e. is_resync_end e.event) more ≡ false → is_unsynced world (entries ++ more) ≡ is_unsynced world entries
 unsynced-more world entries more none = pending-more (was_dirty world) entries more none
 
 -- ---- more that is told
@@ -326,7 +326,7 @@ more-safe sound scope given told more members d is safe =
 abbrev pub HasNewest : List Sector → Type 0
 HasNewest values = IsIn values (slice_index_or values 0 [])
 
-first-newest : (list : List Sector) (x : ℕ) → x < length list → HasNewest (take 1 (drop x list))
+pub first-newest : (list : List Sector) (x : ℕ) → x < length list → HasNewest (take 1 (drop x list))
 first-newest [] x lt = absurd (omega (arith, lt))
 first-newest (w ∷ list) zero lt = inl refl
 first-newest (w ∷ list) (suc x) lt = first-newest list x (omega (arith, lt))

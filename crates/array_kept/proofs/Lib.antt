@@ -19,7 +19,6 @@ pub use Rattle.call_entries.proofs.StepLaws as call_entries_StepLaws
 pub use Rattle.call_entries.proofs.LosingLaws as call_entries_LosingLaws
 pub use Rattle.call_entries.proofs.PlainLaws as call_entries_PlainLaws
 pub use Rattle.call_entries.proofs.views_LiveLeft
-pub use Rattle.call_entries.proofs.views_BearerLaws
 pub use Rattle.call_entries.proofs.views_Searching
 pub use Rattle.call_entries.proofs.views_Fit
 pub use Rattle.call_entries.proofs.views_LackingLaws
@@ -83,3 +82,4 @@ pub use Rattle.md_base.proofs.Counted as md_base_Counted
 pub use Rattle.md_base.proofs.Least as md_base_Least
 pub use Rattle.md_base.proofs.SectorLaws as md_base_SectorLaws
 pub use Rattle.md_base.proofs.Tabulated as md_base_Tabulated
+pub use Rattle.call_entries.proofs.BearerLaws as call_entries_BearerLaws

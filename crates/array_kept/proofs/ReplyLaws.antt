@@ -72,7 +72,7 @@ none_before entries who end event number = by (reverse entries) (last_of entries
         some_same : (a b : Entry) → ◌≡◌ {A = Option Entry} (Some a) (Some b) → a ≡ b
         some_same a b e = ap (λ (o : Option Entry). unwrap_or o a) e
 
-torn_before : (request : Request) (e : Entry) (zs tail : List Entry) → rest_of_call e tail ≡ [] → AreTornOf request zs → AreTornOf request (rest_of_call e (zs ++ tail))
+pub torn_before : (request : Request) (e : Entry) (zs tail : List Entry) → rest_of_call e tail ≡ [] → AreTornOf request zs → AreTornOf request (rest_of_call e (zs ++ tail))
 torn_before request e [] tail none torn = subst (λ (l : List Entry). AreTornOf request l) (sym none) tt
 torn_before request e (z ∷ zs) tail none torn = by (is_same_call e z) (torn_before request e zs tail none torn.1)
   where
@@ -146,10 +146,10 @@ match_false : (b : Bool) (P Q : Type 0) → b ≡ false → Q → MatchBool b P 
 match_false true P Q e q = absurd cc
 match_false false P Q e q = q
 
-past_at : (visible to told : ℕ) → visible < to → IsRefusedAt visible to IsReadRefused (PastEnd told)
+pub past_at : (visible to told : ℕ) → visible < to → IsRefusedAt visible to IsReadRefused (PastEnd told)
 past_at visible to told lt = match_true (nat_lt visible to) (IsPastEnd (PastEnd told)) (IsReadRefused (PastEnd told) × ¬ IsPastEnd (PastEnd told)) (grind (arith, nat_tests, lt)) tt
 
-missing_at : (visible to : ℕ) (refusal : Refusal) → to ≤ visible → IsOfMissing refusal → IsRefusedAt visible to IsReadRefused refusal
+pub missing_at : (visible to : ℕ) (refusal : Refusal) → to ≤ visible → IsOfMissing refusal → IsRefusedAt visible to IsReadRefused refusal
 missing_at visible to refusal le of = match_false (nat_lt visible to) (IsPastEnd refusal) (IsReadRefused refusal × ¬ IsPastEnd refusal) (grind (arith, nat_tests, le)) of
 
 -- what a call that transfers up to `to` may be refused with; no call but one of these is refused past the end

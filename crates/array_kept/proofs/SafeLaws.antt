@@ -47,15 +47,15 @@ reading-grown : (world : World) (ops : List Operation) → world.first ≤ lengt
 unfolding reading_at
 reading-grown world ops within = ap (reading world.scope) (λ i slot at. contents-earlier world.start world.tape ops world.first slot at within i)
 
-room-at : (o : Option Reading) (r : Reading) (n : ℕ) → o ≡ Some r → IfSome o (λ r. r.newest.events + n < 2 ^ 62) → r.newest.events + n < 2 ^ 62
+pub room-at : (o : Option Reading) (r : Reading) (n : ℕ) → o ≡ Some r → IfSome o (λ r. r.newest.events + n < 2 ^ 62) → r.newest.events + n < 2 ^ 62
 room-at None r n is room = absurd (cc)
 room-at (Some q) r n is room = let same : q ≡ r = cc in subst (λ (x : Reading). x.newest.events + n < 2 ^ 62) same room
 
-room-less : (o : Option Reading) (n k : ℕ) → k ≤ n → IfSome o (λ r. r.newest.events + n < 2 ^ 62) → IfSome o (λ r. r.newest.events + k < 2 ^ 62)
+pub room-less : (o : Option Reading) (n k : ℕ) → k ≤ n → IfSome o (λ r. r.newest.events + n < 2 ^ 62) → IfSome o (λ r. r.newest.events + k < 2 ^ 62)
 room-less None n k le room = tt
 room-less (Some q) n k le room = omega (arith, room, le)
 
-longer-by : (xs ys : List Operation) → length xs ≤ length (xs ++ ys)
+pub longer-by : (xs ys : List Operation) → length xs ≤ length (xs ++ ys)
 longer-by xs ys = let both : length (xs ++ ys) ≡ length xs + length ys = length-append xs ys in omega (arith, both)
 
 -- the event count has room before it has it afterwards

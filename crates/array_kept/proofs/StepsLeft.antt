@@ -187,7 +187,7 @@ no-both p xs ys none = by (list_any p xs) (list_any p ys) (sym (list_any-append 
     by false b is = (refl, is)
 
 -- none of these roles and spares is lost
-no-role : (p : Event → Bool) (roles n role : ℕ) → ((r : ℕ) → p (Lost r Fault) ≡ true) → list_any p (role_losses roles n) ≡ false → role < n → has_slot roles role ≡ true → ⊥
+pub no-role : (p : Event → Bool) (roles n role : ℕ) → ((r : ℕ) → p (Lost r Fault) ≡ true) → list_any p (role_losses roles n) ≡ false → role < n → has_slot roles role ≡ true → ⊥
 unfolding role_losses
 no-role p roles zero role told none lt there = omega (arith, lt)
 no-role p roles (suc n) role told none lt there =
@@ -237,7 +237,7 @@ pub left-moved : {given : Given} {old new : Members} → IsMoved given old new �
     → losses_of roles spares ≡ [] → left_of work new ≡ left_of work old
 left-moved moved work roles spares before after since none = left-quiet moved since work (ap (list_any disturbs) none)
 
-any-entries : (p : Event → Bool) (who : Who) (end : ℕ) (events : List Event) → list_any (λ e. p e.event) (entries_of who end events) ≡ list_any p events
+pub any-entries : (p : Event → Bool) (who : Who) (end : ℕ) (events : List Event) → list_any (λ e. p e.event) (entries_of who end events) ≡ list_any p events
 any-entries p who end [] = refl
 any-entries p who end (event ∷ events) = ap (λ (b : Bool). p event || b) (any-entries p who end events)
 

@@ -2,16 +2,16 @@
 use Rattle.std.proofs.Common.{◌≡◌, ℕ, ◌<◌, ◌≤◌, Bool, true, false, not, ◌&&◌, nat_lt, List, [], length, take, Option, Some, IfSome, refl, sym, ◌∙◌, ap, subst, arith, le_refl, ◌||◌, ◌==◌, inl, inr, None}
 use Rattle.std.specs.Option.{option_map_or}
 use Rattle.std.proofs.lemmas.Bool.Decides.{nat_tests}
-use Rattle.array_kept.specs.md_base_Shapes.{has_slot, tolerance, tolerance_of}
+use Rattle.found_members.specs.md_base_Shapes.{has_slot, tolerance, tolerance_of}
 use Rattle.bank.specs.declared.bank.Operation.{Operation}
 use Rattle.bank.specs.Given.{Given, sizes}
 use Rattle.bank.specs.Tape.{Contents, contents, disk}
 use Rattle.bank.specs.Whole.{HasWholeSectors}
 use Rattle.bank.proofs.Whole.{sectors-whole}
-use Rattle.array_kept.specs.superblocks_the_Members.{Members}
-use Rattle.array_kept.specs.superblocks_Reading.{Scope, Reading, reading, is_clean, role_count, shape_of, role_state, is_whole, holder, is_backup}
-use Rattle.array_kept.specs.superblocks_Election.{reading_in}
-use Rattle.array_kept.specs.superblocks_Found.{AreInSectors}
+use Rattle.found_members.specs.superblocks_the_Members.{Members}
+use Rattle.found_members.specs.superblocks_Reading.{Scope, Reading, reading, is_clean, role_count, shape_of, role_state, is_whole, holder, is_backup}
+use Rattle.found_members.specs.superblocks_Election.{reading_in}
+use Rattle.found_members.specs.superblocks_Found.{AreInSectors}
 use Rattle.safe_additions.specs.row_io_Rows.{reading_of, is_missing}
 use Rattle.safe_additions.specs.flat_history_Flat.{now}
 use Rattle.safe_additions.specs.flat_history_World.{World, reading_at, opening_list}
@@ -24,21 +24,21 @@ use Rattle.safe_additions.specs.views_Placed.{places_of, IsPlaced}
 use Rattle.safe_additions.specs.shape_changes_Steady.{AreUnlost}
 use Rattle.safe_additions.specs.shape_changes_Held.{IsHeldBy}
 use Rattle.safe_additions.specs.views_Lacking.{DoesWithout, ListStands, RowsStand, AreHoldersFlushed}
-use Rattle.array_kept.specs.Kept.{world_in, AreSectorsWhole, AreUsed}
+use Rattle.found_members.specs.array_kept_Kept.{world_in, AreSectorsWhole, AreUsed}
 use Rattle.safe_additions.specs.views_Rebuilding.{AreSparesFree, MayHold}
 use Rattle.safe_additions.proofs.views_Fit.{few as few-placed}
 use Rattle.safe_additions.proofs.views_Still.{count-still}
-use Rattle.array_kept.specs.Adopting.{IsAdoptable}
+use Rattle.found_members.specs.array_kept_Adopting.{IsAdoptable}
 use Rattle.assemble.specs.declared.opening.Opened.{Opened}
 use Rattle.assemble.specs.Opening.{scope_of, IsOpened, AreFlushed}
 use Rattle.assemble.proofs.FoundRows.{list-length, list-stands, list-whole, rows-stand}
-use Rattle.assemble.proofs.Judged.{elected-does}
-use Rattle.assemble.proofs.PlacedFound.{few-spares}
+use Rattle.found_members.proofs.Elected.{elected-does}
+use Rattle.found_members.proofs.Placed.{few-spares}
 use Rattle.assemble.proofs.OpenedHeld.{numbers-kept, opened-held}
-use Rattle.array_kept.specs.superblocks_Reads.{has_spare}
-use Rattle.array_kept.proofs.superblocks_Searches.{any_below-some}
-use Rattle.array_kept.specs.md_base_Search.{any_below}
-use Rattle.array_kept.specs.md_base_the_Role_TheVariants.{Missing}
+use Rattle.found_members.specs.superblocks_Reads.{has_spare}
+use Rattle.found_members.proofs.superblocks_Searches.{any_below-some}
+use Rattle.found_members.specs.md_base_Search.{any_below}
+use Rattle.found_members.specs.md_base_the_Role_TheVariants.{Missing}
 use Rattle.std.proofs.lemmas.Bool.{cases_lt}
 use Rattle.std.proofs.lemmas.List.{get_or_past}
 
@@ -185,6 +185,6 @@ module _ {tells : Type 0} (bank : Given) (tape : List Operation) (backup : Optio
     good = rows-are;
     flushed = holders-flushed;
     next = held-next;
-    numbers = λ told. numbers-kept bank tape backup asked opened told is inside (flushed told);
+    numbers = λ told. numbers-kept bank tape backup asked opened told is inside (flushed told) few (stand told);
     newest = newest-is;
   }

@@ -2,14 +2,15 @@
 use Rattle.std.proofs.Common.{◌≡◌, ◌≢◌, ℕ, zero, suc, ◌^◌, ◌<◌, ◌≤◌, ◌==◌, ◌⊎◌, inl, inr, Bool, true, false, not, ◌&&◌, cond, nat_le, nat_lt, Option, Some, None, refl, sym, ◌∙◌, ap, ap₂, arith, eq-or-lt_of_le, le_of_suc-le-suc}
 use Rattle.std.proofs.lemmas.Bool.Decides.{nat_tests}
 use Rattle.std.specs.Option.{option_or}
-use Rattle.array_kept.specs.md_base_Search.{least_below}
-use Rattle.array_kept.specs.md_base_Shapes.{is_valid_shape, is_level, is_layout, is_chunk, is_disk_count, is_multiple}
-use Rattle.array_kept.specs.md_base_the_ShapeField_TheVariants.{Level, Layout, Chunk, Disks, Size, Offset}
+use Rattle.found_members.specs.md_base_Search.{least_below}
+use Rattle.found_members.specs.md_base_Shapes.{is_valid_shape, is_level, is_layout, is_chunk, is_disk_count, is_multiple}
+use Rattle.found_members.specs.md_base_the_ShapeField_TheVariants.{Level, Layout, Chunk, Disks, Size, Offset}
 use Rattle.bank.proofs.md_base_Least.{least_below-none}
 use Rattle.bank.specs.Given.{Given}
+use Rattle.safe_additions.proofs.safe_updates_RefusingLaws.{least-none}
 use Rattle.assemble.specs.declared.spec.CreateSpec.{CreateSpec}
 use Rattle.assemble.specs.Creating.{member_slots, is_row_count, is_offset, bad_field, rows_end, short_member, HasRoom, IsLastSlot}
-use Rattle.array_kept.specs.superblocks_Reading.{is_backup}
+use Rattle.found_members.specs.superblocks_Reading.{is_backup}
 
 -- ---- the least number that passes
 
@@ -25,18 +26,6 @@ least_below-reached (suc n) test k within before passes =
     at_place (inl same) found =
         ap₂ (λ o b. option_or o (cond b (Some n) None)) (ap (λ m. least_below m test) (sym same) ∙ least_below-none k test before) (ap test (sym same) ∙ passes)
         ∙ ap (λ m. Some m) (sym same)
-
--- where none passes, each fails
-pub least_below-fails : (n : ℕ) (test : ℕ → Bool) → least_below n test ≡ None → (k : ℕ) → k < n → test k ≡ false
-unfolding least_below
-least_below-fails zero test none k lt = absurd (omega (arith, lt))
-least_below-fails (suc n) test none k lt = by (least_below n test) (test n) refl none (λ found. least_below-fails n test found k) (eq-or-lt_of_le (le_of_suc-le-suc lt))
-  where
-    by : (o : Option ℕ) (b : Bool) → test n ≡ b → option_or o (cond b (Some n) None) ≡ None → (o ≡ None → k < n → test k ≡ false) → (k ≡ n) ⊎ (k < n) → test k ≡ false
-    by (Some j) b here none lesser at_place = absurd cc
-    by None true here none lesser at_place = absurd cc
-    by None false here none lesser (inr below) = lesser refl below
-    by None false here none lesser (inl same) = ap test same ∙ here
 
 -- ---- values within their limits
 
@@ -110,7 +99,7 @@ has-room given backup spec good multiple few long =
       behind = within.behind;
       near = within.offset;
       known = few;
-      within = λ slot lt. not_short (given.sectors slot) (rows_end spec) (least_below-fails spec.shape.disks (λ s. nat_lt (given.sectors s) (rows_end spec)) long slot lt);
+      within = λ slot lt. not_short (given.sectors slot) (rows_end spec) (least-none spec.shape.disks (λ s. nat_lt (given.sectors s) (rows_end spec)) long slot lt);
     }
   where
     not_short : (have want : ℕ) → nat_lt have want ≡ false → want ≤ have

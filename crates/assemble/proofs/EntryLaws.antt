@@ -4,8 +4,8 @@ use Rattle.std.proofs.lemmas.Bool.Decides.{nat_tests}
 use Rattle.std.proofs.lemmas.List.{ext_get_or, get_or-take, get_or-replicate, length-take-le, length-drop, drop_all}
 use Rattle.std.specs.Prelude.{slice_index_or}
 use borrow.Rule.Slice.PartMut.{put_mid}
-use Rattle.array_kept.specs.md_base_Search.{tabulate}
-use Rattle.array_kept.proofs.md_base_Tabulated.{length-tabulate, get_or-tabulate}
+use Rattle.found_members.specs.md_base_Search.{tabulate}
+use Rattle.found_members.proofs.md_base_Tabulated.{length-tabulate, get_or-tabulate}
 use Rattle.safe_additions.specs.flat_history_Created.{first_entries}
 
 pub entries-first : (i : ℕ) → i < 384 → slice_index_or (replicate 384 0xfffe) i 0 ≡ cond (nat_lt i 0) i 0xfffe

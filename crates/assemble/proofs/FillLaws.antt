@@ -3,12 +3,12 @@ use Rattle.std.proofs.Common.{◌≡◌, ◌≢◌, ◌⊎◌, inl, inr, ℕ, ze
 use Rattle.std.specs.Prelude.{◌&&◌, OnOk, slice_range}
 use Rattle.std.proofs.lemmas.Bool.Decides.{nat_tests}
 use Rattle.std.proofs.lemmas.List.{take-append-drop, drop-drop, drop_at, length-drop, length-take-le, get_or-drop}
-use Rattle.array_kept.specs.md_base_Sectors.{Sector}
-use Rattle.array_kept.specs.sb1_the_Sb.{Sb}
-use Rattle.array_kept.specs.superblocks_Found.{IsInSectors}
-use Rattle.array_kept.specs.sb1_Superblock.{is_valid, sb_of, superblock_in, two_by_two}
+use Rattle.found_members.specs.md_base_Sectors.{Sector}
+use Rattle.found_members.specs.sb1_the_Sb.{Sb}
+use Rattle.found_members.specs.superblocks_Found.{IsInSectors}
+use Rattle.found_members.specs.sb1_Superblock.{is_valid, sb_of, superblock_in, two_by_two}
 use Rattle.election.proofs.sb1_RoleTable.{two_by_two-append, length-two_by_two}
-use Rattle.array_kept.proofs.md_base_Tabulated.{length-tabulate}
+use Rattle.found_members.proofs.md_base_Tabulated.{length-tabulate}
 use Rattle.safe_additions.specs.flat_history_Created.{first_entries}
 use Rattle.bank.specs.declared.bank.Operation.{Operation}
 use Rattle.bank.specs.declared.bank.Operation.TheVariants.{Write, Flush}

@@ -6,29 +6,29 @@ use Rattle.std.proofs.lemmas.Bool.{cases_lt}
 use Rattle.std.proofs.lemmas.Bool.Decides.{nat_tests}
 use Rattle.std.proofs.lemmas.List.{get_or-take, get_or-drop, get_or_past, get_or-replicate, length-replicate}
 use Rattle.std.proofs.lemmas.Nat.{mod_below, div-add-mod'}
-use Rattle.array_kept.specs.md_base_the_Place.{Place}
-use Rattle.array_kept.specs.md_base_the_RowRoles.{RowRoles}
-use Rattle.array_kept.specs.md_base_the_Shape.{Shape}
+use Rattle.found_members.specs.md_base_the_Place.{Place}
+use Rattle.found_members.specs.md_base_the_RowRoles.{RowRoles}
+use Rattle.found_members.specs.md_base_the_Shape.{Shape}
 use Rattle.bank.specs.md_base_the_Span.{Span}
-use Rattle.array_kept.specs.md_base_the_Role.{Role}
-use Rattle.array_kept.specs.md_base_the_Role_TheVariants.{Whole, Recovering, Missing}
-use Rattle.array_kept.specs.md_base_Sectors.{Sector, zero_sector}
-use Rattle.array_kept.specs.md_base_Shapes.{data_disks}
-use Rattle.array_kept.proofs.md_base_Tabulated.{length-tabulate, get_or-tabulate}
-use Rattle.array_kept.specs.sb1_the_Sb.{Sb}
+use Rattle.found_members.specs.md_base_the_Role.{Role}
+use Rattle.found_members.specs.md_base_the_Role_TheVariants.{Whole, Recovering, Missing}
+use Rattle.found_members.specs.md_base_Sectors.{Sector, zero_sector}
+use Rattle.found_members.specs.md_base_Shapes.{data_disks}
+use Rattle.found_members.proofs.md_base_Tabulated.{length-tabulate, get_or-tabulate}
+use Rattle.found_members.specs.sb1_the_Sb.{Sb}
 use Rattle.bank.specs.Given.{Given, Sizes, sizes}
 use Rattle.bank.specs.Tape.{Contents}
-use Rattle.array_kept.specs.layout_Layout.{place, row_roles}
-use Rattle.array_kept.proofs.layout_Places.{chunk_some, data_some, place-sector, place-role_below, place-row_below, place-sector_below, sector_at}
-use Rattle.array_kept.specs.parity_Fills.{IsGoodBut}
-use Rattle.array_kept.specs.parity_Parity.{Row, fill, lacking_in, AreEquationsMet}
-use Rattle.array_kept.specs.parity_Rows.{IsSector, row_without, whole_row, filled_sector}
-use Rattle.array_kept.proofs.parity_Columns.{tabulate-same}
-use Rattle.array_kept.proofs.parity_OwnFills.{fills-are-own}
-use Rattle.array_kept.proofs.parity_Refilled.{filled-sector, good-filled}
-use Rattle.array_kept.specs.superblocks_the_Members.{Members}
-use Rattle.array_kept.specs.superblocks_Reading.{Scope, Reading, reading, is_reshaping, shape_of, target_of, list_length, next_window, rows_held, role_state, holder, data_offset_of}
-use Rattle.array_kept.specs.superblocks_Election.{reading_in}
+use Rattle.found_members.specs.layout_Layout.{place, row_roles}
+use Rattle.found_members.proofs.layout_Places.{chunk_some, data_some, place-sector, place-role_below, place-row_below, place-sector_below, sector_at}
+use Rattle.found_members.specs.parity_Fills.{IsGoodBut}
+use Rattle.found_members.specs.parity_Parity.{Row, fill, lacking_in, AreEquationsMet}
+use Rattle.found_members.specs.parity_Rows.{IsSector, row_without, whole_row, filled_sector}
+use Rattle.found_members.proofs.parity_Columns.{tabulate-same}
+use Rattle.found_members.proofs.parity_OwnFills.{fills-are-own}
+use Rattle.found_members.proofs.parity_Refilled.{filled-sector, good-filled}
+use Rattle.found_members.specs.superblocks_the_Members.{Members}
+use Rattle.found_members.specs.superblocks_Reading.{Scope, Reading, reading, is_reshaping, shape_of, target_of, list_length, next_window, rows_held, role_state, holder, data_offset_of}
+use Rattle.found_members.specs.superblocks_Election.{reading_in}
 use Rattle.safe_additions.specs.row_io_Rows.{reading_of, is_held, held_slot, held_sector, held_row, standing_sector, IsTolerated}
 use Rattle.safe_additions.specs.row_io_Writes.{is_parity}
 use Rattle.safe_additions.proofs.row_io_Losses.{row_is, all_stand}
@@ -46,7 +46,7 @@ use Rattle.safe_additions.specs.views_Placed.{places_of, IsPlaced}
 use Rattle.safe_additions.specs.views_Whole.{list_size}
 use Rattle.safe_additions.specs.views_Lacking.{ListStands, RowsStand}
 use Rattle.safe_additions.proofs.views_Fit.{valid, multiple}
-use Rattle.array_kept.specs.Kept.{AreSectorsWhole}
+use Rattle.found_members.specs.array_kept_Kept.{AreSectorsWhole}
 
 -- a list that nothing happened to
 now-first : (list : List Sector) (x : ℕ) → now list [] x ≡ slice_index_or list x []

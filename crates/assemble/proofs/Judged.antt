@@ -1,6 +1,6 @@
 -- From what is judged of the superblocks that were found to what is answered of the contents.
-use Rattle.std.proofs.Common.{◌≡◌, ◌⊎◌, inl, inr, ℕ, Bool, true, false, cond, nat_lt, refl, sym, ap, ◌∙◌, subst, List, [], ◌∷◌, length, take, map, slice_index, Option, Some, None, unwrap_or, Result, Ok, Err, IfOk, IfErr, IfSome, IsTrue, option_map, arith, ◌<◌, ◌≤◌, zero, suc, ◌+◌, ◌-◌, ◌^◌, get_or, replicate, drop}
-use Rattle.std.specs.Prelude.{not, ◌&&◌, ◌||◌, bytes_eq, find, option_to_list}
+use Rattle.std.proofs.Common.{◌≡◌, ◌⊎◌, inl, inr, ℕ, Bool, true, false, cond, nat_lt, refl, sym, ap, ◌∙◌, subst, List, [], ◌∷◌, length, take, map, slice_index, Option, Some, None, Result, Ok, Err, IfOk, IfErr, IfSome, IsTrue, arith, ◌<◌, ◌≤◌, zero, suc, ◌+◌, ◌-◌, ◌^◌, get_or, replicate, drop}
+use Rattle.std.specs.Prelude.{not, ◌&&◌, ◌||◌, bytes_eq}
 use Rattle.std.specs.Option.{option_or, option_map_or}
 use Rattle.std.proofs.lemmas.List.{length-map, length-take-le, get_or-take, get_or-drop, get_or-replicate, get_or_past, length-replicate}
 use Rattle.std.proofs.lemmas.Bool.{cases_lt}
@@ -8,84 +8,24 @@ use Rattle.std.proofs.lemmas.Bool.Decides.{nat_tests}
 use Rattle.std.proofs.lemmas.Slice.Eq.{bytes_eq-Decides}
 use Rattle.bank.specs.md_base_the_Fault.{Fault}
 use Rattle.bank.specs.md_base_the_Fault_TheVariants.{Refused, NoMemory}
-use Rattle.array_kept.specs.md_base_the_Refusal.{Refusal}
-use Rattle.array_kept.specs.md_base_the_Refusal_TheVariants.{NoSuperblock, BackupAbsent, MembersMissing}
-use Rattle.array_kept.specs.md_base_the_Shape.{Shape}
-use Rattle.array_kept.specs.md_base_Shapes.{has_slot, tolerance}
-use Rattle.array_kept.specs.sb1_the_Sb.{Sb}
+use Rattle.found_members.specs.md_base_the_Refusal.{Refusal}
+use Rattle.found_members.specs.md_base_the_Refusal_TheVariants.{NoSuperblock, BackupAbsent}
+use Rattle.found_members.specs.md_base_Shapes.{has_slot}
+use Rattle.found_members.specs.sb1_the_Sb.{Sb}
 use Rattle.bank.specs.Given.{Given, sizes}
 use Rattle.bank.specs.Tape.{Contents}
-use Rattle.array_kept.specs.superblocks_the_Members.{Members}
-use Rattle.array_kept.specs.superblocks_Reading.{Scope, Reading, reading, reading_of, reading_by, newest_of, newer, of_array, superblocks, seen_superblock, is_backup, is_reshaping, shape_of, final_shape, target_of, shapes_in_force}
-use Rattle.array_kept.specs.superblocks_Verdict.{members_refusal, members_verdict, first_of_all, fresh_from, unsupported, bad_field, two_holders, members_missing, missing_count, too_many, dirty_degraded, off_unit, AreValidShapes}
-use Rattle.array_kept.specs.superblocks_Election.{seen_superblocks, uuid_for, reading_in, IsElected}
-use Rattle.array_kept.specs.superblocks_Writing.{AreWritable}
-use Rattle.array_kept.specs.superblocks_Found.{AreInSectors}
-use Rattle.array_kept.proofs.superblocks_ValidFields.{valid-shapes}
+use Rattle.found_members.specs.superblocks_the_Members.{Members}
+use Rattle.found_members.specs.superblocks_Reading.{Scope, Reading, reading, reading_of, newest_of, newer, of_array, superblocks, seen_superblock, is_backup, is_reshaping}
+use Rattle.found_members.specs.superblocks_Verdict.{members_refusal, members_verdict}
+use Rattle.found_members.specs.superblocks_Election.{seen_superblocks, uuid_for, reading_in, IsElected}
+use Rattle.found_members.specs.superblocks_Writing.{AreWritable}
+use Rattle.found_members.specs.superblocks_Found.{AreInSectors}
+use Rattle.found_members.proofs.Elected.{reading-made}
 use Rattle.election.proofs.Elected.{map-tabulate}
-use Rattle.safe_additions.specs.shape_views_Regions.{DoWithout}
 use Rattle.safe_additions.specs.flat_history_Stands.{verdict, refusal_of, backup_absent, has_room, reach_of}
 use Rattle.assemble.specs.declared.opening.Opened.{Opened}
 use Rattle.assemble.specs.Opening.{scope_of, array_of, AreGiven, AreOfGiven, AreCounted, IsFound, IsAside, IsUnfound, HasFoundNone}
 use Rattle.assemble.specs.Looking.{lengths_scope, IsMade, IsLacking, IsJudged}
-
--- ---- the shapes of what is refused for nothing are valid
-
-nothing_first : (a b : Option Refusal) → option_or a b ≡ None → (a ≡ None) × (b ≡ None)
-nothing_first None b e = (refl, e)
-nothing_first (Some x) b e = absurd (cc)
-
-pub elected-valid : (sectors : ℕ → ℕ) (own : List (Option Sb)) (lost : ℕ) (members : Members)
-    → IsElected sectors own lost members → AreValidShapes members.newest
-elected-valid sectors own lost members elected =
-    let r : Reading = reading_in (length own) members in
-    let slots : List (Sb × ℕ) = fresh_from r.newest sectors 0 r.own in
-    let all : members_refusal sectors r ≡ None =
-    sym (ap (λ found. option_map_or (members_refusal sectors) found (Some NoSuperblock)) elected.says) ∙ elected.accepted in
-    let rest : first_of_all (bad_field r.newest slots ∷ two_holders slots ∷ members_missing r.newest r.roles ∷ dirty_degraded r.newest r.roles ∷ off_unit r.newest ∷ []) ≡ None =
-    (nothing_first (unsupported slots)
-    (first_of_all (bad_field r.newest slots ∷ two_holders slots ∷ members_missing r.newest r.roles ∷ dirty_degraded r.newest r.roles ∷ off_unit r.newest ∷ [])) all).1 in
-    valid-shapes r.newest slots
-    (nothing_first (bad_field r.newest slots)
-    (first_of_all (two_holders slots ∷ members_missing r.newest r.roles ∷ dirty_degraded r.newest r.roles ∷ off_unit r.newest ∷ [])) rest).0
-
--- nor are more roles missing than a shape in force can do without
-pub elected-does : (sectors : ℕ → ℕ) (own : List (Option Sb)) (lost : ℕ) (members : Members) → IsElected sectors own lost members → DoWithout members
-elected-does sectors own lost members elected =
-    let r : Reading = reading_in (length own) members in
-    let slots : List (Sb × ℕ) = fresh_from r.newest sectors 0 r.own in
-    let all : members_refusal sectors r ≡ None =
-    sym (ap (λ found. option_map_or (members_refusal sectors) found (Some NoSuperblock)) elected.says) ∙ elected.accepted in
-    let fields = nothing_first (unsupported slots)
-    (first_of_all (bad_field r.newest slots ∷ two_holders slots ∷ members_missing r.newest r.roles ∷ dirty_degraded r.newest r.roles ∷ off_unit r.newest ∷ [])) all in
-    let two = nothing_first (bad_field r.newest slots)
-    (first_of_all (two_holders slots ∷ members_missing r.newest r.roles ∷ dirty_degraded r.newest r.roles ∷ off_unit r.newest ∷ [])) fields.1 in
-    let missing = nothing_first (two_holders slots) (first_of_all (members_missing r.newest r.roles ∷ dirty_degraded r.newest r.roles ∷ off_unit r.newest ∷ [])) two.1 in
-    let none = (nothing_first (members_missing r.newest r.roles) (first_of_all (dirty_degraded r.newest r.roles ∷ off_unit r.newest ∷ [])) missing.1).0 in
-    let found = fails (too_many r.roles) (shape_of r.newest) (target_of r.newest) (no_map (find (too_many r.roles) (shapes_in_force r.newest)) none) in
-    record {
-      old = at_most (tolerance (shape_of r.newest)) (missing_count r.roles (shape_of r.newest)) found.0;
-      final = at_most (tolerance (final_shape r.newest)) (missing_count r.roles (final_shape r.newest)) found.1;
-    }
-  where
-    no_map : (found : Option Shape) → option_map (λ shape. MembersMissing (missing_count members.roles shape) (tolerance shape)) found ≡ None → found ≡ None
-    no_map None e = refl
-    no_map (Some shape) e = absurd (cc)
-
-    first_fails : (test : Shape → Bool) (shape : Shape) (more : List Shape) → find test (shape ∷ more) ≡ None → (test shape ≡ false) × (find test more ≡ None)
-    first_fails test shape more e = by (test shape) e
-      where
-        by : (b : Bool) → cond b (Some shape) (find test more) ≡ None → (b ≡ false) × (find test more ≡ None)
-        by true e = absurd (cc)
-        by false e = (refl, e)
-
-    -- neither the shape passes nor the one that will stand in the end
-    fails : (test : Shape → Bool) (shape : Shape) (target : Option Shape) → find test (shape ∷ option_to_list target) ≡ None → (test shape ≡ false) × (test (unwrap_or target shape) ≡ false)
-    fails test shape None e = let first = first_fails test shape [] e in (first.0, first.0)
-    fails test shape (Some other) e = let first = first_fails test shape (other ∷ []) e in (first.0, (first_fails test other [] first.1).0)
-
-    at_most : (a b : ℕ) → nat_lt a b ≡ false → b ≤ a
-    at_most a b e = grind (arith, nat_tests, e)
 
 -- ---- a reshape
 
@@ -137,18 +77,6 @@ newest-array uuid (one ∷ found) sb e =
     by_first more None is rest there e = more sb e
     by_first more (Some own) is rest there e =
         with_rest more own (from_array uuid one own is) rest there (sym (ap (λ o. Some (newer own o)) there) ∙ e)
-
--- what a reading is made of
-module _ (sectors : ℕ → ℕ) (own : List (Option Sb)) (r : Reading) (says : reading_of sectors own ≡ Some r) where
-  by_newest : (found : Option Sb) → newest_of own ≡ found → option_map (reading_by sectors own) found ≡ Some r
-      → (newest_of own ≡ Some r.newest) × (own ≡ r.own)
-  by_newest None is e = absurd (cc)
-  by_newest (Some sb) is e =
-      let same : reading_by sectors own sb ≡ r = cc in
-      (is ∙ ap (λ (r : Reading). Some r.newest) same, ap (λ (r : Reading). r.own) same)
-
-  pub reading-made : (newest_of own ≡ Some r.newest) × (own ≡ r.own)
-  reading-made = by_newest (newest_of own) refl says
 
 -- ---- each slot's own superblock is one that was found in it
 

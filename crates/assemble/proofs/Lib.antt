@@ -11,13 +11,12 @@ pub mod NewLaws
 pub mod NewZeros
 pub mod StillFit
 pub mod FoundRows
-pub mod PlacedFound
 pub mod Adopting
 pub mod RunningLaws
 pub mod NewSound
-pub use Rattle.array_kept.proofs.md_base_Tabulated
-pub use Rattle.array_kept.proofs.views_Fit
-pub use Rattle.array_kept.proofs.views_Flushed
-pub use Rattle.array_kept.proofs.views_Still
+pub use Rattle.found_members.proofs.md_base_Tabulated
+pub use Rattle.found_members.proofs.views_Fit
+pub use Rattle.found_members.proofs.views_Flushed
+pub use Rattle.found_members.proofs.views_Still
 pub use Rattle.bank.proofs.Causes as bank_Causes
 pub use Rattle.safe_additions.proofs.superblocks_SlotSets

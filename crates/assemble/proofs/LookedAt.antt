@@ -4,19 +4,19 @@ use Rattle.std.specs.Prelude.{not, ◌&&◌}
 use Rattle.std.proofs.lemmas.Bool.{cases_lt}
 use Rattle.std.proofs.lemmas.List.{get_or_past, ext_get_or, get_or-take, get_or-drop, get_or-replicate, length-take-le, length-drop, length-replicate}
 use Rattle.std.proofs.lemmas.Bool.Decides.{nat_tests}
-use Rattle.array_kept.specs.md_base_Shapes.{has_slot}
-use Rattle.array_kept.specs.md_base_Search.{tabulate}
-use Rattle.array_kept.proofs.md_base_Tabulated.{length-tabulate, get_or-tabulate}
-use Rattle.array_kept.specs.sb1_the_Sb.{Sb}
-use Rattle.array_kept.specs.sb1_Superblock.{superblock_in}
+use Rattle.found_members.specs.md_base_Shapes.{has_slot}
+use Rattle.found_members.specs.md_base_Search.{tabulate}
+use Rattle.found_members.proofs.md_base_Tabulated.{length-tabulate, get_or-tabulate}
+use Rattle.found_members.specs.sb1_the_Sb.{Sb}
+use Rattle.found_members.specs.sb1_Superblock.{superblock_in}
 use Rattle.bank.specs.declared.bank.Operation.{Operation}
 use Rattle.bank.specs.Given.{Given, sizes, IsFaulted}
 use Rattle.bank.specs.Tape.{Contents, contents}
 use Rattle.bank.proofs.Causes.{faulted_longer}
-use Rattle.array_kept.specs.superblocks_Reading.{seen_superblock, is_backup}
-use Rattle.array_kept.specs.superblocks_Election.{members_scope, seen_superblocks, OnlyMembersFail, AreLost}
-use Rattle.array_kept.specs.superblocks_Writing.{AreWritable}
-use Rattle.array_kept.specs.superblocks_Found.{AreInSectors}
+use Rattle.found_members.specs.superblocks_Reading.{seen_superblock, is_backup}
+use Rattle.found_members.specs.superblocks_Election.{members_scope, seen_superblocks, OnlyMembersFail, AreLost}
+use Rattle.found_members.specs.superblocks_Writing.{AreWritable}
+use Rattle.found_members.specs.superblocks_Found.{AreInSectors}
 use Rattle.election.proofs.LostSlots.{has-all_but}
 use Rattle.assemble.specs.Opening.{scope_of, AreGiven, AreFlushed}
 use Rattle.safe_additions.specs.views_Flushing.{AreTried, OnlyFlushesAdded, OnlyItsSlotsFail}

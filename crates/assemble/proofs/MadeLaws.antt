@@ -7,24 +7,24 @@ use Rattle.std.specs.Option.{option_or, option_map_or}
 use Rattle.std.proofs.lemmas.Bool.{cases_lt}
 use Rattle.std.proofs.lemmas.Bool.Decides.{nat_tests}
 use Rattle.std.proofs.lemmas.List.{ext_get_or, get_or-take, get_or-drop, get_or-replicate, get_or_past, length-take-le, length-drop, length-replicate, get_or_append_left}
-use Rattle.array_kept.specs.md_base_the_Role.{Role}
-use Rattle.array_kept.specs.md_base_the_Role_TheVariants.{Whole, Recovering, Missing}
-use Rattle.array_kept.specs.md_base_the_Shape.{Shape}
-use Rattle.array_kept.specs.md_base_the_Refusal_TheVariants.{NoSuperblock, BadField, TwoHolders, MembersMissing}
-use Rattle.array_kept.specs.md_base_Shapes.{is_level, is_layout, is_chunk, is_disk_count, is_multiple, tolerance}
-use Rattle.array_kept.specs.md_base_Search.{tabulate, count_below, any_below}
-use Rattle.array_kept.proofs.md_base_Tabulated.{length-tabulate, get_or-tabulate}
+use Rattle.found_members.specs.md_base_the_Role.{Role}
+use Rattle.found_members.specs.md_base_the_Role_TheVariants.{Whole, Recovering, Missing}
+use Rattle.found_members.specs.md_base_the_Shape.{Shape}
+use Rattle.found_members.specs.md_base_the_Refusal_TheVariants.{NoSuperblock, BadField, TwoHolders, MembersMissing}
+use Rattle.found_members.specs.md_base_Shapes.{is_level, is_layout, is_chunk, is_disk_count, is_multiple, tolerance}
+use Rattle.found_members.specs.md_base_Search.{tabulate, count_below, any_below}
+use Rattle.found_members.proofs.md_base_Tabulated.{length-tabulate, get_or-tabulate}
 use Rattle.bank.proofs.md_base_Least.{least_below-none}
-use Rattle.array_kept.specs.sb1_the_Sb.{Sb}
-use Rattle.array_kept.specs.sb1_Features.{refused_bits}
+use Rattle.found_members.specs.sb1_the_Sb.{Sb}
+use Rattle.found_members.specs.sb1_Features.{refused_bits}
 use Rattle.bank.specs.Given.{Given, sizes}
-use Rattle.array_kept.specs.superblocks_the_Members.{Members}
-use Rattle.array_kept.specs.superblocks_Reading.{Reading, reading_of, reading_by, newest_of, newer, holder_from, spares_from, holds_role, is_fresh, is_recovering, is_spare, entry_of, role_count, shape_of, lies_within, is_whole}
-use Rattle.array_kept.specs.superblocks_Reads.{held_in}
-use Rattle.array_kept.specs.superblocks_Verdict.{fresh_from, unsupported, bad_field, is_bad_size, is_bad_entry, is_late_entry, is_role, is_holder, two_holders, members_missing, is_missing, missing_count, members_refusal, members_verdict, first_of_all}
-use Rattle.array_kept.specs.superblocks_Election.{IsElected}
+use Rattle.found_members.specs.superblocks_the_Members.{Members}
+use Rattle.found_members.specs.superblocks_Reading.{Reading, reading_of, reading_by, newest_of, newer, holder_from, spares_from, holds_role, is_fresh, is_recovering, is_spare, entry_of, role_count, shape_of, lies_within, is_whole}
+use Rattle.found_members.specs.superblocks_Reads.{held_in}
+use Rattle.found_members.specs.superblocks_Verdict.{fresh_from, unsupported, bad_field, is_bad_size, is_bad_entry, is_late_entry, is_role, is_holder, two_holders, members_missing, is_missing, missing_count, members_refusal, members_verdict, first_of_all}
+use Rattle.found_members.specs.superblocks_Election.{IsElected}
 use Rattle.election.proofs.superblocks_ReadLists.{holder-step, none-fresh, none-unsupported, none-shared}
-use Rattle.array_kept.proofs.superblocks_Searches.{any_below-none}
+use Rattle.found_members.proofs.superblocks_Searches.{any_below-none}
 use Rattle.safe_additions.specs.flat_history_Created.{first_entries}
 use Rattle.assemble.specs.declared.spec.CreateSpec.{CreateSpec}
 use Rattle.assemble.specs.Making.{created_sb}

@@ -8,26 +8,27 @@ use Rattle.std.proofs.lemmas.Bool.Decides.{nat_tests}
 use Rattle.std.proofs.lemmas.Slice.Eq.{bytes_eq-Decides}
 use Rattle.std.proofs.lemmas.List.{ext_get_or, get_or-take, get_or_past, length-take-le}
 use Rattle.std.proofs.lemmas.List.Folds.{list_any-append}
-use Rattle.array_kept.specs.md_base_the_Role_TheVariants.{Whole, Missing}
-use Rattle.array_kept.specs.md_base_the_Shape.{Shape}
-use Rattle.array_kept.specs.md_base_Shapes.{has_slot, is_valid_shape, is_multiple}
-use Rattle.array_kept.specs.md_base_Search.{tabulate, least_below}
-use Rattle.array_kept.proofs.md_base_Tabulated.{length-tabulate, get_or-tabulate}
-use Rattle.array_kept.specs.sb1_the_Sb.{Sb}
-use Rattle.array_kept.specs.sb1_Superblock.{superblock_in}
-use Rattle.array_kept.specs.geometry_Geometry.{is_size}
+use Rattle.found_members.specs.md_base_the_Role_TheVariants.{Whole, Missing}
+use Rattle.found_members.specs.md_base_the_Shape.{Shape}
+use Rattle.found_members.specs.md_base_Shapes.{has_slot, is_valid_shape, is_multiple}
+use Rattle.found_members.specs.md_base_Search.{tabulate, least_below}
+use Rattle.found_members.proofs.md_base_Tabulated.{length-tabulate, get_or-tabulate}
+use Rattle.found_members.specs.sb1_the_Sb.{Sb}
+use Rattle.found_members.specs.sb1_Superblock.{superblock_in}
+use Rattle.found_members.specs.geometry_Geometry.{is_size}
 use Rattle.bank.specs.Given.{Given, sizes, IsFaulted}
 use Rattle.bank.specs.Tape.{Contents, contents, AreFlushes}
-use Rattle.array_kept.specs.superblocks_the_Members.{Members}
-use Rattle.array_kept.proofs.superblocks_SlotSets.{none_there}
-use Rattle.array_kept.specs.superblocks_Reading.{Scope, reading, reading_of, seen_superblock, superblocks, of_array, is_backup, is_reshaping, is_clean, shape_of, role_state, holder, data_offset_of}
-use Rattle.array_kept.specs.superblocks_Election.{seen_superblocks, reading_in, IsElected}
-use Rattle.array_kept.specs.superblocks_Verdict.{members_verdict}
-use Rattle.array_kept.specs.superblocks_Update.{is_held_by}
-use Rattle.array_kept.specs.superblocks_Writing.{IsMember, AreWritable}
-use Rattle.array_kept.specs.superblocks_Found.{AreInSectors}
+use Rattle.found_members.specs.superblocks_the_Members.{Members}
+use Rattle.found_members.proofs.superblocks_SlotSets.{none_there}
+use Rattle.found_members.specs.superblocks_Reading.{Scope, reading, reading_of, seen_superblock, superblocks, of_array, is_backup, is_reshaping, is_clean, shape_of, role_state, holder, data_offset_of}
+use Rattle.found_members.specs.superblocks_Election.{seen_superblocks, reading_in, IsElected}
+use Rattle.found_members.specs.superblocks_Verdict.{members_verdict}
+use Rattle.found_members.specs.superblocks_Update.{is_held_by}
+use Rattle.found_members.specs.superblocks_Writing.{IsMember, AreWritable}
+use Rattle.found_members.specs.superblocks_Found.{AreInSectors}
 use Rattle.safe_additions.specs.row_io_Rows.{reading_of as members_reading}
 use Rattle.safe_additions.specs.flat_history_Stands.{verdict}
+use Rattle.safe_additions.proofs.safe_updates_RefusingLaws.{least-none}
 use Rattle.assemble.specs.declared.spec.CreateSpec.{CreateSpec}
 use Rattle.safe_additions.specs.views_Placed.{IsPlaced}
 use Rattle.assemble.specs.Opening.{scope_of, IsOpened, AreGiven}
@@ -40,7 +41,7 @@ use Rattle.safe_additions.specs.views_Flushing.{OnlyFlushesAdded, OnlyItsSlotsFa
 use Rattle.safe_additions.proofs.views_Flushed.{contents-added}
 use Rattle.safe_additions.proofs.views_Still.{count-still}
 use Rattle.assemble.proofs.FillLaws.{present-same}
-use Rattle.assemble.proofs.CreateLaws.{fewer, not-backup, least_below-fails}
+use Rattle.assemble.proofs.CreateLaws.{fewer, not-backup}
 use Rattle.assemble.proofs.Judged.{verdict-for, still_none}
 use Rattle.assemble.proofs.MadeLaws.{elected-made}
 use Rattle.assemble.proofs.StillFit.{still-fit}
@@ -323,7 +324,7 @@ module _ (bank : Given) (backup : Option ℕ) (spec : CreateSpec) (room : HasRoo
           let same : c s ≡ before s = (λ i k. others s k past i) in
           ap (λ f. of_array spec.uuid (cond (has_slot given s && not (is_backup backup s)) (superblock_in ((sizes bank).sectors s) f) None)) same
           ∙ none-of (of_array spec.uuid (seen_superblock scope before s))
-          (from disks s (is_some (of_array spec.uuid (seen_superblock scope before s))) past (least_below-fails bank.slots (is_used scope before disks) free s within))
+          (from disks s (is_some (of_array spec.uuid (seen_superblock scope before s))) past (least-none bank.slots (is_used scope before disks) free s within))
           ∙ sym (filled.own.none s past)
 
       are-stored : superblocks scope c ≡ take bank.slots own

@@ -1,13 +1,13 @@
 -- What is read whole and has good rows is sound: so is a new array.
 use Rattle.std.proofs.Common.{◌≡◌, ℕ, ◌<◌, false, length, Some, ap, sym, ◌∙◌, subst, arith}
-use Rattle.array_kept.specs.md_base_the_Shape.{Shape}
-use Rattle.array_kept.specs.md_base_Search.{tabulate}
+use Rattle.found_members.specs.md_base_the_Shape.{Shape}
+use Rattle.found_members.specs.md_base_Search.{tabulate}
 use Rattle.bank.specs.Tape.{Contents}
-use Rattle.array_kept.specs.layout_Layout.{place, row_roles}
-use Rattle.array_kept.proofs.layout_Places.{place-row_below}
-use Rattle.array_kept.specs.parity_Parity.{Row, lacking_in, AreEquationsMet}
-use Rattle.array_kept.proofs.parity_Lacking.{lacking_in-row, lack_list-none}
-use Rattle.array_kept.specs.superblocks_Reading.{Scope, Reading}
+use Rattle.found_members.specs.layout_Layout.{place, row_roles}
+use Rattle.found_members.proofs.layout_Places.{place-row_below}
+use Rattle.found_members.specs.parity_Parity.{Row, lacking_in, AreEquationsMet}
+use Rattle.found_members.proofs.parity_Lacking.{lacking_in-row, lack_list-none}
+use Rattle.found_members.specs.superblocks_Reading.{Scope, Reading}
 use Rattle.safe_additions.specs.flat_history_Opened.{IsSound}
 use Rattle.safe_additions.specs.flat_history_Reshaped.{IsGoodRow}
 use Rattle.safe_additions.specs.flat_history_Stands.{held_sector, held_row}

@@ -4,28 +4,28 @@ use Rattle.std.proofs.lemmas.Bool.Decides.{nat_tests}
 use Rattle.std.proofs.lemmas.List.{get_or-take}
 use Rattle.std.specs.Prelude.{slice_index, bit_xor, ⊤}
 use Rattle.std.specs.Option.{option_map_or}
-use Rattle.array_kept.specs.md_base_Search.{tabulate}
-use Rattle.array_kept.specs.md_base_Sectors.{Sector, zero_sector}
-use Rattle.array_kept.specs.md_base_Shapes.{is_valid_shape, data_disks}
-use Rattle.array_kept.specs.md_base_the_RowRoles.{RowRoles}
-use Rattle.array_kept.specs.md_base_the_Shape.{Shape}
-use Rattle.array_kept.specs.md_base_the_Role.{Role}
-use Rattle.array_kept.specs.md_base_the_Role_TheVariants.{Whole, Missing}
-use Rattle.array_kept.specs.md_base_the_Refusal_TheVariants.{NoSuperblock}
-use Rattle.array_kept.proofs.md_base_Tabulated.{get_or-tabulate}
-use Rattle.array_kept.specs.sb1_the_Sb.{Sb}
+use Rattle.found_members.specs.md_base_Search.{tabulate}
+use Rattle.found_members.specs.md_base_Sectors.{Sector, zero_sector}
+use Rattle.found_members.specs.md_base_Shapes.{is_valid_shape, data_disks}
+use Rattle.found_members.specs.md_base_the_RowRoles.{RowRoles}
+use Rattle.found_members.specs.md_base_the_Shape.{Shape}
+use Rattle.found_members.specs.md_base_the_Role.{Role}
+use Rattle.found_members.specs.md_base_the_Role_TheVariants.{Whole, Missing}
+use Rattle.found_members.specs.md_base_the_Refusal_TheVariants.{NoSuperblock}
+use Rattle.found_members.proofs.md_base_Tabulated.{get_or-tabulate}
+use Rattle.found_members.specs.sb1_the_Sb.{Sb}
 use Rattle.bank.specs.Given.{Given}
 use Rattle.bank.specs.Tape.{Contents}
-use Rattle.array_kept.specs.gf256_Field.{product, power_of_two}
-use Rattle.array_kept.proofs.gf256_FieldLaws.{product-zero_r}
-use Rattle.array_kept.specs.layout_Layout.{place, row_roles}
-use Rattle.array_kept.proofs.layout_Places.{row_roles-p_below, row_roles-q_apart, place-role_below, place-row_below}
-use Rattle.array_kept.specs.parity_Exponents.{is_data, exponent}
-use Rattle.array_kept.specs.parity_Parity.{data_sum, p_holds, q_holds, q_holds_at, AreEquationsMet}
-use Rattle.array_kept.proofs.parity_Contents.{whole-good}
-use Rattle.array_kept.specs.superblocks_the_Members.{Members}
-use Rattle.array_kept.specs.superblocks_Reading.{Scope, Reading, role_state, holder, data_offset_of}
-use Rattle.array_kept.specs.superblocks_Election.{reading_in}
+use Rattle.found_members.specs.gf256_Field.{product, power_of_two}
+use Rattle.found_members.proofs.gf256_FieldLaws.{product-zero_r}
+use Rattle.found_members.specs.layout_Layout.{place, row_roles}
+use Rattle.found_members.proofs.layout_Places.{row_roles-p_below, row_roles-q_apart, place-role_below, place-row_below}
+use Rattle.found_members.specs.parity_Exponents.{is_data, exponent}
+use Rattle.found_members.specs.parity_Parity.{data_sum, p_holds, q_holds, q_holds_at, AreEquationsMet}
+use Rattle.found_members.proofs.parity_Contents.{whole-good}
+use Rattle.found_members.specs.superblocks_the_Members.{Members}
+use Rattle.found_members.specs.superblocks_Reading.{Scope, Reading, role_state, holder, data_offset_of}
+use Rattle.found_members.specs.superblocks_Election.{reading_in}
 use Rattle.safe_additions.specs.row_io_Rows.{reading_of}
 use Rattle.safe_additions.specs.flat_history_Stands.{verdict, refusal_of}
 use Rattle.assemble.specs.declared.spec.CreateSpec.{CreateSpec}

@@ -1,20 +1,20 @@
 -- What runs was made, or found, as it is answered.
 use Rattle.std.proofs.Common.{◌≡◌, inl, inr, ℕ, zero, suc, ◌*◌, ◌<◌, ◌≤◌, true, false, not, nat_lt, max, List, [], ◌++◌, length, take, get_or, Option, Some, IfSome, Result, Ok, Err, IfOk, refl, sym, ◌∙◌, ap, ap₂, subst, arith}
 use Rattle.std.proofs.lemmas.Bool.Decides.{nat_tests}
-use Rattle.array_kept.specs.md_base_the_Role.{Role}
-use Rattle.array_kept.specs.md_base_the_Role_TheVariants.{Whole, Recovering, Missing}
-use Rattle.array_kept.specs.md_base_the_Shape.{Shape}
-use Rattle.array_kept.specs.md_base_Shapes.{has_slot, data_disks}
-use Rattle.array_kept.proofs.md_base_Tabulated.{get_or-tabulate}
+use Rattle.found_members.specs.md_base_the_Role.{Role}
+use Rattle.found_members.specs.md_base_the_Role_TheVariants.{Whole, Recovering, Missing}
+use Rattle.found_members.specs.md_base_the_Shape.{Shape}
+use Rattle.found_members.specs.md_base_Shapes.{has_slot, data_disks}
+use Rattle.found_members.proofs.md_base_Tabulated.{get_or-tabulate}
 use Rattle.bank.specs.declared.bank.Operation.{Operation}
 use Rattle.bank.specs.Given.{Given, sizes, IsFaulted, NeverFalls}
 use Rattle.bank.specs.Tape.{Contents, contents}
-use Rattle.array_kept.specs.superblocks_the_Members.{Members}
-use Rattle.array_kept.specs.superblocks_Reading.{Reading, shape_of, final_shape, is_whole, role_state}
-use Rattle.array_kept.specs.superblocks_Election.{reading_in}
-use Rattle.array_kept.specs.superblocks_Reads.{has_spare}
-use Rattle.array_kept.specs.superblocks_Found.{AreInSectors}
-use Rattle.array_kept.proofs.superblocks_SlotSets.{none_there}
+use Rattle.found_members.specs.superblocks_the_Members.{Members}
+use Rattle.found_members.specs.superblocks_Reading.{Reading, shape_of, final_shape, is_whole, role_state}
+use Rattle.found_members.specs.superblocks_Election.{reading_in}
+use Rattle.found_members.specs.superblocks_Reads.{has_spare}
+use Rattle.found_members.specs.superblocks_Found.{AreInSectors}
+use Rattle.found_members.proofs.superblocks_SlotSets.{none_there}
 use Rattle.safe_additions.specs.row_io_Rows.{reading_of, is_missing}
 use Rattle.safe_additions.specs.flat_history_the_Event.{Event}
 use Rattle.safe_additions.specs.flat_history_Plain.{entries_of}
@@ -28,15 +28,15 @@ use Rattle.safe_additions.specs.shape_views_Regions.{DoWithout}
 use Rattle.safe_additions.proofs.views_Fit.{valid, multiple, short}
 use Rattle.safe_additions.proofs.views_Still.{count-still}
 use Rattle.safe_additions.specs.views_Rebuilding.{AreSparesFree}
-use Rattle.array_kept.specs.Kept.{world_in, scope_in}
-use Rattle.array_kept.specs.Calls.{world_for}
-use Rattle.array_kept.specs.Adopting.{opener, found_loss, absent_losses, found_losses, found_work, IsAdoptable, IsAdopted}
+use Rattle.found_members.specs.array_kept_Kept.{world_in, scope_in}
+use Rattle.found_members.specs.array_kept_Calls.{world_for}
+use Rattle.found_members.specs.array_kept_Adopting.{opener, found_loss, absent_losses, found_losses, found_work, IsAdoptable, IsAdopted}
 use Rattle.assemble.specs.declared.opening.Opened.{Opened}
 use Rattle.assemble.specs.Opening.{scope_of, AreGiven, AreFlushed, IsOpened}
 use Rattle.assemble.specs.Filling.{AreZeros}
 use Rattle.assemble.specs.Made.{IsNew}
 use Rattle.assemble.specs.Running.{opened_of, IsBegun, OpensWithZeros, IsCreated, IsAssembled}
-use Rattle.assemble.proofs.Judged.{elected-does}
+use Rattle.found_members.proofs.Elected.{elected-does}
 use Rattle.assemble.proofs.SafeLaws.{opened-told}
 use Rattle.assemble.proofs.NewSound.{whole-sound}
 use Rattle.assemble.proofs.NewZeros.{new-arrays-are-zeros}

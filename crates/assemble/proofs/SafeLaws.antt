@@ -3,17 +3,18 @@ use Rattle.std.proofs.Common.{◌≡◌, inl, inr, ℕ, zero, suc, ◌<◌, Bool
 use Rattle.std.specs.Prelude.{⊤}
 use Rattle.std.specs.Prelude.{⊤}
 use Rattle.bank.specs.md_base_the_Span.{Span}
-use Rattle.array_kept.specs.md_base_Sectors.{Sector}
-use Rattle.array_kept.specs.md_base_Shapes.{has_slot}
-use Rattle.array_kept.proofs.md_base_Tabulated.{length-tabulate, get_or-tabulate}
-use Rattle.array_kept.specs.sb1_the_Sb.{Sb}
+use Rattle.found_members.specs.md_base_Sectors.{Sector}
+use Rattle.found_members.specs.md_base_Shapes.{has_slot}
+use Rattle.found_members.proofs.md_base_Tabulated.{length-tabulate, get_or-tabulate}
+use Rattle.found_members.specs.sb1_the_Sb.{Sb}
 use Rattle.bank.specs.declared.bank.Operation.{Operation}
 use Rattle.bank.specs.Given.{Given}
 use Rattle.bank.specs.Tape.{Contents, contents, disk, IsIn}
 use Rattle.bank.proofs.Images.{image-now}
-use Rattle.array_kept.specs.superblocks_Reading.{Reading, reading, is_reshaping, shape_of, final_shape, is_backward, next_window, list_length}
-use Rattle.array_kept.specs.superblocks_Election.{reading_in}
-use Rattle.array_kept.specs.geometry_Geometry.{window}
+use Rattle.found_members.specs.superblocks_Reading.{Reading, reading, is_reshaping, shape_of, final_shape, is_backward, next_window, list_length}
+use Rattle.found_members.specs.superblocks_Election.{reading_in}
+use Rattle.found_members.specs.geometry_Geometry.{window}
+use Rattle.found_members.proofs.Held.{one}
 use Rattle.safe_additions.specs.flat_history_ActiveSection.{active_section}
 use Rattle.safe_additions.specs.flat_history_Stands.{stands, standing_sector, placed_sector, shape_for, covers}
 use Rattle.safe_additions.specs.flat_history_Flat.{IsAllowed, values_of}
@@ -26,10 +27,6 @@ use Rattle.safe_additions.proofs.flat_history_GivenLaws.{only-given-seen}
 use Rattle.assemble.specs.declared.opening.Opened.{Opened}
 use Rattle.assemble.specs.Opening.{IsOpened, AreFlushed}
 use Rattle.assemble.specs.Safe.{world_of, OpeningsAreSafe}
-
-pub one : {a v : Sector} → IsIn (v ∷ []) a → a ≡ v
-one (inl same) = same
-one (inr none) = absurd none
 
 -- at the opening each sector may have the value that it has
 first-value : (list : List Sector) (x : ℕ) → x < length list → IsIn (take 1 (drop x list)) (get_or list x [])

@@ -1,12 +1,16 @@
--- The shapes in force fit where no reshape is active.
-use Rattle.std.proofs.Common.{◌≡◌, ◌==◌, ◌||◌, true, false, not, cond, Bool, None, Some, sym, ap, subst}
-use Rattle.array_kept.specs.md_base_the_Shape.{Shape}
-use Rattle.array_kept.specs.md_base_the_Refusal_TheVariants.{PositionNotOnUnit}
-use Rattle.array_kept.specs.md_base_Shapes.{is_valid_shape, is_multiple}
-use Rattle.array_kept.specs.sb1_the_Sb.{Sb}
-use Rattle.array_kept.specs.geometry_Geometry.{is_size}
-use Rattle.array_kept.specs.superblocks_Reading.{is_reshaping, shape_of, final_shape, list_length}
-use Rattle.array_kept.specs.superblocks_Verdict.{unit_of}
+-- The shapes in force fit where no reshape is active; so they do of elected members.
+use Rattle.std.proofs.Common.{◌≡◌, ◌==◌, ◌||◌, ℕ, true, false, not, cond, Bool, List, length, Option, None, Some, sym, ap, subst}
+use Rattle.found_members.specs.md_base_the_Shape.{Shape}
+use Rattle.found_members.specs.md_base_the_Refusal_TheVariants.{PositionNotOnUnit}
+use Rattle.found_members.specs.md_base_Shapes.{is_valid_shape, is_multiple}
+use Rattle.found_members.specs.sb1_the_Sb.{Sb}
+use Rattle.found_members.specs.geometry_Geometry.{is_size}
+use Rattle.found_members.specs.superblocks_Reading.{is_reshaping, shape_of, final_shape, list_length}
+use Rattle.found_members.specs.superblocks_Verdict.{unit_of, fresh_from}
+use Rattle.found_members.specs.superblocks_the_Members.{Members}
+use Rattle.found_members.specs.superblocks_Election.{reading_in, IsElected}
+use Rattle.found_members.proofs.Elected.{elected-unrefused, elected-valid}
+use Rattle.found_members.proofs.Fit.{sizes-good}
 use Rattle.safe_additions.specs.shape_views_Regions.{AreShapesFit}
 use Rattle.safe_additions.proofs.shape_views_Stands.{final-still}
 
@@ -25,3 +29,9 @@ module _ (newest : Sb) (still : is_reshaping newest ≡ false) (valid : is_valid
     delta = λ active. absurd (cc);
     delta_back = λ active. absurd (cc);
   }
+
+-- elected members without an active reshape
+pub found-fit : (sectors : ℕ → ℕ) (own : List (Option Sb)) (lost : ℕ) (m : Members) → IsElected sectors own lost m → is_reshaping m.newest ≡ false → AreShapesFit m.newest
+found-fit sectors own lost m elected still =
+    still-fit m.newest still (elected-valid sectors own lost m elected).old
+    (sizes-good m.newest (fresh_from m.newest sectors 0 (reading_in (length own) m).own) (elected-unrefused sectors own lost m elected).fields).0

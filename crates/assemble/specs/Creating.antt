@@ -1,12 +1,12 @@
 -- What an array may be made as over a bank: the refusals that need no device call.
 use Rattle.std.specs.Prelude.{◌≡◌, ◌<◌, ◌≤◌, ℕ, ◌+◌, ◌-◌, ◌^◌, Bool, not, ◌&&◌, nat_le, nat_lt, if◌then◌else◌, Option, Some, None, MatchOption, option_map, ⊤, IsTrue}
 use Rattle.std.specs.Option.{option_or}
-use Rattle.array_kept.specs.md_base_the_Refusal.{Refusal}
-use Rattle.array_kept.specs.md_base_the_Refusal_TheVariants.{BadShape, SizeNotMultiple, NoSuchSlot, SlotTooSmall}
-use Rattle.array_kept.specs.md_base_the_ShapeField.{ShapeField}
-use Rattle.array_kept.specs.md_base_the_ShapeField_TheVariants.{Level, Layout, Chunk, Disks, Size, Offset}
-use Rattle.array_kept.specs.md_base_Search.{least_below}
-use Rattle.array_kept.specs.md_base_Shapes.{is_level, is_layout, is_chunk, is_disk_count, is_multiple, is_valid_shape}
+use Rattle.found_members.specs.md_base_the_Refusal.{Refusal}
+use Rattle.found_members.specs.md_base_the_Refusal_TheVariants.{BadShape, SizeNotMultiple, NoSuchSlot, SlotTooSmall}
+use Rattle.found_members.specs.md_base_the_ShapeField.{ShapeField}
+use Rattle.found_members.specs.md_base_the_ShapeField_TheVariants.{Level, Layout, Chunk, Disks, Size, Offset}
+use Rattle.found_members.specs.md_base_Search.{least_below}
+use Rattle.found_members.specs.md_base_Shapes.{is_level, is_layout, is_chunk, is_disk_count, is_multiple, is_valid_shape}
 use Rattle.bank.specs.Given.{Given}
 use Rattle.assemble.specs.declared.spec.CreateSpec.{CreateSpec}
 

@@ -1,17 +1,17 @@
 -- What is left of a bank's slots while an array is made in some of them.
 use Rattle.std.specs.Prelude.{◌≡◌, ◌≢◌, ℕ, ◌+◌, ◌^◌, ◌<◌, ◌≤◌, List, [], ◌∷◌, ◌++◌, length, slice_index_or, Option, Some, None, ⊤}
-use Rattle.array_kept.specs.md_base_Sectors.{Sector, zero_sector}
-use Rattle.array_kept.specs.sb1_Superblock.{superblock_in}
-use Rattle.array_kept.specs.sb1_the_Sb.{Sb}
+use Rattle.found_members.specs.md_base_Sectors.{Sector, zero_sector}
+use Rattle.found_members.specs.sb1_Superblock.{superblock_in}
+use Rattle.found_members.specs.sb1_the_Sb.{Sb}
 use Rattle.assemble.specs.declared.spec.CreateSpec.{CreateSpec}
 use Rattle.bank.specs.declared.bank.Operation.{Operation}
 use Rattle.bank.specs.declared.bank.Operation.TheVariants.{Write, Flush}
 use Rattle.bank.specs.Given.{Given}
 use Rattle.bank.specs.Tape.{Contents, contents, disk}
-use Rattle.array_kept.specs.superblocks_the_Members.{Members}
-use Rattle.array_kept.specs.superblocks_Found.{IsInSectors}
-use Rattle.array_kept.specs.md_base_the_Role_TheVariants.{Whole}
-use Rattle.array_kept.specs.md_base_Search.{tabulate}
+use Rattle.found_members.specs.superblocks_the_Members.{Members}
+use Rattle.found_members.specs.superblocks_Found.{IsInSectors}
+use Rattle.found_members.specs.md_base_the_Role_TheVariants.{Whole}
+use Rattle.found_members.specs.md_base_Search.{tabulate}
 use Rattle.assemble.specs.Opening.{AreFlushed}
 use Rattle.assemble.specs.Making.{created_sb}
 

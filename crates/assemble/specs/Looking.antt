@@ -2,11 +2,11 @@
 use Rattle.std.specs.Prelude.{◌≡◌, ◌⊎◌, ℕ, List, [], length, slice_index, Option, Some, None, Result, Ok, Err}
 use Rattle.bank.specs.md_base_the_Fault.{Fault}
 use Rattle.bank.specs.md_base_the_Fault_TheVariants.{Refused, NoMemory}
-use Rattle.array_kept.specs.md_base_the_Refusal.{Refusal}
-use Rattle.array_kept.specs.sb1_the_Sb.{Sb}
-use Rattle.array_kept.specs.superblocks_Reading.{Scope, Reading, reading_of}
-use Rattle.array_kept.specs.superblocks_Verdict.{members_verdict}
-use Rattle.array_kept.specs.superblocks_Election.{IsElected}
+use Rattle.found_members.specs.md_base_the_Refusal.{Refusal}
+use Rattle.found_members.specs.sb1_the_Sb.{Sb}
+use Rattle.found_members.specs.superblocks_Reading.{Scope, Reading, reading_of}
+use Rattle.found_members.specs.superblocks_Verdict.{members_verdict}
+use Rattle.found_members.specs.superblocks_Election.{IsElected}
 use Rattle.safe_additions.specs.flat_history_Stands.{backup_absent}
 use Rattle.assemble.specs.declared.opening.Opened.{Opened}
 

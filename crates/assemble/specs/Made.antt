@@ -2,13 +2,13 @@
 use Rattle.std.specs.Prelude.{◌≡◌, ◌⊎◌, ℕ, ◌<◌, Bool, ◌&&◌, nat_le, nat_lt, is_some, Option, Some, None, IsTrue}
 use Rattle.bank.specs.md_base_the_Fault.{Fault}
 use Rattle.bank.specs.md_base_the_Fault_TheVariants.{Refused, NoMemory}
-use Rattle.array_kept.specs.md_base_the_Refusal.{Refusal}
-use Rattle.array_kept.specs.md_base_the_Refusal_TheVariants.{SlotFault, UuidInUse}
-use Rattle.array_kept.specs.md_base_Search.{least_below}
-use Rattle.array_kept.specs.md_base_Shapes.{has_slot}
+use Rattle.found_members.specs.md_base_the_Refusal.{Refusal}
+use Rattle.found_members.specs.md_base_the_Refusal_TheVariants.{SlotFault, UuidInUse}
+use Rattle.found_members.specs.md_base_Search.{least_below}
+use Rattle.found_members.specs.md_base_Shapes.{has_slot}
 use Rattle.bank.specs.Given.{Given, IsFaulted}
 use Rattle.bank.specs.Tape.{Contents}
-use Rattle.array_kept.specs.superblocks_Reading.{Scope, seen_superblock, of_array, shape_of, is_clean}
+use Rattle.found_members.specs.superblocks_Reading.{Scope, seen_superblock, of_array, shape_of, is_clean}
 use Rattle.assemble.specs.declared.spec.CreateSpec.{CreateSpec}
 use Rattle.safe_additions.specs.views_Placed.{IsPlaced}
 use Rattle.assemble.specs.declared.opening.Opened.{Opened}

@@ -1,6 +1,6 @@
 -- What an array is made of: the superblocks of its members.
 use Rattle.std.specs.Prelude.{ℕ, ◌-◌, List}
-use Rattle.array_kept.specs.sb1_the_Sb.{Sb}
+use Rattle.found_members.specs.sb1_the_Sb.{Sb}
 use Rattle.assemble.specs.declared.spec.CreateSpec.{CreateSpec}
 use Rattle.safe_additions.specs.views_Numbers.{device_uuid}
 use Rattle.safe_additions.specs.flat_history_Created.{Device, created}

@@ -1,11 +1,11 @@
 -- What a new array holds.
 use Rattle.std.specs.Prelude.{◌≡◌, ℕ, ◌*◌, ◌<◌, [], length, slice_index_or, Option, Some, ⊤}
-use Rattle.array_kept.specs.md_base_Sectors.{zero_sector}
-use Rattle.array_kept.specs.md_base_Shapes.{data_disks}
+use Rattle.found_members.specs.md_base_Sectors.{zero_sector}
+use Rattle.found_members.specs.md_base_Shapes.{data_disks}
 use Rattle.bank.specs.Given.{Given}
 use Rattle.bank.specs.Tape.{Contents}
-use Rattle.array_kept.specs.superblocks_Reading.{Scope}
-use Rattle.array_kept.specs.superblocks_Election.{reading_in}
+use Rattle.found_members.specs.superblocks_Reading.{Scope}
+use Rattle.found_members.specs.superblocks_Election.{reading_in}
 use Rattle.safe_additions.specs.flat_history_Stands.{stands}
 use Rattle.assemble.specs.declared.spec.CreateSpec.{CreateSpec}
 use Rattle.safe_additions.specs.views_Whole.{Places, list_size, IsReadWhole}

@@ -2,15 +2,15 @@
 use Rattle.std.specs.Prelude.{◌≡◌, ℕ, ◌^◌, ◌<◌, not, ◌&&◌, nat_lt, IsTrue, IsFalse, List, [], ◌∷◌, length, take, Option, Some, None}
 use Rattle.bank.specs.md_base_the_Fault.{Fault}
 use Rattle.bank.specs.md_base_the_Fault_TheVariants.{Refused, NoMemory}
-use Rattle.array_kept.specs.md_base_the_Refusal.{Refusal}
-use Rattle.array_kept.specs.md_base_Shapes.{has_slot}
-use Rattle.array_kept.specs.sb1_the_Sb.{Sb}
+use Rattle.found_members.specs.md_base_the_Refusal.{Refusal}
+use Rattle.found_members.specs.md_base_Shapes.{has_slot}
+use Rattle.found_members.specs.sb1_the_Sb.{Sb}
 use Rattle.bank.specs.declared.bank.Operation.{Operation}
 use Rattle.bank.specs.Given.{Given, sizes, IsFaulted}
 use Rattle.bank.specs.Tape.{Contents, contents, disk}
-use Rattle.array_kept.specs.superblocks_Reading.{Scope, reading, is_reshaping, is_backup}
-use Rattle.array_kept.specs.superblocks_Update.{own_in}
-use Rattle.array_kept.specs.superblocks_Election.{seen_superblocks, uuid_for, reading_in, IsElected}
+use Rattle.found_members.specs.superblocks_Reading.{Scope, reading, is_reshaping, is_backup}
+use Rattle.found_members.specs.superblocks_Update.{own_in}
+use Rattle.found_members.specs.superblocks_Election.{seen_superblocks, uuid_for, reading_in, IsElected}
 use Rattle.safe_additions.specs.flat_history_Stands.{verdict, backup_absent}
 use Rattle.assemble.specs.declared.opening.Opened.{Opened}
 

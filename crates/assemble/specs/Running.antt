@@ -1,7 +1,7 @@
 -- An array that runs once it was made, or found.
 use Rattle.std.specs.Prelude.{◌≡◌, ℕ, ◌*◌, ◌<◌, List, [], length, slice_index_or, Option, Some, IfSome}
-use Rattle.array_kept.specs.md_base_Sectors.{zero_sector}
-use Rattle.array_kept.specs.md_base_Shapes.{data_disks}
+use Rattle.found_members.specs.md_base_Sectors.{zero_sector}
+use Rattle.found_members.specs.md_base_Shapes.{data_disks}
 use Rattle.bank.specs.declared.bank.Operation.{Operation}
 use Rattle.bank.specs.Given.{Given}
 use Rattle.bank.specs.Tape.{contents}
@@ -11,8 +11,8 @@ use Rattle.safe_additions.specs.flat_history_Opened.{OpensSound}
 use Rattle.safe_additions.specs.views_Parts.{Parts}
 use Rattle.safe_additions.specs.views_Placed.{AreWhole}
 use Rattle.safe_additions.specs.shape_views_Regions.{DoWithout}
-use Rattle.array_kept.specs.Calls.{world_for}
-use Rattle.array_kept.specs.Adopting.{opener, found_losses, found_work}
+use Rattle.found_members.specs.array_kept_Calls.{world_for}
+use Rattle.found_members.specs.array_kept_Adopting.{opener, found_losses, found_work}
 use Rattle.safe_additions.specs.flat_history_Plain.{entries_of}
 use Rattle.assemble.specs.declared.spec.CreateSpec.{CreateSpec}
 use Rattle.assemble.specs.declared.opening.Opened.{Opened}

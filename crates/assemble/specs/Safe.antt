@@ -1,10 +1,10 @@
 -- That an opened array is safe from its first mark on.
 use Rattle.std.specs.Prelude.{ℕ, ◌<◌, ◌≤◌, List, [], length, Option, ⊤, IsTrue}
-use Rattle.array_kept.specs.md_base_Shapes.{has_slot}
+use Rattle.found_members.specs.md_base_Shapes.{has_slot}
 use Rattle.bank.specs.declared.bank.Operation.{Operation}
 use Rattle.bank.specs.Given.{Given}
 use Rattle.bank.specs.Tape.{contents, disk}
-use Rattle.array_kept.specs.superblocks_Found.{AreInSectors}
+use Rattle.found_members.specs.superblocks_Found.{AreInSectors}
 use Rattle.safe_additions.specs.flat_history_World.{World}
 use Rattle.safe_additions.specs.flat_history_CrashSafe.{IsSafeAt}
 use Rattle.safe_additions.specs.flat_history_Settled.{IsKeptAt}

@@ -1,13 +1,13 @@
 //! Whether an array can be made over a bank, without a device call.
 
 ghost use Rattle.std.specs.Prelude.{◌≡◌, ◌+◌, ◌-◌, ◌<◌, ◌≤◌, ◌^◌, IfNone, IfSome, IsTrue};
-ghost use Rattle.array_kept.specs.md_base_Shapes.{is_valid_shape};
+ghost use Rattle.found_members.specs.md_base_Shapes.{is_valid_shape};
 ghost use Rattle.assemble.specs.Creating.{IsLastSlot, member_slots, is_row_count, is_offset, bad_field, rows_end, short_member, create_refusal, HasRoom};
 
 use crate::spec::CreateSpec;
-use array_kept::{Refusal, ShapeField};
 use bank::Bank;
 use election::{MOST_ROWS, is_chunk, is_disk_count, is_layout, is_level, is_multiple};
+use found_members::{Refusal, ShapeField};
 
 pub const LEAST_OFFSET: u64 = 16;
 

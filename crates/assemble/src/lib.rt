@@ -14,11 +14,11 @@ mod storing;
 mod used;
 mod zeros;
 
-pub use array_kept::{Epoch, Fault, Refusal, Shape, Who};
 pub use bank::{Bank, BankFault, MemoryBank};
 pub use creating::refusal_of_create;
 pub use election::reads::read_superblock;
 pub use election::{Members, Sb, is_clean, is_reshaping, sectors_of, unit};
+pub use found_members::{Epoch, Fault, Refusal, Shape, Who};
 pub use making::make;
 pub use opening::{Opened, find};
 pub use safe_additions::Work;

@@ -1,8 +1,8 @@
 //! The lists of an array's members, made before anything is written.
 
 ghost use Rattle.std.specs.Prelude.{◌≡◌, ◌≤◌, [], None, IfOk, replicate};
-ghost use Rattle.array_kept.specs.md_base_Search.{tabulate};
-ghost use Rattle.array_kept.specs.md_base_the_Role_TheVariants.{Whole};
+ghost use Rattle.found_members.specs.md_base_Search.{tabulate};
+ghost use Rattle.found_members.specs.md_base_the_Role_TheVariants.{Whole};
 
 use bank::{Role, RoleList, SlotList};
 use election::SbList;

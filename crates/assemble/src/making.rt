@@ -1,16 +1,16 @@
 //! An array is made in the first slots of a bank.
 
 ghost use Rattle.std.specs.Prelude.{◌≡◌, ◌≢◌, ◌+◌, ◌<◌, ◌≤◌, ◌^◌, [], ℕ, length, nat_lt, replicate, Some, None, Ok, Err, IfOk, OnOk, IfErr};
-ghost use Rattle.array_kept.specs.md_base_Shapes.{has_slot};
-ghost use Rattle.array_kept.specs.md_base_Search.{tabulate};
+ghost use Rattle.found_members.specs.md_base_Shapes.{has_slot};
+ghost use Rattle.found_members.specs.md_base_Search.{tabulate};
 ghost use Rattle.bank.specs.md_base_the_Fault_TheVariants.{Refused as IsRefused, NoMemory as WantsMemory};
-ghost use Rattle.array_kept.specs.md_base_the_Refusal_TheVariants.{UuidInUse as IsInUse};
-ghost use Rattle.array_kept.specs.md_base_the_Role_TheVariants.{Whole};
-ghost use Rattle.array_kept.specs.md_base_the_Refusal.{Refusal as AnyRefusal};
+ghost use Rattle.found_members.specs.md_base_the_Refusal_TheVariants.{UuidInUse as IsInUse};
+ghost use Rattle.found_members.specs.md_base_the_Role_TheVariants.{Whole};
+ghost use Rattle.found_members.specs.md_base_the_Refusal.{Refusal as AnyRefusal};
 ghost use Rattle.bank.specs.Given.{IsFaulted};
 ghost use Rattle.bank.specs.Tape.{contents};
-ghost use Rattle.array_kept.specs.superblocks_Writing.{AreWritable};
-ghost use Rattle.array_kept.specs.superblocks_Found.{AreInSectors};
+ghost use Rattle.found_members.specs.superblocks_Writing.{AreWritable};
+ghost use Rattle.found_members.specs.superblocks_Found.{AreInSectors};
 ghost use Rattle.safe_additions.specs.views_Flushing.{OnlyFlushesAdded, OnlyItsSlotsFail};
 ghost use Rattle.safe_additions.specs.row_io_Rows.{present};
 ghost use Rattle.assemble.specs.Opening.{scope_of, AreGiven, AreFlushed, IsOpened};
@@ -26,9 +26,9 @@ use crate::spec::CreateSpec;
 use crate::storing::store_members;
 use crate::used::{first_slot, used_slot};
 use crate::zeros::zero_members;
-use array_kept::Refusal;
 use bank::{Bank, Fault};
 use election::Members;
+use found_members::Refusal;
 use std::alloc::Global;
 
 // The lists, and a bit for each slot of the bank.

@@ -2,10 +2,10 @@
 
 ghost use Rattle.std.specs.Prelude.{◌≡◌, ◌≤◌, ◌<◌, ◌-◌, ◌^◌, ℕ, IfOk, IfErr, IfSome, None, length, map, take, drop, replicate, slice_index};
 ghost use Rattle.bank.specs.Tape.{contents};
-ghost use Rattle.array_kept.specs.superblocks_Reading.{of_array};
-ghost use Rattle.array_kept.specs.superblocks_Election.{uuid_for};
-ghost use Rattle.array_kept.specs.superblocks_Writing.{AreWritable};
-ghost use Rattle.array_kept.specs.superblocks_Found.{AreInSectors};
+ghost use Rattle.found_members.specs.superblocks_Reading.{of_array};
+ghost use Rattle.found_members.specs.superblocks_Election.{uuid_for};
+ghost use Rattle.found_members.specs.superblocks_Writing.{AreWritable};
+ghost use Rattle.found_members.specs.superblocks_Found.{AreInSectors};
 ghost use Rattle.assemble.specs.Looking.{lengths_scope, IsJudged};
 ghost use Rattle.assemble.specs.Opening.{IsFound, IsAside, HasFoundNone, AreGiven, AreOfGiven, AreCounted, AreFlushed};
 ghost use Rattle.safe_additions.specs.views_Flushing.{OnlyFlushesAdded, OnlyItsSlotsFail};

@@ -1,12 +1,12 @@
 //! The slots of a bank are looked at: their superblocks are read, and they are flushed.
 
 ghost use Rattle.std.specs.Prelude.{◌≡◌, ◌<◌, ◌≤◌, ◌-◌, ℕ, true, [], None, IfOk, nat_lt, not, ◌&&◌, take, drop, replicate, length, slice_index_or, IsTrue, if◌then◌else◌};
-ghost use Rattle.array_kept.specs.md_base_Shapes.{has_slot};
+ghost use Rattle.found_members.specs.md_base_Shapes.{has_slot};
 ghost use Rattle.bank.specs.Tape.{contents};
-ghost use Rattle.array_kept.specs.superblocks_Reading.{is_backup};
-ghost use Rattle.array_kept.specs.superblocks_Election.{seen_superblocks};
-ghost use Rattle.array_kept.specs.superblocks_Writing.{AreWritable};
-ghost use Rattle.array_kept.specs.superblocks_Found.{AreInSectors};
+ghost use Rattle.found_members.specs.superblocks_Reading.{is_backup};
+ghost use Rattle.found_members.specs.superblocks_Election.{seen_superblocks};
+ghost use Rattle.found_members.specs.superblocks_Writing.{AreWritable};
+ghost use Rattle.found_members.specs.superblocks_Found.{AreInSectors};
 ghost use Rattle.assemble.specs.Opening.{scope_of, AreGiven, AreFlushed};
 ghost use Rattle.safe_additions.specs.views_Flushing.{OnlyFlushesAdded, OnlyItsSlotsFail};
 

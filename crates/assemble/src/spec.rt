@@ -1,6 +1,6 @@
 //! What an array is made as.
 
-use array_kept::Shape;
+use found_members::Shape;
 
 /// The uuid, the shape, the rows of a member, and the sector of a member at which they begin.
 #[derive(Clone, Copy)]

@@ -4,7 +4,7 @@ ghost use Rattle.std.specs.Prelude.{◌≡◌, ◌≢◌, ◌∷◌, [], ◌+◌
 ghost use Rattle.bank.specs.declared.bank.Operation.TheVariants.{Write, Flush};
 ghost use Rattle.bank.specs.Given.{IsPlace, HasCause, IsFaulted};
 ghost use Rattle.bank.specs.Tape.{Did};
-ghost use Rattle.array_kept.specs.sb1_Superblock.{is_valid, sb_of};
+ghost use Rattle.found_members.specs.sb1_Superblock.{is_valid, sb_of};
 ghost use Rattle.safe_additions.specs.row_io_Rows.{present};
 ghost use Rattle.assemble.specs.Creating.{rows_end};
 ghost use Rattle.assemble.specs.Filling.{OnlyBelow, IsSlotDone, IsMade, IsStored, AreFirst, AreStored, AreSlotsDone, OnlyFirstFail};

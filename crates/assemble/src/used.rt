@@ -2,9 +2,9 @@
 
 ghost use Rattle.std.specs.Prelude.{◌≡◌, ◌≤◌, ◌<◌, ◌&&◌, ℕ, true, false, None, nat_le, is_some, slice_index_or, IfSome, IfNone};
 ghost use Rattle.std.specs.Option.{option_copied};
-ghost use Rattle.array_kept.specs.md_base_Search.{least_below};
-ghost use Rattle.array_kept.specs.md_base_Shapes.{has_slot};
-ghost use Rattle.array_kept.specs.superblocks_Reading.{of_array};
+ghost use Rattle.found_members.specs.md_base_Search.{least_below};
+ghost use Rattle.found_members.specs.md_base_Shapes.{has_slot};
+ghost use Rattle.found_members.specs.superblocks_Reading.{of_array};
 
 use election::{Sb, SbList, contains};
 

@@ -1,7 +1,7 @@
 //! The rows of an array that is made.
 
 ghost use Rattle.std.specs.Prelude.{◌≡◌, ◌≢◌, ◌+◌, ◌<◌, ◌≤◌, ◌^◌, ℕ, OnOk, OnErr, IfErr};
-ghost use Rattle.array_kept.specs.md_base_Sectors.{zero_sector};
+ghost use Rattle.found_members.specs.md_base_Sectors.{zero_sector};
 ghost use Rattle.bank.specs.Given.{Given, IsFaulted, NeverFalls};
 ghost use Rattle.safe_additions.specs.row_io_Rows.{present};
 ghost use Rattle.assemble.specs.Creating.{rows_end};

@@ -23,8 +23,9 @@ use Rattle.views.specs.flat_history_Fits.{IsTornOf, AreTornOf}
 use Rattle.views.specs.flat_history_Plain.{loses_role, entries_of}
 use Rattle.views.specs.flat_history_OneShape.{gives_role, is_lost}
 use Rattle.views.specs.Rebuilding.{HasNoRebuilt}
+use Rattle.history_laws.proofs.OneShapeGrowing.{call-ends}
 use Rattle.call_entries.specs.Losing.{role_loss, role_losses, spare_loss, spare_losses, losses_of}
-use Rattle.call_entries.proofs.PlainLaws.{one, last_end-call}
+use Rattle.call_entries.proofs.PlainLaws.{one}
 use Rattle.call_entries.proofs.LosingLaws.{entries-both}
 
 abbrev pub AreLossEvents : List Event → Type 0
@@ -113,8 +114,8 @@ gives-losses who end (event ∷ xs) tail are none = absurd are
 
 pub last_end-behind : (first : ℕ) (entries : List Entry) (who : Who) (end : ℕ) (inner : List Event) (event : Event)
     → last_end_from first (entries ++ entries_of who end (inner ++ event ∷ [])) ≡ end
-last_end-behind first entries who end [] event = last_end-call first entries who end event []
-last_end-behind first entries who end (x ∷ inner) event = last_end-call first entries who end x (inner ++ event ∷ [])
+last_end-behind first entries who end [] event = call-ends first entries who end event []
+last_end-behind first entries who end (x ∷ inner) event = call-ends first entries who end x (inner ++ event ∷ [])
 
 -- ---- none of them is a torn write
 

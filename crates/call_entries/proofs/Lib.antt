@@ -3,6 +3,7 @@ pub mod LosingLaws
 pub mod CallLaws
 pub mod LeftLaws
 pub mod StepLaws
+pub mod BearerLaws
 pub use Rattle.views.proofs.HeldRows as views_HeldRows
 pub use Rattle.views.proofs.LackingLaws as views_LackingLaws
 pub use Rattle.views.proofs.Fit as views_Fit
@@ -16,7 +17,6 @@ pub use Rattle.views.proofs.Counts as views_Counts
 pub use Rattle.views.proofs.shape_changes_Steady
 pub use Rattle.views.proofs.shape_views_Judged
 pub use Rattle.views.proofs.LiveLeft as views_LiveLeft
-pub use Rattle.views.proofs.BearerLaws as views_BearerLaws
 pub use Rattle.views.proofs.Searching as views_Searching
 pub use Rattle.views.proofs.AddedRows as views_AddedRows
 pub use Rattle.views.proofs.Flushed as views_Flushed

@@ -1,13 +1,11 @@
 -- How a legal history grows by a call.
-use Rattle.std.proofs.Common.{◌≡◌, ℕ, ◌+◌, ◌==◌, ◌&&◌, Bool, true, false, cond, Option, Some, List, [], ◌∷◌, ◌++◌, unwrap_or, refl, sym, ◌∙◌, ap, arith, append_assoc}
+use Rattle.std.proofs.Common.{◌≡◌, ℕ, ◌+◌, ◌==◌, ◌&&◌, Bool, true, false, cond, Option, Some, List, [], ◌∷◌, ◌++◌, unwrap_or, refl, ◌∙◌, ap, arith}
 use Rattle.std.proofs.lemmas.Bool.Decides.{nat_tests}
 use Rattle.std.specs.Prelude.{fold}
-use Rattle.std.specs.Option.{option_map_or}
 use Rattle.history_laws.specs.md_base_the_Who.{Who}
 use Rattle.views.specs.flat_history_the_Entry.{Entry}
 use Rattle.views.specs.flat_history_the_Event.{Event}
 use Rattle.views.specs.flat_history_Flat.{is_same_call, rest_of_call, last_of, number_after}
-use Rattle.views.specs.flat_history_Transfers.{last_end_from}
 use Rattle.views.specs.flat_history_Growing.{BeginAnother}
 use Rattle.views.specs.flat_history_Plain.{entries_of}
 
@@ -40,10 +38,3 @@ begins (e ∷ []) start who end event events number = other e.caller e.number wh
     other : (c n caller n' start : ℕ) → n' ≡ (cond (c == caller) (n + 1) start) → ((c == caller) && (n == n')) ≡ false
     other c n caller n' start is = grind (arith, nat_tests, is)
 begins (e ∷ x ∷ entries) start who end event events number = begins (x ∷ entries) (number_after who.caller start e) who end event events number
-
--- where a call ended, the history ended
-pub last_end-call : (first : ℕ) (entries : List Entry) (who : Who) (end : ℕ) (event : Event) (events : List Event) → last_end_from first (entries ++ entries_of who end (event ∷ events)) ≡ end
-last_end-call first entries who end event [] = ap (λ (o : Option Entry). option_map_or (λ e. e.end) o first) (last-snoc entries (one who end event))
-last_end-call first entries who end event (next ∷ events) =
-    ap (λ (l : List Entry). last_end_from first l) (sym (append_assoc entries (one who end event ∷ []) (entries_of who end (next ∷ events))))
-    ∙ last_end-call first (entries ++ one who end event ∷ []) who end next events

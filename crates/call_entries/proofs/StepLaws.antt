@@ -73,7 +73,7 @@ losses-go_on (Lost role Fault ∷ xs) event are goes = (tt, losses-go_on xs even
 losses-go_on (SpareLost slot ∷ xs) event are goes = (tt, losses-go_on xs event are goes)
 losses-go_on (x ∷ xs) event are goes = absurd are
 
-of-call : (who : Who) (end : ℕ) (events : List Event) → All (λ e. IsOfCall who e) (entries_of who end events)
+pub of-call : (who : Who) (end : ℕ) (events : List Event) → All (λ e. IsOfCall who e) (entries_of who end events)
 of-call who end [] = All-nil (λ e. IsOfCall who e)
 of-call who end (event ∷ events) = All-cons (λ e. IsOfCall who e) (one who end event) (entries_of who end events) (refl, refl) (of-call who end events)
 

@@ -39,7 +39,7 @@ use Rattle.array_kept.proofs.ReplyLaws.{inside-losses, none-inside, replied}
 use Rattle.array_kept.proofs.views_LiveLeft.{some-held}
 use Rattle.array_kept.proofs.views_Searching.{least-found, both-parts}
 use Rattle.array_kept.specs.shape_views_Regions.{DoWithout}
-use Rattle.array_kept.proofs.views_BearerLaws.{uncarried}
+use Rattle.array_kept.proofs.call_entries_BearerLaws.{uncarried}
 use Rattle.array_kept.proofs.views_Fit.{valid}
 use Rattle.array_kept.proofs.views_LackingLaws.{does-without, never-both}
 

@@ -43,7 +43,7 @@ use Rattle.array_kept.specs.views_Status.{left_of}
 use Rattle.array_kept.specs.shape_views_Views.{Ledger}
 use Rattle.array_kept.specs.shape_changes_Steady.{AreViewsRight, IsSafeOver, IsSafeStretch, KeepsSafe, AreGoneTold, IsUncleanTold, IsMoreTold, with_number}
 use Rattle.array_kept.specs.Kept.{world_in, ledger_now, AreTold, IsKept, IsSafe, AreOnlyTold}
-use Rattle.array_kept.proofs.views_BearerLaws.{bears-more}
+use Rattle.array_kept.proofs.call_entries_BearerLaws.{bears-more}
 use Rattle.calls_kept.proofs.AddedNumbers.{told-with}
 use Rattle.calls_kept.proofs.AddedLosses.{IsAddDone, with-placed, stays-added, does-added, told-added, left-refused, left-carried, left-added, spares-added}
 use Rattle.array_kept.proofs.views_AddedRows.{list-with, among-with, rebuilt-with}

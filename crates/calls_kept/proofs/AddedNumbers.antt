@@ -15,7 +15,7 @@ use Rattle.array_kept.specs.views_the_Work.{Work}
 use Rattle.array_kept.specs.views_Numbers.{bears, bearing, free_number}
 use Rattle.array_kept.specs.views_Rebuilding.{AreSparesFree, IfOwn}
 use Rattle.array_kept.specs.Calls.{IsWorkAdded}
-use Rattle.array_kept.proofs.views_BearerLaws.{bears-new, bears-other, bears-among, bears-one}
+use Rattle.array_kept.proofs.call_entries_BearerLaws.{bears-new, bears-other, bears-among, bears-one}
 
 -- with the new number no more is told than is by the work that knows it
 pub told-with : (slot number : ℕ) (work : Work) (s n : ℕ) (was : Bool) → slot < 32 → (was ≡ true → bears (bearing false slot number work) s n ≡ true) → (was || ((s == slot) && (n == number))) ≡ true

@@ -62,7 +62,7 @@ use Rattle.array_kept.proofs.views_Fit.{valid, multiple}
 -- ---- rows whose parity is to be relied on
 
 -- they are those of whole stripes
-mended-multiple : (given : Given) (m : Members) → IsPlaced given m → (resync : Option ℕ) → is_multiple (mended_rows resync m) (shape_of m.newest).chunk ≡ true
+pub mended-multiple : (given : Given) (m : Members) → IsPlaced given m → (resync : Option ℕ) → is_multiple (mended_rows resync m) (shape_of m.newest).chunk ≡ true
 mended-multiple given m placed None = multiple given m placed
 mended-multiple given m placed (Some mended) = stripes-multiple mended (shape_of m.newest).chunk (chunk_some (shape_of m.newest) (valid given m placed))
 

@@ -54,7 +54,6 @@ pub use Rattle.window_steps.proofs.shape_changes_FitKinds
 pub use Rattle.window_steps.proofs.shape_changes_ChangeViews
 pub use Rattle.window_steps.proofs.shape_changes_Started
 pub use Rattle.window_steps.proofs.shape_ends_GrownStanding
-pub use Rattle.window_steps.proofs.views_MarkEnds
 pub use Rattle.window_steps.proofs.shape_views_SoundViews
 pub use Rattle.window_steps.proofs.shape_views_Standing
 pub use Rattle.window_steps.proofs.views_GivenMembers
@@ -102,3 +101,4 @@ pub use Rattle.grow_asked.proofs.layout_Places
 pub use Rattle.grow_asked.proofs.parity_Columns
 pub use Rattle.grow_asked.proofs.parity_OwnFills
 pub use Rattle.grow_asked.proofs.parity_Refilled
+pub use Rattle.window_steps.proofs.safe_updates_MarkEnds

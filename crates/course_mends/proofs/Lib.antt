@@ -56,7 +56,6 @@ pub use Rattle.course_kept.proofs.shape_views_Alike
 pub use Rattle.course_kept.proofs.shape_views_UnderWay
 pub use Rattle.course_kept.proofs.shape_ends_GrownLaws
 pub use Rattle.course_kept.proofs.shape_ends_GrownStanding
-pub use Rattle.course_kept.proofs.views_MarkEnds
 pub use Rattle.course_kept.proofs.shape_changes_Steady
 pub use Rattle.course_kept.proofs.shape_changes_Risen
 pub use Rattle.course_kept.proofs.shape_changes_LessViews
@@ -100,3 +99,4 @@ pub use Rattle.course_kept.proofs.grow_asked_FirstLaws
 pub use Rattle.course_kept.proofs.parity_Columns
 pub use Rattle.course_kept.proofs.parity_OwnFills
 pub use Rattle.course_kept.proofs.parity_Refilled
+pub use Rattle.course_kept.proofs.safe_updates_MarkEnds

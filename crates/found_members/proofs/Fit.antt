@@ -81,23 +81,26 @@ backward-fewer n (pos zero) bit e = let le : n ≤ n + 0 = omega arith in le
 backward-fewer n (pos (suc k)) bit e = absurd (none-of (suc k == 0) bit (apart k) e)
 backward-fewer n (negsuc k) bit e = let le : n ≤ n + suc k = omega arith in le
 
--- ---- a reshape that is refused for nothing
+-- ---- the fields of a superblock that is refused for nothing
 
-module _ (newest : Sb) (slots : List (Sb × ℕ)) (active : is_reshaping newest ≡ true) (valid : AreValidShapes newest) (fields : bad_field newest slots ≡ None) (unit : off_unit newest ≡ None) where
+module _ (newest : Sb) (slots : List (Sb × ℕ)) (fields : bad_field newest slots ≡ None) where
   field : (k : ℕ) → (get_or (judged_fields newest slots) k (0, false)).1 ≡ false
   field k = field-fails (judged_fields newest slots) k (fields-pass newest slots fields)
 
   size-good : is_bad_size newest ≡ false
   size-good = field 2
 
-  sizes-good : (is_size newest.size newest.chunksize ≡ true) × ((nat_le 1 newest.size && nat_le newest.size (2 ^ 48)) ≡ true) × ((not (is_reshaping newest) || is_multiple newest.size newest.new_chunk) ≡ true)
+  pub sizes-good : (is_size newest.size newest.chunksize ≡ true) × ((nat_le 1 newest.size && nat_le newest.size (2 ^ 48)) ≡ true) × ((not (is_reshaping newest) || is_multiple newest.size newest.new_chunk) ≡ true)
   sizes-good = all-four (nat_le 1 newest.size) (nat_le newest.size (2 ^ 48)) (is_multiple newest.size newest.chunksize) (not (is_reshaping newest) || is_multiple newest.size newest.new_chunk) size-good
 
+-- ---- a reshape that is refused for nothing
+
+module _ (newest : Sb) (slots : List (Sb × ℕ)) (active : is_reshaping newest ≡ true) (valid : AreValidShapes newest) (fields : bad_field newest slots ≡ None) (unit : off_unit newest ≡ None) where
   level-same : newest.new_level ≡ newest.level
-  level-same = eqb-true newest.new_level newest.level (so (is_reshaping newest) (newest.new_level == newest.level) active (field 5))
+  level-same = eqb-true newest.new_level newest.level (so (is_reshaping newest) (newest.new_level == newest.level) active (field newest slots fields 5))
 
   within : newest.reshape_position ≤ list_length newest
-  within = leb-true newest.reshape_position (list_length newest) (so (is_reshaping newest) (nat_le newest.reshape_position (list_length newest)) active (field 6))
+  within = leb-true newest.reshape_position (list_length newest) (so (is_reshaping newest) (nat_le newest.reshape_position (list_length newest)) active (field newest slots fields 6))
 
   final-is : final_shape newest ≡ record { level = newest.new_level; layout = newest.new_layout; chunk = newest.new_chunk; disks = newest.raid_disks }
   final-is = ap (λ (b : Bool). unwrap_or (cond b (Some (record { level = newest.new_level; layout = newest.new_layout; chunk = newest.new_chunk; disks = newest.raid_disks })) None) (shape_of newest)) active
@@ -111,9 +114,9 @@ module _ (newest : Sb) (slots : List (Sb × ℕ)) (active : is_reshaping newest 
   pub moving-fit : AreShapesFit newest
   moving-fit = record {
     valid = valid;
-    size = sizes-good.0;
+    size = (sizes-good newest slots fields).0;
     final_size = subst (λ (s : Shape). is_size newest.size s.chunk ≡ true) (sym final-is)
-        (and-both (nat_le 1 newest.size && nat_le newest.size (2 ^ 48)) (is_multiple newest.size newest.new_chunk) sizes-good.1 (or-second (is_reshaping newest) (is_multiple newest.size newest.new_chunk) active sizes-good.2));
+        (and-both (nat_le 1 newest.size && nat_le newest.size (2 ^ 48)) (is_multiple newest.size newest.new_chunk) (sizes-good newest slots fields).1 (or-second (is_reshaping newest) (is_multiple newest.size newest.new_chunk) active (sizes-good newest slots fields).2));
     level = ap (λ (s : Shape). s.level) final-is ∙ level-same;
     unit = unit;
     position = λ is. within;

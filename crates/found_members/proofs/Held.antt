@@ -1,5 +1,5 @@
 -- The superblocks of members that were elected and whose slots are flushed are held.
-use Rattle.std.proofs.Common.{◌≡◌, ℕ, ◌<◌, Bool, true, false, cond, not, ◌||◌, ◌&&◌, nat_lt, nat_le, List, [], ◌∷◌, ◌++◌, get_or, Option, Some, None, refl, sym, ◌∙◌, ap, ap₂, subst, inl, inr}
+use Rattle.std.proofs.Common.{◌≡◌, ℕ, ◌<◌, ◌≤◌, Bool, true, false, cond, not, ◌||◌, ◌&&◌, nat_lt, nat_le, List, [], ◌∷◌, ◌++◌, get_or, Option, Some, None, refl, sym, ◌∙◌, ap, ap₂, subst, inl, inr}
 use Rattle.std.specs.Option.{option_or, option_map_or}
 use Rattle.std.proofs.lemmas.List.{get_or-take}
 use Rattle.array_kept.specs.md_base_the_Refusal.{Refusal}
@@ -31,15 +31,12 @@ use Rattle.array_kept.specs.shape_changes_Held.{IsHeldBy}
 use Rattle.array_kept.specs.shape_views_Views.{Disk}
 use Rattle.array_kept.specs.Kept.{scope_in}
 use Rattle.array_kept.specs.Adopting.{AreNumbersKept}
-use Rattle.found_members.specs.Found.{AreElected, AreStored}
+use Rattle.array_kept.proofs.flat_history_LegalLaws.{both}
+use Rattle.found_members.specs.Found.{AreStored}
 
-one : {a v : Sector} → IsIn (v ∷ []) a → a ≡ v
+pub one : {a v : Sector} → IsIn (v ∷ []) a → a ≡ v
 one (inl same) = same
 one (inr none) = absurd none
-
-both : (a b : Bool) → (a && b) ≡ true → (a ≡ true) × (b ≡ true)
-both true b h = (refl, h)
-both false b h = absurd (cc)
 
 -- a reading that is refused for nothing isn't refused for its members
 no-refusal : (scope : Scope) (c : Contents) (r : Reading) → reading scope c ≡ Some r → verdict scope c ≡ None → members_refusal scope.sizes.sectors r ≡ None
@@ -50,7 +47,8 @@ no-refusal scope c r is none = first (members_refusal scope.sizes.sectors r) (ba
     first None b e = refl
     first (Some x) b e = absurd (cc)
 
-module _ (bank : Given) (uuid : List ℕ) (given : ℕ) (backup : Option ℕ) (m : Members) (c : Contents) (d : Disk) (are : AreElected bank given m) (stored : AreStored bank (scope_in bank uuid given backup) m c d) where
+module _ (bank : Given) (uuid : List ℕ) (given : ℕ) (backup : Option ℕ) (m : Members) (c : Contents) (d : Disk) (few : bank.slots ≤ 32)
+    (lost : (s : ℕ) → has_slot m.lost s ≡ (nat_lt s bank.slots && not (has_slot given s))) (stored : AreStored bank (scope_in bank uuid given backup) m c d) where
   abbrev scope : Scope
   scope = scope_in bank uuid given backup
 
@@ -98,8 +96,8 @@ module _ (bank : Given) (uuid : List ℕ) (given : ℕ) (backup : Option ℕ) (m
 
   live-kept : (s : ℕ) → has_slot (set_of 32 (is_live m.roles m.spares)) s ≡ true → has_slot m.lost s ≡ false
   live-kept s live =
-      are.lost s ∙ ap (λ b. nat_lt s bank.slots && not b)
-      (given-seen s (live-seen scope c d m parts.0 accepted own-is (ap (λ (q : Reading). q.roles) parts.1) (ap (λ (q : Reading). q.spares) parts.1) inside-seen are.few flushed-seen sectors s live))
+      lost s ∙ ap (λ b. nat_lt s bank.slots && not b)
+      (given-seen s (live-seen scope c d m parts.0 accepted own-is (ap (λ (q : Reading). q.roles) parts.1) (ap (λ (q : Reading). q.spares) parts.1) inside-seen few flushed-seen sectors s live))
       ∙ never (nat_lt s bank.slots)
     where
       never : (b : Bool) → (b && false) ≡ false
@@ -121,14 +119,14 @@ module _ (bank : Given) (uuid : List ℕ) (given : ℕ) (backup : Option ℕ) (m
 
   pub found-is-held : IsHeldBy (scope_in bank uuid given backup) m d
   found-is-held =
-      let held = found-held scope c d m parts.0 accepted own-is (ap (λ (q : Reading). q.roles) parts.1) (ap (λ (q : Reading). q.spares) parts.1) inside-seen are.few flushed-seen sectors m.lost in
+      let held = found-held scope c d m parts.0 accepted own-is (ap (λ (q : Reading). q.roles) parts.1) (ap (λ (q : Reading). q.spares) parts.1) inside-seen few flushed-seen sectors m.lost in
       record {
         known = set_of 32 (is_live m.roles m.spares);
         live = live-left;
         updated = record {
           held = held;
-          exact = found-exact scope c d m parts.0 accepted own-is (ap (λ (q : Reading). q.roles) parts.1) (ap (λ (q : Reading). q.spares) parts.1) inside-seen are.few flushed-seen sectors;
+          exact = found-exact scope c d m parts.0 accepted own-is (ap (λ (q : Reading). q.roles) parts.1) (ap (λ (q : Reading). q.spares) parts.1) inside-seen few flushed-seen sectors;
           reads = λ image drawn. held-reads scope (set_of 32 (is_live m.roles m.spares)) m.lost m.newest m.own d held (set_of 32 (is_live m.roles m.spares)) (λ s live. live) image drawn;
         };
-        said = found-said scope c d m parts.0 accepted own-is (ap (λ (q : Reading). q.roles) parts.1) (ap (λ (q : Reading). q.spares) parts.1) inside-seen are.few flushed-seen sectors;
+        said = found-said scope c d m parts.0 accepted own-is (ap (λ (q : Reading). q.roles) parts.1) (ap (λ (q : Reading). q.spares) parts.1) inside-seen few flushed-seen sectors;
       }

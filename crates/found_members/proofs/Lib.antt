@@ -5,3 +5,17 @@ pub mod Read
 pub mod Held
 pub mod Causes
 pub use Rattle.array_kept.proofs.region_laws_RegionLaws
+pub use Rattle.array_kept.proofs.superblocks_Searches
+pub use Rattle.array_kept.proofs.md_base_Tabulated
+pub use Rattle.array_kept.proofs.layout_Places
+pub use Rattle.array_kept.proofs.parity_Columns
+pub use Rattle.array_kept.proofs.parity_OwnFills
+pub use Rattle.array_kept.proofs.parity_Refilled
+pub use Rattle.array_kept.proofs.superblocks_ValidFields
+pub use Rattle.array_kept.proofs.superblocks_SlotSets
+pub use Rattle.array_kept.proofs.parity_Lacking
+pub use Rattle.array_kept.proofs.gf256_FieldLaws
+pub use Rattle.array_kept.proofs.parity_Contents
+pub use Rattle.array_kept.proofs.views_Fit
+pub use Rattle.array_kept.proofs.views_Flushed
+pub use Rattle.array_kept.proofs.views_Still

@@ -28,6 +28,8 @@ use Rattle.array_kept.specs.views_Placed.{IsPlaced}
 use Rattle.array_kept.specs.shape_changes_Steady.{AreUnlost}
 use Rattle.array_kept.specs.views_Rebuilding.{AreSparesFree}
 use Rattle.array_kept.specs.shape_views_Regions.{AreShapesFit}
+use Rattle.array_kept.proofs.views_MarkLaws.{held-holder}
+use Rattle.array_kept.proofs.flat_history_LegalLaws.{both}
 use Rattle.found_members.specs.Found.{AreElected}
 use Rattle.found_members.proofs.Elected.{elected-valid, reading-made}
 
@@ -125,21 +127,10 @@ spare-there N sectors i (Some sb ∷ X) s is = by (is_spare N (sectors i) sb) re
     by true spare rest is = here (i == s) refl spare rest is
     by false isnt rest is = rest is
 
-held-by : (s : ℕ) (state : Role) → is_held_by s state ≡ true → holder state ≡ Some s
-held-by s (Whole slot) is = ap (λ (n : ℕ). Some n) (equal slot s is)
-  where
-    equal : (a b : ℕ) → (a == b) ≡ true → a ≡ b
-    equal a b e = grind (arith, nat_tests, e)
-held-by s (Recovering slot) is = ap (λ (n : ℕ). Some n) (equal slot s is)
-  where
-    equal : (a b : ℕ) → (a == b) ≡ true → a ≡ b
-    equal a b e = grind (arith, nat_tests, e)
-held-by s Missing is = absurd (cc)
-
 held-any : (n : ℕ) (f : ℕ → Role) (s : ℕ) → list_any (is_held_by s) (tabulate n f) ≡ true → (role : ℕ) × (holder (f role) ≡ Some s)
 unfolding tabulate
 held-any zero f s is = absurd (cc)
-held-any (suc n) f s is = by (list_any (is_held_by s) (tabulate n f)) (is_held_by s (f n)) (held-any n f s) (held-by s (f n)) (sym (list_any-append (is_held_by s) (tabulate n f) (f n ∷ [])) ∙ is)
+held-any (suc n) f s is = by (list_any (is_held_by s) (tabulate n f)) (is_held_by s (f n)) (held-any n f s) (held-holder s (f n)) (sym (list_any-append (is_held_by s) (tabulate n f) (f n ∷ [])) ∙ is)
   where
     by : (a b : Bool) → (a ≡ true → (role : ℕ) × (holder (f role) ≡ Some s)) → (b ≡ true → holder (f n) ≡ Some s) → (a || (b || false)) ≡ true → (role : ℕ) × (holder (f role) ≡ Some s)
     by true b lesser here is = lesser refl
@@ -147,10 +138,6 @@ held-any (suc n) f s is = by (list_any (is_held_by s) (tabulate n f)) (is_held_b
     by false false lesser here is = absurd (cc)
 
 -- ---- the members
-
-both : (a b : Bool) → (a && b) ≡ true → (a ≡ true) × (b ≡ true)
-both true b e = (refl, e)
-both false b e = absurd (cc)
 
 -- the last two of five
 last-two : (a b c d e : Bool) → (a && b && c && d && e) ≡ true → (d ≡ true) × (e ≡ true)

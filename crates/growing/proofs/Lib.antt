@@ -48,3 +48,4 @@ mod Parted
 pub use Rattle.running_replies.proofs.bank_Causes
 pub use Rattle.running_replies.proofs.md_base_Tabulated
 pub use Rattle.turning.proofs.moving_laws_WriteLaws
+pub use Rattle.turning.proofs.array_kept_RecordLaws

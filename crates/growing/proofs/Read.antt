@@ -21,7 +21,7 @@ use Rattle.turning.proofs.kept_history_Lengths.{now-drawn}
 use Rattle.running_replies.specs.history_calls_Reliable.{IsReliable}
 use Rattle.turning.specs.still_kept_Still.{AreNoneMissing, AreAtRest, IsStill}
 use Rattle.turning.proofs.still_kept_Leaving.{safe-now}
-use Rattle.turning.proofs.still_kept_Stood.{within-count}
+use Rattle.turning.proofs.array_kept_DegradedLaws.{within-count}
 
 -- some slot is live
 pub whole-live : (given : Given) (m : Members) → AreAtRest given m → AreNoneMissing m → HasLiveSlot m

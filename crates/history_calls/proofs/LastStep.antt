@@ -24,8 +24,9 @@ use Rattle.kept_history.specs.Recorded.{entry_of}
 use Rattle.kept_history.proofs.Entered.{values-more}
 use Rattle.kept_history.proofs.Growing.{opening-grown}
 use Rattle.kept_history.proofs.Lists.{past-none}
-use Rattle.kept_history.proofs.Opened.{AreFound, loss_events, opened-kept}
+use Rattle.kept_history.proofs.Opened.{AreFound, opened-kept}
 use Rattle.kept_history.proofs.Turned.{filled-before}
+use Rattle.kept_history.proofs.history_laws_OneShapeGrowing.{loss_events}
 use Rattle.history_calls.specs.Reliable.{IsNonePast, HasLastStep}
 
 -- ---- the step before

@@ -46,4 +46,5 @@ pub use Rattle.kept_history.proofs.array_kept_StepsLeft
 pub use Rattle.kept_history.proofs.array_kept_ToldLosses
 pub use Rattle.kept_history.proofs.md_base_SectorLaws
 pub use Rattle.kept_history.proofs.md_base_Tabulated
-pub use Rattle.kept_history.proofs.views_BearerLaws
+pub use Rattle.kept_history.proofs.call_entries_BearerLaws
+pub use Rattle.kept_history.proofs.array_kept_IdleLaws

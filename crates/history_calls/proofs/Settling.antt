@@ -12,8 +12,6 @@ use Rattle.kept_history.specs.superblocks_the_Members.{Members}
 use Rattle.kept_history.specs.superblocks_Reading.{Scope, is_clean, list_length, role_count}
 use Rattle.kept_history.specs.flat_history_the_Entry.{Entry}
 use Rattle.kept_history.specs.flat_history_the_Event.{Event}
-use Rattle.kept_history.specs.flat_history_the_Event_TheVariants.{Lost, SpareLost}
-use Rattle.kept_history.specs.flat_history_the_LostCause_TheVariants.{Fault}
 use Rattle.kept_history.specs.flat_history_Epochs.{HasRoomForEvents}
 use Rattle.kept_history.specs.flat_history_Flat.{now, length_of, length_after, values_of, values_after}
 use Rattle.kept_history.specs.flat_history_Legal.{level_at, level_after, IsLegalEvent}
@@ -27,7 +25,7 @@ use Rattle.kept_history.specs.shape_changes_Safety.{HasRoomLeft, IsRisen}
 use Rattle.kept_history.specs.shape_changes_Steady.{IsMoreTold, IsSafeOver, KeepsSafe, AreGoneTold, IsUncleanTold, AreWritesAllowed, settled_ledger}
 use Rattle.kept_history.proofs.views_SoundViews.{throughout-kept}
 use Rattle.kept_history.specs.call_entries_Losing.{losses_of}
-use Rattle.kept_history.proofs.call_entries_CallLaws.{AreLossEvents, losses-are, last_end-behind, length-losses, values-losses}
+use Rattle.kept_history.proofs.call_entries_CallLaws.{losses-are, last_end-behind, length-losses, values-losses, ends-losses}
 use Rattle.kept_history.proofs.call_entries_LosingLaws.{entries-both}
 use Rattle.kept_history.specs.Recorded.{IsHistoryKept, IsLegalCall, IsReshapedCall, IsCallGoing, entry_of, ends_reshape, gives_some}
 use Rattle.kept_history.specs.Safe.{world_in, IsFilledRight, IsSafeHistory}
@@ -80,13 +78,6 @@ takes-newest event gives level length takes = record {
 pub settling-ends : (world : World) (entries : List Entry) (who : Who) (end roles spares : ℕ) (event : Event) → ends_reshape event ≡ false → IsReshapedCall world entries who end (losses_of roles spares ++ event ∷ [])
 settling-ends world entries who end roles spares event none =
     call-ends_none world entries who end (losses_of roles spares ++ event ∷ []) ((early-losses roles spares).ends (event ∷ []) (or-false (ends_reshape event) false none refl))
-
--- losses end no resync
-ended-losses : (who : Who) (end : ℕ) (xs tail : List Event) → AreLossEvents xs → list_any (λ e. is_resync_end e.event) (entries_of who end (xs ++ tail)) ≡ list_any (λ e. is_resync_end e.event) (entries_of who end tail)
-ended-losses who end [] tail are = refl
-ended-losses who end (Lost role Fault ∷ xs) tail are = ended-losses who end xs tail are
-ended-losses who end (SpareLost slot ∷ xs) tail are = ended-losses who end xs tail are
-ended-losses who end (event ∷ xs) tail are = absurd are
 
 -- opened dirty, and ended neither before nor now
 neither-ended : (dirty a b : Bool) → (dirty && not (a || (b || false))) ≡ ((dirty && not a) && not b)
@@ -223,7 +214,7 @@ module _ (given : Given) (tape : List Operation) (scope : Scope) (first : ℕ) (
 
   unsynced-all : is_unsynced later all ≡ unsynced
   unsynced-all =
-      ap (λ (b : Bool). was_dirty later && not b) (list_any-append (λ e. is_resync_end e.event) entries added ∙ ap (λ (b : Bool). list_any (λ e. is_resync_end e.event) entries || b) (ended-losses who end losses (event ∷ []) (losses-are roles spares)))
+      ap (λ (b : Bool). was_dirty later && not b) (list_any-append (λ e. is_resync_end e.event) entries added ∙ ap (λ (b : Bool). list_any (λ e. is_resync_end e.event) entries || b) (ends-losses who end losses (event ∷ []) (losses-are roles spares)))
       ∙ neither-ended (was_dirty later) (list_any (λ e. is_resync_end e.event) entries) (is_resync_end event)
       ∙ ap (λ (b : Bool). b && not (is_resync_end event)) (unsynced-grown world ops begun entries) ∙ unsynced_is
 

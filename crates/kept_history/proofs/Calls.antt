@@ -21,11 +21,13 @@ use Rattle.array_kept.specs.shape_views_Views.{Ledger, IsSeenRight}
 use Rattle.array_kept.specs.shape_changes_Safety.{HasLiveSlot, IsRisen}
 use Rattle.array_kept.specs.shape_changes_Steady.{IsMoreTold, IsSafeNow, IsSafeOver, KeepsSafe}
 use Rattle.array_kept.proofs.shape_changes_Steady.{views-told}
+use Rattle.array_kept.proofs.LedgerLaws.{judged_by}
+use Rattle.array_kept.proofs.MadeLaws.{length-entries}
 use Rattle.kept_history.specs.Safe.{world_in, IsFilledRight, IsCounted, IsNowRight, IsSafeHistory}
 use Rattle.kept_history.specs.Told.{told_now, told_by}
 use Rattle.kept_history.proofs.Growing.{reading-grown, fit-grown}
-use Rattle.kept_history.proofs.Ledgers.{judged_by, more-then, told-ledger}
-use Rattle.kept_history.proofs.Marks.{length-entries, IsSeenBefore, IsSeenAfter, safe-marks}
+use Rattle.kept_history.proofs.Ledgers.{more-then, told-ledger}
+use Rattle.kept_history.proofs.Marks.{IsSeenBefore, IsSeenAfter, safe-marks}
 use Rattle.kept_history.proofs.Seen.{seen-now}
 
 -- ---- what a stop may leave

@@ -24,12 +24,14 @@ use Rattle.array_kept.specs.shape_views_Views.{Disk, Ledger, IsSeenRight}
 use Rattle.array_kept.specs.shape_changes_Changing.{IsSpentByEither, IsSafeChange}
 use Rattle.array_kept.specs.shape_changes_Safety.{HasLiveSlot, IsRisen}
 use Rattle.array_kept.specs.shape_changes_Steady.{IsMoreTold, IsSafeNow, IsSafeOver, IsSafeStretch}
+use Rattle.array_kept.proofs.LedgerLaws.{judged_by}
+use Rattle.array_kept.proofs.MadeLaws.{length-entries}
 use Rattle.kept_history.specs.Safe.{world_in, IsFilledRight, told_without, IsNowRight, IsSafeHistory}
 use Rattle.kept_history.specs.Told.{told_now, told_by}
 use Rattle.kept_history.proofs.Calls.{LeavesSoundFrom, sound-later, counted-later}
 use Rattle.kept_history.proofs.Growing.{fit-grown}
-use Rattle.kept_history.proofs.Ledgers.{judged_by, more-then, told-ledger}
-use Rattle.kept_history.proofs.Marks.{length-entries, IsSeenBefore, IsSeenAfter, safe-marks}
+use Rattle.kept_history.proofs.Ledgers.{more-then, told-ledger}
+use Rattle.kept_history.proofs.Marks.{IsSeenBefore, IsSeenAfter, safe-marks}
 use Rattle.kept_history.proofs.Seen.{seen-told, now-more, seen-now}
 
 -- ---- the place of the change

@@ -1,5 +1,5 @@
 -- What a call tells by the sort of its events: most only add to what was told.
-use Rattle.std.proofs.Common.{◌≡◌, inl, inr, ℕ, ◌<◌, ◌&&◌, ◌||◌, Bool, true, false, cond, Option, List, [], ◌∷◌, ◌++◌, length, fold, refl, sym, ◌∙◌, ap, ap₂, subst}
+use Rattle.std.proofs.Common.{◌≡◌, inl, inr, ℕ, ◌<◌, ◌||◌, Bool, true, false, cond, Option, List, [], ◌∷◌, ◌++◌, length, fold, refl, sym, ◌∙◌, ap, ap₂, subst}
 use Rattle.std.specs.Prelude.{IsTrue}
 use Rattle.std.specs.List.{list_any, list_all}
 use Rattle.std.proofs.lemmas.List.Folds.{list_any-append}
@@ -20,6 +20,7 @@ use Rattle.array_kept.specs.flat_history_Plain.{loses_role, entries_of}
 use Rattle.array_kept.specs.flat_history_World.{World, reading_at, opening_list}
 use Rattle.array_kept.proofs.history_laws_OneShapeGrowing.{AreFaults}
 use Rattle.array_kept.specs.shape_changes_Steady.{IsMoreTold, settled_ledger}
+use Rattle.array_kept.proofs.flat_history_LegalLaws.{both}
 use Rattle.kept_history.specs.Recorded.{gives_some}
 use Rattle.kept_history.specs.Told.{told_now, told_by}
 use Rattle.kept_history.proofs.Tests.{or-left, or-right}
@@ -89,10 +90,6 @@ values-stay x Flushed values v adds may = absurd (cc)
 values-stay x Stopped values v adds may = absurd (cc)
 values-stay x (Resized n) values v adds may = absurd (cc)
 values-stay x event values v adds may = may
-
-both : (a b : Bool) → (a && b) ≡ true → (a ≡ true) × (b ≡ true)
-both true b e = (refl, e)
-both false b e = absurd (cc)
 
 pub lengths-stay : (n : ℕ) (xs : List Entry) → AreAdding xs → length_of n xs ≡ n
 lengths-stay n [] adds = refl

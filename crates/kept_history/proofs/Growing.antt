@@ -1,5 +1,5 @@
 -- What is told of a history stays so as the tape grows.
-use Rattle.std.proofs.Common.{◌≡◌, ℕ, ◌+◌, ◌-◌, ◌<◌, ◌≤◌, ◌&&◌, ◌||◌, Bool, true, false, not, Option, Some, None, List, [], ◌∷◌, ◌++◌, length, fold, refl, sym, ◌∙◌, ap, ap₂, subst, arith, length-append}
+use Rattle.std.proofs.Common.{◌≡◌, ℕ, ◌+◌, ◌-◌, ◌<◌, ◌≤◌, ◌&&◌, ◌||◌, Bool, true, false, not, Option, List, [], ◌∷◌, ◌++◌, length, fold, refl, sym, ◌∙◌, ap, ap₂, subst, arith}
 use Rattle.std.specs.Prelude.{◌^◌, IfSome, IsTrue}
 use Rattle.std.specs.Option.{option_map_or}
 use Rattle.std.specs.List.{list_any, list_all}
@@ -22,13 +22,12 @@ use Rattle.array_kept.specs.flat_history_Sound.{OpensFit}
 use Rattle.array_kept.specs.flat_history_Stands.{stands}
 use Rattle.array_kept.specs.flat_history_World.{World, contents_at, reading_at, opening_list}
 use Rattle.array_kept.specs.shape_changes_Safety.{HasLiveSlot, HasRoomLeft}
+use Rattle.array_kept.proofs.SafeLaws.{room-at, room-less, longer-by}
+use Rattle.array_kept.proofs.flat_history_LegalLaws.{both}
 use Rattle.kept_history.specs.Safe.{IsCounted, IsReshapeFit, OpensOnCourse}
 use Rattle.kept_history.specs.Told.{told_now, told_by}
 
 -- ---- the bank
-
-pub longer-by : (xs ys : List Operation) → length xs ≤ length (xs ++ ys)
-longer-by xs ys = let both : length (xs ++ ys) ≡ length xs + length ys = length-append xs ys in omega (arith, both)
 
 module _ (world : World) (ops : List Operation) where
   pub contents-grown : (mark : ℕ) → mark ≤ length world.tape → contents_at (grown world ops) mark ≡ contents_at world mark
@@ -92,10 +91,6 @@ gives-plain found role (Rebuilt rebuilt) keeps = refl
 gives-plain found role (Step Begun left) keeps = absurd (cc)
 gives-plain found role event keeps = refl
 
-both : (a b : Bool) → (a && b) ≡ true → (a ≡ true) × (b ≡ true)
-both true b e = (refl, e)
-both false b e = absurd (cc)
-
 module _ (world : World) (role : ℕ) where
   -- what they take is what they tell lost
   pub takes-lost : (xs : List Entry) → KeepShape xs → list_any (loses world role) xs ≡ list_any (λ e. loses_role role e.event) xs
@@ -151,14 +146,6 @@ module _ (world : World) (ops : List Operation) (within : world.first ≤ length
   told-plain carried reshaping entries more ends keep = told-alike carried reshaping entries more ends (λ role. takes-lost (grown world ops) role more keep ∙ sym (takes-lost world role more keep))
 
 -- ---- room for events
-
-room-at : (o : Option Reading) (r : Reading) (n : ℕ) → o ≡ Some r → IfSome o (λ r. r.newest.events + n < 2 ^ 62) → r.newest.events + n < 2 ^ 62
-room-at None r n is room = absurd (cc)
-room-at (Some q) r n is room = let same : q ≡ r = cc in subst (λ (x : Reading). x.newest.events + n < 2 ^ 62) same room
-
-room-less : (o : Option Reading) (n k : ℕ) → k ≤ n → IfSome o (λ r. r.newest.events + n < 2 ^ 62) → IfSome o (λ r. r.newest.events + k < 2 ^ 62)
-room-less None n k le room = tt
-room-less (Some q) n k le room = omega (arith, room, le)
 
 module _ (world : World) (ops : List Operation) (within : world.first ≤ length world.tape) where
   room-seen : HasRoomForEvents (grown world ops) → IfSome (reading_at world world.first) (λ r. r.newest.events + (length (world.tape ++ ops) - world.first) < 2 ^ 62)

@@ -23,6 +23,7 @@ use Rattle.array_kept.specs.flat_history_Sound.{OpensFit}
 use Rattle.array_kept.specs.flat_history_World.{World, opening_list}
 use Rattle.array_kept.specs.shape_changes_Changing.{IsSpentByEither}
 use Rattle.array_kept.specs.shape_changes_Steady.{IsMoreTold, IsSafeOver}
+use Rattle.array_kept.proofs.flat_history_LegalLaws.{both}
 use Rattle.kept_history.specs.Recorded.{gives_some}
 use Rattle.kept_history.specs.Safe.{world_in, IsFilledRight, told_without, IsNowRight, IsSafeHistory}
 use Rattle.kept_history.specs.Told.{told_now, told_by}
@@ -37,10 +38,6 @@ use Rattle.kept_history.proofs.Seen.{seen-told, now-more, seen-now}
 adds-no_length : (event : Event) → adds_only event ≡ true → is_resized event ≡ false
 adds-no_length (Resized n) adds = absurd (cc)
 adds-no_length event adds = refl
-
-both : (a b : Bool) → (a && b) ≡ true → (a ≡ true) × (b ≡ true)
-both true b e = (refl, e)
-both false b e = absurd (cc)
 
 -- entries that only add change none
 resized-none : (ys : List Entry) → AreAdding ys → last_resized ys ≡ None

@@ -13,9 +13,10 @@ use Rattle.array_kept.specs.flat_history_Sound.{OpensFit}
 use Rattle.array_kept.specs.flat_history_Transfers.{last_end_from}
 use Rattle.array_kept.specs.flat_history_World.{World, opening_list}
 use Rattle.array_kept.proofs.flat_history_SoundLaws.{fit-before}
+use Rattle.array_kept.proofs.RecordLaws.{ends-call}
+use Rattle.array_kept.proofs.SafeLaws.{longer-by}
 use Rattle.kept_history.specs.Recorded.{IsHistoryKept, IsLegalCall, IsReshapedCall, IsCallGoing, MayFollow}
-use Rattle.kept_history.proofs.Growing.{longer-by, opening-grown}
-use Rattle.kept_history.proofs.Marks.{ends-call}
+use Rattle.kept_history.proofs.Growing.{opening-grown}
 use Rattle.kept_history.proofs.Records.{legal-later}
 use Rattle.kept_history.proofs.Reshapes.{reshaped-later}
 

@@ -7,23 +7,20 @@ use Rattle.std.proofs.lemmas.List.Sums.{fold-append}
 use Rattle.array_kept.specs.bank_Tape.{IsIn}
 use Rattle.array_kept.specs.md_base_Sectors.{Sector}
 use Rattle.array_kept.specs.flat_history_the_Entry.{Entry}
-use Rattle.array_kept.specs.flat_history_the_Event.{Event}
-use Rattle.array_kept.specs.flat_history_the_Event_TheVariants.{Flushed, Stopped}
 use Rattle.array_kept.specs.flat_history_Flat.{length_of, values_of}
 use Rattle.array_kept.specs.flat_history_Losses.{loses, regains, gone_surely, gone_perhaps, is_gone, is_gone_after, was_dirty, is_resync_end, is_unsynced, settles, unsettles, unsettled_surely, unsettled_perhaps, is_unclean}
 use Rattle.array_kept.specs.flat_history_OneShape.{is_unsettled}
 use Rattle.array_kept.specs.flat_history_World.{World, opening_list}
-use Rattle.array_kept.specs.shape_views_Views.{Ledger, ledger_of}
+use Rattle.array_kept.specs.shape_views_Views.{Ledger}
 use Rattle.array_kept.specs.shape_changes_Steady.{IsMoreTold}
+use Rattle.array_kept.proofs.LedgerLaws.{judged_by, none-ends, unsynced-more}
+use Rattle.array_kept.proofs.views_Still.{told-same}
 use Rattle.kept_history.specs.Safe.{TakesNone}
 use Rattle.kept_history.specs.Told.{told_now, told_by}
 use Rattle.kept_history.proofs.Tests.{neither, or-none, or-left, or-right, or-assoc, weaken, none-take, none-drop}
 
-pub more-alike : (told : Ledger) → IsMoreTold told told
-more-alike told = record { size = refl; values = λ x lt v may. may; gone = λ role is. is; unclean = λ is. is; reshaping = λ is. is; carried = λ slot number is. is }
-
 pub more-equal : (told more : Ledger) → told ≡ more → IsMoreTold told more
-more-equal told more same = subst (IsMoreTold told) same (more-alike told)
+more-equal told more same = subst (IsMoreTold told) same (told-same told)
 
 pub more-then : (told mid more : Ledger) → IsMoreTold told mid → IsMoreTold mid more → IsMoreTold told more
 more-then told mid more first second = record {
@@ -144,29 +141,11 @@ unsynced-before world xs ys is =
     first true false b e = refl
     first false false b e = e
 
--- and it is still, where none of them ends a resync
-pub unsynced-still : (world : World) (xs ys : List Entry) → list_any (λ e. is_resync_end e.event) ys ≡ false → is_unsynced world (xs ++ ys) ≡ is_unsynced world xs
-unsynced-still world xs ys none =
-    ap (λ (b : Bool). was_dirty world && not b)
-    (list_any-append (λ e. is_resync_end e.event) xs ys ∙ or-none (list_any (λ e. is_resync_end e.event) xs) (list_any (λ e. is_resync_end e.event) ys) none)
-
-ends-nothing : (event : Event) → settles event ≡ false → is_resync_end event ≡ false
-ends-nothing Flushed none = refl
-ends-nothing Stopped none = refl
-ends-nothing event none = none
-
--- what settles nothing ends no resync
-pub none-ends : (more : List Entry) → list_any (λ e. settles e.event) more ≡ false → list_any (λ e. is_resync_end e.event) more ≡ false
-none-ends [] none = refl
-none-ends (e ∷ more) none =
-    let parts = neither (settles e.event) (list_any (λ e. settles e.event) more) none in
-    ap₂ (λ (a b : Bool). a || b) (ends-nothing e.event parts.0) (none-ends more parts.1)
-
 -- what may be unclean in a call is so behind it, where it settles nothing
 pub unclean-now : (world : World) (entries more : List Entry) → list_any (λ e. settles e.event) more ≡ false → (is_unsynced world entries || (is_unsettled entries || list_any (λ e. unsettles e.event) more)) ≡ true
     → (is_unsynced world (entries ++ more) || is_unsettled (entries ++ more)) ≡ true
 unclean-now world entries more settled is =
-    ap (λ (a : Bool). a || is_unsettled (entries ++ more)) (unsynced-still world entries more (none-ends more settled))
+    ap (λ (a : Bool). a || is_unsettled (entries ++ more)) (unsynced-more world entries more (none-ends more settled))
     ∙ by (is_unsynced world entries) is
   where
     by : (a : Bool) → (a || (is_unsettled entries || list_any (λ e. unsettles e.event) more)) ≡ true → (a || is_unsettled (entries ++ more)) ≡ true
@@ -174,10 +153,6 @@ unclean-now world entries more settled is =
     by false is = unsettled-behind entries more ∙ any-unsettled (is_unsettled entries) more settled is
 
 -- ---- a mark that is judged
-
--- what the first j entries tell of a mark by which the first k were made
-abbrev pub judged_by : World → List Entry → ℕ → ℕ → Ledger
-judged_by world entries k j = ledger_of world entries k j (take j entries)
 
 module _ (world : World) (carried : ℕ → ℕ → Bool) (reshaping : Bool) where
   -- A mark at which a call's entries aren't made yet is judged by as much as it tells.

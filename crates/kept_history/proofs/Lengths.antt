@@ -47,11 +47,11 @@ length-now given tape scope first told members safe =
 
 -- ---- a call that goes on
 
-kept-grown : (world : World) (ops : List Operation) (end : ℕ) (event : Event) → end ≤ length world.tape → IsLengthKept world end event → IsLengthKept (grown world ops) end event
+pub kept-grown : (world : World) (ops : List Operation) (end : ℕ) (event : Event) → end ≤ length world.tape → IsLengthKept world end event → IsLengthKept (grown world ops) end event
 kept-grown world ops end (Resized n) made kept = kept ∙ ap (λ (c : Contents). length (stands world.scope c)) (sym (contents-grown world ops end made))
 kept-grown world ops end event made kept = tt
 
-all-grown : (world : World) (ops : List Operation) (xs : List Entry) → EndBy (length world.tape) xs → All (λ e. IsLengthKept world e.end e.event) xs → All (λ e. IsLengthKept (grown world ops) e.end e.event) xs
+pub all-grown : (world : World) (ops : List Operation) (xs : List Entry) → EndBy (length world.tape) xs → All (λ e. IsLengthKept world e.end e.event) xs → All (λ e. IsLengthKept (grown world ops) e.end e.event) xs
 all-grown world ops [] ends kept = All-nil (λ e. IsLengthKept (grown world ops) e.end e.event)
 all-grown world ops (x ∷ xs) ends kept =
     All-cons (λ e. IsLengthKept (grown world ops) e.end e.event) x xs (kept-grown world ops x.end x.event ends.0 (All-head (λ e. IsLengthKept world e.end e.event) x xs kept))

@@ -45,5 +45,6 @@ pub use Rattle.array_kept.proofs.history_laws_ReshapedLaws
 pub use Rattle.array_kept.proofs.md_base_SectorLaws
 pub use Rattle.array_kept.proofs.md_base_Tabulated
 pub use Rattle.array_kept.proofs.shape_changes_Steady
-pub use Rattle.array_kept.proofs.views_BearerLaws
 pub use Rattle.array_kept.proofs.views_SoundViews
+pub use Rattle.array_kept.proofs.call_entries_BearerLaws
+pub use Rattle.array_kept.proofs.IdleLaws as array_kept_IdleLaws

@@ -1,6 +1,5 @@
 -- What each sector of the list holds, by a history that may change the length.
 use Rattle.std.proofs.Common.{◌≡◌, inl, ℕ, zero, suc, ◌+◌, ◌<◌, ◌≤◌, Bool, true, false, cond, nat_lt, Option, Some, None, List, [], ◌∷◌, ◌++◌, length, take, drop, fold, min, refl, sym, ◌∙◌, ap, subst, arith, append_assoc, append-nil}
-use Rattle.std.specs.Prelude.{slice_index_or}
 use Rattle.std.specs.Option.{option_map_or}
 use Rattle.std.proofs.lemmas.Bool.Decides.{nat_tests}
 use Rattle.array_kept.specs.md_base_Sectors.{Sector, zero_sector}
@@ -13,14 +12,11 @@ use Rattle.array_kept.specs.flat_history_Legal.{call_end, IsLegalEvent, AreLegal
 use Rattle.array_kept.specs.flat_history_Transfers.{last_end_from}
 use Rattle.array_kept.specs.flat_history_World.{World, until, opening_list}
 use Rattle.array_kept.proofs.flat_history_OneShapeLegal.{list-until}
+use Rattle.array_kept.proofs.LedgerLaws.{HasNewest, first-newest}
 use Rattle.kept_history.proofs.Entered.{AreAdding, lengths-stay, all-stay, values-more, length-more}
 use Rattle.kept_history.proofs.Records.{end-snoc}
 
 -- ---- the newest value
-
--- it is among the values
-abbrev HasNewest : List Sector → Type 0
-HasNewest values = IsIn values (slice_index_or values 0 [])
 
 in-length : (x n : ℕ) → x < n → nat_lt x n ≡ true
 in-length x n lt = grind (arith, nat_tests, lt)
@@ -53,11 +49,6 @@ event-newest n x values event was lt = was lt
 entries-newest : (xs : List Entry) (n x : ℕ) (values : List Sector) → (x < n → HasNewest values) → x < length_of n xs → HasNewest (fold (λ values e. values_after x values e.event) values xs)
 entries-newest [] n x values was lt = was lt
 entries-newest (e ∷ xs) n x values was lt = entries-newest xs (length_after n e.event) x (values_after x values e.event) (event-newest n x values e.event was) lt
-
-first-newest : (list : List Sector) (x : ℕ) → x < length list → HasNewest (take 1 (drop x list))
-first-newest [] x lt = absurd (omega (arith, lt))
-first-newest (w ∷ list) zero lt = inl refl
-first-newest (w ∷ list) (suc x) lt = first-newest list x (omega (arith, lt))
 
 -- Each sector of the list may have what it has now.
 pub newest-in : (list : List Sector) (entries : List Entry) (x : ℕ) → x < length_of (length list) entries → IsIn (values_of list entries x) (now list entries x)

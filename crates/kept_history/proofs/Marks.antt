@@ -1,7 +1,7 @@
 -- The marks of a call whose entries end at one moment, and by which of them each is judged.
-use Rattle.std.proofs.Common.{◌≡◌, inl, inr, ℕ, suc, ◌+◌, ◌<◌, ◌≤◌, ◌⊎◌, Bool, true, false, cond, List, [], ◌∷◌, ◌++◌, length, take, take_all, refl, sym, ◌∙◌, ap, subst, arith, leb}
+use Rattle.std.proofs.Common.{◌≡◌, inl, inr, ℕ, ◌+◌, ◌<◌, ◌≤◌, ◌⊎◌, Bool, true, false, cond, List, [], ◌∷◌, ◌++◌, length, take, take_all, refl, sym, ◌∙◌, ap, subst, arith}
 use Rattle.std.proofs.Math.Seq.{drop-append_seam}
-use Rattle.std.proofs.lemmas.Bool.{cases_lt, lt-leb, le-leb}
+use Rattle.std.proofs.lemmas.Bool.{cases_lt}
 use Rattle.std.proofs.lemmas.Bool.Decides.{nat_tests}
 use Rattle.array_kept.specs.md_base_the_Who.{Who}
 use Rattle.array_kept.specs.bank_the_Operation.{Operation}
@@ -12,7 +12,7 @@ use Rattle.array_kept.specs.flat_history_the_Entry.{Entry}
 use Rattle.array_kept.specs.flat_history_the_Event.{Event}
 use Rattle.array_kept.specs.flat_history_CrashSafe.{made_by, may_be_made, first_call_len, MayBeJudgedBy, IsSafeAt}
 use Rattle.array_kept.specs.flat_history_Flat.{is_same_call, rest_of_call}
-use Rattle.array_kept.specs.flat_history_Growing.{grown, EndBy, MadeFrom, IsSafeThroughout}
+use Rattle.array_kept.specs.flat_history_Growing.{grown, EndBy, IsSafeThroughout}
 use Rattle.array_kept.specs.flat_history_Losses.{is_gone}
 use Rattle.array_kept.specs.flat_history_Plain.{entries_of}
 use Rattle.array_kept.specs.flat_history_Sound.{OpensFit}
@@ -21,32 +21,14 @@ use Rattle.array_kept.proofs.history_laws_GrowingLaws.{calls-owe}
 use Rattle.array_kept.proofs.history_laws_OneShapeGrowing.{one}
 use Rattle.array_kept.specs.shape_views_Views.{Disk, IsSeenRight, ledger_of}
 use Rattle.array_kept.proofs.shape_views_Judged.{views-safe}
+use Rattle.array_kept.proofs.LedgerLaws.{judged_by}
+use Rattle.array_kept.proofs.MadeLaws.{made-both, made-past, made-before, made-from, call-length, ends-by}
+use Rattle.array_kept.proofs.RecordLaws.{ends-call}
+use Rattle.array_kept.proofs.SafeLaws.{longer-by}
 use Rattle.kept_history.specs.Safe.{world_in, IsFilledRight}
-use Rattle.kept_history.proofs.Growing.{longer-by}
-use Rattle.kept_history.proofs.Ledgers.{judged_by, none-gone}
+use Rattle.kept_history.proofs.Ledgers.{none-gone}
 
 -- ---- how many entries were made by a mark
-
-made-past : (mark : ℕ) (xs : List Entry) → EndBy mark xs → made_by mark xs ≡ length xs
-made-past mark [] ends = refl
-made-past mark (x ∷ xs) ends = rw (le-leb x.end mark ends.0) (let rest : made_by mark xs ≡ length xs = made-past mark xs ends.1 in omega (arith, rest))
-
-made-both : (mark : ℕ) (xs ys : List Entry) → made_by mark (xs ++ ys) ≡ made_by mark xs + made_by mark ys
-made-both mark [] ys = omega arith
-made-both mark (x ∷ xs) ys = by (leb x.end mark) (made-both mark xs ys)
-  where
-    by : (b : Bool) → made_by mark (xs ++ ys) ≡ made_by mark xs + made_by mark ys
-        → cond b (1 + made_by mark (xs ++ ys)) (made_by mark (xs ++ ys)) ≡ cond b (1 + made_by mark xs) (made_by mark xs) + made_by mark ys
-    by true e = omega (arith, e)
-    by false e = e
-
-made-before : (mark end : ℕ) (who : Who) (events : List Event) → mark < end → made_by mark (entries_of who end events) ≡ 0
-made-before mark end who [] before = refl
-made-before mark end who (event ∷ events) before = rw (lt-leb end mark before) (made-before mark end who events before)
-
-pub length-entries : (who : Who) (end : ℕ) (events : List Event) → length (entries_of who end events) ≡ length events
-length-entries who end [] = refl
-length-entries who end (event ∷ events) = ap suc (length-entries who end events)
 
 -- all of a call's entries are of the call
 pub rest-whole : (who : Who) (end : ℕ) (event : Event) (events : List Event) → rest_of_call (one who end event) (entries_of who end events) ≡ entries_of who end events
@@ -58,32 +40,9 @@ rest-whole who end event (next ∷ events) =
     same : is_same_call (one who end event) (one who end next) ≡ true
     same = grind (arith, nat_tests)
 
-call-length : (who : Who) (end : ℕ) (events : List Event) → first_call_len (entries_of who end events) ≡ length events
-call-length who end [] = refl
-call-length who end (event ∷ events) =
-    let rest : length (rest_of_call (one who end event) (entries_of who end events)) ≡ length events =
-    ap (λ (l : List Entry). length l) (rest-whole who end event events) ∙ length-entries who end events in
-    omega (arith, rest)
-
-made-from : (mark end : ℕ) (who : Who) (events : List Event) → mark ≤ end → MadeFrom mark (entries_of who end events)
-made-from mark end who [] from = tt
-made-from mark end who (event ∷ events) from = (from, made-from mark end who events from)
-
-pub ends-by : (mark later : ℕ) (xs : List Entry) → mark ≤ later → EndBy mark xs → EndBy later xs
-ends-by mark later [] le by = tt
-ends-by mark later (x ∷ xs) le by = (let at = by.0 in omega (arith, le, at), ends-by mark later xs le by.1)
-
 pub ends-both : (mark : ℕ) (xs ys : List Entry) → EndBy mark xs → EndBy mark ys → EndBy mark (xs ++ ys)
 ends-both mark [] ys one two = two
 ends-both mark (x ∷ xs) ys one two = (one.0, ends-both mark xs ys one.1 two)
-
-pub ends-at : (who : Who) (end : ℕ) (events : List Event) → EndBy end (entries_of who end events)
-ends-at who end [] = tt
-ends-at who end (event ∷ events) = (omega arith, ends-at who end events)
-
--- the entries of a call end with it
-pub ends-call : (ops : ℕ) (entries : List Entry) (who : Who) (end : ℕ) (events : List Event) → ops ≤ end → EndBy ops entries → EndBy end (entries ++ entries_of who end events)
-ends-call ops entries who end events le ends = ends-both end entries (entries_of who end events) (ends-by ops end entries le ends) (ends-at who end events)
 
 -- ---- a call
 

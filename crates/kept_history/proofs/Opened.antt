@@ -1,6 +1,6 @@
 -- An epoch that begins: the losses that its opening found stand first.
 use Rattle.std.proofs.Common.{◌≡◌, inl, inr, ℕ, ◌≤◌, ◌==◌, ◌&&◌, Bool, true, false, Option, List, [], ◌∷◌, ◌++◌, length, MatchBool, refl, sym, ◌∙◌, ap, ap₂, subst, arith, append_assoc, append-nil}
-use Rattle.std.specs.Prelude.{⊤, IsTrue, map}
+use Rattle.std.specs.Prelude.{⊤, IsTrue}
 use Rattle.std.specs.List.{list_all}
 use Rattle.std.proofs.lemmas.Bool.Decides.{nat_tests}
 use Rattle.std.proofs.lemmas.List.Folds.{list_all-append}
@@ -22,21 +22,18 @@ use Rattle.array_kept.specs.flat_history_Sound.{OpensFit, LeavesSound}
 use Rattle.array_kept.specs.flat_history_Transfers.{last_end_from}
 use Rattle.array_kept.specs.flat_history_World.{World, until, opening_list}
 use Rattle.array_kept.proofs.flat_history_OneShapeLegal.{last-snoc}
-use Rattle.array_kept.proofs.history_laws_OneShapeGrowing.{inner-of}
+use Rattle.array_kept.proofs.history_laws_OneShapeGrowing.{inner-of, loss_events}
 use Rattle.array_kept.specs.shape_changes_Safety.{HasLiveSlot}
 use Rattle.array_kept.specs.shape_changes_Steady.{IsSafeOver}
+use Rattle.array_kept.proofs.RecordLaws.{ends-at}
 use Rattle.kept_history.specs.Recorded.{IsHistoryKept, entry_of, IsReshapedCall}
 use Rattle.kept_history.specs.Safe.{world_in, IsFilledRight, IsCounted, IsNowRight, IsSafeHistory}
 use Rattle.kept_history.specs.Told.{told_now}
 use Rattle.kept_history.proofs.Entered.{AreAdding, lengths-stay}
-use Rattle.kept_history.proofs.Marks.{ends-at, rest-whole, safe-after}
+use Rattle.kept_history.proofs.Marks.{rest-whole, safe-after}
 use Rattle.kept_history.proofs.Records.{end-snoc, until-all, call_end-is, same-call}
 use Rattle.kept_history.proofs.Reshapes.{ends-none, call-reshaped}
 use Rattle.kept_history.proofs.Seen.{seen-now}
-
--- the losses that were found, as events
-abbrev pub loss_events : List (ℕ × LostCause) → List Event
-loss_events found = map (λ loss. Lost loss.0 loss.1) found
 
 -- what an opening tells of a role that isn't whole there
 abbrev pub IsFound : World → ℕ → LostCause → Type 0

@@ -1,11 +1,12 @@
 -- What is kept of the history after a call, by what the call entered.
-use Rattle.std.proofs.Common.{◌≡◌, inl, inr, ℕ, ◌≤◌, ◌==◌, ◌&&◌, ◌⊎◌, Bool, true, false, cond, Option, Some, None, List, [], ◌∷◌, ◌++◌, length, take, take_all, drop, unwrap_or, MatchBool, refl, sym, ◌∙◌, ap, subst, subst₂, arith, append_assoc, append-nil}
-use Rattle.std.specs.Prelude.{IsFalse, ⊤}
+use Rattle.std.proofs.Common.{◌≡◌, inl, inr, ℕ, ◌+◌, ◌≤◌, ◌==◌, ◌&&◌, ◌⊎◌, Bool, true, false, cond, Option, Some, None, List, [], ◌∷◌, ◌++◌, length, take, take_all, drop, unwrap_or, MatchBool, refl, sym, ◌∙◌, ap, subst, subst₂, arith, append_assoc, append-nil}
+use Rattle.std.specs.Prelude.{IsFalse, fold, ⊤}
 use Rattle.std.specs.List.{list_any, All}
 use Rattle.std.specs.Option.{option_map_or}
 use Rattle.std.proofs.lemmas.Bool.Decides.{nat_tests}
 use Rattle.std.proofs.lemmas.List.{take-append-drop, take-take, length-take-le}
-use Rattle.std.proofs.lemmas.List.Elements.{All-nil, All-append, All-cons, All-head, All-tail}
+use Rattle.std.proofs.lemmas.List.Elements.{All-nil, All-append, All-head, All-tail}
+use Rattle.std.proofs.lemmas.List.Sums.{fold-append}
 use Rattle.array_kept.specs.md_base_the_Who.{Who}
 use Rattle.array_kept.specs.bank_the_Operation.{Operation}
 use Rattle.array_kept.specs.bank_Tape.{Contents, value_after}
@@ -13,7 +14,7 @@ use Rattle.array_kept.specs.flat_history_the_Entry.{Entry}
 use Rattle.array_kept.specs.flat_history_the_Event.{Event}
 use Rattle.array_kept.specs.flat_history_the_Event_TheVariants.{Lost, SpareLost, Rebuilt, Resized, Step, Refused}
 use Rattle.array_kept.specs.flat_history_the_LostCause_TheVariants.{Fault}
-use Rattle.array_kept.specs.flat_history_Flat.{is_same_call, rest_of_call, last_of, next_number}
+use Rattle.array_kept.specs.flat_history_Flat.{is_same_call, rest_of_call, last_of, next_number, number_after}
 use Rattle.array_kept.specs.flat_history_Growing.{grown, EndBy, BeginAnother}
 use Rattle.array_kept.specs.flat_history_Legal.{GoesOn, IsNumbered, IsInnerOrLast, IsOfOpening, IsLegalEvent, IsLegalEntry, call_end, AreLegal, IsLegal}
 use Rattle.array_kept.specs.flat_history_OneShape.{GoesOnBehind, IsOfCall, IsCallOpen}
@@ -24,10 +25,13 @@ use Rattle.array_kept.specs.flat_history_World.{World, until, contents_at}
 use Rattle.array_kept.proofs.flat_history_LegalLaws.{histories-stay-legal, rest-apart, another-behind}
 use Rattle.array_kept.proofs.flat_history_OneShapeLegal.{last-snoc}
 use Rattle.array_kept.proofs.history_laws_OneShapeGrowing.{AreFaults, next-begins, none-another}
+use Rattle.array_kept.proofs.MadeLaws.{ends-by}
+use Rattle.array_kept.proofs.RecordLaws.{ends-call}
+use Rattle.array_kept.proofs.call_entries_StepLaws.{of-call}
+use Rattle.array_kept.proofs.SafeLaws.{longer-by}
 use Rattle.kept_history.specs.Recorded.{entry_of, IsLegalCall, MayGoOn, IsCallGoing, IsLengthKept, gives_some}
-use Rattle.kept_history.proofs.Growing.{longer-by}
 use Rattle.kept_history.proofs.Longer.{event-longer}
-use Rattle.kept_history.proofs.Marks.{ends-by, ends-both, ends-call, rest-whole}
+use Rattle.kept_history.proofs.Marks.{ends-both, rest-whole}
 
 -- ---- a call that begins or goes on
 
@@ -61,10 +65,6 @@ same-call who a b mine yours = same a.caller b.caller a.number b.number (mine.0 
   where
     same : (c d n m : ℕ) → c ≡ d → n ≡ m → ((c == d) && (n == m)) ≡ true
     same c d n m callers numbers = grind (arith, nat_tests, callers, numbers)
-
-pub of-call : (who : Who) (end : ℕ) (events : List Event) → All (λ e. IsOfCall who e) (entries_of who end events)
-of-call who end [] = All-nil (λ e. IsOfCall who e)
-of-call who end (event ∷ events) = All-cons (λ e. IsOfCall who e) (entry_of who end event) (entries_of who end events) (refl, refl) (of-call who end events)
 
 -- what is of the call stands behind an entry of it
 rest-own : (who : Who) (e : Entry) (xs : List Entry) → IsOfCall who e → All (λ e. IsOfCall who e) xs → rest_of_call e xs ≡ xs
@@ -331,3 +331,29 @@ legal-losses world before who end (SpareLost slot ∷ xs) tail are call = (
       (subst (λ (l : List Entry). IsLegalCall world l who end tail) (sym (append_assoc before (entry_of who end (SpareLost slot) ∷ []) (entries_of who end xs))) call),
 )
 legal-losses world before who end (event ∷ xs) tail are call = absurd are
+
+-- ---- the number of a call that goes on
+
+-- behind entries of one call the caller's next number is one more than the call's
+own-next : (who : Who) (start : ℕ) (x : Entry) (call : List Entry) → All (λ e. IsOfCall who e × MayGoOn e.event) (x ∷ call)
+    → fold (number_after who.caller) start (x ∷ call) ≡ who.number + 1
+own-next who start x [] own =
+    let mine = (All-head (λ e. IsOfCall who e × MayGoOn e.event) x [] own).0 in
+    last x.caller x.number mine.0 mine.1
+  where
+    last : (c n : ℕ) → c ≡ who.caller → n ≡ who.number → cond (c == who.caller) (n + 1) start ≡ who.number + 1
+    last c n callers numbers = grind (arith, nat_tests, callers, numbers)
+own-next who start x (y ∷ call) own = own-next who (number_after who.caller start x) y call (All-tail (λ e. IsOfCall who e × MayGoOn e.event) x (y ∷ call) own)
+
+-- it is at most the number of entries
+pub going-few : (entries : List Entry) (who : Who) → IsCallGoing entries who → next_number who.caller entries ≤ length entries → who.number ≤ length entries
+going-few entries who goes few = by goes.call goes.is goes.own
+  where
+    by : (call : List Entry) → entries ≡ goes.before ++ call → All (λ e. IsOfCall who e × MayGoOn e.event) call → who.number ≤ length entries
+    by [] is own =
+        let same : next_number who.caller entries ≡ next_number who.caller goes.before = ap (next_number who.caller) (is ∙ append-nil goes.before) in
+        let number = goes.number in omega (arith, few, same, number)
+    by (x ∷ call) is own =
+        let next : next_number who.caller entries ≡ who.number + 1 =
+        ap (next_number who.caller) is ∙ fold-append (number_after who.caller) 0 goes.before (x ∷ call) ∙ own-next who (next_number who.caller goes.before) x call own in
+        omega (arith, few, next)

@@ -23,10 +23,11 @@ use Rattle.array_kept.specs.flat_history_World.{World, until}
 use Rattle.array_kept.proofs.flat_history_LegalLaws.{both, another-last, another-behind}
 use Rattle.array_kept.proofs.history_laws_OneShapeGrowing.{AreFaults}
 use Rattle.array_kept.proofs.history_laws_ReshapedLaws.{reshapes-stay-right}
+use Rattle.array_kept.proofs.call_entries_StepLaws.{of-call}
 use Rattle.kept_history.specs.Recorded.{entry_of, IsReshapedCall, ends_reshape, IsCallGoing, gives_some}
 use Rattle.kept_history.proofs.Tests.{neither}
 use Rattle.kept_history.proofs.Longer.{gone-still}
-use Rattle.kept_history.proofs.Records.{of-call, own-begins, until-all}
+use Rattle.kept_history.proofs.Records.{own-begins, until-all}
 
 -- ---- what ends nothing
 

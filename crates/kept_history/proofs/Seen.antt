@@ -20,9 +20,10 @@ use Rattle.array_kept.proofs.shape_views_WindowLaws.{open-window}
 use Rattle.array_kept.specs.shape_changes_Steady.{IsMoreTold, IsSafeNow}
 use Rattle.array_kept.proofs.shape_changes_Steady.{safe-is-seen, losing-stays-safe}
 use Rattle.array_kept.proofs.shape_changes_Without.{without-none}
+use Rattle.array_kept.proofs.LedgerLaws.{judged_by}
 use Rattle.kept_history.specs.Safe.{world_in, IsFilledRight, told_without, IsNowRight}
 use Rattle.kept_history.specs.Told.{told_now}
-use Rattle.kept_history.proofs.Ledgers.{judged_by, now-ledger}
+use Rattle.kept_history.proofs.Ledgers.{now-ledger}
 use Rattle.kept_history.proofs.Marks.{IsSeenAfter}
 
 -- ---- one image

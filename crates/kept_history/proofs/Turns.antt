@@ -26,12 +26,13 @@ use Rattle.array_kept.specs.shape_views_Views.{Ledger}
 use Rattle.array_kept.specs.shape_changes_Changing.{IsSafeChange}
 use Rattle.array_kept.specs.shape_changes_Safety.{HasLiveSlot, IsRisen}
 use Rattle.array_kept.specs.shape_changes_Steady.{IsMoreTold, IsSafeOver}
+use Rattle.array_kept.proofs.views_Still.{told-same}
 use Rattle.kept_history.specs.Safe.{world_in, IsFilledRight, told_without, IsSafeHistory}
 use Rattle.kept_history.specs.Told.{told_now, told_by}
 use Rattle.kept_history.proofs.Calls.{LeavesSoundFrom, safe-call}
 use Rattle.kept_history.proofs.Changes.{safe-change, either-stretch, either-last}
 use Rattle.kept_history.proofs.Entered.{AreAdding, adding-losses}
-use Rattle.kept_history.proofs.Ledgers.{more-alike, more-then, told-any, now-told}
+use Rattle.kept_history.proofs.Ledgers.{more-then, told-any, now-told}
 use Rattle.kept_history.proofs.Lists.{resized-length, resized-values, resized-zero}
 use Rattle.kept_history.proofs.Unkept.{unkept-told, up_to-losses}
 
@@ -122,7 +123,7 @@ module _ (claims : Type 0) (given : Given) (tape : List Operation) (scope : Scop
       (more-then more (told_by later carried' reshaping' entries (entries_of who end events)) (told_by later (λ slot number. true) true entries (entries_of who end events))
       (now-told later carried' reshaping' entries (entries_of who end events)) (told-any later carried' reshaping' entries (entries_of who end events)))
       change
-      (subst (λ (l : List Event). IsMoreTold more (told_now later carried' reshaping' (all_of l))) no-more (more-alike more))
+      (subst (λ (l : List Event). IsMoreTold more (told_now later carried' reshaping' (all_of l))) no-more (told-same more))
       (losses-resize_none who end losses [] faults refl)
       (λ none. subst (λ (l : List Event). IsTrue (is_all_gone later end (up_to (all_of l) (length (entries ++ entries_of who end early)))) × IsMoreTold told (told_without later (all_of l) (length (entries ++ entries_of who end early)))) no-more
       (let so = spent none in turned-unkept later entries who end early n losses faults told adds less so.1 so.0)))
@@ -161,7 +162,7 @@ module _ (claims : Type 0) (given : Given) (tape : List Operation) (scope : Scop
   either-call =
       subst (λ (l : List Event). IsSafeHistory claims after given new carried' reshaping' (whole l)) (sym none-more)
       (safe-call claims given tape scope first entries old new carried carried' reshaping reshaping' who events [] ops by_call sizes_are within ends
-      (subst (λ (l : List Event). IsFilledRight after (whole l)) none-more fills) was rise sound (more-alike by_call)
+      (subst (λ (l : List Event). IsFilledRight after (whole l)) none-more fills) was rise sound (told-same by_call)
       (either-stretch (OpensFit (world_in given tape scope first)) scope given told now_told by_call new tape (tape ++ ops) less now-by change)
       (subst (λ (l : List Event). IsSafeOver (world_in given tape scope first) given (told_now after carried' reshaping' (whole l)) new (tape ++ ops)) none-more
-      (either-last (world_in given tape scope first) given told now_told now_told new tape (tape ++ ops) change (more-alike now_told) spent)))
+      (either-last (world_in given tape scope first) given told now_told now_told new tape (tape ++ ops) change (told-same now_told) spent)))

@@ -30,14 +30,12 @@ pub use Rattle.moving_kept.proofs.window_steps_CopyLaws
 pub use Rattle.moving_kept.proofs.window_steps_PastLaws
 pub use Rattle.moving_kept.proofs.BegunCall as moving_kept_BegunCall
 pub use Rattle.moving_kept.proofs.BegunMembers as moving_kept_BegunMembers
-pub use Rattle.moving_kept.proofs.Shortened as moving_kept_Shortened
 pub use Rattle.moving_kept.proofs.call_entries_LeftLaws
 pub use Rattle.moving_kept.proofs.call_entries_CallLaws
 pub use Rattle.moving_kept.proofs.call_entries_LosingLaws
 pub use Rattle.moving_kept.proofs.views_MovedLaws
 pub use Rattle.moving_kept.proofs.views_LackingLaws
 pub use Rattle.moving_kept.proofs.views_LiveLeft
-pub use Rattle.moving_kept.proofs.views_BearerLaws
 pub use Rattle.moving_kept.proofs.views_Fit
 pub use Rattle.moving_kept.proofs.views_LackingLists
 pub use Rattle.moving_kept.proofs.views_HeldRows
@@ -67,3 +65,7 @@ pub use Rattle.moving_kept.proofs.superblock_reads_SaidSlots
 pub use Rattle.moving_kept.proofs.history_laws_OneShapeGrowing
 pub use Rattle.moving_kept.proofs.history_laws_ReshapedLaws
 pub use Rattle.moving_kept.proofs.history_laws_GrowingLaws
+pub use Rattle.moving_kept.proofs.call_entries_BearerLaws
+pub use Rattle.moving_kept.proofs.array_kept_LedgerLaws
+pub use Rattle.moving_kept.proofs.array_kept_RecordLaws
+pub use Rattle.moving_kept.proofs.array_kept_DegradedLaws

@@ -51,7 +51,6 @@ use Rattle.moving_kept.specs.kept_history_Recorded.{IsCallGoing, entry_of}
 use Rattle.moving_kept.specs.kept_history_Safe.{world_in, IsFilledRight}
 use Rattle.moving_kept.specs.kept_history_Told.{told_now}
 use Rattle.moving_kept.proofs.kept_history_Growing.{unsynced-grown}
-use Rattle.moving_kept.proofs.kept_history_Ledgers.{unsynced-still}
 use Rattle.moving_kept.proofs.kept_history_Lists.{newest-in}
 use Rattle.moving_kept.specs.history_calls_Reliable.{AreToldGone}
 use Rattle.moving_kept.specs.grow_asked_the_Window.{Window}
@@ -71,6 +70,7 @@ use Rattle.moving_kept.proofs.Refusals.{quiet-refusal, refused-right}
 use Rattle.moving_kept.proofs.Resting.{resting-moves}
 use Rattle.moving_kept.proofs.Staying.{course-moved}
 use Rattle.moving_kept.proofs.Steps.{AreMissingSince, quiet-step, missing-moved, step-is, told-behind, told-step}
+use Rattle.moving_kept.proofs.array_kept_LedgerLaws.{unsynced-more}
 
 -- ---- a stripe
 
@@ -278,7 +278,7 @@ module _ (tells : Type 0) (given : Given) (tape tape' : List Operation) (scope :
           let g = did.grows.more t in
           ap (λ (l : List Operation). is_unsynced (world_in given l scope first) (entries ++ entries_of who end (losses_of roles spares))) g.1
           ∙ unsynced-grown (world_in given tape scope first) g.0 (was.recorded t).begun (entries ++ entries_of who end (losses_of roles spares))
-          ∙ unsynced-still (world_in given tape scope first) entries (entries_of who end (losses_of roles spares))
+          ∙ unsynced-more (world_in given tape scope first) entries (entries_of who end (losses_of roles spares))
           (subst (λ (l : List Event). list_any (λ e. is_resync_end e.event) (entries_of who end l) ≡ false) (append-nil (losses_of roles spares)) (ends-losses who end (losses_of roles spares) [] (losses-are roles spares)))
           ∙ was.pending t ∙ ap (λ (o : Option ℕ). is_some o) waits
 

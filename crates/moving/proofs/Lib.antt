@@ -6,7 +6,6 @@ pub use Rattle.moving_laws.proofs.moving_kept_BegunCall
 pub use Rattle.moving_laws.proofs.moving_kept_BegunMembers
 pub use Rattle.moving_laws.proofs.moving_kept_Refusals
 pub use Rattle.moving_laws.proofs.moving_kept_Resting
-pub use Rattle.moving_laws.proofs.moving_kept_Shortened
 pub use Rattle.moving_laws.proofs.moving_kept_Staying
 pub use Rattle.moving_laws.proofs.moving_kept_Steps
 pub use Rattle.moving_laws.proofs.moving_state_DueLaws
@@ -75,8 +74,11 @@ pub use Rattle.moving_laws.proofs.running_words_Replies
 pub use Rattle.moving_laws.proofs.calls_kept_AddLaws
 pub use Rattle.moving_laws.proofs.moving_kept_AddedSpare
 pub use Rattle.moving_laws.proofs.AddLaws as moving_laws_AddLaws
-pub use Rattle.pieces.proofs.views_BearerLaws
 pub use Rattle.pieces.proofs.views_Flushed
 pub use Rattle.moving_laws.proofs.calls_kept_AddedKept
 pub use Rattle.moving_laws.proofs.calls_kept_AddedNumbers
 pub use Rattle.moving_laws.proofs.calls_kept_AddedLosses
+pub use Rattle.moving_laws.proofs.call_entries_BearerLaws
+pub use Rattle.moving_laws.proofs.array_kept_LedgerLaws
+pub use Rattle.moving_laws.proofs.array_kept_RecordLaws
+pub use Rattle.moving_laws.proofs.array_kept_DegradedLaws

@@ -83,6 +83,7 @@ use Rattle.moving_kept.proofs.history_calls_LastStep.{last-behind, last-step}
 use Rattle.moving_kept.specs.Moving.{HasListInCourse, HasListStill, IsMoving}
 use Rattle.moving_kept.proofs.history_calls_Behind.{IsAmong, inner-of, legal-losses}
 use Rattle.moving_kept.proofs.history_calls_Plans.{behind-all, ArePlannedTo, plans-behind, plans-done}
+use Rattle.moving_kept.proofs.array_kept_OnlyLaws.{either}
 use Rattle.moving_ends.proofs.Consistent.{consistent-at}
 use Rattle.moving_ends.proofs.EndedRows.{HaveEnded, ended-short, listed-still}
 use Rattle.moving_ends.proofs.Ending.{length_by, grown_to, ending_events, only-adds, only-gives, only-lost, ending-gives, ending-settles, ending-level, ending-values, ending-length, ending-lost, ending-late, ending-last, ending-comes, ending-ends, comes-more, before-step, told-longer}
@@ -132,11 +133,7 @@ left-lost who end (Lost role Fault ∷ xs) are some left = left-none who end xs 
 left-lost who end (SpareLost slot ∷ xs) are some left = left-none who end xs are
 left-lost who end (event ∷ xs) are some left = absurd are
 
-either-lost : (a b : Bool) → (a || b) ≡ true → (a ≡ true) ⊎ (b ≡ true)
-either-lost true b is = inl refl
-either-lost false b is = inr is
-
-disturbs-entries : (who : Who) (end : ℕ) (xs : List Event) → list_any (λ e. disturbs e.event) (entries_of who end xs) ≡ list_any disturbs xs
+pub disturbs-entries : (who : Who) (end : ℕ) (xs : List Event) → list_any (λ e. disturbs e.event) (entries_of who end xs) ≡ list_any disturbs xs
 disturbs-entries who end [] = refl
 disturbs-entries who end (x ∷ xs) = ap (λ (b : Bool). disturbs x || b) (disturbs-entries who end xs)
 
@@ -503,7 +500,7 @@ module _ (given : Given) (tape : List Operation) (scope : Scope) (first : ℕ) (
       | inl one ↦ free (is_free_step later (entries ++ flushed) Finished)
           (known (list_any (λ e. disturbs e.event) (call_before (entries ++ flushed) step ++ rest)) (told_left (entries ++ flushed))
           (subst (λ (k : ℕ). IfSome (told_left (entries ++ flushed)) (λ n. n ≡ k)) one (told-behind steps entries who end losses (losses-are roles spares) was.left_told)))
-      | inr (inr lost) ↦ free (is_free_step later (entries ++ flushed) Finished) (elim (either-lost (list_any disturbs losses) (list_any disturbs (losses_of late late_spares)) (sym (list_any-append disturbs losses (losses_of late late_spares)) ∙ lost)) [
+      | inr (inr lost) ↦ free (is_free_step later (entries ++ flushed) Finished) (elim (either (list_any disturbs losses) (list_any disturbs (losses_of late late_spares)) (sym (list_any-append disturbs losses (losses_of late late_spares)) ∙ lost)) [
         | inl first ↦ subst (λ (o : Option ℕ). IfSome (cond (list_any (λ e. disturbs e.event) (call_before (entries ++ flushed) step ++ rest)) None o) (λ n. left + 1 ≡ n))
             (sym (fold-append (λ left e. left_after left e.event) None entries flushed ∙ left-lost who end losses (losses-are roles spares) first (told_left entries)))
             (unknown (list_any (λ e. disturbs e.event) (call_before (entries ++ flushed) step ++ rest)))

@@ -23,7 +23,7 @@ use Rattle.moving_kept.specs.flat_history_World.{opening_list}
 use Rattle.moving_kept.specs.shape_changes_Safety.{HasLiveSlot}
 use Rattle.moving_kept.specs.views_Moving.{Grows}
 use Rattle.moving_kept.specs.call_entries_Losing.{losses_of}
-use Rattle.moving_kept.proofs.views_MarkEnds.{some-or-none}
+use Rattle.moving_kept.proofs.safe_updates_MarkEnds.{some-or-none}
 use Rattle.moving_kept.specs.kept_history_Recorded.{IsHistoryKept, IsCallGoing}
 use Rattle.moving_kept.specs.kept_history_Safe.{world_in, IsFilledRight, IsSafeHistory}
 use Rattle.moving_kept.specs.course_kept_Laws.{closed}

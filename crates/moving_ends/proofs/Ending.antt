@@ -19,10 +19,9 @@ use Rattle.moving_kept.specs.flat_history_Plain.{entries_of, loses_role}
 use Rattle.moving_kept.specs.flat_history_Reshaped.{comes_with_finish, comes_with_step, is_rebuilt}
 use Rattle.moving_kept.specs.flat_history_Transfers.{last_end_from}
 use Rattle.moving_kept.specs.flat_history_World.{World, opening_list}
-use Rattle.moving_kept.proofs.history_laws_OneShapeGrowing.{entries-both}
+use Rattle.moving_kept.proofs.history_laws_OneShapeGrowing.{entries-both, call-ends}
 use Rattle.moving_kept.specs.call_entries_Losing.{losses_of}
 use Rattle.moving_kept.proofs.call_entries_CallLaws.{AreLossEvents, losses-are, length-losses}
-use Rattle.moving_kept.proofs.call_entries_PlainLaws.{last_end-call}
 use Rattle.moving_kept.specs.kept_history_Recorded.{ends_reshape, gives_some}
 use Rattle.moving_kept.specs.kept_history_Told.{told_by}
 use Rattle.moving_kept.proofs.kept_history_Entered.{AreAdding, length-adding, values-adding, settle-none}
@@ -139,8 +138,8 @@ module _ (who : Who) (end roles spares left : ℕ) (longer : Bool) (n late late_
   ending-last first entries = of (losses_of roles spares)
     where
       of : (xs : List Event) → last_end_from first (entries ++ entries_of who end (xs ++ Step Finished left ∷ rest)) ≡ end
-      of [] = last_end-call first entries who end (Step Finished left) rest
-      of (x ∷ xs) = last_end-call first entries who end x (xs ++ Step Finished left ∷ rest)
+      of [] = call-ends first entries who end (Step Finished left) rest
+      of (x ∷ xs) = call-ends first entries who end x (xs ++ Step Finished left ∷ rest)
 
   -- what stands behind the step comes with it
   come-losses : (xs : List Event) → AreLossEvents xs → list_all comes_with_finish xs ≡ true

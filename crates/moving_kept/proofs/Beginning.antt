@@ -35,12 +35,11 @@ use Rattle.course_mends.specs.shape_ends_Ends.{IsToldWith}
 use Rattle.course_mends.proofs.views_SoundViews.{throughout-changed}
 use Rattle.history_calls.specs.call_entries_Losing.{losses_of}
 use Rattle.history_calls.proofs.call_entries_CallLaws.{losses-are}
-use Rattle.history_calls.proofs.call_entries_PlainLaws.{last_end-call}
 use Rattle.history_calls.specs.kept_history_Recorded.{IsHistoryKept, IsLegalCall, IsCallGoing, IsOpenBehind, entry_of, ends_reshape, gives_some}
 use Rattle.history_calls.specs.kept_history_Safe.{world_in, IsFilledRight, IsSafeHistory}
 use Rattle.history_calls.specs.kept_history_Told.{told_now, told_by}
 use Rattle.history_calls.proofs.kept_history_Growing.{reading-grown, opening-grown, gone-grown, unsynced-grown, now-grown, room-before, room-now}
-use Rattle.history_calls.proofs.kept_history_Ledgers.{more-then, any-gone, unclean-now, unsynced-still, none-ends}
+use Rattle.history_calls.proofs.kept_history_Ledgers.{more-then, any-gone, unclean-now}
 use Rattle.history_calls.proofs.kept_history_Longer.{regains-none}
 use Rattle.history_calls.proofs.kept_history_Calls.{now-live}
 use Rattle.history_calls.proofs.kept_history_Entered.{AreAdding, told-adding, settle-none, values-more, values-adding, length-adding, gone-was, gone-lost}
@@ -50,6 +49,8 @@ use Rattle.history_calls.proofs.kept_history_Turned.{begun-old, filled-before}
 use Rattle.history_calls.proofs.kept_history_Turns.{either-call}
 use Rattle.history_calls.specs.Reliable.{IsReliable, AreToldGone}
 use Rattle.history_calls.proofs.Behind.{IsAmong, early-losses, inner-of, legal-losses, or-false}
+use Rattle.history_calls.proofs.array_kept_LedgerLaws.{none-ends, unsynced-more}
+use Rattle.history_calls.proofs.history_laws_OneShapeGrowing.{call-ends}
 use Rattle.moving_kept.specs.Moving.{IsStillKept}
 use Rattle.moving_kept.proofs.ReadShapes.{IsShapeRead}
 
@@ -280,7 +281,7 @@ module _ (given : Given) (tape : List Operation) (scope : Scope) (first : ℕ) (
   begun-recorded was goes caller behind told some =
       kept-call (IsReliable world entries) (IsReliable later all) world ops (list_length old.newest) (list_length new.newest) entries who (Step Begun left ∷ losses_of roles spares) goes was
       right-before caller (λ fills. inl behind)
-      (length-adding (length (opening_list world)) entries added adds-all ∙ recorded ∙ sym call.sized) (last_end-call first entries who end (Step Begun left) (losses_of roles spares))
+      (length-adding (length (opening_list world)) entries added adds-all ∙ recorded ∙ sym call.sized) (call-ends first entries who end (Step Begun left) (losses_of roles spares))
       (λ fills. begun-legal told) (λ fills fit. call-ends_none later entries who end (Step Begun left ∷ losses_of roles spares) (begun-ends_none some))
 
   -- the level stays
@@ -296,7 +297,7 @@ module _ (given : Given) (tape : List Operation) (scope : Scope) (first : ℕ) (
 
   -- and a resync is as pending
   pub begun-unsynced : is_unsynced later all ≡ is_unsynced world entries
-  begun-unsynced = unsynced-grown world ops begun all ∙ unsynced-still world entries added (none-ends added (settle-none added adds-all))
+  begun-unsynced = unsynced-grown world ops begun all ∙ unsynced-more world entries added (none-ends added (settle-none added adds-all))
 
   -- each sector of the list has the value that it had
   pub begun-values : (x : ℕ) → now (opening_list later) all x ≡ now (opening_list world) entries x

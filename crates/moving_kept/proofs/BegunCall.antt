@@ -49,7 +49,7 @@ use Rattle.moving_kept.proofs.ReadShapes.{IsShapeRead}
 least : (a b : ℕ) → nat_lt b a ≡ false → min a b ≡ min a a
 least a b is = grind (arith, nat_tests, is)
 
-begun-length : (former newest : Sb) (to : Shape) → HasBegun former to newest → is_reshaping former ≡ false → goes_back (shape_of former) to ≡ false → list_length newest ≡ list_length former
+pub begun-length : (former newest : Sb) (to : Shape) → HasBegun former to newest → is_reshaping former ≡ false → goes_back (shape_of former) to ≡ false → list_length newest ≡ list_length former
 begun-length former newest to has still forward =
     (λ i. min (data_disks (has.old i)) (data_disks (has.new i)) * has.size i)
     ∙ ap (λ (n : ℕ). n * former.size) (least (data_disks (shape_of former)) (data_disks to) forward)

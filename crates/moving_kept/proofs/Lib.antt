@@ -24,8 +24,6 @@ pub mod Beginning
 pub mod Begun
 pub mod BegunCall
 pub mod BegunMembers
-pub mod Shortening
-pub mod Shortened
 pub use Rattle.course_mends.proofs.Ends as course_mends_Ends
 pub use Rattle.course_mends.proofs.Mended as course_mends_Mended
 pub use Rattle.course_mends.proofs.Windows as course_mends_Windows
@@ -73,7 +71,6 @@ pub use Rattle.history_calls.proofs.call_entries_CallLaws
 pub use Rattle.history_calls.proofs.call_entries_LeftLaws
 pub use Rattle.course_mends.proofs.views_Fit
 pub use Rattle.course_mends.proofs.views_LiveLeft
-pub use Rattle.history_calls.proofs.views_BearerLaws
 pub use Rattle.history_calls.proofs.kept_history_Growing
 pub use Rattle.history_calls.proofs.kept_history_Ledgers
 pub use Rattle.history_calls.proofs.kept_history_Lists
@@ -85,7 +82,6 @@ pub use Rattle.course_mends.proofs.shape_ends_GrownStanding
 pub use Rattle.course_mends.proofs.views_Still
 pub use Rattle.course_mends.proofs.views_SoundViews
 pub use Rattle.course_mends.proofs.views_HeldRows
-pub use Rattle.course_mends.proofs.views_MarkEnds
 pub use Rattle.history_calls.proofs.kept_history_Lengths
 pub use Rattle.history_calls.proofs.kept_history_Entered
 pub use Rattle.history_calls.proofs.kept_history_Calls
@@ -164,3 +160,6 @@ pub use Rattle.course_mends.proofs.parity_OwnFills
 pub use Rattle.course_mends.proofs.parity_Refilled
 pub use Rattle.window_calls.proofs.layout_Limits
 pub use Rattle.window_calls.proofs.layout_Places
+pub use Rattle.history_calls.proofs.call_entries_BearerLaws
+pub use Rattle.course_mends.proofs.safe_updates_MarkEnds
+pub use Rattle.history_calls.proofs.array_kept_IdleLaws

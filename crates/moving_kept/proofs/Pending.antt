@@ -18,7 +18,6 @@ use Rattle.course_mends.proofs.views_HeldRows.{shape-without-before, without-bef
 use Rattle.history_calls.specs.kept_history_Safe.{world_in}
 use Rattle.history_calls.proofs.kept_history_Entered.{AreAdding, settle-none}
 use Rattle.history_calls.proofs.kept_history_Growing.{unsynced-grown}
-use Rattle.history_calls.proofs.kept_history_Ledgers.{unsynced-still, none-ends}
 use Rattle.history_calls.proofs.Quiet.{IsLeftBehind}
 use Rattle.course_mends.specs.region_mends_Mends.{low_shape, mend_stripes}
 use Rattle.course_mends.proofs.region_mends_Alike.{mends-alike}
@@ -27,6 +26,7 @@ use Rattle.course_mends.specs.course_kept_Course.{AnyShape, StandsInCourse}
 use Rattle.course_mends.proofs.course_kept_Frames.{stands-less, stands-whole, does-for}
 use Rattle.course_mends.specs.Mended.{IsAside, IsUnmended, StandsMended}
 use Rattle.course_mends.proofs.Mended.{none-pending, resyncs-end}
+use Rattle.history_calls.proofs.array_kept_LedgerLaws.{none-ends, unsynced-more}
 use Rattle.moving_kept.specs.Moving.{IsMoving}
 
 -- ---- how far it is
@@ -84,7 +84,7 @@ later-unsynced {given = given} {tape = tape} {scope = scope} {first = first} lef
 pub pending-on : {given : Given} {tape tape' : List Operation} {scope : Scope} {first : ℕ} {entries : List Entry} {new : Members} {carried : ℕ → ℕ → Bool} (added : List Entry)
     → IsLeftBehind given tape scope first entries (entries ++ added) new carried true tape' → AreAdding added → is_unsynced (world_in given tape' scope first) (entries ++ added) ≡ is_unsynced (world_in given tape scope first) entries
 pending-on {given = given} {tape = tape} {scope = scope} {first = first} {entries = entries} added left adds =
-    later-unsynced left (entries ++ added) ∙ unsynced-still (world_in given tape scope first) entries added (none-ends added (settle-none added adds))
+    later-unsynced left (entries ++ added) ∙ unsynced-more (world_in given tape scope first) entries added (none-ends added (settle-none added adds))
 
 -- ---- what stands
 

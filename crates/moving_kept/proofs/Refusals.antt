@@ -49,11 +49,11 @@ count-within f n m le = subst (λ (k : ℕ). count_below n f ≤ count_below k f
     whole n m le = omega (arith, le)
 
 -- what a refusal tells to be missing, and to be tolerated
-abbrev missing-told : Refusal → ℕ
+abbrev pub missing-told : Refusal → ℕ
 missing-told (TooManyMissing count most) = count
 missing-told refusal = 0
 
-abbrev tolerated-told : Refusal → ℕ
+abbrev pub tolerated-told : Refusal → ℕ
 tolerated-told (TooManyMissing count most) = most
 tolerated-told refusal = 0
 

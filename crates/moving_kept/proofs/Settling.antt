@@ -71,7 +71,7 @@ not-ended false false is = refl
 not-ended unsynced true is = absurd (cc)
 
 -- it is pending behind losses and an event, as long as that doesn't end it
-unsynced-then : (world : World) (entries : List Entry) (who : Who) (end roles spares : ℕ) (event : Event)
+pub unsynced-then : (world : World) (entries : List Entry) (who : Who) (end roles spares : ℕ) (event : Event)
     → is_unsynced world (entries ++ entries_of who end (losses_of roles spares ++ event ∷ [])) ≡ (is_unsynced world entries && not (is_resync_end event))
 unsynced-then world entries who end roles spares event =
     ap (λ (b : Bool). was_dirty world && not b)

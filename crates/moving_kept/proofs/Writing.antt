@@ -49,7 +49,7 @@ use Rattle.history_calls.specs.call_entries_Losing.{losses_of, failure_events}
 use Rattle.history_calls.proofs.call_entries_CallLaws.{losses-are, limit-losses, values-losses}
 use Rattle.history_calls.proofs.call_entries_LeftLaws.{TellLeft, left-behind, left-more}
 use Rattle.history_calls.proofs.call_entries_LosingLaws.{entries-both}
-use Rattle.history_calls.proofs.array_kept_LedgerLaws.{written-allowed, wrote-in, torn-in}
+use Rattle.history_calls.proofs.array_kept_LedgerLaws.{written-allowed, wrote-in, torn-in, none-ends, unsynced-more}
 use Rattle.history_calls.proofs.array_kept_NowLaws.{wrote-is}
 use Rattle.course_mends.specs.region_rows_Stretches.{relied_rows, IsShapeOf, ListStandsIn, RowsStandIn}
 use Rattle.course_mends.specs.region_writes_Runs.{IsListTouched, MayBeHidden, WindowRowsStand, IsListTorn, IsListUnwritten}
@@ -60,7 +60,6 @@ use Rattle.history_calls.specs.kept_history_Safe.{world_in, IsFilledRight}
 use Rattle.history_calls.specs.kept_history_Told.{told_now}
 use Rattle.history_calls.proofs.kept_history_Entered.{AreAdding, settle-none, values-more, length-adding}
 use Rattle.history_calls.proofs.kept_history_Growing.{opening-grown, unsynced-grown}
-use Rattle.history_calls.proofs.kept_history_Ledgers.{unsynced-still, none-ends}
 use Rattle.history_calls.proofs.kept_history_Lists.{newest-in}
 use Rattle.course_mends.specs.course_kept_the_Course.{Course}
 use Rattle.course_mends.specs.grow_asked_the_Window.{Window}
@@ -168,7 +167,7 @@ module _ (who : Who) (end roles spares : ℕ) where
   -- and end no resync
   losses-unsynced : (world : World) (entries : List Entry) → is_unsynced world (entries ++ entries_of who end (losses_of roles spares)) ≡ is_unsynced world entries
   losses-unsynced world entries =
-      unsynced-still world entries (entries_of who end (losses_of roles spares)) (none-ends (entries_of who end (losses_of roles spares)) (settle-none (entries_of who end (losses_of roles spares)) losses-add))
+      unsynced-more world entries (entries_of who end (losses_of roles spares)) (none-ends (entries_of who end (losses_of roles spares)) (settle-none (entries_of who end (losses_of roles spares)) losses-add))
 
 -- ---- refusals
 
@@ -206,7 +205,7 @@ unrelied-short newest fit relied x lt far = elim (cases_lt relied (list_length n
 ]
 
 -- nor are they only while a resync is pending
-short-pending : (newest : Sb) (resync : Option ℕ) (relied : ℕ) → relied ≡ relied_sector newest resync → relied < list_length newest → is_some resync ≡ true
+pub short-pending : (newest : Sb) (resync : Option ℕ) (relied : ℕ) → relied ≡ relied_sector newest resync → relied < list_length newest → is_some resync ≡ true
 short-pending newest None relied relies short = absurd (let all : relied ≡ list_length newest = relies in omega (arith, all, short))
 short-pending newest (Some mended) relied relies short = refl
 

@@ -21,7 +21,7 @@ use Rattle.mending_kept.specs.views_Numbers.{bears, bearing, free_number, IsOfSc
 use Rattle.mending_kept.specs.views_Placed.{IsPlaced}
 use Rattle.mending_kept.specs.views_Rebuilding.{Held, with_spare}
 use Rattle.mending_kept.specs.views_Under.{IsRestKept}
-use Rattle.mending_kept.proofs.views_BearerLaws.{bears-more, bears-new}
+use Rattle.mending_kept.proofs.call_entries_BearerLaws.{bears-more, bears-new}
 use Rattle.mending_kept.proofs.views_MovedLaws.{grows-none, grows-then}
 use Rattle.running_words.specs.array_kept_Kept.{scope_in}
 use Rattle.running_words.specs.array_kept_Calls.{IsUnaddable, IsLossBy, WasSpare, AreLossesOf, IsEndOf, IsWorkAdded}

@@ -1,10 +1,6 @@
 -- A stripe of the open window is copied: what the array keeps, and what it answers.
-use Rattle.std.proofs.Common.{◌≡◌, ◌≢◌, inr, ℕ, ◌+◌, ◌-◌, ◌*◌, ◌<◌, ◌≤◌, ◌==◌, Bool, true, false, cond, Option, Some, None, List, [], ◌∷◌, ◌++◌, length, take, refl, sym, ◌∙◌, ap, subst, arith, append-nil}
-use Rattle.std.specs.Prelude.{IsFalse, fold, ⊤}
-use Rattle.std.specs.List.{All}
-use Rattle.std.proofs.lemmas.Bool.Decides.{nat_tests}
-use Rattle.std.proofs.lemmas.List.Elements.{All-head, All-tail}
-use Rattle.std.proofs.lemmas.List.Sums.{fold-append}
+use Rattle.std.proofs.Common.{◌≡◌, ◌≢◌, inr, ℕ, ◌+◌, ◌-◌, ◌*◌, ◌<◌, ◌≤◌, ◌==◌, Bool, true, false, cond, Option, Some, None, List, [], ◌∷◌, ◌++◌, length, take, refl, sym, ◌∙◌, ap, subst, arith}
+use Rattle.std.specs.Prelude.{IsFalse, ⊤}
 use Rattle.running_words.specs.md_base_Sectors.{Sector}
 use Rattle.running_words.specs.md_base_the_Refusal.{Refusal}
 use Rattle.running_words.specs.md_base_the_Who.{Who}
@@ -23,8 +19,6 @@ use Rattle.mending_kept.specs.list_io_Full.{RowStands}
 use Rattle.mending_kept.specs.flat_history_the_Entry.{Entry}
 use Rattle.mending_kept.specs.flat_history_the_Event_TheVariants.{Refused, Step}
 use Rattle.mending_kept.specs.flat_history_the_StepKind_TheVariants.{Copied as CopiesStripe}
-use Rattle.mending_kept.specs.flat_history_Flat.{next_number, number_after}
-use Rattle.mending_kept.specs.flat_history_OneShape.{IsOfCall}
 use Rattle.mending_kept.specs.flat_history_Plain.{entries_of}
 use Rattle.mending_kept.specs.flat_history_World.{World}
 use Rattle.mending_kept.specs.shape_views_Views.{Ledger}
@@ -40,7 +34,7 @@ use Rattle.mending_kept.specs.grow_asked_the_PhasesLeft.{PhasesLeft}
 use Rattle.mending_kept.specs.grow_asked_Left.{steps_from, stripes_in, phases_of, grow_left}
 use Rattle.mending_kept.proofs.grow_asked_LeftLaws.{copying}
 use Rattle.mending_kept.specs.window_rows_Copies.{tail_of, IsCopied}
-use Rattle.mending_kept.specs.kept_history_Recorded.{IsCallGoing, MayGoOn}
+use Rattle.mending_kept.specs.kept_history_Recorded.{IsCallGoing}
 use Rattle.mending_kept.specs.kept_history_Safe.{world_in}
 use Rattle.mending_kept.specs.course_kept_the_Course.{Course}
 use Rattle.mending_kept.specs.course_kept_Laws.{entered, next_stripe}
@@ -55,43 +49,11 @@ use Rattle.moving_laws.specs.Ready.{bytes_in}
 use Rattle.running_words.specs.Calls.{IsCopyDue}
 use Rattle.moving_laws.proofs.Kept.{left_by, left-moved}
 use Rattle.mending_kept.proofs.kept_history_Turned.{fills-on_course}
+use Rattle.moving_laws.proofs.WriteLaws.{same-span, same-count, same-flag}
 
 -- ---- the number of a call that goes on
 
--- behind entries of one call the caller's next number is one more than the call's
-own-next : (who : Who) (start : ℕ) (x : Entry) (call : List Entry) → All (λ e. IsOfCall who e × MayGoOn e.event) (x ∷ call)
-    → fold (number_after who.caller) start (x ∷ call) ≡ who.number + 1
-own-next who start x [] own =
-    let mine = (All-head (λ e. IsOfCall who e × MayGoOn e.event) x [] own).0 in
-    last x.caller x.number mine.0 mine.1
-  where
-    last : (c n : ℕ) → c ≡ who.caller → n ≡ who.number → cond (c == who.caller) (n + 1) start ≡ who.number + 1
-    last c n callers numbers = grind (arith, nat_tests, callers, numbers)
-own-next who start x (y ∷ call) own = own-next who (number_after who.caller start x) y call (All-tail (λ e. IsOfCall who e × MayGoOn e.event) x (y ∷ call) own)
-
--- it is at most the number of entries
-pub going-few : (entries : List Entry) (who : Who) → IsCallGoing entries who → next_number who.caller entries ≤ length entries → who.number ≤ length entries
-going-few entries who goes few = by goes.call goes.is goes.own
-  where
-    by : (call : List Entry) → entries ≡ goes.before ++ call → All (λ e. IsOfCall who e × MayGoOn e.event) call → who.number ≤ length entries
-    by [] is own =
-        let same : next_number who.caller entries ≡ next_number who.caller goes.before = ap (next_number who.caller) (is ∙ append-nil goes.before) in
-        let number = goes.number in omega (arith, few, same, number)
-    by (x ∷ call) is own =
-        let next : next_number who.caller entries ≡ who.number + 1 =
-        ap (next_number who.caller) is ∙ fold-append (number_after who.caller) 0 goes.before (x ∷ call) ∙ own-next who (next_number who.caller goes.before) x call own in
-        omega (arith, few, next)
-
 -- ---- the window that is open
-
-same-span : (s t : Span) (m n : ℕ) (a b : Bool) → Entered s m a ≡ Entered t n b → s ≡ t
-same-span s t m n a b e = cc
-
-same-count : (s t : Span) (m n : ℕ) (a b : Bool) → Entered s m a ≡ Entered t n b → m ≡ n
-same-count s t m n a b e = cc
-
-same-flag : (s t : Span) (m n : ℕ) (a b : Bool) → Entered s m a ≡ Entered t n b → a ≡ b
-same-flag s t m n a b e = cc
 
 -- a stripe of the window that is found open is to be copied, and no stripe behind the list is zeroed
 pub due-is : {B : Type 0} (array : RunningParts B) (span : Span) (copied : ℕ) (sectioned : Bool) → IsCopyDue array → array.course.window ≡ Entered span copied sectioned

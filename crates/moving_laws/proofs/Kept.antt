@@ -1,6 +1,6 @@
 -- What an array in a reshape keeps, after a call.
 use Rattle.std.proofs.Common.{◌≡◌, ◌⊎◌, ℕ, ◌+◌, ◌-◌, ◌*◌, ◌<◌, ◌≤◌, ◌==◌, ◌||◌, Bool, true, false, inl, inr, cond, Option, List, [], ◌∷◌, ◌++◌, length, take, take_all, drop, refl, sym, ◌∙◌, ap, subst, arith}
-use Rattle.std.specs.Prelude.{min, fold}
+use Rattle.std.specs.Prelude.{min}
 use Rattle.std.specs.List.{list_any}
 use Rattle.std.proofs.lemmas.Bool.Decides.{nat_tests}
 use Rattle.std.proofs.lemmas.List.{take-append-le}
@@ -55,6 +55,7 @@ use Rattle.mending_kept.specs.region_mends_Left.{resync_left}
 use Rattle.mending_kept.proofs.region_mends_LeftLaws.{left-stays}
 use Rattle.running_words.specs.Parts.{left_in}
 use Rattle.running_words.proofs.VisibleLaws.{limit-kept}
+use Rattle.running_words.proofs.Lengths.{IsLengthKept}
 use Rattle.moving_laws.specs.Ready.{bytes_in, IsReady}
 
 -- ---- superblocks of the same reshape
@@ -98,15 +99,6 @@ left-moved given old new resync course ahead moved =
     λ i. left-alike old.newest new.newest course.window course.zeroed (phases_of ahead) moved.reshape moved.shape moved.size i + left-stays given old new course.window resync moved i
 
 -- ---- the length of the list
-
--- these entries change neither the length of the list, nor what is visible of it
-pub record IsLengthKept (added : List Entry) : Type 0 where
-  pub long : (n : ℕ) → fold (λ m e. length_after m e.event) n added ≡ n
-  pub free : (limit : Option ℕ) → fold (λ (limit : Option ℕ) e. limit_after limit e.event) limit added ≡ limit
-
--- those of one event
-pub alone-keeps : (who : Who) (end : ℕ) (event : Event) → ((n : ℕ) → length_after n event ≡ n) → ((limit : Option ℕ) → limit_after limit event ≡ limit) → IsLengthKept (entries_of who end (event ∷ []))
-alone-keeps who end event long free = record { long = long; free = free }
 
 -- and those of one behind losses
 pub behind-keeps : (who : Who) (end roles spares : ℕ) (event : Event) → ((n : ℕ) → length_after n event ≡ n) → ((limit : Option ℕ) → limit_after limit event ≡ limit) → IsLengthKept (entries_of who end (losses_of roles spares ++ event ∷ []))

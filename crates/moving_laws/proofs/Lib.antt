@@ -32,7 +32,6 @@ pub use Rattle.running_words.proofs.Called as running_words_Called
 pub use Rattle.mending_kept.proofs.course_mends_Mended
 pub use Rattle.mending_kept.proofs.moving_kept_BegunCall
 pub use Rattle.mending_kept.proofs.moving_kept_BegunMembers
-pub use Rattle.mending_kept.proofs.moving_kept_Shortened
 pub use Rattle.mending_kept.proofs.moving_kept_Staying
 pub use Rattle.running_words.proofs.moving_state_DueLaws
 pub use Rattle.running_words.proofs.moving_state_ReshapeLaws
@@ -68,3 +67,7 @@ pub use Rattle.mending_kept.proofs.superblock_reads_SaidSlots
 pub use Rattle.mending_kept.proofs.history_laws_OneShapeGrowing
 pub use Rattle.mending_kept.proofs.history_laws_ReshapedLaws
 pub use Rattle.mending_kept.proofs.history_laws_GrowingLaws
+pub use Rattle.mending_kept.proofs.call_entries_BearerLaws
+pub use Rattle.mending_kept.proofs.array_kept_LedgerLaws
+pub use Rattle.mending_kept.proofs.array_kept_RecordLaws
+pub use Rattle.mending_kept.proofs.array_kept_DegradedLaws

@@ -35,7 +35,7 @@ use Rattle.running_words.specs.safe_updates_Unused.{IsUnusedKept}
 use Rattle.mending_kept.specs.call_entries_Losing.{losses_of}
 use Rattle.mending_kept.specs.window_steps_Recording.{IsCopiedWindow}
 use Rattle.mending_kept.proofs.window_steps_PastLaws.{past-placed}
-use Rattle.mending_kept.specs.grow_asked_the_Window_TheVariants.{Closed, Entered}
+use Rattle.mending_kept.specs.grow_asked_the_Window_TheVariants.{Closed}
 use Rattle.mending_kept.specs.grow_asked_the_PhasesLeft.{PhasesLeft}
 use Rattle.mending_kept.specs.grow_asked_Left.{phases_of, reshape_left, grow_left, IsPast}
 use Rattle.mending_kept.proofs.grow_asked_LeftLaws.{recording}
@@ -52,9 +52,8 @@ use Rattle.mending_kept.specs.moving_kept_Moving.{IsMoving}
 use Rattle.mending_kept.proofs.moving_kept_MoreSteps.{recorded-moves}
 use Rattle.mending_kept.proofs.moving_kept_Staying.{refused-moves}
 use Rattle.mending_kept.proofs.moving_kept_Steps.{AreMissingSince, missing-since}
-use Rattle.running_words.proofs.Called.{not_254}
+use Rattle.running_words.proofs.Called.{not_254, risen-told}
 use Rattle.moving_laws.proofs.Kept.{AreSameShapes, left_by, left-moved}
-use Rattle.moving_laws.proofs.Settled.{risen-told}
 
 -- ---- members whose position moved
 
@@ -203,6 +202,3 @@ safe-none-of {tells = tells} {given = given} {old = old} {new = new} {tape = tap
 -- it is the next one
 pub window-next : {newest : Sb} (course : Course) (span : Span) (copied : ℕ) (sectioned : Bool) → course ≡ entered span copied sectioned → IsCourseOf newest course → next_window newest ≡ Some span
 window-next {newest = newest} course span copied sectioned is of = (subst (λ (k : Course). IsCourseOf newest k) is of).window.0
-
-pub same-span : (a b : Span) (copied count : ℕ) (sectioned section : Bool) → Entered a copied sectioned ≡ Entered b count section → a ≡ b
-same-span a b copied count sectioned section is = cc

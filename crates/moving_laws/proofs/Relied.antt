@@ -1,6 +1,5 @@
 -- Where parity isn't relied on in each row, a resync is pending, and a refusal that tells so is right by the history.
-use Rattle.std.proofs.Common.{◌≡◌, ℕ, ◌<◌, ◌≤◌, Bool, true, false, Option, Some, None, List, [], ◌++◌, refl, sym, ◌∙◌, subst, arith, append-nil}
-use Rattle.std.specs.Prelude.{is_some}
+use Rattle.std.proofs.Common.{◌≡◌, ℕ, ◌<◌, ◌≤◌, Bool, true, false, Option, List, [], ◌++◌, sym, ◌∙◌, subst, arith, append-nil}
 use Rattle.std.specs.List.{list_any}
 use Rattle.running_words.specs.md_base_the_Refusal.{Refusal}
 use Rattle.running_words.specs.md_base_the_Refusal_TheVariants.{NotResynced}
@@ -26,18 +25,14 @@ use Rattle.mending_kept.specs.call_entries_Losing.{losses_of}
 use Rattle.mending_kept.proofs.call_entries_CallLaws.{losses-are, ends-losses}
 use Rattle.mending_kept.specs.kept_history_Safe.{world_in}
 use Rattle.mending_kept.proofs.kept_history_Growing.{unsynced-grown}
-use Rattle.mending_kept.proofs.kept_history_Ledgers.{unsynced-still}
 use Rattle.running_words.specs.history_calls_Reliable.{AreToldGone}
 use Rattle.mending_kept.specs.region_rows_Stretches.{relied_rows}
 use Rattle.mending_kept.proofs.region_writes_Together.{shape-force}
 use Rattle.mending_kept.specs.region_mends_Mends.{relied_sector}
 use Rattle.mending_kept.specs.course_kept_the_Course.{Course}
 use Rattle.mending_kept.specs.moving_kept_Moving.{IsMoving}
-use Rattle.mending_kept.proofs.moving_kept_Writing.{unrelied-short}
-
-short-pending : (newest : Sb) (resync : Option ℕ) (relied : ℕ) → relied ≡ relied_sector newest resync → relied < list_length newest → is_some resync ≡ true
-short-pending newest None relied relies short = absurd (let all : relied ≡ list_length newest = relies in omega (arith, all, short))
-short-pending newest (Some mended) relied relies short = refl
+use Rattle.mending_kept.proofs.moving_kept_Writing.{unrelied-short, short-pending}
+use Rattle.mending_kept.proofs.array_kept_LedgerLaws.{unsynced-more}
 
 none-ended : (who : Who) (end roles spares : ℕ) → list_any (λ e. is_resync_end e.event) (entries_of who end (losses_of roles spares)) ≡ false
 none-ended who end roles spares =
@@ -58,7 +53,7 @@ module _ {tells : Type 0} {given : Given} {tape : List Operation} {scope : Scope
       let lost = entries_of who end (losses_of roles spares) in
       subst (λ (l : List Operation). is_unsynced (world_in given l scope first) (entries ++ lost) ≡ true) (sym g.1)
       (unsynced-grown (world_in given tape scope first) g.0 (was.recorded t).begun (entries ++ lost)
-      ∙ unsynced-still (world_in given tape scope first) entries lost (none-ended who end roles spares)
+      ∙ unsynced-more (world_in given tape scope first) entries lost (none-ended who end roles spares)
       ∙ pends)
 
 -- a role is missing while a resync is pending

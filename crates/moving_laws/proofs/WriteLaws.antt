@@ -42,7 +42,6 @@ use Rattle.mending_kept.proofs.views_Fit.{force-disks}
 use Rattle.mending_kept.proofs.views_LackingLaws.{AreVacant, AreNewlyVacant, lost-since, shape-without}
 use Rattle.mending_kept.proofs.views_MovedLaws.{grows-then}
 use Rattle.mending_kept.specs.call_entries_Losing.{losses_of, failure_events}
-use Rattle.mending_kept.proofs.call_entries_CallLaws.{losses-are, length-losses, limit-losses}
 use Rattle.running_words.specs.array_kept_Calls.{IsRoleLossBy, IsLossBy, WasSpare, AreLossesOf, AreSparesFewer, IsBehind, IsRefusedFor, IsCausedBy}
 use Rattle.running_words.proofs.array_kept_ReplyLaws.{IsOfMissing, unwritten-of}
 use Rattle.mending_kept.specs.region_writes_Runs.{IsListUnwritten}
@@ -79,7 +78,7 @@ use Rattle.running_words.proofs.VisibleLaws.{visible-is, visible-within}
 use Rattle.moving_laws.specs.Ready.{bytes_in, IsReady}
 use Rattle.moving_laws.specs.Writing.{IsWindowOpen, steps_in, TouchesWindow, IsWriteLacked, IsPutEntered, IsWriteEntered}
 use Rattle.running_words.proofs.Called.{not_254}
-use Rattle.moving_laws.proofs.Kept.{IsLengthKept, behind-keeps, behind-whole, takes-lost, long-same, left_by, left-moved}
+use Rattle.moving_laws.proofs.Kept.{behind-whole, takes-lost, long-same, left_by, left-moved}
 use Rattle.moving_laws.proofs.Relied.{pending-at, unsynced-right}
 use Rattle.moving_laws.proofs.RecordLaws.{shapes-past, past-of, since-past, record-some, closed-bare, moved-none, moved-if}
 
@@ -109,13 +108,13 @@ touched-open array of x inside = by array.course.window refl inside
         let zero = none-zeroed span next in
         record { span = span; copied = copied; sectioned = sectioned; is = λ i. record { window = is i; zeroed = zero i } }
 
-same-span : (s t : Span) (m n : ℕ) (a b : Bool) → Entered s m a ≡ Entered t n b → s ≡ t
+pub same-span : (s t : Span) (m n : ℕ) (a b : Bool) → Entered s m a ≡ Entered t n b → s ≡ t
 same-span s t m n a b e = cc
 
-same-count : (s t : Span) (m n : ℕ) (a b : Bool) → Entered s m a ≡ Entered t n b → m ≡ n
+pub same-count : (s t : Span) (m n : ℕ) (a b : Bool) → Entered s m a ≡ Entered t n b → m ≡ n
 same-count s t m n a b e = cc
 
-same-flag : (s t : Span) (m n : ℕ) (a b : Bool) → Entered s m a ≡ Entered t n b → a ≡ b
+pub same-flag : (s t : Span) (m n : ℕ) (a b : Bool) → Entered s m a ≡ Entered t n b → a ≡ b
 same-flag s t m n a b e = cc
 
 -- the window that is found open is that one
@@ -173,16 +172,6 @@ with-rooms one two three four was = record {
   far_rows_fit = let had = was.far_rows_fit in omega (arith, had, three);
   far_buffer_fits = let had = was.far_buffer_fits in omega (arith, had, four);
 }
-
--- what a write enters that is refused leaves the list's length
-pub failure-keeps : (who : Who) (end roles spares : ℕ) (torn : Bool) (at : ℕ) (body : List Sector) (refusal : Refusal) → IsLengthKept (entries_of who end (failure_events roles spares torn at body refusal))
-failure-keeps who end roles spares false at body refusal = behind-keeps who end roles spares (Refused refusal) (λ n. refl) (λ limit. refl)
-failure-keeps who end roles spares true at body refusal =
-    subst (λ (l : List Event). IsLengthKept (entries_of who end l)) (sym (append_assoc (losses_of roles spares) (Torn at body ∷ []) (Refused refusal ∷ [])))
-    (record {
-      long = λ n. length-losses who end (losses_of roles spares) (Torn at body ∷ Refused refusal ∷ []) (losses-are roles spares) n;
-      free = λ limit. limit-losses who end (losses_of roles spares) (Torn at body ∷ Refused refusal ∷ []) (losses-are roles spares) limit;
-    })
 
 -- and where it tells no loss, it lost none
 pub failure-whole : {given : Given} {old new : Members} (tape' : List Operation) (scope : Scope) (first : ℕ) (entries : List Entry) (who : Who) (end roles spares : ℕ) (torn : Bool) (at : ℕ) (body : List Sector) (refusal : Refusal)

@@ -1,5 +1,5 @@
 -- The reply of a write fits its request, also behind a window that it finished first.
-use Rattle.std.proofs.Common.{◌≡◌, inl, inr, ℕ, ◌+◌, ◌<◌, ◌≤◌, Bool, true, false, cond, Option, Result, Ok, Err, List, [], ◌∷◌, ◌++◌, length, refl, sym, ◌∙◌, ap, subst, append_assoc, append-nil}
+use Rattle.std.proofs.Common.{◌≡◌, inl, inr, ℕ, ◌+◌, ◌<◌, ◌≤◌, Bool, true, false, Option, Result, Ok, Err, List, [], ◌∷◌, ◌++◌, length, refl, sym, ◌∙◌, ap, subst, append_assoc, append-nil}
 use Rattle.std.specs.Prelude.{fold, reverse}
 use Rattle.std.specs.List.{All}
 use Rattle.std.proofs.lemmas.List.{reverse-append}
@@ -20,7 +20,7 @@ use Rattle.mending_kept.specs.flat_history_the_Request.{Request}
 use Rattle.mending_kept.specs.flat_history_the_Request_TheVariants.{Write as AsksWrite}
 use Rattle.mending_kept.specs.flat_history_the_StepKind_TheVariants.{WindowFinished as FinishesWindow}
 use Rattle.mending_kept.specs.flat_history_Fits.{AreTornOf, IsTornOf}
-use Rattle.mending_kept.specs.flat_history_Flat.{is_same_call, rest_of_call, next_number, length_of, limit_of, length_after, limit_after, visible_of}
+use Rattle.mending_kept.specs.flat_history_Flat.{rest_of_call, next_number, length_of, limit_of, length_after, limit_after, visible_of}
 use Rattle.mending_kept.specs.flat_history_OneShape.{IsOfCall, OneShapeAnswers}
 use Rattle.mending_kept.specs.flat_history_Plain.{entries_of}
 use Rattle.mending_kept.specs.call_entries_Losing.{losses_of, failure_events}
@@ -28,7 +28,7 @@ use Rattle.mending_kept.proofs.call_entries_CallLaws.{AreLossEvents, losses-are,
 use Rattle.mending_kept.proofs.call_entries_LosingLaws.{entries-both}
 use Rattle.running_words.specs.array_kept_Calls.{StandsInside, IsRefusedFor, IsCausedBy}
 use Rattle.running_words.proofs.array_kept_NowLaws.{length-more}
-use Rattle.running_words.proofs.array_kept_ReplyLaws.{IsOfMissing, none_before, too-many-of}
+use Rattle.running_words.proofs.array_kept_ReplyLaws.{IsOfMissing, none_before, too-many-of, torn_before}
 use Rattle.mending_kept.specs.grow_asked_the_Window.{Window}
 use Rattle.mending_kept.specs.kept_history_Recorded.{entry_of}
 use Rattle.running_words.specs.moving_state_Due.{open_in}
@@ -94,14 +94,6 @@ behind-inner who request end roles spares event inside torn long free =
 
 -- ---- a reply behind them
 
-torn-own : (request : Request) (e : Entry) (zs tail : List Entry) → rest_of_call e tail ≡ [] → AreTornOf request zs → AreTornOf request (rest_of_call e (zs ++ tail))
-torn-own request e [] tail none torn = subst (λ (l : List Entry). AreTornOf request l) (sym none) tt
-torn-own request e (z ∷ zs) tail none torn = by (is_same_call e z) (torn-own request e zs tail none torn.1)
-  where
-    by : (b : Bool) → AreTornOf request (rest_of_call e (zs ++ tail)) → AreTornOf request (cond b (z ∷ rest_of_call e (zs ++ tail)) [])
-    by true rest = (torn.0, rest)
-    by false rest = tt
-
 module _ (size : ℕ) (limit : Option ℕ) (request : Request) (who : Who) (old : List Entry) (number : who.number ≡ next_number who.caller old) (sized : length_of size old ≡ size) (limited : limit_of old ≡ limit) where
   as-visible : (call : List Entry) → IsInner who request call → visible_of size (old ++ call) ≡ visible_by size limit
   as-visible call inner = visible-is size size limit (old ++ call) (length-more size old call sized (inner.long size)) (limit-kept limit old call limited (inner.free limit))
@@ -116,7 +108,7 @@ module _ (size : ℕ) (limit : Option ℕ) (request : Request) (who : Who) (old 
     fits = record {
       answers = answers _;
       torn = subst (λ (l : List Entry). AreTornOf request (rest_of_call (entry_of who end event) l)) (sym (reverse-append old call))
-          (torn-own request (entry_of who end event) (reverse call) (reverse old) (none_before old who end event number) (torn-reverse request call inner.torn));
+          (torn_before request (entry_of who end event) (reverse call) (reverse old) (none_before old who end event number) (torn-reverse request call inner.torn));
     };
   }
 

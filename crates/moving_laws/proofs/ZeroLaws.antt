@@ -46,9 +46,8 @@ use Rattle.mending_kept.proofs.moving_kept_MoreSteps.{zeroed-moves}
 use Rattle.mending_kept.proofs.moving_kept_Pending.{none-on}
 use Rattle.mending_kept.proofs.moving_kept_Staying.{refused-moves}
 use Rattle.mending_kept.proofs.moving_kept_Steps.{AreMissingSince, missing-since}
-use Rattle.running_words.proofs.Called.{not_254}
+use Rattle.running_words.proofs.Called.{not_254, risen-told}
 use Rattle.moving_laws.proofs.Kept.{left_by, left-moved}
-use Rattle.moving_laws.proofs.Settled.{risen-told}
 
 -- ---- the course
 

@@ -21,13 +21,13 @@ use Rattle.moving_kept.specs.flat_history_Losses.{is_gone_after, is_resync_end}
 use Rattle.moving_kept.specs.flat_history_OneShape.{is_lost}
 use Rattle.moving_kept.specs.flat_history_Plain.{loses_role, entries_of}
 use Rattle.moving_kept.specs.flat_history_World.{World}
-use Rattle.moving_kept.proofs.history_laws_OneShapeGrowing.{entries-both}
+use Rattle.moving_kept.proofs.history_laws_OneShapeGrowing.{entries-both, loss_events}
 use Rattle.moving_kept.specs.array_kept_Adopting.{found_loss, absent_loss, absent_losses}
 use Rattle.moving_kept.specs.kept_history_Recorded.{gives_some}
 use Rattle.moving_kept.proofs.kept_history_Entered.{gone-lost}
 use Rattle.moving_kept.proofs.kept_history_Ledgers.{any-gone}
 use Rattle.moving_kept.proofs.kept_history_Longer.{regains-none}
-use Rattle.moving_kept.proofs.kept_history_Opened.{loss_events, AreFound}
+use Rattle.moving_kept.proofs.kept_history_Opened.{AreFound}
 use Rattle.moving_kept.proofs.kept_history_Tests.{or-left, or-right}
 
 -- ---- as they are found

@@ -381,10 +381,10 @@ module _ {tells : Type 0} {bank : Given} {tape : List Operation} {given backup :
           since = record {
             gone = lost;
             since = refl;
-            held = found-is-held bank former.newest.set_uuid given (Some backup) former c d opened.members_are.elected stored;
+            held = found-is-held bank former.newest.set_uuid given (Some backup) former c d opened.members_are.elected.few opened.members_are.elected.lost stored;
           };
           right = seen-right;
-          numbers = found-carried scope carried former d among (found-numbers bank former.newest.set_uuid given (Some backup) former c d opened.members_are.elected stored);
+          numbers = found-carried scope carried former d among (found-numbers bank former.newest.set_uuid given (Some backup) former c d opened.members_are.elected.few opened.members_are.elected.lost stored);
         })
 
         counted : HasLiveSlot m → IsCounted world m

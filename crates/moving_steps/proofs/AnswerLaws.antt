@@ -33,8 +33,8 @@ use Rattle.still_kept.proofs.Resync.{not-zero}
 use Rattle.moving.specs.running_words_Parts.{left_in}
 use Rattle.moving.proofs.running_words_Called.{not_254}
 use Rattle.moving.specs.moving_laws_Ready.{IsReady}
-use Rattle.moving.proofs.moving_laws_Kept.{IsLengthKept, alone-keeps}
 use Rattle.moving.proofs.moving_laws_MendLaws.{left-some}
+use Rattle.moving.proofs.running_words_Lengths.{IsLengthKept, alone-keeps}
 use Rattle.moving_steps.specs.Replies.{IsUnmendableNow, IsEndedInReshape, IsReplyInReshape}
 
 -- ---- a reply

@@ -4,7 +4,6 @@ pub use Rattle.moving.proofs.moving_kept_BegunCall
 pub use Rattle.moving.proofs.moving_kept_BegunMembers
 pub use Rattle.moving.proofs.moving_kept_Refusals
 pub use Rattle.moving.proofs.moving_kept_Resting
-pub use Rattle.moving.proofs.moving_kept_Shortened
 pub use Rattle.moving.proofs.moving_kept_Staying
 pub use Rattle.moving.proofs.moving_kept_Steps
 pub use Rattle.moving.proofs.moving_laws_Kept
@@ -32,7 +31,7 @@ pub use Rattle.still_kept.proofs.reshape_updates_BegunPlan
 pub use Rattle.still_kept.proofs.reshape_updates_EndedPlan
 pub use Rattle.still_kept.proofs.reshape_updates_NewRoles
 pub use Rattle.still_kept.proofs.reshape_updates_Taken
-mod Told
+pub mod Told
 pub use Rattle.moving.proofs.kept_history_Entered
 pub use Rattle.moving.proofs.kept_history_Tests
 pub use Rattle.moving.proofs.kept_history_Ledgers
@@ -90,7 +89,6 @@ pub use Rattle.moving.proofs.moving_laws_Settled
 pub use Rattle.moving.proofs.calls_kept_AddLaws
 pub use Rattle.moving.proofs.moving_kept_AddedSpare
 pub use Rattle.moving.proofs.moving_laws_AddLaws
-pub use Rattle.moving.proofs.views_BearerLaws
 pub use Rattle.moving.proofs.views_Flushed
 pub use Rattle.moving.proofs.calls_kept_AddedKept
 pub use Rattle.moving.proofs.calls_kept_AddedNumbers
@@ -99,3 +97,7 @@ pub use Rattle.moving.proofs.StepLaws as moving_StepLaws
 pub use Rattle.moving.proofs.moving_laws_BarredLaws
 pub use Rattle.moving.proofs.moving_kept_Writing
 pub use Rattle.moving.proofs.moving_laws_WriteReplies
+pub use Rattle.moving.proofs.call_entries_BearerLaws
+pub use Rattle.moving.proofs.array_kept_LedgerLaws
+pub use Rattle.moving.proofs.array_kept_RecordLaws
+pub use Rattle.moving.proofs.array_kept_DegradedLaws

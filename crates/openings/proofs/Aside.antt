@@ -1,5 +1,5 @@
 -- The backup of an array that was found, or made, holds no role and is no spare.
-use Rattle.std.proofs.Common.{◌≡◌, inl, inr, ℕ, ◌+◌, ◌-◌, ◌<◌, ◌≤◌, ◌==◌, nat_lt, Bool, true, false, not, if◌then◌else◌, List, get_or, Option, Some, None, option_map, refl, sym, ◌∙◌, ap, subst, arith}
+use Rattle.std.proofs.Common.{◌≡◌, inl, inr, ℕ, ◌+◌, ◌-◌, ◌<◌, ◌≤◌, ◌==◌, nat_lt, Bool, true, false, not, if◌then◌else◌, List, take, get_or, Option, Some, None, option_map, refl, sym, ◌∙◌, ap, subst, arith}
 use Rattle.std.specs.Option.{option_or}
 use Rattle.std.specs.List.{list_any}
 use Rattle.std.proofs.lemmas.Bool.{cases_lt}
@@ -13,7 +13,7 @@ use Rattle.assemble.specs.md_base_the_Role_TheVariants.{Whole, Missing}
 use Rattle.assemble.specs.md_base_Search.{tabulate}
 use Rattle.assemble.proofs.md_base_Tabulated.{length-tabulate, get_or-tabulate}
 use Rattle.assemble.specs.bank_the_Operation.{Operation}
-use Rattle.assemble.specs.bank_Given.{Given}
+use Rattle.assemble.specs.bank_Given.{Given, sizes}
 use Rattle.assemble.specs.bank_Tape.{Contents}
 use Rattle.assemble.specs.superblocks_the_Members.{Members}
 use Rattle.assemble.specs.superblocks_Reading.{is_backup, is_reshaping, role_state, holder}
@@ -31,7 +31,7 @@ use Rattle.assemble.specs.declared.opening.Opened.{Opened}
 use Rattle.assemble.specs.Opening.{AreOfGiven, AreCounted, IsFound, IsAside}
 use Rattle.assemble.specs.Creating.{IsLastSlot, member_slots, bad_field, create_refusal}
 use Rattle.assemble.specs.Made.{IsNew}
-use Rattle.assemble.proofs.PlacedFound.{placed-found}
+use Rattle.assemble.proofs.StillFit.{found-fit}
 use Rattle.moving_opens.specs.found_members_Found.{AreElected}
 use Rattle.moving_opens.proofs.found_members_Placed.{live-there, holder-there-is}
 use Rattle.running_steps.proofs.growing_Aside.{not-so}
@@ -67,7 +67,7 @@ pub found-aside : {tells : Type 0} (bank : Given) (c : Contents) (backup : Optio
     → is_reshaping opened.members.newest ≡ false → IsAside backup opened.members.own → AreWritable bank opened.members.own → AreOfGiven opened.given opened.members.own → AreCounted bank → IsAsideOf backup opened.members
 found-aside bank c backup asked opened few is still aside writable own counted =
     elected-aside bank opened.given opened.members (record { few = few; elected = is.elected; lost = is.lost; own = own; writable = writable; counted = counted })
-    (placed-found bank few opened.members is.elected still writable counted).fit backup aside
+    (found-fit (sizes bank).sectors (take bank.slots opened.members.own) opened.members.lost opened.members is.elected still) backup aside
 
 -- ---- made
 

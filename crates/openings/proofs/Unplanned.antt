@@ -17,12 +17,12 @@ use Rattle.assemble.specs.flat_history_World.{reading_at}
 use Rattle.assemble.specs.views_Parts.{Parts}
 use Rattle.running_steps.specs.array_kept_Kept.{scope_in}
 use Rattle.running_steps.specs.array_kept_Adopting.{opener, absent_losses, IsAdopted}
-use Rattle.running_steps.proofs.kept_history_Opened.{loss_events}
 use Rattle.running_steps.specs.running_words_Parts.{RunningParts}
 use Rattle.running_steps.specs.running_words_Calls.{moving_world}
 use Rattle.running_steps.specs.running_words_Plans.{KeepsShape}
 use Rattle.moving_opens.specs.Opening.{AreOpenedMoving}
 use Rattle.moving_opens.proofs.Losses.{all-found, events-are}
+use Rattle.running_steps.proofs.history_laws_OneShapeGrowing.{loss_events}
 use Rattle.openings.specs.Adopted.{IsMovingAdopted}
 
 -- ---- no plan is open

@@ -4,7 +4,6 @@ pub use Rattle.grow_asked.proofs.LeftLaws as grow_asked_LeftLaws
 pub use Rattle.grow_asked.proofs.PlanLaws as grow_asked_PlanLaws
 pub use Rattle.grow_asked.proofs.flat_history_OneShapeReplies
 pub use Rattle.grow_asked.proofs.grow_plan_Sound
-pub use Rattle.views.proofs.BearerLaws as views_BearerLaws
 pub use Rattle.views.proofs.Fit as views_Fit
 pub use Rattle.views.proofs.Flushed as views_Flushed
 pub use Rattle.views.proofs.GivenMembers as views_GivenMembers

@@ -95,7 +95,6 @@ pub use Rattle.safe_updates.proofs.views_LackingLaws
 pub use Rattle.safe_updates.proofs.views_LackingLists
 pub use Rattle.safe_updates.proofs.views_LackingWrites
 pub use Rattle.safe_updates.proofs.views_LiveLeft
-pub use Rattle.safe_updates.proofs.views_MarkEnds
 pub use Rattle.safe_updates.proofs.views_MarkLaws
 pub use Rattle.safe_updates.proofs.views_MarkedSafe
 pub use Rattle.safe_updates.proofs.views_MemberLaws
@@ -105,3 +104,4 @@ pub use Rattle.safe_updates.proofs.views_PlacedLaws
 pub use Rattle.safe_updates.proofs.views_SafeStretch
 pub use Rattle.safe_updates.proofs.views_SoundViews
 pub use Rattle.safe_updates.proofs.views_Stripes
+pub use Rattle.safe_updates.proofs.MarkEnds as safe_updates_MarkEnds

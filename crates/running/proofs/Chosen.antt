@@ -22,11 +22,11 @@ use Rattle.growing.specs.views_Lacking.{IsUnread, IsUnwritten, are_mended, mende
 use Rattle.growing.specs.array_kept_Calls.{IsRefusedFor, IsCausedBy, IsAnswered, IsEntered, IsReplied, StandsInside}
 use Rattle.growing.specs.region_mends_Mends.{relied_sector}
 use Rattle.growing.specs.kept_history_Recorded.{entry_of}
-use Rattle.growing.proofs.kept_history_Marks.{ends-call}
 use Rattle.growing.specs.running_words_Parts.{RunningParts, visible_in}
 use Rattle.growing.specs.course_kept_Course.{hidden_in}
 use Rattle.growing.specs.moving_state_First.{IsUnreadAround}
 use Rattle.growing.specs.moving_laws_Writing.{IsWriteBarred, IsRepliedBehind, IsWriteReplied}
+use Rattle.growing.proofs.array_kept_RecordLaws.{ends-call}
 use Rattle.running.specs.Calls.{IsReadLacked, IsWriteLackedIn}
 
 pub on-ok : {T E : Type 0} (r : Result T E) {F : Type 0} → F → OnOk r F

@@ -1,9 +1,8 @@
 -- Replies that fit their requests to an array whose list may be limited: reads and writes that are refused.
-use Rattle.std.proofs.Common.{◌≡◌, ℕ, ◌+◌, ◌<◌, ◌≤◌, Bool, true, false, nat_lt, Option, List, [], ◌∷◌, ◌++◌, length, refl, sym, ap, subst, arith}
-use Rattle.std.proofs.lemmas.Bool.Decides.{nat_tests}
+use Rattle.std.proofs.Common.{◌≡◌, ℕ, ◌+◌, ◌<◌, ◌≤◌, Bool, true, false, Option, List, [], ◌∷◌, ◌++◌, length, refl, sym, ap, subst}
 use Rattle.std.proofs.lemmas.List.Elements.{All-push}
 use Rattle.std.specs.List.{All}
-use Rattle.std.specs.Prelude.{fold, MatchBool}
+use Rattle.std.specs.Prelude.{fold}
 use Rattle.moving_state.specs.md_base_Sectors.{Sector}
 use Rattle.history_calls.specs.md_base_the_Who.{Who}
 use Rattle.history_calls.specs.md_base_the_Refusal.{Refusal}
@@ -15,8 +14,7 @@ use Rattle.moving_state.specs.flat_history_the_Event_TheVariants.{Torn, Refused}
 use Rattle.moving_state.specs.flat_history_the_Request.{Request}
 use Rattle.moving_state.specs.flat_history_the_Request_TheVariants.{Read as AsksRead, Write as AsksWrite}
 use Rattle.moving_state.specs.flat_history_Flat.{next_number, visible_of, length_of, limit_of, length_after, limit_after}
-use Rattle.moving_state.specs.flat_history_Transfers.{IsRefusedAt, IsPastEnd}
-use Rattle.moving_state.specs.flat_history_Fits.{AreTornOf, IsReadRefused}
+use Rattle.moving_state.specs.flat_history_Fits.{AreTornOf}
 use Rattle.moving_state.specs.flat_history_Plain.{entries_of}
 use Rattle.moving_state.specs.flat_history_OneShape.{OneShapeAnswers}
 use Rattle.moving_state.specs.call_entries_Losing.{losses_of, failure_events}
@@ -25,25 +23,11 @@ use Rattle.moving_state.proofs.call_entries_LosingLaws.{entries-both}
 use Rattle.moving_state.proofs.call_entries_CallLaws.{losses-are, length-losses, limit-losses, torn-losses, torn-both}
 use Rattle.moving_state.specs.array_kept_Calls.{StandsInside, IsReplied, IsRefusedFor}
 use Rattle.moving_state.proofs.array_kept_NowLaws.{length-more}
-use Rattle.moving_state.proofs.array_kept_ReplyLaws.{replied, inside-losses, none-inside, IsOfMissing}
+use Rattle.moving_state.proofs.array_kept_ReplyLaws.{replied, inside-losses, none-inside, IsOfMissing, missing_at, past_at}
 use Rattle.moving_state.specs.Left.{visible_by}
 use Rattle.running_words.proofs.VisibleLaws.{visible-is, limit-kept}
 
 -- ---- refusals
-
-match_true : (b : Bool) (P Q : Type 0) → b ≡ true → P → MatchBool b P Q
-match_true true P Q e p = p
-match_true false P Q e p = absurd cc
-
-match_false : (b : Bool) (P Q : Type 0) → b ≡ false → Q → MatchBool b P Q
-match_false true P Q e q = absurd cc
-match_false false P Q e q = q
-
-past_at : (visible to told : ℕ) → visible < to → IsRefusedAt visible to IsReadRefused (PastEnd told)
-past_at visible to told lt = match_true (nat_lt visible to) (IsPastEnd (PastEnd told)) (IsReadRefused (PastEnd told) × ¬ IsPastEnd (PastEnd told)) (grind (arith, nat_tests, lt)) tt
-
-missing_at : (visible to : ℕ) (refusal : Refusal) → to ≤ visible → IsOfMissing refusal → IsRefusedAt visible to IsReadRefused refusal
-missing_at visible to refusal le of = match_false (nat_lt visible to) (IsPastEnd refusal) (IsReadRefused refusal × ¬ IsPastEnd refusal) (grind (arith, nat_tests, le)) of
 
 -- what a call that transfers up to `to` may be refused with, by the visible size; no call but one of these is refused past the end
 pub record IsRefusable (request : Request) (to : ℕ) : Type 0 where

@@ -65,7 +65,7 @@ use Rattle.safe_updates.proofs.MissingLaws.{missing-more}
 use Rattle.safe_additions.proofs.SaidReads.{read-of}
 use Rattle.safe_additions.proofs.AddedUpdates.{IsAddedBy, added-less, added-spares, added-moved, left-in-adding}
 use Rattle.safe_updates.proofs.shape_changes_Carried.{IsRewritable, known-rewritable, numbers-touched}
-use Rattle.safe_updates.proofs.views_MarkEnds.{some-or-none as mark-left}
+use Rattle.safe_updates.proofs.MarkEnds.{some-or-none as mark-left}
 use Rattle.safe_updates.proofs.shape_changes_Without.{state-without, without-none, in-both, any-without, live-is}
 use Rattle.safe_updates.proofs.views_SafeStretch.{gone-before}
 use Rattle.safe_updates.proofs.shape_changes_Stretch.{seen-own}

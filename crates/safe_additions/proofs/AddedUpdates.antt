@@ -35,7 +35,7 @@ use Rattle.safe_updates.specs.shape_changes_Safety.{HasLiveSlot, IsRisen}
 use Rattle.safe_updates.proofs.views_AddedMembers.{own-here, spares-with, live-with}
 use Rattle.safe_updates.proofs.views_HeldRows.{rows-same}
 use Rattle.safe_updates.proofs.views_LackingLaws.{since-less}
-use Rattle.safe_updates.proofs.views_MarkEnds.{left-in-mark}
+use Rattle.safe_updates.proofs.MarkEnds.{left-in-mark}
 use Rattle.safe_updates.proofs.views_MarkLaws.{roles-kept, few-planned}
 use Rattle.safe_updates.proofs.shape_changes_Kept.{give_of-same}
 use Rattle.safe_updates.proofs.views_MarkedSafe.{told-marks}

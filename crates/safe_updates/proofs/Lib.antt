@@ -14,6 +14,7 @@ pub mod WholeFlushed
 pub mod Widest
 pub mod Under
 pub mod Unused
+pub mod MarkEnds
 pub use Rattle.views.proofs.shape_changes_Without
 pub use Rattle.views.proofs.shape_changes_Carried
 pub use Rattle.views.proofs.shape_changes_Stretch
@@ -63,7 +64,6 @@ pub use Rattle.views.proofs.Flushed as views_Flushed
 pub use Rattle.views.proofs.MarkedSafe as views_MarkedSafe
 pub use Rattle.views.proofs.SoundViews as views_SoundViews
 pub use Rattle.views.proofs.shape_changes_Started
-pub use Rattle.views.proofs.MarkEnds as views_MarkEnds
 pub use Rattle.views.proofs.shape_views_SoundViews
 pub use Rattle.views.proofs.shape_views_Standing
 pub use Rattle.views.proofs.GivenMembers as views_GivenMembers

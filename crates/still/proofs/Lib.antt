@@ -65,7 +65,6 @@ pub use Rattle.array_state.proofs.call_entries_PlainLaws
 pub use Rattle.array_state.proofs.md_base_SectorLaws
 pub use Rattle.election.proofs.superblocks_Searches
 pub use Rattle.election.proofs.superblocks_ValidFields
-pub use Rattle.pieces.proofs.views_BearerLaws
 pub use Rattle.pieces.proofs.views_Fit
 pub use Rattle.pieces.proofs.views_Flushed
 pub use Rattle.pieces.proofs.views_GivenMembers
@@ -79,3 +78,5 @@ pub use Rattle.pieces.proofs.views_MovedLaws
 pub use Rattle.pieces.proofs.views_SafeStretch
 pub use Rattle.pieces.proofs.views_Still
 pub use Rattle.array_state.proofs.md_base_Least
+pub use Rattle.still_laws.proofs.call_entries_BearerLaws
+pub use Rattle.still_laws.proofs.history_laws_OneShapeGrowing

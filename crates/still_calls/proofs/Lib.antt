@@ -27,3 +27,5 @@ pub use Rattle.still.proofs.views_HeldRows
 pub use Rattle.still.proofs.views_LiveLeft
 pub use Rattle.still.proofs.views_MarkLaws
 pub use Rattle.still.proofs.views_Still
+pub use Rattle.still.proofs.history_laws_OneShapeGrowing
+pub use Rattle.still.proofs.kept_history_Records

@@ -27,10 +27,10 @@ use Rattle.moving_kept.proofs.views_Fit.{list-alike}
 use Rattle.moving_kept.specs.kept_history_Recorded.{IsCallGoing}
 use Rattle.moving_kept.specs.kept_history_Safe.{world_in, IsFilledRight}
 use Rattle.moving_kept.proofs.kept_history_Entered.{adds_only, settle-none}
-use Rattle.moving_kept.proofs.kept_history_Ledgers.{unsynced-still, none-ends}
 use Rattle.moving_kept.proofs.history_calls_Behind.{AreFirst, AreLostOrMissing, and-true}
 use Rattle.moving_kept.proofs.history_calls_Quiet.{IsLeftBehind}
 use Rattle.moving_kept.proofs.history_calls_Adding.{IsAdding, ChangesEarly, changing-leaves}
+use Rattle.moving_kept.proofs.array_kept_LedgerLaws.{none-ends, unsynced-more}
 use Rattle.still_kept.specs.Still.{HasListStood, IsStill}
 use Rattle.still_kept.proofs.Leaving.{safe-over, safe-now, rest-moved, none-taken, leaves-stands}
 use Rattle.still_kept.proofs.Staying.{progress-same}
@@ -50,7 +50,7 @@ changing-stands tells given tape tape' scope first entries old new work left lef
     leaves-stands tells given tape tape' scope first entries (entries ++ added) old new work work left left' was grows (rest-moved given old new moved was.members_are) (ap (λ (s : Shape). s.level) moved.shape)
     (list-alike old.newest new.newest moved.reshape moved.shape moved.size) told
     (progress-same moved work.resync was.progress)
-    (λ t. unsynced-still (world_in given tape scope first) entries added ends ∙ was.pending t)
+    (λ t. unsynced-more (world_in given tape scope first) entries added ends ∙ was.pending t)
     dirty listed
     (none-taken tells given tape tape' scope first entries old new who end (early ++ event ∷ []) IsTaken grows (λ u. (was.recorded u).ends) (few-roles new.newest moved.placed.fit.valid) missing
     (λ role lt has. are.lost who end (event ∷ []) role lt has) was.full)

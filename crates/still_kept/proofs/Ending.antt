@@ -22,6 +22,7 @@ use Rattle.moving_kept.specs.kept_history_Recorded.{IsLegalCall}
 use Rattle.moving_kept.proofs.history_calls_Quiet.{quiet-none, numbers-kept}
 use Rattle.moving_kept.specs.flat_history_Transfers.{last_end_from}
 use Rattle.moving_kept.specs.flat_history_Legal.{told_left}
+use Rattle.moving_kept.proofs.array_kept_LedgerLaws.{unsynced-more}
 use Rattle.still_kept.proofs.Quiet.{tail-stands}
 use Rattle.moving_kept.specs.flat_history_the_Event.{Event}
 use Rattle.moving_kept.specs.flat_history_the_Event_TheVariants.{Lost}
@@ -72,7 +73,6 @@ use Rattle.moving_kept.specs.kept_history_Recorded.{IsOpenBehind}
 use Rattle.moving_kept.specs.kept_history_Told.{told_now}
 use Rattle.moving_kept.proofs.kept_history_Lists.{newest-in}
 use Rattle.moving_kept.proofs.kept_history_Reshapes.{call-ends_none}
-use Rattle.moving_kept.proofs.kept_history_Ledgers.{unsynced-still}
 use Rattle.moving_kept.specs.history_calls_Reliable.{IsReliable}
 use Rattle.moving_kept.proofs.history_calls_Behind.{telling-of, first-of}
 use Rattle.moving_kept.proofs.history_calls_Quiet.{IsLeftBehind, EndsRight, quiet-none}
@@ -278,7 +278,7 @@ module _ (tells : Type 0) (given : Given) (tape tape' : List Operation) (scope :
     whole-stands = subst (λ (l : List Event). IsStill tells given tape' scope first (entries ++ entries_of who end l) new work left') split
         (leaves-stands tells given tape tape' scope first entries (entries ++ added) old new work work left left' was did.grows rest (ap (λ (s : Shape). s.level) did.moved.shape) sized told
         (subst (λ (o : Option ℕ). IfSome o (λ mended. mended ≤ stripes_of new)) (sym synced) tt)
-        (λ t. unsynced-still (world_in given tape scope first) entries added ends ∙ was.pending t)
+        (λ t. unsynced-more (world_in given tape scope first) entries added ends ∙ was.pending t)
         (λ can pending. did.clean ∙ was.dirty does pending)
         (λ t can fills. subst (λ (l : ℕ → Sector). HasListStood (OpensFit (world_in given tape scope first)) work new (present given tape') l) (λ i x. sym (same x) i) (listed t can fills))
         (λ t none level. absurd (let clash : true ≡ false = sym gone-before ∙ was.full t (earlier t none) (none-before (λ e. is_taken_over e.event) entries added level) role counted in cc))

@@ -1,8 +1,6 @@
 -- A flush, a stop, or the end of a resync, from what `settle` leaves; and a flush or a stop that is refused since too many are missing.
-use Rattle.std.proofs.Common.{◌≡◌, inl, inr, ℕ, ◌<◌, ◌≤◌, ◌==◌, ◌&&◌, ◌||◌, Bool, true, false, not, Option, Some, None, List, [], ◌∷◌, ◌++◌, length, refl, sym, ◌∙◌, ap, subst, arith}
+use Rattle.std.proofs.Common.{◌≡◌, inl, inr, ℕ, ◌<◌, ◌≤◌, ◌==◌, ◌&&◌, Bool, true, false, not, List, [], ◌∷◌, ◌++◌, length, refl, sym, ◌∙◌, ap, subst, arith}
 use Rattle.std.specs.Prelude.{IsFalse, IfSome, IsSome, is_some, ⊤}
-use Rattle.std.specs.List.{list_any}
-use Rattle.std.proofs.lemmas.List.Folds.{list_any-append}
 use Rattle.moving_kept.specs.md_base_Sectors.{Sector}
 use Rattle.moving_kept.specs.md_base_Shapes.{tolerance, tolerance_of}
 use Rattle.moving_kept.specs.md_base_the_Refusal.{Refusal}
@@ -20,7 +18,7 @@ use Rattle.moving_kept.specs.flat_history_the_Event.{Event}
 use Rattle.moving_kept.specs.flat_history_the_Event_TheVariants.{Flushed, Stopped, Refused}
 use Rattle.moving_kept.specs.flat_history_Flat.{now, values_of}
 use Rattle.moving_kept.specs.flat_history_Legal.{told_left, IsLegalEvent}
-use Rattle.moving_kept.specs.flat_history_Losses.{was_dirty, is_resync_end, is_unsynced, unsettles}
+use Rattle.moving_kept.specs.flat_history_Losses.{is_resync_end, is_unsynced, unsettles}
 use Rattle.moving_kept.specs.flat_history_Plain.{entries_of}
 use Rattle.moving_kept.specs.flat_history_Sound.{OpensFit}
 use Rattle.moving_kept.specs.flat_history_World.{World, opening_list}
@@ -39,7 +37,7 @@ use Rattle.moving_kept.proofs.views_Fit.{list-alike}
 use Rattle.moving_kept.proofs.views_HeldRows.{without-before}
 use Rattle.moving_kept.proofs.views_LackingLaws.{never-both}
 use Rattle.moving_kept.specs.call_entries_Losing.{losses_of}
-use Rattle.moving_kept.proofs.call_entries_CallLaws.{losses-are, ends-losses, values-losses}
+use Rattle.moving_kept.proofs.call_entries_CallLaws.{losses-are, values-losses}
 use Rattle.moving_kept.proofs.call_entries_LeftLaws.{TellLeft}
 use Rattle.moving_kept.proofs.array_kept_KeptLaws.{left-lost}
 use Rattle.moving_kept.proofs.safe_updates_Under.{still-under, still-rows-under}
@@ -52,6 +50,7 @@ use Rattle.moving_kept.proofs.history_calls_Behind.{IsAmong, first-of, early-los
 use Rattle.moving_kept.proofs.history_calls_Quiet.{IsLeftBehind}
 use Rattle.moving_kept.proofs.history_calls_Adding.{unsettled-last}
 use Rattle.moving_kept.proofs.history_calls_Settling.{IsSettlement, SettlesList, takes-newest, settling-leaves, settled-same}
+use Rattle.moving_kept.proofs.Settling.{unsynced-then}
 use Rattle.still_kept.specs.Still.{HasListStood, IsStill}
 use Rattle.still_kept.proofs.Adding.{changing-stands}
 use Rattle.still_kept.proofs.Ends.{EndsPlans, ends-right}
@@ -87,26 +86,6 @@ flush-is = takes-newest Flushed refl (λ n. refl) (λ n. refl) (λ x values. ref
 
 pub stop-is : IsSettlement Stopped
 stop-is = takes-newest Stopped refl (λ n. refl) (λ n. refl) (λ x values. refl)
-
--- a resync is pending behind losses and an event, as long as that doesn't end it
-unsynced-then : (world : World) (entries : List Entry) (who : Who) (end roles spares : ℕ) (event : Event)
-    → is_unsynced world (entries ++ entries_of who end (losses_of roles spares ++ event ∷ [])) ≡ (is_unsynced world entries && not (is_resync_end event))
-unsynced-then world entries who end roles spares event =
-    ap (λ (b : Bool). was_dirty world && not b)
-    (list_any-append (λ e. is_resync_end e.event) entries (entries_of who end (losses_of roles spares ++ event ∷ []))
-    ∙ ap (λ (b : Bool). list_any (λ e. is_resync_end e.event) entries || b) (ends-losses who end (losses_of roles spares) (event ∷ []) (losses-are roles spares)))
-    ∙ neither (was_dirty world) (list_any (λ e. is_resync_end e.event) entries) (is_resync_end event)
-  where
-    neither : (dirty a b : Bool) → (dirty && not (a || (b || false))) ≡ ((dirty && not a) && not b)
-    neither false a b = refl
-    neither true true b = refl
-    neither true false true = refl
-    neither true false false = refl
-
--- where no resync is pending, all rows are mended
-pub all-mended : (m : Members) (resync : Option ℕ) (unsynced : Bool) → unsynced ≡ is_some resync → unsynced ≡ false → m.newest.size ≤ mended_rows resync m
-all-mended m None unsynced same synced = omega arith
-all-mended m (Some mended) unsynced same synced = absurd (let no = sym same ∙ synced in cc)
 
 module _ (tells : Type 0) (given : Given) (tape tape' : List Operation) (scope : Scope) (first : ℕ) (entries : List Entry) (old new : Members) (work : Work) (left : ℕ)
     (who : Who) (end roles spares : ℕ) (before after : ℕ → ℕ) (unsynced : Bool)

@@ -34,6 +34,7 @@ use Rattle.std.proofs.Common.{◌<◌, append-nil, subst, []}
 use Rattle.moving_kept.specs.row_io_Rows.{reading_of, is_missing}
 use Rattle.calls_kept.proofs.RebuildEnded.{role-lost}
 use Rattle.moving_kept.specs.kept_history_Safe.{TakesNone, KeepsLevel}
+use Rattle.moving_kept.proofs.kept_history_Tests.{neither}
 use Rattle.still_kept.specs.Still.{AreNoneMissing}
 use Rattle.moving_kept.specs.kept_history_Safe.{world_in, IsFilledRight}
 use Rattle.one_shape_history.proofs.Kept.{safe-alike, recorded-alike}
@@ -46,10 +47,6 @@ use Rattle.still_kept.specs.Still.{HasListStood, IsStill}
 one-lost : (found : Option Reading) (role : ℕ) (event : Event) → takes found role event ≡ false → loses_role role event ≡ false
 one-lost found role (Lost lost cause) none = none
 one-lost found role event none = refl
-
-neither : (a b : Bool) → (a || b) ≡ false → (a ≡ false) × (b ≡ false)
-neither true b is = absurd (cc)
-neither false b is = (refl, is)
 
 none-lost : (world : World) (role : ℕ) (xs : List Entry) → list_any (loses world role) xs ≡ false → is_lost xs role ≡ false
 none-lost world role [] none = refl

@@ -106,3 +106,7 @@ pub use Rattle.calls_kept.proofs.md_base_SectorLaws
 pub use Rattle.calls_kept.proofs.md_base_Tabulated
 pub use Rattle.moving_kept.proofs.layout_Limits
 pub use Rattle.moving_kept.proofs.layout_Places
+pub use Rattle.moving_kept.proofs.call_entries_BearerLaws
+pub use Rattle.moving_kept.proofs.array_kept_IdleLaws
+pub use Rattle.calls_kept.proofs.SettledLaws as calls_kept_SettledLaws
+pub use Rattle.calls_kept.proofs.WriteLaws as calls_kept_WriteLaws

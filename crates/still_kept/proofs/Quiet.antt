@@ -34,9 +34,9 @@ use Rattle.moving_kept.proofs.kept_history_Reshapes.{call-ends_none}
 use Rattle.moving_kept.specs.kept_history_Recorded.{IsCallGoing, ends_reshape}
 use Rattle.moving_kept.specs.kept_history_Safe.{world_in, IsFilledRight}
 use Rattle.moving_kept.proofs.kept_history_Entered.{settle-none}
-use Rattle.moving_kept.proofs.kept_history_Ledgers.{unsynced-still, none-ends}
 use Rattle.moving_kept.proofs.history_calls_Behind.{or-false, AreEarly, AreLostOrMissing}
 use Rattle.moving_kept.proofs.history_calls_Quiet.{IsQuiet, AreQuietLast, quiet-last, LeavesNumbers, LeavesList, IsLeftBehind, EndsRight, numbers-leaves, numbers-of, last-now}
+use Rattle.moving_kept.proofs.array_kept_LedgerLaws.{none-ends, unsynced-more}
 use Rattle.still_kept.specs.Still.{AreAtRest, HasListStood, IsStill}
 use Rattle.still_kept.proofs.Leaving.{safe-over, safe-now, rest-moved, none-taken, leaves-stands}
 
@@ -56,7 +56,7 @@ pub tail-stands : (tells : Type 0) (given : Given) (tape tape' : List Operation)
     → IsStill tells given tape' scope first (entries ++ entries_of who end (early ++ tail)) new work' left'
 tail-stands tells given tape tape' scope first entries old new work work' left left' who end early IsTaken tail was live goes caller at_end grows quiet rest shape size before are missing clean carries pends progress ended reshaped told listed call =
     leaves-stands tells given tape tape' scope first entries (entries ++ added) old new work work' left left' was grows rest (ap (λ (s : Shape). s.level) shape) sized told progress
-    (λ t. unsynced-still (world_in given tape scope first) entries added ends ∙ was.pending t ∙ sym pends)
+    (λ t. unsynced-more (world_in given tape scope first) entries added ends ∙ was.pending t ∙ sym pends)
     (λ does pending. clean ∙ was.dirty (before does) (sym pends ∙ pending))
     (λ t does fills. subst (λ (l : ℕ → Sector). HasListStood (OpensFit (world_in given tape scope first)) work' new (present given tape') l) (sym same) (listed t does fills))
     (none-taken tells given tape tape' scope first entries old new who end (early ++ tail) IsTaken grows (λ u. (was.recorded u).ends) (few-roles new.newest rest.placed.fit.valid) missing (λ role lt has. are.lost who end tail role lt has) was.full)

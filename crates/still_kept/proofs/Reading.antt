@@ -46,11 +46,12 @@ use Rattle.moving_kept.specs.kept_history_Recorded.{IsCallGoing}
 use Rattle.moving_kept.specs.kept_history_Safe.{world_in}
 use Rattle.moving_kept.proofs.kept_history_Entered.{values-more, length-more}
 use Rattle.moving_kept.specs.history_calls_Reliable.{IsReliable, AreToldGone}
+use Rattle.moving_kept.proofs.array_kept_DegradedLaws.{within-count}
 use Rattle.still_kept.specs.Still.{AreAtRest, relied_list, HasListStood, IsStill}
 use Rattle.still_kept.proofs.Leaving.{list-later, fit-earlier, rest-moved}
 use Rattle.still_kept.proofs.Refusals.{IsRefusedStill, too-many-refused}
 use Rattle.still_kept.proofs.Staying.{IsNamedStill, stays-stands, refused-stands}
-use Rattle.still_kept.proofs.Stood.{mended-moved, row-inside, within-count}
+use Rattle.still_kept.proofs.Stood.{mended-moved, row-inside}
 use Rattle.still_kept.proofs.Whole.{whole-told, takes-first}
 
 -- ---- behind losses

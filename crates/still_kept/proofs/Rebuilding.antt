@@ -31,6 +31,7 @@ use Rattle.moving_kept.specs.flat_history_Transfers.{last_end_from}
 use Rattle.moving_kept.specs.kept_history_Recorded.{ends_reshape}
 use Rattle.std.specs.List.{list_any}
 use Rattle.moving_kept.proofs.kept_history_Reshapes.{call-ends_none}
+use Rattle.moving_kept.proofs.Refusals.{quiet-refusal}
 use Rattle.still_kept.proofs.Ends.{EndsPlans, ends-right}
 use Rattle.moving_kept.specs.flat_history_Legal.{told_left}
 use Rattle.still_kept.proofs.Quiet.{tail-stands}
@@ -75,7 +76,7 @@ use Rattle.moving_kept.specs.kept_history_Safe.{world_in, IsFilledRight}
 use Rattle.moving_kept.proofs.history_calls_Behind.{or-false, AreLostOrMissing, IsAmong, early-losses, legal-losses}
 use Rattle.still_kept.specs.Still.{AreAtRest, HasListStood, IsStill}
 use Rattle.still_kept.proofs.Quiet.{early-stands}
-use Rattle.still_kept.proofs.Refusals.{quiet-refusal, too-many-refused, refused-right, unsynced-behind}
+use Rattle.still_kept.proofs.Refusals.{too-many-refused, refused-right, unsynced-behind}
 use Rattle.still_kept.proofs.Resync.{step-behind, told-step}
 use Rattle.still_kept.proofs.Staying.{missing-since, progress-same}
 use Rattle.still_kept.proofs.Stood.{mended-moved}

@@ -16,7 +16,6 @@ use Rattle.moving_kept.proofs.superblocks_ValidFields.{few-roles}
 use Rattle.moving_kept.specs.row_io_Rows.{reading_of, is_missing}
 use Rattle.moving_kept.specs.flat_history_the_Entry.{Entry}
 use Rattle.moving_kept.specs.flat_history_the_Event.{Event}
-use Rattle.moving_kept.specs.flat_history_the_Event_TheVariants.{Refused}
 use Rattle.moving_kept.specs.flat_history_Legal.{level_at, IsTooManyMissing, IsRefusedRight}
 use Rattle.moving_kept.specs.flat_history_Losses.{is_gone_after, is_resync_end, is_unsynced}
 use Rattle.moving_kept.specs.flat_history_Plain.{entries_of}
@@ -29,14 +28,10 @@ use Rattle.moving_kept.proofs.views_Fit.{force-disks}
 use Rattle.moving_kept.specs.call_entries_Losing.{losses_of}
 use Rattle.moving_kept.proofs.call_entries_CallLaws.{losses-are, ends-losses}
 use Rattle.moving_kept.specs.kept_history_Safe.{world_in}
-use Rattle.moving_kept.proofs.kept_history_Ledgers.{unsynced-still}
 use Rattle.moving_kept.specs.history_calls_Reliable.{AreToldGone}
-use Rattle.moving_kept.proofs.history_calls_Quiet.{IsQuiet}
+use Rattle.moving_kept.proofs.Refusals.{missing-told, tolerated-told}
+use Rattle.moving_kept.proofs.array_kept_LedgerLaws.{unsynced-more}
 use Rattle.still_kept.proofs.Leaving.{unsynced-later}
-
--- a refusal is quiet
-pub quiet-refusal : (refusal : Refusal) → IsQuiet (Refused refusal)
-quiet-refusal refusal = record { adds = refl; gives = refl; ends = refl; still = λ x values. refl; level = λ n. refl; other = refl }
 
 -- Why a call is refused, by the members that it leaves: too many roles are missing, or a role is while a resync is pending; other refusals tell nothing that
 -- was entered.
@@ -50,15 +45,6 @@ IsRefusedStill resync m refusal = ⊤
 pub too-many-refused : (resync : Option ℕ) (m : Members) (refusal : Refusal) → AreTooMany m refusal → IsRefusedStill resync m refusal
 too-many-refused resync m refusal (inl many) = subst (IsRefusedStill resync m) (sym many.told) (inl (record { above = many.above; told = refl }))
 too-many-refused resync m refusal (inr many) = subst (IsRefusedStill resync m) (sym many.1.told) (inr (many.0, record { above = many.1.above; told = refl }))
-
--- what a refusal tells to be missing, and to be tolerated
-abbrev missing-told : Refusal → ℕ
-missing-told (TooManyMissing count most) = count
-missing-told refusal = 0
-
-abbrev tolerated-told : Refusal → ℕ
-tolerated-told (TooManyMissing count most) = most
-tolerated-told refusal = 0
 
 module _ (world : World) (before : List Entry) (given : Given) (m : Members) (placed : IsPlaced given m) (resync : Option ℕ) (gone : AreToldGone world before m)
     (level : tolerance_of (level_at world before) ≡ tolerance (shape_of m.newest)) (pending : is_unsynced world before ≡ is_some resync) where
@@ -89,5 +75,5 @@ pub unsynced-behind : (tells : Type 0) (given : Given) (tape tape' : List Operat
     → tells → is_unsynced (world_in given tape' scope first) (entries ++ entries_of who end (losses_of roles spares)) ≡ is_unsynced (world_in given tape scope first) entries
 unsynced-behind tells given tape tape' scope first entries who end roles spares grows begun t =
     unsynced-later given scope first (entries ++ entries_of who end (losses_of roles spares)) grows begun t
-    ∙ unsynced-still (world_in given tape scope first) entries (entries_of who end (losses_of roles spares))
+    ∙ unsynced-more (world_in given tape scope first) entries (entries_of who end (losses_of roles spares))
     (subst (λ (l : List Event). list_any (λ e. is_resync_end e.event) (entries_of who end l) ≡ false) (append-nil (losses_of roles spares)) (ends-losses who end (losses_of roles spares) [] (losses-are roles spares)))

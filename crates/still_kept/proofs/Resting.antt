@@ -30,10 +30,10 @@ use Rattle.moving_kept.specs.kept_history_Told.{told_now}
 use Rattle.moving_kept.proofs.kept_history_Entered.{adds_only, AreAdding, values-more, length-adding, settle-none}
 use Rattle.moving_kept.proofs.kept_history_Idle.{now-adding, idle-call}
 use Rattle.moving_kept.proofs.kept_history_KeptCalls.{kept-call}
-use Rattle.moving_kept.proofs.kept_history_Ledgers.{unsynced-still, none-ends}
 use Rattle.moving_kept.specs.history_calls_Reliable.{IsReliable, AreToldGone}
 use Rattle.moving_kept.proofs.history_calls_Quiet.{EndsRight}
 use Rattle.moving_kept.proofs.history_calls_Behind.{first-of, IsBehind, is-behind, and-true, or-false, early-none, telling-of}
+use Rattle.moving_kept.proofs.array_kept_LedgerLaws.{none-ends, unsynced-more}
 use Rattle.still_kept.specs.Still.{HasListStood, IsStill}
 use Rattle.still_kept.proofs.Ends.{EndsPlans, ends-right}
 
@@ -145,7 +145,7 @@ module _ (tells : Type 0) (given : Given) (tape : List Operation) (scope : Scope
     reshaping = was.reshaping;
     over = was.over;
     progress = was.progress;
-    pending = λ t. unsynced-still (world_in given tape scope first) entries added (none-ends added (settle-none added (adds end))) ∙ was.pending t;
+    pending = λ t. unsynced-more (world_in given tape scope first) entries added (none-ends added (settle-none added (adds end))) ∙ was.pending t;
     dirty = was.dirty;
     levelled = λ t right. ap tolerance_of (rested t).levelled ∙ was.levelled t ((rested t).right right);
     gone = λ t. (rested t).gone;

@@ -47,7 +47,7 @@ use Rattle.moving_kept.proofs.views_Stripes.{stripes-whole}
 use Rattle.moving_kept.specs.call_entries_Losing.{losses_of}
 use Rattle.moving_kept.proofs.call_entries_CallLaws.{losses-are}
 use Rattle.moving_kept.proofs.call_entries_StepLaws.{left-stepped}
-use Rattle.moving_kept.proofs.array_kept_DegradedLaws.{rows-same}
+use Rattle.moving_kept.proofs.array_kept_DegradedLaws.{rows-same, within-count}
 use Rattle.moving_kept.proofs.array_kept_KeptLaws.{left-lost}
 use Rattle.calls_kept.proofs.TouchedLaws.{safe-mend, rows-mended, list-mended, rows-stay, rebuilt-stays}
 use Rattle.moving_kept.specs.kept_history_Recorded.{IsCallGoing, entry_of}
@@ -55,13 +55,14 @@ use Rattle.moving_kept.specs.kept_history_Safe.{world_in, IsFilledRight}
 use Rattle.moving_kept.specs.kept_history_Told.{told_now}
 use Rattle.moving_kept.proofs.kept_history_Lists.{newest-in}
 use Rattle.moving_kept.proofs.history_calls_Behind.{IsAmong, early-losses, legal-losses}
+use Rattle.moving_kept.proofs.Refusals.{quiet-refusal}
 use Rattle.still_kept.specs.Still.{AreAtRest, HasListStood, IsStill}
 use Rattle.still_kept.proofs.Ends.{EndsPlans}
 use Rattle.still_kept.proofs.Flushing.{IsFlushedStill, IsSettledStill, settled-stands}
 use Rattle.still_kept.proofs.Quiet.{early-stands}
-use Rattle.still_kept.proofs.Refusals.{quiet-refusal, IsRefusedStill, too-many-refused, refused-right, unsynced-behind}
+use Rattle.still_kept.proofs.Refusals.{IsRefusedStill, too-many-refused, refused-right, unsynced-behind}
 use Rattle.still_kept.proofs.Staying.{missing-since, progress-same}
-use Rattle.still_kept.proofs.Stood.{mended-moved, sector-inside, within-count}
+use Rattle.still_kept.proofs.Stood.{mended-moved, sector-inside}
 
 -- ---- a step
 

@@ -7,7 +7,6 @@ use Rattle.moving_kept.specs.md_base_the_Who.{Who}
 use Rattle.moving_kept.specs.bank_the_Operation.{Operation}
 use Rattle.moving_kept.specs.bank_Given.{Given}
 use Rattle.moving_kept.specs.bank_Tape.{Contents, IsIn, disk}
-use Rattle.moving_kept.proofs.bank_Marks.{each_mark-map}
 use Rattle.moving_kept.specs.sb1_the_Sb.{Sb}
 use Rattle.moving_kept.specs.superblocks_the_Members.{Members}
 use Rattle.moving_kept.specs.superblocks_Held.{IsSecondHalf}
@@ -26,8 +25,7 @@ use Rattle.moving_kept.specs.shape_views_Views.{Ledger}
 use Rattle.moving_kept.specs.shape_changes_Carried.{AreToldAnew}
 use Rattle.moving_kept.specs.shape_changes_Marking.{AreOthersPresent}
 use Rattle.moving_kept.specs.shape_changes_Safety.{HasLiveSlot, HasRoomLeft, IsRisen}
-use Rattle.moving_kept.specs.shape_changes_Steady.{AreViewsRight, IsMoreTold, IsSafeStretch, IsSafeOver, KeepsSafe, AreGoneTold, IsUncleanTold, with_number}
-use Rattle.moving_kept.proofs.shape_changes_Steady.{views-told}
+use Rattle.moving_kept.specs.shape_changes_Steady.{IsMoreTold, IsSafeOver, KeepsSafe, AreGoneTold, IsUncleanTold, with_number}
 use Rattle.moving_kept.specs.views_the_Work.{Work}
 use Rattle.moving_kept.specs.views_Flushing.{OnlyFlushesAdded}
 use Rattle.moving_kept.specs.views_Lacking.{AreLostSince, RowsStandBelow, mended_rows}
@@ -36,7 +34,7 @@ use Rattle.moving_kept.specs.views_Numbers.{bears, bearing, IsOfScope}
 use Rattle.moving_kept.specs.views_Rebuilding.{with_spare}
 use Rattle.moving_kept.specs.views_Status.{stripes_of}
 use Rattle.moving_kept.proofs.views_AddedRows.{list-with, among-with, rebuilt-with}
-use Rattle.moving_kept.proofs.views_BearerLaws.{bears-more}
+use Rattle.moving_kept.proofs.call_entries_BearerLaws.{bears-more}
 use Rattle.moving_kept.proofs.views_Flushed.{contents-added}
 use Rattle.moving_kept.proofs.views_HeldRows.{missing-before, vacant-missing}
 use Rattle.moving_kept.proofs.views_MarkedSafe.{added-longer, flushed-safe}
@@ -52,9 +50,8 @@ use Rattle.calls_kept.proofs.AddedLosses.{IsAddDone, with-placed, stays-added, d
 use Rattle.moving_kept.specs.kept_history_Recorded.{IsCallGoing, entry_of}
 use Rattle.moving_kept.specs.kept_history_Safe.{world_in, IsFilledRight}
 use Rattle.moving_kept.proofs.kept_history_Anew.{history-anew}
-use Rattle.moving_kept.proofs.kept_history_Seen.{now-more}
 use Rattle.moving_kept.proofs.history_calls_Behind.{AreLostOrMissing, IsAmong, early-losses, legal-losses}
-use Rattle.moving_kept.proofs.history_calls_Quiet.{IsQuiet, LeavesNumbers}
+use Rattle.moving_kept.proofs.history_calls_Quiet.{IsQuiet, LeavesNumbers, stretch-more}
 use Rattle.still_kept.specs.Still.{AreAtRest, HasListStood, IsStill}
 use Rattle.still_kept.proofs.Quiet.{placed-stands}
 use Rattle.still_kept.proofs.Stood.{stood-moved}
@@ -70,14 +67,6 @@ with-told slot number work was told below less knows = record {
   unclean = less.unclean;
   reshaping = less.reshaping;
   carried = λ s n is. knows s n ∙ told-with slot number work s n (was.carried s n) below (λ before. sym (knows s n) ∙ less.carried s n before) is;
-}
-
--- more is told of a stretch
-stretch-told : (sound : Type 0) (scope : Scope) (given : Given) (told more : Ledger) (members : Members) (before after : List Operation) → IsMoreTold told more
-    → IsSafeStretch sound scope given told members before after → IsSafeStretch sound scope given more members before after
-stretch-told sound scope given told more members before after is stretch = record {
-  marks = each_mark-map (AreViewsRight sound scope given more) (λ t d. views-told sound given told more is scope d) stretch.marks;
-  next = now-more sound scope given told more members (disk given.start after) is stretch.next;
 }
 
 -- ---- the list
@@ -141,8 +130,8 @@ module _ (tells : Type 0) (given : Given) (tape mid_tape tape' : List Operation)
       let longer = added-longer tape mid_tape (looked t) in
       let done = safe t world before_told (λ some. let r = room some in omega (arith, r, longer)) gone unclean of_scope (λ s. knew s sb.dev_number ∙ unknown s) (second t) live flushed.next in
       safe-then (OpensFit world) scope given told old new tape mid_tape tape'
-      (stretch-told (OpensFit world) scope given before_told told old tape mid_tape less flushed)
-      (stretch-told (OpensFit world) scope given (with_number slot sb.dev_number before_told) told new mid_tape tape' (with-told slot sb.dev_number work before_told told below less knows) done)
+      (stretch-more (OpensFit world) scope given before_told told old tape mid_tape less flushed)
+      (stretch-more (OpensFit world) scope given (with_number slot sb.dev_number before_told) told new mid_tape tape' (with-told slot sb.dev_number work before_told told below less knows) done)
 
   rise : tells → IsRisen ⊤ old new tape tape'
   rise t = record {

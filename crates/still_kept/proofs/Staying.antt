@@ -37,10 +37,11 @@ use Rattle.moving_kept.specs.kept_history_Safe.{world_in}
 use Rattle.moving_kept.specs.history_calls_Reliable.{IsReliable, AreToldGone}
 use Rattle.moving_kept.proofs.history_calls_Behind.{AreLostOrMissing, IsAmong, early-losses, legal-losses}
 use Rattle.moving_kept.proofs.history_calls_Quiet.{IsQuiet}
+use Rattle.moving_kept.proofs.Refusals.{quiet-refusal}
 use Rattle.still_kept.specs.Still.{IsStill}
 use Rattle.still_kept.proofs.Stood.{stood-moved}
 use Rattle.still_kept.proofs.Quiet.{early-stands}
-use Rattle.still_kept.proofs.Refusals.{quiet-refusal, IsRefusedStill, refused-right, unsynced-behind}
+use Rattle.still_kept.proofs.Refusals.{IsRefusedStill, refused-right, unsynced-behind}
 
 -- ---- members that only moved
 

@@ -1,9 +1,8 @@
 -- How the list stands on members without an active reshape: in the words of one shape and in those of regions, and on fewer members.
-use Rattle.std.proofs.Common.{◌≡◌, inl, ℕ, ◌*◌, ◌/◌, ◌%◌, ◌<◌, true, Option, Some, None, [], refl, sym, ◌∙◌, ap, subst, arith}
+use Rattle.std.proofs.Common.{◌≡◌, ℕ, ◌*◌, ◌/◌, ◌%◌, ◌<◌, Option, Some, None, [], refl, sym, ◌∙◌, ap, subst, arith}
 use Rattle.std.proofs.lemmas.Nat.{mod_below}
 use Rattle.std.proofs.Math.Nat.{div-add-mod'}
 use Rattle.moving_kept.specs.md_base_Sectors.{Sector}
-use Rattle.moving_kept.specs.md_base_Shapes.{is_multiple}
 use Rattle.calls_kept.specs.md_base_the_Place.{Place}
 use Rattle.moving_kept.specs.md_base_the_Shape.{Shape}
 use Rattle.moving_kept.specs.bank_Given.{Given, sizes}
@@ -11,7 +10,7 @@ use Rattle.moving_kept.specs.bank_Tape.{Contents}
 use Rattle.moving_kept.specs.layout_Layout.{place}
 use Rattle.moving_kept.proofs.layout_Places.{chunk_some, data_some, place-sector, place-sector_below, place-row_below, sector_at}
 use Rattle.moving_kept.specs.superblocks_the_Members.{Members}
-use Rattle.moving_kept.specs.superblocks_Reading.{Scope, shape_of, list_length, role_count}
+use Rattle.moving_kept.specs.superblocks_Reading.{Scope, shape_of, list_length}
 use Rattle.moving_kept.specs.row_io_Rows.{reading_of}
 use Rattle.moving_kept.specs.list_io_Full.{RowStands}
 use Rattle.moving_kept.specs.shape_views_Regions.{ArePlaced}
@@ -22,12 +21,12 @@ use Rattle.moving_kept.specs.views_the_Work.{Work}
 use Rattle.moving_kept.specs.views_Lacking.{ListStands, RowsStand, RowsStandAmong, RowsStandBelow, mended_rows}
 use Rattle.moving_kept.specs.views_Moving.{IsMoved}
 use Rattle.moving_kept.specs.views_Placed.{IsPlaced}
-use Rattle.moving_kept.proofs.views_Fit.{valid, multiple, list-alike, force-disks}
+use Rattle.moving_kept.proofs.views_Fit.{valid, multiple, list-alike}
 use Rattle.moving_kept.proofs.views_LackingLists.{list-moved, among-moved}
 use Rattle.moving_kept.proofs.views_Still.{placed-two, backup-still}
-use Rattle.moving_kept.proofs.views_Stripes.{stripes-multiple}
 use Rattle.moving_kept.proofs.array_kept_DegradedLaws.{rebuilt-moved}
 use Rattle.moving_kept.specs.region_rows_Stretches.{RowsStandTo}
+use Rattle.calls_kept.proofs.WriteLaws.{mended-multiple}
 use Rattle.still_kept.specs.Still.{AreAtRest, HasListStood, relied_list}
 
 -- ---- on fewer members
@@ -50,15 +49,6 @@ stood-moved sound work given old new before after list moved was others l = reco
 }
 
 -- ---- in the words of regions
-
--- a role of the shape is one of the array's
-pub within-count : (given : Given) (m : Members) → IsPlaced given m → (role : ℕ) → role < (shape_of m.newest).disks → role < role_count m.newest
-within-count given m placed role below = let within = force-disks m.newest placed.fit (shape_of m.newest) (inl refl) in omega (arith, below, within)
-
--- the mended rows are those of whole stripes
-pub mended-multiple : (given : Given) (m : Members) → IsPlaced given m → (resync : Option ℕ) → is_multiple (mended_rows resync m) (shape_of m.newest).chunk ≡ true
-mended-multiple given m placed None = multiple given m placed
-mended-multiple given m placed (Some mended) = stripes-multiple mended (shape_of m.newest).chunk (chunk_some (shape_of m.newest) (valid given m placed))
 
 module _ (given : Given) (m : Members) (rest : AreAtRest given m) where
   -- no backup is asked of members without a reshape

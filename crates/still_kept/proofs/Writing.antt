@@ -49,12 +49,11 @@ use Rattle.moving_kept.proofs.call_entries_CallLaws.{losses-are, values-losses, 
 use Rattle.moving_kept.proofs.call_entries_LosingLaws.{entries-both}
 use Rattle.moving_kept.proofs.array_kept_DegradedLaws.{written-whole, rows-same}
 use Rattle.moving_kept.proofs.array_kept_KeptLaws.{left-lost}
-use Rattle.moving_kept.proofs.array_kept_LedgerLaws.{torn-adds, written-allowed, torn-in}
+use Rattle.moving_kept.proofs.array_kept_LedgerLaws.{torn-adds, written-allowed, torn-in, unsynced-more}
 use Rattle.moving_kept.proofs.array_kept_NowLaws.{wrote-is}
 use Rattle.moving_kept.specs.kept_history_Recorded.{IsCallGoing, IsLegalCall, entry_of, ends_reshape, gives_some}
 use Rattle.moving_kept.specs.kept_history_Safe.{world_in, IsFilledRight}
 use Rattle.moving_kept.proofs.kept_history_Entered.{AreAdding, values-more, length-adding}
-use Rattle.moving_kept.proofs.kept_history_Ledgers.{unsynced-still}
 use Rattle.moving_kept.proofs.kept_history_Lists.{newest-in}
 use Rattle.moving_kept.specs.history_calls_Reliable.{IsReliable, AreToldGone}
 use Rattle.moving_kept.proofs.history_calls_LastStep.{AreWithin, losses-within}
@@ -329,5 +328,5 @@ module _ (tells : Type 0) (given : Given) (tape tape' : List Operation) (scope :
         where
           pending : tells → is_unsynced (world_in given tape' scope first) (entries ++ entries_of who end (losses_of roles spares ++ Torn at (sectors_of from) ∷ [])) ≡ is_some work.resync
           pending t = unsynced-later given scope first (entries ++ entries_of who end (losses_of roles spares ++ Torn at (sectors_of from) ∷ [])) did.grows begins t
-              ∙ unsynced-still (world_in given tape scope first) entries (entries_of who end (losses_of roles spares ++ Torn at (sectors_of from) ∷ []))
+              ∙ unsynced-more (world_in given tape scope first) entries (entries_of who end (losses_of roles spares ++ Torn at (sectors_of from) ∷ []))
               (ends-losses who end (losses_of roles spares) (Torn at (sectors_of from) ∷ []) (losses-are roles spares)) ∙ was.pending t

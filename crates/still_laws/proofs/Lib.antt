@@ -62,3 +62,6 @@ pub use Rattle.still_kept.proofs.shape_changes_PlannedRoles
 pub use Rattle.still_kept.proofs.shape_changes_Kept
 pub use Rattle.still_kept.proofs.superblock_reads_SaidLists
 pub use Rattle.still_kept.proofs.superblock_reads_SaidSlots
+pub use Rattle.still_kept.proofs.call_entries_BearerLaws
+pub use Rattle.still_kept.proofs.calls_kept_SettledLaws
+pub use Rattle.still_kept.proofs.history_laws_OneShapeGrowing

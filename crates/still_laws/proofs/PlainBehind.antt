@@ -1,11 +1,9 @@
 -- What an array keeps of a history of one shape, by calls that lose slots at most, and by those that enter one event alone.
-use Rattle.std.proofs.Common.{◌≡◌, ◌≢◌, ◌⊎◌, inl, inr, ℕ, zero, suc, ◌+◌, ◌-◌, ◌*◌, ◌/◌, ◌<◌, ◌≤◌, min, Bool, true, false, not, cond, is_some, Option, Some, None, List, [], ◌∷◌, ◌++◌, length, refl, sym, ◌∙◌, ap, subst, arith, append-nil, append_assoc}
+use Rattle.std.proofs.Common.{◌≡◌, ◌≢◌, ◌⊎◌, inl, inr, ℕ, ◌+◌, ◌-◌, ◌*◌, ◌/◌, ◌<◌, ◌≤◌, min, Bool, true, false, not, is_some, Option, Some, None, List, [], ◌∷◌, ◌++◌, length, refl, sym, ◌∙◌, ap, subst, arith, append-nil, append_assoc}
 use Rattle.std.specs.Prelude.{IfSome, IsSome, MatchOption, ⊤}
 use Rattle.std.specs.List.{list_any}
-use Rattle.std.proofs.Math.Nat.{suc-mul, le-min, le_trans}
-use Rattle.std.proofs.lemmas.Bool.{cases_lt}
+use Rattle.std.proofs.Math.Nat.{le_trans}
 use Rattle.std.proofs.lemmas.List.Elements.{All-nil, All-cons}
-use Rattle.still_kept.specs.md_base_Search.{count_below}
 use Rattle.still_kept.specs.md_base_Sectors.{Sector, sectors_of}
 use Rattle.still_kept.specs.md_base_Shapes.{tolerance}
 use Rattle.running_words.specs.md_base_the_Refusal.{Refusal}
@@ -42,7 +40,7 @@ use Rattle.still_kept.specs.views_the_Work.{Work}
 use Rattle.still_kept.specs.views_Lacking.{lacking, AreLostSince, AreTooMany, LacksTooMany, IsUnread, IsUnwritten, ListStands, RowsStandBelow, are_mended, mended_rows}
 use Rattle.still_kept.specs.views_Moving.{Grows, IsMoved}
 use Rattle.still_kept.specs.views_Placed.{AreWhole, IsPlaced, is_vacant, places_of}
-use Rattle.still_kept.specs.views_Status.{stripes_of, rebuilt_of, vacant_count, spare_count, resync_left, role_left, recovery_left, left_of}
+use Rattle.still_kept.specs.views_Status.{stripes_of, vacant_count, spare_count, resync_left, recovery_left, left_of}
 use Rattle.still_kept.specs.views_Whole.{list_size}
 use Rattle.still_kept.proofs.views_Fit.{valid}
 use Rattle.still_kept.proofs.views_LackingLists.{row-sector}
@@ -54,7 +52,7 @@ use Rattle.still_kept.proofs.call_entries_PlainLaws.{one}
 use Rattle.still_kept.proofs.call_entries_StepLaws.{faults-are, call-stepped}
 use Rattle.still_kept.specs.array_kept_Calls.{IsSettling, IsRefusedHere, IsRefusedFor, IsUnmendable}
 use Rattle.still_kept.specs.array_kept_Kept.{AreTold}
-use Rattle.still_kept.proofs.array_kept_DegradedLaws.{told-since, refusal-right, too-many-here, unread-here, unwritten-here, refused-here, pending-of}
+use Rattle.still_kept.proofs.array_kept_DegradedLaws.{told-since, refusal-right, too-many-here, unread-here, unwritten-here, refused-here, pending-of, within-count}
 use Rattle.still_kept.proofs.array_kept_KeptLaws.{left-lost}
 use Rattle.still_kept.proofs.array_kept_NowLaws.{sectors_of-at}
 use Rattle.still_kept.proofs.array_kept_OnlyLaws.{MakeSpares, only-more, only-since}
@@ -64,13 +62,13 @@ use Rattle.still_kept.specs.grow_asked_the_PhasesLeft.{PhasesLeft}
 use Rattle.still_kept.specs.grow_asked_Left.{phases_of}
 use Rattle.still_kept.specs.kept_history_Recorded.{IsCallGoing}
 use Rattle.still_kept.specs.kept_history_Safe.{world_in}
-use Rattle.still_kept.proofs.kept_history_Ledgers.{unsynced-still}
 use Rattle.running_words.specs.Parts.{visible_size, still_left}
 use Rattle.running_words.specs.Plans.{turns_shape, KeepsShape}
 use Rattle.running_words.proofs.VisibleLaws.{visible-within}
 use Rattle.still_kept.specs.Still.{AreAtRest}
 use Rattle.still_kept.proofs.Reading.{visible-behind, now-behind}
-use Rattle.still_kept.proofs.Stood.{within-count}
+use Rattle.still_kept.proofs.array_kept_IdleLaws.{recovered-none, counted-none, min-none, no-resync, times-none}
+use Rattle.still_kept.proofs.array_kept_LedgerLaws.{unsynced-more}
 use Rattle.still_laws.specs.Plain.{MayTellPlainly, AreToldPlainly, IsPlainKept}
 use Rattle.still_laws.specs.Ready.{IsReady}
 use Rattle.still_laws.specs.Steps.{IsEndedRight, MayEndNow, IsStepsReplyNow}
@@ -150,7 +148,7 @@ module _ {tells : Type 0} {given : Given} {tape tape' : List Operation} {scope :
 
   pending-lost : tells → is_unsynced (world_in given tape scope first) (entries ++ entries_of who end (losses_of roles spares)) ≡ is_some work.resync
   pending-lost t =
-      unsynced-still world entries (entries_of who end losses)
+      unsynced-more world entries (entries_of who end losses)
       (alone (λ (l : List Event). list_any (λ e. is_resync_end e.event) (entries_of who end l) ≡ false) (ends-losses who end losses [] (losses-are roles spares)))
       ∙ was.kept.pending t
 
@@ -242,7 +240,7 @@ module _ {tells : Type 0} {given : Given} {tape tape' : List Operation} {scope :
         (
           refusal-behind (TooManyMissing count most) (visible_of (length (opening_list world)) ((entries ++ entries_of who end losses) ++ one who end (Torn at (sectors_of from)) ∷ []))
               ((entries ++ entries_of who end losses) ++ one who end (Torn at (sectors_of from)) ∷ []) many p
-              (unsynced-still world (entries ++ entries_of who end losses) (one who end (Torn at (sectors_of from)) ∷ []) refl ∙ pending-lost t) refl
+              (unsynced-more world (entries ++ entries_of who end losses) (one who end (Torn at (sectors_of from)) ∷ []) refl ∙ pending-lost t) refl
               (told-more new (entries ++ entries_of who end losses) (one who end (Torn at (sectors_of from)) ∷ []) (λ role. refl) (told-lost p)),
           tt,
           tt,
@@ -283,43 +281,6 @@ module _ {tells : Type 0} {given : Given} {tape tape' : List Operation} {scope :
       )) tt
 
 -- ---- nothing is left to do
-
-counted-none : (n : ℕ) (f : ℕ → Bool) → count_below n f ≡ 0 → (k : ℕ) → k < n → f k ≡ true → ⊥
-unfolding count_below
-counted-none zero f none k lt is = omega (arith, lt)
-counted-none (suc n) f none k lt is = elim (cases_lt k n) [
-  | inl below ↦ counted-none n f (let low : count_below n f ≤ 0 = omega (arith, none) in omega (arith, low)) k below is
-  | inr above ↦
-      let same : k ≡ n = omega (arith, lt, above) in
-      let one : ◌≡◌ {A = ℕ} (cond (f n) 1 0) 1 = ap (λ (b : Bool). cond b 1 0) (ap f (sym same) ∙ is) in
-      omega (arith, none, one)
-]
-
-recovered-none : (work : Work) (members : Members) (n : ℕ) → recovery_left work members n ≡ 0 → (role slot : ℕ) → role < n → role_state (reading_of members) role ≡ Recovering slot → ⊥
-unfolding recovery_left
-recovered-none work members zero none role slot lt is = omega (arith, lt)
-recovered-none work members (suc n) none role slot lt is = elim (cases_lt role n) [
-  | inl below ↦ recovered-none work members n (let low : recovery_left work members n ≤ 0 = omega (arith, none) in omega (arith, low)) role slot below is
-  | inr above ↦
-      let same : role ≡ n = omega (arith, lt, above) in
-      let some : role_left (stripes_of members) (rebuilt_of work n) (role_state (reading_of members) n) ≡ stripes_of members - rebuilt_of work n + 1 =
-      ap (role_left (stripes_of members) (rebuilt_of work n)) (subst (λ (r : ℕ). role_state (reading_of members) r ≡ Recovering slot) same is) in
-      omega (arith, none, some)
-]
-
-times-none : (a k : ℕ) → a * (k + 2) ≡ 0 → a ≡ 0
-times-none zero k none = refl
-times-none (suc n) k none = absurd (let more = suc-mul n (k + 2) in omega (arith, none, more))
-
-min-none : (a b : ℕ) → min a b ≡ 0 → (a ≡ 0) ⊎ (b ≡ 0)
-min-none a b none = elim (cases_lt a b) [
-  | inl below ↦ inl (let low : a ≤ min a b = le-min (omega arith) (omega (arith, below)) in omega (arith, low, none))
-  | inr above ↦ inr (let low : b ≤ min a b = le-min above (omega arith) in omega (arith, low, none))
-]
-
-no-resync : (resync : Option ℕ) (members : Members) → resync_left resync members ≡ 0 → is_some resync ≡ false
-no-resync None members none = refl
-no-resync (Some mended) members none = absurd (omega (arith, none))
 
 module _ {given : Given} {members : Members} {entries : List Entry} (world : World) (work : Work) (rest : AreAtRest given members) (kept : IsPlainKept world members entries)
     (pending : is_unsynced world entries ≡ is_some work.resync) (none : left_of work members ≡ 0) where

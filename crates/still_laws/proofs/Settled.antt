@@ -28,9 +28,10 @@ use Rattle.still_kept.proofs.call_entries_CallLaws.{told-losses}
 use Rattle.still_kept.specs.array_kept_Calls.{IsSettling}
 use Rattle.still_kept.specs.kept_history_Recorded.{IsCallGoing}
 use Rattle.still_kept.specs.Still.{IsStill}
-use Rattle.still_kept.proofs.Flushing.{IsFlushedStill, IsSettledStill, all-mended, flushed-stands, stopped-stands}
+use Rattle.still_kept.proofs.Flushing.{IsFlushedStill, IsSettledStill, flushed-stands, stopped-stands}
 use Rattle.running_words.specs.Still.{AreLeftSettled}
 use Rattle.running_words.proofs.Lengths.{IsLengthKept, alone-keeps}
+use Rattle.still_kept.proofs.calls_kept_SettledLaws.{all-mended}
 
 -- a flush and a stop leave the length of the list
 pub settling-keeps : (who : Who) (end : ℕ) (event : Event) → IsSettling event → IsLengthKept (entries_of who end (event ∷ []))

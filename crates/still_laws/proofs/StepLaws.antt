@@ -34,10 +34,10 @@ use Rattle.still_kept.specs.kept_history_Safe.{world_in}
 use Rattle.still_kept.specs.Still.{IsStill}
 use Rattle.still_kept.proofs.Refusals.{IsRefusedStill, too-many-refused, refused-right}
 use Rattle.still_kept.proofs.Resting.{resting-stands}
-use Rattle.still_kept.proofs.Stood.{within-count}
 use Rattle.running_words.specs.Parts.{RunningParts, still_left}
 use Rattle.running_words.proofs.Called.{not_254}
 use Rattle.running_words.proofs.Lengths.{IsLengthKept, behind-keeps}
+use Rattle.still_kept.proofs.array_kept_DegradedLaws.{within-count}
 use Rattle.still_laws.specs.Steps.{IsStepped}
 
 pub refused-of : (Why : Refusal → Type 0) (o : Option Refusal) (refusal : Refusal) → o ≡ Some refusal → MatchOption o ⊤ Why → Why refusal

@@ -44,9 +44,10 @@ use Rattle.still_kept.specs.kept_history_Recorded.{IsCallGoing}
 use Rattle.still_kept.specs.kept_history_Safe.{world_in}
 use Rattle.still_kept.specs.Still.{AreAtRest, IsStill}
 use Rattle.still_kept.proofs.Leaving.{rest-moved}
-use Rattle.still_kept.proofs.Stood.{mended-moved, mended-multiple}
+use Rattle.still_kept.proofs.Stood.{mended-moved}
 use Rattle.still_kept.proofs.Writing.{IsPutStill, IsWrittenStill, unwritten-stands, torn-stands}
 use Rattle.running_words.proofs.Called.{risen-told}
+use Rattle.still_kept.proofs.calls_kept_WriteLaws.{mended-multiple}
 use Rattle.still_laws.proofs.Reading.{unwritten-still}
 
 -- ---- rows whose parity is to be relied on

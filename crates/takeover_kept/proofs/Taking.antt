@@ -50,7 +50,6 @@ use Rattle.still_kept.proofs.views_HeldRows.{missing-moved}
 use Rattle.still_kept.proofs.views_SoundViews.{throughout-changed}
 use Rattle.still_kept.specs.call_entries_Losing.{losses_of}
 use Rattle.still_kept.proofs.call_entries_CallLaws.{AreLossEvents, losses-are}
-use Rattle.still_kept.proofs.call_entries_PlainLaws.{last_end-call}
 use Rattle.still_kept.specs.kept_history_Recorded.{IsHistoryKept, IsLegalCall, IsReshapedCall, IsCallGoing, entry_of, ends_reshape, gives_some}
 use Rattle.still_kept.specs.kept_history_Safe.{world_in, IsFilledRight, IsSafeHistory}
 use Rattle.still_kept.specs.kept_history_Told.{told_now, told_by}
@@ -58,7 +57,7 @@ use Rattle.still_kept.proofs.kept_history_Calls.{now-live}
 use Rattle.still_kept.proofs.kept_history_Entered.{AreAdding, told-adding, settle-none, values-more, values-adding, length-adding, gone-was, gone-lost}
 use Rattle.still_kept.proofs.kept_history_Growing.{reading-grown, opening-grown, gone-grown, unsynced-grown, now-grown, room-before, room-now}
 use Rattle.still_kept.proofs.kept_history_KeptCalls.{kept-call}
-use Rattle.still_kept.proofs.kept_history_Ledgers.{any-gone, unclean-now, unsynced-still, none-ends}
+use Rattle.still_kept.proofs.kept_history_Ledgers.{any-gone, unclean-now}
 use Rattle.still_kept.proofs.kept_history_Lengths.{now-drawn}
 use Rattle.still_kept.proofs.kept_history_Longer.{regains-none}
 use Rattle.still_kept.proofs.kept_history_Reshapes.{call-ends_none}
@@ -71,6 +70,9 @@ use Rattle.moving_ends.proofs.history_calls_Plans.{behind-all, ArePlannedTo, pla
 use Rattle.moving_ends.specs.moving_kept_Moving.{HasListStill, IsStillKept}
 use Rattle.moving_ends.proofs.moving_kept_Beginning.{safe-over}
 use Rattle.moving_ends.proofs.Consistent.{consistent-at}
+use Rattle.moving_ends.proofs.Ended.{disturbs-entries}
+use Rattle.still_kept.proofs.array_kept_LedgerLaws.{none-ends, unsynced-more}
+use Rattle.still_kept.proofs.history_laws_OneShapeGrowing.{call-ends}
 use Rattle.takeover_kept.proofs.TakenMembers.{IsTaken, still-then, taken-then, taken-long, stands-then, rows-then}
 
 -- What the takeover of a level leaves: its members are the plan's, but for lost slots; its update is safe from one ledger to another; and what is missing then was missing, or is told lost, or is
@@ -97,10 +99,6 @@ come-losses [] are = refl
 come-losses (Lost role Fault ∷ xs) are = come-losses xs are
 come-losses (SpareLost slot ∷ xs) are = come-losses xs are
 come-losses (event ∷ xs) are = absurd are
-
-disturbs-entries : (who : Who) (end : ℕ) (xs : List Event) → list_any (λ e. disturbs e.event) (entries_of who end xs) ≡ list_any disturbs xs
-disturbs-entries who end [] = refl
-disturbs-entries who end (x ∷ xs) = ap (λ (b : Bool). disturbs x || b) (disturbs-entries who end xs)
 
 -- a level that has another tolerance is turned
 turned-up : (level : ℕ) → tolerance_of level ≡ 1 → (level == 6) ≡ false
@@ -330,7 +328,7 @@ module _ (given : Given) (tape : List Operation) (scope : Scope) (first : ℕ) (
 
   -- a resync is as pending
   pub taken-unsynced : is_unsynced later all ≡ is_unsynced world entries
-  taken-unsynced = unsynced-grown world ops begun all ∙ unsynced-still world entries added (none-ends added (settle-none added adds-all))
+  taken-unsynced = unsynced-grown world ops begun all ∙ unsynced-more world entries added (none-ends added (settle-none added adds-all))
 
   -- ---- the list
 
@@ -417,7 +415,7 @@ module _ (given : Given) (tape : List Operation) (scope : Scope) (first : ℕ) (
   taken-recorded goes caller =
       kept-call (IsReliable world entries) (IsReliable later all) world ops (list_length old.newest) (list_length new.newest) entries who (Step TakenOver left ∷ losses_of roles spares) goes recorded taken-before caller
       (λ right. inr gives-all)
-      (length-adding (length (opening_list world)) entries added adds-all ∙ recorded.sized ∙ sym long) (last_end-call first entries who end (Step TakenOver left) (losses_of roles spares))
+      (length-adding (length (opening_list world)) entries added adds-all ∙ recorded.sized ∙ sym long) (call-ends first entries who end (Step TakenOver left) (losses_of roles spares))
       (λ right. taken-legal) taken-right
 
   -- ---- each mark

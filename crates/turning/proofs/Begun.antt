@@ -1,12 +1,12 @@
 -- What the begin of a reshape leaves, from what `begin` of `reshape_ends` says of it: the array keeps its record in the reshape.
-use Rattle.std.proofs.Common.{◌≡◌, ◌≢◌, ◌⊎◌, inl, inr, ℕ, ◌+◌, ◌-◌, ◌*◌, ◌<◌, ◌≤◌, ◌&&◌, ◌||◌, nat_le, nat_lt, min, Bool, true, false, not, cond, Option, Some, None, List, [], ◌∷◌, ◌++◌, length, refl, sym, ◌∙◌, ap, subst, arith, append-nil}
+use Rattle.std.proofs.Common.{◌≡◌, ◌≢◌, ◌⊎◌, inl, inr, ℕ, ◌+◌, ◌-◌, ◌*◌, ◌<◌, ◌≤◌, ◌&&◌, ◌||◌, nat_le, nat_lt, Bool, true, false, not, cond, Option, Some, None, List, [], ◌∷◌, ◌++◌, length, refl, sym, ◌∙◌, ap, subst, arith, append-nil}
 use Rattle.std.specs.Prelude.{if◌then◌else◌, IfSome, is_some, fold}
 use Rattle.std.specs.List.{list_any, All}
 use Rattle.std.proofs.lemmas.Bool.Decides.{nat_tests}
 use Rattle.std.proofs.lemmas.List.Elements.{All-nil, All-cons}
 use Rattle.std.proofs.lemmas.List.Folds.{list_any-append}
 use Rattle.std.proofs.lemmas.List.Sums.{fold-append}
-use Rattle.moving_steps.specs.md_base_Shapes.{has_slot, data_disks}
+use Rattle.moving_steps.specs.md_base_Shapes.{has_slot}
 use Rattle.moving_steps.specs.md_base_the_Refusal.{Refusal}
 use Rattle.moving_steps.specs.md_base_the_Refusal_TheVariants.{BackupAbsent}
 use Rattle.moving_steps.specs.md_base_the_Who.{Who}
@@ -71,9 +71,9 @@ use Rattle.moving_steps.proofs.kept_history_Tests.{neither}
 use Rattle.moving_steps.proofs.history_calls_Behind.{IsAmong, early-losses}
 use Rattle.moving_steps.specs.course_kept_Laws.{closed}
 use Rattle.moving_steps.specs.moving_kept_Moving.{IsMoving}
-use Rattle.moving_steps.proofs.moving_kept_BegunCall.{IsBegunBy}
+use Rattle.moving_steps.proofs.moving_kept_BegunCall.{IsBegunBy, begun-length}
 use Rattle.moving_steps.proofs.moving_kept_BegunMembers.{array-begins}
-use Rattle.moving_steps.proofs.moving_kept_Shortened.{array-shortens}
+use Rattle.moving_ends.proofs.Shortened.{array-shortens}
 use Rattle.moving_steps.proofs.still_kept_Bridges.{stands-kept}
 use Rattle.moving_steps.specs.running_words_Parts.{still_left}
 use Rattle.moving_steps.proofs.running_words_Called.{not_254}
@@ -144,16 +144,6 @@ fits-there want most false here enough = absurd (cc)
 -- the sectors of each window
 begun-reach : (former newest : Sb) (to : Shape) → HasBegun former to newest → reach_of newest ≡ phase_window (shape_of former) former.size (Reshape to)
 begun-reach former newest to has = λ i. phase_window (has.old i) (has.size i) (Reshape (has.new i))
-
-least : (a b : ℕ) → nat_lt b a ≡ false → min a b ≡ min a a
-least a b is = grind (arith, nat_tests, is)
-
--- a reshape to no fewer data disks leaves the length of the list
-pub begun-long : (former newest : Sb) (to : Shape) → HasBegun former to newest → is_reshaping former ≡ false → goes_back (shape_of former) to ≡ false → list_length newest ≡ list_length former
-begun-long former newest to has still forward =
-    (λ i. min (data_disks (has.old i)) (data_disks (has.new i)) * has.size i)
-    ∙ ap (λ (n : ℕ). n * former.size) (least (data_disks (shape_of former)) (data_disks to) forward)
-    ∙ ap (λ (s : Shape). min (data_disks (shape_of former)) (data_disks s) * former.size) (sym (final-still former still))
 
 pub begun-start : (former newest : Sb) (to : Shape) → HasBegun former to newest → IsAtStartOf former to newest
 begun-start former newest to has = record {
@@ -342,7 +332,7 @@ module _ {tells : Type 0} {given : Given} {tape tape' : List Operation} {first :
   tells-length : (b : Bool) → goes_back (shape_of old.newest) to ≡ b
       → length_of (list_length new.newest) (entries ++ entries_of who end (Step Begun (left_by None new (closed 0) behind) ∷ begun_length b (list_length new.newest) ++ losses_of roles spares)) ≡ list_length new.newest
   tells-length false forward =
-      subst (λ (n : ℕ). length_of n (entries ++ entries_of who end (Step Begun (left_by None new (closed 0) behind) ∷ losses_of roles spares)) ≡ n) (sym (begun-long old.newest new.newest to did.newest still forward))
+      subst (λ (n : ℕ). length_of n (entries ++ entries_of who end (Step Begun (left_by None new (closed 0) behind) ∷ losses_of roles spares)) ≡ n) (sym (begun-length old.newest new.newest to did.newest still forward))
       (length-more (list_length old.newest) entries (entries_of who end (Step Begun (left_by None new (closed 0) behind) ∷ losses_of roles spares)) was.sized ((losses-keep who end roles spares).long (list_length old.newest)))
   tells-length true backward =
       fold-append (λ m e. length_after m e.event) (list_length new.newest) entries (entries_of who end (Step Begun (left_by None new (closed 0) behind) ∷ Resized (list_length new.newest) ∷ losses_of roles spares))

@@ -53,7 +53,6 @@ use Rattle.moving_steps.specs.grow_asked_Left.{zeroed_by}
 use Rattle.moving_steps.specs.kept_history_Recorded.{IsCallGoing}
 use Rattle.moving_steps.specs.kept_history_Safe.{world_in, TakesNone, KeepsLevel}
 use Rattle.moving_steps.proofs.kept_history_Entered.{lost-taken}
-use Rattle.moving_steps.proofs.kept_history_Ledgers.{unsynced-still}
 use Rattle.moving_steps.proofs.kept_history_Tests.{neither}
 use Rattle.moving_steps.proofs.history_calls_Behind.{IsAmong}
 use Rattle.moving_steps.specs.course_kept_Laws.{closed}
@@ -67,6 +66,7 @@ use Rattle.moving_steps.proofs.still_kept_Bridges.{kept-again}
 use Rattle.moving_steps.proofs.still_kept_Leaving.{unsynced-later}
 use Rattle.moving_steps.specs.running_words_Parts.{still_left}
 use Rattle.moving_steps.proofs.moving_laws_Kept.{left_by}
+use Rattle.moving_steps.proofs.array_kept_LedgerLaws.{unsynced-more}
 
 -- ---- what is entered
 
@@ -233,7 +233,7 @@ module _ {tells : Type 0} {given : Given} {tape tape' : List Operation} {scope :
       (subst (λ (o : Option ℕ). IfSome o (λ n. n ≡ still_left work new ahead)) (sym (fold-append (λ left e. left_after left e.event) None entries added))
       (ended-left who end (still_left work new ahead) late late_spares (list_length new.newest) (nat_lt (list_length old.newest) (list_length new.newest)) (losses_of roles spares) (losses-are roles spares) (told_left entries)))
       (λ t. unsynced-later given scope first (entries ++ added) did.grows (λ u. (was.recorded u).begun) t
-      ∙ unsynced-still (world_in given tape scope first) entries added (ended-ends who end roles spares (still_left work new ahead) late late_spares (list_length new.newest) (nat_lt (list_length old.newest) (list_length new.newest)))
+      ∙ unsynced-more (world_in given tape scope first) entries added (ended-ends who end roles spares (still_left work new ahead) late late_spares (list_length new.newest) (nat_lt (list_length old.newest) (list_length new.newest)))
       ∙ settled t)
       (full was_whole)
 

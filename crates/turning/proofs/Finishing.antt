@@ -67,7 +67,7 @@ use Rattle.moving_steps.proofs.course_mends_Mended.{mended-courses-move}
 use Rattle.moving_steps.specs.moving_kept_Moving.{IsMoving}
 use Rattle.moving_steps.proofs.moving_kept_Staying.{refused-moves}
 use Rattle.moving_steps.proofs.moving_kept_Steps.{missing-since}
-use Rattle.moving_ends.proofs.Ended.{IsStepped}
+use Rattle.moving_ends.proofs.Ended.{IsStepped, disturbs-entries}
 use Rattle.moving_ends.proofs.EndedCall.{ended-since}
 use Rattle.moving_ends.proofs.Ending.{length_by}
 use Rattle.moving_steps.proofs.moving_laws_Kept.{left_by, left-moved, live-of}
@@ -234,10 +234,6 @@ no-both xs ys none = by (list_any disturbs xs) (list_any disturbs ys) (sym (list
     by true b is = absurd (cc)
     by false b is = (refl, is)
 
-of-entries : (who : Who) (end : ℕ) (xs : List Event) → list_any (λ e. disturbs e.event) (entries_of who end xs) ≡ list_any disturbs xs
-of-entries who end [] = refl
-of-entries who end (x ∷ xs) = ap (λ (b : Bool). disturbs x || b) (of-entries who end xs)
-
 -- where the call tells no loss, none was lost
 pub none-lost : (entries later : List Entry) (who : Who) (end roles spares left n late late_spares : ℕ) (longer : Bool)
     → later ≡ entries ++ entries_of who end (losses_of roles spares ++ Step Finished left ∷ (length_by longer n ++ losses_of late late_spares)) → TellNoLoss entries later
@@ -253,7 +249,7 @@ none-lost entries later who end roles spares left n late late_spares longer is n
     fails false is = refl
 
     quiet : list_any disturbs (losses_of roles spares ++ Step Finished left ∷ (length_by longer n ++ losses_of late late_spares)) ≡ false
-    quiet = fails (list_any disturbs (losses_of roles spares ++ Step Finished left ∷ (length_by longer n ++ losses_of late late_spares))) (sym (ap not (ap (list_any (λ e. disturbs e.event)) last ∙ of-entries who end (losses_of roles spares ++ Step Finished left ∷ (length_by longer n ++ losses_of late late_spares)))) ∙ none)
+    quiet = fails (list_any disturbs (losses_of roles spares ++ Step Finished left ∷ (length_by longer n ++ losses_of late late_spares))) (sym (ap not (ap (list_any (λ e. disturbs e.event)) last ∙ disturbs-entries who end (losses_of roles spares ++ Step Finished left ∷ (length_by longer n ++ losses_of late late_spares)))) ∙ none)
 
     parts : (list_any disturbs (losses_of roles spares) ≡ false) × (list_any disturbs (Step Finished left ∷ (length_by longer n ++ losses_of late late_spares)) ≡ false)
     parts = no-both (losses_of roles spares) (Step Finished left ∷ (length_by longer n ++ losses_of late late_spares)) quiet

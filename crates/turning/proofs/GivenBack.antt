@@ -32,9 +32,10 @@ use Rattle.moving_steps.specs.kept_history_Safe.{world_in}
 use Rattle.moving_steps.proofs.history_calls_Behind.{AreEarly}
 use Rattle.moving_steps.specs.still_kept_Still.{HasListStood, IsStill}
 use Rattle.moving_steps.proofs.still_kept_Quiet.{early-stands}
-use Rattle.moving_steps.proofs.still_kept_Refusals.{quiet-refusal, IsRefusedStill, refused-right}
+use Rattle.moving_steps.proofs.still_kept_Refusals.{IsRefusedStill, refused-right}
 use Rattle.moving_steps.proofs.still_kept_Resting.{resting-stands}
 use Rattle.moving_steps.proofs.running_words_Called.{not_254, risen-told}
+use Rattle.moving_steps.proofs.moving_kept_Refusals.{quiet-refusal}
 use Rattle.turning.specs.Begun.{IsPlain}
 
 -- ---- refusals

@@ -60,3 +60,5 @@ pub use Rattle.moving_steps.proofs.layout_Limits
 pub use Rattle.moving_steps.proofs.superblocks_ValidFields
 pub use Rattle.moving_steps.proofs.moving_laws_WriteLaws
 pub use Rattle.still_steps.proofs.still_laws_RebuildLaws
+pub use Rattle.moving_steps.proofs.array_kept_RecordLaws
+pub use Rattle.moving_steps.proofs.array_kept_DegradedLaws

@@ -42,7 +42,7 @@ use Rattle.moving_steps.proofs.views_LiveLeft.{holder-left}
 use Rattle.moving_steps.proofs.views_MarkLaws.{role_from-found}
 use Rattle.moving_steps.proofs.history_calls_Behind.{IsAmong}
 use Rattle.moving_steps.specs.still_kept_Still.{AreNoneMissing}
-use Rattle.moving_steps.proofs.still_kept_Stood.{within-count}
+use Rattle.moving_steps.proofs.array_kept_DegradedLaws.{within-count}
 use Rattle.turning.specs.Begun.{CanBegin}
 use Rattle.moving_steps.proofs.views_MarkLaws.{holder-held}
 

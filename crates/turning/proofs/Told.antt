@@ -10,7 +10,6 @@ use Rattle.moving_steps.specs.views_Lacking.{AreTooMany}
 use Rattle.moving_steps.specs.views_Moving.{Grows}
 use Rattle.moving_steps.specs.array_kept_Calls.{IsBehind}
 use Rattle.moving_steps.specs.grow_asked_the_PhasesLeft.{PhasesLeft}
-use Rattle.moving_steps.specs.running_words_Calls.{IsCalled}
 use Rattle.moving_steps.specs.running_words_Parts.{RunningParts}
 use Rattle.turning.specs.Begun.{IsReshapeBegun, IsGivenBack, IsBeginRefused}
 use Rattle.turning.specs.Ended.{IsReshapeEnded}
@@ -41,13 +40,6 @@ pub behind-as : {B : Type 0} (who : Who) (event : Event) (old new old' new' : Ru
 behind-as {B} who event old new old' new' old-is new-is told =
     subst (λ (x : RunningParts B). IsBehind who x.parts.entries new.parts.entries event) (sym old-is)
     (subst (λ (y : RunningParts B). IsBehind who old'.parts.entries y.parts.entries event) (sym new-is) told)
-
-pub called-as : {B : Type 0} {tells : Type 0} (given : B → Given) (tape : B → List Operation) (faults : B → ℕ → ℕ) (old new old' new' : RunningParts B) → old ≡ old' → new ≡ new'
-    → IsCalled tells (given old'.parts.bank) (tape old'.parts.bank) (tape new'.parts.bank) (faults old'.parts.bank) (faults new'.parts.bank) old' new'
-    → IsCalled tells (given old.parts.bank) (tape old.parts.bank) (tape new.parts.bank) (faults old.parts.bank) (faults new.parts.bank) old new
-called-as {B} {tells} given tape faults old new old' new' old-is new-is told =
-    subst (λ (x : RunningParts B). IsCalled tells (given x.parts.bank) (tape x.parts.bank) (tape new.parts.bank) (faults x.parts.bank) (faults new.parts.bank) x new) (sym old-is)
-    (subst (λ (y : RunningParts B). IsCalled tells (given old'.parts.bank) (tape old'.parts.bank) (tape y.parts.bank) (faults old'.parts.bank) (faults y.parts.bank) old' y) (sym new-is) told)
 
 pub back-as : {B : Type 0} {tells : Type 0} (given : B → Given) (tape : B → List Operation) (who : Who) (refusal : Refusal) (old new old' new' : RunningParts B) → old ≡ old' → new ≡ new'
     → IsGivenBack tells (given old'.parts.bank) (tape old'.parts.bank) (tape new'.parts.bank) who refusal old' new'

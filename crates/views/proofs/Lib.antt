@@ -1,4 +1,3 @@
-pub mod BearerLaws
 pub mod Counts
 pub mod Fit
 pub mod WholeLaws
@@ -18,7 +17,6 @@ pub mod PutLists
 pub mod Stripes
 pub mod AddedMembers
 pub mod AddedRows
-pub mod MarkEnds
 pub mod LiveLeft
 pub mod MarkedSafe
 pub mod SoundViews
@@ -99,3 +97,5 @@ pub use Rattle.role_changes.proofs.row_io_RowBytes
 pub use Rattle.role_changes.proofs.row_io_Tables
 pub use Rattle.role_changes.proofs.row_io_Turns
 pub use Rattle.role_changes.proofs.row_io_Written
+pub use Rattle.role_changes.proofs.md_base_Tabulated
+pub use Rattle.role_changes.proofs.superblocks_SlotSets

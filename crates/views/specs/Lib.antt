@@ -69,3 +69,4 @@ pub use Rattle.role_changes.specs.list_io_the_Unavailable_TheVariants
 pub use Rattle.role_changes.specs.parity_Rows
 pub use Rattle.role_changes.specs.region_laws_Regions
 pub use Rattle.role_changes.specs.row_io_Writes
+pub use Rattle.role_changes.specs.md_base_Shapes

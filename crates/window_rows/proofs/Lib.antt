@@ -87,7 +87,6 @@ pub use Rattle.reshape_ends.proofs.views_LackingLaws
 pub use Rattle.reshape_ends.proofs.views_LackingLists
 pub use Rattle.reshape_ends.proofs.views_LackingWrites
 pub use Rattle.reshape_ends.proofs.views_LiveLeft
-pub use Rattle.reshape_ends.proofs.views_MarkEnds
 pub use Rattle.reshape_ends.proofs.views_MarkLaws
 pub use Rattle.reshape_ends.proofs.views_MarkedLaws
 pub use Rattle.reshape_ends.proofs.views_MarkedSafe
@@ -99,3 +98,4 @@ pub use Rattle.reshape_ends.proofs.views_SafeStretch
 pub use Rattle.reshape_ends.proofs.views_SoundViews
 pub use Rattle.reshape_ends.proofs.views_Still
 pub use Rattle.reshape_ends.proofs.views_Stripes
+pub use Rattle.reshape_ends.proofs.safe_updates_MarkEnds

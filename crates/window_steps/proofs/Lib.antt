@@ -49,7 +49,6 @@ pub use Rattle.window_rows.proofs.shape_changes_FitKinds
 pub use Rattle.window_rows.proofs.shape_changes_ChangeViews
 pub use Rattle.window_rows.proofs.shape_changes_Started
 pub use Rattle.window_rows.proofs.shape_ends_GrownStanding
-pub use Rattle.window_rows.proofs.views_MarkEnds
 pub use Rattle.window_rows.proofs.shape_views_SoundViews
 pub use Rattle.window_rows.proofs.shape_views_Standing
 pub use Rattle.window_rows.proofs.views_GivenMembers
@@ -87,3 +86,4 @@ pub use Rattle.window_rows.proofs.reshape_ends_BeginLaws
 pub use Rattle.window_rows.proofs.reshape_ends_Cleared
 pub use Rattle.window_rows.proofs.reshape_ends_FinishLaws
 pub use Rattle.window_rows.proofs.reshape_ends_Made
+pub use Rattle.window_rows.proofs.safe_updates_MarkEnds

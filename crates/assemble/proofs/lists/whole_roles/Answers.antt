@@ -1,7 +1,7 @@
 use Rattle.std.proofs.Common.{◌≡◌, ◌++◌, [], ◌∷◌, List, length, sym, ap, ◌∙◌, arith}
-use Rattle.array_kept.specs.md_base_the_Role.{Role}
-use Rattle.array_kept.specs.md_base_the_Role_TheVariants.{Whole}
-use Rattle.array_kept.proofs.md_base_Tabulated.{length-tabulate}
+use Rattle.found_members.specs.md_base_the_Role.{Role}
+use Rattle.found_members.specs.md_base_the_Role_TheVariants.{Whole}
+use Rattle.found_members.proofs.md_base_Tabulated.{length-tabulate}
 use Rattle.assemble.proofs.EntryLaws.{tabulated-none, tabulated-more}
 use Rattle.assemble.proofs.lists.whole_roles.Goals as goal
 

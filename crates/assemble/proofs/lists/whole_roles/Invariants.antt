@@ -1,6 +1,6 @@
 use Rattle.std.proofs.Common.{◌≡◌}
-use Rattle.array_kept.specs.md_base_the_Role_TheVariants.{Whole}
-use Rattle.array_kept.specs.md_base_Search.{tabulate}
+use Rattle.found_members.specs.md_base_the_Role_TheVariants.{Whole}
+use Rattle.found_members.specs.md_base_Search.{tabulate}
 use Rattle.assemble.proofs.lists.whole_roles.Given as goal
 
 abbrev pub invariant-loop-role : goal.invariant-loop-role

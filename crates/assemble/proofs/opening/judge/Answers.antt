@@ -1,6 +1,7 @@
 use Rattle.std.proofs.Common.{inr, refl, sym, ◌∙◌, slice_index, arith}
 use Rattle.assemble.specs.Looking.{lengths_scope}
-use Rattle.assemble.proofs.Judged.{elected-valid, backup-refused}
+use Rattle.found_members.proofs.Elected.{elected-valid}
+use Rattle.assemble.proofs.Judged.{backup-refused}
 use Rattle.assemble.proofs.opening.judge.Goals as goal
 
 pub backup_refusal-requires-clause-shapes : goal.backup_refusal-requires-clause-shapes

@@ -1,5 +1,5 @@
 use Rattle.std.proofs.Common.{◌≡◌, ◌<◌, ◌≤◌, ℕ, None, cond, length, get_or}
-use Rattle.array_kept.specs.md_base_Shapes.{has_slot}
+use Rattle.found_members.specs.md_base_Shapes.{has_slot}
 use Rattle.assemble.proofs.slots.forget.Given as goal
 
 -- those below this slot are done

@@ -1,10 +1,10 @@
 use Rattle.std.proofs.Common.{◌≡◌, ℕ, List, length, subst, sym, ap, ◌∙◌, nat_lt}
 use Rattle.std.specs.Prelude.{not, ◌&&◌}
-use Rattle.array_kept.specs.md_base_Shapes.{has_slot}
+use Rattle.found_members.specs.md_base_Shapes.{has_slot}
 use Rattle.bank.specs.declared.bank.Operation.{Operation}
 use Rattle.bank.specs.Given.{Given}
 use Rattle.bank.specs.Tape.{Contents, contents}
-use Rattle.array_kept.specs.superblocks_Found.{AreInSectors}
+use Rattle.found_members.specs.superblocks_Found.{AreInSectors}
 use Rattle.safe_additions.specs.views_Flushing.{AreTried, OnlyFlushesAdded, OnlyItsSlotsFail}
 use Rattle.safe_additions.proofs.views_Flushed.{contents-added}
 use Rattle.assemble.proofs.LookedAt.{aside-left, writable-left, sectors-left, seen-given, rest-none}

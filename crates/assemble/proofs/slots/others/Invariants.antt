@@ -1,6 +1,6 @@
 use Rattle.std.proofs.Common.{◌≡◌, ℕ, nat_lt}
 use Rattle.std.specs.Prelude.{not, ◌&&◌}
-use Rattle.array_kept.specs.md_base_Shapes.{has_slot}
+use Rattle.found_members.specs.md_base_Shapes.{has_slot}
 use Rattle.assemble.proofs.slots.others.Given as goal
 
 -- those below this slot

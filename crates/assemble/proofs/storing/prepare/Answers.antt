@@ -1,7 +1,7 @@
 use Rattle.std.proofs.Common.{List, ℕ, drop, length, sym, ap, ◌∙◌, arith}
 use Rattle.std.proofs.lemmas.List.{length-drop}
-use Rattle.array_kept.specs.sb1_the_Sb.{Sb}
-use Rattle.array_kept.specs.sb1_Superblock.{checksum}
+use Rattle.found_members.specs.sb1_the_Sb.{Sb}
+use Rattle.found_members.specs.sb1_Superblock.{checksum}
 use Rattle.assemble.specs.Making.{created_sb}
 use Rattle.assemble.proofs.FillLaws.{last-entries, made-of}
 use Rattle.assemble.proofs.storing.prepare.Goals as goal

@@ -4,7 +4,7 @@ use Rattle.bank.specs.declared.bank.Operation.{Operation}
 use Rattle.bank.specs.declared.bank.Operation.TheVariants.{Write, Flush}
 use Rattle.bank.specs.Given.{Given, IsPlace, HasCause}
 use Rattle.bank.proofs.Causes.{cause_after_ok}
-use Rattle.array_kept.specs.sb1_the_Sb.{Sb}
+use Rattle.found_members.specs.sb1_the_Sb.{Sb}
 use Rattle.safe_additions.specs.row_io_Rows.{present}
 use Rattle.assemble.specs.Filling.{IsMade}
 use Rattle.assemble.proofs.FillLaws.{below-did, below-then, below-none, put-here, put-rows, put-done, stored-in, halves-in, second-read}

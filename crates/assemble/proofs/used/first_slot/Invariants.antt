@@ -1,5 +1,5 @@
 use Rattle.std.proofs.Common.{◌≡◌, ◌<◌, ℕ, false}
-use Rattle.array_kept.specs.md_base_Shapes.{has_slot}
+use Rattle.found_members.specs.md_base_Shapes.{has_slot}
 use Rattle.assemble.proofs.used.first_slot.Given as goal
 
 abbrev pub invariant-loop-slot : goal.invariant-loop-slot

@@ -3,8 +3,8 @@ use Rattle.std.specs.Prelude.{◌&&◌, is_some, slice_index_or}
 use Rattle.std.proofs.lemmas.Bool.{cases_lt}
 use Rattle.std.proofs.lemmas.Bool.Decides.{nat_tests}
 use Rattle.bank.proofs.md_base_Least.{least_below-none}
-use Rattle.array_kept.specs.sb1_the_Sb.{Sb}
-use Rattle.array_kept.specs.superblocks_Reading.{of_array}
+use Rattle.found_members.specs.sb1_the_Sb.{Sb}
+use Rattle.found_members.specs.superblocks_Reading.{of_array}
 use Rattle.assemble.proofs.CreateLaws.{least_below-reached}
 use Rattle.assemble.proofs.used.used_slot.Goals as goal
 

@@ -1,6 +1,6 @@
 use Rattle.std.proofs.Common.{◌≡◌, ◌≤◌, ◌<◌, ℕ, None, false}
 use Rattle.std.specs.Prelude.{is_some, slice_index_or}
-use Rattle.array_kept.specs.superblocks_Reading.{of_array}
+use Rattle.found_members.specs.superblocks_Reading.{of_array}
 use Rattle.assemble.proofs.used.used_slot.Given as goal
 
 -- none of the slots before this one is used

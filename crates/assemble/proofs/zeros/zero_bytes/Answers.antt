@@ -1,5 +1,5 @@
 use Rattle.std.proofs.Common.{refl}
-use Rattle.array_kept.specs.md_base_Sectors.{zero_sector}
+use Rattle.found_members.specs.md_base_Sectors.{zero_sector}
 use Rattle.assemble.proofs.zeros.zero_bytes.Goals as goal
 
 pub returns : goal.returns

@@ -1,5 +1,5 @@
 use Rattle.std.proofs.Common.{◌≡◌, ◌≢◌, ◌+◌, ◌<◌, ℕ}
-use Rattle.array_kept.specs.md_base_Sectors.{zero_sector}
+use Rattle.found_members.specs.md_base_Sectors.{zero_sector}
 use Rattle.bank.specs.Given.{NeverFalls}
 use Rattle.bank.specs.Tape.{disk}
 use Rattle.safe_additions.specs.row_io_Rows.{present}

@@ -20,7 +20,7 @@ use Rattle.turning.proofs.grow_asked_FirstLaws.{unrefused-plan}
 use Rattle.running_replies.specs.history_calls_Reliable.{IsReliable}
 use Rattle.turning.specs.running_words_Parts.{visible_size}
 use Rattle.turning.specs.running_words_Plans.{GoTo}
-use Rattle.turning.proofs.still_kept_Stood.{within-count}
+use Rattle.turning.proofs.array_kept_DegradedLaws.{within-count}
 use Rattle.growing.specs.Planned.{asked_in, HasWideBackup}
 use Rattle.growing.proofs.Idle.{planned-whole, planned-idle, some-steps}
 use Rattle.growing.proofs.Fitting.{told-by, plan-fits, phases-told}

@@ -10,8 +10,9 @@ use Rattle.turning.proofs.views_MovedLaws.{grows-none}
 use Rattle.running_replies.specs.array_kept_Kept.{scope_in, world_in}
 use Rattle.running_replies.proofs.array_kept_LossLaws.{ended-behind}
 use Rattle.running_replies.proofs.array_kept_ReadyLaws.{scope-same}
-use Rattle.turning.proofs.moving_laws_Kept.{ready, roomier, shapes-same, alone-keeps}
+use Rattle.turning.proofs.moving_laws_Kept.{ready, roomier, shapes-same}
 use Rattle.turning.proofs.running_words_VisibleLaws.{visible-is}
+use Rattle.turning.proofs.running_words_Lengths.{alone-keeps}
 use Rattle.growing.proofs.Busy.{busy-fits, busy-moves}
 use Rattle.growing.proofs.Told.{replied-as, end-as, visible-as}
 use Rattle.growing.proofs.refusing.enter_busy.Goals as goal

@@ -23,9 +23,10 @@ use Rattle.moving_steps.specs.running_words_Parts.{left_in}
 use Rattle.moving_steps.specs.moving_laws_Ready.{bytes_in}
 use Rattle.moving_steps.proofs.moving_laws_AddLaws.{with-room, still-called, none-added}
 use Rattle.moving_steps.proofs.running_words_Called.{not_254, called, alone-lossless}
-use Rattle.moving_steps.proofs.moving_laws_Kept.{ready, shapes-same, alone-keeps}
+use Rattle.moving_steps.proofs.moving_laws_Kept.{ready, shapes-same}
 use Rattle.moving_steps.specs.row_io_Rows.{present}
 use Rattle.moving_steps.specs.views_Lacking.{HaveRolesFailed}
+use Rattle.moving_steps.proofs.running_words_Lengths.{alone-keeps}
 use Rattle.moving_calls.proofs.adding.add.Goals as goal
 
 -- a refusal before the slot is touched

@@ -16,7 +16,7 @@ use Rattle.moving_steps.specs.views_Numbers.{bears, bearing, free_number}
 use Rattle.moving_steps.specs.views_Placed.{IsPlaced}
 use Rattle.moving_steps.specs.views_Rebuilding.{AreSparesFree, with_spare}
 use Rattle.moving_steps.specs.views_Under.{IsRestKept}
-use Rattle.moving_steps.proofs.views_BearerLaws.{bears-more}
+use Rattle.moving_steps.proofs.call_entries_BearerLaws.{bears-more}
 use Rattle.moving_steps.proofs.views_Flushed.{contents-added}
 use Rattle.moving_steps.proofs.views_MovedLaws.{grows-then, moved-same}
 use Rattle.moving_steps.specs.call_entries_Losing.{losses_of}
@@ -36,8 +36,9 @@ use Rattle.moving_steps.specs.running_words_Parts.{left_in}
 use Rattle.moving_steps.specs.moving_laws_Ready.{bytes_in}
 use Rattle.moving_steps.proofs.moving_laws_AddLaws.{apart-from, looked-grows, spare-made, still-called, none-added, add-called}
 use Rattle.moving_steps.proofs.running_words_Called.{not_254, called, alone-lossless}
-use Rattle.moving_steps.proofs.moving_laws_Kept.{ready, ready-with, shapes-same, shapes-moved, left-moved, alone-keeps, behind-keeps, behind-whole, live-of, roomier}
+use Rattle.moving_steps.proofs.moving_laws_Kept.{ready, ready-with, shapes-same, shapes-moved, left-moved, behind-keeps, behind-whole, live-of, roomier}
 use Rattle.moving_steps.proofs.moving_StepLaws.{room-made, unchanged-roomed, roles-moved}
+use Rattle.moving_steps.proofs.running_words_Lengths.{alone-keeps}
 use Rattle.moving_calls.proofs.adding.make_spare.Goals as goal
 
 pub look_at-requires-clause-slot : goal.look_at-requires-clause-slot

@@ -25,11 +25,12 @@ use Rattle.moving_steps.specs.running_words_Parts.{visible_size, visible_in, lef
 use Rattle.moving_steps.proofs.running_words_Called.{not_254, called, alone-lossless}
 use Rattle.moving_steps.specs.moving_laws_Ready.{bytes_in}
 use Rattle.moving_steps.specs.moving_laws_Writing.{TouchesUnsure, IsWriteBarred}
-use Rattle.moving_steps.proofs.moving_laws_Kept.{ready, shapes-same, alone-keeps}
+use Rattle.moving_steps.proofs.moving_laws_Kept.{ready, shapes-same}
 use Rattle.moving_steps.proofs.moving_laws_WriteLaws.{first-right, torn-missing}
 use Rattle.moving_steps.proofs.moving_laws_BarredLaws.{unwritten-barred}
 use Rattle.moving_steps.proofs.moving_laws_FirstLaws.{first-told, first-none}
 use Rattle.moving_steps.proofs.moving_Calls.{refused-same}
+use Rattle.moving_steps.proofs.running_words_Lengths.{alone-keeps}
 use Rattle.moving_calls.proofs.barring.refuse_write.Goals as goal
 
 -- ---- refused before the backup is asked

@@ -32,7 +32,7 @@ use Rattle.moving_steps.proofs.moving_kept_Resting.{resting-moves}
 use Rattle.moving_steps.specs.running_words_Parts.{visible_size, left_in}
 use Rattle.moving_steps.specs.moving_laws_Ready.{bytes_in}
 use Rattle.moving_steps.specs.running_words_Calls.{moving_world}
-use Rattle.moving_steps.proofs.moving_laws_Kept.{ready, shapes-same, alone-keeps}
+use Rattle.moving_steps.proofs.moving_laws_Kept.{ready, shapes-same}
 use Rattle.moving_steps.proofs.running_words_Called.{not_254, alone-lossless, called}
 use Rattle.moving_steps.proofs.moving_laws_Reading.{none-read, read-quiet, no-sectors, first-right, first-reply}
 use Rattle.moving_steps.specs.md_base_the_Fault.{Fault as AnyFault}
@@ -46,6 +46,7 @@ use Rattle.moving_steps.specs.row_io_Rows.{present}
 use Rattle.moving_steps.specs.superblocks_Reading.{is_clean}
 use Rattle.moving_steps.specs.views_Lacking.{HaveRolesFailed}
 use Rattle.moving_steps.specs.running_words_Calls.{IsCalled}
+use Rattle.moving_steps.proofs.running_words_Lengths.{alone-keeps}
 use Rattle.moving_calls.proofs.reading.read.Goals as goal
 
 -- what follows where memory is short, where it never is

@@ -41,8 +41,7 @@ use Rattle.moving_steps.specs.running_words_Parts.{visible_size, visible_in}
 use Rattle.moving_steps.proofs.running_words_Replies.{lost_reply, read_kind}
 use Rattle.moving_steps.proofs.running_words_VisibleLaws.{visible-within}
 use Rattle.moving_steps.proofs.moving_laws_Kept.{ready, with-buffer, shapes-moved, left-moved, behind-keeps, behind-whole, written-whole}
-use Rattle.moving_steps.proofs.running_words_Called.{not_254, called}
-use Rattle.moving_steps.proofs.moving_laws_Settled.{risen-told}
+use Rattle.moving_steps.proofs.running_words_Called.{not_254, called, risen-told}
 use Rattle.moving_steps.proofs.moving_laws_Reading.{IsFetched, read-live, read-some, room-taken, unread-moves, read-moves, holds-read, beside-unread, unread-missing, read-does, asked-is, hidden-fits, holds-sliced}
 use Rattle.moving_steps.proofs.moving_Calls.{room-49, known-moved, le-same, room-after-49, scratch-of, whole-as, within-same, called-over}
 use Rattle.std.proofs.lemmas.List.{length-take-le}

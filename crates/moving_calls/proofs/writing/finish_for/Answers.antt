@@ -19,10 +19,11 @@ use Rattle.moving_steps.proofs.moving_kept_Resting.{resting-moves}
 use Rattle.moving_steps.specs.running_words_Parts.{visible_size, visible_in, left_in}
 use Rattle.moving_steps.specs.moving_laws_Ready.{bytes_in}
 use Rattle.moving_steps.proofs.running_words_Called.{not_254, called, alone-lossless}
-use Rattle.moving_steps.proofs.moving_laws_Kept.{ready, shapes-same, alone-keeps}
+use Rattle.moving_steps.proofs.moving_laws_Kept.{ready, shapes-same}
 use Rattle.moving_steps.proofs.moving_laws_WriteLaws.{first-right, wider-refused, finish-caused}
 use Rattle.moving_steps.proofs.moving_laws_FirstLaws.{first-told, first-none}
 use Rattle.moving_steps.proofs.moving_Calls.{one-less}
+use Rattle.moving_steps.proofs.running_words_Lengths.{alone-keeps}
 use Rattle.moving_calls.proofs.writing.finish_for.Goals as goal
 
 -- ---- refused before the window is finished

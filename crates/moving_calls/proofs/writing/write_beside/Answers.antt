@@ -33,12 +33,12 @@ use Rattle.moving_steps.proofs.moving_kept_Writing.{ArePut}
 use Rattle.moving_steps.specs.running_words_Parts.{visible_size, left_in}
 use Rattle.moving_steps.proofs.running_words_VisibleLaws.{visible-within}
 use Rattle.moving_steps.specs.moving_laws_Ready.{bytes_in}
-use Rattle.moving_steps.proofs.running_words_Called.{not_254, called, alone-lossless}
-use Rattle.moving_steps.proofs.moving_laws_Kept.{ready, shapes-same, shapes-moved, alone-keeps, behind-keeps, behind-whole, left-moved}
-use Rattle.moving_steps.proofs.moving_laws_Settled.{risen-told}
-use Rattle.moving_steps.proofs.moving_laws_WriteLaws.{first-right, wrote-kept, unwritten-kept, with-rooms, failure-keeps, failure-whole, torn-missing}
+use Rattle.moving_steps.proofs.running_words_Called.{not_254, called, alone-lossless, risen-told}
+use Rattle.moving_steps.proofs.moving_laws_Kept.{ready, shapes-same, shapes-moved, behind-keeps, behind-whole, left-moved}
+use Rattle.moving_steps.proofs.moving_laws_WriteLaws.{first-right, wrote-kept, unwritten-kept, with-rooms, failure-whole, torn-missing}
 use Rattle.moving_steps.proofs.moving_laws_FirstLaws.{first-told, first-none}
 use Rattle.moving_steps.proofs.moving_Calls.{room-49, room-50, known-moved, le-same, never-falls, room-after-1, room-after-49, room-after-50, called-over}
+use Rattle.moving_steps.proofs.running_words_Lengths.{alone-keeps, failure-keeps}
 use Rattle.moving_calls.proofs.writing.write_beside.Goals as goal
 
 -- ---- refused before any row is read

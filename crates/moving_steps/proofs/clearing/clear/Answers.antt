@@ -21,11 +21,12 @@ use Rattle.moving.proofs.moving_kept_Resting.{resting-moves}
 use Rattle.moving.specs.running_words_Parts.{left_in}
 use Rattle.moving.proofs.running_words_Called.{not_254, called, alone-lossless}
 use Rattle.moving.specs.moving_laws_Ready.{bytes_in}
-use Rattle.moving.proofs.moving_laws_Kept.{ready, shapes-same, alone-keeps}
+use Rattle.moving.proofs.moving_laws_Kept.{ready, shapes-same}
 use Rattle.moving.proofs.moving_laws_Examined.{moving-still}
 use Rattle.moving.proofs.moving_laws_EnterLaws.{HasBackup, backup-for}
 use Rattle.moving.proofs.moving_laws_BarredLaws.{never-done}
 use Rattle.moving.proofs.Calls.{one-less}
+use Rattle.moving.proofs.running_words_Lengths.{alone-keeps}
 use Rattle.moving_steps.proofs.clearing.clear.Goals as goal
 
 -- ---- the window, and its backup

@@ -29,13 +29,13 @@ use Rattle.moving.proofs.moving_kept_Steps.{missing-since}
 use Rattle.moving.specs.running_words_Parts.{left_in}
 use Rattle.moving.specs.moving_laws_Ready.{bytes_in}
 use Rattle.moving.specs.running_words_Calls.{IsCopyDue}
-use Rattle.moving.proofs.running_words_Called.{not_254, called, alone-lossless}
+use Rattle.moving.proofs.running_words_Called.{not_254, called, alone-lossless, many-of, risen-told}
 use Rattle.moving.proofs.moving_laws_Copied.{due-is, left-falls, IsStripeTried, copied-more, copied-kept, uncopied-kept}
-use Rattle.moving.proofs.moving_laws_Kept.{ready, ready-moved, shapes-same, shapes-moved, alone-keeps, behind-keeps, behind-whole, with-buffer, live-of}
-use Rattle.moving.proofs.moving_laws_Settled.{risen-told, many-of}
+use Rattle.moving.proofs.moving_laws_Kept.{ready, ready-moved, shapes-same, shapes-moved, behind-keeps, behind-whole, with-buffer, live-of}
 use Rattle.still_kept.specs.grow_asked_Left.{phases_of}
 use Rattle.moving.specs.array_kept_Calls.{IsRefusedFor}
 use Rattle.moving.proofs.Calls.{room-49, one-less, many-refused, sound-same, zeroed-moved, entered-sure, never-falls, room-after-1, room-after-49, scratch-of, step-entered, called-over, zero-le}
+use Rattle.moving.proofs.running_words_Lengths.{alone-keeps}
 use Rattle.moving_steps.proofs.copying.copy_stripe.Goals as goal
 
 -- ---- the members lack too many

@@ -29,15 +29,15 @@ use Rattle.moving.proofs.moving_kept_Steps.{missing-since}
 use Rattle.moving.specs.running_words_Calls.{IsEnterDue}
 use Rattle.moving.specs.running_words_Parts.{left_in}
 use Rattle.moving.specs.moving_laws_Ready.{bytes_in}
-use Rattle.moving.proofs.moving_laws_Settled.{risen-told}
-use Rattle.moving.proofs.running_words_Called.{not_254, called, alone-lossless}
-use Rattle.moving.proofs.moving_laws_Kept.{ready, ready-moved, shapes-same, shapes-moved, alone-keeps, behind-keeps, behind-whole, with-buffer, written-whole}
+use Rattle.moving.proofs.running_words_Called.{not_254, called, alone-lossless, risen-told}
+use Rattle.moving.proofs.moving_laws_Kept.{ready, ready-moved, shapes-same, shapes-moved, behind-keeps, behind-whole, with-buffer, written-whole}
 use Rattle.moving.proofs.moving_laws_EnterLaws.{backup-for}
 use Rattle.moving.proofs.moving_laws_BarredLaws.{closed-of}
 use Rattle.moving.proofs.moving_laws_Entered.{course_in, IsNextTried, when-some, when-none, enter-refused, enter-left, enter-done}
 use Rattle.moving.specs.flat_history_Stands.{reach_of}
 use Rattle.still_kept.specs.grow_asked_Left.{phases_of}
 use Rattle.moving.proofs.StepLaws.{one-fewer, same-some, room-behind, wide-for, scratch-for, never-some, taken-behind, under-way-moved, zeroed-moved, sound-moved, entered-right}
+use Rattle.moving.proofs.running_words_Lengths.{alone-keeps}
 use Rattle.moving_steps.proofs.entering.enter_sure.Goals as goal
 
 -- ---- the members lack too many

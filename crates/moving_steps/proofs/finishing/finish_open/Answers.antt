@@ -32,15 +32,15 @@ use Rattle.moving.specs.moving_state_Due.{open_in}
 use Rattle.moving.specs.running_words_Parts.{left_in}
 use Rattle.moving.specs.moving_laws_Ready.{bytes_in}
 use Rattle.moving.specs.moving_laws_Writing.{IsWindowOpen}
-use Rattle.moving.proofs.running_words_Called.{not_254, called, alone-lossless}
-use Rattle.moving.proofs.moving_laws_Kept.{ready, ready-moved, shapes-same, shapes-moved, alone-keeps, behind-keeps, behind-whole, with-buffer}
+use Rattle.moving.proofs.running_words_Called.{not_254, called, alone-lossless, many-of}
+use Rattle.moving.proofs.moving_laws_Kept.{ready, ready-moved, shapes-same, shapes-moved, behind-keeps, behind-whole, with-buffer}
 use Rattle.moving.proofs.moving_laws_RecordLaws.{moved-if, moved-none, shapes-past}
-use Rattle.moving.proofs.moving_laws_Settled.{many-of}
 use Rattle.moving.proofs.moving_laws_WriteLaws.{finish-relied, finished-missing, open-is, finish-left, finish-done, finish-stands, finish-refused, recorded-as}
 use Rattle.still_kept.specs.grow_asked_Left.{phases_of}
 use Rattle.moving.specs.array_kept_Calls.{IsRefusedFor}
 use Rattle.moving.proofs.Calls.{room-49, one-less, many-refused, sound-same, closed-sure, never-falls, room-after-1, room-after-49, scratch-of, step-entered, called-over, zero-le}
 use Rattle.moving.specs.region_mends_Mends.{relied_sector}
+use Rattle.moving.proofs.running_words_Lengths.{alone-keeps}
 use Rattle.moving_steps.proofs.finishing.finish_open.Goals as goal
 
 -- ---- the members lack too many

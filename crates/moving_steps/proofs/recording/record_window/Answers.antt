@@ -24,12 +24,14 @@ use Rattle.moving.proofs.moving_kept_Steps.{missing-since}
 use Rattle.moving.specs.running_words_Calls.{IsRecordDue}
 use Rattle.moving.specs.running_words_Parts.{left_in}
 use Rattle.moving.specs.moving_laws_Ready.{bytes_in}
-use Rattle.moving.proofs.running_words_Called.{not_254, called, alone-lossless}
-use Rattle.moving.proofs.moving_laws_Kept.{ready, ready-moved, shapes-same, shapes-moved, alone-keeps, behind-keeps, behind-whole, live-of}
-use Rattle.moving.proofs.moving_laws_Settled.{many-of}
-use Rattle.moving.proofs.moving_laws_RecordLaws.{window-next, same-span, all_copied, record-left, moved-if, moved-none, safe-none-of, shapes-past, since-past, record-refused, record-done}
+use Rattle.moving.proofs.running_words_Called.{not_254, called, alone-lossless, many-of}
+use Rattle.moving.proofs.moving_laws_Kept.{ready, ready-moved, shapes-same, shapes-moved, behind-keeps, behind-whole, live-of}
+use Rattle.moving.proofs.moving_laws_RecordLaws.{window-next, all_copied, record-left, moved-if, moved-none, safe-none-of, shapes-past, since-past, record-refused, record-done}
 use Rattle.still_kept.specs.grow_asked_Left.{phases_of}
-use Rattle.moving.proofs.StepLaws.{one-fewer, closed-unsure, room-behind, taken-behind, under-way-moved, sound-moved, roles-past}
+use Rattle.moving.proofs.StepLaws.{one-fewer, room-behind, taken-behind, under-way-moved, sound-moved, roles-past}
+use Rattle.moving.proofs.Calls.{closed-sure}
+use Rattle.moving.proofs.running_words_Lengths.{alone-keeps}
+use Rattle.moving.proofs.moving_laws_WriteLaws.{same-span}
 use Rattle.moving_steps.proofs.recording.record_window.Goals as goal
 
 -- ---- refused before anything is done
@@ -188,7 +190,7 @@ invariant_of-moving-2 g c =
     (c.len-count.ensures ∙ here.backed.roles) c.vacant_roles-before.ensures c.newly_vacant-roles.ensures in
     let kept = record-done a.course a.ahead c.in-Entered.span c.args.who end roles spares was.kept (live-of was.kept c.in_default.ensures) goes c.requires.caller c.ops-end-2.ensures.count did.grows since did.clean did.rise did.others
     due.sectioned left is c.all_left-left.ensures moved c.in_default.ensures (λ t. did.plain none t (scope_in given a.epoch.uuid a.epoch.given (Some a.backup))) (safe-none-of c.record-done.result.refusal none did.safe) in
-    ready-moved (entries_of c.args.who end (losses_of roles spares ++ Step RecordsWindow left ∷ [])) was did.grows (shapes-past given a.members m c.in-Entered.span moved) kept (λ span is. closed-unsure span is)
+    ready-moved (entries_of c.args.who end (losses_of roles spares ++ Step RecordsWindow left ∷ [])) was did.grows (shapes-past given a.members m c.in-Entered.span moved) kept (λ span is. closed-sure span is)
     refl did.counts (behind-keeps c.args.who end roles spares (Step RecordsWindow left) (λ n. refl) (λ limit. refl)) (behind-whole {old = moved_past c.in-Entered.span a.members} tape' (scope_in given a.epoch.uuid a.epoch.given (Some a.backup)) a.epoch.first a.epoch.entries.items c.args.who end roles spares (Step RecordsWindow left) moved (missing-since {old = moved_past c.in-Entered.span a.members} roles moved since.vacant)) did.given (scope-same given (Some a.backup) did.given c.enter_behind-2.ensures.uuid c.enter_behind-2.ensures.given) c.enter_behind-2.ensures.first refl c.enter_behind-2.ensures.items
     (omega (arith, c.enter_behind-2.ensures.room, was.room_left, some))
 

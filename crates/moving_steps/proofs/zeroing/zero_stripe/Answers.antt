@@ -28,12 +28,12 @@ use Rattle.moving.proofs.moving_state_ReshapeLaws.{through-of}
 use Rattle.moving.specs.running_words_Calls.{IsZeroDue}
 use Rattle.moving.specs.running_words_Parts.{left_in}
 use Rattle.moving.specs.moving_laws_Ready.{bytes_in}
-use Rattle.moving.proofs.running_words_Called.{not_254, called, alone-lossless}
-use Rattle.moving.proofs.moving_laws_Kept.{ready, shapes-same, shapes-moved, alone-keeps, behind-keeps, behind-whole, with-buffer, live-of}
-use Rattle.moving.proofs.moving_laws_Settled.{many-of}
+use Rattle.moving.proofs.running_words_Called.{not_254, called, alone-lossless, many-of}
+use Rattle.moving.proofs.moving_laws_Kept.{ready, shapes-same, shapes-moved, behind-keeps, behind-whole, with-buffer, live-of}
 use Rattle.moving.proofs.moving_laws_ZeroLaws.{closed-at, zero-step, rows-zeroed, zero-refused, zero-done, zero-left}
 use Rattle.moving.specs.window_rows_Copies.{IsPastStripe}
 use Rattle.moving.proofs.StepLaws.{one-fewer, room-behind, next-within, scratch-for, taken-behind, under-way-moved, zeroed-moved, sound-moved, roles-moved}
+use Rattle.moving.proofs.running_words_Lengths.{alone-keeps}
 use Rattle.moving_steps.proofs.zeroing.zero_stripe.Goals as goal
 
 -- ---- refused before anything is done

@@ -1,7 +1,7 @@
-use Rattle.std.proofs.Common.{◌≡◌, false, None, List, [], length, sym, ◌∙◌, ap, subst, arith}
+use Rattle.std.proofs.Common.{◌≡◌, false, None, List, [], length, take, sym, ◌∙◌, ap, subst, arith}
 use Rattle.assemble.specs.md_base_the_Fault_TheVariants.{NoMemory}
 use Rattle.assemble.specs.bank_the_Operation.{Operation}
-use Rattle.assemble.specs.bank_Given.{Given}
+use Rattle.assemble.specs.bank_Given.{Given, sizes}
 use Rattle.assemble.specs.bank_Tape.{contents}
 use Rattle.assemble.specs.superblocks_Reading.{is_reshaping}
 use Rattle.running_steps.specs.row_io_Rows.{present}
@@ -10,9 +10,11 @@ use Rattle.running_steps.specs.array_kept_Adopting.{IsAdoptable, IsAdopted}
 use Rattle.moving_opens.specs.grow_asked_Left.{phases_of}
 use Rattle.assemble.specs.declared.opening.Opened.{Opened}
 use Rattle.assemble.specs.Opening.{scope_of, HasFoundNone}
-use Rattle.assemble.proofs.PlacedFound.{placed-found, unlost-found, free-found}
+use Rattle.assemble.proofs.StillFit.{found-fit}
 use Rattle.assemble.proofs.Adopting.{adoptable}
 use Rattle.assemble.proofs.RunningLaws.{slots-failed, ok-then}
+use Rattle.moving_opens.specs.found_members_Found.{AreElected}
+use Rattle.moving_opens.proofs.found_members_Placed.{placed-found, unlost-found, free-found}
 use Rattle.moving_opens.specs.Opening.{AreOpenedMoving}
 use Rattle.openings.specs.Adopted.{IsMovingAdopted, IsNotAdopted}
 use Rattle.openings.specs.Found.{IsRunningFound}
@@ -43,11 +45,11 @@ run_still-requires-clause-adoptable g c =
     let opened : Opened = c.in-Ok.found in
     let found = c.in-Ok.ensures in
     let still : is_reshaping opened.members.newest ≡ false = sym c.is_reshaping.ensures ∙ c.if-is_reshaping.false in
+    let are : AreElected bank opened.given opened.members = record { few = c.requires.few; elected = found.found.elected; lost = found.found.lost; own = found.own; writable = found.writable; counted = found.counted } in
+    let fit = found-fit (sizes bank).sectors (take bank.slots opened.members.own) opened.members.lost opened.members found.found.elected still in
     subst (λ (b : Given). IsAdoptable g.B.Bank.tells b tape (scope_of b c.args.backup opened.given opened.members.newest.set_uuid) opened.members) (sym c.find.ensures.slots)
     (adoptable bank tape c.args.backup c.args.uuid opened c.requires.few (opened-still bank (contents bank.start tape (length tape)) c.args.backup c.args.uuid opened found.found still) found.given.known found.flushed found.sectors
-    (placed-found bank c.requires.few opened.members found.found.elected still found.writable found.counted)
-    (unlost-found bank c.requires.few opened.members found.found.elected still found.writable found.counted opened.given found.own found.found.lost)
-    (free-found bank c.requires.few opened.members found.found.elected still found.writable found.counted opened.given found.own found.found.lost))
+    (placed-found bank opened.given opened.members are fit) (unlost-found bank opened.given opened.members are fit) (free-found bank opened.given opened.members are fit))
 
 pub run_still-requires-clause-failed : goal.run_still-requires-clause-failed
 run_still-requires-clause-failed g c slot known out =

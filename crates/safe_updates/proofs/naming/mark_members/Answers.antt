@@ -21,7 +21,7 @@ use Rattle.views.proofs.LackingLaws.{since-failed, holders-updated}
 use Rattle.views.specs.flat_history_Sound.{OpensFit}
 use Rattle.views.proofs.shape_changes_ChangeSafe.{told-changed, risen-changed}
 use Rattle.views.proofs.shape_changes_KeptSafe.{mark-safe, mark-named}
-use Rattle.views.proofs.MarkEnds.{left-in-mark}
+use Rattle.safe_updates.proofs.MarkEnds.{left-in-mark}
 use Rattle.safe_updates.proofs.NamedAll.{marked-missing}
 use Rattle.safe_updates.proofs.naming.mark_members.Goals as goal
 

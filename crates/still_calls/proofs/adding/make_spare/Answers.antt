@@ -14,7 +14,7 @@ use Rattle.still.specs.views_Lacking.{AreUnnamed}
 use Rattle.still.specs.views_Numbers.{bears, bearing, free_number}
 use Rattle.still.specs.views_Placed.{IsPlaced, AreStillHeld, AreWhole}
 use Rattle.still.specs.views_Rebuilding.{AreSparesFree, with_spare}
-use Rattle.still.proofs.views_BearerLaws.{bears-more}
+use Rattle.still.proofs.call_entries_BearerLaws.{bears-more}
 use Rattle.still.proofs.views_Flushed.{contents-added}
 use Rattle.still.proofs.views_LiveLeft.{without-left}
 use Rattle.still.proofs.views_MovedLaws.{grows-then}
@@ -42,9 +42,10 @@ use Rattle.still.proofs.still_laws_PlainBehind.{refused-plain}
 use Rattle.still.proofs.still_laws_PlainAdds.{added-plain, unadded-plain}
 use Rattle.still.specs.superblocks_Reads.{has_spare}
 use Rattle.still.proofs.views_Fit.{valid}
-use Rattle.still.proofs.Rested.{entries-same, idle-stepped, room-1, room-49, shape-few, shape-known}
+use Rattle.still.proofs.Rested.{room-1, room-49, shape-few, shape-known}
 use Rattle.still.specs.shape_changes_Marking.{AreOthersPresent}
 use Rattle.still.specs.row_io_Rows.{present}
+use Rattle.still.proofs.Asked.{entries-alike, undone-stepped}
 use Rattle.still_calls.proofs.adding.make_spare.Goals as goal
 
 pub look_at-requires-clause-slot : goal.look_at-requires-clause-slot
@@ -393,7 +394,7 @@ pub returns-in-Err-clause-answered : goal.returns-in-Err-clause-answered
 returns-in-Err-clause-answered g c = c.make_room.ensures.items ∙ ap (λ p. p.parts.entries) c.still.view_is
 
 pub returns-in-Err-clause-unchanged : goal.returns-in-Err-clause-unchanged
-returns-in-Err-clause-unchanged g c = entries-same c.make_room.new.self.items c.still.view_is c.make_room.ensures.items
+returns-in-Err-clause-unchanged g c = entries-alike c.make_room.new.self.items c.still.view_is c.make_room.ensures.items
 
 pub returns-in-Err-clause-caused : goal.returns-in-Err-clause-caused
 returns-in-Err-clause-caused g c = ap (λ p. p.parts.members) c.still.view_is
@@ -405,7 +406,7 @@ returns-in-Err-clause-spares g c =
 pub returns-in-Err-clause-stepped : goal.returns-in-Err-clause-stepped
 returns-in-Err-clause-stepped g c =
     let kept = c.still.invariant.kept in
-    rw (← c.still.view_is) (idle-stepped (λ t. (kept.recorded t).ended) (λ t. (kept.recorded t).begun) (entries-same c.make_room.new.self.items refl c.make_room.ensures.items))
+    rw (← c.still.view_is) (undone-stepped (λ t. (kept.recorded t).ended) (λ t. (kept.recorded t).begun) (entries-alike c.make_room.new.self.items refl c.make_room.ensures.items))
 
 pub returns-in-Err-clause-whole : goal.returns-in-Err-clause-whole
 returns-in-Err-clause-whole g c = subst (λ p. AreWhole c.still.inside.members → AreWhole p.parts.members) c.still.view_is (λ whole. whole)

@@ -42,9 +42,10 @@ use Rattle.still.proofs.still_laws_Left.{left-alike}
 use Rattle.still.proofs.still_laws_Reading.{seen, unwritten-still, refused-first}
 use Rattle.still.proofs.still_laws_Writing.{put-still, written-still, failed-stands}
 use Rattle.still.proofs.views_Fit.{valid, multiple, short}
-use Rattle.still.proofs.Rested.{entries-same, idle-called, shape-few, shape-known, room-1, room-49, room-50}
+use Rattle.still.proofs.Rested.{shape-few, shape-known, room-1, room-49, room-50}
 use Rattle.still.specs.shape_changes_Marking.{AreOthersPresent}
 use Rattle.still.specs.row_io_Rows.{present}
+use Rattle.still.proofs.Asked.{entries-alike, undone-called}
 use Rattle.still_calls.proofs.writing.write.Goals as goal
 
 -- ---- refused before any row is read
@@ -342,12 +343,12 @@ pub returns-in-Err-make_room-clause-answered : goal.returns-in-Err-make_room-cla
 returns-in-Err-make_room-clause-answered g c = c.make_room.ensures.items ∙ ap (λ p. p.parts.entries) c.still.view_is
 
 pub returns-in-Err-make_room-clause-unchanged : goal.returns-in-Err-make_room-clause-unchanged
-returns-in-Err-make_room-clause-unchanged g c = entries-same c.make_room.new.self.items c.still.view_is c.make_room.ensures.items
+returns-in-Err-make_room-clause-unchanged g c = entries-alike c.make_room.new.self.items c.still.view_is c.make_room.ensures.items
 
 pub returns-in-Err-make_room-clause-called : goal.returns-in-Err-make_room-clause-called
 returns-in-Err-make_room-clause-called g c =
     let kept = c.still.invariant.kept in
-    rw (← c.still.view_is) (idle-called kept.members_are.placed kept.members_are.unlost (λ t. (kept.recorded t).ended) (λ t. (kept.recorded t).begun) (entries-same c.make_room.new.self.items refl c.make_room.ensures.items))
+    rw (← c.still.view_is) (undone-called kept.members_are.placed kept.members_are.unlost (λ t. (kept.recorded t).ended) (λ t. (kept.recorded t).begun) (entries-alike c.make_room.new.self.items refl c.make_room.ensures.items))
 
 pub returns-in-Err-make_room-clause-whole : goal.returns-in-Err-make_room-clause-whole
 returns-in-Err-make_room-clause-whole g c = subst (λ p. AreWhole c.still.inside.members → AreWhole p.parts.members) c.still.view_is (λ whole. whole)
@@ -366,7 +367,7 @@ returns-in-Err-make_room-clause-given g c = ap (λ p. g.B.Bank.given p.parts.ban
 pub returns-in-Err-clause-called : goal.returns-in-Err-clause-called
 returns-in-Err-clause-called g c =
     let kept = c.still.invariant.kept in
-    rw (← c.still.view_is) (idle-called kept.members_are.placed kept.members_are.unlost (λ t. (kept.recorded t).ended) (λ t. (kept.recorded t).begun) refl)
+    rw (← c.still.view_is) (undone-called kept.members_are.placed kept.members_are.unlost (λ t. (kept.recorded t).ended) (λ t. (kept.recorded t).begun) refl)
 
 pub check_number-requires : goal.check_number-requires
 check_number-requires g c =

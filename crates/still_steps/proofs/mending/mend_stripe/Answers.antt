@@ -30,7 +30,8 @@ use Rattle.still.proofs.still_laws_PlainBehind.{unmended-plain, plain-refused}
 use Rattle.still.proofs.still_laws_PlainSteps.{mended-plain}
 use Rattle.still.specs.views_Placed.{AreStillHeld}
 use Rattle.still.proofs.views_Fit.{valid, short}
-use Rattle.still.proofs.Rested.{one-less, pending-left, room-of-step, shape-few, shape-known, sound-moved, stripe-fits, stripe-more}
+use Rattle.still.proofs.Rested.{one-less, pending-left, room-of-step, shape-few, shape-known, stripe-fits, stripe-more}
+use Rattle.still.proofs.Asked.{sound-behind}
 use Rattle.still_steps.proofs.mending.mend_stripe.Goals as goal
 
 -- ---- refused before anything is done
@@ -357,7 +358,7 @@ all_left-left-requires-clause-progress g c =
     stripe-more c.unwrap_or-stripe.result c.mend-mended.ensures.moved (next-stripe a.work.resync a.members c.unwrap_or-stripe.result left c.unwrap_or-stripe.ensures).1
 
 pub all_left-left-requires-clause-sound : goal.all_left-left-requires-clause-sound
-all_left-left-requires-clause-sound g c = sound-moved c.still.inside.ahead c.mend-mended.ensures.moved c.still.invariant.planned
+all_left-left-requires-clause-sound g c = sound-behind c.still.inside.ahead c.mend-mended.ensures.moved c.still.invariant.planned
 
 pub enter_behind-requires-2-clause-room : goal.enter_behind-requires-2-clause-room
 enter_behind-requires-2-clause-room g c = room-of-step c.still.inside.steps c.still.inside.epoch.entries.room c.still.invariant.room_left (subst (λ p. 1 ≤ p.parts.steps) (sym c.still.view_is) c.requires.room)

@@ -15,8 +15,8 @@ use Rattle.still.specs.views_Rebuilding.{AreSparesFree}
 use Rattle.still.proofs.views_LackingLaws.{since-then, in-either}
 use Rattle.still.proofs.views_MovedLaws.{grows-then, moved-then, moved-from}
 use Rattle.still.proofs.views_SafeStretch.{gone-before, safe-then, grows-longer, over-at, keeps-from}
-use Rattle.still.proofs.still_kept_Stood.{within-count}
 use Rattle.std.proofs.Math.Nat.{le_trans}
+use Rattle.still.proofs.array_kept_DegradedLaws.{within-count}
 use Rattle.still_steps.proofs.naming.fill_and_name.Goals as goal
 
 -- of two tests that fail the second fails

@@ -1,5 +1,5 @@
 use Rattle.std.proofs.Common.{◌≤◌, length, subst, ℕ}
-use Rattle.still_calls.proofs.still_laws_Going.{going-few}
+use Rattle.still_calls.proofs.kept_history_Records.{going-few}
 use Rattle.takeover.proofs.taking.check_going.Goals as goal
 
 pub returns : goal.returns

@@ -13,7 +13,6 @@ use Rattle.still_calls.specs.views_the_Work.{Work}
 use Rattle.still_calls.specs.views_Status.{left_of, stripes_of}
 use Rattle.still_calls.proofs.views_Fit.{fit-short}
 use Rattle.takeover_kept.specs.call_entries_Losing.{losses_of}
-use Rattle.takeover_kept.proofs.call_entries_PlainLaws.{last_end-call}
 use Rattle.still_calls.specs.array_kept_Calls.{AreStepsFewer}
 use Rattle.still_calls.specs.array_kept_Kept.{scope_in}
 use Rattle.still_calls.proofs.array_kept_ReadyLaws.{scope-same}
@@ -25,6 +24,7 @@ use Rattle.still_calls.specs.running_words_Parts.{still_left}
 use Rattle.still_calls.specs.running_words_Plans.{ArePlansKept}
 use Rattle.still_calls.specs.still_laws_Ready.{IsReady}
 use Rattle.still_calls.proofs.still_laws_Closing.{LeadTo}
+use Rattle.still_calls.proofs.history_laws_OneShapeGrowing.{call-ends}
 use Rattle.takeover.specs.TakenOver.{IsTakeoverNext, work_then}
 use Rattle.takeover.proofs.Chosen.{sound-next, can-take, told-ahead}
 use Rattle.takeover.proofs.Parted.{untaken-as, untouched-as, both-given, taken-as, room-for}
@@ -194,7 +194,7 @@ returns-clause-taken g c =
         is = entered;
       };
       ended = λ t. ap (λ (l : List Entry). last_end_from c.enter_taken.new.epoch.first l) items
-          ∙ last_end-call c.enter_taken.new.epoch.first p.epoch.entries.items who end (Step TakenOver (still_left (work_then to p.work) new behind)) (losses_of roles spares) ∙ c.ops-end.ensures.count t;
+          ∙ call-ends c.enter_taken.new.epoch.first p.epoch.entries.items who end (Step TakenOver (still_left (work_then to p.work) new behind)) (losses_of roles spares) ∙ c.ops-end.ensures.count t;
       grows = did.grows;
       left = subst (λ (w : Work). AreStepsFewer p.epoch.entries.items c.enter_taken.new.epoch.entries.items (still_left p.work p.members p.ahead) (still_left w new behind)) (sym c.mark_unbuilt.ensures.work)
           (taken-fewer p.ahead behind to c.in-Ok.slot who end roles spares was goes c.requires.caller idle next lead c.in-Ok.ensures.whole c.in-Ok.ensures.chosen update c.ops-end.ensures.count c.mark_unbuilt.ensures.long

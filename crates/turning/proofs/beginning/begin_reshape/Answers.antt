@@ -22,7 +22,6 @@ use Rattle.moving_steps.specs.reshape_ends_Begun.{begun_plan}
 use Rattle.moving_steps.specs.views_Status.{left_of}
 use Rattle.moving_steps.proofs.views_MovedLaws.{grows-none}
 use Rattle.moving_steps.specs.call_entries_Losing.{losses_of}
-use Rattle.moving_steps.proofs.call_entries_PlainLaws.{last_end-call}
 use Rattle.moving_steps.specs.array_kept_Kept.{scope_in}
 use Rattle.moving_steps.proofs.array_kept_LossLaws.{ended-behind}
 use Rattle.moving_steps.proofs.array_kept_ReadyLaws.{scope-same}
@@ -36,6 +35,7 @@ use Rattle.still_steps.specs.still_laws_Ready.{IsReady}
 use Rattle.still_steps.proofs.still_laws_Kept.{ready, rows-same}
 use Rattle.still_steps.proofs.still_laws_Plain.{turned-plain, turns-first}
 use Rattle.moving_steps.proofs.moving_laws_Kept.{left_by}
+use Rattle.moving_steps.proofs.history_laws_OneShapeGrowing.{call-ends}
 use Rattle.turning.specs.Begun.{begun_length, HasKeptLength, IsBackupAt}
 use Rattle.turning.proofs.Begun.{none-pending, plus-none, others-of, since-told, IsUpdated, next-sound, backup-here, begun-under, begun-left, begun-start, begun-losses, begun-ready}
 use Rattle.turning.proofs.GivenBack.{ahead-told, fault-stands}
@@ -278,7 +278,7 @@ returns-clause-begun g c =
       could = c.in_default.ensures;
       entered = record { roles = roles; spares = spares; end = end; roles_told = since-told new roles (did.moved none).placed.roles c.told_of-told.ensures.roles; spares_told = (did.failed none).told; spares_were = did.spares none; is = items };
       ended = λ t. ap (λ (l : List Entry). last_end_from c.enter_begun.new.epoch.first l) items
-          ∙ last_end-call c.enter_begun.new.epoch.first p.epoch.entries.items who end (Step Begun (left_in p.work new (closed 0) behind))
+          ∙ call-ends c.enter_begun.new.epoch.first p.epoch.entries.items who end (Step Begun (left_in p.work new (closed 0) behind))
           (begun_length (goes_back (shape_of p.members.newest) to) (list_length new.newest) ++ losses_of roles spares) ∙ c.ops-end.ensures.count t;
       grows = did.grows;
       left = ap (λ (o : Option ℕ). left_by o new (closed 0) behind + 1) synced ∙ begun-left p.members new p.work p.ahead behind to (did.newest none) are.still idle next;

@@ -1,5 +1,5 @@
 use Rattle.std.proofs.Common.{◌≤◌, length, subst, ℕ}
-use Rattle.still_steps.proofs.still_laws_Going.{going-few}
+use Rattle.moving_steps.proofs.kept_history_Records.{going-few}
 use Rattle.turning.proofs.beginning.check_going.Goals as goal
 
 pub returns : goal.returns

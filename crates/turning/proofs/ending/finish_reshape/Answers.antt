@@ -38,14 +38,16 @@ use Rattle.moving_steps.specs.running_words_Calls.{moving_world}
 use Rattle.moving_steps.specs.running_words_Parts.{left_in, still_left}
 use Rattle.moving_steps.proofs.running_words_Called.{not_254, called, alone-lossless}
 use Rattle.moving_steps.specs.moving_laws_Ready.{bytes_in}
-use Rattle.moving_steps.proofs.moving_laws_Kept.{ready, shapes-same, shapes-moved, alone-keeps, behind-keeps, behind-whole}
+use Rattle.moving_steps.proofs.moving_laws_Kept.{ready, shapes-same, shapes-moved, behind-keeps, behind-whole}
 use Rattle.moving_steps.specs.running_words_Plans.{ArePlansKept}
+use Rattle.moving_steps.proofs.Told.{called-as}
+use Rattle.moving_steps.proofs.running_words_Lengths.{alone-keeps}
 use Rattle.turning.specs.Ended.{ended_length}
 use Rattle.turning.proofs.Ended.{kept-or-failed, late-held, length-same, ended-ready, ended-losses}
 use Rattle.turning.proofs.EndedStill.{IsFinished, ended-long}
 use Rattle.turning.proofs.Finishing.{end-due, flush-failed, refused-behind, final-few, dropped-or-failed, spare-or-dropped, spares-kept, spares-told, dropped-told, none-lost, roles-told, finish-stepped, finish-left}
 use Rattle.turning.proofs.Parted.{both-given, both-course, both-steps, room-for-two}
-use Rattle.turning.proofs.Told.{many-as, behind-as, called-as, ended-as}
+use Rattle.turning.proofs.Told.{many-as, behind-as, ended-as}
 use Rattle.turning.proofs.ending.finish_reshape.Goals as goal
 
 -- ---- refused before anything is done

@@ -23,11 +23,12 @@ use Rattle.moving_laws.specs.running_words_Parts.{left_in}
 use Rattle.moving_laws.proofs.running_words_Called.{not_254, called, alone-lossless, risen-told, many-of}
 use Rattle.moving_laws.specs.Mending.{IsResyncEndDue}
 use Rattle.moving_laws.specs.Ready.{bytes_in}
-use Rattle.moving_laws.proofs.Kept.{ready, ready-with, shapes-same, shapes-moved, alone-keeps, behind-keeps, behind-whole}
+use Rattle.moving_laws.proofs.Kept.{ready, ready-with, shapes-same, shapes-moved, behind-keeps, behind-whole}
 use Rattle.moving_laws.proofs.MendLaws.{aside-right, end-refused, end-done, end-left, rows-good}
 use Rattle.pieces.specs.grow_asked_Left.{phases_of}
 use Rattle.moving_laws.specs.array_kept_Calls.{IsRefusedFor}
 use Rattle.moving_laws.proofs.moving_state_ReshapeLaws.{under-way-of}
+use Rattle.moving_laws.proofs.running_words_Lengths.{alone-keeps}
 use Rattle.moving.proofs.Calls.{room-49, one-less, many-refused, sound-same, zeroed-moved, known-moved, never-falls, room-after-1, room-after-49, step-entered, zero-le}
 use Rattle.pieces.specs.row_io_Rows.{reading_of}
 use Rattle.moving.proofs.state.Moving.end_resync.Goals as goal

@@ -29,7 +29,7 @@ use Rattle.moving_laws.proofs.moving_kept_Resting.{resting-moves}
 use Rattle.moving_laws.specs.running_words_Parts.{left_in}
 use Rattle.moving_laws.specs.Ready.{bytes_in}
 use Rattle.moving_laws.proofs.running_words_Called.{not_254, called, alone-lossless}
-use Rattle.moving_laws.proofs.Kept.{ready, shapes-same, shapes-moved, left-moved, alone-keeps, behind-keeps, takes-lost, lost-here}
+use Rattle.moving_laws.proofs.Kept.{ready, shapes-same, shapes-moved, left-moved, behind-keeps, takes-lost, lost-here}
 use Rattle.moving_laws.proofs.TakenOut.{moved-all, since-out, taken-out}
 use Rattle.std.proofs.lemmas.List.Elements.{All-nil}
 use Rattle.pieces.specs.row_io_Rows.{present}
@@ -37,6 +37,7 @@ use Rattle.pieces.specs.flat_history_Transfers.{last_end_from}
 use Rattle.pieces.specs.views_Rebuilding.{Held}
 use Rattle.moving_laws.specs.array_kept_Calls.{IsLossBy, WasSpare}
 use Rattle.moving_laws.proofs.WriteLaws.{roomed}
+use Rattle.moving_laws.proofs.running_words_Lengths.{alone-keeps}
 use Rattle.moving.proofs.Calls.{one-of-51, known-moved, fits-longer, never-falls, called-over}
 use Rattle.moving_laws.specs.shape_changes_Marking.{AreOthersPresent}
 use Rattle.moving.proofs.state.Moving.fail.Goals as goal

@@ -20,10 +20,11 @@ use Rattle.moving_laws.specs.running_words_Parts.{left_in}
 use Rattle.moving_laws.specs.Mending.{IsMendDue}
 use Rattle.moving_laws.specs.Ready.{bytes_in}
 use Rattle.moving_laws.proofs.running_words_Called.{not_254, called, alone-lossless}
-use Rattle.moving_laws.proofs.Kept.{ready, ready-with, shapes-same, shapes-moved, alone-keeps, behind-keeps, behind-whole}
+use Rattle.moving_laws.proofs.Kept.{ready, ready-with, shapes-same, shapes-moved, behind-keeps, behind-whole}
 use Rattle.moving_laws.proofs.MendLaws.{next-of, aside-right, with-buffers, mends-short, not-mended-for, mendable-for, first-for, one-more, refused-why, done-why, mend-step, mend-refused, mend-done, mend-left, was-dirty}
 use Rattle.election.specs.superblocks_Reading.{is_clean}
 use Rattle.pieces.specs.grow_asked_Left.{phases_of}
+use Rattle.moving_laws.proofs.running_words_Lengths.{alone-keeps}
 use Rattle.moving.proofs.StepLaws.{one-fewer, room-behind, taken-behind, under-way-moved, zeroed-moved, sound-moved, roles-moved}
 use Rattle.moving.proofs.state.Moving.mend_stripe.Goals as goal
 

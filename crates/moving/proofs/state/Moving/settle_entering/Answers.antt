@@ -19,9 +19,9 @@ use Rattle.moving_laws.proofs.moving_kept_Resting.{resting-moves}
 use Rattle.moving_laws.proofs.moving_kept_Steps.{missing-since}
 use Rattle.moving_laws.specs.running_words_Parts.{left_in}
 use Rattle.moving_laws.specs.Ready.{bytes_in}
-use Rattle.moving_laws.proofs.Kept.{ready, shapes-same, shapes-moved, left-moved, alone-keeps, behind-keeps, behind-whole, live-of, roomier}
-use Rattle.moving_laws.proofs.running_words_Called.{not_254, alone-lossless, called}
-use Rattle.moving_laws.proofs.Settled.{settling-long, settling-free, settles-so, risen-told, many-of}
+use Rattle.moving_laws.proofs.Kept.{ready, shapes-same, shapes-moved, left-moved, behind-keeps, behind-whole, live-of, roomier}
+use Rattle.moving_laws.proofs.running_words_Called.{not_254, alone-lossless, called, risen-told, many-of}
+use Rattle.moving_laws.proofs.Settled.{settling-long, settling-free, settles-so}
 use Rattle.std.proofs.lemmas.List.Elements.{All-nil}
 use Rattle.election.specs.superblocks_Reading.{list_length}
 use Rattle.pieces.specs.flat_history_the_Entry.{Entry}
@@ -30,6 +30,7 @@ use Rattle.pieces.specs.views_Lacking.{AreTooMany}
 use Rattle.pieces.specs.views_Rebuilding.{Held}
 use Rattle.moving_laws.specs.array_kept_Calls.{IsLossBy, WasSpare}
 use Rattle.moving_laws.proofs.array_kept_ReplyLaws.{refused-for, too-many-of}
+use Rattle.moving_laws.proofs.running_words_Lengths.{alone-keeps}
 use Rattle.moving.proofs.StepLaws.{room-made, behind-roomed, unchanged-roomed, roles-moved}
 use Rattle.moving.proofs.state.Moving.settle_entering.Goals as goal
 

@@ -9,11 +9,12 @@ use Rattle.pieces.proofs.views_MovedLaws.{grows-none}
 use Rattle.moving_laws.proofs.array_kept_LossLaws.{ended-behind}
 use Rattle.moving_laws.proofs.array_kept_ReadyLaws.{scope-same, list-same}
 use Rattle.moving_laws.specs.running_words_Parts.{left_in}
-use Rattle.moving_laws.proofs.Kept.{ready, roomier, shapes-same, alone-keeps}
+use Rattle.moving_laws.proofs.Kept.{ready, roomier, shapes-same}
 use Rattle.moving_laws.proofs.Asking.{status-same, shown-moves}
 use Rattle.pieces.specs.flat_history_Transfers.{last_end_from}
 use Rattle.moving_laws.specs.array_kept_Kept.{scope_in}
 use Rattle.moving_laws.specs.array_kept_Calls.{IsEndOf}
+use Rattle.moving_laws.proofs.running_words_Lengths.{alone-keeps}
 use Rattle.moving.proofs.Calls.{one-of-2}
 use Rattle.moving.proofs.state.Moving.status.Goals as goal
 

@@ -1,5 +1,5 @@
 use Rattle.std.proofs.Common.{◌≤◌, length, subst, ℕ}
-use Rattle.moving_laws.proofs.Copied.{going-few}
+use Rattle.moving_laws.proofs.kept_history_Records.{going-few}
 use Rattle.moving.proofs.state.going.check_going.Goals as goal
 
 pub returns : goal.returns

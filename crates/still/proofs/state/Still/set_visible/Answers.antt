@@ -16,7 +16,7 @@ use Rattle.still_laws.proofs.running_words_Lengths.{alone-keeps}
 use Rattle.still_laws.proofs.Kept.{ready, rows-same, roomier}
 use Rattle.still_laws.proofs.Limiting.{unlimited-fits, unlimited-stands, unlimited-plain, visible-fits, visible-ready}
 use Rattle.pieces.specs.flat_history_Transfers.{last_end_from}
-use Rattle.still.proofs.Rested.{entries-same}
+use Rattle.still.proofs.Asked.{entries-alike}
 use Rattle.still.proofs.state.Still.set_visible.Goals as goal
 
 -- ---- refused
@@ -143,7 +143,7 @@ pub invariant_of-self : goal.invariant_of-self
 invariant_of-self g c = roomier c.self.invariant c.make_room.ensures.items c.make_room.ensures.keeps
 
 pub returns-in-Err-clause-unchanged : goal.returns-in-Err-clause-unchanged
-returns-in-Err-clause-unchanged g c = entries-same c.make_room.new.self.items c.self.view_is c.make_room.ensures.items
+returns-in-Err-clause-unchanged g c = entries-alike c.make_room.new.self.items c.self.view_is c.make_room.ensures.items
 
 pub returns-in-Err-clause-answered : goal.returns-in-Err-clause-answered
 returns-in-Err-clause-answered g c = c.make_room.ensures.items ∙ ap (λ p. p.parts.entries) c.self.view_is

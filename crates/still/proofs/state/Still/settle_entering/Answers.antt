@@ -11,7 +11,7 @@ use Rattle.still_laws.specs.array_kept_Kept.{scope_in}
 use Rattle.still_laws.proofs.array_kept_LossLaws.{losses-behind, ended-behind, behind-alone, settling-no-loss}
 use Rattle.still_laws.proofs.array_kept_ReadyLaws.{scope-same}
 use Rattle.still_laws.proofs.kept_history_Records.{begins-going}
-use Rattle.still_laws.proofs.still_kept_Flushing.{IsFlushedStill, all-mended, unflushed-stands}
+use Rattle.still_laws.proofs.still_kept_Flushing.{IsFlushedStill, unflushed-stands}
 use Rattle.still_laws.specs.running_words_Parts.{visible_size, still_left}
 use Rattle.still_laws.proofs.running_words_Called.{not_254, called, alone-lossless, risen-told, many-of}
 use Rattle.still_laws.proofs.running_words_Lengths.{alone-keeps, behind-keeps}
@@ -30,7 +30,9 @@ use Rattle.pieces.specs.views_Placed.{AreWhole}
 use Rattle.still_laws.specs.shape_changes_Marking.{AreOthersPresent}
 use Rattle.still_laws.specs.array_kept_Calls.{IsRefusedFor}
 use Rattle.still_laws.proofs.array_kept_ReplyLaws.{refused-for, too-many-of}
-use Rattle.still.proofs.Rested.{count-moved, entries-same, from-0, idle-called, le-of, room-1, room-49}
+use Rattle.still_laws.proofs.calls_kept_SettledLaws.{all-mended}
+use Rattle.still.proofs.Rested.{count-moved, from-0, le-of, room-1, room-49}
+use Rattle.still.proofs.Asked.{entries-alike, undone-called}
 use Rattle.still.proofs.state.Still.settle_entering.Goals as goal
 
 pub overflow_cast-count : goal.overflow_cast-count
@@ -237,12 +239,12 @@ pub returns-in-Err-clause-answered : goal.returns-in-Err-clause-answered
 returns-in-Err-clause-answered g c = c.make_room.ensures.items ∙ ap (λ p. p.parts.entries) c.self.view_is
 
 pub returns-in-Err-clause-unchanged : goal.returns-in-Err-clause-unchanged
-returns-in-Err-clause-unchanged g c = entries-same c.make_room.new.self.items c.self.view_is c.make_room.ensures.items
+returns-in-Err-clause-unchanged g c = entries-alike c.make_room.new.self.items c.self.view_is c.make_room.ensures.items
 
 pub returns-in-Err-clause-called : goal.returns-in-Err-clause-called
 returns-in-Err-clause-called g c =
     let kept = c.self.invariant.kept in
-    rw (← c.self.view_is) (idle-called kept.members_are.placed kept.members_are.unlost (λ t. (kept.recorded t).ended) (λ t. (kept.recorded t).begun) (entries-same c.make_room.new.self.items refl c.make_room.ensures.items))
+    rw (← c.self.view_is) (undone-called kept.members_are.placed kept.members_are.unlost (λ t. (kept.recorded t).ended) (λ t. (kept.recorded t).begun) (entries-alike c.make_room.new.self.items refl c.make_room.ensures.items))
 
 pub returns-in-Err-clause-whole : goal.returns-in-Err-clause-whole
 returns-in-Err-clause-whole g c = subst (λ p. AreWhole c.self.inside.members → AreWhole p.parts.members) c.self.view_is (λ whole. whole)

@@ -23,7 +23,7 @@ use Rattle.still_laws.specs.running_words_Calls.{moving_world, IsSameReshape}
 use Rattle.still_laws.proofs.StepLaws.{IsSameEpoch}
 use Rattle.election.specs.superblocks_Reading.{is_backward, shape_of, final_shape}
 use Rattle.election.specs.superblocks_the_Members.{Members}
-use Rattle.still.proofs.Rested.{entries-same}
+use Rattle.still.proofs.Asked.{entries-alike}
 use Rattle.still.proofs.state.Still.status.Goals as goal
 
 pub invariant_of-self : goal.invariant_of-self
@@ -99,7 +99,7 @@ returns-clause-same g c =
     rw (← c.self.view_is) (still-same (g.B.Bank.given c.self.inside.bank) (g.B.Bank.tape c.self.inside.bank) (record { uuid = c.enter.ensures.uuid; given = c.enter.ensures.given; first = c.enter.ensures.first; backup = refl; ahead = refl; limit = refl }) refl (λ t. (c.self.invariant.kept.recorded t).begun))
 
 pub returns-in-Err-make_room-clause-unchanged : goal.returns-in-Err-make_room-clause-unchanged
-returns-in-Err-make_room-clause-unchanged g c = entries-same c.make_room.new.self.items c.self.view_is c.make_room.ensures.items
+returns-in-Err-make_room-clause-unchanged g c = entries-alike c.make_room.new.self.items c.self.view_is c.make_room.ensures.items
 
 pub returns-in-Err-make_room-clause-ended : goal.returns-in-Err-make_room-clause-ended
 returns-in-Err-make_room-clause-ended g c = λ t. ap (λ (l : List Entry). last_end_from c.self.inside.epoch.first l) c.make_room.ensures.items ∙ (c.self.invariant.kept.recorded t).ended

@@ -1,5 +1,5 @@
 use Rattle.std.proofs.Common.{◌≤◌, length, subst, ℕ}
-use Rattle.still_laws.proofs.Going.{going-few}
+use Rattle.still_laws.proofs.kept_history_Records.{going-few}
 use Rattle.still.proofs.state.steps.check_going.Goals as goal
 
 pub returns : goal.returns

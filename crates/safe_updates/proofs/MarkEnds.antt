@@ -1,34 +1,27 @@
 -- The members at the end of a mark: where they are placed, which slots are live, and what the mark touched.
-use Rattle.std.proofs.Common.{◌≡◌, ◌⊎◌, inl, inr, ⊎_elim, ℕ, ◌<◌, ◌||◌, ◌&&◌, Bool, true, false, not, cond, nat_lt, max, List, Option, Some, None, unwrap_or, replicate, refl, sym, ◌∙◌, ap, arith}
+use Rattle.std.proofs.Common.{◌≡◌, ◌⊎◌, ℕ, ◌<◌, ◌||◌, ◌&&◌, Bool, true, false, not, cond, nat_lt, max, List, Option, Some, None, unwrap_or, replicate, refl, sym, ◌∙◌, ap, arith}
 use Rattle.std.specs.List.{list_any}
 use Rattle.std.proofs.lemmas.Bool.Decides.{nat_tests}
-use Rattle.role_changes.specs.md_base_Shapes.{has_slot}
-use Rattle.role_changes.specs.md_base_the_Shape.{Shape}
-use Rattle.role_changes.specs.md_base_the_Role.{Role}
-use Rattle.role_changes.specs.superblocks_the_Give.{Give}
-use Rattle.role_changes.specs.superblocks_the_Give_TheVariants.{Same}
-use Rattle.role_changes.specs.superblocks_the_Members.{Members}
-use Rattle.role_changes.specs.superblocks_Reading.{is_reshaping, shape_of, role_count}
-use Rattle.role_changes.specs.superblocks_Update.{give_of, is_held_by, is_planned_spare}
-use Rattle.role_changes.specs.superblocks_Updating.{IsSomeLeft}
-use Rattle.role_changes.specs.superblocks_Outcome.{live_set, planned_spares}
-use Rattle.role_changes.specs.superblocks_Reads.{has_spare}
-use Rattle.role_changes.proofs.superblocks_ReadLists.{by_bool}
-use Rattle.role_changes.proofs.superblock_reads_SaidSlots.{has-slots_below}
-use Rattle.role_changes.proofs.superblocks_UpdateReads.{some-or-all}
+use Rattle.layout.specs.md_base_Shapes.{has_slot}
+use Rattle.layout.specs.md_base_the_Shape.{Shape}
+use Rattle.layout.specs.md_base_the_Role.{Role}
+use Rattle.superblock_updates.specs.superblocks_the_Give.{Give}
+use Rattle.superblock_updates.specs.superblocks_the_Give_TheVariants.{Same}
+use Rattle.superblock_updates.specs.superblocks_the_Members.{Members}
+use Rattle.superblock_updates.specs.superblocks_Reading.{is_reshaping, shape_of, role_count}
+use Rattle.superblock_updates.specs.superblocks_Update.{give_of, is_held_by, is_planned_spare}
+use Rattle.superblock_updates.specs.superblocks_Updating.{IsSomeLeft}
+use Rattle.superblock_updates.specs.superblocks_Outcome.{live_set, planned_spares}
+use Rattle.superblock_updates.specs.superblocks_Reads.{has_spare}
+use Rattle.views.proofs.superblock_reads_SaidSlots.{has-slots_below}
 use Rattle.views.specs.Placed.{AreLess}
-use Rattle.role_changes.specs.shape_changes_Marking.{marking}
-use Rattle.role_changes.specs.shape_changes_Safety.{HasLiveSlot}
-use Rattle.role_changes.proofs.shape_changes_Kept.{give_of-same}
-use Rattle.role_changes.proofs.shape_changes_Without.{any-without, live-is}
+use Rattle.views.specs.shape_changes_Marking.{marking}
+use Rattle.views.specs.shape_changes_Safety.{HasLiveSlot}
+use Rattle.views.proofs.shape_changes_Kept.{give_of-same}
+use Rattle.views.proofs.shape_changes_Without.{any-without, live-is}
+use Rattle.views.proofs.shape_changes_Stretch.{some-left}
 
 -- ---- a live slot is left, or none
-
-pub some-left : (live lost : ℕ) → ((s : ℕ) → has_slot live s ≡ true → s < 32) → IsSomeLeft live lost ⊎ (IsSomeLeft live lost → ⊥)
-some-left live lost small = ⊎_elim (λ found. inl (found.0, found.2.0, found.2.1)) (λ all. inr (λ some. all some.0 (small some.0 some.1) some.1 some.2))
-    (some-or-all 32 (λ s. has_slot live s ≡ true → has_slot lost s ≡ false → ⊥) (λ s. (has_slot live s ≡ true) × (has_slot lost s ≡ false)) (λ s h. ⊎_elim
-    (λ is. ⊎_elim (λ gone. inl (λ is' none. absurd (let both = sym gone ∙ none in cc))) (λ none. inr (is, none)) (by_bool (has_slot lost s)))
-    (λ not_live. inl (λ is' none. absurd (let both = sym is' ∙ not_live in cc))) (by_bool (has_slot live s))))
 
 pub live-small : (m : Members) (clean : Bool) (s : ℕ) → has_slot (live_set m (marking m clean)) s ≡ true → s < 32
 live-small m clean s is = below (nat_lt s 32) refl (sym (live-is m clean s) ∙ is)

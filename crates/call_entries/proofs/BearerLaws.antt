@@ -4,9 +4,9 @@ use Rattle.std.specs.Prelude.{if◌then◌else◌, slice_index}
 use Rattle.std.proofs.lemmas.Bool.{cases_eq, cases_lt}
 use Rattle.std.proofs.lemmas.Bool.Decides.{nat_tests}
 use Rattle.std.proofs.lemmas.List.{get_or_default, get_or_past}
-use Rattle.role_changes.specs.md_base_Shapes.{has_slot}
-use Rattle.role_changes.proofs.md_base_Tabulated.{get_or-tabulate}
-use Rattle.role_changes.proofs.superblocks_SlotSets.{none_there, in-set_of}
+use Rattle.views.specs.md_base_Shapes.{has_slot}
+use Rattle.views.proofs.md_base_Tabulated.{get_or-tabulate}
+use Rattle.views.proofs.superblocks_SlotSets.{none_there, in-set_of}
 use Rattle.views.specs.declared.work.Work.{Work}
 use Rattle.views.specs.Numbers.{bears, is_carried, bearers, bearing}
 

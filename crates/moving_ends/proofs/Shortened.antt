@@ -3,65 +3,65 @@ use Rattle.std.proofs.Common.{◌≡◌, ◌≢◌, ◌⊎◌, inl, inr, ℕ, �
 use Rattle.std.specs.Prelude.{IsFalse, IfSome, ◌^◌, fold}
 use Rattle.std.proofs.lemmas.Bool.{and_parts, leb-true}
 use Rattle.std.proofs.lemmas.Bool.Decides.{nat_tests}
-use Rattle.history_calls.specs.md_base_Sectors.{Sector}
-use Rattle.history_calls.specs.md_base_the_Who.{Who}
-use Rattle.history_calls.specs.md_base_the_Shape.{Shape}
-use Rattle.history_calls.specs.md_base_Search.{count_below}
-use Rattle.history_calls.specs.md_base_Shapes.{data_disks, is_multiple, tolerance, tolerance_of}
-use Rattle.course_mends.specs.bank_the_Operation.{Operation}
-use Rattle.course_mends.specs.bank_Given.{Given}
-use Rattle.course_mends.specs.bank_Tape.{contents, disk}
-use Rattle.course_mends.specs.sb1_the_Sb.{Sb}
-use Rattle.course_mends.specs.geometry_Geometry.{AreInForce}
-use Rattle.course_mends.proofs.geometry_Divisions.{next_multiple}
-use Rattle.course_mends.specs.superblocks_the_Members.{Members}
-use Rattle.course_mends.specs.superblocks_Held.{AreDrawn}
-use Rattle.course_mends.specs.superblocks_Reading.{Scope, is_reshaping, is_backward, shape_of, list_length}
-use Rattle.course_mends.proofs.superblocks_ValidFields.{few-roles}
-use Rattle.course_mends.specs.row_io_Rows.{reading_of, present, is_missing}
-use Rattle.course_mends.specs.flat_history_the_Entry.{Entry}
-use Rattle.course_mends.specs.flat_history_the_Event.{Event}
-use Rattle.course_mends.specs.flat_history_the_Event_TheVariants.{Resized, Step}
-use Rattle.course_mends.specs.flat_history_the_StepKind_TheVariants.{Begun}
-use Rattle.course_mends.specs.flat_history_Epochs.{HasRoomForEvents}
-use Rattle.course_mends.specs.flat_history_Flat.{now, values_after, resized}
-use Rattle.course_mends.specs.flat_history_Legal.{told_left, left_after}
-use Rattle.course_mends.specs.flat_history_Losses.{is_unsynced}
-use Rattle.course_mends.specs.flat_history_Plain.{entries_of}
-use Rattle.course_mends.specs.flat_history_Sound.{OpensFit}
-use Rattle.course_mends.specs.flat_history_World.{World, contents_at, opening_list}
-use Rattle.course_mends.specs.shape_views_Regions.{DoWithout}
-use Rattle.course_mends.proofs.shape_views_Stands.{final-still}
-use Rattle.course_mends.specs.shape_ends_Ends.{IsCleared}
-use Rattle.course_mends.specs.shape_ends_Plans.{HasNoneRecovering}
-use Rattle.course_mends.proofs.shape_ends_EndLaws.{cleared-plain, fewer-pass}
-use Rattle.course_mends.specs.views_Moving.{Grows}
-use Rattle.course_mends.specs.views_Lacking.{DoesWithout, AreOtherRowsKept}
-use Rattle.course_mends.specs.views_Rebuilding.{AreSparesFree}
-use Rattle.course_mends.proofs.views_Fit.{count-alike, roles-still}
-use Rattle.course_mends.proofs.views_HeldRows.{missing-moved}
-use Rattle.course_mends.proofs.views_Still.{count-still}
-use Rattle.history_calls.specs.call_entries_Losing.{losses_of}
-use Rattle.history_calls.proofs.call_entries_CallLaws.{losses-are}
-use Rattle.history_calls.proofs.call_entries_LeftLaws.{left-behind, fold-left}
-use Rattle.course_mends.specs.reshape_updates_Beginning.{HasBegun, goes_back}
-use Rattle.course_mends.proofs.reshape_updates_BegunPlan.{planned-begun-is}
-use Rattle.course_mends.specs.reshape_ends_Begun.{begun_plan}
-use Rattle.history_calls.specs.kept_history_Recorded.{IsHistoryKept, IsCallGoing, IsOpenBehind}
-use Rattle.history_calls.specs.kept_history_Safe.{world_in, IsFilledRight}
-use Rattle.history_calls.specs.kept_history_Told.{told_now}
-use Rattle.history_calls.proofs.kept_history_Calls.{now-live}
-use Rattle.history_calls.proofs.kept_history_Growing.{fit-grown, room-before, room-now}
-use Rattle.history_calls.proofs.kept_history_Lengths.{now-drawn}
-use Rattle.history_calls.proofs.kept_history_Turned.{filled-before}
-use Rattle.course_mends.specs.course_kept_Laws.{closed}
-use Rattle.course_mends.proofs.course_kept_Frames.{does-or}
-use Rattle.course_mends.proofs.course_kept_Courses.{begins-stand}
-use Rattle.course_mends.specs.Mended.{StandsMended}
-use Rattle.course_mends.proofs.Mended.{none-pending}
-use Rattle.history_calls.specs.Reliable.{IsReliable, HasLastStep}
-use Rattle.history_calls.proofs.Behind.{early-losses}
-use Rattle.history_calls.proofs.LastStep.{keeps-last}
+use Rattle.moving_kept.specs.md_base_Sectors.{Sector}
+use Rattle.moving_kept.specs.md_base_the_Who.{Who}
+use Rattle.moving_kept.specs.md_base_the_Shape.{Shape}
+use Rattle.moving_kept.specs.md_base_Search.{count_below}
+use Rattle.moving_kept.specs.md_base_Shapes.{data_disks, is_multiple, tolerance, tolerance_of}
+use Rattle.moving_kept.specs.bank_the_Operation.{Operation}
+use Rattle.moving_kept.specs.bank_Given.{Given}
+use Rattle.moving_kept.specs.bank_Tape.{contents, disk}
+use Rattle.moving_kept.specs.sb1_the_Sb.{Sb}
+use Rattle.moving_kept.specs.geometry_Geometry.{AreInForce}
+use Rattle.moving_kept.proofs.geometry_Divisions.{next_multiple}
+use Rattle.moving_kept.specs.superblocks_the_Members.{Members}
+use Rattle.moving_kept.specs.superblocks_Held.{AreDrawn}
+use Rattle.moving_kept.specs.superblocks_Reading.{Scope, is_reshaping, is_backward, shape_of, list_length}
+use Rattle.moving_kept.proofs.superblocks_ValidFields.{few-roles}
+use Rattle.moving_kept.specs.row_io_Rows.{reading_of, present, is_missing}
+use Rattle.moving_kept.specs.flat_history_the_Entry.{Entry}
+use Rattle.moving_kept.specs.flat_history_the_Event.{Event}
+use Rattle.moving_kept.specs.flat_history_the_Event_TheVariants.{Resized, Step}
+use Rattle.moving_kept.specs.flat_history_the_StepKind_TheVariants.{Begun}
+use Rattle.moving_kept.specs.flat_history_Epochs.{HasRoomForEvents}
+use Rattle.moving_kept.specs.flat_history_Flat.{now, values_after, resized}
+use Rattle.moving_kept.specs.flat_history_Legal.{told_left, left_after}
+use Rattle.moving_kept.specs.flat_history_Losses.{is_unsynced}
+use Rattle.moving_kept.specs.flat_history_Plain.{entries_of}
+use Rattle.moving_kept.specs.flat_history_Sound.{OpensFit}
+use Rattle.moving_kept.specs.flat_history_World.{World, contents_at, opening_list}
+use Rattle.moving_kept.specs.shape_views_Regions.{DoWithout}
+use Rattle.moving_kept.proofs.shape_views_Stands.{final-still}
+use Rattle.moving_kept.specs.shape_ends_Ends.{IsCleared}
+use Rattle.moving_kept.specs.shape_ends_Plans.{HasNoneRecovering}
+use Rattle.moving_kept.proofs.shape_ends_EndLaws.{cleared-plain, fewer-pass}
+use Rattle.moving_kept.specs.views_Moving.{Grows}
+use Rattle.moving_kept.specs.views_Lacking.{DoesWithout, AreOtherRowsKept}
+use Rattle.moving_kept.specs.views_Rebuilding.{AreSparesFree}
+use Rattle.moving_kept.proofs.views_Fit.{count-alike, roles-still}
+use Rattle.moving_kept.proofs.views_HeldRows.{missing-moved}
+use Rattle.moving_kept.proofs.views_Still.{count-still}
+use Rattle.moving_kept.specs.call_entries_Losing.{losses_of}
+use Rattle.moving_kept.proofs.call_entries_CallLaws.{losses-are}
+use Rattle.moving_kept.proofs.call_entries_LeftLaws.{left-behind, fold-left}
+use Rattle.moving_kept.specs.reshape_updates_Beginning.{HasBegun, goes_back}
+use Rattle.moving_kept.proofs.reshape_updates_BegunPlan.{planned-begun-is}
+use Rattle.moving_kept.specs.reshape_ends_Begun.{begun_plan}
+use Rattle.moving_kept.specs.kept_history_Recorded.{IsHistoryKept, IsCallGoing, IsOpenBehind}
+use Rattle.moving_kept.specs.kept_history_Safe.{world_in, IsFilledRight}
+use Rattle.moving_kept.specs.kept_history_Told.{told_now}
+use Rattle.moving_kept.proofs.kept_history_Calls.{now-live}
+use Rattle.moving_kept.proofs.kept_history_Growing.{fit-grown, room-before, room-now}
+use Rattle.moving_kept.proofs.kept_history_Lengths.{now-drawn}
+use Rattle.moving_kept.proofs.kept_history_Turned.{filled-before}
+use Rattle.moving_kept.specs.course_kept_Laws.{closed}
+use Rattle.moving_kept.proofs.course_kept_Frames.{does-or}
+use Rattle.moving_kept.proofs.course_kept_Courses.{begins-stand}
+use Rattle.moving_kept.specs.course_mends_Mended.{StandsMended}
+use Rattle.moving_kept.proofs.course_mends_Mended.{none-pending}
+use Rattle.moving_kept.specs.history_calls_Reliable.{IsReliable, HasLastStep}
+use Rattle.moving_kept.proofs.history_calls_Behind.{early-losses}
+use Rattle.moving_kept.proofs.history_calls_LastStep.{keeps-last}
 use Rattle.moving_kept.specs.Moving.{HasListInCourse, IsStillKept, IsMoving}
 use Rattle.moving_kept.proofs.Begun.{AreBegun}
 use Rattle.moving_kept.proofs.BegunCall.{IsBegunBy}
@@ -70,7 +70,7 @@ use Rattle.moving_kept.proofs.BegunRead.{begun-either}
 use Rattle.moving_kept.proofs.Beginning.{safe-over}
 use Rattle.moving_kept.proofs.Quiet.{IsLeftBy}
 use Rattle.moving_kept.proofs.ReadShapes.{IsEitherRead}
-use Rattle.moving_kept.proofs.Shortening.{IsShorteningCall, shortened-gone, shortened-recorded, shortened-level, shortened-unclean, shortened-unsynced, shortened-values, shortened-safe}
+use Rattle.moving_ends.proofs.Shortening.{IsShorteningCall, shortened-gone, shortened-recorded, shortened-level, shortened-unclean, shortened-unsynced, shortened-values, shortened-safe}
 
 -- ---- the record
 

@@ -1,67 +1,68 @@
 -- A reshape that makes the list shorter begins in an array that had none: the call tells its step, the new length, and what its update lost. Where no live slot is left, no slot
 -- need have kept that length, but all roles are gone.
-use Rattle.std.proofs.Common.{◌≡◌, ◌≢◌, ◌⊎◌, inl, inr, ℕ, ◌+◌, ◌<◌, ◌≤◌, ◌==◌, ◌&&◌, ◌||◌, nat_lt, max, not, Bool, true, false, cond, unwrap_or, Option, Some, None, List, [], ◌∷◌, ◌++◌, length, refl, sym, ◌∙◌, ap, subst, arith, append_assoc, append-nil}
-use Rattle.std.specs.Prelude.{IsFalse, IsTrue, IfSome, MatchOption, fold, filter, slice_index_or, ⊤}
+use Rattle.std.proofs.Common.{◌≡◌, ◌≢◌, ◌⊎◌, inl, inr, ℕ, ◌+◌, ◌<◌, ◌≤◌, ◌==◌, ◌&&◌, ◌||◌, nat_lt, max, Bool, true, false, cond, Option, Some, None, List, [], ◌∷◌, ◌++◌, length, refl, sym, ◌∙◌, ap, subst, arith, append_assoc, append-nil}
+use Rattle.std.specs.Prelude.{IsFalse, IsTrue, IfSome, MatchOption, fold, slice_index_or, ⊤}
 use Rattle.std.specs.List.{list_any}
 use Rattle.std.specs.Option.{option_map_or}
 use Rattle.std.proofs.lemmas.Bool.Decides.{nat_tests}
 use Rattle.std.proofs.lemmas.List.Sums.{fold-append}
-use Rattle.history_calls.specs.md_base_Search.{all_below}
-use Rattle.history_calls.specs.md_base_Sectors.{Sector}
-use Rattle.history_calls.specs.md_base_the_Who.{Who}
-use Rattle.history_calls.specs.md_base_the_Shape.{Shape}
-use Rattle.course_mends.specs.bank_the_Operation.{Operation}
-use Rattle.course_mends.specs.bank_Given.{Given, sizes}
-use Rattle.course_mends.specs.bank_Tape.{IsIn, disk}
-use Rattle.course_mends.specs.sb1_the_Sb.{Sb}
-use Rattle.course_mends.specs.superblocks_the_Members.{Members}
-use Rattle.course_mends.specs.superblocks_Reading.{Scope, Reading, shape_of, final_shape, list_length, role_count}
-use Rattle.course_mends.specs.row_io_Rows.{reading_of, is_missing}
-use Rattle.course_mends.specs.flat_history_the_Entry.{Entry}
-use Rattle.course_mends.specs.flat_history_the_Event.{Event}
-use Rattle.course_mends.specs.flat_history_the_Event_TheVariants.{Resized, Step}
-use Rattle.course_mends.specs.flat_history_the_StepKind_TheVariants.{Begun}
-use Rattle.course_mends.specs.flat_history_Epochs.{HasRoomForEvents}
-use Rattle.course_mends.specs.flat_history_Flat.{length_of, values_of, values_after, now, is_same_call, last_of}
-use Rattle.course_mends.specs.flat_history_Flat.{resized as cut}
-use Rattle.course_mends.specs.flat_history_Growing.{EndBy}
-use Rattle.course_mends.specs.flat_history_Legal.{told_left, level_at, level_after, call_before, disturbs, is_loss, last_but_losses, is_all_gone, IsLengthOfLevel, IsUnkeptLength, IsResizedAfter, IsResized}
-use Rattle.course_mends.specs.flat_history_Losses.{is_gone_after, is_unsynced, unsettles, loses}
-use Rattle.course_mends.specs.flat_history_OneShape.{is_lost, is_unsettled}
-use Rattle.course_mends.specs.flat_history_Plain.{entries_of}
-use Rattle.course_mends.specs.flat_history_Sound.{OpensFit}
-use Rattle.course_mends.specs.flat_history_World.{World, contents_at, reading_at, opening_list}
-use Rattle.history_calls.proofs.history_laws_OneShapeGrowing.{AreFaults}
-use Rattle.course_mends.specs.shape_views_Views.{Ledger}
-use Rattle.course_mends.specs.shape_changes_Changing.{IsSafeChange}
-use Rattle.course_mends.specs.shape_changes_Safety.{HasLiveSlot, HasRoomLeft, IsRisen}
-use Rattle.course_mends.specs.views_Placed.{IsPlaced}
-use Rattle.course_mends.specs.shape_changes_Steady.{AreUnlost, IsMoreTold, IsSafeNow, IsSafeOver, AreGoneTold}
-use Rattle.course_mends.specs.shape_ends_Ends.{IsToldWith}
-use Rattle.course_mends.proofs.views_SoundViews.{throughout-changed}
-use Rattle.history_calls.specs.call_entries_Losing.{losses_of}
-use Rattle.history_calls.proofs.call_entries_CallLaws.{losses-are}
-use Rattle.history_calls.proofs.call_entries_PlainLaws.{last_end-call}
-use Rattle.history_calls.proofs.call_entries_StepLaws.{faults-are}
-use Rattle.history_calls.specs.kept_history_Recorded.{IsHistoryKept, IsLegalCall, IsCallGoing, IsOpenBehind, entry_of, ends_reshape, gives_some}
-use Rattle.history_calls.specs.kept_history_Safe.{world_in, IsFilledRight, IsSafeHistory}
-use Rattle.history_calls.specs.kept_history_Told.{told_now, told_by}
-use Rattle.history_calls.proofs.kept_history_Growing.{reading-grown, opening-grown, fit-grown, gone-grown, unsynced-grown, now-grown, room-before, room-now}
-use Rattle.history_calls.proofs.kept_history_Ledgers.{more-then, any-gone, unclean-now, unsynced-still, none-ends}
-use Rattle.history_calls.proofs.kept_history_Longer.{regains-none}
-use Rattle.history_calls.proofs.kept_history_Lengths.{length-now}
-use Rattle.history_calls.proofs.kept_history_Lists.{newest-in}
-use Rattle.history_calls.proofs.kept_history_Calls.{now-live}
-use Rattle.history_calls.proofs.kept_history_Entered.{AreAdding, told-adding, settle-none, values-more, values-adding, length-adding, gone-was, gone-lost}
-use Rattle.history_calls.proofs.kept_history_KeptCalls.{kept-call}
-use Rattle.history_calls.proofs.kept_history_Reshapes.{call-ends_none}
-use Rattle.history_calls.proofs.kept_history_Turned.{begun-old, filled-before}
-use Rattle.history_calls.proofs.kept_history_Turns.{turned-length, turned-values, resized-call}
-use Rattle.history_calls.specs.Reliable.{IsReliable, AreToldGone}
+use Rattle.moving_kept.specs.md_base_Search.{all_below}
+use Rattle.moving_kept.specs.md_base_Sectors.{Sector}
+use Rattle.moving_kept.specs.md_base_the_Who.{Who}
+use Rattle.moving_kept.specs.md_base_the_Shape.{Shape}
+use Rattle.moving_kept.specs.bank_the_Operation.{Operation}
+use Rattle.moving_kept.specs.bank_Given.{Given, sizes}
+use Rattle.moving_kept.specs.bank_Tape.{IsIn, disk}
+use Rattle.moving_kept.specs.sb1_the_Sb.{Sb}
+use Rattle.moving_kept.specs.superblocks_the_Members.{Members}
+use Rattle.moving_kept.specs.superblocks_Reading.{Scope, Reading, shape_of, final_shape, list_length, role_count}
+use Rattle.moving_kept.specs.row_io_Rows.{reading_of, is_missing}
+use Rattle.moving_kept.specs.flat_history_the_Entry.{Entry}
+use Rattle.moving_kept.specs.flat_history_the_Event.{Event}
+use Rattle.moving_kept.specs.flat_history_the_Event_TheVariants.{Resized, Step}
+use Rattle.moving_kept.specs.flat_history_the_StepKind_TheVariants.{Begun}
+use Rattle.moving_kept.specs.flat_history_Epochs.{HasRoomForEvents}
+use Rattle.moving_kept.specs.flat_history_Flat.{length_of, values_of, values_after, now, is_same_call}
+use Rattle.moving_kept.specs.flat_history_Flat.{resized as cut}
+use Rattle.moving_kept.specs.flat_history_Growing.{EndBy}
+use Rattle.moving_kept.specs.flat_history_Legal.{told_left, level_at, level_after, call_before, disturbs, is_all_gone, IsLengthOfLevel, IsUnkeptLength, IsResizedAfter, IsResized}
+use Rattle.moving_kept.specs.flat_history_Losses.{is_gone_after, is_unsynced, unsettles, loses}
+use Rattle.moving_kept.specs.flat_history_OneShape.{is_lost, is_unsettled}
+use Rattle.moving_kept.specs.flat_history_Plain.{entries_of}
+use Rattle.moving_kept.specs.flat_history_Sound.{OpensFit}
+use Rattle.moving_kept.specs.flat_history_World.{World, contents_at, reading_at, opening_list}
+use Rattle.moving_kept.proofs.history_laws_OneShapeGrowing.{AreFaults, call-ends}
+use Rattle.moving_kept.specs.shape_views_Views.{Ledger}
+use Rattle.moving_kept.specs.shape_changes_Changing.{IsSafeChange}
+use Rattle.moving_kept.specs.shape_changes_Safety.{HasLiveSlot, HasRoomLeft, IsRisen}
+use Rattle.moving_kept.specs.views_Placed.{IsPlaced}
+use Rattle.moving_kept.specs.shape_changes_Steady.{AreUnlost, IsMoreTold, IsSafeNow, IsSafeOver, AreGoneTold}
+use Rattle.moving_kept.specs.shape_ends_Ends.{IsToldWith}
+use Rattle.moving_kept.proofs.views_SoundViews.{throughout-changed}
+use Rattle.moving_kept.specs.call_entries_Losing.{losses_of}
+use Rattle.moving_kept.proofs.call_entries_CallLaws.{losses-are}
+use Rattle.moving_kept.proofs.call_entries_StepLaws.{faults-are}
+use Rattle.moving_kept.specs.kept_history_Recorded.{IsHistoryKept, IsLegalCall, IsCallGoing, IsOpenBehind, entry_of, ends_reshape, gives_some}
+use Rattle.moving_kept.specs.kept_history_Safe.{world_in, IsFilledRight, IsSafeHistory}
+use Rattle.moving_kept.specs.kept_history_Told.{told_now, told_by}
+use Rattle.moving_kept.proofs.kept_history_Growing.{reading-grown, opening-grown, fit-grown, gone-grown, unsynced-grown, now-grown, room-before, room-now}
+use Rattle.moving_kept.proofs.kept_history_Ledgers.{more-then, any-gone, unclean-now}
+use Rattle.moving_kept.proofs.kept_history_Longer.{regains-none}
+use Rattle.moving_kept.proofs.kept_history_Lengths.{length-now}
+use Rattle.moving_kept.proofs.kept_history_Lists.{newest-in}
+use Rattle.moving_kept.proofs.kept_history_Calls.{now-live}
+use Rattle.moving_kept.proofs.kept_history_Entered.{AreAdding, told-adding, settle-none, values-more, values-adding, length-adding, gone-was, gone-lost}
+use Rattle.moving_kept.proofs.kept_history_KeptCalls.{kept-call}
+use Rattle.moving_kept.proofs.kept_history_Reshapes.{call-ends_none}
+use Rattle.moving_kept.proofs.kept_history_Turned.{begun-old, filled-before}
+use Rattle.moving_kept.proofs.kept_history_Turns.{turned-length, turned-values, resized-call}
+use Rattle.moving_kept.specs.history_calls_Reliable.{IsReliable, AreToldGone}
 use Rattle.moving_kept.proofs.Beginning.{told_before}
-use Rattle.history_calls.proofs.Behind.{IsAmong, early-losses, inner-of, legal-losses, or-false}
+use Rattle.moving_kept.proofs.history_calls_Behind.{IsAmong, early-losses, inner-of, legal-losses, or-false}
 use Rattle.moving_kept.proofs.NoneLeft.{all_below-each, none-held}
 use Rattle.moving_kept.proofs.ReadShapes.{HasShapesOf, IsEitherRead}
+use Rattle.moving_kept.proofs.history_calls_LastStep.{last-step}
+use Rattle.moving_kept.proofs.array_kept_LedgerLaws.{none-ends, unsynced-more}
 
 -- What the begin of such a reshape leaves: its update is safe from one ledger to another, what is missing then was missing among the roles of the old shape or is told
 -- lost, what is read at its end says the shapes as before or as planned, and the list has its new length, that of a shape of the array's level.
@@ -87,14 +88,6 @@ pub record IsShorteningCall (given : Given) (tape : List Operation) (scope : Sco
       → IsSafeOver (world_in given tape scope first) given told old tape → IsSafeChange (OpensFit (world_in given tape scope first)) scope given told more new tape tape'
 
 -- ---- the last entry that is no loss
-
-last-kept : (xs : List Entry) (e : Entry) → is_loss e.event ≡ false → last_but_losses (xs ++ e ∷ []) ≡ Some e
-last-kept [] e none = ap (λ (b : Bool). last_of (cond (not b) (e ∷ []) [])) none
-last-kept (x ∷ xs) e none = by (is_loss x.event) (last-kept xs e none)
-  where
-    by : (b : Bool) → last_of (filter (λ e. not (is_loss e.event)) (xs ++ e ∷ [])) ≡ Some e → last_of (cond (not b) (x ∷ filter (λ e. not (is_loss e.event)) (xs ++ e ∷ [])) (filter (λ e. not (is_loss e.event)) (xs ++ e ∷ []))) ≡ Some e
-    by true rest = rest
-    by false rest = ap (λ (o : Option Entry). Some (unwrap_or o x)) rest
 
 module _ (given : Given) (tape : List Operation) (scope : Scope) (first : ℕ) (entries : List Entry) (old plan new : Members) (carried carried' : ℕ → ℕ → Bool) (who : Who) (left n roles spares : ℕ) (ops : List Operation)
     (sizes_are : scope.sizes ≡ sizes given) (begun : first ≤ length tape) (ends : EndBy (length tape) entries) (recorded : length_of (length (opening_list (world_in given tape scope first))) entries ≡ list_length old.newest)
@@ -310,7 +303,7 @@ module _ (given : Given) (tape : List Operation) (scope : Scope) (first : ℕ) (
 
   -- and a resync is as pending
   pub shortened-unsynced : is_unsynced later all ≡ is_unsynced world entries
-  shortened-unsynced = unsynced-grown world ops begun all ∙ unsynced-still world entries added (none-ends added (settle-none more adds-more))
+  shortened-unsynced = unsynced-grown world ops begun all ∙ unsynced-more world entries added (none-ends added (settle-none more adds-more))
 
   -- each sector that the list keeps has the value that it had
   pub shortened-values : (x : ℕ) → x < n → now (opening_list later) all x ≡ now (opening_list world) entries x
@@ -365,7 +358,7 @@ module _ (given : Given) (tape : List Operation) (scope : Scope) (first : ℕ) (
 
     -- the length is what the members that are left say
     resized-legal : IsReliable later all → IsResized later (entries ++ entry ∷ []) change_entry more n
-    resized-legal fills = subst (λ (o : Option Entry). MatchOption o ⊥ (λ last. IsTrue (is_same_call last change_entry) × IsResizedAfter later (entries ++ entry ∷ []) change_entry more n last.event)) (sym (last-kept entries entry refl)) (
+    resized-legal fills = subst (λ (o : Option Entry). MatchOption o ⊥ (λ last. IsTrue (is_same_call last change_entry) × IsResizedAfter later (entries ++ entry ∷ []) change_entry more n last.event)) (sym (last-step entries entry refl)) (
       same-call who.caller who.number,
       record {
         changes =
@@ -411,5 +404,5 @@ module _ (given : Given) (tape : List Operation) (scope : Scope) (first : ℕ) (
         kept-call (IsReliable world entries) (IsReliable later all) world ops (list_length old.newest) (list_length new.newest) entries who (Step Begun left ∷ Resized n ∷ losses_of roles spares) goes kept
         right-before caller (λ fills. inl behind)
         (turned-length later entries who end (Step Begun left ∷ []) n (losses_of roles spares) faults (length (opening_list world)) ∙ sym call.sized)
-        (last_end-call first entries who end (Step Begun left) (Resized n ∷ losses_of roles spares))
+        (call-ends first entries who end (Step Begun left) (Resized n ∷ losses_of roles spares))
         (λ fills. shortened-legal fills told) (λ fills fit. call-ends_none later entries who end (Step Begun left ∷ Resized n ∷ losses_of roles spares) (shortened-ends_none some))
