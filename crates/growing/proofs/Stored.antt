@@ -1,0 +1,57 @@
+-- What the stored superblocks say of an array that runs: what its members do.
+use Rattle.std.proofs.Common.{◌≡◌, inl, inr, ℕ, Bool, List, length, sym, ◌∙◌, ap, subst}
+use Rattle.std.specs.Prelude.{slice_index_or, ⊤}
+use Rattle.running_replies.specs.md_base_the_Role.{Role}
+use Rattle.running_replies.specs.md_base_the_Role_TheVariants.{Missing}
+use Rattle.running_replies.specs.bank_the_Operation.{Operation}
+use Rattle.running_replies.specs.bank_Given.{Given}
+use Rattle.turning.specs.sb1_the_Sb.{Sb}
+use Rattle.turning.specs.superblocks_the_Members.{Members}
+use Rattle.turning.specs.superblocks_Reading.{Scope, holder, role_state}
+use Rattle.turning.specs.superblocks_Reads.{SaysSame}
+use Rattle.turning.specs.row_io_Rows.{present, reading_of, members_without}
+use Rattle.turning.proofs.row_io_Losses.{state_after, state_kept}
+use Rattle.running_replies.specs.flat_history_the_Entry.{Entry}
+use Rattle.turning.specs.flat_history_World.{reading_at}
+use Rattle.turning.specs.shape_changes_Safety.{HasLiveSlot}
+use Rattle.turning.proofs.shape_changes_Steady.{held-read}
+use Rattle.turning.specs.kept_history_Recorded.{IsHistoryKept}
+use Rattle.turning.specs.kept_history_Safe.{world_in, IsNowRight, IsSafeHistory}
+use Rattle.turning.proofs.kept_history_Lengths.{now-drawn}
+use Rattle.running_replies.specs.history_calls_Reliable.{IsReliable}
+use Rattle.turning.specs.running_words_Calls.{moving_world}
+use Rattle.turning.specs.running_words_Parts.{RunningParts}
+use Rattle.growing.specs.Stored.{AreStoredAt, IsStoredBy}
+
+-- As long as a slot is left that is written, the superblocks are held as the members had it before they lost slots.
+pub stored-now : (given : Given) (tape : List Operation) (scope : Scope) (first : ℕ) (entries : List Entry) (m : Members) (carried : ℕ → ℕ → Bool) (reshaping : Bool)
+    → IsNowRight (world_in given tape scope first) given m carried reshaping entries → HasLiveSlot m → AreStoredAt (world_in given tape scope first) (length tape) m
+unfolding reading_at
+stored-now given tape scope first entries m carried reshaping (inr unkept) live = absurd (unkept.spent.none live)
+stored-now given tape scope first entries m carried reshaping (inl (inr spent)) live = absurd (spent.none live)
+stored-now given tape scope first entries m carried reshaping (inl (inl steady)) live =
+    let said = held-read scope given steady.former tape steady.since.held (present given tape) (record { eighth = λ slot seen. now-drawn given tape slot 8; ninth = λ slot seen. now-drawn given tape slot 9 }) in
+    let before : (role : ℕ) → role_state (reading_of m) role ≡ role_state (reading_of (members_without steady.since.gone steady.former)) role = λ role. ap (λ (k : Members). role_state (reading_of k) role) steady.since.since in
+    record {
+      found = said.0;
+      is = said.1;
+      array = subst (λ (sb : Sb). SaysSame sb said.0.newest) (sym (ap (λ (k : Members). k.newest) steady.since.since)) said.2.array;
+      held = λ role slot holds.
+          let after = before role ∙ state_after steady.former steady.since.gone role in
+          let kept = state_kept steady.since.gone slot (role_state (reading_of steady.former) role) (ap holder (sym after) ∙ holds) in
+          ap (λ (l : List Role). slice_index_or l role Missing) said.2.roles ∙ sym (after ∙ kept.same);
+    }
+
+-- So it is where a history is kept whose marks are safe.
+pub stored-by : {B : Type 0} {right : Type 0} {size : ℕ} {carried : ℕ → ℕ → Bool} {reshaping : Bool} (given : Given) (tape : List Operation) (array : RunningParts B)
+    → IsHistoryKept right (moving_world given tape array) size array.parts.entries
+    → (IsReliable (moving_world given tape array) array.parts.entries → IsSafeHistory ⊤ (moving_world given tape array) given array.parts.members carried reshaping array.parts.entries)
+    → IsStoredBy (moving_world given tape array) array
+stored-by {carried = carried} {reshaping = reshaping} given tape array recorded safe = record {
+  begun = recorded.begun;
+  ends = recorded.ends;
+  stored = λ relied live.
+      let world = moving_world given tape array in
+      subst (λ (mark : ℕ). AreStoredAt world mark array.parts.members) (sym recorded.ended)
+      (stored-now given tape world.scope array.parts.first array.parts.entries array.parts.members carried reshaping (safe relied).now live);
+}
