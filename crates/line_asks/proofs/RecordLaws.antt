@@ -335,6 +335,7 @@ stored-longer world ops array was = record {
         is = ap (reading world.scope) (λ i slot k. contents-earlier world.start world.tape ops (last_end_from world.first array.parts.entries) slot k (last-within (length world.tape) world.first array.parts.entries was.begun was.ends) i) ∙ at.is;
         array = at.array;
         held = at.held;
+        spares = at.spares;
       };
 }
 
