@@ -49,6 +49,7 @@ use Rattle.growing.specs.turning_Ended.{IsReshapeEnded}
 use Rattle.growing.proofs.still_laws_PlansKept.{AddNoPlan, add-nothing, plans-kept, plans-closed, aim-begun, aim-ended}
 use Rattle.takeover.specs.TakenOver.{IsTakeoverNext, IsLevelTaken, IsUntouched}
 use Rattle.takeover.proofs.TakenFrom.{WasSpareOrHeld, taken-roles, taken-spares}
+use Rattle.growing.specs.Stored.{IsStoredBy}
 use Rattle.running.specs.State.{IsStillNow, AreTakeovers, IsOneReshape, AreBacked, IsNextBacked, IsWithin, IsBackupAside, AreClosedIdle, IsAtRest, IsInReshape}
 use Rattle.running.proofs.Closed.{closed-kept, closed-ended, closed-taken}
 use Rattle.running.proofs.Entered.{add-begun, begun-turns, add-ended, add-taken}
@@ -347,13 +348,17 @@ module _ {B : Type 0} {tells : Type 0} (given : B → Given) (tape : B → List 
 
 -- ---- room for steps
 
+-- what is stored is the same
+stored-same : {B : Type 0} {world : World} {array : RunningParts B} {n : ℕ} → IsStoredBy world array → IsStoredBy world (record array { parts = record array.parts { steps = n } })
+stored-same was = record { begun = was.begun; ends = was.ends; stored = was.stored }
+
 module _ {B : Type 0} {tells : Type 0} (given : B → Given) (tape : B → List Operation) (window n : ℕ) (old new : RunningParts B) where
   -- where room is made, and where memory is short for it
   pub roomy-rest : {T E : Type 0} (result : Result T E) → OnOk result (new ≡ record old { parts = record old.parts { steps = n } }) → OnErr result (new ≡ old)
       → IsAtRest tells (given old.parts.bank) (tape old.parts.bank) window old → IsAtRest tells (given new.parts.bank) (tape new.parts.bank) window new
   roomy-rest (Ok x) same none was = subst (λ p. IsAtRest tells (given p.parts.bank) (tape p.parts.bank) window p) (sym same) (record {
     now = record { still = was.now.still; course = was.now.course };
-    within = record { begun = was.within.begun; ends = was.within.ends; sized = was.within.sized; limited = was.within.limited; told = was.within.told };
+    within = record { begun = was.within.begun; ends = was.within.ends; sized = was.within.sized; limited = was.within.limited; told = was.within.told; stored = λ t. stored-same (was.within.stored t) };
     one = was.one;
     next = was.next;
     aside = was.aside;
@@ -366,7 +371,7 @@ module _ {B : Type 0} {tells : Type 0} (given : B → Given) (tape : B → List 
       → IsInReshape tells (given old.parts.bank) (tape old.parts.bank) old → IsInReshape tells (given new.parts.bank) (tape new.parts.bank) new
   roomy-reshape (Ok x) same none was = subst (λ p. IsInReshape tells (given p.parts.bank) (tape p.parts.bank) p) (sym same) (record {
     active = was.active;
-    within = record { begun = was.within.begun; ends = was.within.ends; sized = was.within.sized; limited = was.within.limited; told = was.within.told };
+    within = record { begun = was.within.begun; ends = was.within.ends; sized = was.within.sized; limited = was.within.limited; told = was.within.told; stored = λ t. stored-same (was.within.stored t) };
     last = was.last;
     turned = was.turned;
     plans = was.plans;
