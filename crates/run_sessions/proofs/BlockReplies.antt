@@ -55,12 +55,12 @@ block-lanes lines block =
     not-worker lane is same = absurd (let clash : InWorker ≡ InScript = sym is ∙ same in cc)
 
 -- all but the last are those of its lanes
-IsOfLanes : Lane → Type 0
+abbrev IsOfLanes : Lane → Type 0
 IsOfLanes InA = ⊤
 IsOfLanes InB = ⊤
 IsOfLanes lane = ⊥
 
-pub AreOfLanes : List Numbered → Type 0
+abbrev pub AreOfLanes : List Numbered → Type 0
 AreOfLanes [] = ⊤
 AreOfLanes (l ∷ []) = ⊤
 AreOfLanes (l ∷ m ∷ lines) = IsOfLanes l.lane × AreOfLanes (m ∷ lines)
