@@ -7,6 +7,7 @@ pub mod PlanLaws
 pub mod Unbroken
 pub mod Aside
 pub mod Replied
+pub mod Stored
 pub mod Windows
 mod Told
 pub use Rattle.running_replies.proofs.Fitting as running_replies_Fitting

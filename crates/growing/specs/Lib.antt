@@ -1,6 +1,7 @@
 pub mod Planned
 pub mod Plans
 pub mod Replied
+pub mod Stored
 pub use Rattle.running_replies.specs.Going as running_replies_Going
 pub use Rattle.running_replies.specs.Limits as running_replies_Limits
 pub use Rattle.running_replies.specs.Replies as running_replies_Replies

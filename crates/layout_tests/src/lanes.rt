@@ -1,8 +1,9 @@
 //! Each call of `parity_lanes` beside the one of `parity`, byte for byte, on the rows of every layout.
 
-ghost use Rattle.std.specs.Prelude.{◌≡◌, ◌≢◌, ◌+◌, ◌*◌, ◌<◌, ◌≤◌, IsSome, length};
+ghost use Rattle.std.specs.Prelude.{◌≢◌, ◌+◌, ◌*◌, ◌<◌, ◌≤◌, IsSome, length};
 ghost use Rattle.parity.specs.Rows.{IsRowRoles};
 
+use crate::layouts::LAYOUTS;
 use geometry::limits::is_valid_shape;
 use layout::row_of;
 use md_base::{RowRoles, Shape};
@@ -115,25 +116,7 @@ fn compare_shape(rt: &impl Abort, shape: &Shape) -> Result<(), Fail> {
 
 #[test]
 fn same_as_parity(rt: HostRuntime) -> Result<(), Fail> {
-    for (level, layout) in [
-        (5, 0),
-        (5, 1),
-        (5, 2),
-        (5, 3),
-        (5, 4),
-        (5, 5),
-        (6, 0),
-        (6, 1),
-        (6, 2),
-        (6, 3),
-        (6, 4),
-        (6, 5),
-        (6, 16),
-        (6, 17),
-        (6, 18),
-        (6, 19),
-        (6, 20),
-    ] {
+    for (level, layout) in LAYOUTS {
         for disks in 4..8u32 {
             compare_shape(
                 &rt,

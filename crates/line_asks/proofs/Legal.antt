@@ -37,7 +37,7 @@ use Rattle.run_laws.proofs.Worlds.{room-before, fills-before, keeps-before, acce
 use Rattle.run_laws.specs.Ended.{IsLegalEpoch, AreLegal, IfReliable, IfShapeKept, IsSafeEpoch, AreSafe, next_mark, AreRising, AreFormer, IsGoing}
 use Rattle.run_laws.proofs.views_SafeStretch.{grows-longer}
 
-ends_later : (a b : ℕ) (entries : List Entry) → a ≤ b → EndBy a entries → EndBy b entries
+pub ends_later : (a b : ℕ) (entries : List Entry) → a ≤ b → EndBy a entries → EndBy b entries
 ends_later a b [] le was = tt
 ends_later a b (e ∷ entries) le (one, rest) = (omega (arith, le, one), ends_later a b entries le rest)
 

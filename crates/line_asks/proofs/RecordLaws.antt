@@ -1,7 +1,7 @@
 -- The records of the array that runs, from line to line: what a call leaves, that they stay such as histories grow and over a longer time, and that one line more has one more.
-use Rattle.std.proofs.Common.{◌≡◌, inl, inr, ℕ, ◌+◌, false, Option, Some, None, Result, Ok, Err, List, [], ◌∷◌, ◌++◌, length, drop, refl, sym, ◌∙◌, ap, subst, arith, append_assoc}
+use Rattle.std.proofs.Common.{◌≡◌, inl, inr, ℕ, ◌+◌, false, Option, Some, None, Result, Ok, Err, List, [], ◌∷◌, ◌++◌, length, drop, refl, sym, ◌∙◌, ap, subst, arith, append_assoc, length-append}
 use Rattle.std.proofs.Math.Seq.{drop-append_seam}
-use Rattle.std.specs.Prelude.{slice_get, IfOk, IsTrue, MatchOption}
+use Rattle.std.specs.Prelude.{slice_get, IfOk, IfSome, IsTrue, MatchOption}
 use Rattle.std.specs.List.{list_any}
 use Rattle.std.specs.Option.{option_map_or}
 use Rattle.run_laws.specs.md_base_the_NoMemory.{NoMemory}
@@ -10,22 +10,28 @@ use Rattle.run_laws.specs.md_base_the_Who.{Who}
 use Rattle.run_laws.specs.md_base_the_Status.{Status}
 use Rattle.run_laws.specs.bank_Given.{Given, NeverFalls}
 use Rattle.run_laws.specs.bank_the_Operation.{Operation}
+use Rattle.run_laws.proofs.bank_Laws.{contents-earlier}
 use Rattle.run_laws.specs.superblocks_the_Members.{Members}
-use Rattle.run_laws.specs.superblocks_Reading.{list_length}
+use Rattle.run_laws.specs.superblocks_Reading.{reading, list_length}
 use Rattle.run_laws.specs.flat_history_the_Entry.{Entry}
 use Rattle.run_laws.specs.flat_history_the_Event.{Event}
 use Rattle.run_laws.specs.flat_history_the_Event_TheVariants.{Lost, SpareLost, Failed, Added, Visible, Planned, Refused}
 use Rattle.run_laws.specs.flat_history_the_LostCause_TheVariants.{Command, Fault as ByFault}
 use Rattle.run_laws.specs.flat_history_the_Request_TheVariants.{Steps as AsksSteps}
 use Rattle.run_laws.specs.flat_history_Flat.{length_of}
+use Rattle.run_laws.specs.flat_history_Growing.{grown}
+use Rattle.run_laws.specs.flat_history_Transfers.{last_end_from}
+use Rattle.run_laws.specs.flat_history_World.{World, reading_at}
 use Rattle.run_laws.specs.flat_history_Reshaped.{is_planned}
 use Rattle.run_laws.specs.views_Lacking.{HaveRolesFailed}
+use Rattle.run_laws.specs.growing_Stored.{IsStoredBy}
 use Rattle.run_laws.specs.running_calls_Going.{MayHoldSince, WasMemberSince, AreLossesSince}
 use Rattle.run_laws.specs.array_kept_Calls.{IsLossBy}
 use Rattle.run_laws.specs.running_Calls.{running_left}
 use Rattle.run_laws.specs.running_replies_Going.{is_begin, AreHeldBehind, HasNoReshape, HasRunOn}
 use Rattle.run_laws.specs.running_replies_Replies.{IsAnsweredWith}
 use Rattle.run_laws.specs.running_steps_Steps.{IsStepCount, KeepsItsWay}
+use Rattle.run_laws.specs.running_words_Calls.{moving_world}
 use Rattle.run_laws.specs.running_words_Parts.{RunningParts}
 use Rattle.run_laws.specs.script_the_Line.{Line}
 use Rattle.run_laws.specs.script_the_Line_TheVariants.{Read, Write, Flush, Fail, Add, ArraySize, Grow, Step, Wait, Stop, Detail, Mdstat}
@@ -40,13 +46,15 @@ use Rattle.run_laws.specs.Asked.{IsAskedAt, IsAsked}
 use Rattle.run_laws.specs.Caused.{Record, record_of, IsJudgedBy}
 use Rattle.run_laws.specs.Histories.{History, entry_at}
 use Rattle.run_laws.specs.Making.{Setting}
-use Rattle.run_laws.specs.Records.{IsLessByFaults, IsWithSpare, IsUntouched, AreStepsAnswered, AreAllAnswered, IsLeftBy, IsLeftAt, IsLeftByBlock, IsRecordMade, IsRecordFound, IsNextRecord, IsRecordedBy, IsRecorded, IsRecordedBehind, IsRecordedIn, AreRecorded}
+use Rattle.run_laws.specs.Records.{IsLessByFaults, IsWithSpare, IsUntouched, AreStepsAnswered, AreAllAnswered, IsLeftBy, IsLeftAt, IsLeftByBlock, IsRecordMade, IsRecordFound, IsNextRecord, IsRecordStored, IsRecordedBy, IsRecorded, IsRecordedBehind, IsRecordedIn, AreRecorded}
 use Rattle.run_laws.specs.Replies.{Course, longer_of, entries_to, course_after, course_of, leaves_more, leaves_more_at, AreReplies}
 use Rattle.run_laws.specs.States.{IsGrown, AreGrown, IsNamed}
 use Rattle.run_laws.proofs.AskLaws.{one, entry_there}
 use Rattle.run_laws.proofs.Causes.{faulted-wider}
 use Rattle.run_laws.proofs.Growth.{IsWider, history_stays, named_stays, to_stays, some_named, answer_in_named, course_stays}
 use Rattle.run_laws.proofs.Turned.{last-there}
+use Rattle.run_laws.proofs.Worlds.{last-within}
+use Rattle.line_asks.proofs.Legal.{ends_later, reliable-before}
 
 -- ---- by an entry
 
@@ -312,6 +320,49 @@ module _ (setting : Setting) (olds news : List History) (grown : AreGrown olds n
   in-grown course InB line what old new named is = is
   in-grown course InWorker line what old new named is = behind-grown course what old new named is
 
+-- ---- what is stored
+
+-- what is stored at a mark of the tape stays so as the tape grows
+stored-longer : (world : World) (ops : List Operation) (array : Record) → IsStoredBy world array → IsStoredBy (grown world ops) array
+unfolding reading_at
+stored-longer world ops array was = record {
+  begun = let long = length-append world.tape ops in omega (arith, was.begun, long);
+  ends = ends_later (length world.tape) (length (world.tape ++ ops)) array.parts.entries (let long = length-append world.tape ops in omega (arith, long)) was.ends;
+  stored = λ relied live.
+      let at = was.stored (reliable-before world ops array.parts.entries was.begun was.ends relied) live in
+      record {
+        found = at.found;
+        is = ap (reading world.scope) (λ i slot k. contents-earlier world.start world.tape ops (last_end_from world.first array.parts.entries) slot k (last-within (length world.tape) world.first array.parts.entries was.begun was.ends) i) ∙ at.is;
+        array = at.array;
+        held = at.held;
+        spares = at.spares;
+      };
+}
+
+-- what is stored is what the array's record says
+pub stored-record : {B tells : Type 0} (given : Given) (tape : List Operation) (array : RunningParts B) → (tells → IsStoredBy (moving_world given tape array) array) → IsRecordStored tells given tape (record_of array)
+stored-record given tape array was t = let stored = was t in record { begun = stored.begun; ends = stored.ends; stored = stored.stored }
+
+module _ (was now : Setting) (wider : IsWider was now) where
+  stored-wider : (array : Record) → IsRecordStored was.tells was.given was.tape array → IsRecordStored now.tells now.given now.tape array
+  stored-wider array stored t =
+      let more = wider.grows.more t in
+      subst (λ (g : Given). IsStoredBy (moving_world g now.tape array) array) (sym wider.given)
+      (subst (λ (l : List Operation). IsStoredBy (moving_world was.given l array) array) (sym more.1) (stored-longer (moving_world was.given was.tape array) more.0 array (stored (wider.told t))))
+
+  pub some-wider : (o : Option Record) → IfSome o (IsRecordStored was.tells was.given was.tape) → IfSome o (IsRecordStored now.tells now.given now.tape)
+  some-wider None stored = tt
+  some-wider (Some array) stored = stored-wider array stored
+
+-- the last record is stored as those before it are
+pub last-stored : (setting : Setting) (histories : List History) (course : Course) (old : Option Record) (lines : List Numbered) (replies : List LineReply) (last : Option Record)
+    → IfSome old (IsRecordStored setting.tells setting.given setting.tape) → AreRecorded setting histories course old lines replies last → IfSome last (IsRecordStored setting.tells setting.given setting.tape)
+last-stored setting histories course old [] [] last stored is = subst (λ (o : Option Record). IfSome o (IsRecordStored setting.tells setting.given setting.tape)) (sym is) stored
+last-stored setting histories course old [] (reply ∷ replies) last stored is = absurd is
+last-stored setting histories course old (line ∷ lines) [] last stored is = absurd is
+last-stored setting histories course old (line ∷ lines) (reply ∷ replies) last stored (next, here, known, more) =
+    last-stored setting histories (course_after histories course line.lane line.line reply.what) next lines replies last known more
+
 -- ---- several lines
 
 pub records-stay : (was now : Setting) → IsWider was now → (olds news : List History) → AreGrown olds news → (course : Course) (old : Option Record) (lines : List Numbered) (replies : List LineReply) (last : Option Record) → AreReplies was olds course lines replies
@@ -319,10 +370,11 @@ pub records-stay : (was now : Setting) → IsWider was now → (olds news : List
 records-stay was now wider olds news grown course old [] [] last replied is = is
 records-stay was now wider olds news grown course old [] (reply ∷ replies) last replied is = absurd is
 records-stay was now wider olds news grown course old (line ∷ lines) [] last replied is = absurd is
-records-stay was now wider olds news grown course old (line ∷ lines) (reply ∷ replies) last (one, rest) (next, here, more) =
+records-stay was now wider olds news grown course old (line ∷ lines) (reply ∷ replies) last (one, rest) (next, here, known, more) =
     let named = answer_in_named was olds course line.lane line.line reply.end reply.what one.answer in (
       next,
       in-wider was now wider news course line.lane line.line reply.what old next (in-grown was olds news grown course line.lane line.line reply.what old next named here),
+      some-wider was now wider next known,
       subst (λ (c : Course). AreRecorded now news c next lines replies last) (sym (course_stays olds news course line.lane line.line reply.what grown named))
           (records-stay was now wider olds news grown (course_after olds course line.lane line.line reply.what) next lines replies last rest more),
     )
@@ -333,5 +385,5 @@ pub records-both : (setting : Setting) (histories : List History) (course : Cour
 records-both setting histories course old mid last [] [] others more is behind = subst (λ (o : Option Record). AreRecorded setting histories course o others more last) is behind
 records-both setting histories course old mid last [] (r ∷ replies) others more is behind = absurd is
 records-both setting histories course old mid last (l ∷ lines) [] others more is behind = absurd is
-records-both setting histories course old mid last (l ∷ lines) (r ∷ replies) others more (next, one, rest) behind =
-    (next, one, records-both setting histories (course_after histories course l.lane l.line r.what) next mid last lines replies others more rest behind)
+records-both setting histories course old mid last (l ∷ lines) (r ∷ replies) others more (next, one, known, rest) behind =
+    (next, one, known, records-both setting histories (course_after histories course l.lane l.line r.what) next mid last lines replies others more rest behind)

@@ -1,6 +1,7 @@
 //! Openings of arrays that real md wrote, of a reshape and of arrays that are made, against values that were worked out by
 //! hand. The device's uuid was computed by Python.
 
+use crate::roles::{A, B, C, D, NONE};
 use array_samples::{
     CreateSpec, Opened, SHAPE, SPEC, bank_of, made, opened, put_all, refusal_of_create,
 };
@@ -68,50 +69,22 @@ fn compare(
     Ok(())
 }
 
-const A: Role = Role::Whole(0);
-
-const B: Role = Role::Whole(1);
-
-const C: Role = Role::Whole(2);
-
-const D: Role = Role::Whole(3);
-
-const NONE: Role = Role::Missing;
-
 const OF_DIRTY: [Opening; 2] = [
     (&[288; 4], &[], None, Ok((&[A, B, C, D], &[], 15, 0)), 12),
     (&[288; 4], &[9], None, Err(Refusal::DirtyDegraded(1)), 11),
 ];
 
+const SPARED: Answer = Ok((&[A, B, C, D], &[4], 63, 0));
+
+const LESS: Answer = Ok((&[A, NONE, C, D], &[4], 61, 2));
+
+const UNBACKED: Answer = Ok((&[A, B, C, D], &[4], 31, 32));
+
 const OF_SPARE: [Opening; 5] = [
-    (
-        &[288; 6],
-        &[],
-        Some(5),
-        Ok((&[A, B, C, D], &[4], 63, 0)),
-        16,
-    ),
-    (
-        &[288; 6],
-        &[6],
-        Some(5),
-        Ok((&[A, NONE, C, D], &[4], 61, 2)),
-        15,
-    ),
-    (
-        &[288; 6],
-        &[11],
-        Some(5),
-        Ok((&[A, NONE, C, D], &[4], 61, 2)),
-        15,
-    ),
-    (
-        &[288; 6],
-        &[15],
-        Some(5),
-        Ok((&[A, B, C, D], &[4], 31, 32)),
-        15,
-    ),
+    (&[288; 6], &[], Some(5), SPARED, 16),
+    (&[288; 6], &[6], Some(5), LESS, 15),
+    (&[288; 6], &[11], Some(5), LESS, 15),
+    (&[288; 6], &[15], Some(5), UNBACKED, 15),
     (
         &[288; 6],
         &[6, 12],

@@ -1,6 +1,7 @@
 //! Elections over superblocks that real md wrote, and over ones made for each refusal.
 
 use crate::banks::{bank_of, said_of};
+use crate::roles::{A, B, C, D, E, NONE};
 use md_base::{Fault, Refusal, Role};
 use mdadm_images::{DEGRADED, DEGRADED_MEMBERS, GROWN, GROWN_MEMBERS, members_of, reshaping};
 use sb1::Sb;
@@ -46,18 +47,6 @@ fn answers(
         Err(_) => Ok(false),
     }
 }
-
-const A: Role = Role::Whole(0);
-
-const B: Role = Role::Whole(1);
-
-const C: Role = Role::Whole(2);
-
-const D: Role = Role::Whole(3);
-
-const E: Role = Role::Whole(4);
-
-const NONE: Role = Role::Missing;
 
 // The calls that fail, and the answer; each slot is read by one call, in slot order.
 const OF_GROWN: [(&[u64], Answer); 4] = [
@@ -127,11 +116,16 @@ fn superblock(said: &Said) -> Sb {
 
 const SECOND: Said = Said { number: 1, ..PLAIN };
 
-const RECOVERING: Said = Said {
+// The position isn't on a unit.
+const OFF: Said = Said {
     position: 72,
+    ..PLAIN
+};
+
+const RECOVERING: Said = Said {
     resync: 0,
     features: 6,
-    ..PLAIN
+    ..OFF
 };
 
 const ENTERED: Said = Said { entry: 1, ..PLAIN };
@@ -141,24 +135,25 @@ const UNEVEN: Said = Said {
     ..ENTERED
 };
 
+const LATE: Said = Said { late: 2, ..PLAIN };
+
+const SHIFTED: Said = Said {
+    offset: 17,
+    ..PLAIN
+};
+
+const STRANGE: Said = Said {
+    features: 8,
+    ..SHIFTED
+};
+
 // Two superblocks, each in a slot of 144 sectors, and what is answered.
 const OF_TWO: [(Said, Said, Answer); 12] = [
     // each refusal of the roles where those before it don't come
     (PLAIN, SECOND, Ok((9, &[A, B, NONE], 0))),
+    (OFF, SECOND, Err(Refusal::PositionNotOnUnit(72, 16))),
     (
-        Said {
-            position: 72,
-            ..PLAIN
-        },
-        SECOND,
-        Err(Refusal::PositionNotOnUnit(72, 16)),
-    ),
-    (
-        Said {
-            position: 72,
-            resync: 0,
-            ..PLAIN
-        },
+        Said { resync: 0, ..OFF },
         SECOND,
         Err(Refusal::DirtyDegraded(2)),
     ),
@@ -167,48 +162,16 @@ const OF_TWO: [(Said, Said, Answer); 12] = [
     // each refusal of the slots, with two slots of one number
     (ENTERED, PLAIN, Err(Refusal::BadField(262))),
     // a role from 128 on counts in either of the two
-    (
-        Said { late: 2, ..PLAIN },
-        PLAIN,
-        Err(Refusal::BadField(516)),
-    ),
-    (
-        PLAIN,
-        Said { late: 2, ..PLAIN },
-        Err(Refusal::BadField(516)),
-    ),
-    (
-        ENTERED,
-        Said {
-            offset: 17,
-            ..PLAIN
-        },
-        Err(Refusal::BadField(128)),
-    ),
+    (LATE, PLAIN, Err(Refusal::BadField(516))),
+    (PLAIN, LATE, Err(Refusal::BadField(516))),
+    (ENTERED, SHIFTED, Err(Refusal::BadField(128))),
+    (UNEVEN, SHIFTED, Err(Refusal::BadField(80))),
+    (UNEVEN, STRANGE, Err(Refusal::Unsupported(8))),
     (
         UNEVEN,
         Said {
-            offset: 17,
-            ..PLAIN
-        },
-        Err(Refusal::BadField(80)),
-    ),
-    (
-        UNEVEN,
-        Said {
-            offset: 17,
-            features: 8,
-            ..PLAIN
-        },
-        Err(Refusal::Unsupported(8)),
-    ),
-    (
-        UNEVEN,
-        Said {
-            offset: 17,
-            features: 8,
             events: 7,
-            ..PLAIN
+            ..STRANGE
         },
         Err(Refusal::BadField(80)),
     ),

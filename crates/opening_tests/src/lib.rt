@@ -11,4 +11,6 @@ mod checks;
 #[cfg(test)]
 mod elections;
 #[cfg(test)]
+mod roles;
+#[cfg(test)]
 mod updates;

@@ -4,6 +4,7 @@ ghost use Rattle.std.specs.Prelude.{◌≡◌, ◌<◌, None};
 
 use crate::banks::{bank_of, said_of};
 use crate::checks::{are_live, may_give};
+use crate::roles::{A, B, C, D, NONE};
 use bank::{Bank, MemoryBank, Pick};
 use md_base::{Fault, Refusal, Role};
 use sb1::{Sb, fields_of};
@@ -42,16 +43,6 @@ struct Case {
     planned: Said,
     turns: [Option<(u32, Said)>; 6],
 }
-
-const A: Role = Role::Whole(0);
-
-const B: Role = Role::Whole(1);
-
-const C: Role = Role::Whole(2);
-
-const D: Role = Role::Whole(3);
-
-const NONE: Role = Role::Missing;
 
 const NEW: Role = Role::Recovering(4);
 

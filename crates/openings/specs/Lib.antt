@@ -54,3 +54,4 @@ pub use Rattle.running_steps.specs.growing_Replied
 pub use Rattle.running_steps.specs.safe_updates_First
 pub use Rattle.running_steps.specs.course_kept_Laws
 pub use Rattle.running_steps.specs.running_State
+pub use Rattle.running_steps.specs.growing_Stored

@@ -24,8 +24,8 @@ ghost use Rattle.safe_rows.specs.views_Lacking.{HaveFailedSince, DoesWithout, La
 ghost use Rattle.region_rows.specs.Stretches.{IsShapeOf, ListStandsIn, RowsStandIn, IsLacked, IsListUnread};
 
 use crate::chunks::{read_chunk, run_at};
+use crate::reading::Fetched;
 use crate::stretches::{relied_rows, stretch_at};
-use safe_rows::fetching::Fetched;
 use safe_rows::{Bank, Members, Refusal, name_missing, too_many_of, unread};
 
 // The refusal where more roles are missing than a shape tolerates that places one of these sectors: the first of them.

@@ -1,11 +1,12 @@
-//! Reads of the list of an array in a reshape, split by region.
+//! Reads of the list: by one shape, and, of an array in a reshape, split by region.
 #![tactic(auto)]
 
 pub mod chunks;
 pub mod fetching;
+pub mod reading;
 pub mod stretches;
 
-pub use safe_rows::fetching::{Fetched, fetch};
+pub use reading::{Fetched, fetch};
 pub use safe_rows::filling::{Filled, fill, recovering_slot};
 pub use safe_rows::mending::{Mended, mend, mended_rows};
 pub use safe_rows::putting::{Outcome, put, put_rows};

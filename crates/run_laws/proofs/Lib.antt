@@ -26,3 +26,4 @@ pub use Rattle.script.proofs.flat_history_SoundLaws
 pub use Rattle.running_calls.proofs.Leaving as running_calls_Leaving
 pub use Rattle.running_calls.proofs.views_SafeStretch
 pub use Rattle.running_calls.proofs.views_MovedLaws
+pub use Rattle.running_calls.proofs.bank_Laws

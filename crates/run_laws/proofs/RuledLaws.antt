@@ -3,7 +3,7 @@ use Rattle.std.proofs.Common.{◌≡◌, ◌≢◌, inl, inr, ℕ, ◌+◌, ◌<
 use Rattle.std.proofs.lemmas.Bool.{cases_lt}
 use Rattle.std.proofs.lemmas.Bool.Decides.{nat_tests}
 use Rattle.std.proofs.lemmas.List.{get_or_past}
-use Rattle.std.specs.Prelude.{if◌then◌else◌, MatchOption, IfSome}
+use Rattle.std.specs.Prelude.{◌^◌, ◌-◌, if◌then◌else◌, pos, ◌-ℤ◌, unwrap_or, MatchBool, MatchOption, IfSome}
 use Rattle.std.specs.List.{list_any}
 use Rattle.running_calls.specs.md_base_Search.{tabulate}
 use Rattle.running_calls.specs.md_base_the_BusyKind_TheVariants.{Reshape}
@@ -18,9 +18,10 @@ use Rattle.running_calls.proofs.md_base_Tabulated.{length-tabulate, get_or-tabul
 use Rattle.running_calls.specs.bank_Given.{Given}
 use Rattle.script.specs.grow_plan_Plans.{phases, phases_steps, last_shape}
 use Rattle.script.proofs.grow_plan_Sound.{phases_lead}
+use Rattle.script.specs.sb1_the_Sb.{Sb}
 use Rattle.running_calls.specs.superblocks_the_Members.{Members}
-use Rattle.running_calls.specs.superblocks_Reading.{is_reshaping, is_backup, shape_of, final_shape, role_count, role_state, holder}
-use Rattle.running_calls.specs.superblocks_Reads.{has_spare}
+use Rattle.running_calls.specs.superblocks_Reading.{is_reshaping, is_backup, count_of, shape_of, target_of, final_shape, role_count, role_state, holder}
+use Rattle.running_calls.specs.superblocks_Reads.{SaysSame, has_spare}
 use Rattle.running_calls.specs.row_io_Rows.{reading_of}
 use Rattle.script.specs.flat_history_the_Event_TheVariants.{Visible, Planned, Refused}
 use Rattle.running_calls.specs.views_Placed.{is_vacant}
@@ -33,13 +34,15 @@ use Rattle.running_calls.specs.Going.{is_added, MayBeNewSpare}
 use Rattle.running_calls.specs.growing_Planned.{asked_in}
 use Rattle.running_calls.specs.array_kept_Calls.{IsTaken}
 use Rattle.running_calls.specs.running_Calls.{running_left}
+use Rattle.running_calls.specs.running_words_Calls.{IsStatusFor}
+use Rattle.running_calls.specs.running_words_Still.{IsStillStatus}
 use Rattle.running_calls.specs.running_words_Parts.{left_in, still_left}
 use Rattle.running_calls.specs.running_words_Plans.{aim_of}
 use Rattle.script.specs.declared.lines.CreateLine.{CreateLine}
 use Rattle.script.specs.declared.lines.Line.TheVariants.{Fail, Add, ArraySize, Grow, Detail, Mdstat}
 use Rattle.run_laws.specs.Caused.{Record}
 use Rattle.run_laws.specs.Records.{AreAllAnswered, IsNewRecord, IsLeftByBlock}
-use Rattle.run_laws.specs.Ruled.{NewRolesFail, UnusedSlotsAreFree, PlansAreStepped, PlansArrive, BlocksLeadOn, ToldStepsAreLeft, SparesStay, FreeSlotsStay}
+use Rattle.run_laws.specs.Ruled.{NewRolesFail, UnusedSlotsAreFree, PlansAreStepped, PlansArrive, BlocksLeadOn, ToldStepsAreLeft, SparesStay, FreeSlotsStay, IsStatusStored, StatusesAreStored}
 
 -- ---- an array that was just made
 
@@ -192,3 +195,53 @@ module _ (before now : ℕ → ℕ) (old new : Record) (slot : ℕ) (left : IsLe
 
 pub free-slots : FreeSlotsStay
 free-slots before now old new given slot taken left free untold was = free (taken-before before now old new slot left untold was.2)
+
+-- ---- what is stored
+
+-- superblocks that say the same say the same shapes
+shape-same : (a b : Sb) → SaysSame a b → shape_of a ≡ shape_of b
+shape-same a b same = λ i. record {
+  level = same.level i;
+  layout = same.layout i;
+  chunk = same.chunksize i;
+  disks = if same.reshaping i then count_of (pos (same.raid_disks i) -ℤ same.delta_disks i) else same.raid_disks i;
+}
+
+target-same : (a b : Sb) → SaysSame a b → target_of a ≡ target_of b
+target-same a b same = λ i. if same.reshaping i then Some (record { level = same.new_level i; layout = same.new_layout i; chunk = same.new_chunk i; disks = same.raid_disks i }) else None
+
+pub shown-stored : StatusesAreStored
+shown-stored world mark array status stored = by (is_reshaping newest) refl
+  where
+    newest : Sb
+    newest = array.parts.members.newest
+
+    -- no reshape has a target
+    none-of : (sb : Sb) → is_reshaping sb ≡ false → target_of sb ≡ None
+    none-of sb still = λ i. if still i then Some (record { level = sb.new_level; layout = sb.new_layout; chunk = sb.new_chunk; disks = sb.raid_disks }) else None
+
+    some-of : (sb : Sb) → is_reshaping sb ≡ true → Some (final_shape sb) ≡ target_of sb
+    some-of sb active = ap (λ (o : Option Shape). Some (unwrap_or o (shape_of sb))) is ∙ sym is
+      where
+        is : target_of sb ≡ Some (record { level = sb.new_level; layout = sb.new_layout; chunk = sb.new_chunk; disks = sb.raid_disks })
+        is = λ i. if active i then Some (record { level = sb.new_level; layout = sb.new_layout; chunk = sb.new_chunk; disks = sb.raid_disks }) else None
+
+    by : (b : Bool) → is_reshaping newest ≡ b → MatchBool b (IsStatusFor array status) (IsStillStatus array status) → IsStatusStored world mark status
+    by true active shown = record {
+      found = stored.found;
+      is = stored.is;
+      shape = shown.shape ∙ shape-same newest stored.found.newest stored.array;
+      target = shown.target ∙ some-of newest active ∙ target-same newest stored.found.newest stored.array;
+      size = shown.size ∙ stored.array.size;
+      clean = shown.clean ∙ ap (λ (n : ℕ). n == 2 ^ 64 - 1) stored.array.resync_offset;
+      position = λ still. shown.position ∙ stored.array.reshape_position;
+    }
+    by false active shown = record {
+      found = stored.found;
+      is = stored.is;
+      shape = shown.shape ∙ shape-same newest stored.found.newest stored.array;
+      target = shown.target ∙ sym (none-of newest active) ∙ target-same newest stored.found.newest stored.array;
+      size = shown.size ∙ stored.array.size;
+      clean = shown.clean ∙ ap (λ (n : ℕ). n == 2 ^ 64 - 1) stored.array.resync_offset;
+      position = λ moving. absurd (let clash : true ≡ false = sym moving ∙ sym stored.array.reshaping ∙ active in cc);
+    }

@@ -118,3 +118,4 @@ pub use Rattle.script.specs.md_base_the_Role_TheVariants
 pub use Rattle.script.specs.md_base_the_Shape
 pub use Rattle.script.specs.sb1_Superblock
 pub use Rattle.script.specs.sb1_the_Sb
+pub use Rattle.running_calls.specs.growing_Stored

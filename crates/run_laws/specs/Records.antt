@@ -6,7 +6,8 @@ use Rattle.running_calls.specs.md_base_the_Refusal.{Refusal}
 use Rattle.running_calls.specs.md_base_the_Refusal_TheVariants.{SlotFault}
 use Rattle.script.specs.md_base_the_Role_TheVariants.{Whole}
 use Rattle.running_calls.specs.md_base_the_Status.{Status}
-use Rattle.running_calls.specs.bank_Given.{IsFaulted}
+use Rattle.running_calls.specs.bank_Given.{Given, IsFaulted}
+use Rattle.running_calls.specs.bank_the_Operation.{Operation}
 use Rattle.script.specs.grow_plan_Plans.{phases}
 use Rattle.running_calls.specs.superblocks_the_Members.{Members}
 use Rattle.running_calls.specs.superblocks_Reading.{is_reshaping, shape_of, final_shape, list_length}
@@ -28,7 +29,9 @@ use Rattle.running_calls.specs.running_Calls.{running_left, IsReadLacked, IsWrit
 use Rattle.running_calls.specs.running_replies_Going.{is_begin, AreHeldBehind, IsSameEpoch}
 use Rattle.running_calls.specs.running_steps_Steps.{IsStepCount, KeepsItsWay}
 use Rattle.running_calls.specs.running_words_Adding.{AreSparesBut}
+use Rattle.running_calls.specs.running_words_Calls.{moving_world}
 use Rattle.running_calls.specs.running_words_Parts.{visible_in}
+use Rattle.running_calls.specs.growing_Stored.{IsStoredBy}
 use Rattle.script.specs.declared.lines.CreateLine.{CreateLine}
 use Rattle.script.specs.declared.lines.Line.{Line}
 use Rattle.script.specs.declared.lines.Line.TheVariants.{Create, Read, Write, Flush, Fail, Add, ArraySize, Grow, Step, Wait, Stop, Halt, Detail, Mdstat, Examine, Assemble}
@@ -247,11 +250,15 @@ IsRecordedIn setting histories course InScript line what old new = IsRecorded se
 IsRecordedIn setting histories course InWorker line what old new = IsRecordedBehind setting histories course what old new
 IsRecordedIn setting histories course lane line what old new = new ≡ old
 
--- There is such a record before the first line and behind each.
+-- Over a bank that tells its contents the stored superblocks say what the record does, where its last entry ended.
+abbrev pub IsRecordStored : Type 0 → Given → List Operation → Record → Type 0
+IsRecordStored tells given tape array = tells → IsStoredBy (moving_world given tape array) array
+
+-- There is such a record before the first line and behind each, and the superblocks say what it does.
 abbrev pub AreRecorded : Setting → List History → Course → Option Record → List Numbered → List LineReply → Option Record → Type 0
 AreRecorded setting histories course old [] [] last = last ≡ old
 AreRecorded setting histories course old [] (reply ∷ replies) last = ⊥
 AreRecorded setting histories course old (line ∷ lines) [] last = ⊥
 AreRecorded setting histories course old (line ∷ lines) (reply ∷ replies) last =
-    (next : Option Record) × IsRecordedIn setting histories course line.lane line.line reply.what old next
+    (next : Option Record) × IsRecordedIn setting histories course line.lane line.line reply.what old next × IfSome next (IsRecordStored setting.tells setting.given setting.tape)
     × AreRecorded setting histories (course_after histories course line.lane line.line reply.what) next lines replies last

@@ -3,18 +3,21 @@ use Rattle.std.specs.Prelude.{◌≡◌, ◌≢◌, ℕ, ◌<◌, ◌≤◌, tru
 use Rattle.std.specs.List.{list_any}
 use Rattle.running_calls.specs.md_base_the_Refusal.{Refusal}
 use Rattle.running_calls.specs.md_base_the_Refusal_TheVariants.{SlotTaken, SlotFault}
+use Rattle.running_calls.specs.md_base_the_Status.{Status}
 use Rattle.running_calls.specs.md_base_the_Wish.{Wish}
 use Rattle.running_calls.specs.bank_Given.{Given}
 use Rattle.script.specs.grow_plan_Plans.{target}
-use Rattle.running_calls.specs.superblocks_Reading.{shape_of}
+use Rattle.running_calls.specs.superblocks_Reading.{Reading, is_clean, is_reshaping, shape_of, target_of}
 use Rattle.running_calls.specs.superblocks_Reads.{has_spare}
 use Rattle.script.specs.flat_history_the_Event.{Event}
 use Rattle.script.specs.flat_history_the_Event_TheVariants.{Planned, Refused}
 use Rattle.script.specs.flat_history_Legal.{told_left}
 use Rattle.script.specs.flat_history_Reshaped.{is_planned}
+use Rattle.script.specs.flat_history_World.{World, reading_at}
 use Rattle.running_calls.specs.Going.{is_added}
 use Rattle.running_calls.specs.array_kept_Calls.{IsTaken}
-use Rattle.running_calls.specs.running_Calls.{running_left}
+use Rattle.running_calls.specs.running_Calls.{running_left, IsShownAs}
+use Rattle.running_calls.specs.growing_Stored.{AreStoredAt}
 use Rattle.running_calls.specs.running_words_Plans.{aim_of}
 use Rattle.script.specs.declared.lines.CreateLine.{CreateLine}
 use Rattle.script.specs.declared.lines.Line.{Line}
@@ -69,3 +72,17 @@ SparesStay = (before now : ℕ → ℕ) (old new : Record) (line : Line) (event 
 abbrev pub FreeSlotsStay : Type 0
 FreeSlotsStay = (before now : ℕ → ℕ) (old new : Record) (given : Given) (slot taken : ℕ) → (left : IsLeftByBlock before now old new) → (IsTaken old.parts.backup old.parts.members slot → ⊥) → list_any (λ e. is_added slot e.event) left.entered.more ≡ false
     → IsJudgedBy given new (Add slot) (Refused (SlotTaken taken)) → ⊥
+
+-- The stored superblocks say at this mark what the status tells: the shape, the one that a reshape goes to, the size, whether the array is clean, and how far a reshape has come.
+pub record IsStatusStored (world : World) (mark : ℕ) (status : Status) : Type 0 where
+  pub found : Reading
+  pub is : reading_at world mark ≡ Some found
+  pub shape : status.shape ≡ shape_of found.newest
+  pub target : status.target ≡ target_of found.newest
+  pub size : status.size ≡ found.newest.size
+  pub clean : status.clean ≡ is_clean found.newest
+  pub position : is_reshaping found.newest ≡ true → status.position ≡ found.newest.reshape_position
+
+-- So it is of the status of an array whose members are those that are stored.
+abbrev pub StatusesAreStored : Type 0
+StatusesAreStored = (world : World) (mark : ℕ) (array : Record) (status : Status) → AreStoredAt world mark array.parts.members → IsShownAs array status → IsStatusStored world mark status

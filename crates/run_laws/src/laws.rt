@@ -1,7 +1,7 @@
 //! The laws of replies.
 
 ghost use Rattle.run_laws.specs.Plain.{PlainRepliesFit, RestTellsPlainly, PlainListsStay};
-ghost use Rattle.run_laws.specs.Ruled.{NewRolesFail, UnusedSlotsAreFree, PlansAreStepped, PlansArrive, BlocksLeadOn, ToldStepsAreLeft, SparesStay, FreeSlotsStay};
+ghost use Rattle.run_laws.specs.Ruled.{NewRolesFail, UnusedSlotsAreFree, PlansAreStepped, PlansArrive, BlocksLeadOn, ToldStepsAreLeft, SparesStay, FreeSlotsStay, StatusesAreStored};
 
 /// Where neither a limit was told nor a reshape planned, begun or ended in its call before it, a reply that tells no failed backup, and
 /// no refusal of a reshape, fits its request as one of an array of one shape, unless that asks for a limit or a reshape.
@@ -58,4 +58,9 @@ pub fn spares_stay()
 /// A slot that isn't taken before a block, and that the block doesn't tell added, isn't taken behind it.
 pub fn free_slots_stay()
     ensures { FreeSlotsStay }
+{}
+
+/// A status of an array whose members are those that are stored tells what is stored.
+pub fn statuses_are_stored()
+    ensures { StatusesAreStored }
 {}

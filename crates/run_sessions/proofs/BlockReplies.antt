@@ -3,7 +3,7 @@ use Rattle.std.proofs.Common.{◌≡◌, ◌≢◌, ℕ, zero, suc, ◌+◌, ◌
 use Rattle.std.proofs.lemmas.List.Elements.{All-nil, All-cons, All-append, All-head, All-tail, All-weaker}
 use Rattle.std.proofs.Math.ListN.{get_or}
 use Rattle.std.proofs.Math.Seq.{take-append_seam, take-append-add, drop-append_seam, get_or-append_seam, get_or-append-add}
-use Rattle.std.specs.Prelude.{if◌then◌else◌, IsTrue, IsFalse}
+use Rattle.std.specs.Prelude.{if◌then◌else◌, IfSome, IsTrue, IsFalse, ⊤}
 use Rattle.std.specs.List.{All, AllPass}
 use Rattle.block_answers.specs.flat_history_the_Entry.{Entry}
 use Rattle.block_answers.specs.script_Script.{is_of_worker, is_within_limits, may_ask, may_follow, are_in_turn}
@@ -19,7 +19,7 @@ use Rattle.block_answers.specs.run_laws_the_Outside_TheVariants.{Created, Assemb
 use Rattle.block_answers.specs.run_laws_Histories.{History, entry_at}
 use Rattle.block_answers.specs.run_laws_Making.{Setting}
 use Rattle.block_answers.specs.run_laws_Caused.{Record}
-use Rattle.block_answers.specs.run_laws_Records.{IsRecordedIn, AreRecorded}
+use Rattle.block_answers.specs.run_laws_Records.{IsRecordStored, IsRecordedIn, AreRecorded}
 use Rattle.block_answers.specs.run_laws_Replies.{Course, course_after, course_of, IsAnswerBeside, IsAnswerIn, mark_reached, mark_shown, IsEnd, AreReplies, AreInOrder}
 use Rattle.block_answers.specs.run_laws_States.{IsNamed, IsBeside, AreAnswersBeside, AreRecordedBeside, course_beside, EndsFrom}
 use Rattle.block_answers.specs.run_laws_Blocks.{is_in_lane}
@@ -53,6 +53,35 @@ block-lanes lines block =
 
     not-worker : (lane : Lane) → lane ≡ InWorker → lane ≢ InScript
     not-worker lane is same = absurd (let clash : InWorker ≡ InScript = sym is ∙ same in cc)
+
+-- all but the last are those of its lanes
+IsOfLanes : Lane → Type 0
+IsOfLanes InA = ⊤
+IsOfLanes InB = ⊤
+IsOfLanes lane = ⊥
+
+pub AreOfLanes : List Numbered → Type 0
+AreOfLanes [] = ⊤
+AreOfLanes (l ∷ []) = ⊤
+AreOfLanes (l ∷ m ∷ lines) = IsOfLanes l.lane × AreOfLanes (m ∷ lines)
+
+lanes-rest : (l : Numbered) (lines : List Numbered) → AreOfLanes (l ∷ lines) → AreOfLanes lines
+lanes-rest l [] are = tt
+lanes-rest l (m ∷ lines) are = are.1
+
+lanes-before : (front rest : List Numbered) → All (λ line. IsOfLanes line.lane) front → AreOfLanes rest → AreOfLanes (front ++ rest)
+lanes-before [] rest all are = are
+lanes-before (l ∷ front) rest all are = before (front ++ rest) (lanes-before front rest (All-tail (λ line. IsOfLanes line.lane) l front all) are)
+  where
+    before : (lines : List Numbered) → AreOfLanes lines → AreOfLanes (l ∷ lines)
+    before [] behind = tt
+    before (m ∷ lines) behind = (All-head (λ line. IsOfLanes line.lane) l front all, behind)
+
+pub block-order : (lines : List Numbered) → IsBlock lines → AreOfLanes lines
+block-order lines block =
+    subst (λ (l : List Numbered). AreOfLanes l) (sym block.is)
+    (lanes-before block.first (block.second ++ block.worker ∷ []) (All-weaker (λ line. line.lane ≡ InA) (λ line. IsOfLanes line.lane) (λ line is. subst (λ (lane : Lane). IsOfLanes lane) (sym is) tt) block.first block.first_lane)
+    (lanes-before block.second (block.worker ∷ []) (All-weaker (λ line. line.lane ≡ InB) (λ line. IsOfLanes line.lane) (λ line is. subst (λ (lane : Lane). IsOfLanes lane) (sym is) tt) block.second block.second_lane) tt))
 
 pub block-some : (lines : List Numbered) → IsBlock lines → 1 ≤ length lines
 block-some lines block =
@@ -247,20 +276,37 @@ made-replies setting hs c (l ∷ lines) (w ∷ whats) (r ∷ made) lanes (answer
           (subst (λ (x : Answered). AreAnswersBeside hs (course_after hs c l.lane l.line x) lines whats) (sym one.what_is) answers) rest,
     )
 
+-- a line of a lane leaves the record as it is
+lane-next : (setting : Setting) (hs : List History) (c : Course) (lane : Lane) (line : Line) (what : Answered) (old next : Option Record) → IsOfLanes lane → IsRecordedIn setting hs c lane line what old next → next ≡ old
+lane-next setting hs c InA line what old next of is = is
+lane-next setting hs c InB line what old next of is = is
+lane-next setting hs c InScript line what old next of is = absurd of
+lane-next setting hs c InWorker line what old next of is = absurd of
+
+-- so the record behind an answer is stored as the one before it, or as the one behind the whole block
+next-stored : (was : Setting) (Stored : Record → Type 0) (hs : List History) (c behind : Course) (old next last : Option Record) (l : Numbered) (lines : List Numbered) (what : Answered) (whats : List Answered) → IfSome old Stored → AreOfLanes (l ∷ lines)
+    → (length (what ∷ whats) ≡ length (l ∷ lines) → IfSome last Stored) → IsRecordedIn was hs c l.lane l.line what old next → AreRecordedBeside was hs behind next lines whats last → IfSome next Stored
+next-stored was Stored hs c behind old next last l [] what [] stored are all here records = subst (λ (o : Option Record). IfSome o Stored) records (all refl)
+next-stored was Stored hs c behind old next last l [] what (w ∷ whats) stored are all here records = absurd records
+next-stored was Stored hs c behind old next last l (m ∷ lines) what whats stored are all here records =
+    subst (λ (o : Option Record). IfSome o Stored) (sym (lane-next was hs c l.lane l.line what old next are.0 here)) stored
+
 -- from one to the next there is the record that the answers tell, the last one behind all of them
-pub made-records : (tells : Type 0) (mark : ℕ) (was now : Setting) → IsWider was now → (hs : List History) (c : Course) (old last : Option Record) (lines : List Numbered) (whats : List Answered) (made : List LineReply) → AreRecordedBeside was hs c old lines whats last
+pub made-records : (tells : Type 0) (mark : ℕ) (was now : Setting) → IsWider was now → (hs : List History) (c : Course) (old last : Option Record) (lines : List Numbered) (whats : List Answered) (made : List LineReply)
+    → IfSome old (IsRecordStored now.tells now.given now.tape) → AreOfLanes lines → (length whats ≡ length lines → IfSome last (IsRecordStored now.tells now.given now.tape)) → AreRecordedBeside was hs c old lines whats last
     → AreMadeOf tells mark hs lines whats made → (at : Option Record) × AreRecorded now hs c old (take (length made) lines) made at × (length made ≡ length whats → at ≡ last)
-made-records tells mark was now wider hs c old last lines [] [] same told = (old, refl, λ all. sym same)
-made-records tells mark was now wider hs c old last lines (w ∷ whats) [] records told = (old, refl, λ all. absurd (omega (arith, all)))
-made-records tells mark was now wider hs c old last [] [] (r ∷ made) records told = absurd told
-made-records tells mark was now wider hs c old last [] (w ∷ whats) (r ∷ made) records told = absurd told
-made-records tells mark was now wider hs c old last (l ∷ lines) [] (r ∷ made) records told = absurd told
-made-records tells mark was now wider hs c old last (l ∷ lines) (w ∷ whats) (r ∷ made) (next, one, records) (reply, told) =
-    let more = made-records tells mark was now wider hs (course_after hs c l.lane l.line r.what) next last lines whats made
+made-records tells mark was now wider hs c old last lines [] [] stored are all same told = (old, refl, λ all. sym same)
+made-records tells mark was now wider hs c old last lines (w ∷ whats) [] stored are all records told = (old, refl, λ all. absurd (omega (arith, all)))
+made-records tells mark was now wider hs c old last [] [] (r ∷ made) stored are all records told = absurd told
+made-records tells mark was now wider hs c old last [] (w ∷ whats) (r ∷ made) stored are all records told = absurd told
+made-records tells mark was now wider hs c old last (l ∷ lines) [] (r ∷ made) stored are all records told = absurd told
+made-records tells mark was now wider hs c old last (l ∷ lines) (w ∷ whats) (r ∷ made) stored are all (next, one, records) (reply, told) =
+    let known = next-stored was (IsRecordStored now.tells now.given now.tape) hs c (course_after hs c l.lane l.line w) old next last l lines w whats stored are all one records in
+    let more = made-records tells mark was now wider hs (course_after hs c l.lane l.line r.what) next last lines whats made known (lanes-rest l lines are) (λ rest. all (omega (arith, rest)))
     (subst (λ (x : Answered). AreRecordedBeside was hs (course_after hs c l.lane l.line x) next lines whats last) (sym reply.what_is) records) told in (
       more.0,
-      (next, in-wider was now wider hs c l.lane l.line r.what old next (subst (λ (x : Answered). IsRecordedIn was hs c l.lane l.line x old next) (sym reply.what_is) one), more.1),
-      λ all. more.2 (omega (arith, all)),
+      (next, in-wider was now wider hs c l.lane l.line r.what old next (subst (λ (x : Answered). IsRecordedIn was hs c l.lane l.line x old next) (sym reply.what_is) one), known, more.1),
+      λ whole. more.2 (omega (arith, whole)),
     )
 
 -- the run stands where all answers tell

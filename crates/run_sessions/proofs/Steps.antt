@@ -8,7 +8,7 @@ use Rattle.std.proofs.lemmas.List.Elements.{All-nil}
 use Rattle.std.proofs.lemmas.List.{take_at, length-take-le}
 use Rattle.std.proofs.Math.Seq.{drop-cons, take-suc, take-append-add, take-take, take-add, drop-drop, get_or-take}
 use Rattle.std.proofs.Math.ListN.{get_or}
-use Rattle.std.specs.Prelude.{MatchOption}
+use Rattle.std.specs.Prelude.{IfSome, MatchOption}
 use Rattle.block_answers.specs.bank_Given.{Given, NeverFalls}
 use Rattle.block_answers.specs.bank_the_Operation.{Operation}
 use Rattle.block_answers.specs.views_Moving.{Grows}
@@ -35,9 +35,9 @@ use Rattle.block_answers.specs.run_laws_States.{histories_in, course_in, record_
 use Rattle.run_sessions.specs.Sessions.{counted, IsEndNow, IsUnreplied, IsReplyMore, IsStep, IsBlockStep, IsTurnStep, AreAllMade, IsCourse, IsCutIn, IsInBlock, taken_whole, IsTaken, IsStopCause, IsCourseBehind, IsPerformed, IsShownTo}
 use Rattle.block_answers.proofs.run_laws_Growth.{IsWider, answer_wider, replies_stay, replies_more, replies_both, course_more, course_both, courses_stay}
 use Rattle.block_answers.specs.run_laws_Caused.{Record}
-use Rattle.block_answers.specs.run_laws_Records.{IsRecorded, IsRecordedIn, AreRecorded}
-use Rattle.block_answers.proofs.line_asks_RecordLaws.{recorded-wider, records-stay, records-both}
-use Rattle.run_sessions.proofs.BlockReplies.{block-lanes, made-few, made-replies, made-records, made-course, made-beside, ordered, order-then, all-at}
+use Rattle.block_answers.specs.run_laws_Records.{IsRecordStored, IsRecorded, IsRecordedIn, AreRecorded}
+use Rattle.block_answers.proofs.line_asks_RecordLaws.{recorded-wider, last-stored, records-stay, records-both}
+use Rattle.run_sessions.proofs.BlockReplies.{block-lanes, block-order, made-few, made-replies, made-records, made-course, made-beside, ordered, order-then, all-at}
 use Rattle.block_answers.proofs.ShownLaws.{shown_stays, text_more, text_both, text_front, refusal_more, refusal_both, refusal_front}
 use Rattle.run_sessions.specs.Writes.{AreWritesPlaced}
 use Rattle.block_answers.proofs.run_laws_Losses.{losses_add}
@@ -73,7 +73,8 @@ pub counted_more : (a b : ℕ) → counted (counted a + b) ≡ counted (a + b)
 counted_more a b = grind (arith, nat_tests)
 
 module _ {B bank_tells : Type 0} {given : Given} {backup : Option ℕ} {first_tape mid_tape tape : List Operation} {start mid now : ℕ → ℕ} {lines : List Numbered} {old : Session B} (new : Session B)
-    (early : NeverFalls start mid) (late : NeverFalls mid now) (grew_early : Grows bank_tells first_tape mid_tape) (grew : Grows bank_tells mid_tape tape) (going : old.stopped ≡ None) (performed : IsPerformed (setting_of bank_tells given first_tape mid_tape backup start mid) lines old) where
+    (early : NeverFalls start mid) (late : NeverFalls mid now) (grew_early : Grows bank_tells first_tape mid_tape) (grew : Grows bank_tells mid_tape tape) (going : old.stopped ≡ None) (performed : IsPerformed (setting_of bank_tells given first_tape mid_tape backup start mid) lines old)
+    (stored : IfSome (record_in new.state) (IsRecordStored bank_tells given tape)) where
   abbrev lines_before : List Numbered
   lines_before = take (length old.replies.items) lines
 
@@ -165,7 +166,7 @@ module _ {B bank_tells : Type 0} {given : Given} {backup : Option ℕ} {first_ta
       recorded_new = subst (λ (ls : List Numbered). AreRecorded (setting_of bank_tells given first_tape tape backup start now) (histories_in new.state) (at_rest 0) None ls new.replies.items (record_in new.state)) (sym lines_taken)
           (subst (λ (rs : List LineReply). AreRecorded (setting_of bank_tells given first_tape tape backup start now) (histories_in new.state) (at_rest 0) None (take (length old.replies.items) lines ++ numbered ∷ []) rs (record_in new.state)) (sym is.more)
           (records-both (setting_of bank_tells given first_tape tape backup start now) (histories_in new.state) (at_rest 0) None performed.last (record_in new.state) (take (length old.replies.items) lines) old.replies.items (numbered ∷ []) (is.made.reply ∷ []) (records_still is.replied.turn.grown)
-          (record_in new.state, recorded_here, refl)))
+          (record_in new.state, recorded_here, stored, refl)))
 
       course_new : course_in new.state ≡ course_of (histories_in new.state) (at_rest 0) (take (length new.replies.items) lines) new.replies.items
       course_new = is.replied.turn.course ∙ ap (λ (c : Course). course_after (histories_in new.state) c InScript numbered.line is.made.reply.what) (course_still is.replied.turn.grown)
@@ -364,6 +365,8 @@ module _ {B bank_tells : Type 0} {given : Given} {backup : Option ℕ} {first_ta
     -- the records from one to the next of them
     made_recorded : (at : Option Record) × AreRecorded wide hs (told_before hs) performed.last (take m block) made at × (m ≡ length did.whats → at ≡ did.answered.last)
     made_recorded = made-records bank_tells (length tape) (setting_of bank_tells given mid_tape tape backup mid now) wide wider_step hs (told_before hs) performed.last did.answered.last block did.whats made
+        (last-stored wide hs (at_rest 0) None lines_before old.replies.items performed.last tt (records_still grown)) (block-order block did.block)
+        (λ all. subst (λ (o : Option Record). IfSome o (IsRecordStored bank_tells given tape)) (sym (did.answered.recorded_now all)) stored)
         (subst (λ (o : Option Record). AreRecordedBeside (setting_of bank_tells given mid_tape tape backup mid now) hs (told_before hs) o block did.whats did.answered.last) (sym (performed.recorded_now going))
         (subst (λ (c : Course). AreRecordedBeside (setting_of bank_tells given mid_tape tape backup mid now) hs c (record_in old.state) block did.whats did.answered.last) (course_still grown) did.answered.recorded))
         did.shown.shown.told

@@ -1,13 +1,14 @@
 //! The lines of a script performed one after another, each reply shown before the next line.
 
-ghost use Rattle.std.specs.Prelude.{◌≡◌, ◌≤◌, length, take, drop, vec_capacity, None, IsTrue};
+ghost use Rattle.std.specs.Prelude.{◌≡◌, ◌≤◌, length, take, drop, vec_capacity, None, IfSome, IsTrue};
 ghost use Rattle.std.specs.List.{AllPass};
 ghost use Rattle.block_answers.specs.bank_Given.{NeverFalls};
 ghost use Rattle.block_answers.specs.views_Moving.{Grows};
 ghost use Rattle.block_answers.specs.script_Script.{is_within_limits, may_ask, are_in_turn};
 ghost use Rattle.block_answers.specs.lanes_Pace.{AnswersSteps, asked_by};
 ghost use Rattle.block_answers.specs.Shown.{longest_reply};
-ghost use Rattle.block_answers.specs.run_laws_States.{histories_in, bank_in, RunsOwn, IsFitBank, IsNamed};
+ghost use Rattle.block_answers.specs.run_laws_Records.{IsRecordStored};
+ghost use Rattle.block_answers.specs.run_laws_States.{histories_in, bank_in, record_in, RunsOwn, IsFitBank, IsNamed};
 ghost use Rattle.run_sessions.specs.Sessions.{IsEndNow, IsRepliedOrNot, IsStep, IsTurnStep, IsStopCause, IsPerformed, IsShownTo};
 ghost use Rattle.block_answers.specs.run_laws_Ended.{IsRunKept};
 ghost use Rattle.block_answers.specs.run_laws_Making.{setting_of};
@@ -155,6 +156,16 @@ fn perform_line<B: Bank, K: Sink>(
     }
 }
 
+// It does nothing: its contract says what the stored superblocks say of the array that runs, if one does.
+fn check_stored<B: Bank>(state: &State<B>)
+    ensures stored { IfSome (record_in state.now) (IsRecordStored B.tells (B.given (bank_in state.now)) (B.tape (bank_in state.now))) }
+{
+    match state {
+        State::Running(array, _) => array.check_stored(),
+        State::Idle(_, _) => (),
+    }
+}
+
 // Performs the first of these lines, or, where they begin with a block, the whole block, and shows its replies. It tells how many lines these were.
 fn perform_turn<
     B: Bank + Drop + Send,
@@ -258,6 +269,7 @@ pub fn perform<
     let mut next = 0;
     while next < lines.len() {
         let (after, count) = perform_turn(rt, alloc, session, backup, &lines[next..], pace, out);
+        check_stored(&after.state);
         session = after;
         if session.stopped.is_some() {
             return session;

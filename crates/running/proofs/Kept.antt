@@ -49,6 +49,7 @@ use Rattle.growing.specs.turning_Ended.{IsReshapeEnded}
 use Rattle.growing.proofs.still_laws_PlansKept.{AddNoPlan, add-nothing, plans-kept, plans-closed, aim-begun, aim-ended}
 use Rattle.takeover.specs.TakenOver.{IsTakeoverNext, IsLevelTaken, IsUntouched}
 use Rattle.takeover.proofs.TakenFrom.{WasSpareOrHeld, taken-roles, taken-spares}
+use Rattle.growing.specs.Stored.{IsStoredBy}
 use Rattle.running.specs.State.{IsStillNow, AreTakeovers, IsOneReshape, AreBacked, IsNextBacked, IsWithin, IsBackupAside, AreClosedIdle, IsAtRest, IsInReshape}
 use Rattle.running.proofs.Closed.{closed-kept, closed-ended, closed-taken}
 use Rattle.running.proofs.Entered.{add-begun, begun-turns, add-ended, add-taken}
@@ -70,7 +71,7 @@ pub record GoesOn {B : Type 0} (tells : Type 0) (given : B → Given) (tape : B 
   pub backup : new.parts.backup ≡ old.parts.backup
   pub added : AddNoPlan old.parts.entries new.parts.entries
 
-module _ {B : Type 0} {tells : Type 0} (given : B → Given) (tape : B → List Operation) (old new : RunningParts B) (on : GoesOn tells given tape old new) (within : IsWithin tells (tape old.parts.bank) old) where
+module _ {B : Type 0} {tells : Type 0} (given : B → Given) (tape : B → List Operation) (old new : RunningParts B) (on : GoesOn tells given tape old new) (within : IsWithin tells (given old.parts.bank) (tape old.parts.bank) old) where
   world-on : (t : tells) → world_over given tape new ≡ grown (world_over given tape old) (on.grows.more t).0
   world-on t = λ i. record {
     start = (on.given_is i).start;
@@ -193,7 +194,7 @@ module _ {B : Type 0} {tells : Type 0} (given : B → Given) (tape : B → List 
       none role apart (inl held) = apart.1 role held
       none role apart (inr spare) = clash apart.0 spare
 
-  pub rest-kept : IsStillNow new → IsWithin tells (tape new.parts.bank) new → AreClosedIdle new → IsAtRest tells (given old.parts.bank) (tape old.parts.bank) window old → IsAtRest tells (given new.parts.bank) (tape new.parts.bank) window new
+  pub rest-kept : IsStillNow new → IsWithin tells (given new.parts.bank) (tape new.parts.bank) new → AreClosedIdle new → IsAtRest tells (given old.parts.bank) (tape old.parts.bank) window old → IsAtRest tells (given new.parts.bank) (tape new.parts.bank) window new
   rest-kept now within closed was = record {
     now = now;
     within = within;
@@ -209,7 +210,7 @@ module _ {B : Type 0} {tells : Type 0} (given : B → Given) (tape : B → List 
 
 module _ {B : Type 0} {tells : Type 0} (given : B → Given) (tape : B → List Operation) (old new : RunningParts B) (on : GoesOn tells given tape old new)
     (shape : shape_of new.parts.members.newest ≡ shape_of old.parts.members.newest) (final : final_shape new.parts.members.newest ≡ final_shape old.parts.members.newest) (ahead : new.ahead ≡ old.ahead) where
-  pub reshape-kept : is_reshaping new.parts.members.newest ≡ true → IsWithin tells (tape new.parts.bank) new → IsInReshape tells (given old.parts.bank) (tape old.parts.bank) old → IsInReshape tells (given new.parts.bank) (tape new.parts.bank) new
+  pub reshape-kept : is_reshaping new.parts.members.newest ≡ true → IsWithin tells (given new.parts.bank) (tape new.parts.bank) new → IsInReshape tells (given old.parts.bank) (tape old.parts.bank) old → IsInReshape tells (given new.parts.bank) (tape new.parts.bank) new
   reshape-kept active within was = record {
     active = active;
     within = within;
@@ -238,23 +239,23 @@ module _ {B : Type 0} {tells : Type 0} (given : B → Given) (tape : B → List 
   leaves-same same held spares = record { shape = same.array.shape; final = same.final; size = same.array.size; ahead = same.ahead; held = held; spares = spares }
 
   -- by which slots may be lost
-  pub rest-called : {f g : ℕ → ℕ} → IsCalled tells (given old.parts.bank) (tape old.parts.bank) (tape new.parts.bank) f g old new → (AreWhole new.parts.members → AreWhole old.parts.members) → IsStillNow new → IsWithin tells (tape new.parts.bank) new
+  pub rest-called : {f g : ℕ → ℕ} → IsCalled tells (given old.parts.bank) (tape old.parts.bank) (tape new.parts.bank) f g old new → (AreWhole new.parts.members → AreWhole old.parts.members) → IsStillNow new → IsWithin tells (given new.parts.bank) (tape new.parts.bank) new
       → IsAtRest tells (given old.parts.bank) (tape old.parts.bank) window old → IsAtRest tells (given new.parts.bank) (tape new.parts.bank) window new
   rest-called did whole now within was =
       rest-kept given tape window old new (goes-same did.grows did.same) (leaves-same did.same (λ role slot has. inl (did.held role slot has)) (λ slot backup is. did.spares slot is)) now within
       (closed-kept old new (ap (λ (w : Work). w.resync) did.work) did.same.ahead whole added was.closed) was
 
-  pub reshape-called : {f g : ℕ → ℕ} → IsCalled tells (given old.parts.bank) (tape old.parts.bank) (tape new.parts.bank) f g old new → is_reshaping new.parts.members.newest ≡ true → IsWithin tells (tape new.parts.bank) new
+  pub reshape-called : {f g : ℕ → ℕ} → IsCalled tells (given old.parts.bank) (tape old.parts.bank) (tape new.parts.bank) f g old new → is_reshaping new.parts.members.newest ≡ true → IsWithin tells (given new.parts.bank) (tape new.parts.bank) new
       → IsInReshape tells (given old.parts.bank) (tape old.parts.bank) old → IsInReshape tells (given new.parts.bank) (tape new.parts.bank) new
   reshape-called did = reshape-kept given tape old new (goes-same did.grows did.same) did.same.array.shape did.same.final did.same.ahead
 
   -- by which roles may be given to spares
   pub rest-stepped : {Had : ℕ → ℕ → Type 0} {f g : ℕ → ℕ} → IsStepped tells (given old.parts.bank) (tape old.parts.bank) (tape new.parts.bank) Had f g old new → AreHeldOrSpare old.parts.members new.parts.members
-      → IsStillNow new → IsWithin tells (tape new.parts.bank) new → AreClosedIdle new → IsAtRest tells (given old.parts.bank) (tape old.parts.bank) window old → IsAtRest tells (given new.parts.bank) (tape new.parts.bank) window new
+      → IsStillNow new → IsWithin tells (given new.parts.bank) (tape new.parts.bank) new → AreClosedIdle new → IsAtRest tells (given old.parts.bank) (tape old.parts.bank) window old → IsAtRest tells (given new.parts.bank) (tape new.parts.bank) window new
   rest-stepped did held = rest-kept given tape window old new (goes-same did.grows did.same) (leaves-same did.same held.roles (λ slot backup is. held.spares slot is))
 
   -- by which the work may be another
-  pub reshape-stepped : {f g : ℕ → ℕ} → IsMendCalled tells (given old.parts.bank) (tape old.parts.bank) (tape new.parts.bank) f g old new → is_reshaping new.parts.members.newest ≡ true → IsWithin tells (tape new.parts.bank) new
+  pub reshape-stepped : {f g : ℕ → ℕ} → IsMendCalled tells (given old.parts.bank) (tape old.parts.bank) (tape new.parts.bank) f g old new → is_reshaping new.parts.members.newest ≡ true → IsWithin tells (given new.parts.bank) (tape new.parts.bank) new
       → IsInReshape tells (given old.parts.bank) (tape old.parts.bank) old → IsInReshape tells (given new.parts.bank) (tape new.parts.bank) new
   reshape-stepped did = reshape-kept given tape old new (record {
     given_is = given_is;
@@ -267,13 +268,13 @@ module _ {B : Type 0} {tells : Type 0} (given : B → Given) (tape : B → List 
   }) did.same.array.shape did.same.final did.same.ahead
 
   -- by which nothing is done on the bank, and the members are the same
-  pub rest-alone : {before after : World} → new.parts.bank ≡ old.parts.bank → IsSameReshape tells old new before after → new.parts.members ≡ old.parts.members → new.parts.work ≡ old.parts.work → IsStillNow new → IsWithin tells (tape new.parts.bank) new
+  pub rest-alone : {before after : World} → new.parts.bank ≡ old.parts.bank → IsSameReshape tells old new before after → new.parts.members ≡ old.parts.members → new.parts.work ≡ old.parts.work → IsStillNow new → IsWithin tells (given new.parts.bank) (tape new.parts.bank) new
       → IsAtRest tells (given old.parts.bank) (tape old.parts.bank) window old → IsAtRest tells (given new.parts.bank) (tape new.parts.bank) window new
   rest-alone bank same members work now within was = rest-kept given tape window old new (goes-same (grows-none (λ t. ap tape bank)) same)
       (leaves-same same (λ role slot has. inl (subst (λ (m : Members). Held m role slot) members has)) (λ slot backup is. subst (λ (m : Members). has_spare m.spares slot ≡ true) members is)) now within
       (closed-kept old new (ap (λ (w : Work). w.resync) work) same.ahead (λ whole. subst AreWhole members whole) added was.closed) was
 
-  pub reshape-alone : {before after : World} → new.parts.bank ≡ old.parts.bank → IsSameReshape tells old new before after → is_reshaping new.parts.members.newest ≡ true → IsWithin tells (tape new.parts.bank) new
+  pub reshape-alone : {before after : World} → new.parts.bank ≡ old.parts.bank → IsSameReshape tells old new before after → is_reshaping new.parts.members.newest ≡ true → IsWithin tells (given new.parts.bank) (tape new.parts.bank) new
       → IsInReshape tells (given old.parts.bank) (tape old.parts.bank) old → IsInReshape tells (given new.parts.bank) (tape new.parts.bank) new
   reshape-alone bank same = reshape-kept given tape old new (goes-same (grows-none (λ t. ap tape bank)) same) same.array.shape same.final same.ahead
 
@@ -298,7 +299,7 @@ module _ (given : Given) (backup : Option ℕ) (slot : ℕ) (old new : Members) 
 module _ {B : Type 0} {tells : Type 0} (given : B → Given) (tape : B → List Operation) (window : ℕ) (old new : RunningParts B) (given_is : given new.parts.bank ≡ given old.parts.bank)
     (added : AddNoPlan old.parts.entries new.parts.entries) {slot : ℕ} {f g : ℕ → ℕ} (did : IsAddCalled tells (given old.parts.bank) (tape old.parts.bank) (tape new.parts.bank) f g slot old new) where
   pub rest-added : {T : Type 0} (result : Result T Fault) → IsAddedFor (given old.parts.bank) old.parts.backup slot old.parts.members new.parts.members f g result → (AreWhole new.parts.members → AreWhole old.parts.members)
-      → IsStillNow new → IsWithin tells (tape new.parts.bank) new
+      → IsStillNow new → IsWithin tells (given new.parts.bank) (tape new.parts.bank) new
       → IsAtRest tells (given old.parts.bank) (tape old.parts.bank) window old → IsAtRest tells (given new.parts.bank) (tape new.parts.bank) window new
   rest-added result caused whole now within was = rest-kept given tape window old new (goes-same given tape window old new given_is added did.grows did.same)
       (leaves-same given tape window old new given_is added did.same (λ role s has. inl (did.held role s has)) (λ s backup has. by s backup has (did.spares s has))) now within
@@ -311,7 +312,7 @@ module _ {B : Type 0} {tells : Type 0} (given : B → Given) (tape : B → List 
           (no-backup (given old.parts.bank) old.parts.backup slot old.parts.members new.parts.members f g result caused (backup ∙ ap (λ (n : ℕ). Some n) is)
           (subst (λ (n : ℕ). has_spare new.parts.members.spares n ≡ true) is has))
 
-  pub reshape-added : is_reshaping new.parts.members.newest ≡ true → IsWithin tells (tape new.parts.bank) new → IsInReshape tells (given old.parts.bank) (tape old.parts.bank) old
+  pub reshape-added : is_reshaping new.parts.members.newest ≡ true → IsWithin tells (given new.parts.bank) (tape new.parts.bank) new → IsInReshape tells (given old.parts.bank) (tape old.parts.bank) old
       → IsInReshape tells (given new.parts.bank) (tape new.parts.bank) new
   reshape-added = reshape-kept given tape old new (goes-same given tape window old new given_is added did.grows did.same) did.same.array.shape did.same.final did.same.ahead
 
@@ -330,7 +331,7 @@ module _ {B : Type 0} {tells : Type 0} (given : B → Given) (tape : B → List 
     added = add-nothing (ap (λ p. p.parts.entries) same);
   }
 
-  pub rest-looked : IsStillNow new → IsWithin tells (tape new.parts.bank) new → IsAtRest tells (given old.parts.bank) (tape old.parts.bank) window old → IsAtRest tells (given new.parts.bank) (tape new.parts.bank) window new
+  pub rest-looked : IsStillNow new → IsWithin tells (given new.parts.bank) (tape new.parts.bank) new → IsAtRest tells (given old.parts.bank) (tape old.parts.bank) window old → IsAtRest tells (given new.parts.bank) (tape new.parts.bank) window new
   rest-looked now within was = rest-kept given tape window old new looks-on (record {
     shape = ap (λ p. shape_of p.parts.members.newest) same;
     final = ap (λ p. final_shape p.parts.members.newest) same;
@@ -341,11 +342,15 @@ module _ {B : Type 0} {tells : Type 0} (given : B → Given) (tape : B → List 
   }) now within
       (closed-kept old new (ap (λ p. p.parts.work.resync) same) (ap (λ p. p.ahead) same) (λ whole. subst (λ p. AreWhole p.parts.members) same whole) (add-nothing (ap (λ p. p.parts.entries) same)) was.closed) was
 
-  pub reshape-looked : is_reshaping new.parts.members.newest ≡ true → IsWithin tells (tape new.parts.bank) new → IsInReshape tells (given old.parts.bank) (tape old.parts.bank) old
+  pub reshape-looked : is_reshaping new.parts.members.newest ≡ true → IsWithin tells (given new.parts.bank) (tape new.parts.bank) new → IsInReshape tells (given old.parts.bank) (tape old.parts.bank) old
       → IsInReshape tells (given new.parts.bank) (tape new.parts.bank) new
   reshape-looked = reshape-kept given tape old new looks-on (ap (λ p. shape_of p.parts.members.newest) same) (ap (λ p. final_shape p.parts.members.newest) same) (ap (λ p. p.ahead) same)
 
 -- ---- room for steps
+
+-- what is stored is the same
+stored-same : {B : Type 0} {world : World} {array : RunningParts B} {n : ℕ} → IsStoredBy world array → IsStoredBy world (record array { parts = record array.parts { steps = n } })
+stored-same was = record { begun = was.begun; ends = was.ends; stored = was.stored }
 
 module _ {B : Type 0} {tells : Type 0} (given : B → Given) (tape : B → List Operation) (window n : ℕ) (old new : RunningParts B) where
   -- where room is made, and where memory is short for it
@@ -353,7 +358,7 @@ module _ {B : Type 0} {tells : Type 0} (given : B → Given) (tape : B → List 
       → IsAtRest tells (given old.parts.bank) (tape old.parts.bank) window old → IsAtRest tells (given new.parts.bank) (tape new.parts.bank) window new
   roomy-rest (Ok x) same none was = subst (λ p. IsAtRest tells (given p.parts.bank) (tape p.parts.bank) window p) (sym same) (record {
     now = record { still = was.now.still; course = was.now.course };
-    within = record { begun = was.within.begun; ends = was.within.ends; sized = was.within.sized; limited = was.within.limited; told = was.within.told };
+    within = record { begun = was.within.begun; ends = was.within.ends; sized = was.within.sized; limited = was.within.limited; told = was.within.told; stored = λ t. stored-same (was.within.stored t) };
     one = was.one;
     next = was.next;
     aside = was.aside;
@@ -366,7 +371,7 @@ module _ {B : Type 0} {tells : Type 0} (given : B → Given) (tape : B → List 
       → IsInReshape tells (given old.parts.bank) (tape old.parts.bank) old → IsInReshape tells (given new.parts.bank) (tape new.parts.bank) new
   roomy-reshape (Ok x) same none was = subst (λ p. IsInReshape tells (given p.parts.bank) (tape p.parts.bank) p) (sym same) (record {
     active = was.active;
-    within = record { begun = was.within.begun; ends = was.within.ends; sized = was.within.sized; limited = was.within.limited; told = was.within.told };
+    within = record { begun = was.within.begun; ends = was.within.ends; sized = was.within.sized; limited = was.within.limited; told = was.within.told; stored = λ t. stored-same (was.within.stored t) };
     last = was.last;
     turned = was.turned;
     plans = was.plans;
@@ -378,7 +383,7 @@ module _ {B : Type 0} {tells : Type 0} (given : B → Given) (tape : B → List 
 -- it begins: the plans that are open go to its shape
 pub reshape-begun : {B tells : Type 0} {f g : ℕ → ℕ} {who : Who} {behind : PhasesLeft} (given : B → Given) (tape : B → List Operation) (window : ℕ) (to : Shape) (old new : RunningParts B) → given new.parts.bank ≡ given old.parts.bank
     → phases_of old.ahead ≡ Reshape to ∷ phases_of behind → IsReshapeBegun tells (given old.parts.bank) (tape old.parts.bank) (tape new.parts.bank) f g who to behind old new
-    → IsWithin tells (tape new.parts.bank) new → IsAtRest tells (given old.parts.bank) (tape old.parts.bank) window old → IsInReshape tells (given new.parts.bank) (tape new.parts.bank) new
+    → IsWithin tells (given new.parts.bank) (tape new.parts.bank) new → IsAtRest tells (given old.parts.bank) (tape old.parts.bank) window old → IsInReshape tells (given new.parts.bank) (tape new.parts.bank) new
 reshape-begun {behind = behind} given tape window to old new given_is next did within was = record {
   active = did.start.active;
   within = within;
@@ -397,7 +402,7 @@ reshape-begun {behind = behind} given tape window to old new given_is next did w
 
 -- it couldn't
 pub rest-back : {B tells : Type 0} {who : Who} {refusal : Refusal} (given : B → Given) (tape : B → List Operation) (window : ℕ) (to : Shape) (more : List Phase) (old new : RunningParts B) → given new.parts.bank ≡ given old.parts.bank
-    → phases_of old.ahead ≡ Reshape to ∷ more → Grows tells (tape old.parts.bank) (tape new.parts.bank) → IsGivenBack tells (given old.parts.bank) (tape old.parts.bank) (tape new.parts.bank) who refusal old new → IsStillNow new → IsWithin tells (tape new.parts.bank) new
+    → phases_of old.ahead ≡ Reshape to ∷ more → Grows tells (tape old.parts.bank) (tape new.parts.bank) → IsGivenBack tells (given old.parts.bank) (tape old.parts.bank) (tape new.parts.bank) who refusal old new → IsStillNow new → IsWithin tells (given new.parts.bank) (tape new.parts.bank) new
     → IsAtRest tells (given old.parts.bank) (tape old.parts.bank) window old → IsAtRest tells (given new.parts.bank) (tape new.parts.bank) window new
 rest-back {who = who} {refusal = refusal} given tape window to more old new given_is next grows back now within = rest-kept given tape window old new
     (record {
@@ -421,7 +426,7 @@ rest-back {who = who} {refusal = refusal} given tape window to more old new give
 
 -- it ends: the array has its shape
 pub rest-ended : {B tells : Type 0} {f g : ℕ → ℕ} {who : Who} (given : B → Given) (tape : B → List Operation) (window : ℕ) (old new : RunningParts B) → given new.parts.bank ≡ given old.parts.bank
-    → IsReshapeEnded tells (given old.parts.bank) (tape old.parts.bank) (tape new.parts.bank) f g who old new → IsBackupAside old → IsStillNow new → IsWithin tells (tape new.parts.bank) new
+    → IsReshapeEnded tells (given old.parts.bank) (tape old.parts.bank) (tape new.parts.bank) f g who old new → IsBackupAside old → IsStillNow new → IsWithin tells (given new.parts.bank) (tape new.parts.bank) new
     → IsInReshape tells (given old.parts.bank) (tape old.parts.bank) old → IsAtRest tells (given new.parts.bank) (tape new.parts.bank) window new
 rest-ended given tape window old new given_is did apart now within was = record {
   now = now;
@@ -478,7 +483,7 @@ aim-taken old new to behind before after shape ahead next =
 
 pub rest-taken : {B tells : Type 0} {f g : ℕ → ℕ} {who : Who} {behind : PhasesLeft} (given : B → Given) (tape : B → List Operation) (window : ℕ) (to : Shape) (old new : RunningParts B) → given new.parts.bank ≡ given old.parts.bank
     → IsTakeoverNext (phases_of old.ahead) to (phases_of behind)
-    → IsLevelTaken tells (given old.parts.bank) (tape old.parts.bank) (tape new.parts.bank) f g who to behind old new → IsStillNow new → IsWithin tells (tape new.parts.bank) new
+    → IsLevelTaken tells (given old.parts.bank) (tape old.parts.bank) (tape new.parts.bank) f g who to behind old new → IsStillNow new → IsWithin tells (given new.parts.bank) (tape new.parts.bank) new
     → IsAtRest tells (given old.parts.bank) (tape old.parts.bank) window old → IsAtRest tells (given new.parts.bank) (tape new.parts.bank) window new
 rest-taken {behind = behind} given tape window to old new given_is next did now within was = record {
   now = now;
@@ -515,7 +520,7 @@ rest-taken {behind = behind} given tape window to old new given_is next did now 
 
 -- it isn't
 pub rest-untaken : {B tells : Type 0} {who : Who} {refusal : Refusal} (given : B → Given) (tape : B → List Operation) (window : ℕ) (old new : RunningParts B) → IsUntouched tells (tape old.parts.bank) who refusal old new → IsStillNow new
-    → IsWithin tells (tape new.parts.bank) new
+    → IsWithin tells (given new.parts.bank) (tape new.parts.bank) new
     → IsAtRest tells (given old.parts.bank) (tape old.parts.bank) window old → IsAtRest tells (given new.parts.bank) (tape new.parts.bank) window new
 rest-untaken {who = who} {refusal = refusal} given tape window old new did now within was = rest-kept given tape window old new
     (record {
@@ -543,7 +548,7 @@ rest-untaken {who = who} {refusal = refusal} given tape window old new did now w
 -- ---- at first
 
 -- an array that has no plan
-pub rest-first : {B tells : Type 0} (given : Given) (tape : List Operation) (window : ℕ) (array : RunningParts B) → IsStillNow array → IsWithin tells tape array → phases_of array.ahead ≡ [] → open_plans array.parts.entries ≡ []
+pub rest-first : {B tells : Type 0} (given : Given) (tape : List Operation) (window : ℕ) (array : RunningParts B) → IsStillNow array → IsWithin tells given tape array → phases_of array.ahead ≡ [] → open_plans array.parts.entries ≡ []
     → IsBackupAside array → IsAtRest tells given tape window array
 rest-first given tape window array now within none unplanned aside = record {
   now = now;
@@ -555,7 +560,7 @@ rest-first given tape window array now within none unplanned aside = record {
   closed = λ synced ahead whole. unplanned;
 }
 
-pub reshape-first : {B tells : Type 0} (given : Given) (tape : List Operation) (array : RunningParts B) → is_reshaping array.parts.members.newest ≡ true → IsWithin tells tape array → phases_of array.ahead ≡ []
+pub reshape-first : {B tells : Type 0} (given : Given) (tape : List Operation) (array : RunningParts B) → is_reshaping array.parts.members.newest ≡ true → IsWithin tells given tape array → phases_of array.ahead ≡ []
     → open_plans array.parts.entries ≡ [] → (tells → KeepsShape (moving_world given tape array) array.parts.entries → ⊥) → IsInReshape tells given tape array
 reshape-first given tape array active within none unplanned turned = record {
   active = active;

@@ -92,3 +92,4 @@ pub use Rattle.takeover.specs.flat_history_the_Request_TheVariants
 pub use Rattle.takeover.specs.flat_history_the_StepKind
 pub use Rattle.takeover.specs.flat_history_the_StepKind_TheVariants
 pub use Rattle.takeover.specs.sb1_the_Sb
+pub use Rattle.growing.specs.Stored as growing_Stored

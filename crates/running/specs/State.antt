@@ -17,6 +17,7 @@ use Rattle.growing.specs.views_Rebuilding.{Held}
 use Rattle.takeover.specs.grow_asked_Left.{phases_of}
 use Rattle.growing.specs.course_kept_Laws.{closed}
 use Rattle.growing.specs.running_words_Parts.{RunningParts}
+use Rattle.growing.specs.Stored.{IsStoredBy}
 use Rattle.growing.specs.running_words_Calls.{moving_world}
 use Rattle.growing.specs.running_words_Plans.{ArePlansKept, KeepsShape}
 use Rattle.running.specs.Calls.{running_left}
@@ -69,13 +70,14 @@ IsNextBacked given window array =
 
 -- ---- what it keeps
 
--- its epoch began within the tape, where its entries end too; they tell how long its list is, and its limit; and the steps that they tell are left are left
-pub record IsWithin {B : Type 0} (tells : Type 0) (tape : List Operation) (array : RunningParts B) : Type 0 where
+-- its epoch began within the tape, where its entries end too; they tell how long its list is, and its limit; the steps that they tell are left are left; and the stored superblocks say what its members do
+pub record IsWithin {B : Type 0} (tells : Type 0) (given : Given) (tape : List Operation) (array : RunningParts B) : Type 0 where
   pub begun : tells → array.parts.first ≤ length tape
   pub ends : tells → EndBy (length tape) array.parts.entries
   pub sized : length_of (list_length array.parts.members.newest) array.parts.entries ≡ list_length array.parts.members.newest
   pub limited : limit_of array.parts.entries ≡ array.limit
   pub told : IfSome (told_left array.parts.entries) (λ n. n ≡ running_left array)
+  pub stored : tells → IsStoredBy (moving_world given tape array) array
 
 -- the backup, if there is one, holds no role and is no spare
 abbrev pub IsBackupAside : {B : Type 0} → RunningParts B → Type 0
@@ -89,7 +91,7 @@ AreClosedIdle array = array.parts.work.resync ≡ None → phases_of array.ahead
 -- Without a reshape phases may be ahead, one of which may be a reshape, which can be next behind those before it; each plan that is open goes where they lead, and none is where all is done.
 pub record IsAtRest {B : Type 0} (tells : Type 0) (given : Given) (tape : List Operation) (window : ℕ) (array : RunningParts B) : Type 0 where
   pub now : IsStillNow array
-  pub within : IsWithin tells tape array
+  pub within : IsWithin tells given tape array
   pub one : IsOneReshape (phases_of array.ahead)
   pub next : IsNextBacked given window array
   pub aside : IsBackupAside array
@@ -99,7 +101,7 @@ pub record IsAtRest {B : Type 0} (tells : Type 0) (given : Given) (tape : List O
 -- In a reshape takeovers alone may be ahead; each plan that is open goes where the reshape and they do, and the opening found the reshape, or the history tells it.
 pub record IsInReshape {B : Type 0} (tells : Type 0) (given : Given) (tape : List Operation) (array : RunningParts B) : Type 0 where
   pub active : is_reshaping array.parts.members.newest ≡ true
-  pub within : IsWithin tells tape array
+  pub within : IsWithin tells given tape array
   pub last : AreTakeovers (phases_of array.ahead)
   pub turned : tells → KeepsShape (moving_world given tape array) array.parts.entries → ⊥
   pub plans : ArePlansKept tells (moving_world given tape array) array

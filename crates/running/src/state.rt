@@ -59,7 +59,7 @@ impl<B: Bank> Model for Running<B> {
 fn still_again<B: Bank>(still: Still<B>, _none: ()) -> (Still<B>, ())
     ensures same { result.0 ≡ still }
     ensures rest { IsStillNow still }
-    ensures within { IsWithin B.tells (B.tape still.parts.bank) still }
+    ensures within { IsWithin B.tells (B.given still.parts.bank) (B.tape still.parts.bank) still }
     ensures placed { IsPlaced (B.given still.parts.bank) still.parts.members }
 {
     (Still::of_pieces(still.take_apart()), ())
@@ -71,7 +71,7 @@ fn moving_again<B: Bank>(moving: Moving<B>, _none: ()) -> (Moving<B>, ())
     ensures active { is_reshaping moving.parts.members.newest ≡ true }
     ensures backed { IsSome moving.parts.backup }
     ensures some { 0 < left_in moving.parts.work moving.parts.members moving.course moving.ahead }
-    ensures within { IsWithin B.tells (B.tape moving.parts.bank) moving }
+    ensures within { IsWithin B.tells (B.given moving.parts.bank) (B.tape moving.parts.bank) moving }
     ensures aside { IsBackupAside moving }
 {
     let (pieces, course, window) = moving.take_apart();
@@ -85,7 +85,7 @@ fn moving_again<B: Bank>(moving: Moving<B>, _none: ()) -> (Moving<B>, ())
 pub fn check_still<B: Bank>(still: &mut Still<B>)
     ensures same { still.new ≡ still.old }
     ensures rest { IsStillNow still.old }
-    ensures within { IsWithin B.tells (B.tape still.old.parts.bank) still.old }
+    ensures within { IsWithin B.tells (B.given still.old.parts.bank) (B.tape still.old.parts.bank) still.old }
     ensures placed { IsPlaced (B.given still.old.parts.bank) still.old.parts.members }
 {
     replace_with(still, (), still_again)
@@ -97,7 +97,7 @@ pub fn check_moving<B: Bank>(moving: &mut Moving<B>)
     ensures active { is_reshaping moving.old.parts.members.newest ≡ true }
     ensures backed { IsSome moving.old.parts.backup }
     ensures some { 0 < left_in moving.old.parts.work moving.old.parts.members moving.old.course moving.old.ahead }
-    ensures within { IsWithin B.tells (B.tape moving.old.parts.bank) moving.old }
+    ensures within { IsWithin B.tells (B.given moving.old.parts.bank) (B.tape moving.old.parts.bank) moving.old }
     ensures aside { IsBackupAside moving.old }
 {
     replace_with(moving, (), moving_again)

@@ -91,12 +91,12 @@ as-before was = record {
 
 module _ {B : Type 0} {tells : Type 0} (given : B → Given) (tape : B → List Operation) (old new : RunningParts B) {limit : Option ℕ} (did : IsLimitedAs limit old new)
     (world : World) (phases : ℕ) (members : Members) (asked : Option ℕ) (who : Who) (count : ℕ) (result : Result ℕ Fault) (replied : IsReplied tells world phases members (AsksVisible asked) who old.parts.entries new.parts.entries (Visible asked count) result) where
-  pub rest-limited : (window : ℕ) → IsStillNow new → IsWithin tells (tape new.parts.bank) new → IsAtRest tells (given old.parts.bank) (tape old.parts.bank) window old → IsAtRest tells (given new.parts.bank) (tape new.parts.bank) window new
+  pub rest-limited : (window : ℕ) → IsStillNow new → IsWithin tells (given new.parts.bank) (tape new.parts.bank) new → IsAtRest tells (given old.parts.bank) (tape old.parts.bank) window old → IsAtRest tells (given new.parts.bank) (tape new.parts.bank) window new
   rest-limited window now within was =
       let added = add-limited tells world phases members asked who old.parts.entries new.parts.entries count result replied in
       rest-kept given tape window old new (history-on given tape old new (as-before did) added) (history-leaves old new (as-before did) did.ahead) now within
       (closed-kept old new (ap (λ (w : Work). w.resync) did.work) did.ahead (λ whole. subst AreWhole did.members whole) added was.closed) was
 
-  pub reshape-limited : is_reshaping new.parts.members.newest ≡ true → IsWithin tells (tape new.parts.bank) new → IsInReshape tells (given old.parts.bank) (tape old.parts.bank) old → IsInReshape tells (given new.parts.bank) (tape new.parts.bank) new
+  pub reshape-limited : is_reshaping new.parts.members.newest ≡ true → IsWithin tells (given new.parts.bank) (tape new.parts.bank) new → IsInReshape tells (given old.parts.bank) (tape old.parts.bank) old → IsInReshape tells (given new.parts.bank) (tape new.parts.bank) new
   reshape-limited active within was =
       reshape-kept given tape old new (history-on given tape old new (as-before did) (add-limited tells world phases members asked who old.parts.entries new.parts.entries count result replied)) (ap (λ (m : Members). shape_of m.newest) did.members) (ap (λ (m : Members). final_shape m.newest) did.members) did.ahead active within was

@@ -108,13 +108,13 @@ module _ {B : Type 0} {tells : Type 0} (given : B → Given) (tape : B → List 
   }
 
   module _ (T : Type 0) (world : World) (a : Asked) (wish : Wish) (who : Who) (event : Event) (fault : Fault) (answered : IsGrowAnswered {T = T} tells world a wish who old.parts.entries new.parts.entries event (Err fault)) (ahead : new.ahead ≡ old.ahead) where
-    pub rest-refused : (window : ℕ) → IsStillNow new → IsWithin tells (tape new.parts.bank) new → IsAtRest tells (given old.parts.bank) (tape old.parts.bank) window old → IsAtRest tells (given new.parts.bank) (tape new.parts.bank) window new
+    pub rest-refused : (window : ℕ) → IsStillNow new → IsWithin tells (given new.parts.bank) (tape new.parts.bank) new → IsAtRest tells (given old.parts.bank) (tape old.parts.bank) window old → IsAtRest tells (given new.parts.bank) (tape new.parts.bank) window new
     rest-refused window now within was =
         let added = add-refused T tells world a wish who old.parts.entries new.parts.entries event fault answered in
         rest-kept given tape window old new (history-on added) (history-leaves old new before ahead) now within
         (closed-kept old new (ap (λ (w : Work). w.resync) before.work) ahead (λ whole. subst AreWhole before.members whole) added was.closed) was
 
-    pub reshape-refused : is_reshaping new.parts.members.newest ≡ true → IsWithin tells (tape new.parts.bank) new → IsInReshape tells (given old.parts.bank) (tape old.parts.bank) old → IsInReshape tells (given new.parts.bank) (tape new.parts.bank) new
+    pub reshape-refused : is_reshaping new.parts.members.newest ≡ true → IsWithin tells (given new.parts.bank) (tape new.parts.bank) new → IsInReshape tells (given old.parts.bank) (tape old.parts.bank) old → IsInReshape tells (given new.parts.bank) (tape new.parts.bank) new
     reshape-refused active within was =
         reshape-kept given tape old new (history-on (add-refused T tells world a wish who old.parts.entries new.parts.entries event fault answered)) (ap (λ (m : Members). shape_of m.newest) before.members) (ap (λ (m : Members). final_shape m.newest) before.members) ahead active within was
 
@@ -137,7 +137,7 @@ module _ {B : Type 0} {tells : Type 0} (given : B → Given) (tape : B → List 
           λ role held. apart.1 role (subst (λ (m : Members). Held m role slot) before.members held),
         )
 
-    pub rest-planned : IsStillNow new → IsWithin tells (tape new.parts.bank) new → IsAtRest tells (given new.parts.bank) (tape new.parts.bank) room new
+    pub rest-planned : IsStillNow new → IsWithin tells (given new.parts.bank) (tape new.parts.bank) new → IsAtRest tells (given new.parts.bank) (tape new.parts.bank) room new
     rest-planned now within =
         let alone = planned-alone (asked_in (given old.parts.bank) old) wish (phases_of old.ahead) refl none in
         record {

@@ -70,3 +70,4 @@ pub use Rattle.bank.specs.declared.bank.Operation as bank_the_Operation
 pub use Rattle.bank.specs.declared.bank.Operation.TheVariants as bank_the_Operation_TheVariants
 pub use Rattle.bank.specs.md_base_the_NoMemory
 pub use Rattle.bank.specs.md_base_the_Wish
+pub use Rattle.openings.specs.growing_Stored

@@ -77,5 +77,6 @@ pub use Rattle.pieces.proofs.views_MemberLaws
 pub use Rattle.pieces.proofs.views_MovedLaws
 pub use Rattle.pieces.proofs.views_SafeStretch
 pub use Rattle.pieces.proofs.views_Still
+pub use Rattle.array_state.proofs.md_base_Least
 pub use Rattle.still_laws.proofs.call_entries_BearerLaws
 pub use Rattle.still_laws.proofs.history_laws_OneShapeGrowing

@@ -10,10 +10,10 @@ pub use array_state::refusing::{are_mended, unmended};
 pub use array_state::room::zeros;
 pub use array_state::work::set_rebuilt;
 pub use array_state::{
-    Fault, Refusal, Sectors, Shape, Who, add_member, bear, check_number, enter, enter_behind,
+    Fault, Refusal, Role, Sectors, Shape, Who, add_member, bear, check_number, enter, enter_behind,
     enter_failure, enter_lost, free_number, look_at,
 };
-pub use choosing::{first_recovering, first_spare, first_vacant};
+pub use choosing::first_spare;
 pub use election::{Bank, Members, contains, with, without};
 pub use pieces::{
     Entries, Epoch, Event, PhasesLeft, Pieces, StepKind, Work, is_missing, planned_left,

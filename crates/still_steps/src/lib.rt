@@ -1,6 +1,7 @@
 //! The background steps of an array without a reshape: which is the next one.
 #![tactic(auto)]
 
+mod choosing;
 mod filling;
 mod mending;
 mod naming;
@@ -9,7 +10,6 @@ mod refusing;
 mod resyncing;
 mod stepping;
 
+pub use choosing::first_recovering;
 pub use stepping::still_step;
-pub use still::{
-    Opened, Still, first_recovering, first_spare, set_rebuilt, steps_left, vacant_roles,
-};
+pub use still::{Opened, Still, first_spare, set_rebuilt, steps_left, vacant_roles};

@@ -18,8 +18,9 @@ ghost use Rattle.still.specs.running_words_Plans.{ArePlansKept};
 ghost use Rattle.still.specs.still_laws_Steps.{IsStepped, IsClosable, IsCallUnbroken};
 ghost use Rattle.still.specs.Rebuilding.{rebuilt_role, rebuild_kind, rebuild_events, after_rebuild, IsRebuildNext, IsGivenToSpare, IsHeldOrNext};
 
+use crate::choosing::{first_recovering, first_vacant};
 use crate::filling::{end_rebuild, fill_stripe, take_role};
-use still::{Bank, Fault, Still, Who, first_recovering, first_spare, first_vacant};
+use still::{Bank, Fault, Still, Who, first_spare};
 
 // Does the next step of a rebuild: of the lowest role that a slot recovers, its next stripe, or, where all are rebuilt, its
 // end; or else gives the lowest role that no slot holds to the lowest spare. Where the slot that is rebuilt is lost, this

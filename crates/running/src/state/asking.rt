@@ -4,7 +4,9 @@ ghost use Rattle.std.specs.Prelude.{◌≡◌, length, IfSome};
 ghost use Rattle.takeover.specs.superblocks_Reading.{is_reshaping, list_length};
 ghost use Rattle.takeover.specs.flat_history_Flat.{next_number, length_of, limit_of};
 ghost use Rattle.takeover.specs.flat_history_Legal.{told_left};
+ghost use Rattle.growing.specs.running_words_Calls.{moving_world};
 ghost use Rattle.growing.specs.running_words_Parts.{visible_in};
+ghost use Rattle.growing.specs.Stored.{IsStoredBy};
 ghost use Rattle.running.specs.Calls.{running_left};
 
 use crate::state::{Running, State};
@@ -97,6 +99,16 @@ impl<B: Bank> Running<B> {
         match &self.state {
             State::Still(still) => still.visible(),
             State::Moving(moving) => moving.visible(),
+        }
+    }
+
+    /// It does nothing: the stored superblocks say what its members do, where its last entry ended.
+    pub fn check_stored(&self)
+        ensures stored { B.tells → IsStoredBy (moving_world (B.given self.now.parts.bank) (B.tape self.now.parts.bank) self.now) self.now }
+    {
+        match &self.state {
+            State::Still(_) => (),
+            State::Moving(_) => (),
         }
     }
 

@@ -1,5 +1,5 @@
 use Rattle.std.proofs.Common.{◌≡◌, ℕ, ◌+◌, ◌-◌, ◌≤◌, false, List, length, take, drop, None, refl, sym, ◌∙◌, ap, subst, arith, length-drop}
-use Rattle.std.specs.Prelude.{IsTrue}
+use Rattle.std.specs.Prelude.{IfSome, IsTrue}
 use Rattle.std.proofs.Math.Seq.{drop-drop}
 use Rattle.std.proofs.lemmas.List.{take_all}
 use Rattle.block_answers.specs.bank_Given.{Given}
@@ -8,7 +8,8 @@ use Rattle.block_answers.specs.script_the_Numbered.{Numbered}
 use Rattle.block_answers.specs.script_the_Lane_TheVariants.{Script as InScript}
 use Rattle.block_answers.specs.run_laws_Ended.{IsRunKept}
 use Rattle.block_answers.specs.run_laws_Making.{setting_of}
-use Rattle.block_answers.specs.run_laws_States.{bank_in}
+use Rattle.block_answers.specs.run_laws_Records.{IsRecordStored}
+use Rattle.block_answers.specs.run_laws_States.{bank_in, record_in}
 use Rattle.run_sessions.specs.Sessions.{IsTurnStep}
 use Rattle.block_answers.specs.run_laws_the_LineReply.{LineReply}
 use Rattle.run_sessions.specs.declared.sessions.Session.{Session}
@@ -31,12 +32,13 @@ returns-then-is_some-clause-performed g c =
     let did = c.perform_turn-after.ensures in
     let after = c.perform_turn-after.result.0 in
     let count = c.perform_turn-after.result.1 in
+    let stored = subst (λ (given : Given). IfSome (record_in after.state) (IsRecordStored g.B.Bank.tells given (g.B.Bank.tape (bank_in after.state)))) (did.given ∙ was.given) c.check_stored.ensures.stored in
     let whole = rest-whole c.args.lines.now c.loop-next.next in
     let long = ap (λ (l : List Numbered). length l) whole ∙ length-drop c.loop-next.next c.args.lines.now in
     let fits : length c.loop-next.session.replies.items + count ≤ length c.args.lines.now = omega (arith, was.count, did.within, long, c.loop-next-test.true) in
     let step = subst (λ (l : List Numbered). IsTurnStep g.K.Sink.tells (setting_of g.B.Bank.tells (g.B.Bank.given c.args.bank) (g.B.Bank.tape (bank_in c.loop-next.session.state)) (g.B.Bank.tape (bank_in after.state)) c.args.backup (g.B.Bank.faults_of (bank_in c.loop-next.session.state)) (g.B.Bank.faults_of (bank_in after.state))) c.loop-next.session after (take count l) (g.K.Sink.taken c.loop-next.out) (g.K.Sink.taken c.perform_turn-after.new.out)) (whole ∙ ap (λ (n : ℕ). drop n c.args.lines.now) (sym was.count))
     (subst (λ (given : Given). IsTurnStep g.K.Sink.tells (setting_of g.B.Bank.tells given (g.B.Bank.tape (bank_in c.loop-next.session.state)) (g.B.Bank.tape (bank_in after.state)) c.args.backup (g.B.Bank.faults_of (bank_in c.loop-next.session.state)) (g.B.Bank.faults_of (bank_in after.state))) c.loop-next.session after (take count (take (length c.args.lines.now - c.loop-next.next) (drop c.loop-next.next c.args.lines.now))) (g.K.Sink.taken c.loop-next.out) (g.K.Sink.taken c.perform_turn-after.new.out)) was.given did.step) in
-    (turn_step after was.never_falls did.never_falls was.grows did.grows was.going was.performed count did.some fits (g.K.Sink.faults_of c.perform_turn-after.new.out) was.shown step did.cause did.sink_never_falls).0
+    (turn_step after was.never_falls did.never_falls was.grows did.grows was.going was.performed stored count did.some fits (g.K.Sink.faults_of c.perform_turn-after.new.out) was.shown step did.cause did.sink_never_falls).0
 
 pub returns-then-is_some-clause-shown : goal.returns-then-is_some-clause-shown
 returns-then-is_some-clause-shown g c =
@@ -44,12 +46,13 @@ returns-then-is_some-clause-shown g c =
     let did = c.perform_turn-after.ensures in
     let after = c.perform_turn-after.result.0 in
     let count = c.perform_turn-after.result.1 in
+    let stored = subst (λ (given : Given). IfSome (record_in after.state) (IsRecordStored g.B.Bank.tells given (g.B.Bank.tape (bank_in after.state)))) (did.given ∙ was.given) c.check_stored.ensures.stored in
     let whole = rest-whole c.args.lines.now c.loop-next.next in
     let long = ap (λ (l : List Numbered). length l) whole ∙ length-drop c.loop-next.next c.args.lines.now in
     let fits : length c.loop-next.session.replies.items + count ≤ length c.args.lines.now = omega (arith, was.count, did.within, long, c.loop-next-test.true) in
     let step = subst (λ (l : List Numbered). IsTurnStep g.K.Sink.tells (setting_of g.B.Bank.tells (g.B.Bank.given c.args.bank) (g.B.Bank.tape (bank_in c.loop-next.session.state)) (g.B.Bank.tape (bank_in after.state)) c.args.backup (g.B.Bank.faults_of (bank_in c.loop-next.session.state)) (g.B.Bank.faults_of (bank_in after.state))) c.loop-next.session after (take count l) (g.K.Sink.taken c.loop-next.out) (g.K.Sink.taken c.perform_turn-after.new.out)) (whole ∙ ap (λ (n : ℕ). drop n c.args.lines.now) (sym was.count))
     (subst (λ (given : Given). IsTurnStep g.K.Sink.tells (setting_of g.B.Bank.tells given (g.B.Bank.tape (bank_in c.loop-next.session.state)) (g.B.Bank.tape (bank_in after.state)) c.args.backup (g.B.Bank.faults_of (bank_in c.loop-next.session.state)) (g.B.Bank.faults_of (bank_in after.state))) c.loop-next.session after (take count (take (length c.args.lines.now - c.loop-next.next) (drop c.loop-next.next c.args.lines.now))) (g.K.Sink.taken c.loop-next.out) (g.K.Sink.taken c.perform_turn-after.new.out)) was.given did.step) in
-    (turn_step after was.never_falls did.never_falls was.grows did.grows was.going was.performed count did.some fits (g.K.Sink.faults_of c.perform_turn-after.new.out) was.shown step did.cause did.sink_never_falls).1
+    (turn_step after was.never_falls did.never_falls was.grows did.grows was.going was.performed stored count did.some fits (g.K.Sink.faults_of c.perform_turn-after.new.out) was.shown step did.cause did.sink_never_falls).1
 
 pub loop-next-init : goal.loop-next-init
 loop-next-init g c =
@@ -74,19 +77,20 @@ loop-next-preserved g c =
     let did = c.perform_turn-after.ensures in
     let after = c.perform_turn-after.result.0 in
     let count = c.perform_turn-after.result.1 in
+    let stored = subst (λ (given : Given). IfSome (record_in after.state) (IsRecordStored g.B.Bank.tells given (g.B.Bank.tape (bank_in after.state)))) (did.given ∙ was.given) c.check_stored.ensures.stored in
     let whole = rest-whole c.args.lines.now c.loop-next.next in
     let long = ap (λ (l : List Numbered). length l) whole ∙ length-drop c.loop-next.next c.args.lines.now in
     let fits : length c.loop-next.session.replies.items + count ≤ length c.args.lines.now = omega (arith, was.count, did.within, long, c.loop-next-test.true) in
     let step = subst (λ (l : List Numbered). IsTurnStep g.K.Sink.tells (setting_of g.B.Bank.tells (g.B.Bank.given c.args.bank) (g.B.Bank.tape (bank_in c.loop-next.session.state)) (g.B.Bank.tape (bank_in after.state)) c.args.backup (g.B.Bank.faults_of (bank_in c.loop-next.session.state)) (g.B.Bank.faults_of (bank_in after.state))) c.loop-next.session after (take count l) (g.K.Sink.taken c.loop-next.out) (g.K.Sink.taken c.perform_turn-after.new.out)) (whole ∙ ap (λ (n : ℕ). drop n c.args.lines.now) (sym was.count))
     (subst (λ (given : Given). IsTurnStep g.K.Sink.tells (setting_of g.B.Bank.tells given (g.B.Bank.tape (bank_in c.loop-next.session.state)) (g.B.Bank.tape (bank_in after.state)) c.args.backup (g.B.Bank.faults_of (bank_in c.loop-next.session.state)) (g.B.Bank.faults_of (bank_in after.state))) c.loop-next.session after (take count (take (length c.args.lines.now - c.loop-next.next) (drop c.loop-next.next c.args.lines.now))) (g.K.Sink.taken c.loop-next.out) (g.K.Sink.taken c.perform_turn-after.new.out)) was.given did.step) in
-    let now = turn_step after was.never_falls did.never_falls was.grows did.grows was.going was.performed count did.some fits (g.K.Sink.faults_of c.perform_turn-after.new.out) was.shown step did.cause did.sink_never_falls in
+    let now = turn_step after was.never_falls did.never_falls was.grows did.grows was.going was.performed stored count did.some fits (g.K.Sink.faults_of c.perform_turn-after.new.out) was.shown step did.cause did.sink_never_falls in
     let going : after.stopped ≡ None = none-stopped after.stopped (sym c.is_some.ensures ∙ c.if-is_some.false) in
     record {
       going = going;
       within = omega (arith, was.count, fits);
       turns = subst (λ (l : List Numbered). IsTrue (are_in_turn InScript l)) (ap (λ (l : List Numbered). drop count l) whole ∙ drop-drop count c.loop-next.next c.args.lines.now) did.turns;
       room = did.room;
-      count = turn_count after was.never_falls did.never_falls was.grows did.grows was.going was.performed count did.some fits going step ∙ ap (λ (n : ℕ). n + count) was.count;
+      count = turn_count after was.never_falls did.never_falls was.grows did.grows was.going was.performed stored count did.some fits going step ∙ ap (λ (n : ℕ). n + count) was.count;
       performed = now.0;
       shown = now.1;
       former = subst (λ (given : Given). IsRunKept g.B.Bank.tells given (g.B.Bank.tape (bank_in after.state)) c.args.backup after.state) was.given did.former;

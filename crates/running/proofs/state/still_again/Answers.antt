@@ -3,6 +3,7 @@ use Rattle.takeover.specs.superblocks_Reading.{is_reshaping}
 use Rattle.takeover.specs.flat_history_Legal.{told_left}
 use Rattle.growing.specs.course_kept_Laws.{closed}
 use Rattle.growing.specs.running_words_Parts.{left_in, still_left}
+use Rattle.growing.proofs.Stored.{stored-by}
 use Rattle.running.proofs.Checked.{left-by}
 use Rattle.running.proofs.state.still_again.Goals as goal
 
@@ -16,6 +17,7 @@ returns-clause-within g c =
       sized = was.sized;
       limited = was.limited;
       told = left-by (told_left p.epoch.entries.items) (is_reshaping p.members.newest) false (left_in p.work p.members (closed 0) p.ahead) (still_left p.work p.members p.ahead) was.kept.members_are.still was.kept.left_told;
+      stored = λ t. stored-by _ _ _ (was.kept.recorded t) (λ relied. was.kept.safe t relied.fills relied.room);
     })
 
 pub returns-clause-placed : goal.returns-clause-placed

@@ -1,11 +1,11 @@
 use Rattle.std.proofs.Common.{not, is_some, sym, ◌∙◌, ap, arith}
-use Rattle.array_state.specs.md_base_the_Role.{Role}
-use Rattle.array_state.proofs.md_base_Least.{least_below-none}
-use Rattle.election.specs.superblocks_Reading.{shape_of, holder}
+use Rattle.still.specs.md_base_the_Role.{Role}
+use Rattle.still.proofs.md_base_Least.{least_below-none}
+use Rattle.still.specs.superblocks_Reading.{shape_of, holder}
 use Rattle.still.specs.row_io_Rows.{reading_of}
 use Rattle.still.specs.views_Placed.{is_vacant}
 use Rattle.still.proofs.Lowest.{lowest-reached}
-use Rattle.still.proofs.choosing.first_vacant.Goals as goal
+use Rattle.still_steps.proofs.choosing.first_vacant.Goals as goal
 
 pub returns-in-Missing : goal.returns-in-Missing
 returns-in-Missing c =

@@ -1,31 +1,31 @@
 use Rattle.std.proofs.Common.{◌≡◌, ◌+◌, ◌/◌, ◌^◌, ◌<◌, ◌≤◌, List, length, inl, inr, refl, sym, ◌∙◌, subst, arith, ◌*◌, ap, le_trans}
-use Rattle.safe_updates.specs.bank_the_Operation.{Operation}
-use Rattle.safe_updates.specs.bank_Given.{Given}
-use Rattle.safe_updates.specs.superblocks_the_Members.{Members}
-use Rattle.safe_updates.specs.views_Placed.{AreWhole, IsPlaced, AreLost}
-use Rattle.safe_updates.specs.views_Rebuilding.{AreSparesFree}
-use Rattle.safe_updates.proofs.views_MovedLaws.{moved-lost, moved-then, lost-none, moved-from, grows-none, grows-then}
-use Rattle.safe_updates.proofs.views_Fit.{force-valid, force-multiple, short}
-use Rattle.safe_updates.specs.layout_Layout.{place}
-use Rattle.safe_updates.proofs.layout_Places.{place-row_below}
-use Rattle.safe_updates.specs.list_io_Buffers.{IsTouched}
-use Rattle.safe_updates.proofs.layout_Limits.{limited}
-use Rattle.safe_updates.specs.md_base_Shapes.{data_disks, is_multiple}
+use Rattle.safe_rows.specs.bank_the_Operation.{Operation}
+use Rattle.safe_rows.specs.bank_Given.{Given}
+use Rattle.safe_rows.specs.superblocks_the_Members.{Members}
+use Rattle.safe_rows.specs.views_Placed.{AreWhole, IsPlaced, AreLost}
+use Rattle.safe_rows.specs.views_Rebuilding.{AreSparesFree}
+use Rattle.safe_rows.proofs.views_MovedLaws.{moved-lost, moved-then, lost-none, moved-from, grows-none, grows-then}
+use Rattle.safe_rows.proofs.views_Fit.{force-valid, force-multiple, short}
+use Rattle.safe_rows.specs.layout_Layout.{place}
+use Rattle.safe_rows.proofs.layout_Places.{place-row_below}
+use Rattle.safe_rows.specs.list_io_Buffers.{IsTouched}
+use Rattle.safe_rows.proofs.layout_Limits.{limited}
+use Rattle.safe_rows.specs.md_base_Shapes.{data_disks, is_multiple}
 use Rattle.std.proofs.lemmas.Nat.{mul-le}
-use Rattle.safe_updates.specs.row_io_Rows.{present}
-use Rattle.safe_updates.specs.shape_changes_Marking.{AreOthersPresent}
-use Rattle.safe_updates.specs.views_Moving.{Grows}
-use Rattle.safe_updates.proofs.views_LackingLaws.{since-lost, since-then, in-second}
-use Rattle.safe_updates.proofs.views_LackingWrites.{lost-of}
-use Rattle.safe_updates.proofs.RefusingLaws.{read-cause, read-told, told-first, told-why, not-err}
-use Rattle.safe_updates.specs.flat_history_Sound.{OpensFit}
-use Rattle.safe_updates.specs.shape_changes_Steady.{IsUncleanTold}
-use Rattle.safe_updates.proofs.views_SafeStretch.{safe-then, safe-lost, over-at, keeps-from}
-use Rattle.safe_updates.proofs.shape_changes_Risen.{risen-then, risen-lost, room-then}
+use Rattle.safe_rows.specs.row_io_Rows.{present}
+use Rattle.safe_rows.specs.shape_changes_Marking.{AreOthersPresent}
+use Rattle.safe_rows.specs.views_Moving.{Grows}
+use Rattle.safe_rows.proofs.views_LackingLaws.{since-lost, since-then, in-second}
+use Rattle.safe_rows.proofs.views_LackingWrites.{lost-of}
+use Rattle.safe_rows.proofs.safe_updates_RefusingLaws.{read-cause, read-told, told-first, told-why, not-err}
+use Rattle.safe_rows.specs.flat_history_Sound.{OpensFit}
+use Rattle.safe_rows.specs.shape_changes_Steady.{IsUncleanTold}
+use Rattle.safe_rows.proofs.views_SafeStretch.{safe-then, safe-lost, over-at, keeps-from}
+use Rattle.safe_rows.proofs.shape_changes_Risen.{risen-then, risen-lost, room-then}
 use Rattle.safe_rows.proofs.CallLaws.{roles-left}
-use Rattle.safe_updates.specs.superblocks_Reading.{is_clean}
+use Rattle.safe_rows.specs.superblocks_Reading.{is_clean}
 use Rattle.std.specs.Prelude.{IsTrue}
-use Rattle.safe_rows.proofs.fetching.fetch.Goals as goal
+use Rattle.region_rows.proofs.reading.fetch.Goals as goal
 
 pub returns-then-is_err-clause-moved : goal.returns-then-is_err-clause-moved
 returns-then-is_err-clause-moved g c =

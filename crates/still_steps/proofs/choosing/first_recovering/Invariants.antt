@@ -1,8 +1,8 @@
 use Rattle.std.proofs.Common.{◌≡◌, ◌<◌, ℕ, false}
-use Rattle.election.specs.superblocks_Reading.{role_state}
+use Rattle.still.specs.superblocks_Reading.{role_state}
 use Rattle.still.specs.row_io_Rows.{reading_of}
 use Rattle.still.specs.Rebuilding.{recovers}
-use Rattle.still.proofs.choosing.first_recovering.Given as goal
+use Rattle.still_steps.proofs.choosing.first_recovering.Given as goal
 
 -- no lower one passes
 abbrev pub invariant-loop-role : goal.invariant-loop-role

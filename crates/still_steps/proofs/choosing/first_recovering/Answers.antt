@@ -1,10 +1,10 @@
 use Rattle.std.proofs.Common.{sym, ◌∙◌, ap, arith}
-use Rattle.array_state.proofs.md_base_Least.{least_below-none}
-use Rattle.election.specs.superblocks_Reading.{shape_of, role_state}
+use Rattle.still.proofs.md_base_Least.{least_below-none}
+use Rattle.still.specs.superblocks_Reading.{shape_of, role_state}
 use Rattle.still.specs.row_io_Rows.{reading_of}
 use Rattle.still.specs.Rebuilding.{recovers}
 use Rattle.still.proofs.Lowest.{lowest-reached}
-use Rattle.still.proofs.choosing.first_recovering.Goals as goal
+use Rattle.still_steps.proofs.choosing.first_recovering.Goals as goal
 
 pub returns-in-Recovering : goal.returns-in-Recovering
 returns-in-Recovering c =

@@ -1,7 +1,7 @@
 use Rattle.std.proofs.Common.{◌≡◌, ◌<◌, ℕ, false}
 use Rattle.still.specs.row_io_Rows.{reading_of}
 use Rattle.still.specs.views_Placed.{is_vacant}
-use Rattle.still.proofs.choosing.first_vacant.Given as goal
+use Rattle.still_steps.proofs.choosing.first_vacant.Given as goal
 
 -- no lower one passes
 abbrev pub invariant-loop-role : goal.invariant-loop-role

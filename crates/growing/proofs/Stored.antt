@@ -1,0 +1,68 @@
+-- What the stored superblocks say of an array that runs: what its members do.
+use Rattle.std.proofs.Common.{◌≡◌, inl, inr, ℕ, ◌||◌, Bool, true, false, List, length, refl, sym, ◌∙◌, ap, subst}
+use Rattle.std.specs.Prelude.{slice_index_or, ⊤}
+use Rattle.running_replies.specs.md_base_Shapes.{has_slot}
+use Rattle.running_replies.specs.md_base_the_Role.{Role}
+use Rattle.running_replies.specs.md_base_the_Role_TheVariants.{Missing}
+use Rattle.running_replies.specs.bank_the_Operation.{Operation}
+use Rattle.running_replies.specs.bank_Given.{Given}
+use Rattle.turning.specs.sb1_the_Sb.{Sb}
+use Rattle.turning.specs.superblocks_the_Members.{Members}
+use Rattle.turning.specs.superblocks_Reading.{Scope, holder, role_state}
+use Rattle.turning.specs.superblocks_Reads.{SaysSame, has_spare}
+use Rattle.turning.specs.row_io_Rows.{present, reading_of, members_without}
+use Rattle.turning.proofs.row_io_Losses.{state_after, state_kept}
+use Rattle.running_replies.specs.flat_history_the_Entry.{Entry}
+use Rattle.turning.specs.flat_history_World.{reading_at}
+use Rattle.turning.specs.shape_changes_Safety.{HasLiveSlot}
+use Rattle.turning.proofs.shape_changes_Without.{in-both}
+use Rattle.turning.specs.kept_history_Recorded.{IsHistoryKept}
+use Rattle.turning.specs.kept_history_Safe.{world_in, IsNowRight, IsSafeHistory}
+use Rattle.turning.proofs.kept_history_Lengths.{now-drawn}
+use Rattle.running_replies.specs.history_calls_Reliable.{IsReliable}
+use Rattle.turning.specs.running_words_Calls.{moving_world}
+use Rattle.turning.specs.running_words_Parts.{RunningParts}
+use Rattle.growing.specs.Stored.{AreStoredAt, IsStoredBy}
+
+-- a slot that isn't lost wasn't before
+not-before : (a b : Bool) → (a || b) ≡ false → a ≡ false
+not-before false b is = refl
+not-before true b is = absurd (cc)
+
+-- As long as a slot is left that is written, the superblocks are held as the members had it before they lost slots.
+pub stored-now : (given : Given) (tape : List Operation) (scope : Scope) (first : ℕ) (entries : List Entry) (m : Members) (carried : ℕ → ℕ → Bool) (reshaping : Bool)
+    → IsNowRight (world_in given tape scope first) given m carried reshaping entries → HasLiveSlot m → AreStoredAt (world_in given tape scope first) (length tape) m
+unfolding reading_at
+stored-now given tape scope first entries m carried reshaping (inr unkept) live = absurd (unkept.spent.none live)
+stored-now given tape scope first entries m carried reshaping (inl (inr spent)) live = absurd (spent.none live)
+stored-now given tape scope first entries m carried reshaping (inl (inl steady)) live =
+    let held = steady.since.held in
+    let gone = steady.since.gone in
+    let read = held.updated.reads (present given tape) (λ slot. (now-drawn given tape slot 8, now-drawn given tape slot 9)) in
+    let since : m ≡ members_without gone steady.former = steady.since.since in
+    record {
+      found = read.found;
+      is = read.is;
+      array = subst (λ (k : Members). SaysSame k.newest read.found.newest) (sym since) read.same.array;
+      held = λ role slot holds.
+          let after = ap (λ (k : Members). role_state (reading_of k) role) since ∙ state_after steady.former gone role in
+          let kept = state_kept gone slot (role_state (reading_of steady.former) role) (ap holder (sym after) ∙ holds) in
+          ap (λ (l : List Role). slice_index_or l role Missing) (read.same.roles ∙ sym held.said.roles) ∙ sym (after ∙ kept.same);
+      spares = λ slot kept.
+          read.same.spares slot (not-before (has_slot steady.former.lost slot) (has_slot gone slot) (sym (ap (λ (k : Members). has_slot k.lost slot) since ∙ in-both steady.former.lost gone slot) ∙ kept))
+          ∙ ap (λ (l : List ℕ). has_spare l slot) (sym held.said.spares) ∙ sym (ap (λ (k : Members). has_spare k.spares slot) since);
+    }
+
+-- So it is where a history is kept whose marks are safe.
+pub stored-by : {B : Type 0} {right : Type 0} {size : ℕ} {carried : ℕ → ℕ → Bool} {reshaping : Bool} (given : Given) (tape : List Operation) (array : RunningParts B)
+    → IsHistoryKept right (moving_world given tape array) size array.parts.entries
+    → (IsReliable (moving_world given tape array) array.parts.entries → IsSafeHistory ⊤ (moving_world given tape array) given array.parts.members carried reshaping array.parts.entries)
+    → IsStoredBy (moving_world given tape array) array
+stored-by {carried = carried} {reshaping = reshaping} given tape array recorded safe = record {
+  begun = recorded.begun;
+  ends = recorded.ends;
+  stored = λ relied live.
+      let world = moving_world given tape array in
+      subst (λ (mark : ℕ). AreStoredAt world mark array.parts.members) (sym recorded.ended)
+      (stored-now given tape world.scope array.parts.first array.parts.entries array.parts.members carried reshaping (safe relied).now live);
+}
