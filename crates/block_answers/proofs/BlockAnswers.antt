@@ -1,5 +1,5 @@
 -- What the answers to a block tell of where the run stands.
-use Rattle.std.proofs.Common.{◌≡◌, ◌≢◌, ◌⊎◌, inl, inr, ℕ, ◌+◌, ◌<◌, ◌≤◌, ◌==◌, ◌&&◌, Bool, true, false, Option, Some, None, List, [], ◌∷◌, ◌++◌, length, map, take, drop, slice_get, MatchOption, refl, sym, ◌∙◌, ap, subst, arith, append_assoc, length-append, eq-eqb, ne_eqb}
+use Rattle.std.proofs.Common.{◌≡◌, ◌≢◌, ◌⊎◌, inl, inr, ℕ, ◌+◌, ◌^◌, ◌<◌, ◌≤◌, ◌==◌, ◌&&◌, Bool, true, false, Option, Some, None, List, [], ◌∷◌, ◌++◌, length, map, take, drop, slice_get, MatchOption, refl, sym, ◌∙◌, ap, subst, arith, append_assoc, length-append, eq-eqb, ne_eqb}
 use Rattle.std.proofs.Math.Seq.{drop-append_seam}
 use Rattle.std.proofs.lemmas.Bool.Decides.{nat_tests}
 use Rattle.std.proofs.lemmas.List.{map-append, length-map, length-take-le, take_all}
@@ -19,6 +19,7 @@ use Rattle.status_text.specs.flat_history_the_Request_TheVariants.{Steps as Asks
 use Rattle.status_text.specs.flat_history_Flat.{next_number, number_after, length_of}
 use Rattle.status_text.specs.flat_history_Seen.{ends_call, reply_places}
 use Rattle.status_text.specs.script_the_Line.{Line}
+use Rattle.status_text.specs.script_the_Line_TheVariants.{Wait}
 use Rattle.status_text.specs.script_the_Numbered.{Numbered}
 use Rattle.status_text.specs.script_the_Lane.{Lane}
 use Rattle.status_text.specs.script_the_Lane_TheVariants.{Script as InScript, A as InA, B as InB, Worker as InWorker}
@@ -40,11 +41,12 @@ use Rattle.line_answers.specs.run_laws_Caused.{Record, record_of}
 use Rattle.line_answers.specs.run_laws_Histories.{History, histories_of, history_of, entry_at}
 use Rattle.line_answers.specs.run_laws_Making.{Setting}
 use Rattle.line_answers.specs.run_laws_Records.{IsLeftByBlock, IsRecordedIn}
-use Rattle.line_answers.specs.run_laws_Replies.{Course, at_rest, calls_behind, longer_of, gone_on, course_behind, entries_to, course_after, leaves_more, leaves_more_at, most_turns, IsWorkedAt, IsWorked, IsRepliedBeside, IsAnswerBeside}
-use Rattle.line_answers.specs.run_laws_States.{running_history, histories_in, course_with, record_in, RunsOwn, IsBlockTurn, AreAnswersBeside, course_beside, AreRecordedBeside, EndsFrom, IsBlockAnswered}
+use Rattle.line_answers.specs.run_laws_Replies.{Course, at_rest, calls_behind, longer_of, gone_on, course_behind, entries_to, course_after, leaves_more, leaves_more_at, most_turns, IsWorkedAt, IsWorked, IsRepliedBeside, AreCallsTold, IsAnswerBeside}
+use Rattle.line_answers.specs.run_laws_States.{running_history, histories_in, course_with, course_in, record_in, RunsOwn, IsBlockTurn, AreAnswersBeside, course_beside, AreRecordedBeside, EndsFrom, IsStanding, HasWorkedOn, IsAmidBlock, IsAmidBehind, IsPastMemory, IsBlockAnswered}
 use Rattle.line_answers.proofs.line_asks_Called.{calls_in}
 use Rattle.line_answers.proofs.Turns.{get_last, grown_kept}
 use Rattle.line_answers.proofs.run_laws_Losses.{losses-kept}
+use Rattle.block_answers.proofs.Amid.{IsLane, standing-same, amid-lane, amid-none, behind-part, behind-all, amid-worker}
 use Rattle.block_answers.specs.Answers.{insides, block_places, refusals}
 
 -- ---- lists
@@ -237,6 +239,25 @@ module _ (size : ℕ) (entries : List Entry) where
             now.4,
           )
 
+  -- the first of its turns, the last of which may have found no memory
+  worked-some : (answers : ℕ → ℕ → ℕ → Type 0) (turn left number : ℕ) (turns : List (ℕ × Reply)) → AreCallersReplies size entries 255 number (map asked turns) (map replied turns) → AreTurns answers turn left turns
+      → (places_told (map replied turns) ≡ []) ⊎ ((earlier : List ℕ) × (at : ℕ) × IsWorkedAt size entries earlier at number × (places_told (map replied turns) ≡ earlier ++ at ∷ []))
+  worked-some answers turn left number [] was turns = inl refl
+  worked-some answers turn left number ((m, Short) ∷ rest) was turns = inl refl
+  worked-some answers turn left number ((m, Done p ev) ∷ rest) ((reply, told), was) turns =
+      by (left_behind (Done p ev)) refl turns.1 (λ more going. worked-some answers (turn + 1) more (number + 1) rest was going)
+    where
+      by : (o : Option ℕ) → left_behind (Done p ev) ≡ o → MatchOption o (rest ≡ []) (λ more. AreTurns answers (turn + 1) more rest)
+          → ((more : ℕ) → AreTurns answers (turn + 1) more rest → (places_told (map replied rest) ≡ []) ⊎ ((earlier : List ℕ) × (at : ℕ) × IsWorkedAt size entries earlier at (number + 1) × (places_told (map replied rest) ≡ earlier ++ at ∷ [])))
+          → (places_told (map replied ((m, Done p ev) ∷ rest)) ≡ []) ⊎ ((earlier : List ℕ) × (at : ℕ) × IsWorkedAt size entries earlier at number × (places_told (map replied ((m, Done p ev) ∷ rest)) ≡ earlier ++ at ∷ []))
+      by None is none later = inr ([], p, (m, reply), ap (λ (l : List (ℕ × Reply)). p ∷ places_told (map replied l)) none)
+      by (Some more) is going later = so_on (later more going)
+        where
+          so_on : (places_told (map replied rest) ≡ []) ⊎ ((earlier : List ℕ) × (at : ℕ) × IsWorkedAt size entries earlier at (number + 1) × (places_told (map replied rest) ≡ earlier ++ at ∷ []))
+              → (places_told (map replied ((m, Done p ev) ∷ rest)) ≡ []) ⊎ ((earlier : List ℕ) × (at : ℕ) × IsWorkedAt size entries earlier at number × (places_told (map replied ((m, Done p ev) ∷ rest)) ≡ earlier ++ at ∷ []))
+          so_on (inl none) = inr ([], p, (m, reply), ap (λ (l : List ℕ). p ∷ l) none)
+          so_on (inr (earlier, at, worked, are)) = inr (p ∷ earlier, at, ((m, reply), leaves-at reply told ∙ leaves-told p ev more is, worked), ap (λ (l : List ℕ). p ∷ l) are)
+
   -- the last of them
   worked-last : (earlier : List ℕ) (at number : ℕ) → IsWorkedAt size entries earlier at number → (most : ℕ) × IsCallersReply size entries 255 (number + length earlier) at (AsksSteps most)
   worked-last [] at number (most, reply) =
@@ -248,12 +269,6 @@ module _ (size : ℕ) (entries : List Entry) where
       (last.0, subst (λ (n : ℕ). IsCallersReply size entries 255 n at (AsksSteps last.0)) same last.1)
 
 -- ---- the lanes
-
--- lane a or lane b
-abbrev IsLane : Lane → Type 0
-IsLane InA = ⊤
-IsLane InB = ⊤
-IsLane lane = ⊥
 
 -- ---- the record of the array
 
@@ -383,13 +398,21 @@ module _ {B : Type 0} (old new : RunningParts B) (epochs : Vec Epoch) where
   lane-replied InScript sectors number place line is reply = absurd is
   lane-replied InWorker sectors number place line is reply = absurd is
 
-  inside-answer : (c : Course) (r place : ℕ) (lane : Lane) (line : Line) → Stands k size entries c r → IsRepliedBeside lane size entries place (c.calls lane) line → IsAnswerBeside hs c lane line (Inside k place)
-  inside-answer c r place lane line was reply = record {
+  -- only behind the worker's reply is it told who has called
+  abbrev CallsTold : Course → ℕ → Type 0
+  CallsTold c place = AreCallsTold c.calls (longer_of c.block (take (place + 1) entries)) (slice_get entries place)
+
+  lane-calls : (lane : Lane) (c : Course) (place : ℕ) → IsLane lane → lane ≡ InWorker → CallsTold c place
+  lane-calls lane c place is worker = absurd (subst (λ (l : Lane). IsLane l) worker is)
+
+  inside-answer : (c : Course) (r place : ℕ) (lane : Lane) (line : Line) → Stands k size entries c r → IsRepliedBeside lane size entries place (c.calls lane) line → (lane ≡ InWorker → CallsTold c place) → IsAnswerBeside hs c lane line (Inside k place)
+  inside-answer c r place lane line was reply told = record {
     running = was.running;
     latest = sym was.opened;
     history = running_history new.parts;
     there = last-there;
     replied = subst (λ (n : ℕ). IsRepliedBeside lane n entries place (c.calls lane) line) (sym was.size_is) reply;
+    calls = told;
   }
 
   lane-none : (lane : Lane) (c : Course) (r : ℕ) → Stands k size entries c r → LaneBehind k size entries lane c r [] c
@@ -424,7 +447,7 @@ module _ {B : Type 0} (old new : RunningParts B) (epochs : Vec Epoch) where
       let own = behind.own in
       let on = behind.further in (
         (
-          subst (λ (l : Lane). IsAnswerBeside hs c l line.line (Inside k place)) (sym same) (inside-answer c r place lane line.line was (lane-replied lane size (c.calls lane) place line.line is reply)),
+          subst (λ (l : Lane). IsAnswerBeside hs c l line.line (Inside k place)) (sym same) (inside-answer c r place lane line.line was (lane-replied lane size (c.calls lane) place line.line is reply) (lane-calls lane c place is)),
           subst (λ (x : Course). AreAnswersBeside hs x lines (insides k (places_told rs))) (sym moved) rest.0,
         ),
         subst (λ (x : Course). LaneBehind k size entries lane c r (place ∷ places_told rs) (course_beside hs x lines (insides k (places_told rs)))) (sym moved) record {
@@ -561,6 +584,69 @@ module _ {B : Type 0} (old new : RunningParts B) (epochs : Vec Epoch) where
     abbrev was : Option Record
     was = Some (record_of old)
 
+    -- ---- how far the block has come, whatever the worker was answered last
+    worker_far : far.calls InWorker ≡ next_number 255 old.parts.entries
+    worker_far = lane_two.1.others InWorker (differ 255 2 refl) ∙ lane_one.1.others InWorker (differ 255 1 refl)
+
+    lanes_far : (lane : Lane) → caller_of lane ≢ 255 → calls_in entries lane ≡ far.calls lane
+    lanes_far InScript ne = turn.course.script ∙ sym (lane_two.1.others InScript (differ 0 2 refl) ∙ lane_one.1.others InScript (differ 0 1 refl))
+    lanes_far InA ne = ran_one.calls ∙ sym (lane_two.1.others InA (differ 1 2 refl) ∙ lane_one.1.own)
+    lanes_far InB ne = ran_two.calls ∙ sym (lane_two.1.own ∙ ap (λ (n : ℕ). n + length places_two) second_calls)
+    lanes_far InWorker ne = absurd (ne refl)
+
+    -- behind the worker's calls
+    module _ (earlier : List ℕ) (at : ℕ) (on : IsWorkedAt size entries earlier at (next_number 255 old.parts.entries)) (are : places_told (map replied ran.turns) ≡ earlier ++ at ∷ []) where
+      on_last : (most : ℕ) × IsCallersReply size entries 255 (next_number 255 old.parts.entries + length earlier) at (AsksSteps most)
+      on_last = worked-last size entries earlier at (next_number 255 old.parts.entries) on
+
+      abbrev on_entry : Entry
+      on_entry = on_last.1.entry
+
+      on_calls : (lane : Lane) → calls_in entries lane ≡ calls_behind far.calls on_entry lane
+      on_calls InScript = lanes_far InScript (differ 0 255 refl) ∙ sym (unbumped (far.calls InScript) 255 0 on_entry on_last.1.callers (differ 0 255 refl))
+      on_calls InA = lanes_far InA (differ 1 255 refl) ∙ sym (unbumped (far.calls InA) 255 1 on_entry on_last.1.callers (differ 1 255 refl))
+      on_calls InB = lanes_far InB (differ 2 255 refl) ∙ sym (unbumped (far.calls InB) 255 2 on_entry on_last.1.callers (differ 2 255 refl))
+      on_calls InWorker =
+          let next = ran.made.calls in
+          let long = ap (λ (l : List ℕ). length l) are ∙ snoc-length earlier at in
+          (let x : next_number 255 entries ≡ next_number 255 old.parts.entries + length earlier + 1 = omega (arith, next, long) in x)
+          ∙ sym (bumped (far.calls InWorker) (next_number 255 old.parts.entries + length earlier) 255 on_entry on_last.1.callers on_last.1.numbered)
+
+      worked_on : HasWorkedOn hs far (course_with k new)
+      worked_on = record {
+        running = lane_two.1.stands.running;
+        epoch = k;
+        latest = sym lane_two.1.stands.opened;
+        history = running_history new.parts;
+        there = last-there;
+        earlier = earlier;
+        place = at;
+        worked = subst (λ (n : ℕ). IsWorkedAt n entries earlier at (far.calls InWorker)) (sym lane_two.1.stands.size_is) (subst (λ (n : ℕ). IsWorkedAt size entries earlier at n) (sym worker_far) on);
+        stands = subst (λ (c : Course). IsStanding c (course_with k new)) (sym (behind-is far InWorker Wait at on_entry on_last.1.there))
+            (record { opened = sym lane_two.1.stands.opened; running = sym lane_two.1.stands.running; calls = on_calls });
+      }
+
+    amid_far : IsStanding far (course_with k new) ⊎ HasWorkedOn hs far (course_with k new)
+    amid_far = by (worked-some size entries answers 0 steps (next_number 255 old.parts.entries) ran.turns ran.made.replied ran.asked)
+      where
+        by : (places_told (map replied ran.turns) ≡ []) ⊎ ((earlier : List ℕ) × (at : ℕ) × IsWorkedAt size entries earlier at (next_number 255 old.parts.entries) × (places_told (map replied ran.turns) ≡ earlier ++ at ∷ []))
+            → IsStanding far (course_with k new) ⊎ HasWorkedOn hs far (course_with k new)
+        by (inl none) = inl record { opened = sym lane_two.1.stands.opened; running = sym lane_two.1.stands.running; calls = stood }
+          where
+            stood : (lane : Lane) → calls_in entries lane ≡ far.calls lane
+            stood InScript = lanes_far InScript (differ 0 255 refl)
+            stood InA = lanes_far InA (differ 1 255 refl)
+            stood InB = lanes_far InB (differ 2 255 refl)
+            stood InWorker = let next = ran.made.calls in let long = ap (λ (l : List ℕ). length l) none in let was_far = worker_far in omega (arith, next, long, was_far)
+        by (inr (earlier, at, on, are)) = inr (worked_on earlier at on are)
+
+    -- lane a has made no call but those told
+    none_one : calls_in entries InA ≡ mid.calls InA
+    none_one = lanes_far InA (differ 1 255 refl) ∙ lane_two.1.others InA (differ 1 2 refl)
+
+    amid_second : IsAmidBlock hs far (worker ∷ []) (course_with k new)
+    amid_second = amid-worker hs worker worker_lane far (course_with k new) amid_far
+
     many : length lines ≡ length first + (length second + 1)
     many = length-append first (second ++ worker ∷ []) ∙ ap (λ (n : ℕ). length first + n) (snoc-length second worker)
 
@@ -572,6 +658,8 @@ module _ {B : Type 0} (old new : RunningParts B) (epochs : Vec Epoch) where
       answers = answers-front hs start first (second ++ worker ∷ []) (insides k places_one) lane_one.0;
       ends = λ t. ends-inside places_one (from_one t);
       course = λ all. absurd (let same = told places_one in omega (arith, same, all, many, lt));
+      amid = inl (behind-part hs InA tt first (second ++ worker ∷ []) first_lane (insides k places_one) start (course_with k new) (let same = told places_one in omega (arith, same, few_one)) none_one
+          (amid-lane hs InB tt second (worker ∷ []) second_lane (insides k places_two) mid (course_with k new) lane_two.0 (lanes_far InB (differ 2 255 refl)) amid_second));
       last = was;
       recorded = records-front setting hs InA tt start was first (second ++ worker ∷ []) first_lane (insides k places_one) (let same = told places_one in omega (arith, same, few_one));
       recorded_now = λ all. absurd (let same = told places_one in omega (arith, same, all, many, lt));
@@ -591,6 +679,9 @@ module _ {B : Type 0} (old new : RunningParts B) (epochs : Vec Epoch) where
             (answers-both hs start first (second ++ worker ∷ []) (insides k places_one) (insides k places_two) told_one lane_one.0 (answers-front hs mid second (worker ∷ []) (insides k places_two) lane_two.0));
         ends = λ t. ends-inside (places_one ++ places_two) (All-append (WasFrom setting.began entries) places_one places_two (from_one t) (from_two t));
         course = λ all. absurd (let same = told (places_one ++ places_two) in let sum = length-append places_one places_two in omega (arith, same, sum, all, many, few_one, lt));
+        amid = inl (subst (λ (l : List Answered). IsAmidBehind hs start lines l (course_with k new)) (sym (map-append (λ (at : ℕ). Inside k at) places_one places_two))
+            (behind-all hs first (second ++ worker ∷ []) (insides k places_one) (insides k places_two) start (course_with k new) told_one
+            (behind-part hs InB tt second (worker ∷ []) second_lane (insides k places_two) mid (course_with k new) (let same = told places_two in omega (arith, same, few_two)) (lanes_far InB (differ 2 255 refl)) amid_second)));
         last = was;
         recorded = subst (λ (l : List Answered). AreRecordedBeside setting hs start was lines l was) (sym (map-append (λ (at : ℕ). Inside k at) places_one places_two))
             (records-then setting hs InA tt start was was first (second ++ worker ∷ []) first_lane (insides k places_one) (insides k places_two) told_one
@@ -627,6 +718,9 @@ module _ {B : Type 0} (old new : RunningParts B) (epochs : Vec Epoch) where
           ends = λ t. ends-inside (places_one ++ places_two ++ []) (subst (λ (l : List ℕ). All (WasFrom setting.began entries) l) (sym (append_assoc places_one places_two [])) (All-append (WasFrom setting.began entries) places_one (places_two ++ []) (from_one t)
               (All-append (WasFrom setting.began entries) places_two [] (from_two t) (All-nil (WasFrom setting.began entries)))));
           course = λ all. absurd (let same = told (places_one ++ places_two ++ []) in let long = sum [] in omega (arith, same, long, all, many));
+          amid = inl (subst (λ (l : List Answered). IsAmidBehind hs start lines l (course_with k new)) (sym (both []))
+              (behind-all hs first (second ++ worker ∷ []) (insides k places_one) (insides k places_two ++ []) start (course_with k new) told_one
+              (behind-all hs second (worker ∷ []) (insides k places_two) [] mid (course_with k new) told_two amid_second)));
           last = was;
           recorded = by_lanes [] was refl;
           recorded_now = λ all. absurd (let same = told (places_one ++ places_two ++ []) in let long = sum [] in omega (arith, same, long, all, many));
@@ -665,11 +759,6 @@ module _ {B : Type 0} (old new : RunningParts B) (epochs : Vec Epoch) where
           worker_calls : far.calls InWorker ≡ next_number 255 old.parts.entries
           worker_calls = lane_two.1.others InWorker (differ 255 2 refl) ∙ lane_one.1.others InWorker (differ 255 1 refl)
 
-          worker_answer : IsAnswerBeside hs far worker.lane worker.line (Inside k at)
-          worker_answer = subst (λ (l : Lane). IsAnswerBeside hs far l worker.line (Inside k at)) (sym worker_lane)
-              (inside-answer far lane_two.1.reached at InWorker worker.line lane_two.1.stands
-              (subst (λ (n : ℕ). IsWorked size entries at n) (sym worker_calls) record { earlier = earlier; worked = facts.1; ended = ended }))
-
           reply : (most : ℕ) × IsCallersReply size entries 255 (next_number 255 old.parts.entries + length earlier) at (AsksSteps most)
           reply = worked-last size entries earlier at (next_number 255 old.parts.entries) facts.1
 
@@ -703,6 +792,16 @@ module _ {B : Type 0} (old new : RunningParts B) (epochs : Vec Epoch) where
                   bumped (far.calls InWorker) (next_number 255 old.parts.entries + length earlier) 255 e reply.1.callers reply.1.numbered
                   ∙ (let x : next_number 255 old.parts.entries + length earlier + 1 ≡ next_number 255 entries = omega (arith, next, long) in x)
 
+          -- nobody but the lanes and the worker has called
+          calls_told : CallsTold far at
+          calls_told = subst (λ (o : Option Entry). AreCallsTold far.calls (longer_of far.block (take (at + 1) entries)) o) (sym reply.1.there)
+              (subst (λ (l : List Entry). AreCallsTold far.calls l (Some e)) (sym block_is) (λ lane. sym (ap (λ (f : Lane → ℕ). f lane) calls_are)))
+
+          worker_answer : IsAnswerBeside hs far worker.lane worker.line (Inside k at)
+          worker_answer = subst (λ (l : Lane). IsAnswerBeside hs far l worker.line (Inside k at)) (sym worker_lane)
+              (inside-answer far lane_two.1.reached at InWorker worker.line lane_two.1.stands
+              (subst (λ (n : ℕ). IsWorked size entries at n) (sym worker_calls) record { earlier = earlier; worked = facts.1; ended = ended }) (λ worker. calls_told))
+
           abbrev standing : ℕ → Course
           standing n = record { opened = k + 1; running = true; calls = calls_in entries; size = n; block = [] }
 
@@ -728,6 +827,10 @@ module _ {B : Type 0} (old new : RunningParts B) (epochs : Vec Epoch) where
                 ∙ sym (ap (λ (l : List Answered). course_beside hs start lines l) (both (at ∷ []))
                 ∙ course-both hs start first (second ++ worker ∷ []) (insides k places_one) (insides k places_two ++ Inside k at ∷ []) told_one
                 ∙ course-both hs mid second (worker ∷ []) (insides k places_two) (Inside k at ∷ []) told_two);
+            amid = inl (subst (λ (l : List Answered). IsAmidBehind hs start lines l (course_with k new)) (sym (both (at ∷ [])))
+                (behind-all hs first (second ++ worker ∷ []) (insides k places_one) (insides k places_two ++ Inside k at ∷ []) start (course_with k new) told_one
+                (behind-all hs second (worker ∷ []) (insides k places_two) (Inside k at ∷ []) mid (course_with k new) told_two
+                (standing-same (course_after hs far worker.lane worker.line (Inside k at)) (course_with k new) course_is))));
             last = Some (record_of new);
             recorded = by_lanes (at ∷ []) (Some (record_of new)) (Some (record_of new), worker_record, refl);
             recorded_now = λ all. refl;
@@ -761,17 +864,29 @@ told-at places is same = is ∙ ap (λ (n : ℕ). insides n places) same
 
 -- ---- memory was short before the block, or no array runs
 
-pub block-unanswered : {B : Type 0} (setting : Setting) (old new : State B) (lines : List Numbered) → IsBlockTurn setting old new → 1 ≤ length lines → IsBlockAnswered setting old new lines []
-block-unanswered setting old new lines turn some = record {
+pub block-unanswered : {B : Type 0} (setting : Setting) (old new : State B) (lines : List Numbered) → IsBlockTurn setting old new → 1 ≤ length lines → IsAmidBlock (histories_in new) (course_in old) lines (course_in new) ⊎ IsPastMemory (histories_in new)
+    → IsBlockAnswered setting old new lines []
+block-unanswered setting old new lines turn some amid = record {
   turn = turn;
   few = omega arith;
   answers = tt;
   ends = λ t. All-nil (EndsFrom setting.began (histories_in new));
   course = λ none. absurd (omega (arith, some, none));
+  amid = amid;
   last = record_in old;
   recorded = refl;
   recorded_now = λ none. absurd (omega (arith, some, none));
 }
+
+-- memory was short for all of the replies: the array is as it was, or has entered more than any memory holds
+pub block-short : {B : Type 0} (old new : RunningParts B) (epochs : Vec Epoch) (first second : List Numbered) (worker : Numbered) → All (λ line. line.lane ≡ InA) first → All (λ line. line.lane ≡ InB) second → worker.lane ≡ InWorker
+    → (new ≡ old) ⊎ (2 ^ 61 < length new.parts.entries)
+    → IsAmidBlock (histories_in (Running new epochs)) (course_with (length epochs.items) old) (first ++ (second ++ worker ∷ [])) (course_with (length epochs.items) new) ⊎ IsPastMemory (histories_in (Running new epochs))
+block-short {B = B} old new epochs first second worker first_lane second_lane worker_lane (inl same) =
+    inl (amid-none (histories_in (Running new epochs)) first second worker first_lane second_lane worker_lane (course_with (length epochs.items) old) (course_with (length epochs.items) new)
+    (ap (λ (a : RunningParts B). course_with (length epochs.items) a) same))
+block-short old new epochs first second worker first_lane second_lane worker_lane (inr long) =
+    inr (length epochs.items, running_history new.parts, last-there old new epochs, long)
 
 pub block-still : {B : Type 0} (setting : Setting) (state : State B) → RunsOwn state → IsBlockTurn setting state state
 block-still setting state own = record {
@@ -797,6 +912,10 @@ refused-course : (hs : List History) (c : Course) (lines : List Numbered) → co
 refused-course histories c [] = refl
 refused-course histories c (line ∷ lines) = refused-course histories c lines
 
+refused-amid : (hs : List History) (c : Course) (lines : List Numbered) → IsAmidBehind hs c lines (refusals lines) c
+refused-amid histories c [] = standing-same c c refl
+refused-amid histories c (line ∷ lines) = refused-amid histories c lines
+
 -- and there is no array before and behind
 refused-none : (setting : Setting) (hs : List History) (c : Course) (lane : Lane) (line : Line) → IsRecordedIn setting hs c lane line (IsOutside (Refused NotRunning)) None None
 refused-none setting histories c InScript line = refl
@@ -820,6 +939,7 @@ block-idle setting bank epochs lines whats own is = subst (λ (l : List Answered
   answers = refused-answers (histories_of epochs.items) (at_rest (length epochs.items)) refl lines;
   ends = λ t. refused-ends setting.began (histories_of epochs.items) lines;
   course = λ all. sym (refused-course (histories_of epochs.items) (at_rest (length epochs.items)) lines);
+  amid = inl (refused-amid (histories_of epochs.items) (at_rest (length epochs.items)) lines);
   last = None;
   recorded = refused-records setting (histories_of epochs.items) (at_rest (length epochs.items)) lines;
   recorded_now = λ all. refl;

@@ -1,6 +1,6 @@
 //! A block of two lanes beside the worker, asked of a running array.
 
-ghost use Rattle.std.specs.Prelude.{◌≡◌, length, drop, IfOk, IsTrue};
+ghost use Rattle.std.specs.Prelude.{◌≡◌, ◌⊎◌, ◌<◌, ◌^◌, length, drop, IfOk, IfErr, IsTrue};
 ghost use Rattle.std.specs.List.{AllPass};
 ghost use Rattle.line_answers.specs.superblocks_Reading.{is_reshaping, list_length};
 ghost use Rattle.line_answers.specs.grow_asked_Left.{phases_of};
@@ -81,6 +81,7 @@ pub fn ask_together<B: Bank + Drop + Send, F: Fn(u64, u64) -> u64 + Sync, R: Thr
     ensures first { IfOk result.1 (λ t. HasRunLane (list_length array.parts.members.newest) array.parts.entries result.0.parts.entries 1 (requests_in first.now) t.first.items) }
     ensures second { IfOk result.1 (λ t. HasRunLane (list_length array.parts.members.newest) array.parts.entries result.0.parts.entries 2 (requests_in second.now) t.second.items) }
     ensures worked { IfOk result.1 (λ t. HasWorkedBy (HasRunLane (list_length array.parts.members.newest) array.parts.entries result.0.parts.entries 255) (F.post (asked_by pace.now)) (running_left array) t.worked) }
+    ensures back { IfErr result.1 (λ none. (result.0 ≡ array) ⊎ (2 ^ 61 < length result.0.parts.entries)) }
     ensures entered { IsBlockEntered array.parts.entries result.0.parts.entries }
     ensures later { B.tells → RepliesFrom (length (B.tape array.parts.bank)) (drop (length array.parts.entries) result.0.parts.entries) }
     ensures turning { IsTurningTold (is_reshaping result.0.parts.members.newest) (phases_of result.0.ahead) result.0.parts.entries }

@@ -1,6 +1,7 @@
 -- What the stored superblocks say of an array that runs: what its members do.
-use Rattle.std.proofs.Common.{◌≡◌, inl, inr, ℕ, ◌||◌, Bool, true, false, List, length, refl, sym, ◌∙◌, ap, subst}
-use Rattle.std.specs.Prelude.{slice_index_or, ⊤}
+use Rattle.std.proofs.Common.{◌≡◌, inl, inr, ℕ, nat_lt, ◌&&◌, ◌||◌, Bool, true, false, Some, List, length, refl, sym, ◌∙◌, ap, subst, arith}
+use Rattle.std.proofs.lemmas.Bool.Decides.{nat_tests}
+use Rattle.std.specs.Prelude.{slice_index_or, IfSome, ⊤}
 use Rattle.running_replies.specs.md_base_Shapes.{has_slot}
 use Rattle.running_replies.specs.md_base_the_Role.{Role}
 use Rattle.running_replies.specs.md_base_the_Role_TheVariants.{Missing}
@@ -8,18 +9,23 @@ use Rattle.running_replies.specs.bank_the_Operation.{Operation}
 use Rattle.running_replies.specs.bank_Given.{Given}
 use Rattle.turning.specs.sb1_the_Sb.{Sb}
 use Rattle.turning.specs.superblocks_the_Members.{Members}
-use Rattle.turning.specs.superblocks_Reading.{Scope, holder, role_state}
+use Rattle.turning.specs.superblocks_Reading.{Scope, holder, role_state, is_reshaping, next_window}
 use Rattle.turning.specs.superblocks_Reads.{SaysSame, has_spare}
 use Rattle.turning.specs.row_io_Rows.{present, reading_of, members_without}
 use Rattle.turning.proofs.row_io_Losses.{state_after, state_kept}
 use Rattle.running_replies.specs.flat_history_the_Entry.{Entry}
 use Rattle.turning.specs.flat_history_World.{reading_at}
 use Rattle.turning.specs.shape_changes_Safety.{HasLiveSlot}
-use Rattle.turning.proofs.shape_changes_Without.{in-both}
+use Rattle.turning.specs.views_Placed.{IsPlaced}
+use Rattle.turning.specs.views_Rebuilding.{Held, MayHold, AreSparesFree}
+use Rattle.turning.specs.course_kept_Course.{hidden_in}
+use Rattle.turning.specs.moving_state_Due.{unsure_in}
+use Rattle.turning.proofs.shape_changes_Without.{in-both, live-is}
+use Rattle.turning.proofs.views_LiveLeft.{holder-left}
 use Rattle.turning.specs.kept_history_Recorded.{IsHistoryKept}
 use Rattle.turning.specs.kept_history_Safe.{world_in, IsNowRight, IsSafeHistory}
 use Rattle.turning.proofs.kept_history_Lengths.{now-drawn}
-use Rattle.running_replies.specs.history_calls_Reliable.{IsReliable}
+use Rattle.running_replies.specs.history_calls_Reliable.{IsReliable, AreToldGone}
 use Rattle.turning.specs.running_words_Calls.{moving_world}
 use Rattle.turning.specs.running_words_Parts.{RunningParts}
 use Rattle.growing.specs.Stored.{AreStoredAt, IsStoredBy}
@@ -53,16 +59,53 @@ stored-now given tape scope first entries m carried reshaping (inl (inl steady))
           ∙ ap (λ (l : List ℕ). has_spare l slot) (sym held.said.spares) ∙ sym (ap (λ (k : Members). has_spare k.spares slot) since);
     }
 
+-- ---- a slot that has a part in the array
+
+-- no slot that holds a role was lost
+abbrev pub AreHeldUnlost : Members → Type 0
+AreHeldUnlost m = (role slot : ℕ) → Held m role slot → has_slot m.lost slot ≡ false
+
+unlost-of : (given : Given) (m : Members) → AreHeldUnlost m → AreSparesFree given m → (role slot : ℕ) → MayHold m role slot → has_slot m.lost slot ≡ false
+unlost-of given m unlost free role slot (inl held) = unlost role slot held
+unlost-of given m unlost free role slot (inr spare) = (free slot spare).unlost
+
+-- a spare is live
+spare-left : (given : Given) (m : Members) (slot : ℕ) → AreSparesFree given m → has_spare m.spares slot ≡ true → HasLiveSlot m
+spare-left given m slot free spare = (
+  slot,
+  live-is m false slot ∙ in-all (nat_lt slot 32) _ (has_spare m.spares slot) below spare,
+  (free slot spare).unlost,
+)
+  where
+    below : nat_lt slot 32 ≡ true
+    below = let small = (free slot spare).room.small in grind (arith, nat_tests, small)
+
+    in-all : (small held spare : Bool) → small ≡ true → spare ≡ true → (small && ((held || spare) || false)) ≡ true
+    in-all true true true a b = refl
+    in-all true false true a b = refl
+    in-all false held spare a b = absurd (cc)
+    in-all true held false a b = absurd (cc)
+
+member-left : (given : Given) (m : Members) → IsPlaced given m → AreHeldUnlost m → AreSparesFree given m → (role slot : ℕ) → MayHold m role slot → HasLiveSlot m
+member-left given m placed unlost free role slot (inl held) = holder-left given m role slot placed unlost held
+member-left given m placed unlost free role slot (inr spare) = spare-left given m slot free spare
+
 -- So it is where a history is kept whose marks are safe.
 pub stored-by : {B : Type 0} {right : Type 0} {size : ℕ} {carried : ℕ → ℕ → Bool} {reshaping : Bool} (given : Given) (tape : List Operation) (array : RunningParts B)
-    → IsHistoryKept right (moving_world given tape array) size array.parts.entries
+    → IsPlaced given array.parts.members → AreHeldUnlost array.parts.members → AreSparesFree given array.parts.members → (is_reshaping array.parts.members.newest ≡ true
+    → IfSome (hidden_in array.course.window) (λ span. next_window array.parts.members.newest ≡ Some span) × IfSome (unsure_in array.course.window) (λ span. next_window array.parts.members.newest ≡ Some span))
+    → (IsReliable (moving_world given tape array) array.parts.entries → AreToldGone (moving_world given tape array) array.parts.entries array.parts.members) → IsHistoryKept right (moving_world given tape array) size array.parts.entries
     → (IsReliable (moving_world given tape array) array.parts.entries → IsSafeHistory ⊤ (moving_world given tape array) given array.parts.members carried reshaping array.parts.entries)
     → IsStoredBy (moving_world given tape array) array
-stored-by {carried = carried} {reshaping = reshaping} given tape array recorded safe = record {
+stored-by {carried = carried} {reshaping = reshaping} given tape array placed unlost free window gone recorded safe = record {
   begun = recorded.begun;
   ends = recorded.ends;
-  stored = λ relied live.
+  unlost = unlost-of given array.parts.members unlost free;
+  window = window;
+  gone = gone;
+  stored = λ relied role slot may.
       let world = moving_world given tape array in
       subst (λ (mark : ℕ). AreStoredAt world mark array.parts.members) (sym recorded.ended)
-      (stored-now given tape world.scope array.parts.first array.parts.entries array.parts.members carried reshaping (safe relied).now live);
+      (stored-now given tape world.scope array.parts.first array.parts.entries array.parts.members carried reshaping (safe relied).now
+      (member-left given array.parts.members placed unlost free role slot may));
 }

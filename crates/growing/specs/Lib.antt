@@ -17,6 +17,7 @@ pub use Rattle.turning.specs.moving_laws_Ready
 pub use Rattle.turning.specs.moving_laws_Steps
 pub use Rattle.turning.specs.moving_laws_Writing
 pub use Rattle.turning.specs.moving_state_Due
+pub use Rattle.turning.specs.grow_asked_Asked
 pub use Rattle.turning.specs.moving_state_First
 pub use Rattle.turning.specs.moving_state_the_Due
 pub use Rattle.turning.specs.moving_state_the_Due_TheVariants

@@ -1,15 +1,17 @@
 -- What the stored superblocks say of an array that runs.
-use Rattle.std.specs.Prelude.{◌≡◌, ℕ, ◌≤◌, false, List, length, Option, Some}
+use Rattle.std.specs.Prelude.{◌≡◌, ℕ, ◌≤◌, true, false, List, length, Option, Some, IfSome}
 use Rattle.running_replies.specs.md_base_Shapes.{has_slot}
 use Rattle.turning.specs.superblocks_the_Members.{Members}
-use Rattle.turning.specs.superblocks_Reading.{Reading, holder, role_state}
+use Rattle.turning.specs.superblocks_Reading.{Reading, holder, role_state, is_reshaping, next_window}
 use Rattle.turning.specs.superblocks_Reads.{SaysSame, has_spare}
 use Rattle.turning.specs.row_io_Rows.{reading_of}
 use Rattle.running_replies.specs.flat_history_Growing.{EndBy}
 use Rattle.running_replies.specs.flat_history_Transfers.{last_end_from}
 use Rattle.turning.specs.flat_history_World.{World, reading_at}
-use Rattle.turning.specs.shape_changes_Safety.{HasLiveSlot}
-use Rattle.running_replies.specs.history_calls_Reliable.{IsReliable}
+use Rattle.turning.specs.views_Rebuilding.{MayHold}
+use Rattle.turning.specs.course_kept_Course.{hidden_in}
+use Rattle.turning.specs.moving_state_Due.{unsure_in}
+use Rattle.running_replies.specs.history_calls_Reliable.{IsReliable, AreToldGone}
 use Rattle.turning.specs.running_words_Parts.{RunningParts}
 
 -- At this mark the stored superblocks say what these members do: the array's shapes and its size, how far a reshape has come, and whether it is clean; each role that has a holder is on it, whole or recovering as it is there; and of the slots that weren't lost the same are spares.
@@ -20,8 +22,12 @@ pub record AreStoredAt (world : World) (mark : ℕ) (members : Members) : Type 0
   pub held : (role slot : ℕ) → holder (role_state (reading_of members) role) ≡ Some slot → role_state found role ≡ role_state (reading_of members) role
   pub spares : (slot : ℕ) → has_slot members.lost slot ≡ false → has_spare found.spares slot ≡ has_spare members.spares slot
 
--- So they do where the array's last entry ended, which is within the tape, as long as a slot is left that is written, where its history can be relied on.
+-- What is known of an array is so, by its history and by what is stored. No slot that holds a role or is a spare was lost; in a reshape a window whose section is stored, or may be, is the next one. Where its history can be relied on, each role that
+-- is missing is told gone by it; and where its last entry ended, which is within the tape, the stored superblocks say what its members do, as long as one of them is left.
 pub record IsStoredBy {B : Type 0} (world : World) (array : RunningParts B) : Type 0 where
   pub begun : world.first ≤ length world.tape
   pub ends : EndBy (length world.tape) array.parts.entries
-  pub stored : IsReliable world array.parts.entries → HasLiveSlot array.parts.members → AreStoredAt world (last_end_from world.first array.parts.entries) array.parts.members
+  pub unlost : (role slot : ℕ) → MayHold array.parts.members role slot → has_slot array.parts.members.lost slot ≡ false
+  pub window : is_reshaping array.parts.members.newest ≡ true → IfSome (hidden_in array.course.window) (λ span. next_window array.parts.members.newest ≡ Some span) × IfSome (unsure_in array.course.window) (λ span. next_window array.parts.members.newest ≡ Some span)
+  pub gone : IsReliable world array.parts.entries → AreToldGone world array.parts.entries array.parts.members
+  pub stored : IsReliable world array.parts.entries → (role slot : ℕ) → MayHold array.parts.members role slot → AreStoredAt world (last_end_from world.first array.parts.entries) array.parts.members

@@ -42,7 +42,7 @@ use Rattle.line_asks.specs.bank_Given.{sizes}
 use Rattle.line_asks.specs.superblocks_the_Members.{Members}
 use Rattle.line_asks.specs.views_the_Work.{Work}
 use Rattle.line_asks.specs.array_kept_Adopting.{opener, absent_losses}
-use Rattle.line_asks.specs.array_kept_Calls.{IsEndOf, IsEntered, world_for}
+use Rattle.line_asks.specs.array_kept_Calls.{IsEndOf, IsEntered, world_for, AreLossesOf}
 use Rattle.line_asks.specs.assemble_Creating.{create_refusal}
 use Rattle.line_asks.specs.assemble_Opening.{AreGiven, array_of, scope_of}
 use Rattle.line_asks.specs.assemble_Made.{used_slot}
@@ -55,12 +55,12 @@ use Rattle.line_asks.specs.run_laws_the_Answered_TheVariants.{Inside, Outside as
 use Rattle.line_asks.specs.run_laws_the_State_TheVariants.{Idle, Running}
 use Rattle.line_asks.specs.run_laws_Asked.{script_who, IsAskedAt, IsAsked, IsStillWaiting, IsWaited, IsSizedBy}
 use Rattle.line_asks.specs.run_laws_Caused.{Record, record_of, IsJudgedBy, IsJudgedAt}
-use Rattle.line_asks.specs.run_laws_Records.{IsLeftTold, AreAllAnswered, IsLeftBy, IsLeftAt, IsRecordFound, IsRecordedBy}
+use Rattle.line_asks.specs.run_laws_Records.{IsLeftTold, AreAllAnswered, IsLeftBy, IsLeftAt, IsOfHistory, IsRecordFound, IsRecordedBy, IsRecorded}
 use Rattle.line_asks.specs.Turning.{IsTellable, IsTurningTold}
 use Rattle.line_asks.specs.run_laws_Histories.{History, history_of, histories_of, entry_at, is_end, AreGoing}
 use Rattle.line_asks.specs.run_laws_Making.{Setting, held_at, history_world, MissingAtFirst, IsStoredNew, IsStoredAs}
 use Rattle.line_asks.specs.run_laws_Blocks.{caller_of}
-use Rattle.line_asks.specs.run_laws_Replies.{Course, with_script, at_rest, begun, gone_on, calls_behind, course_behind, entries_to, course_after, steps_at_once, IsRepliedAt, IsAnsweredInside, IsRefusedOutside, spec_of}
+use Rattle.line_asks.specs.run_laws_Replies.{Course, with_script, at_rest, begun, gone_on, calls_behind, course_behind, entries_to, course_after, steps_at_once, IsRepliedAt, AreCallsTold, IsAnsweredInside, IsRefusedOutside, spec_of}
 use Rattle.line_asks.specs.script_the_Lane.{Lane}
 use Rattle.line_asks.specs.script_the_Lane_TheVariants.{Script as InScript, A as InA, B as InB, Worker as InWorker}
 use Rattle.line_asks.specs.script_Seeds.{seeded}
@@ -111,9 +111,16 @@ grown_came : (hs : List History) (new : History) → AreGrown hs (hs ++ new ∷ 
 grown_came [] new = tt
 grown_came (h ∷ hs) new = (grown_same h, grown_came hs new)
 
+-- nobody else has called behind calls of the script, the last of which has its reply at this place
+module _ {size place : ℕ} {last : Line} {mid : List Entry} (old new : List Entry) (asked : IsAskedAt size last mid new place) (called : HasCalled old new) where
+  calls_last : AreCallsTold (calls_in old) (take (place + 1) new) (slice_get new place)
+  calls_last = subst (λ (o : Option Entry). AreCallsTold (calls_in old) (take (place + 1) new) o) (sym (entry_there asked))
+      (subst (λ (l : List Entry). AreCallsTold (calls_in old) l (Some (one (script_who mid) asked.end asked.event))) (sym (take_all (place + 1) new (omega (arith, asked.at_end))))
+      (λ lane. ap (λ (f : Lane → ℕ). f lane) (calls_more asked called)))
+
 -- a line was answered by calls of the script, the last of them at this place, over the history of the array that runs
 module _ {size : ℕ} {line last : Line} {place : ℕ} {mid : List Entry} (hs : List History) (old new : History) (asked : IsAskedAt size last mid new.entries place) (replied : IsRepliedAt size new.entries place (next_number 0 old.entries) line)
-    (tellable : IsTellable new.entries place) where
+    (tellable : IsTellable new.entries place) (called : HasCalled old.entries new.entries) where
   pub answered_last : IsAnsweredInside (hs ++ new ∷ []) (record { opened = length hs + 1; running = true; calls = calls_in old.entries; size = size; block = [] }) (length hs) place line
   answered_last = record {
     running = refl;
@@ -122,6 +129,7 @@ module _ {size : ℕ} {line last : Line} {place : ℕ} {mid : List Entry} (hs : 
     there = get_last hs new;
     replied = replied;
     tellable = tellable;
+    calls = calls_last old.entries new.entries asked called;
   }
 
 -- the entry of its reply
@@ -283,10 +291,12 @@ module _ {B : Type 0} (setting : Setting) (old new : RunningParts B) (epochs : V
     ends = λ t. subst (λ (n : ℕ). EndsBetween setting.began (length setting.tape) (hs ++ running_history new.parts ∷ []) (Inside n place)) len
         (between_last hs (running_history new.parts) asked setting.began (length setting.tape) (ended t).0 (ended t).1);
     answer = subst (λ (n : ℕ). IsAnsweredInside (hs ++ running_history new.parts ∷ []) (record { opened = n + 1; running = true; calls = calls_in old.parts.entries; size = list_length old.parts.members.newest; block = [] }) n place line) len
-        (answered_last hs (running_history old.parts) (running_history new.parts) asked replied tellable);
+        (answered_last hs (running_history old.parts) (running_history new.parts) asked replied tellable called);
     course = course_asked line asked called goes;
-    recorded = subst (λ (n : ℕ). IsRecordedBy setting line (entries_to (hs ++ running_history new.parts ∷ []) n place) (entry_at (hs ++ running_history new.parts ∷ []) n place) (record_of old) (Some (record_of new))) len
-        (recorded_last hs (running_history new.parts) asked setting line (record_of old) (Some (record_of new)) (judged, (backed, refl, counted, left)));
+    recorded = subst (λ (n : ℕ). IsRecorded setting (hs ++ running_history new.parts ∷ []) line (Inside n place) (Some (record_of old)) (Some (record_of new))) len (
+      recorded_last hs (running_history new.parts) asked setting line (record_of old) (Some (record_of new)) (judged, (backed, refl, counted, left)),
+      subst (λ (o : Option History). MatchOption o ⊥ (λ history. IsOfHistory history (record_of new))) (sym (get_last hs (running_history new.parts))) (refl, refl, refl),
+    );
   }
 
   pub turn_asked : (line : Line) (place : ℕ) (asked : IsAskedAt (list_length old.parts.members.newest) line old.parts.entries new.parts.entries place) → IsTellable new.parts.entries place
@@ -381,8 +391,8 @@ module _ {B : Type 0} (setting : Setting) (old : RunningParts B) (epoch : Epoch)
   now_many = ap (λ (l : List Epoch). length l) items ∙ length-append epochs.items (epoch ∷ [])
 
   pub turn_ended : (line : Line) (place : ℕ) (asked : IsAskedAt (list_length old.parts.members.newest) line old.parts.entries epoch.entries.items place) → IsTellable epoch.entries.items place
-      → IsJudgedBy setting.given (record_of old) line asked.event → (setting.tells → EndsWithin setting asked.end) → is_end asked.event ≡ true → IsTurn setting (Running old epochs) (Idle bank ended) line (Inside count place)
-  turn_ended line place asked tellable judged within ends =
+      → AreLossesOf old.parts.members setting.before setting.now old.parts.entries epoch.entries.items → IsJudgedBy setting.given (record_of old) line asked.event → (setting.tells → EndsWithin setting asked.end) → is_end asked.event ≡ true → IsTurn setting (Running old epochs) (Idle bank ended) line (Inside count place)
+  turn_ended line place asked tellable failed judged within ends =
       let now = history_of epoch in
       let called = called_once asked in
       record {
@@ -395,15 +405,18 @@ module _ {B : Type 0} (setting : Setting) (old : RunningParts B) (epoch : Epoch)
             (between_last before now asked setting.began (length setting.tape) (within t).0 (within t).1));
         answer = subst (λ (l : List History). IsAnsweredInside l (course_with count old) count place line) (sym now_are)
             (subst (λ (n : ℕ). IsAnsweredInside (before ++ now ∷ []) (record { opened = n + 1; running = true; calls = calls_in old.parts.entries; size = list_length old.parts.members.newest; block = [] }) n place line) counted
-            (answered_last before (running_history old.parts) now asked (replied_at line asked) tellable));
+            (answered_last before (running_history old.parts) now asked (replied_at line asked) tellable called));
         course = ap (λ (n : ℕ). at_rest n) now_many
             ∙ sym (ap (λ (l : List History). course_after l (course_with count old) InScript line (Inside count place)) now_are
             ∙ ap (λ (n : ℕ). course_after (before ++ now ∷ []) (course_with count old) InScript line (Inside n place)) (sym counted)
             ∙ course_last before now asked (course_with count old) line
             ∙ ap (λ (b : Bool). if b then at_rest (count + 1) else gone_on (calls_behind (calls_in old.parts.entries) (one (script_who old.parts.entries) asked.end asked.event)) (length_of (list_length old.parts.members.newest) now.entries) (course_with count old)) ends);
-        recorded = subst (λ (l : List History). IsRecordedBy setting line (entries_to l count place) (entry_at l count place) (record_of old) None) (sym now_are)
-            (subst (λ (n : ℕ). IsRecordedBy setting line (entries_to (before ++ now ∷ []) n place) (entry_at (before ++ now ∷ []) n place) (record_of old) None) counted
-            (recorded_last before now asked setting line (record_of old) None (judged, ends)));
+        recorded = (
+          subst (λ (l : List History). IsRecordedBy setting line (entries_to l count place) (entry_at l count place) (record_of old) None) (sym now_are)
+              (subst (λ (n : ℕ). IsRecordedBy setting line (entries_to (before ++ now ∷ []) n place) (entry_at (before ++ now ∷ []) n place) (record_of old) None) counted
+              (recorded_last before now asked setting line (record_of old) None (judged, (ends, failed)))),
+          tt,
+        );
       }
 
 -- ---- no array ran
@@ -571,6 +584,7 @@ module _ {B : Type 0} (setting : Setting) (bank : B) (olds epochs : Vec Epoch) (
         course = opened_course 1 status.length called (ap (λ (m : Members). list_length m.newest) members ∙ is.shown status told);
         recorded = subst (λ (o : Option History). MatchOption o ⊥ (λ history. IsRecordFound setting.backup history status (record_of array))) (sym last_there) (record {
           backup_is = backed ∙ is.backup_is;
+          of = (refl, refl, refl);
           more = [];
           begins = sym (append-nil array.parts.entries);
           shown = shown-record array status shown;

@@ -1,6 +1,6 @@
 //! The answer to a line, by whether an array runs.
 
-ghost use Rattle.std.specs.Prelude.{◌≡◌, ◌<◌, ◌≤◌, ◌^◌, ℕ, List, length, vec_capacity, Some, Ok, IfOk, IsTrue, IsSome};
+ghost use Rattle.std.specs.Prelude.{◌≡◌, ◌<◌, ◌≤◌, ◌^◌, ℕ, true, false, List, length, vec_capacity, Some, Ok, IfOk, IsTrue, IsSome};
 ghost use Rattle.line_asks.specs.bank_Given.{NeverFalls};
 ghost use Rattle.line_asks.specs.views_Moving.{Grows};
 ghost use Rattle.line_asks.specs.script_Script.{is_within_limits};
@@ -10,7 +10,7 @@ ghost use Rattle.line_asks.specs.run_laws_Ended.{IsRunKept};
 ghost use Rattle.line_asks.specs.run_laws_Histories.{entry_at};
 ghost use Rattle.line_asks.specs.run_laws_Making.{setting_of};
 ghost use Rattle.line_asks.specs.run_laws_Records.{IsLeftTold};
-ghost use Rattle.line_asks.specs.run_laws_States.{answer_at, histories_in, bank_in, RunsOwn, IsFitBank, IsTurnOrNone, IsNamed};
+ghost use Rattle.line_asks.specs.run_laws_States.{answer_at, histories_in, bank_in, course_in, RunsOwn, IsFitBank, IsTurnOrNone, IsNamed};
 ghost use Rattle.line_asks.specs.run_laws_Written.{IsWrittenBy};
 ghost use Rattle.line_asks.specs.run_laws_the_Answered_TheVariants.{Inside as AnsweredInside, Outside as AnsweredOutside};
 ghost use Rattle.line_asks.specs.run_laws_the_Outside_TheVariants.{Refused as IsRefused};
@@ -80,7 +80,7 @@ fn stop_array<B: Bank>(
     requires own { RunsOwn (IsRunning array epochs) }
     requires former { IsRunKept B.tells (B.given array.parts.bank) (B.tape array.parts.bank) backup (IsRunning array epochs) }
     ensures answered { IsTurnOrNone (setting_of B.tells (B.given array.parts.bank) (B.tape array.parts.bank) (B.tape (bank_in result.0)) backup (B.faults_of array.parts.bank) (B.faults_of (bank_in result.0))) (IsRunning array epochs) result.0 AsksStop result.1 }
-    ensures written { B.tells → IsWrittenBy (setting_of B.tells (B.given array.parts.bank) (B.tape array.parts.bank) (B.tape (bank_in result.0)) backup (B.faults_of array.parts.bank) (B.faults_of (bank_in result.0))) (histories_in (IsRunning array epochs)) (histories_in result.0) AsksStop result.1 }
+    ensures written { B.tells → IsWrittenBy (setting_of B.tells (B.given array.parts.bank) (B.tape array.parts.bank) (B.tape (bank_in result.0)) backup (B.faults_of array.parts.bank) (B.faults_of (bank_in result.0))) true (histories_in (IsRunning array epochs)) (histories_in result.0) AsksStop result.1 }
     ensures former { IsRunKept B.tells (B.given array.parts.bank) (B.tape (bank_in result.0)) backup result.0 }
     ensures never_falls { NeverFalls (B.faults_of array.parts.bank) (B.faults_of (bank_in result.0)) }
     ensures grows { Grows B.tells (B.tape array.parts.bank) (B.tape (bank_in result.0)) }
@@ -118,7 +118,7 @@ fn halt_array<B: Bank>(
     requires own { RunsOwn (IsRunning array epochs) }
     requires former { IsRunKept B.tells (B.given array.parts.bank) (B.tape array.parts.bank) backup (IsRunning array epochs) }
     ensures answered { IsTurnOrNone (setting_of B.tells (B.given array.parts.bank) (B.tape array.parts.bank) (B.tape (bank_in result.0)) backup (B.faults_of array.parts.bank) (B.faults_of (bank_in result.0))) (IsRunning array epochs) result.0 AsksHalt result.1 }
-    ensures written { B.tells → IsWrittenBy (setting_of B.tells (B.given array.parts.bank) (B.tape array.parts.bank) (B.tape (bank_in result.0)) backup (B.faults_of array.parts.bank) (B.faults_of (bank_in result.0))) (histories_in (IsRunning array epochs)) (histories_in result.0) AsksHalt result.1 }
+    ensures written { B.tells → IsWrittenBy (setting_of B.tells (B.given array.parts.bank) (B.tape array.parts.bank) (B.tape (bank_in result.0)) backup (B.faults_of array.parts.bank) (B.faults_of (bank_in result.0))) true (histories_in (IsRunning array epochs)) (histories_in result.0) AsksHalt result.1 }
     ensures former { IsRunKept B.tells (B.given array.parts.bank) (B.tape (bank_in result.0)) backup result.0 }
     ensures bank { bank_in result.0 ≡ array.parts.bank }
 {
@@ -142,7 +142,7 @@ fn answer_running<B: Bank>(
     requires own { RunsOwn (IsRunning array epochs) }
     requires former { IsRunKept B.tells (B.given array.parts.bank) (B.tape array.parts.bank) backup (IsRunning array epochs) }
     ensures answered { IsTurnOrNone (setting_of B.tells (B.given array.parts.bank) (B.tape array.parts.bank) (B.tape (bank_in result.0)) backup (B.faults_of array.parts.bank) (B.faults_of (bank_in result.0))) (IsRunning array epochs) result.0 line result.1 }
-    ensures written { B.tells → IsWrittenBy (setting_of B.tells (B.given array.parts.bank) (B.tape array.parts.bank) (B.tape (bank_in result.0)) backup (B.faults_of array.parts.bank) (B.faults_of (bank_in result.0))) (histories_in (IsRunning array epochs)) (histories_in result.0) line result.1 }
+    ensures written { B.tells → IsWrittenBy (setting_of B.tells (B.given array.parts.bank) (B.tape array.parts.bank) (B.tape (bank_in result.0)) backup (B.faults_of array.parts.bank) (B.faults_of (bank_in result.0))) true (histories_in (IsRunning array epochs)) (histories_in result.0) line result.1 }
     ensures former { IsRunKept B.tells (B.given array.parts.bank) (B.tape (bank_in result.0)) backup result.0 }
     ensures never_falls { NeverFalls (B.faults_of array.parts.bank) (B.faults_of (bank_in result.0)) }
     ensures grows { Grows B.tells (B.tape array.parts.bank) (B.tape (bank_in result.0)) }
@@ -197,7 +197,7 @@ fn create_array<B: Bank>(
     requires own { RunsOwn (IsIdle bank epochs) }
     requires former { IsRunKept B.tells (B.given bank) (B.tape bank) backup (IsIdle bank epochs) }
     ensures answered { IsTurnOrNone (setting_of B.tells (B.given bank) (B.tape bank) (B.tape (bank_in result.0)) backup (B.faults_of bank) (B.faults_of (bank_in result.0))) (IsIdle bank epochs) result.0 (AsksCreate line) result.1 }
-    ensures written { B.tells → IsWrittenBy (setting_of B.tells (B.given bank) (B.tape bank) (B.tape (bank_in result.0)) backup (B.faults_of bank) (B.faults_of (bank_in result.0))) (histories_in (IsIdle bank epochs)) (histories_in result.0) (AsksCreate line) result.1 }
+    ensures written { B.tells → IsWrittenBy (setting_of B.tells (B.given bank) (B.tape bank) (B.tape (bank_in result.0)) backup (B.faults_of bank) (B.faults_of (bank_in result.0))) false (histories_in (IsIdle bank epochs)) (histories_in result.0) (AsksCreate line) result.1 }
     ensures former { IsRunKept B.tells (B.given bank) (B.tape (bank_in result.0)) backup result.0 }
     ensures never_falls { NeverFalls (B.faults_of bank) (B.faults_of (bank_in result.0)) }
     ensures grows { Grows B.tells (B.tape bank) (B.tape (bank_in result.0)) }
@@ -241,7 +241,7 @@ fn assemble_array<B: Bank>(
     requires own { RunsOwn (IsIdle bank epochs) }
     requires former { IsRunKept B.tells (B.given bank) (B.tape bank) backup (IsIdle bank epochs) }
     ensures answered { IsTurnOrNone (setting_of B.tells (B.given bank) (B.tape bank) (B.tape (bank_in result.0)) backup (B.faults_of bank) (B.faults_of (bank_in result.0))) (IsIdle bank epochs) result.0 (AsksAssemble uuid) result.1 }
-    ensures written { B.tells → IsWrittenBy (setting_of B.tells (B.given bank) (B.tape bank) (B.tape (bank_in result.0)) backup (B.faults_of bank) (B.faults_of (bank_in result.0))) (histories_in (IsIdle bank epochs)) (histories_in result.0) (AsksAssemble uuid) result.1 }
+    ensures written { B.tells → IsWrittenBy (setting_of B.tells (B.given bank) (B.tape bank) (B.tape (bank_in result.0)) backup (B.faults_of bank) (B.faults_of (bank_in result.0))) false (histories_in (IsIdle bank epochs)) (histories_in result.0) (AsksAssemble uuid) result.1 }
     ensures former { IsRunKept B.tells (B.given bank) (B.tape (bank_in result.0)) backup result.0 }
     ensures never_falls { NeverFalls (B.faults_of bank) (B.faults_of (bank_in result.0)) }
     ensures grows { Grows B.tells (B.tape bank) (B.tape (bank_in result.0)) }
@@ -287,7 +287,7 @@ fn answer_idle<B: Bank>(
     requires own { RunsOwn (IsIdle bank epochs) }
     requires former { IsRunKept B.tells (B.given bank) (B.tape bank) backup (IsIdle bank epochs) }
     ensures answered { IsTurnOrNone (setting_of B.tells (B.given bank) (B.tape bank) (B.tape (bank_in result.0)) backup (B.faults_of bank) (B.faults_of (bank_in result.0))) (IsIdle bank epochs) result.0 line result.1 }
-    ensures written { B.tells → IsWrittenBy (setting_of B.tells (B.given bank) (B.tape bank) (B.tape (bank_in result.0)) backup (B.faults_of bank) (B.faults_of (bank_in result.0))) (histories_in (IsIdle bank epochs)) (histories_in result.0) line result.1 }
+    ensures written { B.tells → IsWrittenBy (setting_of B.tells (B.given bank) (B.tape bank) (B.tape (bank_in result.0)) backup (B.faults_of bank) (B.faults_of (bank_in result.0))) false (histories_in (IsIdle bank epochs)) (histories_in result.0) line result.1 }
     ensures former { IsRunKept B.tells (B.given bank) (B.tape (bank_in result.0)) backup result.0 }
     ensures never_falls { NeverFalls (B.faults_of bank) (B.faults_of (bank_in result.0)) }
     ensures grows { Grows B.tells (B.tape bank) (B.tape (bank_in result.0)) }
@@ -325,7 +325,7 @@ pub fn answer<B: Bank>(
     requires own { RunsOwn state }
     requires former { IsRunKept B.tells (B.given (bank_in state)) (B.tape (bank_in state)) backup state }
     ensures answered { IsTurnOrNone (setting_of B.tells (B.given (bank_in state)) (B.tape (bank_in state)) (B.tape (bank_in result.0)) backup (B.faults_of (bank_in state)) (B.faults_of (bank_in result.0))) state result.0 line result.1 }
-    ensures written { B.tells → IsWrittenBy (setting_of B.tells (B.given (bank_in state)) (B.tape (bank_in state)) (B.tape (bank_in result.0)) backup (B.faults_of (bank_in state)) (B.faults_of (bank_in result.0))) (histories_in state) (histories_in result.0) line result.1 }
+    ensures written { B.tells → IsWrittenBy (setting_of B.tells (B.given (bank_in state)) (B.tape (bank_in state)) (B.tape (bank_in result.0)) backup (B.faults_of (bank_in state)) (B.faults_of (bank_in result.0))) (course_in state).running (histories_in state) (histories_in result.0) line result.1 }
     ensures former { IsRunKept B.tells (B.given (bank_in state)) (B.tape (bank_in result.0)) backup result.0 }
     ensures never_falls { NeverFalls (B.faults_of (bank_in state)) (B.faults_of (bank_in result.0)) }
     ensures grows { Grows B.tells (B.tape (bank_in state)) (B.tape (bank_in result.0)) }

@@ -1,6 +1,6 @@
 //! A slot's superblock is looked at, while an array runs or none does.
 
-ghost use Rattle.std.specs.Prelude.{◌≡◌};
+ghost use Rattle.std.specs.Prelude.{◌≡◌, true, false};
 ghost use Rattle.line_asks.specs.bank_Given.{NeverFalls};
 ghost use Rattle.line_asks.specs.views_Moving.{Grows};
 ghost use Rattle.line_asks.specs.md_base_the_Refusal_TheVariants.{NoSuchSlot};
@@ -51,7 +51,7 @@ pub fn examine_idle<B: Bank>(
     requires own { RunsOwn (IsIdle bank epochs) }
     requires former { IsRunKept B.tells (B.given bank) (B.tape bank) backup (IsIdle bank epochs) }
     ensures answered { IsTurnOrNone (setting_of B.tells (B.given bank) (B.tape bank) (B.tape (bank_in result.0)) backup (B.faults_of bank) (B.faults_of (bank_in result.0))) (IsIdle bank epochs) result.0 (AsksExamine slot) result.1 }
-    ensures written { B.tells → IsWrittenBy (setting_of B.tells (B.given bank) (B.tape bank) (B.tape (bank_in result.0)) backup (B.faults_of bank) (B.faults_of (bank_in result.0))) (histories_in (IsIdle bank epochs)) (histories_in result.0) (AsksExamine slot) result.1 }
+    ensures written { B.tells → IsWrittenBy (setting_of B.tells (B.given bank) (B.tape bank) (B.tape (bank_in result.0)) backup (B.faults_of bank) (B.faults_of (bank_in result.0))) false (histories_in (IsIdle bank epochs)) (histories_in result.0) (AsksExamine slot) result.1 }
     ensures former { IsRunKept B.tells (B.given bank) (B.tape (bank_in result.0)) backup result.0 }
     ensures never_falls { NeverFalls (B.faults_of bank) (B.faults_of (bank_in result.0)) }
     ensures grows { Grows B.tells (B.tape bank) (B.tape (bank_in result.0)) }
@@ -75,7 +75,7 @@ pub fn examine_running<B: Bank>(
     requires own { RunsOwn (IsRunning array epochs) }
     requires former { IsRunKept B.tells (B.given array.parts.bank) (B.tape array.parts.bank) backup (IsRunning array epochs) }
     ensures answered { IsTurnOrNone (setting_of B.tells (B.given array.parts.bank) (B.tape array.parts.bank) (B.tape (bank_in result.0)) backup (B.faults_of array.parts.bank) (B.faults_of (bank_in result.0))) (IsRunning array epochs) result.0 (AsksExamine slot) result.1 }
-    ensures written { B.tells → IsWrittenBy (setting_of B.tells (B.given array.parts.bank) (B.tape array.parts.bank) (B.tape (bank_in result.0)) backup (B.faults_of array.parts.bank) (B.faults_of (bank_in result.0))) (histories_in (IsRunning array epochs)) (histories_in result.0) (AsksExamine slot) result.1 }
+    ensures written { B.tells → IsWrittenBy (setting_of B.tells (B.given array.parts.bank) (B.tape array.parts.bank) (B.tape (bank_in result.0)) backup (B.faults_of array.parts.bank) (B.faults_of (bank_in result.0))) true (histories_in (IsRunning array epochs)) (histories_in result.0) (AsksExamine slot) result.1 }
     ensures former { IsRunKept B.tells (B.given array.parts.bank) (B.tape (bank_in result.0)) backup result.0 }
     ensures never_falls { NeverFalls (B.faults_of array.parts.bank) (B.faults_of (bank_in result.0)) }
     ensures grows { Grows B.tells (B.tape array.parts.bank) (B.tape (bank_in result.0)) }

@@ -51,11 +51,18 @@ work-same same work = record { resync = ap (λ (w : Work). w.resync) work; rebui
 
 -- one that is done or refused
 pub less-called : {B tells : Type 0} {given : Given} {tape tape' : List Operation} {before after : ℕ → ℕ} {old new : RunningParts B} → IsCalled tells given tape tape' before after old new
-    → is_reshaping new.parts.members.newest ≡ is_reshaping old.parts.members.newest → IsOnlyLess (record_of old) (record_of new)
-less-called called active = record { shape = shape-same called.same active; work = work-same called.same called.work; limit = called.same.limit; held = called.held; spares = called.spares }
+    → is_reshaping new.parts.members.newest ≡ is_reshaping old.parts.members.newest → IsOnlyLess before after (record_of old) (record_of new)
+less-called called active = record {
+  shape = shape-same called.same active;
+  work = work-same called.same called.work;
+  limit = called.same.limit;
+  held = called.held;
+  spares = called.spares;
+  losses = called.losses;
+}
 
-pub left-called : {B tells : Type 0} {given : Given} {tape tape' : List Operation} {before after from to : ℕ → ℕ} {old new : RunningParts B} → IsCalled tells given tape tape' before after old new
-    → is_reshaping new.parts.members.newest ≡ is_reshaping old.parts.members.newest → HaveRolesFailed old.parts.members new.parts.members from to → IsLessByFaults from to (record_of old) (record_of new)
+pub left-called : {B tells : Type 0} {given : Given} {tape tape' : List Operation} {before after : ℕ → ℕ} {old new : RunningParts B} → IsCalled tells given tape tape' before after old new
+    → is_reshaping new.parts.members.newest ≡ is_reshaping old.parts.members.newest → HaveRolesFailed old.parts.members new.parts.members before after → IsLessByFaults before after (record_of old) (record_of new)
 left-called called active failed = (less-called called active, failed)
 
 -- one that changes nothing but the history
@@ -67,8 +74,8 @@ left-untouched same members work = (
 )
 
 -- an add
-pub with-spare : {B tells : Type 0} {given : Given} {tape tape' : List Operation} {before after from to : ℕ → ℕ} {slot : ℕ} {old new : RunningParts B} → IsAddCalled tells given tape tape' before after slot old new
-    → is_reshaping new.parts.members.newest ≡ is_reshaping old.parts.members.newest → HaveRolesFailed old.parts.members new.parts.members from to → IsWithSpare from to slot (record_of old) (record_of new)
+pub with-spare : {B tells : Type 0} {given : Given} {tape tape' : List Operation} {before after : ℕ → ℕ} {slot : ℕ} {old new : RunningParts B} → IsAddCalled tells given tape tape' before after slot old new
+    → is_reshaping new.parts.members.newest ≡ is_reshaping old.parts.members.newest → HaveRolesFailed old.parts.members new.parts.members before after → IsWithSpare before after slot (record_of old) (record_of new)
 with-spare called active failed = record {
   shape = shape-same called.same active;
   work = record { resync = called.work.resync; rebuilt = called.work.rebuilt; ahead = ap (λ (p : PhasesLeft). phases_of p) called.same.ahead };
@@ -76,6 +83,7 @@ with-spare called active failed = record {
   held = called.held;
   failed = failed;
   spares = called.spares;
+  losses = called.losses;
 }
 
 -- a limit, or a plan
@@ -120,7 +128,7 @@ module _ {B : Type 0} (before now : ℕ → ℕ) (old new : RunningParts B) (who
     left-flushed (Err WantsMemory) was caused some = absurd (some refl)
 
   -- a fail
-  module _ (size role : ℕ) (less : IsOnlyLess (record_of old) (record_of new)) where
+  module _ (size role : ℕ) (less : IsOnlyLess before now (record_of old) (record_of new)) where
     fail-left : (event : Event) → IsReplied size (AsksFail role) who old.parts.entries new.parts.entries event → IsLeftBy before now (record_of old) (record_of new) (Fail role) event
         → IsLeftAt before now (record_of old) (record_of new) (Fail role) new.parts.entries place
     fail-left event was left = left-behind (Fail role) was.end was.inner event was.is left

@@ -1,21 +1,23 @@
 -- The records of the array that runs, from line to line: what a call leaves, that they stay such as histories grow and over a longer time, and that one line more has one more.
 use Rattle.std.proofs.Common.{◌≡◌, inl, inr, ℕ, ◌+◌, false, Option, Some, None, Result, Ok, Err, List, [], ◌∷◌, ◌++◌, length, drop, refl, sym, ◌∙◌, ap, subst, arith, append_assoc, length-append}
 use Rattle.std.proofs.Math.Seq.{drop-append_seam}
+use Rattle.std.proofs.lemmas.List.Elements.{All-weaker}
 use Rattle.std.specs.Prelude.{slice_get, IfOk, IfSome, IsTrue, MatchOption}
 use Rattle.std.specs.List.{list_any}
 use Rattle.std.specs.Option.{option_map_or}
 use Rattle.run_laws.specs.md_base_the_NoMemory.{NoMemory}
-use Rattle.run_laws.specs.md_base_the_Refusal_TheVariants.{SlotFault}
+use Rattle.run_laws.specs.md_base_the_Refusal_TheVariants.{SlotFault, Nothing as IsDone}
 use Rattle.run_laws.specs.md_base_the_Who.{Who}
 use Rattle.run_laws.specs.md_base_the_Status.{Status}
 use Rattle.run_laws.specs.bank_Given.{Given, NeverFalls}
 use Rattle.run_laws.specs.bank_the_Operation.{Operation}
 use Rattle.run_laws.proofs.bank_Laws.{contents-earlier}
+use Rattle.run_laws.proofs.kept_history_Growing.{gone-grown}
 use Rattle.run_laws.specs.superblocks_the_Members.{Members}
 use Rattle.run_laws.specs.superblocks_Reading.{reading, list_length}
 use Rattle.run_laws.specs.flat_history_the_Entry.{Entry}
 use Rattle.run_laws.specs.flat_history_the_Event.{Event}
-use Rattle.run_laws.specs.flat_history_the_Event_TheVariants.{Lost, SpareLost, Failed, Added, Visible, Planned, Refused}
+use Rattle.run_laws.specs.flat_history_the_Event_TheVariants.{Lost, SpareLost, Failed, Added, Visible, Planned, Stepped, Refused}
 use Rattle.run_laws.specs.flat_history_the_LostCause_TheVariants.{Command, Fault as ByFault}
 use Rattle.run_laws.specs.flat_history_the_Request_TheVariants.{Steps as AsksSteps}
 use Rattle.run_laws.specs.flat_history_Flat.{length_of}
@@ -26,11 +28,11 @@ use Rattle.run_laws.specs.flat_history_Reshaped.{is_planned}
 use Rattle.run_laws.specs.views_Lacking.{HaveRolesFailed}
 use Rattle.run_laws.specs.growing_Stored.{IsStoredBy}
 use Rattle.run_laws.specs.running_calls_Going.{MayHoldSince, WasMemberSince, AreLossesSince}
-use Rattle.run_laws.specs.array_kept_Calls.{IsLossBy}
-use Rattle.run_laws.specs.running_Calls.{running_left}
+use Rattle.run_laws.specs.array_kept_Calls.{IsLossBy, AreLossesBy}
+use Rattle.run_laws.specs.running_Calls.{running_left, IsReplyNow}
 use Rattle.run_laws.specs.running_replies_Going.{is_begin, AreHeldBehind, HasNoReshape, HasRunOn}
 use Rattle.run_laws.specs.running_replies_Replies.{IsAnsweredWith}
-use Rattle.run_laws.specs.running_steps_Steps.{IsStepCount, KeepsItsWay}
+use Rattle.run_laws.specs.running_steps_Steps.{IsStepCount, IsHolderFailed, KeepsItsWay}
 use Rattle.run_laws.specs.running_words_Calls.{moving_world}
 use Rattle.run_laws.specs.running_words_Parts.{RunningParts}
 use Rattle.run_laws.specs.script_the_Line.{Line}
@@ -46,7 +48,7 @@ use Rattle.run_laws.specs.Asked.{IsAskedAt, IsAsked}
 use Rattle.run_laws.specs.Caused.{Record, record_of, IsJudgedBy}
 use Rattle.run_laws.specs.Histories.{History, entry_at}
 use Rattle.run_laws.specs.Making.{Setting}
-use Rattle.run_laws.specs.Records.{IsLessByFaults, IsWithSpare, IsUntouched, AreStepsAnswered, AreAllAnswered, IsLeftBy, IsLeftAt, IsLeftByBlock, IsRecordMade, IsRecordFound, IsNextRecord, IsRecordStored, IsRecordedBy, IsRecorded, IsRecordedBehind, IsRecordedIn, AreRecorded}
+use Rattle.run_laws.specs.Records.{IsOnlyLess, IsLessByFaults, IsWithSpare, IsUntouched, AreStepsAnswered, AreAllAnswered, IsLeftBy, IsLeftAt, IsLeftByBlock, IsRecordMade, IsOfHistory, IsRecordFound, IsNextRecord, IsRecordStored, IsRecordedBy, IsRecorded, IsRecordedBehind, IsRecordedIn, AreRecorded}
 use Rattle.run_laws.specs.Replies.{Course, longer_of, entries_to, course_after, course_of, leaves_more, leaves_more_at, AreReplies}
 use Rattle.run_laws.specs.States.{IsGrown, AreGrown, IsNamed}
 use Rattle.run_laws.proofs.AskLaws.{one, entry_there}
@@ -87,7 +89,15 @@ record-way before now old new was = record {
   limit = was.limit;
   unturned = λ none. let same = was.unturned none in record { active = same.active; shape = same.shape; final = same.final; ahead = same.ahead };
   roles = was.roles;
+  failed = was.failed;
+  lost = λ active none. let lost = was.lost active none in record { held = lost.held; spares = lost.spares; losses = lost.losses };
 }
+
+-- and so is what its reply tells
+record-told : {B : Type 0} (array : RunningParts B) (event : Event) → IsReplyNow array event → IsReplyNow (record_of array) event
+record-told array (Refused IsDone) told = told
+record-told array (Stepped done left ended) told = told
+record-told array event told = absurd told
 
 -- what a request for steps leaves
 module _ {B : Type 0} (tells : Type 0) (given : B → Given) (tape : B → List Operation) (faults : B → ℕ → ℕ) (old new : RunningParts B) (went : HasRunOn tells given tape faults old new) where
@@ -95,13 +105,14 @@ module _ {B : Type 0} (tells : Type 0) (given : B → Given) (tape : B → List 
   more-is rest is = sym (drop-append_seam old.parts.entries went.more) ∙ ap (drop (length old.parts.entries)) (sym went.grown ∙ is) ∙ drop-append_seam old.parts.entries rest
 
   pub steps-answered : {size most : ℕ} {who : Who} {event : Event} → IsAnsweredWith size (AsksSteps most) who old.parts.entries new.parts.entries event
-      → IsStepCount old.parts.entries new.parts.entries (running_left old) (running_left new) event → (running_left new ≡ 0 → HasNoReshape new) → KeepsItsWay (faults old.parts.bank) (faults new.parts.bank) old new
+      → IsStepCount old.parts.entries new.parts.entries (running_left old) (running_left new) event → IsReplyNow new event → (running_left new ≡ 0 → HasNoReshape new) → KeepsItsWay (faults old.parts.bank) (faults new.parts.bank) old new
       → AreStepsAnswered (faults old.parts.bank) (faults new.parts.bank) (record_of old) (record_of new)
-  steps-answered {who = who} {event = event} replied counted rest kept = record {
+  steps-answered {who = who} {event = event} replied counted told rest kept = record {
     inner = replied.inner;
     reply = one who replied.end event;
     is = replied.is;
     counted = counted;
+    told = record-told new event told;
     held = subst (λ (l : List Entry). AreHeldBehind old.parts.members new.parts.members l) more went.held;
     sized = went.sized ∙ ap (λ (l : List Entry). length_of (list_length old.parts.members.newest) l) more;
     active = λ still none. went.active still (ap (list_any (λ e. is_begin e.event)) more ∙ none);
@@ -136,14 +147,42 @@ answered-on before now old mid new (next ∷ others) (first, going, rest) last m
 -- ---- over a longer time
 
 module _ (first before now last : ℕ → ℕ) (early : NeverFalls first before) (between : NeverFalls before now) (late : NeverFalls now last) where
+  loss-wider : (Had : ℕ → ℕ → Type 0) (Was : ℕ → Type 0) (event : Event) → IsLossBy Had Was before now event → IsLossBy Had Was first last event
+  loss-wider Had Was (Lost role ByFault) (slot, had, failed) = (slot, had, faulted-wider slot early between late failed)
+  loss-wider Had Was (Lost role Command) is = is
+  loss-wider Had Was (Lost role cause) is = absurd is
+  loss-wider Had Was (SpareLost slot) (was, failed) = (was, faulted-wider slot early between late failed)
+  loss-wider Had Was event is = tt
+
+  told-wider : (Had : ℕ → ℕ → Type 0) (Was : ℕ → Type 0) (old new : List Entry) → AreLossesBy Had Was before now old new → AreLossesBy Had Was first last old new
+  told-wider Had Was old new was = record {
+    more = was.more;
+    grown = was.grown;
+    failed = All-weaker (λ e. IsLossBy Had Was before now e.event) (λ e. IsLossBy Had Was first last e.event) (λ e loss. loss-wider Had Was e.event loss) was.more was.failed;
+  }
+
   roles-wider : (old new : Members) → HaveRolesFailed old new before now → HaveRolesFailed old new first last
   roles-wider old new was = λ role slot held. elim (was role slot held) [
     | inl same ↦ inl same
     | inr failed ↦ inr (faulted-wider slot early between late failed)
   ]
 
+  holder-wider : (m : Members) (event : Event) → IsHolderFailed m before now event → IsHolderFailed m first last event
+  holder-wider m (Lost role ByFault) failed = λ slot held. faulted-wider slot early between late (failed slot held)
+  holder-wider m (Lost role cause) failed = tt
+  holder-wider m event failed = tt
+
   way-wider : (old new : Record) → KeepsItsWay before now old new → KeepsItsWay first last old new
-  way-wider old new was = record { aim = was.aim; size = was.size; limit = was.limit; unturned = was.unturned; roles = λ still none. roles-wider old.parts.members new.parts.members (was.roles still none) }
+  way-wider old new was = record {
+    aim = was.aim;
+    size = was.size;
+    limit = was.limit;
+    unturned = was.unturned;
+    roles = λ still none. roles-wider old.parts.members new.parts.members (was.roles still none);
+    failed = λ still none. All-weaker (λ e. IsHolderFailed old.parts.members before now e.event) (λ e. IsHolderFailed old.parts.members first last e.event) (λ e failed. holder-wider old.parts.members e.event failed)
+        (drop (length old.parts.entries) new.parts.entries) (was.failed still none);
+    lost = λ active none. let lost = was.lost active none in record { held = lost.held; spares = lost.spares; losses = told-wider _ _ old.parts.entries new.parts.entries lost.losses };
+  }
 
   steps-wider : (old new : Record) → AreStepsAnswered before now old new → AreStepsAnswered first last old new
   steps-wider old new was = record {
@@ -151,6 +190,7 @@ module _ (first before now last : ℕ → ℕ) (early : NeverFalls first before)
     reply = was.reply;
     is = was.is;
     counted = was.counted;
+    told = was.told;
     held = was.held;
     sized = was.sized;
     active = was.active;
@@ -170,18 +210,36 @@ module _ (first before now last : ℕ → ℕ) (early : NeverFalls first before)
   so-wider old new (next ∷ others) (one, more, rest) = (steps-wider old next one, more, so-wider next new others rest)
 
   spare-wider : (slot : ℕ) (old new : Record) → IsWithSpare before now slot old new → IsWithSpare first last slot old new
-  spare-wider slot old new is = record { shape = is.shape; work = is.work; limit = is.limit; held = is.held; failed = roles-wider old.parts.members new.parts.members is.failed; spares = is.spares }
+  spare-wider slot old new is = record {
+    shape = is.shape;
+    work = is.work;
+    limit = is.limit;
+    held = is.held;
+    failed = roles-wider old.parts.members new.parts.members is.failed;
+    spares = is.spares;
+    losses = told-wider _ _ old.parts.entries new.parts.entries is.losses;
+  }
+
+  only-wider : (old new : Record) → IsOnlyLess before now old new → IsOnlyLess first last old new
+  only-wider old new is = record {
+    shape = is.shape;
+    work = is.work;
+    limit = is.limit;
+    held = is.held;
+    spares = is.spares;
+    losses = told-wider _ _ old.parts.entries new.parts.entries is.losses;
+  }
 
   less-wider : (old new : Record) → IsLessByFaults before now old new → IsLessByFaults first last old new
-  less-wider old new is = (is.0, roles-wider old.parts.members new.parts.members is.1)
+  less-wider old new is = (only-wider old new is.0, roles-wider old.parts.members new.parts.members is.1)
 
   left-wider : (old new : Record) (line : Line) (event : Event) → IsLeftBy before now old new line event → IsLeftBy first last old new line event
   left-wider old new (Read at count) event is = (less-wider old new is.0, is.1)
   left-wider old new (Write at count seed) event is = (less-wider old new is.0, is.1)
   left-wider old new Flush event is = (less-wider old new is.0, is.1)
   left-wider old new Stop event is = (less-wider old new is.0, is.1)
-  left-wider old new (Fail role) (Failed failed) is = is
-  left-wider old new (Fail role) event is = is
+  left-wider old new (Fail role) (Failed failed) is = (only-wider old new is.0, is.1)
+  left-wider old new (Fail role) event is = (only-wider old new is.0, is.1)
   left-wider old new (Add slot) (Added added) is = (spare-wider slot old new is.0, is.1)
   left-wider old new (Add slot) (Refused (SlotFault failed)) is = (spare-wider slot old new is.0, is.1, faulted-wider slot early between late is.2)
   left-wider old new (Add slot) (Refused refusal) is = (spare-wider slot old new is.0, is.1)
@@ -197,13 +255,6 @@ module _ (first before now last : ℕ → ℕ) (early : NeverFalls first before)
   left-wider old new line event is = less-wider old new is
 
   -- what a block leaves
-  loss-wider : (Had : ℕ → ℕ → Type 0) (Was : ℕ → Type 0) (event : Event) → IsLossBy Had Was before now event → IsLossBy Had Was first last event
-  loss-wider Had Was (Lost role ByFault) (slot, had, failed) = (slot, had, faulted-wider slot early between late failed)
-  loss-wider Had Was (Lost role Command) is = is
-  loss-wider Had Was (Lost role cause) is = absurd is
-  loss-wider Had Was (SpareLost slot) (was, failed) = (was, faulted-wider slot early between late failed)
-  loss-wider Had Was event is = tt
-
   losses-wider : (members : Members) (done more : List Entry) → AreLossesSince members before now done more → AreLossesSince members first last done more
   losses-wider members done [] was = tt
   losses-wider members done (e ∷ more) (loss, was) = (loss-wider (MayHoldSince members done) (WasMemberSince members done) e.event loss, losses-wider members (done ++ e ∷ []) more was)
@@ -239,7 +290,7 @@ module _ (before mid now : ℕ → ℕ) (early : NeverFalls before mid) (late : 
 
 module _ (was now : Setting) (wider : IsWider was now) where
   next-wider : (line : Line) (entries : List Entry) (event : Event) (old : Record) (new : Option Record) → IsNextRecord was line entries event old new → IsNextRecord now line entries event old new
-  next-wider line entries event old None is = is
+  next-wider line entries event old None is = (is.0, told-wider now.before was.before was.now now.now wider.early wider.between wider.late _ _ old.parts.entries entries is.1)
   next-wider line entries event old (Some next) (backed, same, told, left) =
       (backed ∙ sym wider.backup, same, told, left-wider now.before was.before was.now now.now wider.early wider.between wider.late old next line event left)
 
@@ -248,8 +299,8 @@ module _ (was now : Setting) (wider : IsWider was now) where
   by-wider line entries (Some e) old new (judged, next) = (subst (λ (g : Given). IsJudgedBy g old line e.event) (sym wider.given) judged, next-wider line entries e.event old new next)
 
   pub recorded-wider : (histories : List History) (line : Line) (what : Answered) (old new : Option Record) → IsRecorded was histories line what old new → IsRecorded now histories line what old new
-  recorded-wider histories line (Inside epoch at) None new is = absurd is
-  recorded-wider histories line (Inside epoch at) (Some array) new is = by-wider line (entries_to histories epoch at) (entry_at histories epoch at) array new is
+  recorded-wider histories line (Inside epoch at) None new is = absurd is.0
+  recorded-wider histories line (Inside epoch at) (Some array) new is = (by-wider line (entries_to histories epoch at) (entry_at histories epoch at) array new is.0, is.1)
   recorded-wider histories line (IsOutside Created) old new is = subst (λ (b : Option ℕ). MatchOption new ⊥ (IsRecordMade b line)) (sym wider.backup) is
   recorded-wider histories line (IsOutside (Assembled epoch status)) old new is =
       subst (λ (b : Option ℕ). MatchOption new ⊥ (λ array. MatchOption (slice_get histories epoch) ⊥ (λ history. IsRecordFound b history status array))) (sym wider.backup) is
@@ -284,9 +335,23 @@ module _ (setting : Setting) (olds news : List History) (grown : AreGrown olds n
     backup_is = is.backup_is;
     more = is.more ++ longer.more;
     begins = longer.grown ∙ ap (λ (l : List Entry). l ++ longer.more) is.begins ∙ append_assoc array.parts.entries is.more longer.more;
+    of = (is.of.0 ∙ sym longer.uuid, is.of.1 ∙ sym longer.given, is.of.2 ∙ sym longer.first);
     shown = is.shown;
     planless = is.planless;
   }
+
+  -- nor is it of another history
+  of-grown : (epoch : ℕ) (new : Option Record) → IfSome new (λ next. MatchOption (slice_get olds epoch) ⊥ (λ history. IsOfHistory history next))
+      → IfSome new (λ next. MatchOption (slice_get news epoch) ⊥ (λ history. IsOfHistory history next))
+  of-grown epoch None is = tt
+  of-grown epoch (Some next) is = by (slice_get olds epoch) refl is
+    where
+      by : (o : Option History) → slice_get olds epoch ≡ o → MatchOption o ⊥ (λ history. IsOfHistory history next) → MatchOption (slice_get news epoch) ⊥ (λ history. IsOfHistory history next)
+      by None there now = absurd now
+      by (Some history) there now =
+          let later = history_stays olds news grown epoch history there in
+          subst (λ (o : Option History). MatchOption o ⊥ (λ history. IsOfHistory history next)) (sym later.1)
+          (now.0 ∙ sym later.2.uuid, now.1 ∙ sym later.2.given, now.2 ∙ sym later.2.first)
 
   found-grown : (epoch : ℕ) (status : Status) (array : Record) → MatchOption (slice_get olds epoch) ⊥ (λ history. IsRecordFound setting.backup history status array)
       → MatchOption (slice_get news epoch) ⊥ (λ history. IsRecordFound setting.backup history status array)
@@ -300,8 +365,8 @@ module _ (setting : Setting) (olds news : List History) (grown : AreGrown olds n
           subst (λ (o : Option History). MatchOption o ⊥ (λ history. IsRecordFound setting.backup history status array)) (sym later.1) (longer-found status array history later.0 later.2 now)
 
   pub recorded-grown : (line : Line) (what : Answered) (old new : Option Record) → IsRecorded setting olds line what old new → IsRecorded setting news line what old new
-  recorded-grown line (Inside epoch at) None new is = absurd is
-  recorded-grown line (Inside epoch at) (Some array) new is = inside-grown epoch at line array new is
+  recorded-grown line (Inside epoch at) None new is = absurd is.0
+  recorded-grown line (Inside epoch at) (Some array) new is = (inside-grown epoch at line array new is.0, of-grown epoch new is.1)
   recorded-grown line (IsOutside Created) old new is = is
   recorded-grown line (IsOutside (Assembled epoch status)) old None is = absurd is
   recorded-grown line (IsOutside (Assembled epoch status)) old (Some array) is = found-grown epoch status array is
@@ -328,8 +393,11 @@ unfolding reading_at
 stored-longer world ops array was = record {
   begun = let long = length-append world.tape ops in omega (arith, was.begun, long);
   ends = ends_later (length world.tape) (length (world.tape ++ ops)) array.parts.entries (let long = length-append world.tape ops in omega (arith, long)) was.ends;
-  stored = λ relied live.
-      let at = was.stored (reliable-before world ops array.parts.entries was.begun was.ends relied) live in
+  unlost = was.unlost;
+  window = was.window;
+  gone = λ relied role lt missing. gone-grown world ops array.parts.entries role was.ends ∙ was.gone (reliable-before world ops array.parts.entries was.begun was.ends relied) role lt missing;
+  stored = λ relied role slot may.
+      let at = was.stored (reliable-before world ops array.parts.entries was.begun was.ends relied) role slot may in
       record {
         found = at.found;
         is = ap (reading world.scope) (λ i slot k. contents-earlier world.start world.tape ops (last_end_from world.first array.parts.entries) slot k (last-within (length world.tape) world.first array.parts.entries was.begun was.ends) i) ∙ at.is;
@@ -341,7 +409,7 @@ stored-longer world ops array was = record {
 
 -- what is stored is what the array's record says
 pub stored-record : {B tells : Type 0} (given : Given) (tape : List Operation) (array : RunningParts B) → (tells → IsStoredBy (moving_world given tape array) array) → IsRecordStored tells given tape (record_of array)
-stored-record given tape array was t = let stored = was t in record { begun = stored.begun; ends = stored.ends; stored = stored.stored }
+stored-record given tape array was t = let stored = was t in record { begun = stored.begun; ends = stored.ends; unlost = stored.unlost; window = stored.window; gone = stored.gone; stored = stored.stored }
 
 module _ (was now : Setting) (wider : IsWider was now) where
   stored-wider : (array : Record) → IsRecordStored was.tells was.given was.tape array → IsRecordStored now.tells now.given now.tape array

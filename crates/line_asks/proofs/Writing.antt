@@ -1,5 +1,5 @@
 -- Each write of a run stands inside an epoch, or is of a create line.
-use Rattle.std.proofs.Common.{◌≡◌, ◌⊎◌, inl, inr, ℕ, zero, suc, ◌<◌, ◌≤◌, Option, Some, Result, Ok, Err, List, [], ◌∷◌, ◌++◌, length, refl, sym, ◌∙◌, ap, subst, arith, append-nil, length-append}
+use Rattle.std.proofs.Common.{◌≡◌, ◌⊎◌, inl, inr, ℕ, zero, suc, ◌<◌, ◌≤◌, Bool, true, false, Option, Some, Result, Ok, Err, List, [], ◌∷◌, ◌++◌, length, refl, sym, ◌∙◌, ap, subst, arith, append-nil, length-append}
 use Rattle.std.proofs.lemmas.Option.{slice_get_within}
 use Rattle.std.proofs.lemmas.List.{map-append}
 use Rattle.std.specs.Prelude.{slice_get}
@@ -147,15 +147,15 @@ written-inside setting hs old new May first begun longer was ended = record {
     by_either mark (inr is) = in-last hs new mark (record { begun = omega (arith, first, is.begun); unended = omega (arith, is.unended, was, longer, ended) })
 
 -- by any answer
-pub written-any : (setting : Setting) (olds news : List History) (line : Line) (r : Result Answered NoMemory) → IsWritten setting olds news (λ slot. ⊥) → IsWrittenBy setting olds news line r
-written-any setting olds news line (Ok what) was = record { spans = was.spans; kept = was.kept; placed = λ mark slot at body from there. by_place mark slot (was.placed mark slot at body from there) }
+pub written-any : (setting : Setting) (running : Bool) (olds news : List History) (line : Line) (r : Result Answered NoMemory) → IsWritten setting olds news (λ slot. ⊥) → IsWrittenBy setting running olds news line r
+written-any setting running olds news line (Ok what) was = record { spans = was.spans; kept = was.kept; placed = λ mark slot at body from there. by_place mark slot (was.placed mark slot at body from there) }
   where
     by_place : (mark slot : ℕ) → IsInEpoch news mark ⊎ ⊥ → IsInEpoch news mark ⊎ HasWritten setting.given setting.backup line what slot
     by_place mark slot (inl is) = inl is
     by_place mark slot (inr is) = absurd is
-written-any setting olds news line (Err fault) was = record { spans = was.spans; kept = was.kept; placed = λ mark slot at body from there. by_place mark slot (was.placed mark slot at body from there) }
+written-any setting running olds news line (Err fault) was = record { spans = was.spans; kept = was.kept; placed = λ mark slot at body from there. by_place mark slot (was.placed mark slot at body from there) }
   where
-    by_place : (mark slot : ℕ) → IsInEpoch news mark ⊎ ⊥ → IsInEpoch news mark ⊎ MayWrite setting.given setting.backup line slot
+    by_place : (mark slot : ℕ) → IsInEpoch news mark ⊎ ⊥ → IsInEpoch news mark ⊎ MayWrite setting.given setting.backup running line slot
     by_place mark slot (inl is) = inl is
     by_place mark slot (inr is) = absurd is
 
@@ -172,10 +172,10 @@ entered_end {old = old} first who event entered t =
 -- the array that runs goes on
 pub written_going : {B : Type 0} (tells : Type 0) (given : Given) (tape : B → List Operation) (backup : Option ℕ) (faults : B → ℕ → ℕ) (old new : RunningParts B) (epochs : Vec Epoch) (state : State B) (line : Line) (r : Result Answered NoMemory)
     → state ≡ Running new epochs → new.parts.first ≡ old.parts.first → Grows tells (tape old.parts.bank) (tape new.parts.bank) → IsGoing tells given (tape old.parts.bank) backup old.parts epochs.items → IsRunKept tells given (tape (bank_in state)) backup state
-    → tells → IsWrittenBy (setting_of tells given (tape old.parts.bank) (tape (bank_in state)) backup (faults old.parts.bank) (faults (bank_in state))) (histories_in (Running old epochs)) (histories_in state) line r
+    → tells → IsWrittenBy (setting_of tells given (tape old.parts.bank) (tape (bank_in state)) backup (faults old.parts.bank) (faults (bank_in state))) true (histories_in (Running old epochs)) (histories_in state) line r
 written_going {B = B} tells given tape backup faults old new epochs state line r is first grows was kept t =
-    subst (λ (s : State B). IsWrittenBy (setting_of tells given (tape old.parts.bank) (tape (bank_in s)) backup (faults old.parts.bank) (faults (bank_in s))) (histories_in (Running old epochs)) (histories_in s) line r) (sym is)
-    (written-any (setting_of tells given (tape old.parts.bank) (tape new.parts.bank) backup (faults old.parts.bank) (faults new.parts.bank)) (histories_in (Running old epochs)) (histories_in (Running new epochs)) line r
+    subst (λ (s : State B). IsWrittenBy (setting_of tells given (tape old.parts.bank) (tape (bank_in s)) backup (faults old.parts.bank) (faults (bank_in s))) true (histories_in (Running old epochs)) (histories_in s) line r) (sym is)
+    (written-any (setting_of tells given (tape old.parts.bank) (tape new.parts.bank) backup (faults old.parts.bank) (faults new.parts.bank)) true (histories_in (Running old epochs)) (histories_in (Running new epochs)) line r
     (written-inside (setting_of tells given (tape old.parts.bank) (tape new.parts.bank) backup (faults old.parts.bank) (faults new.parts.bank)) (histories_of epochs.items) (running_history old.parts) (running_history new.parts) (λ slot. ⊥)
     first (was.begun t) (grows-longer grows t) (was.ended t) (going.ended t)))
   where
@@ -234,21 +234,21 @@ module _ (setting : Setting) (old : List Operation) (began : setting.began ≡ l
     create_refused (SlotFault slot) unwritten (inr (none, late)) = idle_below (HasWritten setting.given setting.backup (Create line) (IsOutside (Refused (SlotFault slot)))) line.shape.disks below (λ slot lt. (none, lt))
     create_refused refusal unwritten (inr (none, late)) = absurd late
 
-    pub create_short : HasCreateCause setting.tells setting.given c setting.backup (spec_of line) before now WantsMemory → IsWritten setting (histories_of olds) (histories_of news) (MayWrite setting.given setting.backup (Create line))
+    pub create_short : HasCreateCause setting.tells setting.given c setting.backup (spec_of line) before now WantsMemory → IsWritten setting (histories_of olds) (histories_of news) (MayWrite setting.given setting.backup false (Create line))
     create_short (inl (other, is, told)) = absurd (cc)
-    create_short (inr (none, late)) = idle_below (MayWrite setting.given setting.backup (Create line)) line.shape.disks below (λ slot lt. (none, lt))
+    create_short (inr (none, late)) = idle_below (MayWrite setting.given setting.backup false (Create line)) line.shape.disks below (λ slot lt. (none, lt))
 
 -- what a line has written it may write
-may-write : (given : Given) (backup : Option ℕ) (line : Line) (what : Answered) (slot : ℕ) → HasWritten given backup line what slot → MayWrite given backup line slot
+may-write : (given : Given) (backup : Option ℕ) (line : Line) (what : Answered) (slot : ℕ) → HasWritten given backup line what slot → MayWrite given backup false line slot
 may-write given backup line (IsOutside Created) slot is = is
 may-write given backup line (IsOutside (Refused (SlotFault failed))) slot is = is
 may-write given backup line what slot is = absurd is
 
 -- an answer whose text found no memory
 pub written-untold : (setting : Setting) (olds news : List History) (line : Line) (what : Answered) → IsWritten setting olds news (HasWritten setting.given setting.backup line what)
-    → IsWritten setting olds news (MayWrite setting.given setting.backup line)
+    → IsWritten setting olds news (MayWrite setting.given setting.backup false line)
 written-untold setting olds news line what was = record { spans = was.spans; kept = was.kept; placed = λ mark slot at body from there. by_place mark slot (was.placed mark slot at body from there) }
   where
-    by_place : (mark slot : ℕ) → IsInEpoch news mark ⊎ HasWritten setting.given setting.backup line what slot → IsInEpoch news mark ⊎ MayWrite setting.given setting.backup line slot
+    by_place : (mark slot : ℕ) → IsInEpoch news mark ⊎ HasWritten setting.given setting.backup line what slot → IsInEpoch news mark ⊎ MayWrite setting.given setting.backup false line slot
     by_place mark slot (inl is) = inl is
     by_place mark slot (inr is) = inr (may-write setting.given setting.backup line what slot is)

@@ -14,6 +14,8 @@ pub use Rattle.running_steps.proofs.call_entries_CallLaws
 pub use Rattle.assemble.proofs.views_Flushed
 pub use Rattle.assemble.proofs.views_Still
 pub use Rattle.running_steps.proofs.kept_history_Turned
+pub use Rattle.running_steps.proofs.kept_history_Growing
+pub use Rattle.running_steps.proofs.running_Ended
 pub use Rattle.moving_opens.proofs.grow_asked_FirstLaws
 pub use Rattle.running_steps.proofs.history_laws_OneShapeGrowing
 pub use Rattle.running_steps.proofs.history_laws_ReshapedLaws

@@ -2,7 +2,7 @@
 use Rattle.std.proofs.Common.{◌≡◌, ◌≢◌, ◌⊎◌, inl, inr, ℕ, zero, suc, ◌+◌, ◌*◌, ◌<◌, ◌≤◌, Bool, true, false, Option, Some, None, List, [], ◌∷◌, ◌++◌, length, take, drop, refl, sym, ◌∙◌, ap, subst, arith, append_assoc, length-append, ne_eqb}
 use Rattle.std.proofs.lemmas.List.{take-append-le, drop-append-le}
 use Rattle.std.proofs.lemmas.Option.{slice_get_within}
-use Rattle.std.specs.Prelude.{slice_get, MatchOption, if◌then◌else◌, IfSome, IsSome, IsTrue, IsFalse, nat_lt}
+use Rattle.std.specs.Prelude.{slice_get, MatchOption, MatchBool, if◌then◌else◌, IfSome, IsSome, IsTrue, IsFalse, nat_lt}
 use Rattle.std.specs.Option.{option_and_then, option_map_or}
 use Rattle.running_calls.specs.bank_Given.{Given, sizes, NeverFalls}
 use Rattle.running_calls.specs.bank_the_Operation.{Operation}
@@ -34,6 +34,7 @@ use Rattle.script.specs.flat_history_the_Request.{Request}
 use Rattle.script.specs.flat_history_Plain.{entries_of}
 use Rattle.running_calls.specs.array_kept_Adopting.{opener}
 use Rattle.script.specs.flat_history_Flat.{rest_of_call, is_same_call, number_after, length_of}
+use Rattle.script.specs.Script.{is_of_worker}
 use Rattle.script.specs.declared.lines.Line.{Line}
 use Rattle.script.specs.declared.lines.Numbered.{Numbered}
 use Rattle.script.specs.declared.reply.Lane.{Lane}
@@ -46,10 +47,10 @@ use Rattle.run_laws.specs.Blocks.{caller_of, IsCallersReply}
 use Rattle.run_laws.specs.Histories.{History, entry_at}
 use Rattle.run_laws.specs.Examining.{IsExaminedBy, IsUnexamined}
 use Rattle.run_laws.specs.Making.{Setting, held_at, history_world, IsUncreated, IsUnassembled, IsStoredNew, IsStoredAs, BeginsShown}
-use Rattle.run_laws.specs.Replies.{Course, spec_of, FitsLine, IsMadeBy, IsFoundBy, IsRefusedOutside, with_script, gone_on, course_behind, entries_to, course_after, course_of, leaves_more, leaves_more_at, IsReplyAt, IsWaitedAt, IsRepliedAt, IsAnsweredInside, IsAnswer, most_turns, IsWorkedAt, IsWorked, IsRepliedBeside, IsAnswerBeside, IsAnswerIn, mark_reached, mark_shown, IsEnd, IsReplyTo, AreReplies}
+use Rattle.run_laws.specs.Replies.{Course, spec_of, FitsLine, IsMadeBy, IsFoundBy, IsRefusedOutside, with_script, gone_on, longer_of, course_behind, entries_to, course_after, course_of, leaves_more, leaves_more_at, IsReplyAt, IsWaitedAt, IsRepliedAt, AreCallsTold, IsAnsweredInside, IsAnswer, most_turns, IsWorkedAt, IsWorked, IsRepliedBeside, IsAnswerBeside, IsAnswerIn, mark_reached, mark_shown, IsEnd, IsReplyTo, AreReplies}
 use Rattle.running_calls.specs.running_replies_Replies.{RunningFits, MayTellBy}
 use Rattle.running_calls.specs.Turning.{may_be_active, may_be_ahead, IsTellable}
-use Rattle.run_laws.specs.States.{IsGrown, AreGrown, IsNamed, IsWaitingAt, IsCutShort, IsBeside}
+use Rattle.run_laws.specs.States.{IsGrown, AreGrown, IsNamed, IsWaitingAt, IsCutShort, IsBeside, IsStanding, HasWorkedOn, IsAmidBlock, IsPastMemory}
 use Rattle.run_laws.proofs.Causes.{faulted-wider, given-wider, create-later, assemble-later}
 use Rattle.run_laws.proofs.Worlds.{list-same, sound-later, new-later, stored-later}
 
@@ -188,6 +189,18 @@ tellable_longer entries more place was = by_entry (slice_get entries place) refl
         subst (λ (o : Option Entry). MatchOption o ⊥ (λ x. MayTellBy (IsTrue (may_be_active (take place (entries ++ more)))) (IsTrue (may_be_ahead (take place (entries ++ more)))) x.event)) (sym (get_append entries more place e is))
         (subst (λ (l : List Entry). MayTellBy (IsTrue (may_be_active l)) (IsTrue (may_be_ahead l)) e.event) (sym (take-append-le place entries more (omega (arith, within)))) told)
 
+-- nor has anybody else called before it
+calls_longer : (beginning : List Entry → List Entry) (calls : Lane → ℕ) (entries more : List Entry) (place : ℕ) → AreCallsTold calls (beginning (take (place + 1) entries)) (slice_get entries place)
+    → AreCallsTold calls (beginning (take (place + 1) (entries ++ more))) (slice_get (entries ++ more) place)
+calls_longer beginning calls entries more place was = by_entry (slice_get entries place) refl was
+  where
+    by_entry : (o : Option Entry) → slice_get entries place ≡ o → AreCallsTold calls (beginning (take (place + 1) entries)) o → AreCallsTold calls (beginning (take (place + 1) (entries ++ more))) (slice_get (entries ++ more) place)
+    by_entry None is told = absurd told
+    by_entry (Some e) is told =
+        let within = slice_get_within entries place e is in
+        subst (λ (o : Option Entry). AreCallsTold calls (beginning (take (place + 1) (entries ++ more))) o) (sym (get_append entries more place e is))
+        (subst (λ (l : List Entry). AreCallsTold calls (beginning l) (Some e)) (sym (take-append-le (place + 1) entries more (omega (arith, within)))) told)
+
 inside_stays : (olds news : List History) (course : Course) (epoch place : ℕ) (line : Line) → AreGrown olds news → IsAnsweredInside olds course epoch place line → IsAnsweredInside news course epoch place line
 inside_stays olds news course epoch place line grown was =
     let now = history_stays olds news grown epoch was.history was.there in
@@ -198,6 +211,8 @@ inside_stays olds news course epoch place line grown was =
       there = now.1;
       replied = subst (λ (l : List Entry). IsRepliedAt course.size l place (course.calls InScript) line) (sym now.2.grown) (replied_longer course.size place (course.calls InScript) line was.history.entries now.2.more now.2.later was.replied);
       tellable = subst (λ (l : List Entry). IsTellable l place) (sym now.2.grown) (tellable_longer was.history.entries now.2.more place was.tellable);
+      calls = subst (λ (l : List Entry). AreCallsTold course.calls (take (place + 1) l) (slice_get l place)) (sym now.2.grown)
+          (calls_longer (λ l. l) course.calls was.history.entries now.2.more place was.calls);
     }
 
 -- ---- a line of a block
@@ -269,6 +284,8 @@ beside_stays olds news course lane line (Inside epoch at) grown was =
       there = now.1;
       replied = subst (λ (l : List Entry). IsRepliedBeside lane course.size l at (course.calls lane) line) (sym now.2.grown)
           (beside_longer lane course.size at (course.calls lane) line was.history.entries now.2.more now.2.later was.replied);
+      calls = λ last. subst (λ (l : List Entry). AreCallsTold course.calls (longer_of course.block (take (at + 1) l)) (slice_get l at)) (sym now.2.grown)
+          (calls_longer (longer_of course.block) course.calls was.history.entries now.2.more at (was.calls last));
     }
 beside_stays olds news course lane line (IsOutside Created) grown was = absurd was
 beside_stays olds news course lane line (IsOutside (Assembled epoch status)) grown was = absurd was
@@ -598,6 +615,55 @@ course_stays olds news course lane line (IsOutside Created) grown named = refl
 course_stays olds news course lane line (IsOutside (Assembled epoch status)) grown named = refl
 course_stays olds news course lane line (IsOutside (Examined slot found)) grown named = refl
 course_stays olds news course lane line (IsOutside (Refused refusal)) grown named = refl
+
+-- amid a block too
+worked_on_stays : (olds news : List History) (told course : Course) → AreGrown olds news → HasWorkedOn olds told course → HasWorkedOn news told course
+worked_on_stays olds news told course grown was =
+    let now = history_stays olds news grown was.epoch was.history was.there in
+    let entry = worked_there told.size was.place was.history.entries was.earlier (told.calls InWorker) was.worked in
+    let named : IsNamed olds (Inside was.epoch was.place) =
+    subst (λ (o : Option Entry). IsSome o) (sym (ap (λ (o : Option History). option_and_then (λ h. slice_get h.entries was.place) o) was.there ∙ entry.1)) refl in
+    record {
+      running = was.running;
+      epoch = was.epoch;
+      latest = was.latest;
+      history = now.0;
+      there = now.1;
+      earlier = was.earlier;
+      place = was.place;
+      worked = subst (λ (l : List Entry). IsWorkedAt told.size l was.earlier was.place (told.calls InWorker)) (sym now.2.grown)
+          (worked_longer told.size was.place was.history.entries now.2.more now.2.later was.earlier (told.calls InWorker) was.worked);
+      stands = subst (λ (c : Course). IsStanding c course) (sym (course_stays olds news told InWorker Wait (Inside was.epoch was.place) grown named)) was.stands;
+    }
+
+-- what is said of one line more of a block, by whether it is the worker's
+abbrev pub IsAmidLine : List History → Course → Numbered → List Numbered → Course → Bool → Type 0
+IsAmidLine histories told line lines course worker = MatchBool worker
+    (IsStanding told course ⊎ HasWorkedOn histories told course)
+    (((course.calls line.lane ≡ told.calls line.lane) × IsAmidBlock histories told lines course)
+    ⊎ ((what : Answered) × IsAnswerBeside histories told line.lane line.line what × IsAmidBlock histories (course_after histories told line.lane line.line what) lines course))
+
+pub amid_stays : (olds news : List History) → AreGrown olds news → (lines : List Numbered) (told course : Course) → IsAmidBlock olds told lines course → IsAmidBlock news told lines course
+amid_stays olds news grown [] told course was = was
+amid_stays olds news grown (line ∷ lines) told course was = by (is_of_worker line.lane) was (λ c rest. amid_stays olds news grown lines c course rest)
+  where
+    by : (b : Bool) → IsAmidLine olds told line lines course b → ((c : Course) → IsAmidBlock olds c lines course → IsAmidBlock news c lines course) → IsAmidLine news told line lines course b
+    by true (inl is) later = inl is
+    by true (inr is) later = inr (worked_on_stays olds news told course grown is)
+    by false (inl (none, rest)) later = inl (none, later told rest)
+    by false (inr (what, answer, rest)) later = inr (
+      what,
+      beside_stays olds news told line.lane line.line what grown answer,
+      subst (λ (c : Course). IsAmidBlock news c lines course) (sym (course_stays olds news told line.lane line.line what grown (beside_named olds told line.lane line.line what answer)))
+          (later (course_after olds told line.lane line.line what) rest),
+    )
+
+pub past_memory_stays : (olds news : List History) → AreGrown olds news → IsPastMemory olds → IsPastMemory news
+past_memory_stays olds news grown (epoch, history, there, long) =
+    let now = history_stays olds news grown epoch history there in
+    let more = ap (λ (l : List Entry). length l) now.2.grown in
+    let sum = length-append history.entries now.2.more in
+    (epoch, now.0, now.1, omega (arith, long, more, sum))
 
 pub courses_stay : (setting : Setting) (olds news : List History) (course : Course) (lines : List Numbered) (replies : List LineReply) → AreGrown olds news → AreReplies setting olds course lines replies
     → course_of news course lines replies ≡ course_of olds course lines replies

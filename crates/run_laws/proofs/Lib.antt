@@ -1,6 +1,7 @@
 pub mod AskLaws
 pub mod Causes
 pub mod Growth
+pub mod LaneCalls
 pub mod Losses
 pub mod Plain
 pub mod PlainReplies
@@ -17,6 +18,7 @@ pub use Rattle.running_calls.proofs.history_laws_OneShapeGrowing
 pub use Rattle.running_calls.proofs.Entered as running_calls_Entered
 pub use Rattle.running_calls.proofs.history_laws_ReshapedLaws
 pub use Rattle.running_calls.proofs.kept_history_Turned
+pub use Rattle.running_calls.proofs.kept_history_Growing
 pub use Rattle.running_calls.proofs.call_entries_CallLaws
 pub use Rattle.running_calls.proofs.md_base_SectorLaws
 pub use Rattle.running_calls.proofs.md_base_Tabulated

@@ -1,29 +1,35 @@
 -- What the records of a run rule out.
-use Rattle.std.proofs.Common.{◌≡◌, ◌≢◌, inl, inr, ℕ, ◌+◌, ◌<◌, ◌≤◌, ◌==◌, not, Bool, true, false, is_some, get_or, Option, Some, None, List, [], ◌∷◌, refl, sym, ◌∙◌, ap, subst, arith}
+use Rattle.std.proofs.Common.{◌≡◌, ◌≢◌, inl, inr, ℕ, ◌+◌, ◌<◌, ◌≤◌, ◌==◌, not, Bool, true, false, is_some, get_or, Option, Some, None, List, [], ◌∷◌, length, drop, refl, sym, ◌∙◌, ap, subst, arith}
 use Rattle.std.proofs.lemmas.Bool.{cases_lt}
 use Rattle.std.proofs.lemmas.Bool.Decides.{nat_tests}
 use Rattle.std.proofs.lemmas.List.{get_or_past}
 use Rattle.std.specs.Prelude.{◌^◌, ◌-◌, if◌then◌else◌, pos, ◌-ℤ◌, unwrap_or, MatchBool, MatchOption, IfSome}
-use Rattle.std.specs.List.{list_any}
+use Rattle.std.specs.List.{list_any, All}
+use Rattle.std.proofs.Math.Seq.{drop-append_seam}
+use Rattle.std.proofs.lemmas.List.Elements.{All-weaker}
 use Rattle.running_calls.specs.md_base_Search.{tabulate}
 use Rattle.running_calls.specs.md_base_the_BusyKind_TheVariants.{Reshape}
 use Rattle.running_calls.specs.md_base_the_Refusal.{Refusal}
 use Rattle.running_calls.specs.md_base_the_Refusal_TheVariants.{Busy, SlotFault}
 use Rattle.script.specs.md_base_the_Shape.{Shape}
 use Rattle.script.specs.md_base_the_Role.{Role}
-use Rattle.script.specs.md_base_the_Role_TheVariants.{Whole, Missing}
+use Rattle.script.specs.md_base_the_Role_TheVariants.{Whole, Recovering, Missing}
 use Rattle.running_calls.specs.md_base_the_Phase.{Phase}
 use Rattle.running_calls.specs.md_base_the_Wish.{Wish}
 use Rattle.running_calls.proofs.md_base_Tabulated.{length-tabulate, get_or-tabulate}
-use Rattle.running_calls.specs.bank_Given.{Given}
+use Rattle.running_calls.specs.bank_Given.{Given, IsFaulted}
 use Rattle.script.specs.grow_plan_Plans.{phases, phases_steps, last_shape}
 use Rattle.script.proofs.grow_plan_Sound.{phases_lead}
 use Rattle.script.specs.sb1_the_Sb.{Sb}
 use Rattle.running_calls.specs.superblocks_the_Members.{Members}
-use Rattle.running_calls.specs.superblocks_Reading.{is_reshaping, is_backup, count_of, shape_of, target_of, final_shape, role_count, role_state, holder}
+use Rattle.running_calls.specs.superblocks_Reading.{is_reshaping, is_backup, count_of, shape_of, target_of, final_shape, role_count, role_state, holder, is_whole}
 use Rattle.running_calls.specs.superblocks_Reads.{SaysSame, has_spare}
-use Rattle.running_calls.specs.row_io_Rows.{reading_of}
-use Rattle.script.specs.flat_history_the_Event_TheVariants.{Visible, Planned, Refused}
+use Rattle.running_calls.specs.row_io_Rows.{reading_of, is_missing}
+use Rattle.script.specs.flat_history_the_Entry.{Entry}
+use Rattle.script.specs.flat_history_the_Event.{Event}
+use Rattle.script.specs.flat_history_the_Event_TheVariants.{Lost, Failed, Visible, Planned, Refused}
+use Rattle.script.specs.flat_history_the_LostCause_TheVariants.{Fault as ByFault}
+use Rattle.script.specs.flat_history_Transfers.{last_end_from}
 use Rattle.running_calls.specs.views_Placed.{is_vacant}
 use Rattle.running_calls.specs.views_Status.{left_of}
 use Rattle.running_calls.proofs.views_Still.{count-still}
@@ -32,7 +38,10 @@ use Rattle.running_calls.specs.grow_asked_Left.{phases_of}
 use Rattle.running_calls.proofs.grow_asked_FirstLaws.{judged}
 use Rattle.running_calls.specs.Going.{is_added, MayBeNewSpare}
 use Rattle.running_calls.specs.growing_Planned.{asked_in}
-use Rattle.running_calls.specs.array_kept_Calls.{IsTaken}
+use Rattle.running_calls.specs.array_kept_Calls.{IsTaken, IsLossBy, WasSpare, AreLossesOf}
+use Rattle.running_calls.specs.views_Rebuilding.{Held}
+use Rattle.running_calls.specs.growing_Stored.{AreStoredAt}
+use Rattle.running_calls.proofs.running_Ended.{degraded-missing}
 use Rattle.running_calls.specs.running_Calls.{running_left}
 use Rattle.running_calls.specs.running_words_Calls.{IsStatusFor}
 use Rattle.running_calls.specs.running_words_Still.{IsStillStatus}
@@ -42,7 +51,7 @@ use Rattle.script.specs.declared.lines.CreateLine.{CreateLine}
 use Rattle.script.specs.declared.lines.Line.TheVariants.{Fail, Add, ArraySize, Grow, Detail, Mdstat}
 use Rattle.run_laws.specs.Caused.{Record}
 use Rattle.run_laws.specs.Records.{AreAllAnswered, IsNewRecord, IsLeftByBlock}
-use Rattle.run_laws.specs.Ruled.{NewRolesFail, UnusedSlotsAreFree, PlansAreStepped, PlansArrive, BlocksLeadOn, ToldStepsAreLeft, SparesStay, FreeSlotsStay, IsStatusStored, StatusesAreStored}
+use Rattle.run_laws.specs.Ruled.{NewRolesFail, UnusedSlotsAreFree, PlansAreStepped, PlansArrive, BlocksLeadOn, ToldStepsAreLeft, SparesStay, FreeSlotsStay, IsStatusStored, StatusesAreStored, RecordsAreStored, GoneRolesEndSteps, HealthyRolesStay}
 
 -- ---- an array that was just made
 
@@ -245,3 +254,39 @@ shown-stored world mark array status stored = by (is_reshaping newest) refl
       clean = shown.clean ∙ ap (λ (n : ℕ). n == 2 ^ 64 - 1) stored.array.resync_offset;
       position = λ moving. absurd (let clash : true ≡ false = sym moving ∙ sym stored.array.reshaping ∙ active in cc);
     }
+
+-- ---- roles that aren't gone
+
+held-whole : (state : Role) → not (is_whole state) ≡ false → (slot : ℕ) × (holder state ≡ Some slot)
+held-whole (Whole slot) e = (slot, refl)
+held-whole (Recovering slot) e = absurd (cc)
+held-whole Missing e = absurd (cc)
+
+pub records-stored : RecordsAreStored
+records-stored world array role stored relied lt kept = by (is_missing (reading_of array.parts.members) role) refl
+  where
+    by : (b : Bool) → is_missing (reading_of array.parts.members) role ≡ b → AreStoredAt world (last_end_from world.first array.parts.entries) array.parts.members
+    by true missing = absurd (let clash : true ≡ false = sym (stored.gone relied role lt missing) ∙ kept in cc)
+    by false here = let held = held-whole (role_state (reading_of array.parts.members) role) here in stored.stored relied role held.0 (inl held.1)
+
+pub gone-ends : GoneRolesEndSteps
+gone-ends world array done left role stored relied told = let missing = degraded-missing array role told.1 in stored.gone relied role missing.0 missing.1
+
+-- ---- roles whose slots haven't failed
+
+module _ (before now : ℕ → ℕ) (old new : Record) (role slot : ℕ) (held : Held old.parts.members role slot) (sound : IsFaulted slot before now → ⊥) where
+  same-slot : (a b : ℕ) → Held old.parts.members role a → Held old.parts.members role b → a ≡ b
+  same-slot a b one two = let both : ◌≡◌ {A = Option ℕ} (Some a) (Some b) = sym one ∙ two in cc
+
+  stays : AreLossesOf old.parts.members before now old.parts.entries new.parts.entries → All (λ e. e.event ≢ Lost role ByFault) (drop (length old.parts.entries) new.parts.entries)
+  stays was =
+      subst (λ (l : List Entry). All (λ e. e.event ≢ Lost role ByFault) l) (sym (ap (drop (length old.parts.entries)) was.grown ∙ drop-append_seam old.parts.entries was.more))
+      (All-weaker (λ e. IsLossBy (Held old.parts.members) (WasSpare old.parts.members) before now e.event) (λ e. e.event ≢ Lost role ByFault)
+      (λ e loss told. of (subst (λ (event : Event). IsLossBy (Held old.parts.members) (WasSpare old.parts.members) before now event) told loss)) was.more was.failed)
+    where
+      of : IsLossBy (Held old.parts.members) (WasSpare old.parts.members) before now (Lost role ByFault) → ⊥
+      of (had, here, failed) = sound (subst (λ (s : ℕ). IsFaulted s before now) (same-slot had slot here held) failed)
+
+pub healthy-stay : HealthyRolesStay
+healthy-stay before now old new asked (Failed failed) role slot left held sound = stays before now old new role slot held sound left.0.losses
+healthy-stay before now old new asked event role slot left held sound = stays before now old new role slot held sound left.0.losses

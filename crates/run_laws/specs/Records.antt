@@ -24,8 +24,8 @@ use Rattle.running_calls.specs.views_Placed.{AreStillHeld, is_vacant}
 use Rattle.running_calls.specs.grow_asked_Left.{phases_of}
 use Rattle.running_calls.specs.Going.{AreHeldSince, AreLossesSince, GoesItsWay}
 use Rattle.running_calls.specs.Turning.{IsTurningTold}
-use Rattle.running_calls.specs.array_kept_Calls.{IsRefusedFor, AreSparesFewer}
-use Rattle.running_calls.specs.running_Calls.{running_left, IsReadLacked, IsWriteLackedIn, IsShownAs}
+use Rattle.running_calls.specs.array_kept_Calls.{IsRefusedFor, AreSparesFewer, AreLossesOf}
+use Rattle.running_calls.specs.running_Calls.{running_left, IsReadLacked, IsWriteLackedIn, IsShownAs, IsReplyNow}
 use Rattle.running_calls.specs.running_replies_Going.{is_begin, AreHeldBehind, IsSameEpoch}
 use Rattle.running_calls.specs.running_steps_Steps.{IsStepCount, KeepsItsWay}
 use Rattle.running_calls.specs.running_words_Adding.{AreSparesBut}
@@ -63,19 +63,21 @@ pub record IsWorkKept (old new : Record) : Type 0 where
   pub rebuilt : new.parts.work.rebuilt ≡ old.parts.work.rebuilt
   pub ahead : phases_of new.ahead ≡ phases_of old.ahead
 
--- A call of an array was done, or refused: its shape, its work and its limit are kept, and roles and spares are only lost.
-pub record IsOnlyLess (old new : Record) : Type 0 where
+-- A call of an array was done, or refused: its shape, its work and its limit are kept, and roles and spares are only lost. By the counts of its slots' faults before and now a role is told lost only where the slot that held it
+-- as the call began has failed, or by command, and a spare only where it was one and has failed.
+pub record IsOnlyLess (before now : ℕ → ℕ) (old new : Record) : Type 0 where
   pub shape : IsShapeKept old.parts.members new.parts.members
   pub work : IsWorkKept old new
   pub limit : new.limit ≡ old.limit
   pub held : AreStillHeld old.parts.members new.parts.members
   pub spares : AreSparesFewer old.parts.members new.parts.members
+  pub losses : AreLossesOf old.parts.members before now old.parts.entries new.parts.entries
 
 -- the same, and a role is lost only by a slot that has failed between these counts
 abbrev pub IsLessByFaults : (ℕ → ℕ) → (ℕ → ℕ) → Record → Record → Type 0
-IsLessByFaults before now old new = IsOnlyLess old new × HaveRolesFailed old.parts.members new.parts.members before now
+IsLessByFaults before now old new = IsOnlyLess before now old new × HaveRolesFailed old.parts.members new.parts.members before now
 
--- it was asked to add a slot, which alone may be a spare more
+-- it was asked to add a slot, which alone may be a spare more; what is told lost has failed as the call began, too
 pub record IsWithSpare (before now : ℕ → ℕ) (slot : ℕ) (old new : Record) : Type 0 where
   pub shape : IsShapeKept old.parts.members new.parts.members
   pub work : IsWorkKept old new
@@ -83,6 +85,7 @@ pub record IsWithSpare (before now : ℕ → ℕ) (slot : ℕ) (old new : Record
   pub held : AreStillHeld old.parts.members new.parts.members
   pub failed : HaveRolesFailed old.parts.members new.parts.members before now
   pub spares : AreSparesBut slot old.parts.members new.parts.members
+  pub losses : AreLossesOf old.parts.members before now old.parts.entries new.parts.entries
 
 -- A call that ends at `to` was refused: for an end that can't be seen, or else for what speaks against it by the members that it leaves. Or it was done, and nothing spoke against it before.
 abbrev pub IsDoneOrRefused : ℕ → ℕ → (Members → Refusal → Type 0) → Record → Record → Event → Type 0
@@ -106,13 +109,14 @@ IsLeftTold array = IfSome (told_left array.parts.entries) (λ n. n ≡ running_l
 -- ---- what steps leave
 
 -- A request for steps was answered by the last of these entries: as many were left as they say, and are now. Each role is on a slot that held it, or that was a spare or may be one since; the list has the length that the
--- entries tell; a reshape is active only if one was or is told to have begun, and phases are ahead only if some were; and where no step is left, there is neither. The array goes where it went; and by the counts of its slots'
--- faults before and now, as long as nothing turns, a role is lost without a reshape only by a slot that has failed.
+-- entries tell; a reshape is active only if one was or is told to have begun, and phases are ahead only if some were; and where no step is left, there is neither. What refused a step speaks against it by the record that is
+-- left. The array goes where it went; and by the counts of its slots' faults before and now, as long as nothing turns, a role is lost, or told lost, only where the slot that held it has failed.
 pub record AreStepsAnswered (before now : ℕ → ℕ) (old new : Record) : Type 0 where
   pub inner : List Entry
   pub reply : Entry
   pub is : new.parts.entries ≡ old.parts.entries ++ (inner ++ reply ∷ [])
   pub counted : IsStepCount old.parts.entries new.parts.entries (running_left old) (running_left new) reply.event
+  pub told : IsReplyNow new reply.event
   pub held : AreHeldBehind old.parts.members new.parts.members (inner ++ reply ∷ [])
   pub sized : list_length new.parts.members.newest ≡ length_of (list_length old.parts.members.newest) (inner ++ reply ∷ [])
   pub active : is_reshaping old.parts.members.newest ≡ false → list_any (λ e. is_begin e.event) (inner ++ reply ∷ []) ≡ false → is_reshaping new.parts.members.newest ≡ false
@@ -134,8 +138,8 @@ IsLeftBy before now old new (Read at count) event = IsLessByFaults before now ol
 IsLeftBy before now old new (Write at count seed) event = IsLessByFaults before now old new × IsDoneOrRefused (visible_in old) (at + count) (IsWriteLackedIn old at count) old new event
 IsLeftBy before now old new Flush event = IsLessByFaults before now old new × IsDoneOrRefused (list_length old.parts.members.newest) 0 AreTooMany old new event
 IsLeftBy before now old new Stop event = IsLessByFaults before now old new × IsDoneOrRefused (list_length old.parts.members.newest) 0 AreTooMany old new event
-IsLeftBy before now old new (Fail role) (Failed failed) = IsOnlyLess old new × (is_vacant (reading_of new.parts.members) role ≡ true)
-IsLeftBy before now old new (Fail role) event = IsOnlyLess old new × (new.parts.members ≡ old.parts.members)
+IsLeftBy before now old new (Fail role) (Failed failed) = IsOnlyLess before now old new × (is_vacant (reading_of new.parts.members) role ≡ true)
+IsLeftBy before now old new (Fail role) event = IsOnlyLess before now old new × (new.parts.members ≡ old.parts.members)
 IsLeftBy before now old new (Add slot) (Added added) = IsWithSpare before now slot old new × (has_spare new.parts.members.spares slot ≡ true)
 IsLeftBy before now old new (Add slot) (Refused (SlotFault failed)) = IsWithSpare before now slot old new × (has_spare new.parts.members.spares slot ≡ false) × IsFaulted slot before now
 IsLeftBy before now old new (Add slot) (Refused refusal) = IsWithSpare before now slot old new × (new.parts.members ≡ old.parts.members)
@@ -210,9 +214,14 @@ IsRecordMade backup Mdstat array = ⊥
 IsRecordMade backup (Examine slot) array = ⊥
 IsRecordMade backup (Assemble asked) array = ⊥
 
+-- it is the record of the array that this history is of
+abbrev pub IsOfHistory : History → Record → Type 0
+IsOfHistory history array = (array.parts.uuid ≡ history.uuid) × (array.parts.given ≡ history.given) × (array.parts.first ≡ history.first)
+
 -- An array that was found with this status: it is what the status tells, and no phase is ahead. Its entries begin this history.
 pub record IsRecordFound (backup : Option ℕ) (history : History) (status : Status) (array : Record) : Type 0 where
   pub backup_is : array.parts.backup ≡ backup
+  pub of : IsOfHistory history array
   pub more : List Entry
   pub begins : history.entries ≡ array.parts.entries ++ more
   pub shown : IsShownAs array status
@@ -220,10 +229,11 @@ pub record IsRecordFound (backup : Option ℕ) (history : History) (status : Sta
 
 -- ---- from line to line
 
--- The record behind an entry that answers a line, the last of these: none where it ends the array; or else that of the same backup, with this history and the steps that it tells, as the line leaves it.
+-- The record behind an entry that answers a line, the last of these: none where it ends the array, by which a role is told lost only where the slot that held it has failed; or else that of the same backup, with this history
+-- and the steps that it tells, as the line leaves it.
 abbrev pub IsNextRecord : Setting → Line → List Entry → Event → Record → Option Record → Type 0
 IsNextRecord setting line entries event old new =
-    MatchOption new (IsTrue (is_end event)) (λ next. (next.parts.backup ≡ setting.backup) × (next.parts.entries ≡ entries) × IsLeftTold next × IsLeftBy setting.before setting.now old next line event)
+    MatchOption new (IsTrue (is_end event) × AreLossesOf old.parts.members setting.before setting.now old.parts.entries entries) (λ next. (next.parts.backup ≡ setting.backup) × (next.parts.entries ≡ entries) × IsLeftTold next × IsLeftBy setting.before setting.now old next line event)
 
 -- the record before it judges so
 abbrev pub IsRecordedBy : Setting → Line → List Entry → Option Entry → Record → Option Record → Type 0
@@ -231,7 +241,9 @@ IsRecordedBy setting line entries reply old new = MatchOption reply ⊥ (λ e. I
 
 -- The record of the array that runs before a line, if one does, and that behind it.
 abbrev pub IsRecorded : Setting → List History → Line → Answered → Option Record → Option Record → Type 0
-IsRecorded setting histories line (Inside epoch at) old new = MatchOption old ⊥ (λ array. IsRecordedBy setting line (entries_to histories epoch at) (entry_at histories epoch at) array new)
+IsRecorded setting histories line (Inside epoch at) old new =
+    MatchOption old ⊥ (λ array. IsRecordedBy setting line (entries_to histories epoch at) (entry_at histories epoch at) array new)
+    × IfSome new (λ next. MatchOption (slice_get histories epoch) ⊥ (λ history. IsOfHistory history next))
 IsRecorded setting histories line (IsOutside Created) old new = MatchOption new ⊥ (IsRecordMade setting.backup line)
 IsRecorded setting histories line (IsOutside (Assembled epoch status)) old new =
     MatchOption new ⊥ (λ array. MatchOption (slice_get histories epoch) ⊥ (λ history. IsRecordFound setting.backup history status array))

@@ -11,7 +11,7 @@ use Rattle.script.specs.flat_history_the_Entry.{Entry}
 use Rattle.script.specs.flat_history_the_Event.{Event}
 use Rattle.script.specs.flat_history_the_Event_TheVariants.{Stepped}
 use Rattle.script.specs.flat_history_the_Request_TheVariants.{Read as AsksRead, Write as AsksWrite, Flush as AsksFlush, Fail as AsksFail, Add as AsksAdd, Visible as AsksVisible, Grow as AsksGrow, Steps as AsksSteps}
-use Rattle.script.specs.flat_history_Flat.{rest_of_call, number_after, length_of}
+use Rattle.script.specs.flat_history_Flat.{rest_of_call, next_number, number_after, length_of}
 use Rattle.script.specs.flat_history_Fits.{FitsStop, FitsHalt}
 use Rattle.running_calls.specs.running_replies_Replies.{RunningFits}
 use Rattle.script.specs.flat_history_World.{opening_list}
@@ -168,7 +168,11 @@ abbrev pub IsRepliedAt : ℕ → List Entry → ℕ → ℕ → Line → Type 0
 IsRepliedAt size entries place number Wait = (earlier : List ℕ) × IsWaitedAt size entries earlier place number
 IsRepliedAt size entries place number line = IsReplyAt size entries place number line
 
--- The line is answered by an entry of the array that runs, in the script's next call, which tells nothing that only a reshape could, unless by the entries before it one may be active, or ahead.
+-- Behind an entry that answers a line each caller's next number, by these entries, is what the answers so far tell: nobody has called but for the lines.
+abbrev pub AreCallsTold : (Lane → ℕ) → List Entry → Option Entry → Type 0
+AreCallsTold calls entries reply = MatchOption reply ⊥ (λ e. (lane : Lane) → next_number (caller_of lane) entries ≡ calls_behind calls e lane)
+
+-- The line is answered by an entry of the array that runs, in the script's next call, which tells nothing that only a reshape could, unless by the entries before it one may be active, or ahead. No lane and no worker has called since the line before.
 pub record IsAnsweredInside (histories : List History) (course : Course) (epoch place : ℕ) (line : Line) : Type 0 where
   pub running : IsTrue course.running
   pub latest : epoch + 1 ≡ course.opened
@@ -176,6 +180,7 @@ pub record IsAnsweredInside (histories : List History) (course : Course) (epoch 
   pub there : slice_get histories epoch ≡ Some history
   pub replied : IsRepliedAt course.size history.entries place (course.calls InScript) line
   pub tellable : IsTellable history.entries place
+  pub calls : AreCallsTold course.calls (take (place + 1) history.entries) (slice_get history.entries place)
 
 -- The next history is that of an array that was made as the line asks: nothing spoke against it, it has the uuid, all slots are given,
 -- and it begins where the reply was made; there its list is zero, it is sound, its superblocks say what was asked for, and no slot
@@ -310,13 +315,15 @@ abbrev pub IsRepliedBeside : Lane → ℕ → List Entry → ℕ → ℕ → Lin
 IsRepliedBeside Worker size entries place number line = IsWorked size entries place number
 IsRepliedBeside lane size entries place number line = IsCallersReply size entries (caller_of lane) number place (request_of line)
 
--- A line of a block is answered by an entry of the array that runs, in its caller's next call, by the list as it was before the block and the entries since.
+-- A line of a block is answered by an entry of the array that runs, in its caller's next call, by the list as it was before the block and the entries since. Behind the worker's, the last that is shown of the block, and up to
+-- the latest of the block's replies, nobody has called but for its lines and the worker.
 pub record IsAnsweredBeside (histories : List History) (course : Course) (epoch place : ℕ) (lane : Lane) (line : Line) : Type 0 where
   pub running : IsTrue course.running
   pub latest : epoch + 1 ≡ course.opened
   pub history : History
   pub there : slice_get histories epoch ≡ Some history
   pub replied : IsRepliedBeside lane course.size history.entries place (course.calls lane) line
+  pub calls : lane ≡ Worker → AreCallsTold course.calls (longer_of course.block (take (place + 1) history.entries)) (slice_get history.entries place)
 
 -- or it is refused where no array runs
 abbrev pub IsAnswerBeside : List History → Course → Lane → Line → Answered → Type 0

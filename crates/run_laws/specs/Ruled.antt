@@ -1,27 +1,38 @@
 -- What the records of a run rule out.
-use Rattle.std.specs.Prelude.{◌≡◌, ◌≢◌, ℕ, ◌<◌, ◌≤◌, true, false, Option, Some, ⊤}
-use Rattle.std.specs.List.{list_any}
+use Rattle.std.specs.Prelude.{◌≡◌, ◌≢◌, ℕ, ◌+◌, ◌-◌, ◌<◌, ◌≤◌, true, false, List, length, take, drop, slice_get, Option, Some, ⊤}
+use Rattle.std.specs.List.{All, list_any}
 use Rattle.running_calls.specs.md_base_the_Refusal.{Refusal}
-use Rattle.running_calls.specs.md_base_the_Refusal_TheVariants.{SlotTaken, SlotFault}
+use Rattle.running_calls.specs.md_base_the_Refusal_TheVariants.{SlotTaken, SlotFault, Degraded}
 use Rattle.running_calls.specs.md_base_the_Status.{Status}
 use Rattle.running_calls.specs.md_base_the_Wish.{Wish}
-use Rattle.running_calls.specs.bank_Given.{Given}
+use Rattle.running_calls.specs.bank_Given.{Given, IsFaulted}
 use Rattle.script.specs.grow_plan_Plans.{target}
-use Rattle.running_calls.specs.superblocks_Reading.{Reading, is_clean, is_reshaping, shape_of, target_of}
+use Rattle.running_calls.specs.superblocks_Reading.{Reading, is_clean, is_reshaping, shape_of, target_of, role_count}
 use Rattle.running_calls.specs.superblocks_Reads.{has_spare}
 use Rattle.script.specs.flat_history_the_Event.{Event}
-use Rattle.script.specs.flat_history_the_Event_TheVariants.{Planned, Refused}
-use Rattle.script.specs.flat_history_Legal.{told_left}
+use Rattle.script.specs.flat_history_the_Event_TheVariants.{Lost, Planned, Stepped, Refused}
+use Rattle.script.specs.flat_history_the_LostCause_TheVariants.{Fault as ByFault}
+use Rattle.script.specs.flat_history_Legal.{told_left, IsLegal}
+use Rattle.script.specs.flat_history_Losses.{is_gone_after}
+use Rattle.script.specs.flat_history_Transfers.{last_end_from}
 use Rattle.script.specs.flat_history_Reshaped.{is_planned}
 use Rattle.script.specs.flat_history_World.{World, reading_at}
 use Rattle.running_calls.specs.Going.{is_added}
 use Rattle.running_calls.specs.array_kept_Calls.{IsTaken}
-use Rattle.running_calls.specs.running_Calls.{running_left, IsShownAs}
-use Rattle.running_calls.specs.growing_Stored.{AreStoredAt}
+use Rattle.running_calls.specs.history_calls_Reliable.{IsReliable}
+use Rattle.running_calls.specs.views_Rebuilding.{Held}
+use Rattle.running_calls.specs.running_Calls.{running_left, IsShownAs, IsReplyNow}
+use Rattle.running_calls.specs.growing_Stored.{AreStoredAt, IsStoredBy}
 use Rattle.running_calls.specs.running_words_Plans.{aim_of}
 use Rattle.script.specs.declared.lines.CreateLine.{CreateLine}
 use Rattle.script.specs.declared.lines.Line.{Line}
 use Rattle.script.specs.declared.lines.Line.TheVariants.{Fail, Add, ArraySize, Grow, Step, Wait, Detail, Mdstat}
+use Rattle.script.specs.declared.reply.Lane.{Lane}
+use Rattle.script.specs.declared.reply.Lane.TheVariants.{Script as InScript}
+use Rattle.run_laws.specs.declared.report.Answered.TheVariants.{Inside}
+use Rattle.run_laws.specs.Blocks.{caller_of, IsOfBlock}
+use Rattle.run_laws.specs.Histories.{History}
+use Rattle.run_laws.specs.Replies.{Course, course_after, IsAnsweredInside}
 use Rattle.run_laws.specs.Caused.{Record, IsJudgedBy}
 use Rattle.run_laws.specs.Records.{IsLeftTold, IsNewRecord, IsLeftBy, IsLeftByBlock}
 
@@ -86,3 +97,28 @@ pub record IsStatusStored (world : World) (mark : ℕ) (status : Status) : Type 
 -- So it is of the status of an array whose members are those that are stored.
 abbrev pub StatusesAreStored : Type 0
 StatusesAreStored = (world : World) (mark : ℕ) (array : Record) (status : Status) → AreStoredAt world mark array.parts.members → IsShownAs array status → IsStatusStored world mark status
+
+-- Where a history is legal, no lane and no worker has called between the replies to two lines of the script, one of which follows the other.
+abbrev pub LanesCallInBlocks : Type 0
+LanesCallInBlocks = (world : World) (histories : List History) (history : History) (course : Course) (epoch here there : ℕ) (line next : Line) → slice_get histories epoch ≡ Some history → IsLegal world history.entries
+    → IsAnsweredInside histories course epoch here line → IsAnsweredInside histories (course_after histories course InScript line (Inside epoch here)) epoch there next
+    → All (λ e. IsOfBlock e.caller → ⊥) (take (there - here) (drop (here + 1) history.entries))
+
+-- Up to the reply to a line of the script behind which no call of a lane, or of the worker, is told, none of the entries is its.
+abbrev pub UnaskedLanesAreSilent : Type 0
+UnaskedLanesAreSilent = (histories : List History) (history : History) (course : Course) (epoch place : ℕ) (line : Line) (lane : Lane) → slice_get histories epoch ≡ Some history → IsAnsweredInside histories course epoch place line
+    → lane ≢ InScript → course.calls lane ≡ 0 → All (λ e. e.caller ≢ caller_of lane) (take (place + 1) history.entries)
+
+-- Where by its history one role of an array isn't gone, the stored superblocks say what its record does.
+abbrev pub RecordsAreStored : Type 0
+RecordsAreStored = (world : World) (array : Record) (role : ℕ) → IsStoredBy world array → IsReliable world array.parts.entries → role < role_count array.parts.members.newest → is_gone_after world array.parts.entries role ≡ false
+    → AreStoredAt world (last_end_from world.first array.parts.entries) array.parts.members
+
+-- Steps end for a role that is missing only where by the history it is gone.
+abbrev pub GoneRolesEndSteps : Type 0
+GoneRolesEndSteps = (world : World) (array : Record) (done left role : ℕ) → IsStoredBy world array → IsReliable world array.parts.entries → IsReplyNow array (Stepped done left (Some (Degraded role))) → is_gone_after world array.parts.entries role ≡ true
+
+-- By a fail a role isn't told lost by a fault whose slot hasn't failed.
+abbrev pub HealthyRolesStay : Type 0
+HealthyRolesStay = (before now : ℕ → ℕ) (old new : Record) (asked : ℕ) (event : Event) (role slot : ℕ) → IsLeftBy before now old new (Fail asked) event → Held old.parts.members role slot → (IsFaulted slot before now → ⊥)
+    → All (λ e. e.event ≢ Lost role ByFault) (drop (length old.parts.entries) new.parts.entries)

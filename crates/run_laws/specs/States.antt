@@ -1,5 +1,5 @@
 -- The bank of a run with or without an array on it, and what a line does to it.
-use Rattle.std.specs.Prelude.{◌≡◌, ◌⊎◌, ℕ, ◌+◌, ◌<◌, ◌≤◌, ◌^◌, ◌++◌, Bool, true, List, [], ◌∷◌, length, take, slice_get, vec_capacity, Option, Some, None, MatchOption, Result, Ok, Err, IfSome, IsSome, IsTrue, ⊤}
+use Rattle.std.specs.Prelude.{◌≡◌, ◌⊎◌, ℕ, ◌+◌, ◌<◌, ◌≤◌, ◌^◌, ◌++◌, Bool, true, List, [], ◌∷◌, length, take, slice_get, vec_capacity, Option, Some, None, MatchOption, MatchBool, Result, Ok, Err, IfSome, IsSome, IsTrue, ⊤}
 use Rattle.std.specs.List.{All}
 use Rattle.running_calls.specs.md_base_the_NoMemory.{NoMemory}
 use Rattle.running_calls.specs.md_base_the_Refusal.{Refusal}
@@ -19,7 +19,9 @@ use Rattle.running_calls.specs.running_replies_Replies.{IsRefusalBy}
 use Rattle.script.specs.declared.lines.Line.{Line}
 use Rattle.script.specs.declared.lines.Line.TheVariants.{Step, Wait}
 use Rattle.script.specs.declared.lines.Numbered.{Numbered}
-use Rattle.script.specs.declared.reply.Lane.TheVariants.{Script as InScript}
+use Rattle.script.specs.declared.reply.Lane.TheVariants.{Script as InScript, Worker as InWorker}
+use Rattle.script.specs.declared.reply.Lane.{Lane}
+use Rattle.script.specs.Script.{is_of_worker}
 use Rattle.run_laws.specs.declared.report.Answered.{Answered}
 use Rattle.run_laws.specs.declared.report.Answered.TheVariants.{Inside, Outside}
 use Rattle.run_laws.specs.declared.states.State.{State}
@@ -29,7 +31,7 @@ use Rattle.run_laws.specs.Caused.{Record, record_of}
 use Rattle.run_laws.specs.Histories.{History, histories_of, entry_at, AreGoing, EndsOnce}
 use Rattle.run_laws.specs.Making.{Setting, history_world, MayHaveHeld, MissingAtFirst}
 use Rattle.run_laws.specs.Records.{IsRecorded, IsLeftBeside, IsRecordedIn}
-use Rattle.run_laws.specs.Replies.{Course, with_script, at_rest, gone_on, course_after, steps_at_once, leaves_more_at, IsReplyAt, IsAnswer, IsAnswerBeside}
+use Rattle.run_laws.specs.Replies.{Course, with_script, at_rest, gone_on, course_after, steps_at_once, leaves_more_at, IsReplyAt, IsAnswer, IsWorkedAt, IsAnswerBeside}
 use Rattle.running_calls.specs.Turning.{IsTurningTold}
 
 -- the history of an array that runs
@@ -274,6 +276,42 @@ abbrev pub EndsFrom : ℕ → List History → Answered → Type 0
 EndsFrom low histories (Inside epoch at) = MatchOption (entry_at histories epoch at) ⊥ (λ e. low ≤ e.end)
 EndsFrom low histories (Outside outside) = ⊤
 
+-- the run stands where it is told to: as many arrays were opened, the last one runs or doesn't, and each caller has the same next number
+pub record IsStanding (told course : Course) : Type 0 where
+  pub opened : course.opened ≡ told.opened
+  pub running : course.running ≡ told.running
+  pub calls : (lane : Lane) → course.calls lane ≡ told.calls lane
+
+-- The worker has made some calls, each a request for some steps, the last of which has its reply at this place, and the run stands behind them.
+pub record HasWorkedOn (histories : List History) (told course : Course) : Type 0 where
+  pub running : IsTrue told.running
+  pub epoch : ℕ
+  pub latest : epoch + 1 ≡ told.opened
+  pub history : History
+  pub there : slice_get histories epoch ≡ Some history
+  pub earlier : List ℕ
+  pub place : ℕ
+  pub worked : IsWorkedAt told.size history.entries earlier place (told.calls InWorker)
+  pub stands : IsStanding (course_after histories told InWorker Wait (Inside epoch place)) course
+
+-- Amid a block, of which these lines have no reply: the first of each lane's were answered too, each in its lane's next call, and some calls of the worker, and nobody else has called. The run stands behind them.
+abbrev pub IsAmidBlock : List History → Course → List Numbered → Course → Type 0
+IsAmidBlock histories told [] course = IsStanding told course
+IsAmidBlock histories told (line ∷ lines) course = MatchBool (is_of_worker line.lane)
+    (IsStanding told course ⊎ HasWorkedOn histories told course)
+    (((course.calls line.lane ≡ told.calls line.lane) × IsAmidBlock histories told lines course)
+    ⊎ ((what : Answered) × IsAnswerBeside histories told line.lane line.line what × IsAmidBlock histories (course_after histories told line.lane line.line what) lines course))
+
+-- no memory holds a history of so many entries
+abbrev pub IsPastMemory : List History → Type 0
+IsPastMemory histories = (epoch : ℕ) × (history : History) × (slice_get histories epoch ≡ Some history) × (2 ^ 61 < length history.entries)
+
+-- so it is behind the answers to the first lines of the block
+abbrev pub IsAmidBehind : List History → Course → List Numbered → List Answered → Course → Type 0
+IsAmidBehind histories told lines [] course = IsAmidBlock histories told lines course
+IsAmidBehind histories told [] (what ∷ whats) course = ⊥
+IsAmidBehind histories told (line ∷ lines) (what ∷ whats) course = IsAmidBehind histories (course_after histories told line.lane line.line what) lines whats course
+
 -- The lines of a block were answered, or the first of them, up to one for which memory was short. Behind all of them the run stands where the answers tell, and the last record is that of the array that runs now.
 pub record IsBlockAnswered {B : Type 0} (setting : Setting) (old new : State B) (lines : List Numbered) (whats : List Answered) : Type 0 where
   pub turn : IsBlockTurn setting old new
@@ -281,6 +319,7 @@ pub record IsBlockAnswered {B : Type 0} (setting : Setting) (old new : State B) 
   pub answers : AreAnswersBeside (histories_in new) (course_in old) lines whats
   pub ends : setting.tells → All (EndsFrom setting.began (histories_in new)) whats
   pub course : length whats ≡ length lines → course_in new ≡ course_beside (histories_in new) (course_in old) lines whats
+  pub amid : IsAmidBehind (histories_in new) (course_in old) lines whats (course_in new) ⊎ IsPastMemory (histories_in new)
   pub last : Option Record
   pub recorded : AreRecordedBeside setting (histories_in new) (course_in old) (record_in old) lines whats last
   pub recorded_now : length whats ≡ length lines → last ≡ record_in new

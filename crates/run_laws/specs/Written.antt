@@ -1,5 +1,5 @@
 -- Where the writes of a run stand on its tape.
-use Rattle.std.specs.Prelude.{◌≡◌, ◌⊎◌, ℕ, ◌<◌, ◌≤◌, List, [], ◌∷◌, slice_get, Option, Some, None, Result, Ok, Err, ⊤}
+use Rattle.std.specs.Prelude.{◌≡◌, ◌⊎◌, ℕ, ◌<◌, ◌≤◌, Bool, false, List, [], ◌∷◌, slice_get, Option, Some, None, Result, Ok, Err, ⊤}
 use Rattle.running_calls.specs.md_base_Sectors.{Sector}
 use Rattle.running_calls.specs.md_base_the_NoMemory.{NoMemory}
 use Rattle.running_calls.specs.md_base_the_Refusal_TheVariants.{SlotFault}
@@ -26,15 +26,15 @@ abbrev pub IsInEpoch : List History → ℕ → Type 0
 IsInEpoch [] mark = ⊥
 IsInEpoch (history ∷ histories) mark = IsWithin history mark ⊎ IsInEpoch histories mark
 
--- a create line may write in the slots that its array is to have, unless it is refused for what it asks
-abbrev pub MayWrite : Given → Option ℕ → Line → ℕ → Type 0
-MayWrite given backup (Create line) slot = (create_refusal given backup (spec_of line) ≡ None) × (slot < line.shape.disks)
-MayWrite given backup line slot = ⊥
+-- where no array runs, a create line may write in the slots that its array is to have, unless it is refused for what it asks
+abbrev pub MayWrite : Given → Option ℕ → Bool → Line → ℕ → Type 0
+MayWrite given backup false (Create line) slot = (create_refusal given backup (spec_of line) ≡ None) × (slot < line.shape.disks)
+MayWrite given backup running line slot = ⊥
 
 -- and only one that made its array, or met a slot that failed, has
 abbrev pub HasWritten : Given → Option ℕ → Line → Answered → ℕ → Type 0
-HasWritten given backup line (IsOutside Created) slot = MayWrite given backup line slot
-HasWritten given backup line (IsOutside (Refused (SlotFault failed))) slot = MayWrite given backup line slot
+HasWritten given backup line (IsOutside Created) slot = MayWrite given backup false line slot
+HasWritten given backup line (IsOutside (Refused (SlotFault failed))) slot = MayWrite given backup false line slot
 HasWritten given backup line what slot = ⊥
 
 -- each history begins at this mark or later, and ends where it began or later
@@ -50,7 +50,7 @@ pub record IsWritten (setting : Setting) (olds news : List History) (May : ℕ �
   pub kept : (mark : ℕ) → IsInEpoch olds mark → IsInEpoch news mark
   pub placed : (mark slot at : ℕ) (body : Sector) → setting.began ≤ mark → slice_get setting.tape mark ≡ Some (Write slot at body) → IsInEpoch news mark ⊎ May slot
 
--- by the answer to a line, or where memory was short for one
-abbrev pub IsWrittenBy : Setting → List History → List History → Line → Result Answered NoMemory → Type 0
-IsWrittenBy setting olds news line (Ok what) = IsWritten setting olds news (HasWritten setting.given setting.backup line what)
-IsWrittenBy setting olds news line (Err fault) = IsWritten setting olds news (MayWrite setting.given setting.backup line)
+-- by the answer to a line, or where memory was short for one, by whether an array ran
+abbrev pub IsWrittenBy : Setting → Bool → List History → List History → Line → Result Answered NoMemory → Type 0
+IsWrittenBy setting running olds news line (Ok what) = IsWritten setting olds news (HasWritten setting.given setting.backup line what)
+IsWrittenBy setting running olds news line (Err fault) = IsWritten setting olds news (MayWrite setting.given setting.backup running line)

@@ -1,7 +1,7 @@
 //! The laws of replies.
 
 ghost use Rattle.run_laws.specs.Plain.{PlainRepliesFit, RestTellsPlainly, PlainListsStay};
-ghost use Rattle.run_laws.specs.Ruled.{NewRolesFail, UnusedSlotsAreFree, PlansAreStepped, PlansArrive, BlocksLeadOn, ToldStepsAreLeft, SparesStay, FreeSlotsStay, StatusesAreStored};
+ghost use Rattle.run_laws.specs.Ruled.{NewRolesFail, UnusedSlotsAreFree, PlansAreStepped, PlansArrive, BlocksLeadOn, ToldStepsAreLeft, SparesStay, FreeSlotsStay, StatusesAreStored, RecordsAreStored, GoneRolesEndSteps, HealthyRolesStay, LanesCallInBlocks, UnaskedLanesAreSilent};
 
 /// Where neither a limit was told nor a reshape planned, begun or ended in its call before it, a reply that tells no failed backup, and
 /// no refusal of a reshape, fits its request as one of an array of one shape, unless that asks for a limit or a reshape.
@@ -63,4 +63,29 @@ pub fn free_slots_stay()
 /// A status of an array whose members are those that are stored tells what is stored.
 pub fn statuses_are_stored()
     ensures { StatusesAreStored }
+{}
+
+/// In a legal history no lane and no worker has called between the replies to two lines of the script, one of which follows the other.
+pub fn lanes_call_in_blocks()
+    ensures { LanesCallInBlocks }
+{}
+
+/// Before the first block no entry is a lane's or the worker's, whatever the bank tells.
+pub fn unasked_lanes_are_silent()
+    ensures { UnaskedLanesAreSilent }
+{}
+
+/// Where by its history one role of an array isn't gone, the stored superblocks say what its record does.
+pub fn records_are_stored()
+    ensures { RecordsAreStored }
+{}
+
+/// Steps end for a role that is missing only where by the history it is gone.
+pub fn gone_roles_end_steps()
+    ensures { GoneRolesEndSteps }
+{}
+
+/// By a fail no role is told lost by a fault whose slot hasn't failed.
+pub fn healthy_roles_stay()
+    ensures { HealthyRolesStay }
 {}

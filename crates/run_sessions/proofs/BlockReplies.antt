@@ -21,7 +21,7 @@ use Rattle.block_answers.specs.run_laws_Making.{Setting}
 use Rattle.block_answers.specs.run_laws_Caused.{Record}
 use Rattle.block_answers.specs.run_laws_Records.{IsRecordStored, IsRecordedIn, AreRecorded}
 use Rattle.block_answers.specs.run_laws_Replies.{Course, course_after, course_of, IsAnswerBeside, IsAnswerIn, mark_reached, mark_shown, IsEnd, AreReplies, AreInOrder}
-use Rattle.block_answers.specs.run_laws_States.{IsNamed, IsBeside, AreAnswersBeside, AreRecordedBeside, course_beside, EndsFrom}
+use Rattle.block_answers.specs.run_laws_States.{IsNamed, AreAnswersBeside, AreRecordedBeside, course_beside, EndsFrom}
 use Rattle.block_answers.specs.run_laws_Blocks.{is_in_lane}
 use Rattle.block_answers.proofs.run_laws_Growth.{IsWider, beside_named, beside_after}
 use Rattle.block_answers.proofs.line_asks_RecordLaws.{in-wider}
@@ -320,21 +320,6 @@ made-course tells mark hs c (l ∷ lines) [] (r ∷ made) was all few = absurd w
 made-course tells mark hs c (l ∷ lines) (w ∷ whats) (r ∷ made) (one, rest) all few =
     made-course tells mark hs (course_after hs c l.lane l.line r.what) lines whats made rest (omega (arith, all)) (omega (arith, few))
     ∙ ap (λ (x : Answered). course_beside hs (course_after hs c l.lane l.line x) lines whats) one.what_is
-
-beside-then : (a b c : Course) → IsBeside a b → IsBeside b c → IsBeside a c
-beside-then a b c one two = record { opened = two.opened ∙ one.opened; running = two.running ∙ one.running; script = two.script ∙ one.script }
-
--- and for the script it stands where it stood
-pub made-beside : (tells : Type 0) (mark : ℕ) (hs : List History) (c : Course) (lines : List Numbered) (whats : List Answered) (made : List LineReply) → All (λ line. line.lane ≢ InScript) lines → AreAnswersBeside hs c lines whats
-    → AreMadeOf tells mark hs lines whats made → IsBeside c (course_of hs c (take (length made) lines) made)
-made-beside tells mark hs c lines whats [] lanes answers was = record { opened = refl; running = refl; script = refl }
-made-beside tells mark hs c [] whats (r ∷ made) lanes answers was = absurd was
-made-beside tells mark hs c (l ∷ lines) [] (r ∷ made) lanes answers was = absurd was
-made-beside tells mark hs c (l ∷ lines) (w ∷ whats) (r ∷ made) lanes (answer, answers) (one, rest) =
-    beside-then c (course_after hs c l.lane l.line r.what) (course_of hs (course_after hs c l.lane l.line r.what) (take (length made) lines) made)
-    (beside_after hs c l.lane (All-head (λ line. line.lane ≢ InScript) l lines lanes) l.line r.what (subst (λ (x : Answered). IsAnswerBeside hs c l.lane l.line x) (sym one.what_is) answer))
-    (made-beside tells mark hs (course_after hs c l.lane l.line r.what) lines whats made (All-tail (λ line. line.lane ≢ InScript) l lines lanes)
-    (subst (λ (x : Answered). AreAnswersBeside hs (course_after hs c l.lane l.line x) lines whats) (sym one.what_is) answers) rest)
 
 -- ---- when they were made
 

@@ -4,6 +4,7 @@ pub mod Steps
 pub mod Showing
 pub mod Replied
 pub mod BlockReplies
+pub mod AmidBlocks
 pub use Rattle.block_answers.proofs.run_laws_AskLaws
 pub use Rattle.block_answers.proofs.line_asks_Legal
 pub use Rattle.block_answers.proofs.run_laws_Growth
@@ -13,5 +14,6 @@ pub use Rattle.block_answers.proofs.run_laws_Turned
 pub use Rattle.block_answers.proofs.run_laws_Losses
 pub use Rattle.block_answers.proofs.line_answers_Turns
 pub use Rattle.block_answers.proofs.run_laws_Plain
+pub use Rattle.block_answers.proofs.line_asks_Called
 pub use Rattle.block_answers.proofs.line_asks_Writing
 pub use Rattle.block_answers.proofs.views_SafeStretch

@@ -32,7 +32,7 @@ module _ {B : Type 0} {what : Answered} {r : Result Answered NoMemory} (setting 
 -- it is shown in a reply
 pub turn_replied : {B : Type 0} {what : Answered} {r : Result Answered NoMemory} (setting : Setting) (old new : State B) (numbered : Numbered) (reply : LineReply) (refused : Bool) → IsTurnOrNone setting old new numbered.line r → r ≡ Ok what → reply.what ≡ what
     → reply.line ≡ numbered.number → reply.lane ≡ numbered.lane → IsEnd (histories_in new) reply what → IsEndNow setting.tells (length setting.tape) reply what → refused ≡ is_refusal (histories_in new) numbered.line what
-    → (setting.tells → IsWrittenBy setting (histories_in old) (histories_in new) numbered.line r) → IsReplied setting old new numbered reply refused
+    → (setting.tells → IsWrittenBy setting (course_in old).running (histories_in old) (histories_in new) numbered.line r) → IsReplied setting old new numbered reply refused
 turn_replied setting old new numbered reply refused answered is told line lane end now refusal written = record {
   turn = subst (λ (w : Answered). IsTurn setting old new numbered.line w) (sym told) (subst (λ (r : Result Answered NoMemory). IsTurnOrNone setting old new numbered.line r) is answered);
   line = line;
@@ -41,5 +41,5 @@ turn_replied setting old new numbered reply refused answered is told line lane e
   at_end = subst (λ (w : Answered). IsEndNow setting.tells (length setting.tape) reply w) (sym told) now;
   refusal = refusal ∙ ap (λ (w : Answered). is_refusal (histories_in new) numbered.line w) (sym told);
   written = λ t. subst (λ (w : Answered). IsWritten setting (histories_in old) (histories_in new) (HasWritten setting.given setting.backup numbered.line w)) (sym told)
-      (subst (λ (r : Result Answered NoMemory). IsWrittenBy setting (histories_in old) (histories_in new) numbered.line r) is (written t));
+      (subst (λ (r : Result Answered NoMemory). IsWrittenBy setting (course_in old).running (histories_in old) (histories_in new) numbered.line r) is (written t));
 }

@@ -5,7 +5,7 @@ use Rattle.std.proofs.lemmas.Bool.{cases_lt}
 use Rattle.std.proofs.lemmas.Bool.Decides.{nat_tests}
 use Rattle.std.specs.List.{All}
 use Rattle.std.proofs.lemmas.List.Elements.{All-nil}
-use Rattle.std.proofs.lemmas.List.{take_at, length-take-le}
+use Rattle.std.proofs.lemmas.List.{take_at, length-take-le, drop-append-le}
 use Rattle.std.proofs.Math.Seq.{drop-cons, take-suc, take-append-add, take-take, take-add, drop-drop, get_or-take}
 use Rattle.std.proofs.Math.ListN.{get_or}
 use Rattle.std.specs.Prelude.{IfSome, MatchOption}
@@ -15,6 +15,8 @@ use Rattle.block_answers.specs.views_Moving.{Grows}
 use Rattle.block_answers.specs.flat_history_the_Entry.{Entry}
 use Rattle.text_io.specs.Causes.{HasRisen}
 use Rattle.block_answers.specs.flat_history_the_Epoch.{Epoch}
+use Rattle.block_answers.specs.script_the_Line.{Line}
+use Rattle.block_answers.specs.script_the_Line_TheVariants.{Wait}
 use Rattle.block_answers.specs.script_the_Numbered.{Numbered}
 use Rattle.block_answers.specs.script_the_Lane.{Lane}
 use Rattle.block_answers.specs.script_the_Lane_TheVariants.{Script as InScript, A as InA, B as InB, Worker as InWorker}
@@ -31,13 +33,14 @@ use Rattle.block_answers.specs.run_laws_Making.{Setting, setting_of}
 use Rattle.block_answers.proofs.views_SafeStretch.{grows-longer}
 use Rattle.block_answers.specs.run_laws_Replies.{Course, at_rest, course_after, course_of, IsAnswer, IsAnswerIn, mark_reached, mark_shown, IsEnd, IsReplyTo, AreReplies, AreInOrder}
 use Rattle.block_answers.specs.Shown.{reply_text, report_text, has_refusal}
-use Rattle.block_answers.specs.run_laws_States.{histories_in, course_in, record_in, RunsOwn, IsOfScript, AreOfScript, AreLossesFrom, AreGrown, EndsBetween, IsCourseShort, IsBeside, AreAnswersBeside, AreRecordedBeside, course_beside}
-use Rattle.run_sessions.specs.Sessions.{counted, IsEndNow, IsUnreplied, IsReplyMore, IsStep, IsBlockStep, IsTurnStep, AreAllMade, IsCourse, IsCutIn, IsInBlock, taken_whole, IsTaken, IsStopCause, IsCourseBehind, IsPerformed, IsShownTo}
+use Rattle.block_answers.specs.run_laws_States.{histories_in, course_in, record_in, RunsOwn, IsOfScript, AreOfScript, AreLossesFrom, AreGrown, EndsBetween, IsWaitCut, IsCutShort, IsCourseShort, AreAnswersBeside, AreRecordedBeside, course_beside, IsAmidBlock, IsAmidBehind, IsPastMemory}
+use Rattle.run_sessions.specs.Sessions.{counted, IsEndNow, IsUnreplied, IsReplyMore, IsStep, IsBlockStep, IsTurnStep, AreAllMade, IsCourse, IsCutBehind, IsInBlock, taken_whole, IsTaken, IsStopCause, IsPerformed, IsShownTo}
 use Rattle.block_answers.proofs.run_laws_Growth.{IsWider, answer_wider, replies_stay, replies_more, replies_both, course_more, course_both, courses_stay}
 use Rattle.block_answers.specs.run_laws_Caused.{Record}
 use Rattle.block_answers.specs.run_laws_Records.{IsRecordStored, IsRecorded, IsRecordedIn, AreRecorded}
 use Rattle.block_answers.proofs.line_asks_RecordLaws.{recorded-wider, last-stored, records-stay, records-both}
-use Rattle.run_sessions.proofs.BlockReplies.{block-lanes, block-order, made-few, made-replies, made-records, made-course, made-beside, ordered, order-then, all-at}
+use Rattle.run_sessions.proofs.AmidBlocks.{block-till, take-drop-whole, amid-made}
+use Rattle.run_sessions.proofs.BlockReplies.{block-lanes, block-order, made-few, made-replies, made-records, made-course, ordered, order-then, all-at}
 use Rattle.block_answers.proofs.ShownLaws.{shown_stays, text_more, text_both, text_front, refusal_more, refusal_both, refusal_front}
 use Rattle.run_sessions.specs.Writes.{AreWritesPlaced}
 use Rattle.block_answers.proofs.run_laws_Losses.{losses_add}
@@ -68,6 +71,15 @@ pub one_reply : {B : Type 0} (tells : Type 0) (setting : Setting) (old new : Ses
     → length new.replies.items ≡ length old.replies.items + 1
 one_reply tells setting old new numbered before after None going is = ap (λ (l : List LineReply). length l) is.reply.more ∙ length-append old.replies.items (is.reply.made.reply ∷ [])
 one_reply tells setting old new numbered before after (Some stop) going is = absurd (cc)
+
+-- where memory was short for a line, an array runs as before it
+short-runs : (histories : List History) (old : Course) (line : Line) (new : Course) → IsCourseShort histories old line new → old.running ≡ new.running
+short-runs histories old line new (inl is) = ap (λ (c : Course). c.running) (sym is)
+short-runs histories old line new (inr cut) = by line cut
+  where
+    by : (line : Line) → IsCutShort histories old line new → old.running ≡ new.running
+    by Wait cut = ap (λ (c : Course). c.running) (sym cut.now)
+    by line cut = absurd cut
 
 pub counted_more : (a b : ℕ) → counted (counted a + b) ≡ counted (a + b)
 counted_more a b = grind (arith, nat_tests)
@@ -112,8 +124,8 @@ module _ {B bank_tells : Type 0} {given : Given} {backup : Option ℕ} {first_ta
       × (has_refusal (histories_in new.state) lines old.replies.items ≡ has_refusal (histories_in old.state) lines old.replies.items)
   shown_still grown = shown_stays (setting_of bank_tells given first_tape mid_tape backup start mid) (histories_in old.state) (histories_in new.state) (at_rest 0) (length old.replies.items) lines old.replies.items grown performed.replies
 
-  pub written_before : bank_tells → AreWritesPlaced (setting_of bank_tells given first_tape mid_tape backup start mid) (histories_in old.state) None lines old.replies.items
-  written_before t = subst (λ (o : Option Stop). AreWritesPlaced (setting_of bank_tells given first_tape mid_tape backup start mid) (histories_in old.state) o lines old.replies.items) going (performed.written t)
+  pub written_before : bank_tells → AreWritesPlaced (setting_of bank_tells given first_tape mid_tape backup start mid) (histories_in old.state) None (course_in old.state).running lines old.replies.items
+  written_before t = subst (λ (o : Option Stop). AreWritesPlaced (setting_of bank_tells given first_tape mid_tape backup start mid) (histories_in old.state) o (course_in old.state).running lines old.replies.items) going (performed.written t)
 
   module _ (nothing numbered : Numbered) (script : numbered.lane ≡ InScript) (lt : length old.replies.items < length lines) (here : get_or lines (length old.replies.items) nothing ≡ numbered) where
     module _ (is : IsReplyMore (setting_of bank_tells given mid_tape tape backup mid now) old new numbered) where
@@ -194,8 +206,8 @@ module _ {B bank_tells : Type 0} {given : Given} {backup : Option ℕ} {first_ta
         losses = losses_add (setting_of bank_tells given first_tape mid_tape backup start mid) (setting_of bank_tells given mid_tape tape backup mid now) (setting_of bank_tells given first_tape tape backup start now) wider_was wider_step (histories_in old.state) (histories_in new.state) is.replied.turn.grown performed.losses is.replied.turn.losses;
         ends = ends_new;
         refused = refused_new;
-        written = λ t. subst (λ (rs : List LineReply). AreWritesPlaced (setting_of bank_tells given first_tape tape backup start now) (histories_in new.state) new.stopped lines rs) (sym is.more)
-            (placed-reply given backup first_tape mid_tape tape start mid now (histories_in old.state) (histories_in new.state) lines old.replies.items nothing numbered t (grew.more t) lt here (performed.ends t) (written_before t) new.stopped is.made.reply is.replied.at_end
+        written = λ t. subst (λ (rs : List LineReply). AreWritesPlaced (setting_of bank_tells given first_tape tape backup start now) (histories_in new.state) new.stopped (course_in new.state).running lines rs) (sym is.more)
+            (placed-reply given backup first_tape mid_tape tape start mid now (histories_in old.state) (histories_in new.state) lines old.replies.items nothing numbered t (grew.more t) lt here (performed.ends t) (course_in old.state).running (course_in new.state).running (written_before t) new.stopped is.made.reply is.replied.at_end
             (is.replied.written t));
       }
 
@@ -217,20 +229,25 @@ module _ {B bank_tells : Type 0} {given : Given} {backup : Option ℕ} {first_ta
       losses = losses_add (setting_of bank_tells given first_tape mid_tape backup start mid) (setting_of bank_tells given mid_tape tape backup mid now) (setting_of bank_tells given first_tape tape backup start now) wider_was wider_step (histories_in old.state) (histories_in new.state) none.grown performed.losses none.losses;
       ends = λ t. subst (λ (rs : List LineReply). AreInOrder (length first_tape) (length tape) rs) (sym same) (order_later (length first_tape) (length mid_tape) (length tape) old.replies.items (grows-longer grew t) (performed.ends t));
       refused = refused ∙ performed.refused ∙ sym ((shown_still none.grown).1) ∙ ap (λ (rs : List LineReply). has_refusal (histories_in new.state) lines rs) (sym same);
-      written = λ t. subst (λ (rs : List LineReply). AreWritesPlaced (setting_of bank_tells given first_tape tape backup start now) (histories_in new.state) new.stopped lines rs) (sym same)
-          (subst (λ (o : Option Stop). AreWritesPlaced (setting_of bank_tells given first_tape tape backup start now) (histories_in new.state) o lines old.replies.items) (sym stop)
-          (placed-short given backup first_tape mid_tape tape start mid now (histories_in old.state) (histories_in new.state) lines old.replies.items nothing numbered t (grew.more t) lt here (performed.ends t) (written_before t) (none.written t)));
+      written = λ t. subst (λ (rs : List LineReply). AreWritesPlaced (setting_of bank_tells given first_tape tape backup start now) (histories_in new.state) new.stopped (course_in new.state).running lines rs) (sym same)
+          (subst (λ (o : Option Stop). AreWritesPlaced (setting_of bank_tells given first_tape tape backup start now) (histories_in new.state) o (course_in new.state).running lines old.replies.items) (sym stop)
+          (subst (λ (b : Bool). AreWritesPlaced (setting_of bank_tells given first_tape tape backup start now) (histories_in new.state) (Some WantsMemory) b lines old.replies.items) (short-runs (histories_in new.state) (course_in old.state) numbered.line (course_in new.state) none.course)
+          (placed-short given backup first_tape mid_tape tape start mid now (histories_in old.state) (histories_in new.state) lines old.replies.items nothing numbered t (grew.more t) lt here (performed.ends t) (course_in old.state).running (course_in old.state).running (written_before t) (none.written t))));
     }
       where
         first_behind : drop (length old.replies.items) lines ≡ numbered ∷ drop (suc (length old.replies.items)) lines
         first_behind = drop-cons lines (length old.replies.items) nothing lt ∙ ap (λ (l : Numbered). l ∷ drop (suc (length old.replies.items)) lines) here
 
         by_course : IsCourseShort (histories_in new.state) (course_in old.state) numbered.line (course_in new.state)
-            → (course_in new.state ≡ told_before (histories_in new.state)) ⊎ IsCourseBehind (histories_in new.state) (drop (length old.replies.items) lines) (told_before (histories_in new.state)) (course_in new.state)
+            → (course_in new.state ≡ told_before (histories_in new.state)) ⊎ IsCutBehind (histories_in new.state) (drop (length old.replies.items) lines) (told_before (histories_in new.state)) (course_in new.state)
+            ⊎ IsInBlock (histories_in new.state) (drop (length old.replies.items) lines) (told_before (histories_in new.state)) (course_in new.state)
         by_course (inl is) = inl (is ∙ course_still none.grown)
-        by_course (inr next) = inr (subst (λ (ls : List Numbered). IsCourseBehind (histories_in new.state) ls (told_before (histories_in new.state)) (course_in new.state)) (sym first_behind)
-            (subst (λ (c : Course). IsCutIn numbered.lane (histories_in new.state) c numbered.line (course_in new.state)) (course_still none.grown)
-            (subst (λ (l : Lane). IsCutIn l (histories_in new.state) (course_in old.state) numbered.line (course_in new.state)) (sym script) next)))
+        by_course (inr next) = inr (inl (subst (λ (ls : List Numbered). IsCutBehind (histories_in new.state) ls (told_before (histories_in new.state)) (course_in new.state)) (sym first_behind)
+            (let waits = by_line numbered.line next in (script, waits.0, waits.1))))
+          where
+            by_line : (line : Line) → IsCutShort (histories_in new.state) (course_in old.state) line (course_in new.state) → (line ≡ Wait) × IsWaitCut (histories_in new.state) (told_before (histories_in new.state)) (course_in new.state)
+            by_line Wait cut = (refl, subst (λ (c : Course). IsWaitCut (histories_in new.state) c (course_in new.state)) (course_still none.grown) cut)
+            by_line line cut = absurd cut
 
     module _ {tells : Type 0} {first before : List ℕ} {first_faults before_faults : ℕ} (after : List ℕ) (after_faults : ℕ) (shown : IsShownTo tells lines old first before first_faults before_faults) where
       taken_before : tells → before ≡ first ++ report_text (histories_in old.state) lines old.replies.items
@@ -406,36 +423,36 @@ module _ {B bank_tells : Type 0} {given : Given} {backup : Option ℕ} {first_ta
         ∙ ap (λ (k : ℕ). course_of hs (told_before hs) (take k rest) made) (sym all) ∙ sym told_is
 
     -- or not all
-    beside : IsBeside told_now (course_in new.state)
-    beside =
-        let was = subst (λ (c : Course). IsBeside c (course_in new.state)) (course_still grown) did.answered.turn.course in
-        let now = subst (λ (ls : List Numbered). IsBeside (told_before hs) (course_of hs (told_before hs) ls made)) front
-        (made-beside bank_tells (length tape) hs (told_before hs) block did.whats made lanes answers did.shown.shown.told) in
-        subst (λ (c : Course). IsBeside c (course_in new.state)) (sym told_is)
-        (record { opened = was.opened ∙ sym now.opened; running = was.running ∙ sym now.running; script = was.script ∙ sym now.script })
-
     next : m < count → (drop (length new.replies.items) lines ≡ get_or rest m did.block.worker ∷ drop (suc m) rest) × ((get_or rest m did.block.worker).lane ≢ InScript)
     next lt = (
       ap (λ (k : ℕ). drop k lines) longer ∙ sym (drop-drop m n lines) ∙ drop-cons rest m did.block.worker (omega (arith, lt, rest_long)),
       subst (λ (l : Numbered). l.lane ≢ InScript) (get_or-take count rest m did.block.worker lt) (all-at (λ line. line.lane ≢ InScript) block m did.block.worker lanes (omega (arith, lt, block_long))),
     )
 
-    behind : m < count → IsCourseBehind hs (drop (length new.replies.items) lines) told_now (course_in new.state)
-    behind lt = subst (λ (ls : List Numbered). IsCourseBehind hs ls told_now (course_in new.state)) (sym (next lt).0) (by (get_or rest m did.block.worker).lane (next lt).1)
+    -- what was answered of the lines that have no reply
+    amid : m < count → IsAmidBlock hs told_now (get_or rest m did.block.worker ∷ drop (suc m) rest) (course_in new.state) ⊎ IsPastMemory hs
+    amid lt = by did.answered.amid
       where
-        by : (lane : Lane) → lane ≢ InScript → IsCutIn lane hs told_now (get_or rest m did.block.worker).line (course_in new.state)
-        by InScript ne = absurd (ne refl)
-        by InA ne = beside
-        by InB ne = beside
-        by InWorker ne = beside
+        by : IsAmidBehind hs (course_in old.state) block did.whats (course_in new.state) ⊎ IsPastMemory hs → IsAmidBlock hs told_now (get_or rest m did.block.worker ∷ drop (suc m) rest) (course_in new.state) ⊎ IsPastMemory hs
+        by (inl behind) = inl
+            (subst (λ (ls : List Numbered). IsAmidBlock hs told_now ls (course_in new.state)) (drop-cons rest m did.block.worker (omega (arith, lt, rest_long)))
+            (subst (λ (ls : List Numbered). IsAmidBlock hs told_now (drop m ls) (course_in new.state)) (take-drop-whole count rest)
+            (subst (λ (ls : List Numbered). IsAmidBlock hs told_now ls (course_in new.state)) (sym (drop-append-le m block (drop count rest) (omega (arith, lt, block_long))))
+            (subst (λ (c : Course). IsAmidBlock hs c (drop m block ++ drop count rest) (course_in new.state)) (sym (told_is ∙ ap (λ (ls : List Numbered). course_of hs (told_before hs) ls made) (sym front)))
+            (amid-made bank_tells (length tape) hs (told_before hs) (course_in new.state) block (drop count rest) did.whats made (block-till block did.block) (omega (arith, lt, block_long)) answers
+            (subst (λ (c : Course). IsAmidBehind hs c block did.whats (course_in new.state)) (course_still grown) behind) did.shown.shown.told)))))
+        by (inr past) = inr past
+
+    in_block : m < count → IsInBlock hs (drop (length new.replies.items) lines) told_now (course_in new.state)
+    in_block lt = subst (λ (ls : List Numbered). IsInBlock hs ls told_now (course_in new.state)) (sym (next lt).0) ((next lt).1, amid lt)
 
     block_course : (o : Option Stop) → AreAllMade o (length block) m → IsCourse o hs (drop (length new.replies.items) lines) told_now (course_in new.state)
     block_course None all = exact (omega (arith, all, block_long))
     block_course (Some WriteFault) all = elim (cases_lt m count) [
-      | inl lt ↦ inr (subst (λ (ls : List Numbered). IsInBlock ls told_now (course_in new.state)) (sym (next lt).0) ((next lt).1, beside))
+      | inl lt ↦ inr (in_block lt)
       | inr past ↦ inl (exact (omega (arith, past, few_made)))
     ]
-    block_course (Some WantsMemory) all = inr (behind (omega (arith, all, block_long)))
+    block_course (Some WantsMemory) all = inr (inr (in_block (omega (arith, all, block_long))))
 
     block_refused : new.refused ≡ has_refusal hs lines new.replies.items
     block_refused = did.shown.shown.refused ∙ ap (λ (b : Bool). b || has_refusal hs block made) (performed.refused ∙ sym ((shown_still grown).1))
@@ -460,8 +477,8 @@ module _ {B bank_tells : Type 0} {given : Given} {backup : Option ℕ} {first_ta
       losses = losses_add (setting_of bank_tells given first_tape mid_tape backup start mid) (setting_of bank_tells given mid_tape tape backup mid now) wide wider_was wider_step (histories_in old.state) hs grown performed.losses did.answered.turn.losses;
       ends = block_ends;
       refused = block_refused;
-      written = λ t. subst (λ (rs : List LineReply). AreWritesPlaced wide hs new.stopped lines rs) (sym did.shown.shown.more)
-          (placed-more given backup first_tape mid_tape tape start mid now (histories_in old.state) hs lines old.replies.items did.block.worker (get_or lines n did.block.worker) t (grew.more t) (omega (arith, some, fits)) refl (performed.ends t) (written_before t) new.stopped made
+      written = λ t. subst (λ (rs : List LineReply). AreWritesPlaced wide hs new.stopped (course_in new.state).running lines rs) (sym did.shown.shown.more)
+          (placed-more given backup first_tape mid_tape tape start mid now (histories_in old.state) hs lines old.replies.items did.block.worker (get_or lines n did.block.worker) t (grew.more t) (omega (arith, some, fits)) refl (performed.ends t) (course_in old.state).running (course_in new.state).running (written_before t) new.stopped made
           (did.written t));
     }
 
@@ -574,7 +591,7 @@ performed_none {B = B} {bank_tells = bank_tells} {given = given} {backup = backu
   losses = subst (λ (s : State B). AreLossesFrom (setting_of bank_tells given tape tape backup start start) [] (histories_in s)) (sym idle) (subst (λ (l : List Epoch). AreLossesFrom (setting_of bank_tells given tape tape backup start start) [] (histories_of l)) (sym empty) tt);
   ends = λ t. subst (λ (rs : List LineReply). AreInOrder (length tape) (length tape) rs) (sym none) (omega arith);
   refused = refused ∙ ap (λ (rs : List LineReply). has_refusal (histories_in session.state) lines rs) (sym none);
-  written = λ t. placed-none (setting_of bank_tells given tape tape backup start start) (histories_in session.state) session.stopped lines session.replies.items (ap (λ (s : State B). histories_in s) idle ∙ ap histories_of empty) (omega arith);
+  written = λ t. placed-none (setting_of bank_tells given tape tape backup start start) (histories_in session.state) session.stopped (course_in session.state).running lines session.replies.items (ap (λ (s : State B). histories_in s) idle ∙ ap histories_of empty) (omega arith);
 }
 
 -- and nothing was shown, where the run goes on, and where memory was short before its first line

@@ -1,5 +1,5 @@
 -- Each write of a run stands inside an epoch, or is of a create line; between two epochs there are flushes.
-use Rattle.std.proofs.Common.{◌≡◌, ◌⊎◌, inl, inr, ℕ, zero, suc, ◌+◌, ◌-◌, ◌<◌, ◌≤◌, Option, Some, None, List, [], ◌∷◌, ◌++◌, length, take, drop, refl, sym, ◌∙◌, ap, subst, arith, append-nil, append_assoc}
+use Rattle.std.proofs.Common.{◌≡◌, ◌⊎◌, inl, inr, ℕ, zero, suc, ◌+◌, ◌-◌, ◌<◌, ◌≤◌, Bool, Option, Some, None, List, [], ◌∷◌, ◌++◌, length, take, drop, refl, sym, ◌∙◌, ap, subst, arith, append-nil, append_assoc}
 use Rattle.std.proofs.lemmas.Bool.{cases_lt}
 use Rattle.std.proofs.lemmas.Option.{slice_get_within}
 use Rattle.std.proofs.Math.ListN.{get_or}
@@ -46,31 +46,31 @@ mark-on low InB (IsOutside outside) end le = le
 mark-on low InWorker (Inside epoch at) end le = omega arith
 mark-on low InWorker (IsOutside outside) end le = le
 
-module _ (given : Given) (backup : Option ℕ) (stopped : Option Stop) where
+module _ (given : Given) (backup : Option ℕ) (stopped : Option Stop) (running : Bool) where
   -- of one of the former lines, also once there are more replies
-  of-former : (low : ℕ) (lines : List Numbered) (replies more : List LineReply) (mark slot : ℕ) → IsOfCreate given backup None low lines replies mark slot → IsOfCreate given backup stopped low lines (replies ++ more) mark slot
-  of-former low [] replies more mark slot is = absurd is
-  of-former low (line ∷ lines) [] more mark slot is = absurd (none_some is.0)
+  of-former : (ran : Bool) (low : ℕ) (lines : List Numbered) (replies more : List LineReply) (mark slot : ℕ) → IsOfCreate given backup None ran low lines replies mark slot → IsOfCreate given backup stopped running low lines (replies ++ more) mark slot
+  of-former ran low [] replies more mark slot is = absurd is
+  of-former ran low (line ∷ lines) [] more mark slot is = absurd (none_some is.0)
     where
       none_some : None ≡ Some IsShort → ⊥
       none_some same = absurd (cc)
-  of-former low (line ∷ lines) (reply ∷ replies) more mark slot (inl is) = inl is
-  of-former low (line ∷ lines) (reply ∷ replies) more mark slot (inr is) = inr (of-former (mark_shown low reply) lines replies more mark slot is)
+  of-former ran low (line ∷ lines) (reply ∷ replies) more mark slot (inl is) = inl is
+  of-former ran low (line ∷ lines) (reply ∷ replies) more mark slot (inr is) = inr (of-former ran (mark_shown low reply) lines replies more mark slot is)
 
   -- of the line that got one reply more
   of-latest : (low high : ℕ) (lines : List Numbered) (replies : List LineReply) (nothing line : Numbered) (reply : LineReply) (mark slot : ℕ) → length replies < length lines → get_or lines (length replies) nothing ≡ line
-      → AreInOrder low high replies → high ≤ mark → mark < reply.end → HasWritten given backup line.line reply.what slot → IsOfCreate given backup stopped low lines (replies ++ reply ∷ []) mark slot
+      → AreInOrder low high replies → high ≤ mark → mark < reply.end → HasWritten given backup line.line reply.what slot → IsOfCreate given backup stopped running low lines (replies ++ reply ∷ []) mark slot
   of-latest low high [] replies nothing line reply mark slot lt here order from to is = absurd (omega (arith, lt))
   of-latest low high (l ∷ lines) [] nothing line reply mark slot lt here order from to is = inl (omega (arith, order, from), to, subst (λ (n : Numbered). HasWritten given backup n.line reply.what slot) (sym here) is)
   of-latest low high (l ∷ lines) (r ∷ replies) nothing line reply mark slot lt here order from to is =
       inr (of-latest (mark_shown low r) high lines replies nothing line reply mark slot (omega (arith, lt)) here order.1 from to is)
 
 -- of the line that got none, for want of memory
-of-short : (given : Given) (backup : Option ℕ) (low high : ℕ) (lines : List Numbered) (replies : List LineReply) (nothing line : Numbered) (mark slot : ℕ) → length replies < length lines → get_or lines (length replies) nothing ≡ line
-    → AreInOrder low high replies → high ≤ mark → MayWrite given backup line.line slot → IsOfCreate given backup (Some IsShort) low lines replies mark slot
-of-short given backup low high [] replies nothing line mark slot lt here order from is = absurd (omega (arith, lt))
-of-short given backup low high (l ∷ lines) [] nothing line mark slot lt here order from is = (refl, omega (arith, order, from), subst (λ (n : Numbered). MayWrite given backup n.line slot) (sym here) is)
-of-short given backup low high (l ∷ lines) (r ∷ replies) nothing line mark slot lt here order from is = inr (of-short given backup (mark_shown low r) high lines replies nothing line mark slot (omega (arith, lt)) here order.1 from is)
+of-short : (given : Given) (backup : Option ℕ) (running : Bool) (low high : ℕ) (lines : List Numbered) (replies : List LineReply) (nothing line : Numbered) (mark slot : ℕ) → length replies < length lines → get_or lines (length replies) nothing ≡ line
+    → AreInOrder low high replies → high ≤ mark → MayWrite given backup running line.line slot → IsOfCreate given backup (Some IsShort) running low lines replies mark slot
+of-short given backup running low high [] replies nothing line mark slot lt here order from is = absurd (omega (arith, lt))
+of-short given backup running low high (l ∷ lines) [] nothing line mark slot lt here order from is = (refl, omega (arith, order, from), subst (λ (n : Numbered). MayWrite given backup running n.line slot) (sym here) is)
+of-short given backup running low high (l ∷ lines) (r ∷ replies) nothing line mark slot lt here order from is = inr (of-short given backup running (mark_shown low r) high lines replies nothing line mark slot (omega (arith, lt)) here order.1 from is)
 
 -- only an answer outside has written, and its reply ends where the tape does
 end-now : {tells : Type 0} (given : Given) (backup : Option ℕ) (line : Line) (high : ℕ) (reply : LineReply) (what : Answered) (slot : ℕ) → tells → IsEndNow tells high reply what → HasWritten given backup line what slot → reply.end ≡ high
@@ -79,7 +79,7 @@ end-now given backup line high reply (IsOutside outside) slot t now is = now t
 
 module _ {tells : Type 0} (given : Given) (backup : Option ℕ) (first mid last : List Operation) (start before now : ℕ → ℕ) (olds news : List History) (lines : List Numbered) (replies : List LineReply) (nothing line : Numbered)
     (t : tells) (grew : (ops : List Operation) × (last ≡ mid ++ ops)) (lt : length replies < length lines) (here : get_or lines (length replies) nothing ≡ line) (order : AreInOrder (length first) (length mid) replies)
-    (was : AreWritesPlaced (setting_of tells given first mid backup start before) olds None lines replies) where
+    (ran running : Bool) (was : AreWritesPlaced (setting_of tells given first mid backup start before) olds None ran lines replies) where
   first-early : (rs : List LineReply) → AreInOrder (length first) (length mid) rs → length first ≤ length mid
   first-early rs order = in-order (length first) (length mid) rs order
     where
@@ -89,17 +89,17 @@ module _ {tells : Type 0} (given : Given) (backup : Option ℕ) (first mid last 
 
   -- a write of the former tape
   former-placed : (stopped : Option Stop) (more : List LineReply) (kept : (mark : ℕ) → IsInEpoch olds mark → IsInEpoch news mark) (mark slot at : ℕ) (body : Sector) → length first ≤ mark → mark < length mid → slice_get last mark ≡ Some (Write slot at body)
-      → IsInEpoch news mark ⊎ IsOfCreate given backup stopped (length first) lines (replies ++ more) mark slot
+      → IsInEpoch news mark ⊎ IsOfCreate given backup stopped running (length first) lines (replies ++ more) mark slot
   former-placed stopped more kept mark slot at body from to there =
       by_place (was.placed mark slot at body from (front-stays mid (grew.0) mark (Write slot at body) to (ap (λ (l : List Operation). slice_get l mark) (sym (grew.1)) ∙ there)))
     where
-      by_place : IsInEpoch olds mark ⊎ IsOfCreate given backup None (length first) lines replies mark slot → IsInEpoch news mark ⊎ IsOfCreate given backup stopped (length first) lines (replies ++ more) mark slot
+      by_place : IsInEpoch olds mark ⊎ IsOfCreate given backup None ran (length first) lines replies mark slot → IsInEpoch news mark ⊎ IsOfCreate given backup stopped running (length first) lines (replies ++ more) mark slot
       by_place (inl is) = inl (kept mark is)
-      by_place (inr is) = inr (of-former given backup stopped (length first) lines replies more mark slot is)
+      by_place (inr is) = inr (of-former given backup stopped running ran (length first) lines replies more mark slot is)
 
   -- one reply more
   pub placed-reply : (stopped : Option Stop) (reply : LineReply) → IsEndNow tells (length last) reply reply.what → IsWritten (setting_of tells given mid last backup before now) olds news (HasWritten given backup line.line reply.what)
-      → AreWritesPlaced (setting_of tells given first last backup start now) news stopped lines (replies ++ reply ∷ [])
+      → AreWritesPlaced (setting_of tells given first last backup start now) news stopped running lines (replies ++ reply ∷ [])
   placed-reply stopped reply end written = record {
     spans = written.spans (length first) (first-early replies order) was.spans;
     placed = λ mark slot at body from there. elim (cases_lt mark (length mid)) [
@@ -109,14 +109,14 @@ module _ {tells : Type 0} (given : Given) (backup : Option ℕ) (first mid last 
   }
     where
       by_place : (mark slot : ℕ) → length mid ≤ mark → mark < length last → IsInEpoch news mark ⊎ HasWritten given backup line.line reply.what slot
-          → IsInEpoch news mark ⊎ IsOfCreate given backup stopped (length first) lines (replies ++ reply ∷ []) mark slot
+          → IsInEpoch news mark ⊎ IsOfCreate given backup stopped running (length first) lines (replies ++ reply ∷ []) mark slot
       by_place mark slot past within (inl is) = inl is
-      by_place mark slot past within (inr is) = inr (of-latest given backup stopped (length first) (length mid) lines replies nothing line reply mark slot lt here order past
+      by_place mark slot past within (inr is) = inr (of-latest given backup stopped running (length first) (length mid) lines replies nothing line reply mark slot lt here order past
           (omega (arith, within, end-now given backup line.line (length last) reply reply.what slot t end is)) is)
 
   -- several replies more, by which nothing was written outside of the epochs
   pub placed-more : (stopped : Option Stop) (more : List LineReply) → IsWritten (setting_of tells given mid last backup before now) olds news (λ slot. ⊥)
-      → AreWritesPlaced (setting_of tells given first last backup start now) news stopped lines (replies ++ more)
+      → AreWritesPlaced (setting_of tells given first last backup start now) news stopped running lines (replies ++ more)
   placed-more stopped more written = record {
     spans = written.spans (length first) (first-early replies order) was.spans;
     placed = λ mark slot at body from there. elim (cases_lt mark (length mid)) [
@@ -125,28 +125,28 @@ module _ {tells : Type 0} (given : Given) (backup : Option ℕ) (first mid last 
     ];
   }
     where
-      by_place : (mark slot : ℕ) → IsInEpoch news mark ⊎ ⊥ → IsInEpoch news mark ⊎ IsOfCreate given backup stopped (length first) lines (replies ++ more) mark slot
+      by_place : (mark slot : ℕ) → IsInEpoch news mark ⊎ ⊥ → IsInEpoch news mark ⊎ IsOfCreate given backup stopped running (length first) lines (replies ++ more) mark slot
       by_place mark slot (inl is) = inl is
       by_place mark slot (inr none) = absurd none
 
   -- memory was short for one
-  pub placed-short : IsWritten (setting_of tells given mid last backup before now) olds news (MayWrite given backup line.line) → AreWritesPlaced (setting_of tells given first last backup start now) news (Some IsShort) lines replies
+  pub placed-short : IsWritten (setting_of tells given mid last backup before now) olds news (MayWrite given backup running line.line) → AreWritesPlaced (setting_of tells given first last backup start now) news (Some IsShort) running lines replies
   placed-short written = record {
     spans = written.spans (length first) (first-early replies order) was.spans;
     placed = λ mark slot at body from there. elim (cases_lt mark (length mid)) [
-      | inl to ↦ subst (λ (rs : List LineReply). IsInEpoch news mark ⊎ IsOfCreate given backup (Some IsShort) (length first) lines rs mark slot) (append-nil replies)
+      | inl to ↦ subst (λ (rs : List LineReply). IsInEpoch news mark ⊎ IsOfCreate given backup (Some IsShort) running (length first) lines rs mark slot) (append-nil replies)
           (former-placed (Some IsShort) [] written.kept mark slot at body from to there)
       | inr past ↦ by_place mark slot (omega (arith, past)) (written.placed mark slot at body (omega (arith, past)) there)
     ];
   }
     where
-      by_place : (mark slot : ℕ) → length mid ≤ mark → IsInEpoch news mark ⊎ MayWrite given backup line.line slot → IsInEpoch news mark ⊎ IsOfCreate given backup (Some IsShort) (length first) lines replies mark slot
+      by_place : (mark slot : ℕ) → length mid ≤ mark → IsInEpoch news mark ⊎ MayWrite given backup running line.line slot → IsInEpoch news mark ⊎ IsOfCreate given backup (Some IsShort) running (length first) lines replies mark slot
       by_place mark slot past (inl is) = inl is
-      by_place mark slot past (inr is) = inr (of-short given backup (length first) (length mid) lines replies nothing line mark slot lt here order past is)
+      by_place mark slot past (inr is) = inr (of-short given backup running (length first) (length mid) lines replies nothing line mark slot lt here order past is)
 
 -- nothing was performed yet
-pub placed-none : (setting : Setting) (hs : List History) (stopped : Option Stop) (lines : List Numbered) (replies : List LineReply) → hs ≡ [] → length setting.tape ≤ setting.began → AreWritesPlaced setting hs stopped lines replies
-placed-none setting hs stopped lines replies empty le = record {
+pub placed-none : (setting : Setting) (hs : List History) (stopped : Option Stop) (running : Bool) (lines : List Numbered) (replies : List LineReply) → hs ≡ [] → length setting.tape ≤ setting.began → AreWritesPlaced setting hs stopped running lines replies
+placed-none setting hs stopped running lines replies empty le = record {
   spans = subst (λ (l : List History). AreSpans setting.began l) (sym empty) tt;
   placed = λ mark slot at body from there. absurd (omega (arith, le, from, slice_get_within setting.tape mark (Write slot at body) there));
 }
@@ -154,14 +154,14 @@ placed-none setting hs stopped lines replies empty le = record {
 -- ---- the end of a run
 
 -- what stood inside a history that ended does so still
-pub placed-end : (setting last : Setting) (olds news : List History) (stopped : Option Stop) (lines : List Numbered) (replies : List LineReply) → setting.began ≤ last.began → IsWritten last olds news (λ slot. ⊥)
-    → AreWritesPlaced setting olds stopped lines replies → AreWritesPlaced setting news stopped lines replies
-placed-end setting last olds news stopped lines replies longer written was = record {
+pub placed-end : (setting last : Setting) (olds news : List History) (stopped : Option Stop) (running : Bool) (lines : List Numbered) (replies : List LineReply) → setting.began ≤ last.began → IsWritten last olds news (λ slot. ⊥)
+    → AreWritesPlaced setting olds stopped running lines replies → AreWritesPlaced setting news stopped running lines replies
+placed-end setting last olds news stopped running lines replies longer written was = record {
   spans = written.spans setting.began longer was.spans;
   placed = λ mark slot at body from there. by_place mark slot (was.placed mark slot at body from there);
 }
   where
-    by_place : (mark slot : ℕ) → IsInEpoch olds mark ⊎ IsOfCreate setting.given setting.backup stopped setting.began lines replies mark slot → IsInEpoch news mark ⊎ IsOfCreate setting.given setting.backup stopped setting.began lines replies mark slot
+    by_place : (mark slot : ℕ) → IsInEpoch olds mark ⊎ IsOfCreate setting.given setting.backup stopped running setting.began lines replies mark slot → IsInEpoch news mark ⊎ IsOfCreate setting.given setting.backup stopped running setting.began lines replies mark slot
     by_place mark slot (inl is) = inl (written.kept mark is)
     by_place mark slot (inr is) = inr is
 
@@ -223,14 +223,14 @@ gap-free high before former next hs mark rising lasting from to inside = by_side
     by_side (inr (inr is)) = absurd (omega (arith, begun-behind high (next ∷ hs) mark (rising-behind before rising) is, to))
 
 -- between two epochs only flushes were done, where no create line wrote there
-module _ (setting : Setting) (stopped : Option Stop) (lines : List Numbered) (replies : List LineReply) (high : ℕ) where
-  quiet-behind : (before : List History) (epochs : List Epoch) → AreRising high (before ++ histories_of epochs) → AreWritesPlaced setting (before ++ histories_of epochs) stopped lines replies → AreQuiet setting stopped lines replies epochs
+module _ (setting : Setting) (stopped : Option Stop) (running : Bool) (lines : List Numbered) (replies : List LineReply) (high : ℕ) where
+  quiet-behind : (before : List History) (epochs : List Epoch) → AreRising high (before ++ histories_of epochs) → AreWritesPlaced setting (before ++ histories_of epochs) stopped running lines replies → AreQuiet setting stopped running lines replies epochs
   quiet-behind before [] rising was = tt
   quiet-behind before (e ∷ []) rising was = tt
   quiet-behind before (e ∷ f ∷ epochs) rising was = (
     λ none. flushes-within setting.tape (last_end_from e.first e.entries.items) (f.first - last_end_from e.first e.entries.items) (λ mark slot at body le lt is. gone none mark slot le (omega (arith, lt)) (was.placed mark slot at body (omega (arith, le, span.0, span.1)) is)),
     quiet-behind (before ++ history_of e ∷ []) (f ∷ epochs) (subst (λ (l : List History). AreRising high l) apart rising)
-        (subst (λ (l : List History). AreWritesPlaced setting l stopped lines replies) apart was),
+        (subst (λ (l : List History). AreWritesPlaced setting l stopped running lines replies) apart was),
   )
     where
       span : (setting.began ≤ e.first) × (e.first ≤ last_end_from e.first e.entries.items)
@@ -239,10 +239,10 @@ module _ (setting : Setting) (stopped : Option Stop) (lines : List Numbered) (re
       apart : before ++ histories_of (e ∷ f ∷ epochs) ≡ (before ++ history_of e ∷ []) ++ histories_of (f ∷ epochs)
       apart = sym (append_assoc before (history_of e ∷ []) (histories_of (f ∷ epochs)))
 
-      gone : NoneOfCreate setting stopped lines replies (last_end_from e.first e.entries.items) f.first → (mark slot : ℕ) → last_end_from e.first e.entries.items ≤ mark → mark < f.first
-          → IsInEpoch (before ++ histories_of (e ∷ f ∷ epochs)) mark ⊎ IsOfCreate setting.given setting.backup stopped setting.began lines replies mark slot → ⊥
+      gone : NoneOfCreate setting stopped running lines replies (last_end_from e.first e.entries.items) f.first → (mark slot : ℕ) → last_end_from e.first e.entries.items ≤ mark → mark < f.first
+          → IsInEpoch (before ++ histories_of (e ∷ f ∷ epochs)) mark ⊎ IsOfCreate setting.given setting.backup stopped running setting.began lines replies mark slot → ⊥
       gone none mark slot le lt (inl is) = gap-free high before (history_of e) (history_of f) (histories_of epochs) mark rising span.1 le lt is
       gone none mark slot le lt (inr is) = none mark slot le lt is
 
-  pub quiet-between : (epochs : List Epoch) → AreRising high (histories_of epochs) → AreWritesPlaced setting (histories_of epochs) stopped lines replies → AreQuiet setting stopped lines replies epochs
+  pub quiet-between : (epochs : List Epoch) → AreRising high (histories_of epochs) → AreWritesPlaced setting (histories_of epochs) stopped running lines replies → AreQuiet setting stopped running lines replies epochs
   quiet-between epochs rising was = quiet-behind [] epochs rising was

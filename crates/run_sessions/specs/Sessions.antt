@@ -3,6 +3,7 @@ use Rattle.std.specs.Prelude.{◌≡◌, ◌≢◌, ◌⊎◌, ℕ, ◌+◌, ◌
 use Rattle.std.specs.List.{All}
 use Rattle.block_answers.specs.md_base_the_NoMemory.{NoMemory}
 use Rattle.block_answers.specs.script_the_Line.{Line}
+use Rattle.block_answers.specs.script_the_Line_TheVariants.{Wait}
 use Rattle.block_answers.specs.script_the_Numbered.{Numbered}
 use Rattle.block_answers.specs.script_the_Lane.{Lane}
 use Rattle.block_answers.specs.script_the_Lane_TheVariants.{Script as InScript, A as InA, B as InB, Worker as InWorker}
@@ -22,7 +23,7 @@ use Rattle.block_answers.specs.run_laws_Caused.{Record}
 use Rattle.block_answers.specs.run_laws_Records.{AreRecorded}
 use Rattle.block_answers.specs.run_laws_Replies.{Course, at_rest, course_of, IsEnd, AreReplies, AreInOrder}
 use Rattle.block_answers.specs.Shown.{reply_text, report_text, is_refusal, has_refusal}
-use Rattle.block_answers.specs.run_laws_States.{histories_in, course_in, record_in, RunsOwn, AreLossesFrom, AreGrown, IsCutShort, IsCourseShort, IsTurn, IsBeside, IsBlockAnswered}
+use Rattle.block_answers.specs.run_laws_States.{histories_in, course_in, record_in, RunsOwn, AreLossesFrom, AreGrown, IsWaitCut, IsCourseShort, IsTurn, IsAmidBlock, IsPastMemory, IsBlockAnswered}
 use Rattle.block_answers.specs.run_laws_Written.{MayWrite, HasWritten, IsWritten}
 use Rattle.run_sessions.specs.Writes.{AreWritesPlaced}
 
@@ -51,7 +52,7 @@ pub record IsUnreplied {B : Type 0} (setting : Setting) (old new : State B) (lin
   pub losses : AreLossesFrom setting (histories_in old) (histories_in new)
   pub grown : AreGrown (histories_in old) (histories_in new)
   pub course : IsCourseShort (histories_in new) (course_in old) line (course_in new)
-  pub written : setting.tells → IsWritten setting (histories_in old) (histories_in new) (MayWrite setting.given setting.backup line)
+  pub written : setting.tells → IsWritten setting (histories_in old) (histories_in new) (MayWrite setting.given setting.backup (course_in old).running line)
 
 abbrev pub IsRepliedOrNot : {B : Type 0} → Setting → State B → State B → Numbered → List ℕ → Result Made NoMemory → Type 0
 IsRepliedOrNot setting old new numbered text (Ok made) = IsReplied setting old new numbered made.reply made.refused × (text ≡ reply_text (histories_in new) numbered.line made.reply)
@@ -196,26 +197,22 @@ IsTurnStep tells setting old new lines old_taken new_taken = IsLineStep tells se
 
 -- ---- several lines
 
--- where the run stands once some calls of the first of these lines were made, which is a wait, or of a block
-abbrev pub IsCutIn : Lane → List History → Course → Line → Course → Type 0
-IsCutIn InScript histories told line course = IsCutShort histories told line course
-IsCutIn lane histories told line course = IsBeside told course
+-- where the run stands once some calls of the first of these lines were made, which is a wait
+abbrev pub IsCutBehind : List History → List Numbered → Course → Course → Type 0
+IsCutBehind histories [] told course = ⊥
+IsCutBehind histories (line ∷ lines) told course = (line.lane ≡ InScript) × (line.line ≡ Wait) × IsWaitCut histories told course
 
-abbrev pub IsCourseBehind : List History → List Numbered → Course → Course → Type 0
-IsCourseBehind histories [] told course = ⊥
-IsCourseBehind histories (line ∷ lines) told course = IsCutIn line.lane histories told line.line course
-
--- within a block, all of whose calls were made
-abbrev pub IsInBlock : List Numbered → Course → Course → Type 0
-IsInBlock [] told course = ⊥
-IsInBlock (line ∷ lines) told course = (line.lane ≢ InScript) × IsBeside told course
+-- Amid a block, of which some lines have no reply, though they may have been answered. Of a history that is longer than any memory holds nothing is said.
+abbrev pub IsInBlock : List History → List Numbered → Course → Course → Type 0
+IsInBlock histories [] told course = ⊥
+IsInBlock histories (line ∷ lines) told course = (line.lane ≢ InScript) × (IsAmidBlock histories told (line ∷ lines) course ⊎ IsPastMemory histories)
 
 -- Where it stands after these replies: no line was performed without its reply, but where memory was short in a wait, its first calls, and those of a block
 -- not all of whose replies are there.
 abbrev pub IsCourse : Option Stop → List History → List Numbered → Course → Course → Type 0
 IsCourse None histories behind told course = course ≡ told
-IsCourse (Some WriteFault) histories behind told course = (course ≡ told) ⊎ IsInBlock behind told course
-IsCourse (Some WantsMemory) histories behind told course = (course ≡ told) ⊎ IsCourseBehind histories behind told course
+IsCourse (Some WriteFault) histories behind told course = (course ≡ told) ⊎ IsInBlock histories behind told course
+IsCourse (Some WantsMemory) histories behind told course = (course ≡ told) ⊎ IsCutBehind histories behind told course ⊎ IsInBlock histories behind told course
 
 -- a sink that is called failed has failed since
 abbrev pub IsStopCause : Option Stop → ℕ → ℕ → Type 0
@@ -236,7 +233,7 @@ pub record IsPerformed {B : Type 0} (setting : Setting) (lines : List Numbered) 
   pub losses : AreLossesFrom setting [] (histories_in session.state)
   pub ends : setting.tells → AreInOrder setting.began (length setting.tape) session.replies.items
   pub refused : session.refused ≡ has_refusal (histories_in session.state) lines session.replies.items
-  pub written : setting.tells → AreWritesPlaced setting (histories_in session.state) session.stopped lines session.replies.items
+  pub written : setting.tells → AreWritesPlaced setting (histories_in session.state) session.stopped (course_in session.state).running lines session.replies.items
 
 -- their text went to the sink
 pub record IsShownTo {B : Type 0} (tells : Type 0) (lines : List Numbered) (session : Session B) (old new : List ℕ) (old_faults new_faults : ℕ) : Type 0 where

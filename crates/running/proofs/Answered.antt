@@ -25,10 +25,12 @@ use Rattle.growing.proofs.Idle.{some-steps}
 use Rattle.growing.specs.running_words_Parts.{RunningParts, left_in, still_left}
 use Rattle.growing.specs.running_words_Calls.{IsCalled}
 use Rattle.growing.specs.running_replies_Going.{HasNoReshape}
-use Rattle.growing.specs.still_laws_Steps.{IsStepped, MayEndNow, IsStepsReplyNow}
+use Rattle.growing.specs.still_laws_Steps.{IsStepped, RefusesBegin, MayEndNow, IsStepsReplyNow}
 use Rattle.growing.proofs.still_laws_PlansKept.{PlanNone}
 use Rattle.growing.specs.moving_steps_Replies.{IsEndedInReshape, IsReplyInReshape}
-use Rattle.running.specs.Calls.{running_left, IsNext, MayEndSteps, IsReplyNow}
+use Rattle.growing.specs.turning_Begun.{IsUnbegun}
+use Rattle.takeover.specs.TakenOver.{IsUntaken}
+use Rattle.running.specs.Calls.{running_left, IsNext, IsPhaseRefused, MayEndAtRest, MayEndSteps, IsReplyNow}
 use Rattle.running.specs.declared.state.choosing.Next.{Next}
 use Rattle.running.specs.declared.state.choosing.Next.TheVariants as next
 use Rattle.running.proofs.Checked.{some-of}
@@ -41,16 +43,42 @@ left-still array still = ap (λ (b : Bool). cond b (left_in array.parts.work arr
 pub left-moving : {B : Type 0} (array : RunningParts B) → is_reshaping array.parts.members.newest ≡ true → running_left array ≡ left_in array.parts.work array.parts.members array.course array.ahead
 left-moving array active = ap (λ (b : Bool). cond b (left_in array.parts.work array.parts.members array.course array.ahead) (still_left array.parts.work array.parts.members array.ahead)) active
 
+-- a phase that can't be done refuses what the begin of one may
+phase-now : (m : Members) (phases : List Phase) (refusal : Refusal) → IsPhaseRefused m phases refusal → RefusesBegin refusal × (phases ≢ [])
+phase-now m phases refusal why = by phases why
+  where
+    some : (phase : Phase) (more : List Phase) → (phase ∷ more) ≢ []
+    some phase more none = absurd (let e : ◌≡◌ {A = List Phase} [] (phase ∷ more) = sym none in cc)
+
+    unbegun : (to : Shape) → IsUnbegun m to refusal → RefusesBegin refusal
+    unbegun to (inl (role, lowest, told)) = subst RefusesBegin (sym told) tt
+    unbegun to (inr (whole, few, told)) = subst RefusesBegin (sym told) tt
+
+    untaken : (to : Shape) → IsUntaken m to refusal → RefusesBegin refusal
+    untaken to (inl (role, lowest, told)) = subst RefusesBegin (sym told) tt
+    untaken to (inr (whole, six, none, told)) = subst RefusesBegin (sym told) tt
+
+    by : (l : List Phase) → IsPhaseRefused m l refusal → RefusesBegin refusal × (l ≢ [])
+    by [] was = absurd was
+    by (Reshape to ∷ more) (inl was) = (unbegun to was, some (Reshape to) more)
+    by (Reshape to ∷ more) (inr told) = (subst RefusesBegin (sym told) tt, some (Reshape to) more)
+    by (UpTo6 to ∷ more) was = (untaken to was, some (UpTo6 to) more)
+    by (DownTo5 to ∷ more) was = (untaken to was, some (DownTo5 to) more)
+
+pub now-of : (work : Work) (m : Members) (ahead : PhasesLeft) (refusal : Refusal) → MayEndAtRest work m (phases_of ahead) refusal → MayEndNow work m ahead refusal
+now-of work m ahead refusal (inl right) = inl right
+now-of work m ahead refusal (inr (done, why)) = inr (phase-now m (phases_of ahead) refusal why)
+
 module _ {B : Type 0} (array : RunningParts B) where
   may-still : is_reshaping array.parts.members.newest ≡ false → (ended : Option Refusal) → MatchOption ended ⊤ (MayEndSteps array) → MatchOption ended ⊤ (MayEndNow array.parts.work array.parts.members array.ahead)
   may-still still None may = tt
-  may-still still (Some refusal) may =
-      subst (λ (b : Bool). MatchBool b (IsEndedInReshape array.parts.work array.parts.members refusal) (MayEndNow array.parts.work array.parts.members array.ahead refusal)) still may
+  may-still still (Some refusal) may = now-of array.parts.work array.parts.members array.ahead refusal
+      (subst (λ (b : Bool). MatchBool b (IsEndedInReshape array.parts.work array.parts.members refusal) (MayEndAtRest array.parts.work array.parts.members (phases_of array.ahead) refusal)) still may)
 
   may-moving : is_reshaping array.parts.members.newest ≡ true → (ended : Option Refusal) → MatchOption ended ⊤ (MayEndSteps array) → MatchOption ended ⊤ (IsEndedInReshape array.parts.work array.parts.members)
   may-moving active None may = tt
   may-moving active (Some refusal) may =
-      subst (λ (b : Bool). MatchBool b (IsEndedInReshape array.parts.work array.parts.members refusal) (MayEndNow array.parts.work array.parts.members array.ahead refusal)) active may
+      subst (λ (b : Bool). MatchBool b (IsEndedInReshape array.parts.work array.parts.members refusal) (MayEndAtRest array.parts.work array.parts.members (phases_of array.ahead) refusal)) active may
 
   pub reply-still : (event : Event) → is_reshaping array.parts.members.newest ≡ false → IsReplyNow array event → IsStepsReplyNow array.parts.work array.parts.members array.ahead event
   reply-still (Refused Nothing) still reply = sym (left-still array still) ∙ reply

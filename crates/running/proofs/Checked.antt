@@ -5,7 +5,8 @@ use Rattle.std.specs.Prelude.{IfSome}
 use Rattle.std.proofs.lemmas.Bool.Decides.{nat_tests}
 use Rattle.growing.specs.bank_Given.{Given}
 use Rattle.takeover.specs.superblocks_the_Members.{Members}
-use Rattle.takeover.specs.superblocks_Reading.{Scope}
+use Rattle.takeover.specs.sb1_the_Sb.{Sb}
+use Rattle.takeover.specs.superblocks_Reading.{Scope, next_window}
 use Rattle.takeover.specs.superblocks_Reads.{has_spare}
 use Rattle.takeover.specs.superblocks_Update.{is_held_by}
 use Rattle.growing.proofs.shape_views_Headers.{backup-is}
@@ -13,6 +14,10 @@ use Rattle.growing.proofs.shape_changes_Without.{live-is}
 use Rattle.growing.specs.views_Rebuilding.{Held}
 use Rattle.growing.specs.safe_updates_Unused.{IsUnused}
 use Rattle.growing.specs.moving_kept_Moving.{AreReshaping}
+use Rattle.growing.specs.course_kept_Course.{IsWindowOf, hidden_in}
+use Rattle.growing.specs.moving_state_Due.{unsure_in}
+use Rattle.takeover.specs.grow_asked_the_Window.{Window}
+use Rattle.takeover.specs.grow_asked_the_Window_TheVariants.{Closed, Entered, Unsure}
 
 pub some-of : (n : ℕ) → n ≢ 0 → 0 < n
 some-of zero none = absurd (none refl)
@@ -21,6 +26,13 @@ some-of (suc n) none = omega arith
 -- the steps that are left are those of one state
 pub left-by : (told : Option ℕ) (b c : Bool) (here other : ℕ) → b ≡ c → IfSome told (λ n. n ≡ cond c here other) → IfSome told (λ n. n ≡ cond b here other)
 left-by told b c here other same was = subst (λ (d : Bool). IfSome told (λ n. n ≡ cond d here other)) (sym same) was
+
+-- a window whose section is stored, or may be, is the next one
+pub window-next : (newest : Sb) (window : Window) → IsWindowOf newest window → IfSome (hidden_in window) (λ span. next_window newest ≡ Some span) × IfSome (unsure_in window) (λ span. next_window newest ≡ Some span)
+window-next newest Closed is = (tt, tt)
+window-next newest (Entered span copied true) is = (is.0, tt)
+window-next newest (Entered span copied false) is = (tt, tt)
+window-next newest (Unsure span) is = (tt, is)
 
 -- the backup of a reshape is no spare
 spare-never : (m : Members) (s : ℕ) → s < 32 → IsUnused m s → has_spare m.spares s ≡ true → ⊥

@@ -1,6 +1,7 @@
 -- Where all is done in an array at rest, no plan is open: what keeps that over each call.
 use Rattle.std.proofs.Common.{◌≡◌, ◌≢◌, inl, inr, ℕ, ◌<◌, ◌==◌, max, Bool, true, false, not, Option, Some, None, Result, Ok, Err, List, [], ◌∷◌, ◌++◌, append_assoc, refl, sym, ◌∙◌, ap, subst, arith}
-use Rattle.std.specs.Prelude.{is_some, MatchOption, unwrap_or}
+use Rattle.std.specs.Prelude.{if◌then◌else◌, is_some, nat_lt, MatchOption, unwrap_or}
+use Rattle.std.specs.Option.{option_map_or}
 use Rattle.growing.specs.md_base_the_Fault.{Fault}
 use Rattle.growing.specs.md_base_the_Fault_TheVariants.{Refused as IsRefusedWith, NoMemory}
 use Rattle.growing.specs.md_base_the_Refusal.{Refusal}
@@ -19,12 +20,13 @@ use Rattle.takeover.specs.flat_history_the_Entry.{Entry}
 use Rattle.takeover.specs.flat_history_the_Event.{Event}
 use Rattle.takeover.specs.flat_history_the_Event_TheVariants.{Step, Rebuilt}
 use Rattle.takeover.specs.flat_history_the_StepKind.{StepKind}
-use Rattle.takeover.specs.flat_history_the_StepKind_TheVariants.{Finished, TakenOver, RebuildEnded}
+use Rattle.takeover.specs.flat_history_the_StepKind_TheVariants.{Finished, TakenOver, RebuildTaken, RebuildStripe, RebuildEnded, ResyncStripe, ResyncEnded}
 use Rattle.takeover.specs.flat_history_Plain.{entries_of}
 use Rattle.takeover.specs.flat_history_Reshaped.{is_done, open_plans}
 use Rattle.growing.specs.views_Placed.{is_vacant, AreWhole, IsPlaced}
 use Rattle.growing.specs.views_Lacking.{AreTooMany}
-use Rattle.growing.specs.views_Status.{left_of}
+use Rattle.growing.specs.views_Status.{left_of, rebuilt_of, stripes_of}
+use Rattle.growing.specs.views_the_Work.{Work}
 use Rattle.growing.proofs.views_Fit.{force-disks}
 use Rattle.growing.proofs.views_LackingLaws.{never-too-many}
 use Rattle.growing.specs.call_entries_Losing.{losses_of}
@@ -37,7 +39,7 @@ use Rattle.growing.specs.running_words_Calls.{IsStepTaken}
 use Rattle.growing.specs.still_steps_Resyncing.{is_at_end, IsUnmended}
 use Rattle.growing.specs.still_steps_Resyncing as resync
 use Rattle.growing.specs.still_steps_Rebuilding.{recovers, first_recovering, first_vacant, IsRebuildNext, rebuilt_role, rebuild_kind, rebuild_events}
-use Rattle.growing.specs.still_steps_Stepping.{IsUndone, IsStepEntered}
+use Rattle.growing.specs.still_steps_Stepping.{IsUndone, IsStepEntered, next_kind}
 use Rattle.growing.proofs.still_steps_Lowest.{lowest-found}
 use Rattle.growing.proofs.still_steps_NextLaws.{next-rebuild}
 use Rattle.growing.specs.turning_Ended.{ended_length, IsEndedWith}
@@ -130,6 +132,31 @@ rebuilt-below m next = by (first_recovering m) refl (first_vacant m) refl next
         (subst (λ (o : Option ℕ). unwrap_or o 0 < (shape_of m.newest).disks) (sym there) (lowest-found (shape_of m.newest).disks (is_vacant (reading_of m)) role there).0)
     by None is None there (inl some) = absurd (let none : false ≡ true = sym (ap (λ (o : Option ℕ). is_some o) is) ∙ some in cc)
     by None is None there (inr some) = absurd (let none : false ≡ true = sym (ap (λ (o : Option ℕ). is_some o) there) ∙ some.0 in cc)
+
+-- the role that a step gives to a spare has no slot
+pub given-vacant : (work : Work) (m : Members) → 0 < left_of work m → next_kind work m ≡ RebuildTaken → is_vacant (reading_of m) (rebuilt_role m) ≡ true
+given-vacant work m some kind = by work.resync refl kind
+  where
+    mends : (b : Bool) → (if b then ResyncEnded else ResyncStripe) ≡ RebuildTaken → ⊥
+    mends true e = absurd (cc)
+    mends false e = absurd (cc)
+
+    builds : (b : Bool) → (if b then RebuildStripe else RebuildEnded) ≡ RebuildTaken → ⊥
+    builds true e = absurd (cc)
+    builds false e = absurd (cc)
+
+    at : (a : Option ℕ) → first_recovering m ≡ a → (b : Option ℕ) → first_vacant m ≡ b → IsRebuildNext m → option_map_or (λ role. if nat_lt (rebuilt_of work role) (stripes_of m) then RebuildStripe else RebuildEnded) a RebuildTaken ≡ RebuildTaken
+        → is_vacant (reading_of m) (rebuilt_role m) ≡ true
+    at (Some role) is b there next e = absurd (builds (nat_lt (rebuilt_of work role) (stripes_of m)) e)
+    at None is (Some role) there next e =
+        subst (λ (o : Option ℕ). is_vacant (reading_of m) (unwrap_or o (unwrap_or (first_vacant m) 0)) ≡ true) (sym is)
+        (subst (λ (o : Option ℕ). is_vacant (reading_of m) (unwrap_or o 0) ≡ true) (sym there) (lowest-found (shape_of m.newest).disks (is_vacant (reading_of m)) role there).1)
+    at None is None there (inl found) e = absurd (let none : false ≡ true = sym (ap (λ (o : Option ℕ). is_some o) is) ∙ found in cc)
+    at None is None there (inr found) e = absurd (let none : false ≡ true = sym (ap (λ (o : Option ℕ). is_some o) there) ∙ found.0 in cc)
+
+    by : (o : Option ℕ) → work.resync ≡ o → option_map_or (λ mended. resync.next_kind work.resync m) o (rebuild_kind work m) ≡ RebuildTaken → is_vacant (reading_of m) (rebuilt_role m) ≡ true
+    by (Some mended) waits e = absurd (mends (is_at_end work.resync m) e)
+    by None synced e = at (first_recovering m) refl (first_vacant m) refl (next-rebuild work m synced some) e
 
 pub why-of : (visible : ℕ) (why : Members → Refusal → Type 0) (old new : Members) (refusal : Refusal) → IsRefusedFor visible 0 why old new refusal → why new refusal
 why-of visible why old new (PastEnd told) is = absurd (let lt = is.1 in omega (arith, lt))

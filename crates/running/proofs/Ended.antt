@@ -1,26 +1,30 @@
 -- A step that is refused, and one that ends a reshape: what a reply may tell of it.
-use Rattle.std.proofs.Common.{◌≡◌, ◌≢◌, inl, inr, ℕ, ◌+◌, ◌-◌, nat_lt, Bool, true, false, Option, Some, None, Result, Ok, Err, List, [], ◌∷◌, refl, sym, ◌∙◌, ap, subst}
+use Rattle.std.proofs.Common.{◌≡◌, ◌≢◌, inl, inr, ℕ, ◌+◌, ◌-◌, ◌<◌, nat_lt, Bool, true, false, Option, Some, None, Result, Ok, Err, List, [], ◌∷◌, refl, sym, ◌∙◌, ap, subst}
 use Rattle.std.specs.Prelude.{if◌then◌else◌, is_some, MatchBool, MatchOption}
 use Rattle.growing.specs.md_base_the_Fault.{Fault}
 use Rattle.growing.specs.md_base_the_Fault_TheVariants.{Refused as IsRefusedWith, NoMemory}
 use Rattle.growing.specs.md_base_the_Refusal.{Refusal}
+use Rattle.growing.specs.md_base_the_Refusal_TheVariants.{Degraded}
 use Rattle.growing.specs.md_base_the_Who.{Who}
 use Rattle.growing.specs.md_base_the_Shape.{Shape}
 use Rattle.growing.specs.md_base_the_Phase.{Phase}
 use Rattle.growing.specs.md_base_the_Phase_TheVariants.{Reshape, UpTo6, DownTo5}
 use Rattle.takeover.specs.sb1_the_Sb.{Sb}
 use Rattle.takeover.specs.superblocks_the_Members.{Members}
-use Rattle.takeover.specs.superblocks_Reading.{is_reshaping, shape_of, final_shape, list_length, next_window}
+use Rattle.takeover.specs.superblocks_Reading.{is_reshaping, shape_of, final_shape, list_length, next_window, role_count}
+use Rattle.growing.specs.row_io_Rows.{reading_of, is_missing}
 use Rattle.takeover.specs.flat_history_the_Entry.{Entry}
 use Rattle.takeover.specs.flat_history_the_StepKind.{StepKind}
+use Rattle.growing.specs.views_Status.{left_of}
 use Rattle.growing.specs.views_the_Work.{Work}
 use Rattle.growing.proofs.shape_views_Alike.{for-both}
 use Rattle.growing.specs.views_Placed.{IsInForce}
-use Rattle.growing.specs.views_Lacking.{AreTooMany}
+use Rattle.growing.specs.views_Lacking.{AreTooMany, IsNotResynced}
 use Rattle.growing.specs.region_mends_the_Stripe.{Stripe}
 use Rattle.growing.specs.region_mends_Mends.{low_end, low_shape, high_shape, low_stripes, high_stripe, mend_shape, IsNotMended}
 use Rattle.growing.specs.array_kept_Calls.{by_answer, IsCausedBy}
 use Rattle.takeover.specs.grow_asked_the_PhasesLeft.{PhasesLeft}
+use Rattle.growing.specs.grow_asked_Asked.{lowest_missing}
 use Rattle.takeover.specs.grow_asked_the_Window.{Window}
 use Rattle.takeover.specs.grow_asked_the_Window_TheVariants.{Closed, Entered, Unsure}
 use Rattle.takeover.specs.grow_asked_Left.{phases_of, stripes_in, zeroed_by}
@@ -30,29 +34,30 @@ use Rattle.growing.specs.moving_state_the_Due_TheVariants.{Copy, Record, Mend, E
 use Rattle.growing.specs.running_words_Parts.{RunningParts, still_left}
 use Rattle.growing.specs.running_words_Calls.{IsStepTaken}
 use Rattle.growing.specs.moving_laws_Steps.{resync_behind, IsStepCaused}
-use Rattle.growing.specs.still_laws_Steps.{IsEndedRight, RefusesBegin, MayEndNow, IsClosable}
+use Rattle.growing.specs.still_laws_Steps.{IsEndedRight, IsClosable}
 use Rattle.growing.specs.still_steps_Resyncing.{is_at_end, IsUnmended}
 use Rattle.growing.specs.still_steps_Stepping.{IsUndone, after_step}
 use Rattle.growing.specs.moving_steps_Replies.{IsEndedInReshape}
-use Rattle.growing.specs.turning_Begun.{IsBeginRefused}
+use Rattle.growing.specs.turning_Begun.{IsUnbegun, IsBeginRefused}
+use Rattle.growing.proofs.still_steps_Lowest.{lowest-found}
 use Rattle.growing.specs.turning_Ended.{IsEndedWith}
 use Rattle.takeover.specs.TakenOver.{IsTakeoverNext, IsTakenWith, IsUntaken}
-use Rattle.running.specs.Calls.{MayEndSteps, IsRefusedInStep}
+use Rattle.running.specs.Calls.{IsPhaseRefused, MayEndAtRest, MayEndSteps, IsRefusedInStep}
 use Rattle.running.proofs.Closed.{why-of, ended-closes, taken-closes}
 
 -- ---- by the state
 
-pub ends-still : {B : Type 0} (array : RunningParts B) (refusal : Refusal) → is_reshaping array.parts.members.newest ≡ false → MayEndNow array.parts.work array.parts.members array.ahead refusal → MayEndSteps array refusal
+pub ends-still : {B : Type 0} (array : RunningParts B) (refusal : Refusal) → is_reshaping array.parts.members.newest ≡ false → MayEndAtRest array.parts.work array.parts.members (phases_of array.ahead) refusal → MayEndSteps array refusal
 ends-still array refusal still why =
-    subst (λ (b : Bool). MatchBool b (IsEndedInReshape array.parts.work array.parts.members refusal) (MayEndNow array.parts.work array.parts.members array.ahead refusal)) (sym still) why
+    subst (λ (b : Bool). MatchBool b (IsEndedInReshape array.parts.work array.parts.members refusal) (MayEndAtRest array.parts.work array.parts.members (phases_of array.ahead) refusal)) (sym still) why
 
 pub ends-moving : {B : Type 0} (array : RunningParts B) (refusal : Refusal) → is_reshaping array.parts.members.newest ≡ true → IsEndedInReshape array.parts.work array.parts.members refusal → MayEndSteps array refusal
 ends-moving array refusal active why =
-    subst (λ (b : Bool). MatchBool b (IsEndedInReshape array.parts.work array.parts.members refusal) (MayEndNow array.parts.work array.parts.members array.ahead refusal)) (sym active) why
+    subst (λ (b : Bool). MatchBool b (IsEndedInReshape array.parts.work array.parts.members refusal) (MayEndAtRest array.parts.work array.parts.members (phases_of array.ahead) refusal)) (sym active) why
 
 -- ---- a step without a reshape
 
-undone-ends : (old new : Work) (before after : Members) (ahead : PhasesLeft) (refusal : Refusal) → new ≡ old → IsUndone old before after refusal → MayEndNow new after ahead refusal
+undone-ends : (old new : Work) (before after : Members) (ahead : PhasesLeft) (refusal : Refusal) → new ≡ old → IsUndone old before after refusal → MayEndAtRest new after (phases_of ahead) refusal
 undone-ends old new before after ahead refusal same why = inl (by old.resync refl why)
   where
     pending : {P : Type 0} (mended : ℕ) → old.resync ≡ Some mended → new.resync ≡ None → P
@@ -147,31 +152,88 @@ moved-refused f g kind old new who left (Err NoMemory) active shape final work e
 
 -- ---- a reshape that doesn't begin
 
-some-ahead : {B : Type 0} (old new : RunningParts B) (phase : Phase) (more : List Phase) → new.ahead ≡ old.ahead → phases_of old.ahead ≡ phase ∷ more → phases_of new.ahead ≢ []
-some-ahead old new phase more ahead next none = absurd (let e : ◌≡◌ {A = List Phase} [] (phase ∷ more) = sym none ∙ (ap phases_of ahead ∙ next) in cc)
+-- what was left to do is left to do still
+left-at : (old new : Work) (before after : Members) → new ≡ old → after ≡ before → left_of old before ≡ 0 → left_of new after ≡ 0
+left-at old new before after work members done = ap (λ (p : Work × Members). left_of p.0 p.1) (λ i. (work i, members i)) ∙ done
 
-pub begin-refused : {B : Type 0} (f g : ℕ → ℕ) (to : Shape) (more : List Phase) (old new : RunningParts B) (refusal : Refusal) → is_reshaping new.parts.members.newest ≡ false → new.ahead ≡ old.ahead → phases_of old.ahead ≡ Reshape to ∷ more
-    → IsBeginRefused f g to refusal old new → MayEndSteps new refusal
-begin-refused f g to more old new refusal still ahead next why = ends-still new refusal still (inr (by why, some-ahead old new (Reshape to) more ahead next))
+-- so it is of the phases of an array with the same members
+refused-at : (before after : Members) (old new : PhasesLeft) (phase : Phase) (more : List Phase) (refusal : Refusal) → after ≡ before → new ≡ old → phases_of old ≡ phase ∷ more → IsPhaseRefused before (phase ∷ more) refusal
+    → IsPhaseRefused after (phases_of new) refusal
+refused-at before after old new phase more refusal members ahead next why =
+    subst (λ (m : Members). IsPhaseRefused m (phases_of new) refusal) (sym members) (subst (λ (l : List Phase). IsPhaseRefused before l refusal) (sym (ap phases_of ahead ∙ next)) why)
+
+pub begin-refused : {B : Type 0} (f g : ℕ → ℕ) (to : Shape) (more : List Phase) (old new : RunningParts B) (refusal : Refusal) → is_reshaping new.parts.members.newest ≡ false → new.parts.members ≡ old.parts.members → new.parts.work ≡ old.parts.work
+    → left_of old.parts.work old.parts.members ≡ 0 → new.ahead ≡ old.ahead → phases_of old.ahead ≡ Reshape to ∷ more → IsBeginRefused f g to refusal old new → MayEndSteps new refusal
+begin-refused f g to more old new refusal still members work done ahead next why = ends-still new refusal still (inr (
+  left-at old.parts.work new.parts.work old.parts.members new.parts.members work members done,
+  refused-at old.parts.members new.parts.members old.ahead new.ahead (Reshape to) more refusal members ahead next (by why),
+))
   where
-    by : IsBeginRefused f g to refusal old new → RefusesBegin refusal
-    by (inl (inl (role, lowest, told), bank)) = subst RefusesBegin (sym told) tt
-    by (inl (inr (whole, few, told), bank)) = subst RefusesBegin (sym told) tt
-    by (inr (can, told, fault)) = subst RefusesBegin (sym told) tt
+    by : IsBeginRefused f g to refusal old new → IsPhaseRefused old.parts.members (Reshape to ∷ more) refusal
+    by (inl (unbegun, bank)) = inl unbegun
+    by (inr (can, told, fault)) = inr told
 
 -- ---- a takeover that isn't done
 
-pub take-refused : {B : Type 0} (to : Shape) (more : List Phase) (old new : RunningParts B) (refusal : Refusal) → is_reshaping new.parts.members.newest ≡ false → new.ahead ≡ old.ahead → IsTakeoverNext (phases_of old.ahead) to more
-    → IsUntaken old.parts.members to refusal → MayEndSteps new refusal
-take-refused to more old new refusal still ahead next why = ends-still new refusal still (inr (by why, some next))
+pub take-refused : {B : Type 0} (to : Shape) (more : List Phase) (old new : RunningParts B) (refusal : Refusal) → is_reshaping new.parts.members.newest ≡ false → new.parts.members ≡ old.parts.members → new.parts.work ≡ old.parts.work
+    → left_of old.parts.work old.parts.members ≡ 0 → new.ahead ≡ old.ahead → IsTakeoverNext (phases_of old.ahead) to more → IsUntaken old.parts.members to refusal → MayEndSteps new refusal
+take-refused to more old new refusal still members work done ahead next why = ends-still new refusal still (inr (
+  left-at old.parts.work new.parts.work old.parts.members new.parts.members work members done,
+  by next,
+))
   where
-    some : IsTakeoverNext (phases_of old.ahead) to more → phases_of new.ahead ≢ []
-    some (inl up) = some-ahead old new (UpTo6 to) more ahead up
-    some (inr down) = some-ahead old new (DownTo5 to) more ahead down
+    by : IsTakeoverNext (phases_of old.ahead) to more → IsPhaseRefused new.parts.members (phases_of new.ahead) refusal
+    by (inl up) = refused-at old.parts.members new.parts.members old.ahead new.ahead (UpTo6 to) more refusal members ahead up why
+    by (inr down) = refused-at old.parts.members new.parts.members old.ahead new.ahead (DownTo5 to) more refusal members ahead down why
 
-    by : IsUntaken old.parts.members to refusal → RefusesBegin refusal
-    by (inl (role, lowest, told)) = subst RefusesBegin (sym told) tt
-    by (inr (whole, six, none, told)) = subst RefusesBegin (sym told) tt
+-- ---- what a missing role ends
+
+-- steps that ended for a role did so for the lowest that is missing now
+pub degraded-missing : {B : Type 0} (array : RunningParts B) (role : ℕ) → MayEndSteps array (Degraded role) → (role < role_count array.parts.members.newest) × (is_missing (reading_of array.parts.members) role ≡ true)
+degraded-missing array role may =
+    lowest-found (role_count array.parts.members.newest) (is_missing (reading_of array.parts.members)) role (by (is_reshaping array.parts.members.newest) may)
+  where
+    Lowest : Type 0
+    Lowest = lowest_missing array.parts.members ≡ Some role
+
+    many : AreTooMany array.parts.members (Degraded role) → Lowest
+    many (inl is) = absurd (let e = is.told in cc)
+    many (inr is) = absurd (let e = is.1.told in cc)
+
+    unsynced : (shape : Shape) → IsNotResynced shape false array.parts.members (Degraded role) → Lowest
+    unsynced shape is = absurd (let e = is.1 in cc)
+
+    same : (r : ℕ) → lowest_missing array.parts.members ≡ Some r → Degraded role ≡ Degraded r → Lowest
+    same r lowest told = lowest ∙ (let e : r ≡ role = cc in ap (λ (n : ℕ). Some n) e)
+
+    unbegun : (to : Shape) → IsUnbegun array.parts.members to (Degraded role) → Lowest
+    unbegun to (inl (r, lowest, told)) = same r lowest told
+    unbegun to (inr (whole, few, told)) = absurd (let e = told in cc)
+
+    untaken : (to : Shape) → IsUntaken array.parts.members to (Degraded role) → Lowest
+    untaken to (inl (r, lowest, told)) = same r lowest told
+    untaken to (inr (whole, six, none, told)) = absurd (let e = told in cc)
+
+    phase : (l : List Phase) → IsPhaseRefused array.parts.members l (Degraded role) → Lowest
+    phase [] was = absurd was
+    phase (Reshape to ∷ more) (inl was) = unbegun to was
+    phase (Reshape to ∷ more) (inr told) = absurd (let e = told in cc)
+    phase (UpTo6 to ∷ more) was = untaken to was
+    phase (DownTo5 to ∷ more) was = untaken to was
+
+    rest : MayEndAtRest array.parts.work array.parts.members (phases_of array.ahead) (Degraded role) → Lowest
+    rest (inl (inl is, lacks)) = many is
+    rest (inl (inr is, lacks)) = unsynced (shape_of array.parts.members.newest) is
+    rest (inr (idle, why)) = phase (phases_of array.ahead) why
+
+    moving : IsEndedInReshape array.parts.work array.parts.members (Degraded role) → Lowest
+    moving (inl is) = many is
+    moving (inr (inl is)) = unsynced is.1 is.3
+    moving (inr (inr told)) = absurd (let e = told in cc)
+
+    by : (b : Bool) → MatchBool b (IsEndedInReshape array.parts.work array.parts.members (Degraded role)) (MayEndAtRest array.parts.work array.parts.members (phases_of array.ahead) (Degraded role)) → Lowest
+    by true is = moving is
+    by false is = rest is
 
 -- ---- a reshape that ended, and a takeover that is done
 

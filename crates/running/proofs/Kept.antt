@@ -350,7 +350,7 @@ module _ {B : Type 0} {tells : Type 0} (given : B → Given) (tape : B → List 
 
 -- what is stored is the same
 stored-same : {B : Type 0} {world : World} {array : RunningParts B} {n : ℕ} → IsStoredBy world array → IsStoredBy world (record array { parts = record array.parts { steps = n } })
-stored-same was = record { begun = was.begun; ends = was.ends; stored = was.stored }
+stored-same was = record { begun = was.begun; ends = was.ends; unlost = was.unlost; window = was.window; gone = was.gone; stored = was.stored }
 
 module _ {B : Type 0} {tells : Type 0} (given : B → Given) (tape : B → List Operation) (window n : ℕ) (old new : RunningParts B) where
   -- where room is made, and where memory is short for it

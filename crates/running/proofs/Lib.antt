@@ -26,6 +26,7 @@ pub use Rattle.growing.proofs.kept_history_Tests
 pub use Rattle.growing.proofs.kept_history_Opened
 pub use Rattle.growing.proofs.call_entries_LosingLaws
 pub use Rattle.growing.proofs.kept_history_Turned
+pub use Rattle.growing.proofs.kept_history_Growing
 pub use Rattle.growing.proofs.superblock_reads_SaidLists
 pub use Rattle.growing.proofs.superblock_reads_SaidSlots
 pub use Rattle.growing.proofs.row_io_Losses

@@ -1,11 +1,11 @@
 -- What the calls of a running array tell of it, by whether a reshape is active in it.
-use Rattle.std.specs.Prelude.{◌≡◌, ◌≢◌, ℕ, ◌+◌, ◌<◌, true, false, List, ◌∷◌, if◌then◌else◌, MatchBool, MatchOption, Result, Ok, Err, ⊤}
+use Rattle.std.specs.Prelude.{◌≡◌, ◌≢◌, ◌⊎◌, ℕ, ◌+◌, ◌<◌, true, false, List, [], ◌∷◌, if◌then◌else◌, MatchBool, MatchOption, Result, Ok, Err, ⊤}
 use Rattle.growing.specs.md_base_the_Fault.{Fault}
 use Rattle.growing.specs.md_base_the_Fault_TheVariants.{Refused as IsRefusedWith, NoMemory}
 use Rattle.growing.specs.md_base_the_Refusal.{Refusal}
-use Rattle.growing.specs.md_base_the_Refusal_TheVariants.{Nothing as IsDone}
+use Rattle.growing.specs.md_base_the_Refusal_TheVariants.{Nothing as IsDone, BackupFault}
 use Rattle.growing.specs.md_base_the_Phase.{Phase}
-use Rattle.growing.specs.md_base_the_Phase_TheVariants.{Reshape}
+use Rattle.growing.specs.md_base_the_Phase_TheVariants.{Reshape, UpTo6, DownTo5}
 use Rattle.growing.specs.md_base_the_Status.{Status}
 use Rattle.takeover.specs.superblocks_the_Members.{Members}
 use Rattle.takeover.specs.superblocks_Reading.{is_reshaping, shape_of}
@@ -16,6 +16,7 @@ use Rattle.takeover.specs.flat_history_the_Event_TheVariants.{Refused, Stepped}
 use Rattle.growing.specs.views_Lacking.{IsUnread, IsUnwritten, are_mended, mended_rows}
 use Rattle.growing.specs.region_mends_Mends.{relied_sector}
 use Rattle.growing.specs.views_Status.{left_of}
+use Rattle.growing.specs.views_the_Work.{Work}
 use Rattle.takeover.specs.grow_asked_Left.{phases_of}
 use Rattle.growing.specs.kept_history_Safe.{IsFilledRight}
 use Rattle.growing.specs.history_calls_Reliable.{IsReliable}
@@ -27,9 +28,10 @@ use Rattle.growing.specs.moving_state_Due.{due_of}
 use Rattle.growing.specs.moving_state_the_Due_TheVariants.{Finish as EndsReshape}
 use Rattle.growing.specs.moving_state_First.{IsUnreadAround}
 use Rattle.growing.specs.moving_laws_Writing.{IsWriteBarred}
-use Rattle.growing.specs.still_laws_Steps.{MayEndNow}
+use Rattle.growing.specs.still_laws_Steps.{IsEndedRight}
 use Rattle.growing.specs.moving_steps_Replies.{IsEndedInReshape}
-use Rattle.takeover.specs.TakenOver.{IsTakeoverNext}
+use Rattle.growing.specs.turning_Begun.{IsUnbegun}
+use Rattle.takeover.specs.TakenOver.{IsTakeoverNext, IsUntaken}
 use Rattle.running.specs.declared.state.choosing.Next.{Next}
 use Rattle.running.specs.declared.state.choosing.Next.TheVariants.{Nothing, Own, Begin, Take, Move, Finish}
 
@@ -76,10 +78,21 @@ IsNext array (Take to) = IsPhaseDue array × (behind : List Phase) × IsTakeover
 IsNext array Move = (is_reshaping array.parts.members.newest ≡ true) × (due_of array.parts.members.newest array.course array.parts.work.resync ≢ EndsReshape)
 IsNext array Finish = (is_reshaping array.parts.members.newest ≡ true) × (due_of array.parts.members.newest array.course array.parts.work.resync ≡ EndsReshape)
 
+-- the first of these phases can't be done: a role is missing, of which the lowest is told, or there are fewer spares than it takes; and a reshape doesn't begin where its backup failed
+abbrev pub IsPhaseRefused : Members → List Phase → Refusal → Type 0
+IsPhaseRefused members [] refusal = ⊥
+IsPhaseRefused members (Reshape to ∷ behind) refusal = IsUnbegun members to refusal ⊎ (refusal ≡ BackupFault)
+IsPhaseRefused members (UpTo6 to ∷ behind) refusal = IsUntaken members to refusal
+IsPhaseRefused members (DownTo5 to ∷ behind) refusal = IsUntaken members to refusal
+
+-- without a reshape a step was refused for what is missing; or nothing was left to do but the phases ahead, the first of which can't be done
+abbrev pub MayEndAtRest : Work → Members → List Phase → Refusal → Type 0
+MayEndAtRest work members phases refusal = IsEndedRight work members refusal ⊎ ((left_of work members ≡ 0) × IsPhaseRefused members phases refusal)
+
 -- Such a step may have been refused so: in a reshape for what is missing now, or for the backup; or else for what is missing, or because the next phase ahead can't be done.
 abbrev pub MayEndSteps : {B : Type 0} → RunningParts B → Refusal → Type 0
 MayEndSteps array refusal = MatchBool (is_reshaping array.parts.members.newest) (IsEndedInReshape array.parts.work array.parts.members refusal)
-    (MayEndNow array.parts.work array.parts.members array.ahead refusal)
+    (MayEndAtRest array.parts.work array.parts.members (phases_of array.ahead) refusal)
 
 -- a step that was refused was so for that
 abbrev pub IsRefusedInStep : {B T : Type 0} → RunningParts B → Result T Fault → Type 0

@@ -17,6 +17,8 @@ pub use Rattle.call_entries.proofs.CallLaws as call_entries_CallLaws
 pub use Rattle.openings.proofs.views_Flushed
 pub use Rattle.openings.proofs.views_Still
 pub use Rattle.openings.proofs.kept_history_Turned
+pub use Rattle.openings.proofs.kept_history_Growing
+pub use Rattle.openings.proofs.running_Ended
 pub use Rattle.openings.proofs.grow_asked_FirstLaws
 pub use Rattle.openings.proofs.history_laws_OneShapeGrowing
 pub use Rattle.openings.proofs.history_laws_ReshapedLaws

@@ -56,7 +56,7 @@ use Rattle.running_steps.specs.Steps.{TellsLeft, IsStepDone, IsStepRefused}
 use Rattle.running_steps.proofs.Events.{EachOf, each-losses, each-entry, each-own, any-none, count-one, IsNoStep, long-kept, going-more}
 use Rattle.running_steps.proofs.Went.{epoch-itself, held-behind, held-same, losses-along}
 use Rattle.running.proofs.still_laws_PlansKept.{aim-begun}
-use Rattle.running_steps.proofs.Ways.{turn-told, way-members}
+use Rattle.running_steps.proofs.Ways.{turn-told, TellsNoLoss, way-members}
 use Rattle.running_steps.proofs.Plain.{open-moving, plain-refused}
 use Rattle.running_steps.proofs.Refusals.{faulted-in}
 use Rattle.running.proofs.Answered.{left-moving, left-still}
@@ -187,6 +187,8 @@ module _ {B : Type 0} (tells : Type 0) (given : B → Given) (tape : B → List 
       limit = was.same.limit;
       unturned = turn-told old.parts.entries new.parts.entries inner was.entered.is refl;
       roles = λ before. turn-told old.parts.entries new.parts.entries inner was.entered.is refl;
+      failed = λ before. turn-told old.parts.entries new.parts.entries inner was.entered.is refl;
+      lost = λ before. turn-told old.parts.entries new.parts.entries inner was.entered.is refl;
     };
     ended = was.ended;
   }
@@ -260,7 +262,7 @@ module _ {B : Type 0} (tells : Type 0) (given : B → Given) (tape : B → List 
         epoch = epoch-itself old new back.same;
         active = λ still. ap (λ (m : Members). is_reshaping m.newest) back.members ∙ still;
         ahead = back.ahead;
-        kept = way-members (faults old.parts.bank) (faults new.parts.bank) old new back.members back.ahead back.same.limit;
+        kept = way-members (faults old.parts.bank) (faults new.parts.bank) old new (entries_of who back.end (Refused refusal ∷ [])) back.entered (All-cons (λ e. TellsNoLoss e.event) (one who back.end (Refused refusal)) [] tt (All-nil (λ e. TellsNoLoss e.event))) back.members back.ahead back.same.limit;
         ended = back.ended;
       })
       (behind-alone who back.end (Refused refusal) refl back.entered) goes (begin-ends (faults old.parts.bank) (faults new.parts.bank) to refusal caused)

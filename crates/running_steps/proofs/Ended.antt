@@ -135,6 +135,8 @@ module _ {B : Type 0} (tells : Type 0) (given : B → Given) (tape : B → List 
       limit = was.same.limit;
       unturned = turn-told old.parts.entries new.parts.entries inner was.entered.is turns;
       roles = λ still. turn-told old.parts.entries new.parts.entries inner was.entered.is turns;
+      failed = λ still. turn-told old.parts.entries new.parts.entries inner was.entered.is turns;
+      lost = λ active. turn-told old.parts.entries new.parts.entries inner was.entered.is turns;
     };
     ended = was.ended;
   }

@@ -23,6 +23,8 @@ pub use Rattle.running.proofs.call_entries_PlainLaws
 pub use Rattle.running.proofs.call_entries_LosingLaws
 pub use Rattle.running.proofs.call_entries_CallLaws
 pub use Rattle.running.proofs.kept_history_Turned
+pub use Rattle.running.proofs.kept_history_Growing
+pub use Rattle.running.proofs.Ended as running_Ended
 pub use Rattle.running.proofs.row_io_Losses
 pub use Rattle.running.proofs.history_laws_OneShapeGrowing
 pub use Rattle.running.proofs.history_laws_ReshapedLaws

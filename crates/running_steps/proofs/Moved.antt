@@ -43,7 +43,7 @@ moved-did tells given tape faults old new was given_is active later = record {
   epoch = record { uuid = was.same.array.uuid; given = was.same.array.given; first = was.same.array.first; backup = was.same.array.backup };
   active = λ still. absurd (let clash : true ≡ false = sym active ∙ still in cc);
   ahead = was.same.ahead;
-  kept = way-shaped (faults old.parts.bank) (faults new.parts.bank) old new (later ∙ sym active) was.same.array.shape was.same.final was.same.array.size was.same.ahead was.same.limit (λ still. absurd (let clash : true ≡ false = sym active ∙ still in cc));
+  kept = way-shaped (faults old.parts.bank) (faults new.parts.bank) old new (later ∙ sym active) was.same.array.shape was.same.final was.same.array.size was.same.ahead was.same.limit (λ still. absurd (let clash : true ≡ false = sym active ∙ still in cc)) (λ moves. record { held = was.held; spares = was.spares; losses = was.losses });
   ended = was.ended;
 }
 
@@ -86,7 +86,7 @@ ended-refused tells given tape faults who old new goes active later was given_is
       epoch = epoch-of old new was.same;
       active = λ still. absurd (let clash : true ≡ false = sym active ∙ still in cc);
       ahead = was.same.ahead;
-      kept = way-same (faults old.parts.bank) (faults new.parts.bank) old new was.same (later ∙ sym active) (λ still. absurd (let clash : true ≡ false = sym active ∙ still in cc));
+      kept = way-same (faults old.parts.bank) (faults new.parts.bank) old new was.same (later ∙ sym active) (λ still. absurd (let clash : true ≡ false = sym active ∙ still in cc)) (λ moves. record { held = was.held; spares = was.spares; losses = was.losses });
       ended = was.ended;
     })
     behind goes (moved-ends new refusal later right) (many-so (IsRefusalBy old.parts.backup (faults old.parts.bank) (faults new.parts.bank)) (λ count most. tt) new.parts.members refusal many) right

@@ -1,21 +1,27 @@
 -- The next step without a reshape: of a resync or a rebuild.
-use Rattle.std.proofs.Common.{◌≡◌, inl, inr, ℕ, Bool, true, false, cond, Option, Some, None, Ok, Err, List, [], ◌∷◌, refl, sym, ◌∙◌, subst}
-use Rattle.std.specs.Prelude.{nat_lt, MatchOption}
+use Rattle.std.proofs.Common.{◌≡◌, inl, inr, ℕ, ◌<◌, Bool, true, false, not, cond, Option, Some, None, Ok, Err, List, [], ◌∷◌, refl, sym, ◌∙◌, ap, subst}
+use Rattle.std.proofs.lemmas.List.Elements.{All-weaker}
+use Rattle.std.specs.Prelude.{nat_lt, is_some, MatchOption}
 use Rattle.std.specs.Option.{option_map_or}
 use Rattle.running.specs.md_base_the_Fault_TheVariants.{Refused as IsRefusedWith}
 use Rattle.running.specs.md_base_the_Refusal.{Refusal}
 use Rattle.running.specs.md_base_the_Who.{Who}
 use Rattle.running.specs.bank_the_Operation.{Operation}
-use Rattle.running.specs.bank_Given.{Given}
+use Rattle.running.specs.bank_Given.{Given, IsFaulted}
 use Rattle.running.specs.superblocks_the_Members.{Members}
 use Rattle.running.specs.superblocks_Reading.{is_reshaping, list_length}
 use Rattle.running.specs.flat_history_the_Entry.{Entry}
-use Rattle.running.specs.flat_history_the_Event_TheVariants.{Rebuilt, Step, Refused}
+use Rattle.running.specs.flat_history_the_Event.{Event}
+use Rattle.running.specs.flat_history_the_Event_TheVariants.{Lost, Rebuilt, Step, Refused}
+use Rattle.running.specs.flat_history_the_LostCause_TheVariants.{Fault as ByFault}
 use Rattle.running.specs.flat_history_the_StepKind.{StepKind}
 use Rattle.running.specs.flat_history_the_StepKind_TheVariants.{Finished, RebuildTaken, RebuildStripe, RebuildEnded, ResyncStripe, ResyncEnded}
 use Rattle.running.specs.views_the_Work.{Work}
-use Rattle.running.specs.views_Status.{stripes_of, rebuilt_of}
-use Rattle.running.specs.array_kept_Calls.{AreHeldOrSpare, AreStepsFewer, IsBehind, IsBehindAll, IsRebuildStepped, IsRefusedFor}
+use Rattle.running.specs.row_io_Rows.{reading_of}
+use Rattle.running.specs.views_Placed.{is_vacant}
+use Rattle.running.specs.views_Rebuilding.{Held}
+use Rattle.running.specs.views_Status.{stripes_of, rebuilt_of, left_of}
+use Rattle.running.specs.array_kept_Calls.{AreHeldOrSpare, AreStepsFewer, IsBehind, IsBehindAll, IsLossBy, IsRebuildStepped, IsRefusedFor, WasSpare}
 use Rattle.running.specs.running_words_Parts.{RunningParts, still_left}
 use Rattle.running.specs.running_words_Calls.{IsStepTaken}
 use Rattle.running.specs.still_laws_Steps.{IsStepped, IsClosable}
@@ -27,19 +33,33 @@ use Rattle.running.proofs.still_steps_NextLaws.{due-may}
 use Rattle.running.specs.kept_history_Recorded.{IsCallGoing}
 use Rattle.running.specs.running_replies_Going.{is_finish}
 use Rattle.running.specs.Calls.{running_left, MayEndSteps}
-use Rattle.running_steps.specs.Steps.{IsStepDone, IsStepRefused}
+use Rattle.running_steps.specs.Steps.{IsHolderFailed, IsStepDone, IsStepRefused}
 use Rattle.running_steps.proofs.Events.{IsOfStep, IsStepEntries, entries-behind, entries-lost}
 use Rattle.running_steps.proofs.Went.{epoch-of, long-same}
-use Rattle.running_steps.proofs.Ways.{way-same}
+use Rattle.running_steps.proofs.Ways.{same-holder, way-same}
 use Rattle.running_steps.proofs.Plain.{fewer-as, IsPlainStep, plain-done, plain-refused}
 use Rattle.running_steps.proofs.Refusals.{own-ends, own-cause}
 use Rattle.running.proofs.Answered.{left-still}
+use Rattle.running.proofs.Closed.{given-vacant}
+
+-- the slot that a role is given has none of those that held one
+due-failed : (work : Work) (m : Members) (f g : ℕ → ℕ) (Was : ℕ → Type 0) → 0 < left_of work m → (event : Event) → IsLossBy (IsHeldOrDue work m) Was f g event → IsHolderFailed m f g event
+due-failed work m f g Was some (Lost role ByFault) loss = λ slot here. by slot here loss.0 loss.1 loss.2
+  where
+    none-held : (slot : ℕ) → is_vacant (reading_of m) (rebuilt_role m) ≡ true → Held m (rebuilt_role m) slot → ⊥
+    none-held slot vacant held = absurd (let clash : false ≡ true = sym (ap (λ (o : Option ℕ). not (is_some o)) held) ∙ vacant in cc)
+
+    by : (slot : ℕ) → Held m role slot → (had : ℕ) → IsHeldOrDue work m role had → IsFaulted had f g → IsFaulted slot f g
+    by slot here had (inl held) failed = subst (λ (s : ℕ). IsFaulted s f g) (same-holder m role had slot held here) failed
+    by slot here had (inr (kind, (is, spare))) failed = absurd (none-held slot (given-vacant work m some kind) (subst (λ (r : ℕ). Held m r slot) is here))
+due-failed work m f g Was some (Lost role cause) loss = tt
+due-failed work m f g Was some event loss = tt
 
 own-did : {B : Type 0} (tells : Type 0) (given : B → Given) (tape : B → List Operation) (faults : B → ℕ → ℕ) (old new : RunningParts B)
     → IsStepped tells (given old.parts.bank) (tape old.parts.bank) (tape new.parts.bank) (IsHeldOrDue old.parts.work old.parts.members) (faults old.parts.bank) (faults new.parts.bank) old new
     → AreHeldOrSpare old.parts.members new.parts.members → given new.parts.bank ≡ given old.parts.bank → is_reshaping old.parts.members.newest ≡ false → is_reshaping new.parts.members.newest ≡ false
-    → IsPlainStep tells given tape faults (IsHeldOrDue old.parts.work old.parts.members) old new
-own-did tells given tape faults old new was held given_is still later = record {
+    → 0 < left_of old.parts.work old.parts.members → IsPlainStep tells given tape faults (IsHeldOrDue old.parts.work old.parts.members) old new
+own-did tells given tape faults old new was held given_is still later some = record {
   long = long-same old new was.same;
   held = held;
   had = due-may old.parts.work old.parts.members;
@@ -50,7 +70,18 @@ own-did tells given tape faults old new was held given_is still later = record {
   epoch = epoch-of old new was.same;
   active = λ still. later;
   ahead = was.same.ahead;
-  kept = way-same (faults old.parts.bank) (faults new.parts.bank) old new was.same (later ∙ sym still) (λ none. was.failed);
+  kept = way-same (faults old.parts.bank) (faults new.parts.bank) old new was.same (later ∙ sym still)
+      (λ none. (
+        was.failed,
+        (
+          was.losses.more,
+          was.losses.grown,
+          All-weaker (λ e. IsLossBy (IsHeldOrDue old.parts.work old.parts.members) (WasSpare old.parts.members) (faults old.parts.bank) (faults new.parts.bank) e.event)
+              (λ e. IsHolderFailed old.parts.members (faults old.parts.bank) (faults new.parts.bank) e.event)
+              (λ e loss. due-failed old.parts.work old.parts.members (faults old.parts.bank) (faults new.parts.bank) (WasSpare old.parts.members) some e.event loss) was.losses.more was.losses.failed,
+        ),
+      ))
+      (λ active. absurd (let clash : true ≡ false = sym active ∙ still in cc));
   ended = was.ended;
 }
 
@@ -108,11 +139,11 @@ own-behind T who old new work members members' left refusal = by work.resync
 module _ {B : Type 0} (tells : Type 0) (given : B → Given) (tape : B → List Operation) (faults : B → ℕ → ℕ) (who : Who) (old new : RunningParts B) (goes : IsCallGoing old.parts.entries who)
     (still : is_reshaping old.parts.members.newest ≡ false) (later : is_reshaping new.parts.members.newest ≡ false)
     (was : IsStepped tells (given old.parts.bank) (tape old.parts.bank) (tape new.parts.bank) (IsHeldOrDue old.parts.work old.parts.members) (faults old.parts.bank) (faults new.parts.bank) old new)
-    (held : AreHeldOrSpare old.parts.members new.parts.members) (given_is : given new.parts.bank ≡ given old.parts.bank) where
+    (held : AreHeldOrSpare old.parts.members new.parts.members) (given_is : given new.parts.bank ≡ given old.parts.bank) (some : 0 < left_of old.parts.work old.parts.members) where
   pub own-done : {T : Type 0} (x : T) → IsStepEntered {T = T} who old.parts.entries new.parts.entries old.parts.work old.parts.members new.parts.members (still_left new.parts.work new.parts.members new.ahead) (Ok x)
       → AreStepsFewer old.parts.entries new.parts.entries (still_left old.parts.work old.parts.members old.ahead) (still_left new.parts.work new.parts.members new.ahead) → IsClosable new → IsStepDone tells given tape faults who old new false
   own-done x entered fewer closes =
-      plain-done tells given tape faults who old new (IsHeldOrDue old.parts.work old.parts.members) (own-did tells given tape faults old new was held given_is still later)
+      plain-done tells given tape faults who old new (IsHeldOrDue old.parts.work old.parts.members) (own-did tells given tape faults old new was held given_is still later some)
       (subst (λ (n : ℕ). IsStepEntries who old.parts.entries new.parts.entries n) (sym (left-still new later))
       (own-entries who old.parts.entries new.parts.entries old.parts.work old.parts.members new.parts.members (still_left new.parts.work new.parts.members new.ahead) x entered))
       goes (later ∙ sym still)
@@ -121,7 +152,7 @@ module _ {B : Type 0} (tells : Type 0) (given : B → Given) (tape : B → List 
   pub own-refused : (T : Type 0) (refusal : Refusal) → IsStepEntered {T = T} who old.parts.entries new.parts.entries old.parts.work old.parts.members new.parts.members (still_left new.parts.work new.parts.members new.ahead) (Err (IsRefusedWith refusal))
       → IsRefusedFor (list_length old.parts.members.newest) 0 (IsUndone old.parts.work old.parts.members) old.parts.members new.parts.members refusal → MayEndSteps new refusal → IsStepRefused tells given tape faults who old new refusal
   own-refused T refusal entered caused right =
-      plain-refused tells given tape faults who old new (IsHeldOrDue old.parts.work old.parts.members) refusal (own-did tells given tape faults old new was held given_is still later)
+      plain-refused tells given tape faults who old new (IsHeldOrDue old.parts.work old.parts.members) refusal (own-did tells given tape faults old new was held given_is still later some)
       (own-behind T who old.parts.entries new.parts.entries old.parts.work old.parts.members new.parts.members (still_left new.parts.work new.parts.members new.ahead) refusal entered) goes
       (own-ends (list_length old.parts.members.newest) old.parts.work old.parts.members new.parts.members refusal caused)
       (own-cause (list_length old.parts.members.newest) old.parts.work old.parts.members new.parts.members refusal old.parts.backup (faults old.parts.bank) (faults new.parts.bank) caused) right

@@ -1,9 +1,11 @@
 -- Why a step is refused: each refusal may end a request for steps, and has its cause.
-use Rattle.std.proofs.Common.{◌≡◌, ◌≢◌, inl, inr, ℕ, Bool, true, false, cond, Option, Some, None, [], Err, MatchBool, refl, sym, ◌∙◌, ap, subst, arith}
-use Rattle.std.specs.Prelude.{nat_lt, is_some, IfSome, IsSome, MatchOption}
+use Rattle.std.proofs.Common.{◌≡◌, ◌≢◌, inl, inr, ℕ, Bool, true, false, cond, Option, Some, None, List, [], ◌∷◌, Err, MatchBool, refl, sym, ◌∙◌, ap, subst, arith}
+use Rattle.std.specs.Prelude.{nat_lt, is_some, IfSome, IsSome, MatchOption, ⊤}
 use Rattle.running.specs.md_base_the_Fault_TheVariants.{Refused as IsRefusedWith}
 use Rattle.running.specs.md_base_the_Refusal.{Refusal}
-use Rattle.running.specs.md_base_the_Refusal_TheVariants.{PastEnd, TooManyMissing, NotResynced, BackupFault, Degraded, NeedSpares}
+use Rattle.running.specs.md_base_the_Refusal_TheVariants.{PastEnd, TooManyMissing, NotResynced, BackupFault}
+use Rattle.running.specs.md_base_the_Phase.{Phase}
+use Rattle.running.specs.md_base_the_Phase_TheVariants.{Reshape, UpTo6, DownTo5}
 use Rattle.running.specs.md_base_the_Shape.{Shape}
 use Rattle.running.specs.bank_Given.{IsFaulted}
 use Rattle.running.specs.sb1_the_Sb.{Sb}
@@ -26,10 +28,11 @@ use Rattle.running.specs.moving_laws_Steps.{IsStepCaused}
 use Rattle.running.specs.still_steps_Stepping.{IsUndone}
 use Rattle.running.proofs.still_steps_NextLaws.{undone-unwritten}
 use Rattle.running.specs.running_replies_Replies.{EndsRunningSteps, MayEndBy, IsRefusalBy}
-use Rattle.running.specs.still_laws_Steps.{RefusesBegin, MayEndNow}
+use Rattle.running.specs.turning_Begun.{IsUnbegun}
+use Rattle.running.specs.takeover_TakenOver.{IsUntaken}
 use Rattle.running.proofs.running_replies_Fitting.{end-more}
 use Rattle.running.specs.moving_steps_Replies.{IsEndedInReshape}
-use Rattle.running.specs.Calls.{MayEndSteps}
+use Rattle.running.specs.Calls.{IsPhaseRefused, MayEndAtRest, MayEndSteps}
 
 -- a fact of each refusal that tells what is missing holds of one for too many roles
 pub many-so : (P : Refusal → Type 0) → ((count most : ℕ) → P (TooManyMissing count most)) → (m : Members) (refusal : Refusal) → AreTooMany m refusal → P refusal
@@ -74,20 +77,35 @@ moved-ends array refusal active may = reshape-so EndsRunningSteps (λ count most
 
 -- ---- what may have ended steps only in a reshape, or where phases are ahead
 
-now-by : (Active : Type 0) (work : Work) (m : Members) (ahead : PhasesLeft) (refusal : Refusal) → MayEndNow work m ahead refusal → MayEndBy Active (phases_of ahead ≢ []) refusal
-now-by Active work m ahead refusal (inl right) = unmendable-so (MayEndBy Active (phases_of ahead ≢ [])) (λ count most. tt) (λ role. tt) m refusal right.0
-now-by Active work m ahead refusal (inr begins) = of refusal (begins.0)
+phase-by : (Active : Type 0) (m : Members) (phases : List Phase) (refusal : Refusal) → IsPhaseRefused m phases refusal → MayEndBy Active (phases ≢ []) refusal
+phase-by Active m phases refusal why = by phases why
   where
-    of : (r : Refusal) → RefusesBegin r → MayEndBy Active (phases_of ahead ≢ []) r
-    of BackupFault is = inr (begins.1)
-    of (Degraded role) is = begins.1
-    of (NeedSpares have want) is = begins.1
-    of r is = absurd is
+    some : (phase : Phase) (more : List Phase) → (phase ∷ more) ≢ []
+    some phase more none = absurd (let e : ◌≡◌ {A = List Phase} [] (phase ∷ more) = sym none in cc)
+
+    unbegun : (l : List Phase) (to : Shape) → l ≢ [] → IsUnbegun m to refusal → MayEndBy Active (l ≢ []) refusal
+    unbegun l to some (inl (role, lowest, told)) = subst (MayEndBy Active (l ≢ [])) (sym told) some
+    unbegun l to some (inr (whole, few, told)) = subst (MayEndBy Active (l ≢ [])) (sym told) some
+
+    untaken : (l : List Phase) (to : Shape) → l ≢ [] → IsUntaken m to refusal → MayEndBy Active (l ≢ []) refusal
+    untaken l to some (inl (role, lowest, told)) = subst (MayEndBy Active (l ≢ [])) (sym told) some
+    untaken l to some (inr (whole, six, none, told)) = subst (MayEndBy Active (l ≢ [])) (sym told) some
+
+    by : (l : List Phase) → IsPhaseRefused m l refusal → MayEndBy Active (l ≢ []) refusal
+    by [] was = absurd was
+    by (Reshape to ∷ more) (inl was) = unbegun (Reshape to ∷ more) to (some (Reshape to) more) was
+    by (Reshape to ∷ more) (inr told) = subst (MayEndBy Active ((Reshape to ∷ more) ≢ [])) (sym told) (inr (some (Reshape to) more))
+    by (UpTo6 to ∷ more) was = untaken (UpTo6 to ∷ more) to (some (UpTo6 to) more) was
+    by (DownTo5 to ∷ more) was = untaken (DownTo5 to ∷ more) to (some (DownTo5 to) more) was
+
+now-by : (Active : Type 0) (work : Work) (m : Members) (ahead : PhasesLeft) (refusal : Refusal) → MayEndAtRest work m (phases_of ahead) refusal → MayEndBy Active (phases_of ahead ≢ []) refusal
+now-by Active work m ahead refusal (inl right) = unmendable-so (MayEndBy Active (phases_of ahead ≢ [])) (λ count most. tt) (λ role. tt) m refusal right.0
+now-by Active work m ahead refusal (inr (idle, why)) = phase-by Active m (phases_of ahead) refusal why
 
 ended-by : {B : Type 0} (array : RunningParts B) (refusal : Refusal) → MayEndSteps array refusal → MayEndBy (is_reshaping array.parts.members.newest ≡ true) (phases_of array.ahead ≢ []) refusal
 ended-by array refusal may = by (is_reshaping array.parts.members.newest) refl may
   where
-    by : (b : Bool) → is_reshaping array.parts.members.newest ≡ b → MatchBool b (IsEndedInReshape array.parts.work array.parts.members refusal) (MayEndNow array.parts.work array.parts.members array.ahead refusal)
+    by : (b : Bool) → is_reshaping array.parts.members.newest ≡ b → MatchBool b (IsEndedInReshape array.parts.work array.parts.members refusal) (MayEndAtRest array.parts.work array.parts.members (phases_of array.ahead) refusal)
         → MayEndBy (is_reshaping array.parts.members.newest ≡ true) (phases_of array.ahead ≢ []) refusal
     by true active is = reshape-so (MayEndBy (is_reshaping array.parts.members.newest ≡ true) (phases_of array.ahead ≢ [])) (λ count most. tt) (λ role. tt) (inl active) array.parts.work array.parts.members refusal is
     by false still is = now-by (is_reshaping array.parts.members.newest ≡ true) array.parts.work array.parts.members array.ahead refusal is
@@ -99,6 +117,18 @@ steps-may mid new None members ahead right = tt
 steps-may mid new (Some refusal) members ahead right =
     end-more (is_reshaping mid.parts.members.newest ≡ true) (phases_of mid.ahead ≢ []) (is_reshaping new.parts.members.newest ≡ true) (phases_of new.ahead ≢ [])
     (λ active. ap (λ (m : Members). is_reshaping m.newest) members ∙ active) (λ some none. some (ap (λ (p : PhasesLeft). phases_of p) (sym ahead) ∙ none)) refusal (ended-by mid refusal right)
+
+-- the reply of the same array tells what ended the steps
+pub steps-right : {B : Type 0} (mid new : RunningParts B) (ended : Option Refusal) → new.parts.members ≡ mid.parts.members → new.parts.work ≡ mid.parts.work → new.ahead ≡ mid.ahead → IfSome ended (MayEndSteps mid)
+    → MatchOption ended ⊤ (MayEndSteps new)
+steps-right mid new None members work ahead right = tt
+steps-right mid new (Some refusal) members work ahead right =
+    subst (λ (m : Members). may m new.parts.work new.ahead) (sym members)
+    (subst (λ (w : Work). may mid.parts.members w new.ahead) (sym work)
+    (subst (λ (p : PhasesLeft). may mid.parts.members mid.parts.work p) (sym ahead) right))
+  where
+    may : Members → Work → PhasesLeft → Type 0
+    may m w p = MatchBool (is_reshaping m.newest) (IsEndedInReshape w m refusal) (MayEndAtRest w m (phases_of p) refusal)
 
 -- a resync is pending where its next step is due
 not-mend : (newest : Sb) (cleared : ℕ) → due_in newest Closed cleared None ≡ Mend → ⊥

@@ -48,7 +48,7 @@ use Rattle.running.proofs.running_replies_GoneOn.{refusal-wider, told-then, alon
 use Rattle.running.specs.Calls.{running_left}
 use Rattle.running_steps.specs.Steps.{IsOpenFor, KeepsItsWay, IsStepDone, IsStepRefused, IsStepAnswered, AreStepsOf, has_finished}
 use Rattle.running_steps.proofs.Events.{count-both}
-use Rattle.running_steps.proofs.Ways.{way-then, way-roomy, way-members}
+use Rattle.running_steps.proofs.Ways.{TellsNoLoss, way-then, way-roomy, way-members}
 
 -- ---- what stands in a call before its reply
 
@@ -331,10 +331,11 @@ pub way-on : {B : Type 0} (tells : Type 0) (given : B → Given) (tape : B → L
 way-on tells given tape faults old mid new one two = way-then old mid new (faults old.parts.bank) (faults mid.parts.bank) (faults new.parts.bank) one.more two.more one.grown two.grown one.never_falls two.never_falls
 
 -- and so does the reply behind them
-pub way-answered : {B : Type 0} (faults : B → ℕ → ℕ) (old mid new : RunningParts B) (more last : List Entry) → mid.parts.entries ≡ old.parts.entries ++ more → new.parts.entries ≡ mid.parts.entries ++ last → NeverFalls (faults old.parts.bank) (faults mid.parts.bank)
+pub way-answered : {B : Type 0} (faults : B → ℕ → ℕ) (old mid new : RunningParts B) (more last : List Entry) → mid.parts.entries ≡ old.parts.entries ++ more → new.parts.entries ≡ mid.parts.entries ++ last → All (λ e. TellsNoLoss e.event) last
+    → NeverFalls (faults old.parts.bank) (faults mid.parts.bank)
     → new.parts.bank ≡ mid.parts.bank → new.parts.members ≡ mid.parts.members → new.ahead ≡ mid.ahead → new.limit ≡ mid.limit → KeepsItsWay (faults old.parts.bank) (faults mid.parts.bank) old mid → KeepsItsWay (faults old.parts.bank) (faults new.parts.bank) old new
-way-answered {B = B} faults old mid new more last grown entered rises bank members ahead limit was = subst (λ (b : B). KeepsItsWay (faults old.parts.bank) (faults b) old new) (sym bank)
-    (way-then old mid new (faults old.parts.bank) (faults mid.parts.bank) (faults mid.parts.bank) more last grown entered rises (λ s. omega arith) was (way-members (faults mid.parts.bank) (faults mid.parts.bank) mid new members ahead limit))
+way-answered {B = B} faults old mid new more last grown entered quiet rises bank members ahead limit was = subst (λ (b : B). KeepsItsWay (faults old.parts.bank) (faults b) old new) (sym bank)
+    (way-then old mid new (faults old.parts.bank) (faults mid.parts.bank) (faults mid.parts.bank) more last grown entered rises (λ s. omega arith) was (way-members (faults mid.parts.bank) (faults mid.parts.bank) mid new last entered quiet members ahead limit))
 
 -- ---- a step, or some, that had room made for them
 

@@ -42,7 +42,7 @@ use Rattle.running_steps.specs.Steps.{TellsLeft, IsOpenFor, IsStepDone, IsStepRe
 use Rattle.running_steps.proofs.Events.{EachOf, each-losses, each-own, any-none, count-one, IsNoStep, IsOfStep, of-goes, of-told, of-lengthless, of-unfinished, of-undone, of-unrefused, long-kept, going-more, kept-more}
 use Rattle.running_steps.proofs.Went.{held-same, losses-along}
 use Rattle.running.proofs.Kept.{aim-taken}
-use Rattle.running_steps.proofs.Ways.{turn-told, way-members}
+use Rattle.running_steps.proofs.Ways.{turn-told, TellsNoLoss, way-members}
 use Rattle.running_steps.proofs.Plain.{open-still, fewer-as, plain-refused}
 use Rattle.running.proofs.Answered.{left-still}
 
@@ -102,6 +102,8 @@ module _ {B : Type 0} (tells : Type 0) (given : B → Given) (tape : B → List 
       limit = was.same.limit;
       unturned = turn-told old.parts.entries new.parts.entries inner was.entered.is refl;
       roles = λ before. turn-told old.parts.entries new.parts.entries inner was.entered.is refl;
+      failed = λ before. turn-told old.parts.entries new.parts.entries inner was.entered.is refl;
+      lost = λ before. turn-told old.parts.entries new.parts.entries inner was.entered.is refl;
     };
     ended = was.ended;
   }
@@ -180,7 +182,7 @@ module _ {B : Type 0} (tells : Type 0) (given : B → Given) (tape : B → List 
         epoch = epoch-taken old new back.same;
         active = λ still. ap (λ (m : Members). is_reshaping m.newest) back.members ∙ still;
         ahead = back.ahead;
-        kept = way-members (faults old.parts.bank) (faults new.parts.bank) old new back.members back.ahead back.same.limit;
+        kept = way-members (faults old.parts.bank) (faults new.parts.bank) old new (entries_of who back.end (Refused refusal ∷ [])) back.entered (All-cons (λ e. TellsNoLoss e.event) (one who back.end (Refused refusal)) [] tt (All-nil (λ e. TellsNoLoss e.event))) back.members back.ahead back.same.limit;
         ended = later back.bank back.ended;
       })
       (behind-alone who back.end (Refused refusal) refl back.entered) goes (take-ends to refusal caused) (take-cause (faults old.parts.bank) (faults new.parts.bank) to refusal caused) right

@@ -7,16 +7,20 @@ use Rattle.running.specs.md_base_the_Refusal.{Refusal}
 use Rattle.running.specs.md_base_the_Refusal_TheVariants.{Nothing}
 use Rattle.running.specs.md_base_the_Who.{Who}
 use Rattle.running.specs.bank_the_Operation.{Operation}
-use Rattle.running.specs.bank_Given.{Given}
+use Rattle.running.specs.bank_Given.{Given, IsFaulted}
+use Rattle.running.specs.superblocks_the_Members.{Members}
 use Rattle.running.specs.superblocks_Reading.{is_reshaping, shape_of, final_shape}
 use Rattle.running.specs.flat_history_the_Entry.{Entry}
 use Rattle.running.specs.flat_history_the_Event.{Event}
-use Rattle.running.specs.flat_history_the_Event_TheVariants.{Step, Stepped, Refused}
+use Rattle.running.specs.flat_history_the_Event_TheVariants.{Lost, Step, Stepped, Refused}
+use Rattle.running.specs.flat_history_the_LostCause_TheVariants.{Fault as ByFault}
 use Rattle.running.specs.flat_history_the_StepKind_TheVariants.{Begun, Finished, TakenOver}
 use Rattle.running.specs.flat_history_Fits.{is_step_event, is_lost_event}
 use Rattle.running.specs.flat_history_OneShape.{IsOfCall}
 use Rattle.running.specs.views_Lacking.{HaveRolesFailed}
-use Rattle.running.specs.array_kept_Calls.{IsBehind, IsEndOf, AreStepsFewer, TellNoLoss}
+use Rattle.running.specs.views_Placed.{AreStillHeld}
+use Rattle.running.specs.views_Rebuilding.{Held}
+use Rattle.running.specs.array_kept_Calls.{IsBehind, IsEndOf, AreStepsFewer, TellNoLoss, AreSparesFewer, AreLossesOf}
 use Rattle.running.specs.kept_history_Recorded.{MayGoOn, IsCallGoing}
 use Rattle.running.specs.running_words_Parts.{RunningParts}
 use Rattle.running.specs.running_words_Plans.{aim_of}
@@ -52,14 +56,28 @@ pub record IsUnturned {B : Type 0} (old new : RunningParts B) : Type 0 where
   pub final : final_shape new.parts.members.newest ≡ final_shape old.parts.members.newest
   pub ahead : new.ahead ≡ old.ahead
 
--- Steps leave an array on its way: it goes to the same shape, and has its size and its limit. As long as they tell no begin, no end of a reshape and no takeover, the same shapes are in force and the same phases ahead; and of
--- an array without a reshape each role then has the slot that held it, or that slot has failed since.
+-- each slot that held a role that is told lost by a fault has failed since
+abbrev pub IsHolderFailed : Members → (ℕ → ℕ) → (ℕ → ℕ) → Event → Type 0
+IsHolderFailed members before now (Lost role ByFault) = (slot : ℕ) → Held members role slot → IsFaulted slot before now
+IsHolderFailed members before now event = ⊤
+
+-- roles and spares were only lost, and each loss that is told has its cause in the slot that had it
+pub record AreOnlyLost {B : Type 0} (before now : ℕ → ℕ) (old new : RunningParts B) : Type 0 where
+  pub held : AreStillHeld old.parts.members new.parts.members
+  pub spares : AreSparesFewer old.parts.members new.parts.members
+  pub losses : AreLossesOf old.parts.members before now old.parts.entries new.parts.entries
+
+-- Steps leave an array on its way: it goes to the same shape, and has its size and its limit. As long as they tell no begin, no end of a reshape and no takeover, the same shapes are in force and the same phases ahead; in a reshape
+-- roles and spares are then only lost; and of an array without one each role has the slot that held it, or that slot has failed since, as it has where the role is told lost by a fault.
 pub record KeepsItsWay {B : Type 0} (before now : ℕ → ℕ) (old new : RunningParts B) : Type 0 where
   pub aim : aim_of new ≡ aim_of old
   pub size : new.parts.members.newest.size ≡ old.parts.members.newest.size
   pub limit : new.limit ≡ old.limit
   pub unturned : has_turned old.parts.entries new.parts.entries ≡ false → IsUnturned old new
   pub roles : is_reshaping old.parts.members.newest ≡ false → has_turned old.parts.entries new.parts.entries ≡ false → HaveRolesFailed old.parts.members new.parts.members before now
+  pub failed : is_reshaping old.parts.members.newest ≡ false → has_turned old.parts.entries new.parts.entries ≡ false
+      → All (λ e. IsHolderFailed old.parts.members before now e.event) (drop (length old.parts.entries) new.parts.entries)
+  pub lost : is_reshaping old.parts.members.newest ≡ true → has_turned old.parts.entries new.parts.entries ≡ false → AreOnlyLost before now old new
 
 -- ---- one step
 

@@ -10,7 +10,7 @@ ghost use Rattle.running.specs.kept_history_Recorded.{IsCallGoing};
 ghost use Rattle.running.specs.still_laws_Steps.{IsClosable};
 ghost use Rattle.running.specs.running_replies_Replies.{IsAnsweredWith, EndsRunningSteps, MayTellBy, IsRefusalBy};
 ghost use Rattle.running.specs.running_replies_Going.{HasNoReshape, HasRunOn};
-ghost use Rattle.running.specs.Calls.{running_left, MayEndSteps};
+ghost use Rattle.running.specs.Calls.{running_left, MayEndSteps, IsReplyNow};
 ghost use Rattle.running_steps.specs.Steps.{IsOpenFor, KeepsItsWay, AreStepsOf, IsCountedBehind, IsGoneOn, IsStepCount, has_finished};
 
 use crate::stepping::take_step;
@@ -116,7 +116,7 @@ fn take_steps<B: Bank>(array: &mut Running<B>, who: Who, count: u64) -> Batch
 
 /// Answers the request for at most so many background steps: does them until so many are done, or as many as were left at its start;
 /// until none is left, one is refused, or a reshape has ended, and one step behind it: the takeover of the level, or the first step of the
-/// rebuild of a role that was lost on the way. Ok is a copy of the reply's event, which tells `Nothing` where none was left. Memory is wanted before the first step alone. A backup ends steps only in a reshape or where phases are ahead,
+/// rebuild of a role that was lost on the way. Ok is a copy of the reply's event, which tells `Nothing` where none was left. Memory is wanted before the first step alone. What refused a step speaks against it as the array is left (`told`): a backup ends steps only in a reshape or where phases are ahead,
 /// and a missing role or want of spares only where some are; and where none is left, there is neither. The array goes where it went, to the
 /// same shape, with its size and its limit.
 pub fn steps<B: Bank>(array: &mut Running<B>, who: Who, most: u64) -> Result<Event, NoMemory>
@@ -125,6 +125,7 @@ pub fn steps<B: Bank>(array: &mut Running<B>, who: Who, most: u64) -> Result<Eve
     requires some { 1 ≤ most }
     ensures replied { IfOk result (λ event. IsAnsweredWith (list_length array.old.parts.members.newest) (AsksSteps most) who array.old.parts.entries array.new.parts.entries event) }
     ensures counted { IfOk result (λ event. IsStepCount array.old.parts.entries array.new.parts.entries (running_left array.old) (running_left array.new) event) }
+    ensures told { IfOk result (λ event. IsReplyNow array.new event) }
     ensures may { IfOk result (λ event. MayTellBy (is_reshaping array.new.parts.members.newest ≡ true) (phases_of array.new.ahead ≢ []) event) }
     ensures rest { IfOk result (λ event. running_left array.new ≡ 0 → HasNoReshape array.new) }
     ensures unchanged { IfErr result (λ none. array.new ≡ array.old) }

@@ -1,5 +1,5 @@
 -- The end of a run: the array is halted, and the replies stay what they were.
-use Rattle.std.proofs.Common.{◌≡◌, ℕ, ◌+◌, ◌-◌, ◌≤◌, inl, inr, Bool, true, false, Option, Some, None, List, [], ◌∷◌, ◌++◌, length, take, drop, refl, sym, ◌∙◌, ap, subst, arith, append-nil, length-append}
+use Rattle.std.proofs.Common.{◌≡◌, ℕ, ◌+◌, ◌-◌, ◌≤◌, ◌⊎◌, inl, inr, Bool, true, false, Option, Some, None, List, [], ◌∷◌, ◌++◌, length, take, drop, refl, sym, ◌∙◌, ap, subst, arith, append-nil, length-append}
 use Rattle.std.specs.Prelude.{MatchOption, slice_get, unwrap_or}
 use Rattle.std.specs.Global.{Vec}
 use Rattle.std.proofs.lemmas.List.{length-map}
@@ -10,10 +10,10 @@ use Rattle.reopened_laws.specs.flat_history_the_Epoch.{Epoch}
 use Rattle.reopened_laws.specs.flat_history_the_Event_TheVariants.{Halted}
 use Rattle.reopened_laws.specs.flat_history_Flat.{next_number, last_of}
 use Rattle.reopened_laws.specs.md_base_the_Who.{Who}
-use Rattle.run_sessions.specs.array_kept_Calls.{IsEntered}
+use Rattle.run_sessions.specs.array_kept_Calls.{IsEntered, IsLossBy, AreLossesBy}
 use Rattle.run_sessions.specs.running_words_Parts.{RunningParts}
 use Rattle.run_sessions.specs.superblocks_Reading.{list_length}
-use Rattle.demo_script.specs.script_the_Line_TheVariants.{Halt}
+use Rattle.demo_script.specs.script_the_Line_TheVariants.{Wait, Halt}
 use Rattle.demo_script.specs.script_the_Numbered.{Numbered}
 use Rattle.demo_script.specs.script_the_Lane.{Lane}
 use Rattle.demo_script.specs.script_the_Lane_TheVariants.{Script as InScript, A as InA, B as InB, Worker as InWorker}
@@ -25,19 +25,20 @@ use Rattle.run_sessions.specs.run_laws_Asked.{script_who, IsAskedAt}
 use Rattle.run_sessions.specs.run_laws_Histories.{History, history_of, histories_of, is_end}
 use Rattle.run_sessions.specs.run_laws_Making.{Setting, setting_of}
 use Rattle.reopened_laws.specs.bank_the_Operation.{Operation}
-use Rattle.run_sessions.specs.run_laws_Replies.{Course, at_rest, course_of}
+use Rattle.run_sessions.specs.run_laws_Replies.{Course, at_rest, course_of, AreCallsTold}
 use Rattle.script_runs.specs.Runs.{status_for, stop_of, IsHalted, AreLinesPerformed, AreLossesFailed, IsEnded}
-use Rattle.run_sessions.specs.Sessions.{counted, IsCourse, IsCutIn, IsInBlock, IsCourseBehind, taken_whole, IsTaken, IsPerformed, IsShownTo}
+use Rattle.run_sessions.specs.Sessions.{counted, IsCourse, IsCutBehind, IsInBlock, taken_whole, IsTaken, IsPerformed, IsShownTo}
 use Rattle.run_sessions.specs.block_answers_Shown.{report_text, has_refusal}
-use Rattle.run_sessions.specs.run_laws_States.{running_history, histories_in, course_in, RunsOwn, AreLossesBehind, AreLossesFrom}
+use Rattle.run_sessions.specs.run_laws_States.{running_history, histories_in, course_in, RunsOwn, AreLossesBehind, AreLossesFrom, IsWaitCut, IsAmidBlock, IsPastMemory}
 use Rattle.run_sessions.specs.run_laws_Ended.{AreRising}
 use Rattle.run_sessions.specs.Writes.{AreWritesPlaced}
 use Rattle.run_sessions.specs.run_laws_Written.{IsWritten}
 use Rattle.run_sessions.specs.views_Moving.{Grows}
+use Rattle.run_sessions.proofs.line_asks_Called.{called_once, calls_in, calls_more}
 use Rattle.run_sessions.proofs.run_laws_AskLaws.{one, with_reply}
 use Rattle.run_sessions.proofs.views_SafeStretch.{grows-longer}
 use Rattle.run_sessions.proofs.WritesPlaced.{placed-end, quiet-between}
-use Rattle.run_sessions.proofs.run_laws_Growth.{IsWider, replies_stay, replies_front, courses_stay, cut_stays}
+use Rattle.run_sessions.proofs.run_laws_Growth.{IsWider, replies_stay, replies_front, courses_stay, cut_stays, amid_stays, past_memory_stays}
 use Rattle.run_sessions.proofs.line_asks_RecordLaws.{records-stay}
 use Rattle.run_sessions.proofs.block_answers_ShownLaws.{shown_stays}
 use Rattle.run_sessions.proofs.run_laws_Turned.{asked-tellable, halt-told}
@@ -48,6 +49,14 @@ last-snoc : (xs : List Entry) (e : Entry) → last_of (xs ++ e ∷ []) ≡ Some 
 last-snoc [] e = refl
 last-snoc (x ∷ xs) e = ap (λ (o : Option Entry). Some (unwrap_or o x)) (last-snoc xs e)
 
+-- a halt tells no loss
+halted-none : {tells : Type 0} {tape : List Operation} {old new : List Entry} (Had : ℕ → ℕ → Type 0) (Was : ℕ → Type 0) (f g : ℕ → ℕ) (who : Who) → IsEntered tells tape who old new (Halted ∷ []) → AreLossesBy Had Was f g old new
+halted-none Had Was f g who entered = record {
+  more = one who entered.end Halted ∷ [];
+  grown = entered.is;
+  failed = All-cons (λ e. IsLossBy Had Was f g e.event) (one who entered.end Halted) [] tt (All-nil (λ e. IsLossBy Had Was f g e.event));
+}
+
 -- the array that ran was halted
 pub ended_running : {B tells : Type 0} {tape : List Operation} {place : ℕ} (setting : Setting) (who : Who) (array : RunningParts B) (epoch : Epoch) (epochs ended : Vec Epoch) → ended.items ≡ epochs.items ++ epoch ∷ [] → RunsOwn (Running array epochs)
     → IsEntered tells tape who array.parts.entries epoch.entries.items (Halted ∷ []) → epoch.uuid ≡ array.parts.uuid → epoch.given ≡ array.parts.given → epoch.first ≡ array.parts.first
@@ -55,7 +64,7 @@ pub ended_running : {B tells : Type 0} {tape : List Operation} {place : ℕ} (se
     → IsEnded setting (Running array epochs) array.parts.bank ended.items
 ended_running {place = place} setting who array epoch epochs ended items own entered uuid given first asked halts =
     let still : Setting = record { tells = ⊥; given = record { slots = 0; sectors = λ s. 0; start = λ s k. [] }; tape = []; backup = array.parts.backup; began = 0; before = λ s. 0; now = λ s. 0 } in
-    let turn = turn_ended still array epoch array.parts.bank epochs ended items own (losses-halted still who (history_of epoch) entered) uuid given first Halt place asked (asked-tellable asked (halt-told asked.event asked.fits)) tt (λ t. absurd t) (ap is_end halts) in
+    let turn = turn_ended still array epoch array.parts.bank epochs ended items own (losses-halted still who (history_of epoch) entered) uuid given first Halt place asked (asked-tellable asked (halt-told asked.event asked.fits)) (halted-none _ _ (λ s. 0) (λ s. 0) who entered) tt (λ t. absurd t) (ap is_end halts) in
     let are = now_are still array epoch array.parts.bank epochs ended items own (losses-halted still who (history_of epoch) entered) uuid given first in
     let many : length (histories_of ended.items) ≡ length (histories_of epochs.items) + 1 =
     ap (λ (l : List History). length l) are ∙ length-append (histories_of epochs.items) (history_of epoch ∷ []) in
@@ -64,12 +73,12 @@ ended_running {place = place} setting who array epoch epochs ended items own ent
       grown = turn.grown;
       halted = record {
         count = many ∙ ap (λ (n : ℕ). n + 1) (length-map epochs.items history_of);
-        halted = λ _. subst (λ (o : Option History). MatchOption o ⊥ (λ history. IsHalted (next_number 0 array.parts.entries) history))
+        halted = λ _. subst (λ (o : Option History). MatchOption o ⊥ (λ history. IsHalted (calls_in array.parts.entries) history))
             (sym (ap (λ (l : List History). slice_get l (length (histories_of ended.items) - 1)) are
             ∙ ap (λ (n : ℕ). slice_get (histories_of epochs.items ++ history_of epoch ∷ []) n) {y = length (histories_of epochs.items)} (omega (arith, many)) ∙ get_last (histories_of epochs.items) (history_of epoch)))
-            (subst (λ (o : Option Entry). MatchOption o ⊥ (λ e. (e.caller ≡ 0) × (e.number ≡ next_number 0 array.parts.entries) × (e.event ≡ Halted)))
+            (subst (λ (o : Option Entry). MatchOption o ⊥ (λ e. (e.caller ≡ 0) × (e.number ≡ next_number 0 array.parts.entries) × (e.event ≡ Halted)) × AreCallsTold (calls_in array.parts.entries) epoch.entries.items o)
             (sym (ap (λ (l : List Entry). last_of l) (with_reply asked) ∙ last-snoc (array.parts.entries ++ asked.inner) (one (script_who array.parts.entries) asked.end asked.event)))
-            (refl, refl, halts));
+            ((refl, refl, halts), λ lane. ap (λ (f : Lane → ℕ). f lane) (calls_more asked (called_once asked))));
       };
       script = turn.own;
       losses = subst (λ (l : List History). AreLossesFrom setting (histories_of epochs.items ++ running_history array.parts ∷ []) l) (sym are)
@@ -132,29 +141,41 @@ module _ {B bank_tells : Type 0} {given : Given} {backup : Option ℕ} {tape : L
   abbrev behind : List Numbered
   behind = drop (length session.replies.items) lines
 
+  in_block : (ls : List Numbered) → IsInBlock (histories_in session.state) ls (told_by (histories_in session.state)) (course_in session.state) → IsInBlock (histories_of epochs) ls (told_by (histories_of epochs)) (course_in session.state)
+  in_block [] block = absurd block
+  in_block (l ∷ ls) (lane, block) = (
+    lane,
+    subst (λ (c : Course). IsAmidBlock (histories_of epochs) c (l ∷ ls) (course_in session.state) ⊎ IsPastMemory (histories_of epochs)) (sym told_still) (by block),
+  )
+    where
+      by : IsAmidBlock (histories_in session.state) (told_by (histories_in session.state)) (l ∷ ls) (course_in session.state) ⊎ IsPastMemory (histories_in session.state)
+          → IsAmidBlock (histories_of epochs) (told_by (histories_in session.state)) (l ∷ ls) (course_in session.state) ⊎ IsPastMemory (histories_of epochs)
+      by (inl amid) = inl (amid_stays (histories_in session.state) (histories_of epochs) ended.grown (l ∷ ls) (told_by (histories_in session.state)) (course_in session.state) amid)
+      by (inr past) = inr (past_memory_stays (histories_in session.state) (histories_of epochs) ended.grown past)
+
   by_stop : (o : Option Stop) → IsCourse o (histories_in session.state) behind (told_by (histories_in session.state)) (course_in session.state) → IsCourse o (histories_of epochs) behind (told_by (histories_of epochs)) (course_in session.state)
   by_stop None is = is ∙ sym told_still
   by_stop (Some WriteFault) (inl is) = inl (is ∙ sym told_still)
-  by_stop (Some WriteFault) (inr block) = inr (subst (λ (c : Course). IsInBlock behind c (course_in session.state)) (sym told_still) block)
+  by_stop (Some WriteFault) (inr block) = inr (in_block behind block)
   by_stop (Some WantsMemory) (inl is) = inl (is ∙ sym told_still)
-  by_stop (Some WantsMemory) (inr next) = inr (by_first behind next)
+  by_stop (Some WantsMemory) (inr (inl next)) = inr (inl (by_first behind next))
     where
-      by_first : (ls : List Numbered) → IsCourseBehind (histories_in session.state) ls (told_by (histories_in session.state)) (course_in session.state) → IsCourseBehind (histories_of epochs) ls (told_by (histories_of epochs)) (course_in session.state)
+      by_first : (ls : List Numbered) → IsCutBehind (histories_in session.state) ls (told_by (histories_in session.state)) (course_in session.state) → IsCutBehind (histories_of epochs) ls (told_by (histories_of epochs)) (course_in session.state)
       by_first [] next = absurd next
-      by_first (l ∷ ls) cut = subst (λ (c : Course). IsCutIn l.lane (histories_of epochs) c l.line (course_in session.state)) (sym told_still) (by_lane l.lane cut)
-        where
-          by_lane : (lane : Lane) → IsCutIn lane (histories_in session.state) (told_by (histories_in session.state)) l.line (course_in session.state) → IsCutIn lane (histories_of epochs) (told_by (histories_in session.state)) l.line (course_in session.state)
-          by_lane InScript cut = cut_stays (histories_in session.state) (histories_of epochs) (told_by (histories_in session.state)) l.line (course_in session.state) ended.grown cut
-          by_lane InA cut = cut
-          by_lane InB cut = cut
-          by_lane InWorker cut = cut
+      by_first (l ∷ ls) (script, waits, cut) = (
+        script,
+        waits,
+        subst (λ (c : Course). IsWaitCut (histories_of epochs) c (course_in session.state)) (sym told_still)
+            (cut_stays (histories_in session.state) (histories_of epochs) (told_by (histories_in session.state)) Wait (course_in session.state) ended.grown cut),
+      )
+  by_stop (Some WantsMemory) (inr (inr block)) = inr (inr (in_block behind block))
 
   -- the writes, once the array is halted
   end_written : bank_tells → length first_tape ≤ length tape → IsWritten (setting_of bank_tells given tape tape backup now now) (histories_in session.state) (histories_of epochs) (λ slot. ⊥)
-      → AreWritesPlaced (setting_of bank_tells given first_tape tape backup start now) (histories_of epochs) (stop_of status) lines session.replies.items
+      → AreWritesPlaced (setting_of bank_tells given first_tape tape backup start now) (histories_of epochs) (stop_of status) (course_in session.state).running lines session.replies.items
   end_written t longer written =
-      subst (λ (o : Option Stop). AreWritesPlaced (setting_of bank_tells given first_tape tape backup start now) (histories_of epochs) o lines session.replies.items) (sym is_stop)
-      (placed-end (setting_of bank_tells given first_tape tape backup start now) (setting_of bank_tells given tape tape backup now now) (histories_in session.state) (histories_of epochs) session.stopped lines session.replies.items longer written (performed.written t))
+      subst (λ (o : Option Stop). AreWritesPlaced (setting_of bank_tells given first_tape tape backup start now) (histories_of epochs) o (course_in session.state).running lines session.replies.items) (sym is_stop)
+      (placed-end (setting_of bank_tells given first_tape tape backup start now) (setting_of bank_tells given tape tape backup now now) (histories_in session.state) (histories_of epochs) session.stopped (course_in session.state).running lines session.replies.items longer written (performed.written t))
 
   pub end_performed : (session.stopped ≡ None → length session.replies.items ≡ length lines) → Grows bank_tells first_tape tape
       → (bank_tells → IsWritten (setting_of bank_tells given tape tape backup now now) (histories_in session.state) (histories_of epochs) (λ slot. ⊥)) → (bank_tells → AreRising (length tape) (histories_of epochs))
@@ -173,7 +194,7 @@ module _ {B bank_tells : Type 0} {given : Given} {backup : Option ℕ} {tape : L
     script = ended.script;
     ends = performed.ends;
     written = λ t. end_written t (grows-longer grows t) (written t);
-    quiet = λ t. quiet-between (setting_of bank_tells given first_tape tape backup start now) (stop_of status) lines session.replies.items (length tape) epochs (rising t) (end_written t (grows-longer grows t) (written t));
+    quiet = λ t. quiet-between (setting_of bank_tells given first_tape tape backup start now) (stop_of status) (course_in session.state).running lines session.replies.items (length tape) epochs (rising t) (end_written t (grows-longer grows t) (written t));
   }
 
   end_setting : IsWider (setting_of bank_tells given tape tape backup now now) (setting_of bank_tells given first_tape tape backup start now)

@@ -42,7 +42,7 @@ entries_keep opening ops before (e ∷ entries) plain =
 one_kept : (given : Given) (tape : List Operation) (backup : Option ℕ) (former next : Epoch) → IsLegalEpoch given tape backup former → IsLegalEpoch given tape backup next → IsSafeEpoch given tape backup former
     → former.first ≤ next.first → EndBy next.first former.entries.items → next.first ≤ length tape → IsListKept given tape backup former next
 one_kept given tape backup former next legal opened safe later made within = record {
-  relied = λ relied kept again. settled-found-later (world_of given tape backup former) (world_of given tape backup next) former.entries.items (length tape) kept (safe relied).0 within (later_found again) opened.accepted again.settled;
+  relied = λ relied again. settled-found-later (world_of given tape backup former) (world_of given tape backup next) former.entries.items (length tape) (safe relied).0 within (later_found again) opened.accepted again.settled;
   plain = λ keeps fills room again.
       settled-found (world_of given tape backup former) (world_of given tape backup next) former.entries.items (length tape)
       (entries_keep (opening_in (world_of given tape backup former)) (length tape) [] former.entries.items ((legal.plain keeps).legal fills))

@@ -11,7 +11,7 @@ use Rattle.reopened_laws.specs.flat_history_Sound.{OpensFit}
 use Rattle.reopened_laws.specs.flat_history_Transfers.{last_end_from}
 use Rattle.reopened_laws.specs.flat_history_World.{opening_list}
 use Rattle.run_sessions.specs.run_laws_Ended.{IfReliable, IfShapeKept, IfFilledRight}
-use Rattle.reopened_laws.specs.Later.{IsLengthKept}
+use Rattle.reopened_laws.specs.Later.{OpensAsEnded}
 
 -- The next epoch is of the same array, behind nothing but flushes: in the same slots, or in fewer, where by what they hold those that lack, as
 -- failed ones do, have no part in it any more.
@@ -29,10 +29,10 @@ abbrev pub OpensAsLeft : Given → List Operation → Option ℕ → Epoch → E
 OpensAsLeft given tape backup former next =
     IsFoundAgain given tape backup former next → OpensWith (world_of given tape backup next) (opening_list (world_of given tape backup former)) former.entries.items
 
--- Where the former epoch can be relied on, and some slot kept the last change of its list's length, if there was one, the next one that finds it again opens as it left it, also where members were
--- lost. Where the former kept its shape, it is enough that what it filled in is right.
+-- Where the former epoch can be relied on, the next one that finds it again opens as it left it, also where members were lost; or without the last change of its list's length, where by its entries each role was gone behind that one.
+-- Where the former kept its shape, it opens as it left it, and it is enough that what it filled in is right.
 pub record IsListKept (given : Given) (tape : List Operation) (backup : Option ℕ) (former next : Epoch) : Type 0 where
-  pub relied : IfReliable given tape backup former (IsLengthKept (world_of given tape backup former) former.entries.items → OpensAsLeft given tape backup former next)
+  pub relied : IfReliable given tape backup former (IsFoundAgain given tape backup former next → OpensAsEnded (world_of given tape backup former) (world_of given tape backup next) former.entries.items)
   pub plain : IfShapeKept given tape backup former (IfFilledRight given tape backup former (OpensAsLeft given tape backup former next))
 
 -- Where the former epoch opened fit, with room for its events, and is opened again, perhaps in fewer slots, the

@@ -7,6 +7,7 @@ use Rattle.reopened_laws.specs.flat_history_the_Event_TheVariants.{Halted}
 use Rattle.reopened_laws.specs.flat_history_Flat.{last_of}
 use Rattle.demo_script.specs.script_Script.{script_with}
 use Rattle.demo_script.specs.script_the_Numbered.{Numbered}
+use Rattle.demo_script.specs.script_the_Lane.{Lane}
 use Rattle.demo_script.specs.script_the_Lane_TheVariants.{Script as InScript}
 use Rattle.run_sessions.specs.run_laws_the_LineReply.{LineReply}
 use Rattle.run_sessions.specs.declared.sessions.Stop.{Stop}
@@ -16,7 +17,7 @@ use Rattle.run_sessions.specs.run_laws_Histories.{History, history_of, histories
 use Rattle.run_sessions.specs.run_laws_Making.{Setting}
 use Rattle.run_sessions.specs.run_laws_Caused.{Record}
 use Rattle.run_sessions.specs.run_laws_Records.{AreRecorded}
-use Rattle.run_sessions.specs.run_laws_Replies.{Course, at_rest, course_of, AreReplies, AreInOrder}
+use Rattle.run_sessions.specs.run_laws_Replies.{Course, at_rest, course_of, AreCallsTold, AreReplies, AreInOrder}
 use Rattle.run_sessions.specs.Sessions.{IsCourse, counted, taken_whole, IsTaken}
 use Rattle.run_sessions.specs.block_answers_Shown.{report_text, has_refusal}
 use Rattle.script_runs.specs.Source.{IsTextFor}
@@ -34,14 +35,15 @@ status_for (Some WantsMemory) refused = 6
 abbrev pub stop_of : ℕ → Option Stop
 stop_of status = if status == 5 then Some WriteFault else if status == 6 then Some WantsMemory else None
 
--- the last entry is the halt of the array, by the script's call of this number
-abbrev pub IsHalted : ℕ → History → Type 0
-IsHalted number history = MatchOption (last_of history.entries) ⊥ (λ e. (e.caller ≡ 0) × (e.number ≡ number) × (e.event ≡ Halted))
+-- The last entry is the halt of the array, by the script's next call, and nobody else has called since these were the next numbers.
+abbrev pub IsHalted : (Lane → ℕ) → History → Type 0
+IsHalted calls history = MatchOption (last_of history.entries) ⊥ (λ e. (e.caller ≡ 0) × (e.number ≡ calls InScript) × (e.event ≡ Halted))
+    × AreCallsTold calls history.entries (last_of history.entries)
 
--- There are as many histories as arrays were opened. Where the last array still ran, it was halted by the call behind the script's others.
+-- There are as many histories as arrays were opened. Where the last array still ran, it was halted by the call behind the others.
 pub record AreHalted (course : Course) (histories : List History) : Type 0 where
   pub count : length histories ≡ course.opened
-  pub halted : IsTrue course.running → MatchOption (slice_get histories (length histories - 1)) ⊥ (λ history. IsHalted (course.calls InScript) history)
+  pub halted : IsTrue course.running → MatchOption (slice_get histories (length histories - 1)) ⊥ (λ history. IsHalted course.calls history)
 
 -- The lines were performed one after another, up to the last or to where the run stopped, and the array was halted. The replies are
 -- there but for that of a line for which memory was short. From line to line there is a record of the array that runs, by which each answer has its cause.
@@ -56,8 +58,8 @@ pub record AreLinesPerformed (setting : Setting) (asked : List Numbered) (stoppe
   pub halted : AreHalted course (histories_of epochs)
   pub script : AreOfScript (histories_of epochs)
   pub ends : setting.tells → AreInOrder setting.began (length setting.tape) lines
-  pub written : setting.tells → AreWritesPlaced setting (histories_of epochs) stopped asked lines
-  pub quiet : setting.tells → AreQuiet setting stopped asked lines epochs
+  pub written : setting.tells → AreWritesPlaced setting (histories_of epochs) stopped course.running asked lines
+  pub quiet : setting.tells → AreQuiet setting stopped course.running asked lines epochs
 
 -- 0 where no reply is a refusal, 1 where one is
 abbrev pub AreTold : ℕ → Bool → Type 0

@@ -1,4 +1,4 @@
-use Rattle.std.proofs.Common.{◌≡◌, ◌++◌, ◌∷◌, [], List, refl, sym, subst, arith, append-nil}
+use Rattle.std.proofs.Common.{◌≡◌, inl, ◌++◌, ◌∷◌, [], List, refl, sym, subst, arith, append-nil}
 use Rattle.lanes.specs.bank_Given.{NeverFalls}
 use Rattle.lanes.specs.views_Moving.{Grows}
 use Rattle.line_answers.specs.run_laws_Ended.{IsRunKept}
@@ -6,9 +6,10 @@ use Rattle.line_answers.specs.run_laws_the_Answered.{Answered}
 use Rattle.line_answers.specs.run_laws_the_State.{State}
 use Rattle.line_answers.specs.run_laws_the_State_TheVariants.{Idle}
 use Rattle.line_answers.specs.run_laws_Making.{setting_of}
-use Rattle.line_answers.specs.run_laws_States.{histories_in, bank_in, RunsOwn, IsBlockAnswered}
+use Rattle.line_answers.specs.run_laws_States.{histories_in, bank_in, course_in, RunsOwn, IsBlockAnswered}
 use Rattle.line_answers.specs.run_laws_Written.{IsWritten}
 use Rattle.line_answers.proofs.line_asks_Writing.{written-nothing}
+use Rattle.block_answers.proofs.Amid.{amid-none}
 use Rattle.block_answers.proofs.BlockAnswers.{block-unanswered, block-still, block-idle, some-lines, refusals-all}
 use Rattle.block_answers.proofs.answering.answer_block.Goals as goal
 
@@ -17,7 +18,8 @@ returns-in_default-clause-answered g c =
     let state = c.args.state in
     let setting = setting_of g.B.Bank.tells (g.B.Bank.given (bank_in state)) (g.B.Bank.tape (bank_in state)) (g.B.Bank.tape (bank_in state)) c.args.backup (g.B.Bank.faults_of (bank_in state)) (g.B.Bank.faults_of (bank_in state)) in
     subst (λ (l : List Answered). IsBlockAnswered setting state state (c.args.first.now ++ (c.args.second.now ++ c.args.worker ∷ [])) l) (sym c.new.ensures.items)
-    (block-unanswered setting state state (c.args.first.now ++ (c.args.second.now ++ c.args.worker ∷ [])) (block-still setting state c.requires.own) (some-lines c.args.first.now c.args.second.now c.args.worker))
+    (block-unanswered setting state state (c.args.first.now ++ (c.args.second.now ++ c.args.worker ∷ [])) (block-still setting state c.requires.own) (some-lines c.args.first.now c.args.second.now c.args.worker)
+    (inl (amid-none (histories_in state) c.args.first.now c.args.second.now c.args.worker c.requires.order.0 c.requires.order.1 c.requires.order.2 (course_in state) (course_in state) refl)))
 
 pub returns-in_default-clause-written : goal.returns-in_default-clause-written
 returns-in_default-clause-written g c t =

@@ -1,5 +1,5 @@
-use Rattle.std.proofs.Common.{◌≡◌, ℕ, length, sym, subst, arith, [], ◌∷◌, ◌++◌, ◌+◌, ◌≤◌, List, Option, Result}
-use Rattle.std.specs.Prelude.{IfOk}
+use Rattle.std.proofs.Common.{◌≡◌, ◌⊎◌, ◌<◌, ◌^◌, ℕ, length, sym, subst, arith, [], ◌∷◌, ◌++◌, ◌+◌, ◌≤◌, List, Option, Result}
+use Rattle.std.specs.Prelude.{IfOk, IfErr}
 use Rattle.lanes.specs.md_base_the_NoMemory.{NoMemory}
 use Rattle.line_answers.specs.superblocks_Reading.{list_length}
 use Rattle.lanes.specs.Blocks.{HasWorkedBy}
@@ -22,7 +22,7 @@ use Rattle.line_answers.proofs.line_asks_Sizes.{sized-now}
 use Rattle.block_answers.specs.declared.together.Together.{Together}
 use Rattle.block_answers.specs.Answers.{insides, block_places}
 use Rattle.block_answers.proofs.BlockTurns.{block-going, block-written, block-left, block-turn}
-use Rattle.block_answers.proofs.BlockAnswers.{block-answered, told-at, block-unanswered, some-lines}
+use Rattle.block_answers.proofs.BlockAnswers.{block-answered, told-at, block-unanswered, block-short, some-lines}
 use Rattle.block_answers.proofs.answering.answer_running.Given.{Over}
 use Rattle.block_answers.proofs.answering.answer_running.Goals as goal
 
@@ -61,7 +61,9 @@ returns-in-Err-clause-answered g c =
     subst (λ (l : List Answered). IsBlockAnswered (setting g old new c.args.backup) (Running old c.args.epochs) (Running new c.args.epochs) lines l) (sym c.requires.empty)
     (block-unanswered (setting g old new c.args.backup) (Running old c.args.epochs) (Running new c.args.epochs) lines
     (block-turn g.B.Bank.given g.B.Bank.tape g.B.Bank.faults_of c.args.backup old new c.args.epochs c.requires.former did.went c.requires.own did.entered did.turning c.left.ensures.told c.visible.ensures.limited)
-    (some-lines c.args.first.now c.args.second.now c.args.worker))
+    (some-lines c.args.first.now c.args.second.now c.args.worker)
+    (block-short old new c.args.epochs c.args.first.now c.args.second.now c.args.worker c.requires.order.0 c.requires.order.1 c.requires.order.2
+    (subst (λ (r : Result Together NoMemory). IfErr r (λ none. (new ≡ old) ⊎ (2 ^ 61 < length new.parts.entries))) c.in-Err.is did.back)))
 
 few-replies : (size : ℕ) (entries : List Entry) (caller number : ℕ) (requests : List Request) (rs : List Reply) → AreCallersReplies size entries caller number requests rs → length rs ≤ length requests
 few-replies size entries caller number [] [] are = omega arith

@@ -1,4 +1,4 @@
-use Rattle.std.proofs.Common.{ℕ, ◌≤◌, ◌^◌, List, [], ◌∷◌, length, drop, sym, ap, subst, arith}
+use Rattle.std.proofs.Common.{ℕ, inl, inr, ◌≤◌, ◌^◌, List, [], ◌∷◌, length, drop, refl, sym, ap, subst, arith}
 use Rattle.std.specs.List.{All}
 use Rattle.std.proofs.lemmas.List.Elements.{All-get_or}
 use Rattle.status_text.specs.flat_history_the_Entry.{Entry}
@@ -42,6 +42,18 @@ returns-clause-worked g c =
 
 pub returns-clause-entered : goal.returns-clause-entered
 returns-clause-entered g c = block-entered c.args.array c.in-Ok-run_block.joined.array c.in-Ok-run_block.ensures.entered c.in-Ok-run_block.ensures.others
+
+pub returns-in-Err-clause-back : goal.returns-in-Err-clause-back
+returns-in-Err-clause-back g c = inl c.in-Err.ensures.back
+
+pub returns-then-len-clause-back : goal.returns-then-len-clause-back
+returns-then-len-clause-back g c = inr (let same = ap (λ (l : List Entry). length l) c.epoch.ensures.entries in omega (arith, same, c.if-len.true, c.len.ensures))
+
+pub returns-in_default-clause-back : goal.returns-in_default-clause-back
+returns-in_default-clause-back g c = inl refl
+
+pub returns-in_default-requests_of-clause-back : goal.returns-in_default-requests_of-clause-back
+returns-in_default-requests_of-clause-back g c = inl refl
 
 -- no reply stands behind all entries
 nothing-later : (mark : ℕ) (entries : List Entry) → RepliesFrom mark (drop (length entries) entries)

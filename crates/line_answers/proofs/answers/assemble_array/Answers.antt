@@ -1,4 +1,4 @@
-use Rattle.std.proofs.Common.{◌≡◌, rules, refl, ℕ, [], ◌∷◌, ◌++◌, length, sym, ap, subst, arith, ◌∙◌}
+use Rattle.std.proofs.Common.{◌≡◌, rules, refl, ℕ, false, [], ◌∷◌, ◌++◌, length, sym, ap, subst, arith, ◌∙◌}
 use Rattle.std.specs.Prelude.{IsTrue}
 use Rattle.line_asks.specs.bank_Given.{NeverFalls}
 use Rattle.line_asks.specs.bank_Tape.{contents}
@@ -137,7 +137,7 @@ returns-in-Err-status-clause-never_falls g c =
 pub returns-then-not-has_room-clause-written : goal.returns-then-not-has_room-clause-written
 returns-then-not-has_room-clause-written g c told =
     let setting = setting_of g.B.Bank.tells (g.B.Bank.given c.args.bank) (g.B.Bank.tape c.args.bank) (g.B.Bank.tape c.args.bank) c.args.backup (g.B.Bank.faults_of c.args.bank) (g.B.Bank.faults_of c.args.bank) in
-    written_idle setting c.args.epochs.items c.has_room.new.epochs.items (MayWrite (g.B.Bank.given c.args.bank) c.args.backup (AsksAssemble c.args.uuid)) c.has_room.ensures.same (omega arith)
+    written_idle setting c.args.epochs.items c.has_room.new.epochs.items (MayWrite (g.B.Bank.given c.args.bank) c.args.backup false (AsksAssemble c.args.uuid)) c.has_room.ensures.same (omega arith)
 
 pub returns-in-Ok-status-clause-written : goal.returns-in-Ok-status-clause-written
 returns-in-Ok-status-clause-written g c told =
@@ -156,9 +156,9 @@ pub returns-in-Err-status-clause-written : goal.returns-in-Err-status-clause-wri
 returns-in-Err-status-clause-written g c told =
     let gone : c.halt-bank.result.0 ≡ c.in-Ok.array.parts.bank = c.halt-bank.ensures.bank ∙ ap (λ (a : RunningParts g.row.B.Denot). a.parts.bank) c.in-Err-status.ensures.unchanged in
     let given = g.B.Bank.given c.args.bank in
-    subst (λ (b : g.row.B.Denot). IsWritten (setting_of g.B.Bank.tells given (g.B.Bank.tape c.args.bank) (g.B.Bank.tape b) c.args.backup (g.B.Bank.faults_of c.args.bank) (g.B.Bank.faults_of b)) (histories_of c.args.epochs.items) (histories_of c.has_room.new.epochs.items) (MayWrite given c.args.backup (AsksAssemble c.args.uuid))) (sym gone)
+    subst (λ (b : g.row.B.Denot). IsWritten (setting_of g.B.Bank.tells given (g.B.Bank.tape c.args.bank) (g.B.Bank.tape b) c.args.backup (g.B.Bank.faults_of c.args.bank) (g.B.Bank.faults_of b)) (histories_of c.args.epochs.items) (histories_of c.has_room.new.epochs.items) (MayWrite given c.args.backup false (AsksAssemble c.args.uuid))) (sym gone)
     (idle_flushes (setting_of g.B.Bank.tells given (g.B.Bank.tape c.args.bank) (g.B.Bank.tape c.in-Ok.array.parts.bank) c.args.backup (g.B.Bank.faults_of c.args.bank) (g.B.Bank.faults_of c.in-Ok.array.parts.bank)) (g.B.Bank.tape c.args.bank) refl c.args.epochs.items c.has_room.new.epochs.items c.has_room.ensures.same
-    (MayWrite given c.args.backup (AsksAssemble c.args.uuid)) (c.in-Ok.ensures.tape told))
+    (MayWrite given c.args.backup false (AsksAssemble c.args.uuid)) (c.in-Ok.ensures.tape told))
 
 pub returns-in-Refused-clause-written : goal.returns-in-Refused-clause-written
 returns-in-Refused-clause-written g c told =
@@ -172,7 +172,7 @@ returns-in-NoMemory-clause-written g c told =
     let left = c.in-Err.left.0 in
     let given = g.B.Bank.given c.args.bank in
     idle_flushes (setting_of g.B.Bank.tells given (g.B.Bank.tape c.args.bank) (g.B.Bank.tape left) c.args.backup (g.B.Bank.faults_of c.args.bank) (g.B.Bank.faults_of left)) (g.B.Bank.tape c.args.bank) refl c.args.epochs.items c.has_room.new.epochs.items c.has_room.ensures.same
-    (MayWrite given c.args.backup (AsksAssemble c.args.uuid)) (c.in-Err.ensures.left_tape told)
+    (MayWrite given c.args.backup false (AsksAssemble c.args.uuid)) (c.in-Err.ensures.left_tape told)
 
 pub returns-in-Err-status-clause-given : goal.returns-in-Err-status-clause-given
 returns-in-Err-status-clause-given g c =

@@ -1,4 +1,4 @@
-use Rattle.std.proofs.Common.{rules, List, Some, length, refl, sym, ap, subst, arith, ◌∙◌}
+use Rattle.std.proofs.Common.{rules, false, List, Some, length, refl, sym, ap, subst, arith, ◌∙◌}
 use Rattle.std.specs.Prelude.{IsTrue}
 use Rattle.line_asks.specs.bank_Tape.{contents}
 use Rattle.line_asks.specs.md_base_the_Fault.{Fault}
@@ -91,7 +91,7 @@ returns-then-not-has_room-clause-grows g c = grows-none (g.B.Bank.tape c.args.ba
 pub returns-then-not-has_room-clause-written : goal.returns-then-not-has_room-clause-written
 returns-then-not-has_room-clause-written g c told =
     let setting = setting_of g.B.Bank.tells (g.B.Bank.given c.args.bank) (g.B.Bank.tape c.args.bank) (g.B.Bank.tape c.args.bank) c.args.backup (g.B.Bank.faults_of c.args.bank) (g.B.Bank.faults_of c.args.bank) in
-    written_idle setting c.args.epochs.items c.has_room.new.epochs.items (MayWrite (g.B.Bank.given c.args.bank) c.args.backup (AsksCreate c.args.line)) c.has_room.ensures.same (omega arith)
+    written_idle setting c.args.epochs.items c.has_room.new.epochs.items (MayWrite (g.B.Bank.given c.args.bank) c.args.backup false (AsksCreate c.args.line)) c.has_room.ensures.same (omega arith)
 
 pub returns-in-Ok-clause-written : goal.returns-in-Ok-clause-written
 returns-in-Ok-clause-written g c told =

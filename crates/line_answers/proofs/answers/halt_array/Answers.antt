@@ -5,6 +5,7 @@ use Rattle.line_asks.specs.run_laws_Histories.{history_of, is_end}
 use Rattle.line_asks.specs.superblocks_Reading.{list_length}
 use Rattle.line_asks.specs.script_the_Line_TheVariants.{Halt as AsksHalt}
 use Rattle.line_asks.specs.run_laws_Making.{setting_of}
+use Rattle.line_asks.specs.array_kept_Calls.{AreLossesOf}
 use Rattle.line_asks.specs.run_laws_States.{IsTurn}
 use Rattle.line_asks.specs.run_laws_the_Answered.{Answered}
 use Rattle.line_asks.specs.run_laws_the_State_TheVariants.{Idle as IsIdle, Running as IsRunning}
@@ -36,7 +37,8 @@ returns-clause-answered g c =
     let asked = asked_halt (list_length array.parts.members.newest) (c.len.result - 1) c.script_call-who.result c.script_call-who.ensures did.entered (place _ _ grew c.len.ensures) in
     let lost = losses-halted setting c.script_call-who.result (history_of epoch) did.entered in
     subst (λ (what : Answered). IsTurn setting (IsRunning array c.args.epochs) (IsIdle bank c.push_reserved.new.self) AsksHalt what) (sym c.inside-what.ensures)
-    (turn_ended setting array epoch bank c.args.epochs c.push_reserved.new.self items c.requires.own lost did.uuid did.given did.first AsksHalt (c.len.result - 1) asked.0 (asked-tellable asked.0 (halt-told asked.0.event asked.0.fits)) tt
+    (turn_ended setting array epoch bank c.args.epochs c.push_reserved.new.self items c.requires.own lost did.uuid did.given did.first AsksHalt (c.len.result - 1) asked.0 (asked-tellable asked.0 (halt-told asked.0.event asked.0.fits))
+    (subst (λ (b : g.row.B.Denot). AreLossesOf array.parts.members (g.B.Bank.faults_of array.parts.bank) (g.B.Bank.faults_of b) array.parts.entries epoch.entries.items) (sym did.bank) did.losses) tt
     (λ t. let at = asked.2 t in let same = ap (λ (b : g.row.B.Denot). length (g.B.Bank.tape b)) did.bank in (le_of_eq (sym at), le_of_eq (at ∙ sym same))) (ap (λ (e : Event). is_end e) (asked.1)))
 
 pub returns-clause-former : goal.returns-clause-former

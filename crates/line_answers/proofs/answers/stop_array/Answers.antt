@@ -50,7 +50,7 @@ returns-in-Ok-clause-answered g c =
     let grew = behind_grew c.script_call-who.result did.stopped in
     let asked = asked_stop (list_length array.parts.members.newest) (c.len.result - 1) c.script_call-who.result c.script_call-who.ensures did.stopped (place _ _ grew c.len.ensures) in
     subst (λ (what : Answered). IsTurn setting (IsRunning array c.args.epochs) (IsIdle c.in-Ok.ended.0 c.push_reserved.new.self) AsksStop what) (sym c.inside-what.ensures)
-    (turn_ended setting array epoch c.in-Ok.ended.0 c.args.epochs c.push_reserved.new.self items c.requires.own (losses-of setting (history_of epoch) (held-before (g.B.Bank.given array.parts.bank) c.args.backup (running_history array.parts) (history_of epoch) array.parts.members did.grows (record { uuid = did.uuid; given = did.slots; first = did.first }) c.requires.former.held) did.losses (told_behind c.args.backup (g.B.Bank.faults_of array.parts.bank) (g.B.Bank.faults_of c.in-Ok.ended.0) did.stopped tt)) did.uuid did.slots did.first AsksStop (c.len.result - 1) asked.0 (asked-tellable asked.0 (stop-told asked.0.event asked.0.fits)) tt
+    (turn_ended setting array epoch c.in-Ok.ended.0 c.args.epochs c.push_reserved.new.self items c.requires.own (losses-of setting (history_of epoch) (held-before (g.B.Bank.given array.parts.bank) c.args.backup (running_history array.parts) (history_of epoch) array.parts.members did.grows (record { uuid = did.uuid; given = did.slots; first = did.first }) c.requires.former.held) did.losses (told_behind c.args.backup (g.B.Bank.faults_of array.parts.bank) (g.B.Bank.faults_of c.in-Ok.ended.0) did.stopped tt)) did.uuid did.slots did.first AsksStop (c.len.result - 1) asked.0 (asked-tellable asked.0 (stop-told asked.0.event asked.0.fits)) did.losses tt
     (λ t. at_the_end setting array.parts.entries epoch.entries.items asked.0 epoch.first t (grows-longer did.grows t) did.ended) (ap (λ (e : Event). is_end e) (asked.1)))
 
 pub last_place-requires : goal.last_place-requires

@@ -43,7 +43,7 @@ returns-clause-judged g c =
 pub returns-clause-stepped : goal.returns-clause-stepped
 returns-clause-stepped g c =
     let did = c.in-Ok.ensures in
-    steps-answered g.B.Bank.tells g.B.Bank.given g.B.Bank.tape g.B.Bank.faults_of c.args.array.now c.steps.new.array did.went did.replied did.counted did.rest did.kept
+    steps-answered g.B.Bank.tells g.B.Bank.given g.B.Bank.tape g.B.Bank.faults_of c.args.array.now c.steps.new.array did.went did.replied did.counted did.told did.rest did.kept
 
 -- the script isn't the opening's caller
 apart : (n : ℕ) → n ≡ 0 → n ≡ 254 → ⊥

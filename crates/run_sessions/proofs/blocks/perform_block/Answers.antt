@@ -1,23 +1,30 @@
-use Rattle.std.proofs.Common.{ℕ, ◌≡◌, ◌<◌, ◌≤◌, ◌-◌, true, ◌++◌, ◌∷◌, [], List, Some, length, take, drop, refl, sym, subst, arith, append-nil}
+use Rattle.std.proofs.Common.{ℕ, ◌≡◌, ◌<◌, ◌≤◌, ◌-◌, true, ◌++◌, ◌∷◌, [], List, Some, length, take, drop, refl, sym, subst, arith, append-nil, inl}
 use Rattle.std.proofs.Math.ListN.{get_or}
 use Rattle.std.specs.List.{AllPass}
 use Rattle.block_answers.specs.script_Script.{is_within_limits}
 use Rattle.block_answers.specs.script_the_Numbered.{Numbered}
 use Rattle.block_answers.specs.run_laws_the_State.{State}
 use Rattle.block_answers.specs.run_laws_Making.{setting_of}
-use Rattle.block_answers.specs.run_laws_States.{histories_in, bank_in, course_in, IsBlockAnswered}
+use Rattle.block_answers.specs.run_laws_States.{histories_in, bank_in, course_in, IsBlockAnswered, IsAmidBlock}
+use Rattle.block_answers.specs.run_laws_Histories.{History}
+use Rattle.block_answers.specs.run_laws_Replies.{Course}
+use Rattle.block_answers.proofs.Amid.{amid-none}
 use Rattle.block_answers.specs.run_laws_Written.{IsWritten}
 use Rattle.block_answers.proofs.line_asks_Writing.{written-nothing}
 use Rattle.block_answers.proofs.BlockAnswers.{block-unanswered, block-still}
 use Rattle.run_sessions.specs.declared.sessions.Session.{Session}
 use Rattle.run_sessions.specs.declared.sessions.Stop.TheVariants.{NoMemory as WantsMemory}
-use Rattle.run_sessions.specs.Sessions.{AreAllShown}
+use Rattle.run_sessions.specs.Sessions.{AreAllShown, IsBlock}
 use Rattle.block_answers.specs.run_laws_Ended.{IsRunKept}
 use Rattle.block_answers.specs.views_Moving.{Grows}
 use Rattle.run_sessions.proofs.Unmoved.{grows-same}
 use Rattle.run_sessions.proofs.BlockReplies.{past-end, block-some, parts-whole, parts-order, parts-all, parts-may, answers-named, answers-short}
 use Rattle.run_sessions.proofs.Showing.{none-shown, same-all}
 use Rattle.run_sessions.proofs.blocks.perform_block.Goals as goal
+
+-- of a block that wasn't begun nothing was reached
+unbegun : (hs : List History) (lines : List Numbered) → IsBlock lines → (c : Course) → IsAmidBlock hs c lines c
+unbegun hs lines block c = subst (λ (l : List Numbered). IsAmidBlock hs c l c) (sym block.is) (amid-none hs block.first block.second block.worker block.first_lane block.second_lane block.worker_lane c c refl)
 
 pub returns-then-is_err-clause-step : goal.returns-then-is_err-clause-step
 returns-then-is_err-clause-step g c =
@@ -29,7 +36,7 @@ returns-then-is_err-clause-step g c =
     record {
       block = c.requires.block;
       whats = [];
-      answered = block-unanswered setting state state c.args.lines.now (block-still setting state c.requires.own) some;
+      answered = block-unanswered setting state state c.args.lines.now (block-still setting state c.requires.own) some (inl (unbegun (histories_in state) c.args.lines.now c.requires.block (course_in state)));
       written = λ t. written-nothing setting (histories_in state) (λ slot. ⊥) (omega arith);
       shown = record { shown = none.0; all = (let count = none.1 in omega (arith, some, count)) };
     }

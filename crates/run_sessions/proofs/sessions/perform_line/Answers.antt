@@ -4,7 +4,7 @@ use Rattle.block_answers.specs.run_laws_the_LineReply.{LineReply}
 use Rattle.run_sessions.specs.declared.sessions.Made.{Made}
 use Rattle.block_answers.specs.Shown.{reply_text}
 use Rattle.block_answers.specs.run_laws_Making.{setting_of}
-use Rattle.block_answers.specs.run_laws_States.{histories_in, bank_in}
+use Rattle.block_answers.specs.run_laws_States.{histories_in, bank_in, course_in}
 use Rattle.run_sessions.specs.Sessions.{counted, IsRepliedOrNot}
 use Rattle.block_answers.proofs.run_laws_Causes.{grows-none}
 use Rattle.block_answers.proofs.run_laws_Losses.{losses-kept}
@@ -18,7 +18,7 @@ returns-then-is_err-clause-step g c =
     let state = c.args.session.state in
     let faults = g.B.Bank.faults_of (bank_in state) in
     record {
-      none = record { own = c.requires.own; losses = losses-kept (setting_of g.B.Bank.tells (g.B.Bank.given (bank_in state)) (g.B.Bank.tape (bank_in state)) (g.B.Bank.tape (bank_in state)) c.args.backup faults faults) (histories_in state); grown = grown_kept (histories_in state); course = inl refl; written = λ t. written-nothing (setting_of g.B.Bank.tells (g.B.Bank.given (bank_in state)) (g.B.Bank.tape (bank_in state)) (g.B.Bank.tape (bank_in state)) c.args.backup faults faults) (histories_in state) (MayWrite (g.B.Bank.given (bank_in state)) c.args.backup c.args.numbered.line) (omega arith) };
+      none = record { own = c.requires.own; losses = losses-kept (setting_of g.B.Bank.tells (g.B.Bank.given (bank_in state)) (g.B.Bank.tape (bank_in state)) (g.B.Bank.tape (bank_in state)) c.args.backup faults faults) (histories_in state); grown = grown_kept (histories_in state); course = inl refl; written = λ t. written-nothing (setting_of g.B.Bank.tells (g.B.Bank.given (bank_in state)) (g.B.Bank.tape (bank_in state)) (g.B.Bank.tape (bank_in state)) c.args.backup faults faults) (histories_in state) (MayWrite (g.B.Bank.given (bank_in state)) c.args.backup (course_in state).running c.args.numbered.line) (omega arith) };
       same = c.reserve.ensures.items;
       refused = refl;
       taken = refl;

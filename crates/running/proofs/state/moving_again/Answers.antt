@@ -5,7 +5,7 @@ use Rattle.growing.specs.array_kept_Kept.{scope_in}
 use Rattle.growing.specs.running_words_Parts.{left_in, still_left}
 use Rattle.growing.proofs.moving_laws_MendLaws.{left-some}
 use Rattle.growing.proofs.Stored.{stored-by}
-use Rattle.running.proofs.Checked.{some-of, left-by, aside-moving}
+use Rattle.running.proofs.Checked.{some-of, left-by, aside-moving, window-next}
 use Rattle.running.proofs.state.moving_again.Goals as goal
 
 pub returns-clause-some : goal.returns-clause-some
@@ -25,7 +25,9 @@ returns-clause-within g c =
       sized = was.sized;
       limited = was.limited;
       told = left-by (told_left p.epoch.entries.items) (is_reshaping p.members.newest) true (left_in p.work p.members course p.ahead) (still_left p.work p.members p.ahead) was.kept.members_are.active was.kept.left_told;
-      stored = λ t. stored-by _ _ _ (was.kept.recorded t) (λ relied. was.kept.safe t relied.fills relied.room);
+      stored = λ t.
+          let m = was.kept.members_are in
+          stored-by _ _ _ m.placed m.unlost m.free (λ active. window-next p.members.newest course.window was.kept.course_is.window) (was.kept.gone t) (was.kept.recorded t) (λ relied. was.kept.safe t relied.fills relied.room);
     })
 
 pub returns-clause-aside : goal.returns-clause-aside

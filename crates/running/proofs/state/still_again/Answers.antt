@@ -1,4 +1,4 @@
-use Rattle.std.proofs.Common.{false}
+use Rattle.std.proofs.Common.{◌≡◌, true, false, sym, ◌∙◌}
 use Rattle.takeover.specs.superblocks_Reading.{is_reshaping}
 use Rattle.takeover.specs.flat_history_Legal.{told_left}
 use Rattle.growing.specs.course_kept_Laws.{closed}
@@ -17,7 +17,9 @@ returns-clause-within g c =
       sized = was.sized;
       limited = was.limited;
       told = left-by (told_left p.epoch.entries.items) (is_reshaping p.members.newest) false (left_in p.work p.members (closed 0) p.ahead) (still_left p.work p.members p.ahead) was.kept.members_are.still was.kept.left_told;
-      stored = λ t. stored-by _ _ _ (was.kept.recorded t) (λ relied. was.kept.safe t relied.fills relied.room);
+      stored = λ t.
+          let m = was.kept.members_are in
+          stored-by _ _ _ m.placed m.unlost m.free (λ active. absurd (let clash : true ≡ false = sym active ∙ m.still in cc)) (was.kept.gone t) (was.kept.recorded t) (λ relied. was.kept.safe t relied.fills relied.room);
     })
 
 pub returns-clause-placed : goal.returns-clause-placed

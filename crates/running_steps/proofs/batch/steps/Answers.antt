@@ -1,8 +1,14 @@
-use Rattle.std.proofs.Common.{◌≡◌, ◌≢◌, ◌⊎◌, ℕ, ◌+◌, ◌<◌, Bool, true, false, not, min, inl, inr, [], ◌++◌, refl, sym, ◌∙◌, ap, subst, arith, append-nil}
+use Rattle.std.proofs.Common.{◌≡◌, ◌≢◌, ◌⊎◌, ℕ, ◌+◌, ◌<◌, ◌≤◌, Bool, true, false, not, min, inl, inr, [], ◌∷◌, ◌++◌, refl, sym, ◌∙◌, ap, subst, arith, append-nil}
 use Rattle.std.proofs.lemmas.Bool.{cases_lt, true≢false}
+use Rattle.std.proofs.lemmas.List.Elements.{All-nil, All-cons}
 use Rattle.std.specs.Prelude.{if◌then◌else◌, IfSome, IsTrue}
 use Rattle.running.specs.md_base_the_Refusal_TheVariants.{Nothing}
+use Rattle.running.specs.md_base_the_Who.{Who}
+use Rattle.running.specs.flat_history_the_Event.{Event}
 use Rattle.running.specs.flat_history_the_Event_TheVariants.{Stepped, Refused}
+use Rattle.running.specs.flat_history_Plain.{entries_of}
+use Rattle.running.specs.kept_history_Recorded.{entry_of}
+use Rattle.std.specs.List.{All}
 use Rattle.running.specs.flat_history_Legal.{disturbs}
 use Rattle.running.specs.superblocks_Reading.{list_length, is_reshaping}
 use Rattle.running.specs.array_kept_Calls.{TellNoLoss}
@@ -14,11 +20,15 @@ use Rattle.running.specs.Calls.{running_left}
 use Rattle.running_steps.specs.Steps.{has_finished}
 use Rattle.running_steps.proofs.Went.{epoch-of}
 use Rattle.running_steps.proofs.Plain.{open-begins}
-use Rattle.running_steps.proofs.Refusals.{steps-may}
+use Rattle.running_steps.proofs.Refusals.{steps-may, steps-right}
 use Rattle.running_steps.proofs.Replies.{rest-answered, answered-nothing, answered-stepped, gone-room, gone-behind, gone-answered, way-behind, way-answered, may-answer}
 use Rattle.running_steps.proofs.StepsOf.{quiet-first}
-use Rattle.running_steps.proofs.Ways.{way-none}
+use Rattle.running_steps.proofs.Ways.{TellsNoLoss, way-none}
 use Rattle.running_steps.proofs.batch.steps.Goals as goal
+
+-- a reply tells no loss
+quiet-one : (who : Who) (end : ℕ) (event : Event) → TellsNoLoss event → All (λ e. TellsNoLoss e.event) (entries_of who end (event ∷ []))
+quiet-one who end event none = All-cons (λ e. TellsNoLoss e.event) (entry_of who end event) [] none (All-nil (λ e. TellsNoLoss e.event))
 
 least-is : (count most start : ℕ) → count ≡ min most start → (count ≡ most) ⊎ (count ≡ start)
 least-is count most start is = elim (cases_lt most start) [
@@ -110,7 +120,7 @@ returns-then-count-eq0-clause-kept g c =
     let new = c.answer.new.self in
     let a = c.answer.ensures in
     way-behind g.B.Bank.tells g.B.Bank.given g.B.Bank.tape faults old mid new c.in-Some.room c.in-Ok.ensures.room
-    (way-answered faults mid mid new [] _ (sym (append-nil mid.parts.entries)) a.entered.is (λ s. omega arith) a.bank a.members a.called.same.ahead a.called.same.limit (way-none (faults mid.parts.bank) mid))
+    (way-answered faults mid mid new [] _ (sym (append-nil mid.parts.entries)) a.entered.is (quiet-one c.args.who a.entered.end (Refused Nothing) tt) (λ s. omega arith) a.bank a.members a.called.same.ahead a.called.same.limit (way-none (faults mid.parts.bank) mid))
 
 pub returns-clause-kept : goal.returns-clause-kept
 returns-clause-kept g c =
@@ -122,7 +132,7 @@ returns-clause-kept g c =
     let s = c.take_steps-done.ensures in
     let a = c.answer-2.ensures in
     way-behind g.B.Bank.tells g.B.Bank.given g.B.Bank.tape faults old begun new c.in-Some.room c.in-Ok.ensures.room
-    (way-answered faults begun mid new s.went.more _ s.went.grown a.entered.is s.went.never_falls a.bank a.members a.called.same.ahead a.called.same.limit s.kept)
+    (way-answered faults begun mid new s.went.more _ s.went.grown a.entered.is (quiet-one c.args.who a.entered.end (Stepped c.take_steps-done.result.done c.left-left.result c.take_steps-done.result.ended) tt) s.went.never_falls a.bank a.members a.called.same.ahead a.called.same.limit s.kept)
 
 -- ---- how many are left
 
@@ -161,3 +171,25 @@ returns-clause-counted g c =
           as-before (running_left mid) (running_left new) c.take_steps-done.result.done (running_left begun) (running_left old) same were (ap (λ p. running_left p) room),
       some-left c.min-count.result c.args.most c.left.result (running_left old) c.min-count.ensures c.if-count-eq0.false c.left.ensures.exact,
     )
+
+-- ---- what ended them
+
+none-left : (count most left start : ℕ) → count ≡ min most left → count ≡ 0 → 1 ≤ most → left ≡ start → start ≡ 0
+none-left count most left start is none some exact = omega (arith, is, none, some, exact)
+
+pub returns-clause-told : goal.returns-clause-told
+returns-clause-told g c =
+    let mid = c.take_steps-done.new.array in
+    let new = c.answer-2.new.self in
+    let a = c.answer-2.ensures in (
+      c.left-left.ensures.exact ∙ sym (left-same mid new a.members a.called.work a.course a.called.same.ahead),
+      steps-right mid new c.take_steps-done.result.ended a.members a.called.work a.called.same.ahead c.take_steps-done.ensures.right,
+    )
+
+pub returns-then-count-eq0-clause-told : goal.returns-then-count-eq0-clause-told
+returns-then-count-eq0-clause-told g c =
+    let mid = c.make_room.new.self in
+    let new = c.answer.new.self in
+    let a = c.answer.ensures in
+    left-same mid new a.members a.called.work a.course a.called.same.ahead ∙ ap (λ b. running_left b) c.in-Ok.ensures.room
+    ∙ none-left c.min-count.result c.args.most c.left.result (running_left c.args.array.now) c.min-count.ensures c.if-count-eq0.true c.requires.some c.left.ensures.exact

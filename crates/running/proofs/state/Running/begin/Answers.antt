@@ -79,7 +79,8 @@ returns-in-Err-clause-ends g c =
     let back = rw c.phases_behind-still.ensures.same at c.in-Err.ensures.refused in
     let caused = rw c.phases_behind-still.ensures.same at c.in-Err.ensures.caused in
     let next = subst (λ p. (behind : List Phase) × (phases_of p.ahead ≡ Reshape c.args.to ∷ behind)) (sym c.self.view_is ∙ ap (λ s. parts_in s) c.in-Still.is) c.requires.next in
-    rw c.check_still.ensures.same (begin-refused _ _ c.args.to next.0 c.in-Still.still c.in-Err.still c.in-Err.refusal c.check_still.ensures.rest.still back.ahead next.1 caused)
+    let done = subst (λ p. left_of p.parts.work p.parts.members ≡ 0) (sym c.self.view_is ∙ ap (λ s. parts_in s) c.in-Still.is) c.requires.done in
+    rw c.check_still.ensures.same (begin-refused _ _ c.args.to next.0 c.in-Still.still c.in-Err.still c.in-Err.refusal c.check_still.ensures.rest.still back.members back.same.work done back.ahead next.1 caused)
 
 pub returns-in-Err-clause-caused : goal.returns-in-Err-clause-caused
 returns-in-Err-clause-caused g c = rw (← c.self.view_is, c.in-Still.is, c.check_still.ensures.same) (rw c.phases_behind-still.ensures.same at c.in-Err.ensures.caused)

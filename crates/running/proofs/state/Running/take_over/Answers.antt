@@ -63,7 +63,8 @@ returns-in-Err-clause-ends g c =
     let back = rw c.phases_behind-still.ensures.same at c.in-Err.ensures.refused in
     let caused = rw c.phases_behind-still.ensures.same at c.in-Err.ensures.caused in
     let next = subst (λ p. (behind : List Phase) × IsTakeoverNext (phases_of p.ahead) c.args.to behind) (sym c.self.view_is ∙ ap (λ s. parts_in s) c.in-Still.is) c.requires.next in
-    rw c.check_still-in-Err.ensures.same (take-refused c.args.to next.0 c.in-Still.still c.in-Err.still c.in-Err.refusal c.check_still-in-Err.ensures.rest.still back.ahead next.1 caused)
+    let done = subst (λ p. left_of p.parts.work p.parts.members ≡ 0) (sym c.self.view_is ∙ ap (λ s. parts_in s) c.in-Still.is) c.requires.done in
+    rw c.check_still-in-Err.ensures.same (take-refused c.args.to next.0 c.in-Still.still c.in-Err.still c.in-Err.refusal c.check_still-in-Err.ensures.rest.still back.members back.work done back.ahead next.1 caused)
 
 pub take_over-requires-clause-open : goal.take_over-requires-clause-open
 take_over-requires-clause-open g c = rw c.phases_behind-still.ensures.same (subst (λ p. IsCallGoing p.parts.entries c.args.who) (sym c.self.view_is ∙ ap (λ s. parts_in s) c.in-Still.is) c.requires.open)
