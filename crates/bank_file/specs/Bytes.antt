@@ -1,5 +1,5 @@
 -- Bytes at offsets, read and written.
-use Rattle.std.specs.Prelude.{◌≡◌, ◌⊎◌, ◌+◌, ◌<◌, ◌≤◌, ℕ, List, slice_index, Result, Ok, Err}
+use Rattle.std.specs.Prelude.{◌≡◌, ◌⊎◌, ◌+◌, ◌-◌, ◌^◌, ◌<◌, ◌≤◌, ℕ, min, List, slice_index, Result, Ok, Err}
 
 -- the first bytes of a buffer, so many, are those from the offset on
 abbrev pub AreBytes : (ℕ → ℕ) → ℕ → ℕ → List ℕ → Type 0
@@ -14,7 +14,11 @@ pub record IsPut (before after : ℕ → ℕ) (offset count : ℕ) (buffer : Lis
 abbrev pub AreSame : (ℕ → ℕ) → (ℕ → ℕ) → Type 0
 AreSame before after = (i : ℕ) → after i ≡ before i
 
+-- one more that moved nothing was counted, up to u64's end
+abbrev pub HasStumbled : ℕ → ℕ → Type 0
+HasStumbled before after = min (before + 1) (2 ^ 64 - 1) ≤ after
+
 -- A call moved a byte, or stumbled, which is counted.
 abbrev pub HasMoved : {E : Type 0} → Result ℕ E → ℕ → ℕ → Type 0
-HasMoved (Ok count) before after = (before ≤ after) × (before + 1 ≤ after + count)
-HasMoved (Err e) before after = before < after
+HasMoved (Ok count) before after = (before ≤ after) × HasStumbled before (after + count)
+HasMoved (Err e) before after = (before ≤ after) × HasStumbled before after

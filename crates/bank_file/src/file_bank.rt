@@ -1,12 +1,13 @@
 // One image file for each slot.
-ghost use Rattle.std.specs.Prelude.{◌≡◌, ◌<◌, [], ℕ, length, slice_index, replicate, IfOk, Err};
-ghost use Rattle.bank_file.specs.Images.{given_of};
+ghost use Rattle.std.specs.Prelude.{◌≡◌, ◌<◌, ◌^◌, [], ℕ, length, slice_index, map, replicate, slice_get, IfOk, IfSome, Err, All};
+ghost use Rattle.bank_file.specs.Images.{Files, given_of, faults_in, tape_in, IsFreshDevice, IsFreshImage, IsOpened};
 ghost use Rattle.bank_file.specs.declared.file_bank.FileFault.TheVariants.{CannotOpen};
 
+use crate::device::Device;
 use crate::image::Image;
 use crate::image_file::ImageFile;
 use bank::{Bank, BankFault};
-use std::alloc::Global;
+use std::alloc::{AllocError, Global};
 use std::fs::{File, Files};
 use std::io;
 use std::marker::Model;
@@ -23,21 +24,23 @@ pub enum FileFault {
     NoMemory,
 }
 
-/// A bank whose slots are image files. It tells nothing of what they hold.
+/// A bank whose slots are devices, such as image files. It tells what they hold and what was done to them where the devices do. Its
+/// operations are numbered, and each device is handed the numbers, so that the tape is what was done to all of them in order.
 #[derive(Drop)]
-pub struct FileBank {
-    images: Vec<Image<ImageFile>>,
+pub struct FileBank<D: Device> {
+    images: Vec<Image<D>>,
+    // How many operations there were.
+    ops: u64,
 }
 
-impl Model for FileBank {
-    ghost use Rattle.std.specs.Prelude.{◌<◌, ◌^◌, length};
-    ghost use Rattle.bank_file.specs.Images.{Slots, slots_of};
+impl<D: Device> Model for FileBank<D> {
+    ghost use Rattle.bank_file.specs.Images.{Files, IsKept};
 
-    ghost Value = { Slots };
+    ghost Value = { Files D };
 
-    ghost view = { λ bank. slots_of bank.images.items };
+    ghost view = { λ bank. record { images = bank.images.items; ops = bank.ops } };
 
-    ghost invariant = { λ bank. length bank.images.items < 2 ^ 32 };
+    ghost invariant = { λ bank. IsKept D.tells D.start D.bytes D.log bank.images.items bank.ops };
 }
 
 // Opens and locks an existing file that is none of these.
@@ -57,16 +60,53 @@ fn open_apart<R: Files<File = File>>(
     Ok(Image::new(file, bytes))
 }
 
-impl FileBank {
+impl<D: Device> FileBank<D> {
+    /// The device of a slot.
+    pub fn device(&self, slot: u32) -> &D
+        requires { slot < length self.now.images }
+        ensures { IfSome (slice_get self.now.images slot) (λ image. result.now ≡ image.device) }
+    {
+        &self.images[slot as usize].device
+    }
+
+    // A bank over these images, to which nothing was done since their devices were opened.
+    fn of(images: Vec<Image<D>>) -> FileBank<D>
+        requires few { length images.items < 2 ^ 32 }
+        requires fresh { D.tells → All (IsFreshImage D.start D.bytes D.log) images.items }
+        ensures images { result.images ≡ images.items }
+        ensures ops { result.ops ≡ 0 }
+    {
+        FileBank { images, ops: 0 }
+    }
+}
+
+impl<D: Device + Drop> FileBank<D> {
+    /// Takes one device for each slot, to which nothing was done since it was opened. A slot is as long as the whole sectors of its
+    /// device.
+    pub fn with_devices(alloc: Global, devices: Vec<D>) -> Result<FileBank<D>, AllocError>
+        requires few { length devices.items < 2 ^ 32 }
+        requires fresh { D.tells → All (IsFreshDevice D.start D.bytes D.log) devices.items }
+        ensures opened { IfOk result (λ bank. IsOpened D.tells D.size D.bytes devices.items (given_of D.start bank) (faults_in bank) (tape_in D.log bank)) }
+    {
+        let mut images = Vec::new(alloc);
+        for device in devices {
+            let bytes = device.size();
+            images.push(Image::new(device, bytes))?;
+        }
+        Ok(FileBank::of(images))
+    }
+}
+
+impl FileBank<ImageFile> {
     /// Takes one existing file for each slot, and locks it against other openings. A slot is as long as the whole sectors
     /// of its file, which is measured once.
     pub fn from_paths<R: Files<File = File>>(
         rt: &R,
         alloc: Global,
         paths: &[String],
-    ) -> Result<FileBank, FileFault>
-        ensures slots { IfOk result (λ bank. length bank.sectors ≡ length paths.now) }
-        ensures unfailed { IfOk result (λ bank. bank.faults ≡ replicate (length paths.now) 0) }
+    ) -> Result<FileBank<ImageFile>, FileFault>
+        ensures slots { IfOk result (λ bank. length bank.images ≡ length paths.now) }
+        ensures unfailed { IfOk result (λ bank. map (λ image. image.faults) bank.images ≡ replicate (length paths.now) 0) }
         ensures place { (place : ℕ) → result ≡ Err (CannotOpen place) → place < length paths.now }
     {
         let mut images = Vec::with_capacity(alloc, paths.len()).map_err(|_| FileFault::NoMemory)?;
@@ -80,18 +120,18 @@ impl FileBank {
                 Err(_) => return Err(FileFault::CannotOpen(place)),
             }
         }
-        Ok(FileBank { images })
+        Ok(FileBank::of(images))
     }
 }
 
-impl Bank for FileBank {
-    ghost tells = { ⊥ };
+impl<D: Device> Bank for FileBank<D> {
+    ghost tells = { D.tells };
 
-    ghost given = { λ bank. given_of bank };
+    ghost given = { λ bank. given_of D.start bank };
 
-    ghost faults_of = { λ bank. slice_index bank.faults };
+    ghost faults_of = { λ bank. faults_in bank };
 
-    ghost tape = { λ bank. [] };
+    ghost tape = { λ bank. tape_in D.log bank };
 
     fn slots(&self) -> u32 {
         self.images.len() as u32
@@ -106,7 +146,7 @@ impl Bank for FileBank {
     }
 
     fn ops(&self) -> u64 {
-        0
+        self.ops
     }
 
     fn read(&mut self, slot: u32, at: u64, into: &mut [u8]) -> Result<(), BankFault> {
@@ -114,10 +154,10 @@ impl Bank for FileBank {
     }
 
     fn write(&mut self, slot: u32, at: u64, from: &[u8]) -> Result<(), BankFault> {
-        self.images[slot as usize].write(at, from)
+        self.images[slot as usize].write(&mut self.ops, at, from)
     }
 
     fn flush(&mut self, slot: u32) -> Result<(), BankFault> {
-        self.images[slot as usize].flush()
+        self.images[slot as usize].flush(&mut self.ops)
     }
 }

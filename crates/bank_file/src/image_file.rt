@@ -1,5 +1,5 @@
 // A file of the system, open and locked. It tells nothing of its bytes.
-ghost use Rattle.std.specs.Prelude.{ℕ};
+ghost use Rattle.std.specs.Prelude.{ℕ, Option, None};
 
 use crate::device::Device;
 use std::fs::{File, Files, OpenOptions, TryLockError};
@@ -53,26 +53,34 @@ impl ImageFile {
     }
 }
 
-// Each method is one call of the system.
+// Each method is one call of the system. Of what it does nothing can be proved: that these calls keep the word of a device is trusted.
 impl Device for ImageFile {
     ghost tells = { ⊥ };
 
+    ghost size = { λ file. file.length };
+
+    ghost start = { λ file offset. 0 };
+
     ghost bytes = { λ file offset. 0 };
 
-    ghost synced = { λ file offset. 0 };
+    ghost log = { λ file number. None };
 
     ghost stumbles = { λ file. 0 };
+
+    fn size(&self) -> u64 {
+        self.length
+    }
 
     fn read_some(&mut self, into: &mut [u8], offset: u64) -> io::Result<usize> {
         self.file.read_at(into, offset)
     }
 
-    fn write_some(&mut self, from: &[u8], offset: u64) -> io::Result<usize> {
+    fn write_some(&mut self, _number: u64, from: &[u8], offset: u64) -> io::Result<usize> {
         self.file.write_at(from, offset)
     }
 
     // Lengths never change, so the data alone are synced.
-    fn sync(&mut self) -> io::Result<()> {
+    fn sync(&mut self, _number: u64) -> io::Result<()> {
         self.file.sync_data()
     }
 }

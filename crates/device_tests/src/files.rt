@@ -1,13 +1,13 @@
 ghost use Rattle.std.specs.Prelude.{◌≡◌};
 
 use bank::Bank;
-use bank_file::{FileBank, FileFault};
+use bank_file::{FileBank, FileFault, ImageFile};
 use std::fs;
 use std::process::Abort;
 use std::test::Fail;
 
 // Writes, and says whether that was answered Ok.
-fn writes(rt: &impl Abort, bank: &mut FileBank, slot: u32, at: u64, from: &[u8]) -> bool {
+pub fn writes(rt: &impl Abort, bank: &mut impl Bank, slot: u32, at: u64, from: &[u8]) -> bool {
     assert!(rt; slot < bank.slots());
     assert!(rt; from.len() > 0);
     assert!(rt; from.len() % 512 == 0);
@@ -17,7 +17,7 @@ fn writes(rt: &impl Abort, bank: &mut FileBank, slot: u32, at: u64, from: &[u8])
 }
 
 // Reads, and says whether that was answered Ok.
-fn reads(rt: &impl Abort, bank: &mut FileBank, slot: u32, at: u64, into: &mut [u8]) -> bool {
+pub fn reads(rt: &impl Abort, bank: &mut impl Bank, slot: u32, at: u64, into: &mut [u8]) -> bool {
     assert!(rt; slot < bank.slots());
     assert!(rt; into.len() > 0);
     assert!(rt; into.len() % 512 == 0);
@@ -27,12 +27,12 @@ fn reads(rt: &impl Abort, bank: &mut FileBank, slot: u32, at: u64, into: &mut [u
 }
 
 // Flushes, and says whether that was answered Ok.
-fn flushes(rt: &impl Abort, bank: &mut FileBank, slot: u32) -> bool {
+pub fn flushes(rt: &impl Abort, bank: &mut impl Bank, slot: u32) -> bool {
     assert!(rt; slot < bank.slots());
     bank.flush(slot).is_ok()
 }
 
-fn faults(rt: &impl Abort, bank: &FileBank, slot: u32) -> u64 {
+pub fn faults(rt: &impl Abort, bank: &impl Bank, slot: u32) -> u64 {
     assert!(rt; slot < bank.slots());
     bank.faults(slot)
 }
@@ -55,7 +55,7 @@ fn make_files(rt: &HostRuntime, folder: &str, files: &[(&str, usize)]) -> Result
     Ok(())
 }
 
-fn open(rt: &HostRuntime, names: &[&str]) -> Result<Result<FileBank, FileFault>, Fail> {
+fn open(rt: &HostRuntime, names: &[&str]) -> Result<Result<FileBank<ImageFile>, FileFault>, Fail> {
     let mut paths = Vec::new(rt.alloc());
     for name in names {
         paths.push(String::from_str(rt.alloc(), name)?)?;

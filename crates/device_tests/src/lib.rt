@@ -6,6 +6,8 @@ mod adapters;
 #[cfg(test)]
 mod backups;
 #[cfg(test)]
+mod devices;
+#[cfg(test)]
 mod files;
 #[cfg(test)]
 mod marks;
