@@ -45,7 +45,7 @@ position_none p xs nothing = by_cases (by_place p xs)
     by_cases (inl here) = absurd (cc (here.0))
     by_cases (inr nowhere) = nowhere.1
 
-place_or_len : (p : ℕ → Bool) (xs : List ℕ) → unwrap_or (position p xs) (length xs) ≡ position_or_len p xs
+pub place_or_len : (p : ℕ → Bool) (xs : List ℕ) → unwrap_or (position p xs) (length xs) ≡ position_or_len p xs
 place_or_len p xs = by_cases (by_place p xs)
   where
     by_cases : (position p xs ≡ Some (position_or_len p xs)) × (position_or_len p xs < length xs)
@@ -62,7 +62,7 @@ words_of-space b line e =
     ap (λ s. filter (λ word. ltb 0 (length word)) (cond s ([] ∷ slice_split is_space line) (onto_first b (slice_split is_space line)))) e
 
 -- nor are several
-words_of-skip : (line : List ℕ) → words_of (drop (position_or_len is_other line) line) ≡ words_of line
+pub words_of-skip : (line : List ℕ) → words_of (drop (position_or_len is_other line) line) ≡ words_of line
 words_of-skip [] = refl
 words_of-skip (b ∷ line) = at_byte (is_space b) refl (words_of-skip line)
   where
@@ -79,7 +79,7 @@ words_of-spaces line nothing =
     sym (words_of-skip line) ∙ ap words_of (drop_all (position_or_len is_other line) line (position_none is_other line nothing))
 
 -- a word at the front is followed by the other words
-words_of-first : (line : List ℕ) → 0 < position_or_len is_space line
+pub words_of-first : (line : List ℕ) → 0 < position_or_len is_space line
     → words_of line ≡ take (position_or_len is_space line) line ∷ words_of (drop (position_or_len is_space line) line)
 words_of-first line some = at_end (cases_lt (position_or_len is_space line) (length line))
   where

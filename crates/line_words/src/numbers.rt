@@ -36,15 +36,15 @@ impl<'a> Iterator for Words<'a> {
     }
 }
 
-// Where the first byte stands that is no space.
-fn first_other(line: &[u8]) -> Option<usize>
+/// Where the first byte stands that is no space.
+pub fn first_other(line: &[u8]) -> Option<usize>
     ensures { result ≡ position (λ b. not (is_space b)) line.now }
 {
     line.iter().position(|byte| *byte != b' ')
 }
 
-// Where the first space stands.
-fn first_space(line: &[u8]) -> Option<usize>
+/// Where the first space stands.
+pub fn first_space(line: &[u8]) -> Option<usize>
     ensures { result ≡ position is_space line.now }
 {
     line.iter().position(|byte| *byte == b' ')

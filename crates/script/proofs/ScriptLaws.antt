@@ -42,11 +42,11 @@ abbrev next : Bool → List ℕ → Bool
 next inside line = is_inside_behind inside (meaning_of inside line)
 
 -- the meaning of the line behind the first k
-abbrev meaning_at : List (List ℕ) → ℕ → Meaning
+abbrev pub meaning_at : List (List ℕ) → ℕ → Meaning
 meaning_at lines k = meaning_of (is_inside (take k lines)) (get_or lines k [])
 
 -- one line more
-asked-more : (lines : List (List ℕ)) (k : ℕ) → k < length lines
+pub asked-more : (lines : List (List ℕ)) (k : ℕ) → k < length lines
     → asked (take (k + 1) lines) ≡ asked (take k lines) ++ option_to_list (numbered (k + 1) (meaning_at lines k))
 asked-more lines k within =
     let size = length-take-le k lines (omega arith) in
@@ -59,7 +59,7 @@ asked-more lines k within =
     ∙ ap (λ rest. asked (take k lines) ++ rest) (cons_option-nil (numbered (1 + length (meanings (take k lines))) (meaning_at lines k))
     ∙ ap (λ n. option_to_list (numbered n (meaning_at lines k))) number)
 
-inside-more : (lines : List (List ℕ)) (k : ℕ) → k < length lines
+pub inside-more : (lines : List (List ℕ)) (k : ℕ) → k < length lines
     → is_inside (take (k + 1) lines) ≡ is_inside_behind (is_inside (take k lines)) (meaning_at lines k)
 inside-more lines k within = fold_more next false lines k [] within
 
@@ -190,7 +190,7 @@ too_long blocks text long =
     let t : ltb most_bytes (length text) ≡ true = grind (arith, nat_tests) in
     ap (λ b. cond b (Err 0) (unless_bad (least_below (length (lines_of text)) (is_bad blocks (lines_of text))) (lines_of text))) t
 
-by_lines : (blocks : Bool) (text : List ℕ) → length text ≤ most_bytes
+pub by_lines : (blocks : Bool) (text : List ℕ) → length text ≤ most_bytes
     → script_with blocks text ≡ unless_bad (least_below (length (lines_of text)) (is_bad blocks (lines_of text))) (lines_of text)
 unfolding script_with
 by_lines blocks text short =

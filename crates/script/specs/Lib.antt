@@ -1,8 +1,11 @@
 pub mod Appends
 pub mod Grammar
 pub mod Looks
+pub mod Mistakes
+pub mod Reading
 pub mod Script
 pub mod Seeds
+pub mod Tables
 pub mod Texts
 pub use Rattle.flat_history.specs.CrashSafe as flat_history_CrashSafe
 pub use Rattle.flat_history.specs.Epochs as flat_history_Epochs

@@ -1,16 +1,22 @@
 //! What one line of a script asks.
 
-ghost use Rattle.std.specs.Prelude.{◌≡◌, ◌==◌, slice_index};
+ghost use Rattle.std.specs.Prelude.{◌≡◌, ◌==◌, ◌&&◌, ◌↔◌, nat_le, not, slice_index, position, IfOk, IfErr, IfSome, IsErr, IsSome};
 ghost use Rattle.std.specs.List.{list_all};
-ghost use Rattle.uuid.specs.Text.{parsed};
-ghost use Rattle.script.specs.Grammar.{meaning_of, outside_of, inside_of, opens, is_for_lanes, asks_for, for_lanes, is_printable, line_of, alone, create_keys, create_of, assemble_of, read_of, write_of, fail_of, add_of, step_of, array_size_of, limit_given, grow_of, examine_of, span_of};
-ghost use Rattle.line_words.specs.Keys.{has_key};
+ghost use Rattle.script.specs.Grammar.{meaning_of, is_passed_over};
+ghost use Rattle.script.specs.Mistakes.{IsDiagnosis};
+ghost use Rattle.script.specs.Reading.{read_verb, read_read, read_write, read_assemble, read_create, asked_by, read_lane, read_outside, read_inside, is_for_lanes_verb, read_words};
 ghost use Rattle.line_words.specs.Numbers.{is_space, words_of};
 
-use crate::lines::{CreateLine, Line};
+use crate::diagnosis::{Diagnosis, place_of};
+use crate::keyed::{create_from, grow_from};
+use crate::lines::Line;
+use crate::mistakes::{Mistake, Place, Value, Wrong};
+use crate::reader::{
+    behind_first, end_of, limit_at, most_behind, number_at, small_at, uuid_at, wrong_at,
+};
 use crate::reply::Lane;
-use line_words::{Words, have_keys, number, shape_of, small_number, value_of, wish_of};
-use uuid::Uuid;
+use crate::tables::{BlockWord, Verb, block_word_named, verb_named};
+use line_words::Words;
 
 /// What the text of a line means: it may open a block, or ask something in a lane.
 #[derive(Clone, Copy, Debug, PartialEq, Eq)]
@@ -21,107 +27,181 @@ pub enum Meaning {
     Bad,
 }
 
-/// What this line of the text means, inside a block or outside.
-pub fn meaning_of_line(inside: bool, text: &[u8]) -> Meaning
-    ensures { result ≡ meaning_of inside text.now }
+fn read_read(words: Words<'_>) -> Result<Line, Wrong>
+    ensures { result ≡ read_read (words_of words.entry.line.now) }
 {
-    if !has_plain_bytes(text) {
-        return Meaning::Bad;
+    let at = number_at(words, Value::Start, 0, (1 << 63) - 2)?;
+    let words = behind_first(words);
+    let count = small_at(words, Value::Count, 1, most_behind(at))?;
+    end_of(behind_first(words), Line::Read { at, count })
+}
+
+fn read_write(words: Words<'_>) -> Result<Line, Wrong>
+    ensures { result ≡ read_write (words_of words.entry.line.now) }
+{
+    let at = number_at(words, Value::Start, 0, (1 << 63) - 2)?;
+    let words = behind_first(words);
+    let count = small_at(words, Value::Count, 1, most_behind(at))?;
+    let words = behind_first(words);
+    let seed = small_at(words, Value::Seed, 0, u32::MAX)?;
+    end_of(behind_first(words), Line::Write { at, count, seed })
+}
+
+fn read_create(words: Words<'_>) -> Result<Line, Wrong>
+    ensures { result ≡ read_create (words_of words.entry.line.now) }
+{
+    let uuid = uuid_at(words)?;
+    create_from(uuid, behind_first(words))
+}
+
+fn read_assemble(words: Words<'_>) -> Result<Line, Wrong>
+    ensures { result ≡ read_assemble (words_of words.entry.line.now) }
+{
+    let mut values = words;
+    if values.next().is_none() {
+        return Ok(Line::Assemble { uuid: None });
     }
-    if is_blank(text) || is_comment(text) {
-        return Meaning::PassedOver;
+    let uuid = uuid_at(words)?;
+    end_of(behind_first(words), Line::Assemble { uuid: Some(uuid) })
+}
+
+// What a line asks by the words behind its first.
+fn read_verb(verb: Verb, words: Words<'_>) -> Result<Line, Wrong>
+    ensures { result ≡ read_verb verb (words_of words.entry.line.now) }
+{
+    match verb {
+        Verb::Create => read_create(words),
+        Verb::Assemble => read_assemble(words),
+        Verb::Read => read_read(words),
+        Verb::Write => read_write(words),
+        Verb::Flush => end_of(words, Line::Flush),
+        Verb::Fail => {
+            let role = small_at(words, Value::Role, 0, u32::MAX)?;
+            end_of(behind_first(words), Line::Fail { role })
+        }
+        Verb::Add => {
+            let slot = small_at(words, Value::Slot, 0, u32::MAX)?;
+            end_of(behind_first(words), Line::Add { slot })
+        }
+        Verb::Step => {
+            let most = small_at(words, Value::Steps, 1, u32::MAX)?;
+            end_of(behind_first(words), Line::Step { most })
+        }
+        Verb::Wait => end_of(words, Line::Wait),
+        Verb::ArraySize => {
+            let limit = limit_at(words)?;
+            end_of(behind_first(words), Line::ArraySize { limit })
+        }
+        Verb::Grow => grow_from(words),
+        Verb::Stop => end_of(words, Line::Stop),
+        Verb::Halt => end_of(words, Line::Halt),
+        Verb::Detail => end_of(words, Line::Detail),
+        Verb::Mdstat => end_of(words, Line::Mdstat),
+        Verb::Examine => {
+            let slot = small_at(words, Value::Slot, 0, u32::MAX)?;
+            end_of(behind_first(words), Line::Examine { slot })
+        }
     }
-    if inside {
-        parse_inside(Words::of(text))
-    } else {
-        parse_outside(Words::of(text))
+}
+
+fn is_for_lanes(verb: Verb) -> bool
+    ensures { result ≡ is_for_lanes_verb verb }
+{
+    matches!(verb, Verb::Read | Verb::Write | Verb::Flush | Verb::Fail)
+}
+
+// A line of this lane asks this.
+fn asked_by(lane: Lane, asked: Result<Line, Wrong>) -> Result<Meaning, Wrong>
+    ensures { result ≡ asked_by lane asked }
+{
+    match asked {
+        Ok(line) => Ok(Meaning::Asks(lane, line)),
+        Err(wrong) => Err(wrong),
+    }
+}
+
+// What stands behind the name of a lane.
+fn read_lane(lane: Lane, words: Words<'_>) -> Result<Meaning, Wrong>
+    ensures { result ≡ read_lane lane (words_of words.entry.line.now) }
+{
+    let place = Place::Lane;
+    let mut values = words;
+    let Some(word) = values.next() else {
+        return Err(wrong_at(words, 0, Mistake::Missing { value: Value::Word }));
+    };
+    match verb_named(word) {
+        Some(verb) if is_for_lanes(verb) => asked_by(lane, read_verb(verb, values)),
+        Some(_) => Err(wrong_at(words, 0, Mistake::WordElsewhere { place })),
+        None => match block_word_named(word) {
+            Some(_) => Err(wrong_at(words, 0, Mistake::WordElsewhere { place })),
+            None => Err(wrong_at(words, 0, Mistake::UnknownWord { place })),
+        },
     }
 }
 
 // A line outside a block.
-fn parse_outside(words: Words<'_>) -> Meaning
-    ensures { result ≡ outside_of (words_of words.entry.line.now) }
+fn read_outside(words: Words<'_>) -> Result<Meaning, Wrong>
+    ensures { result ≡ read_outside (words_of words.entry.line.now) }
 {
+    let place = Place::Outside;
     let mut values = words;
-    match values.next() {
-        None => Meaning::Bad,
-        Some(verb) => {
-            if verb == b"together".as_slice() {
-                parse_opening(values)
-            } else {
-                asks_for(Lane::Script, parse_line(words))
-            }
-        }
-    }
-}
-
-// What stands behind `together`: nothing.
-fn parse_opening(mut words: Words<'_>) -> Meaning
-    ensures { result ≡ opens (words_of words.entry.line.now) }
-{
-    match words.next() {
-        None => Meaning::Opens,
-        Some(_) => Meaning::Bad,
+    let Some(word) = values.next() else {
+        return Err(wrong_at(words, 0, Mistake::Missing { value: Value::Word }));
+    };
+    match verb_named(word) {
+        Some(verb) => asked_by(Lane::Script, read_verb(verb, values)),
+        None => match block_word_named(word) {
+            Some(BlockWord::Together) => end_of(values, Meaning::Opens),
+            Some(_) => Err(wrong_at(words, 0, Mistake::WordElsewhere { place })),
+            None => Err(wrong_at(words, 0, Mistake::UnknownWord { place })),
+        },
     }
 }
 
 // A line of a block.
-fn parse_inside(mut words: Words<'_>) -> Meaning
-    ensures { result ≡ inside_of (words_of words.entry.line.now) }
+fn read_inside(words: Words<'_>) -> Result<Meaning, Wrong>
+    ensures { result ≡ read_inside (words_of words.entry.line.now) }
 {
-    let Some(verb) = words.next() else {
-        return Meaning::Bad;
+    let place = Place::Block;
+    let mut values = words;
+    let Some(word) = values.next() else {
+        return Err(wrong_at(words, 0, Mistake::Missing { value: Value::Word }));
     };
-    if verb == b"a:".as_slice() {
-        asks_for(Lane::A, for_lanes(parse_line(words)))
-    } else if verb == b"b:".as_slice() {
-        asks_for(Lane::B, for_lanes(parse_line(words)))
-    } else if verb == b"end".as_slice() {
-        asks_for(Lane::Worker, parse_alone(words, Line::Wait))
+    match block_word_named(word) {
+        Some(BlockWord::A) => read_lane(Lane::A, values),
+        Some(BlockWord::B) => read_lane(Lane::B, values),
+        Some(BlockWord::End) => end_of(values, Meaning::Asks(Lane::Worker, Line::Wait)),
+        Some(BlockWord::Together) => Err(wrong_at(words, 0, Mistake::WordElsewhere { place })),
+        None => match verb_named(word) {
+            Some(_) => Err(wrong_at(words, 0, Mistake::WordElsewhere { place })),
+            None => Err(wrong_at(words, 0, Mistake::UnknownWord { place })),
+        },
+    }
+}
+
+// What a line of words means, inside a block or outside.
+fn read_words(inside: bool, words: Words<'_>) -> Result<Meaning, Wrong>
+    ensures { result ≡ read_words inside (words_of words.entry.line.now) }
+{
+    if inside {
+        read_inside(words)
     } else {
-        Meaning::Bad
+        read_outside(words)
     }
 }
 
-// A line of this lane asks this, or it is bad.
-fn asks_for(lane: Lane, asked: Option<Line>) -> Meaning
-    ensures { result ≡ asks_for lane asked }
+// Where the first byte stands that a line may not have.
+fn first_bad_byte(text: &[u8]) -> Option<usize>
+    ensures { result ≡ position (λ b. not (nat_le 32 b && nat_le b 126)) text.now }
 {
-    match asked {
-        Some(line) => Meaning::Asks(lane, line),
-        None => Meaning::Bad,
-    }
+    text.iter().position(|byte| !(32..=126).contains(byte))
 }
 
-// The line, where it may stand in a lane.
-fn for_lanes(asked: Option<Line>) -> Option<Line>
-    ensures { result ≡ for_lanes asked }
+// Lines without a byte, of spaces alone, or that begin with `#`.
+fn is_passed_over(text: &[u8]) -> bool
+    ensures { result ≡ is_passed_over text.now }
 {
-    match asked {
-        Some(line) => {
-            if is_for_lanes(&line) {
-                Some(line)
-            } else {
-                None
-            }
-        }
-        None => None,
-    }
-}
-
-fn is_for_lanes(line: &Line) -> bool
-    ensures { result ≡ is_for_lanes line.now }
-{
-    matches!(
-        line,
-        Line::Read { .. } | Line::Write { .. } | Line::Flush | Line::Fail { .. }
-    )
-}
-
-fn has_plain_bytes(text: &[u8]) -> bool
-    ensures { result ≡ is_printable text.now }
-{
-    text.iter().all(|byte| (32..=126).contains(byte))
+    is_blank(text) || is_comment(text)
 }
 
 fn is_blank(text: &[u8]) -> bool
@@ -136,194 +216,46 @@ fn is_comment(text: &[u8]) -> bool
     matches!(text, [b'#', ..])
 }
 
-// The line that these words make.
-fn parse_line(mut words: Words<'_>) -> Option<Line>
-    ensures { result ≡ line_of (words_of words.entry.line.now) }
+/// What this line of the text means, inside a block or outside, or what is wrong with it.
+pub fn read_line(inside: bool, text: &[u8]) -> Result<Meaning, Diagnosis>
+    ensures meaning { IfOk result (λ meaning. meaning ≡ meaning_of inside text.now) }
+    ensures bad { IsErr result ↔ (meaning_of inside text.now ≡ Meaning.Bad) }
+    ensures diagnosis { IfErr result (λ d. IsDiagnosis inside text.now d.column d.width d.mistake) }
 {
-    let verb = words.next()?;
-    if verb == b"create".as_slice() {
-        parse_create(words)
-    } else if verb == b"assemble".as_slice() {
-        parse_assemble(words)
-    } else if verb == b"read".as_slice() {
-        parse_read(words)
-    } else if verb == b"write".as_slice() {
-        parse_write(words)
-    } else if verb == b"flush".as_slice() {
-        parse_alone(words, Line::Flush)
-    } else if verb == b"fail".as_slice() {
-        parse_fail(words)
-    } else if verb == b"add".as_slice() {
-        parse_add(words)
-    } else if verb == b"step".as_slice() {
-        parse_step(words)
-    } else if verb == b"wait".as_slice() {
-        parse_alone(words, Line::Wait)
-    } else if verb == b"array-size".as_slice() {
-        parse_array_size(words)
-    } else if verb == b"grow".as_slice() {
-        parse_grow(words)
-    } else if verb == b"stop".as_slice() {
-        parse_alone(words, Line::Stop)
-    } else if verb == b"halt".as_slice() {
-        parse_alone(words, Line::Halt)
-    } else if verb == b"detail".as_slice() {
-        parse_alone(words, Line::Detail)
-    } else if verb == b"mdstat".as_slice() {
-        parse_alone(words, Line::Mdstat)
-    } else if verb == b"examine".as_slice() {
-        parse_examine(words)
-    } else {
-        None
+    if let Some(column) = first_bad_byte(text) {
+        let byte = text[column];
+        return Err(Diagnosis {
+            column,
+            width: 1,
+            mistake: Mistake::BadByte { byte },
+        });
+    }
+    if is_passed_over(text) {
+        return Ok(Meaning::PassedOver);
+    }
+    match read_words(inside, Words::of(text)) {
+        Ok(meaning) => Ok(meaning),
+        Err(wrong) => Err(place_of(text, wrong)),
     }
 }
 
-// A line of which no words are left.
-fn parse_alone(mut words: Words<'_>, line: Line) -> Option<Line>
-    ensures { result ≡ alone line (words_of words.entry.line.now) }
+/// What is wrong with this line of the text, inside a block or outside; nothing exactly where it means something.
+pub fn diagnose_line(inside: bool, text: &[u8]) -> Option<Diagnosis>
+    ensures bad { IsSome result ↔ (meaning_of inside text.now ≡ Meaning.Bad) }
+    ensures diagnosis { IfSome result (λ d. IsDiagnosis inside text.now d.column d.width d.mistake) }
 {
-    match words.next() {
-        None => Some(line),
-        Some(_) => None,
+    match read_line(inside, text) {
+        Ok(_) => None,
+        Err(diagnosis) => Some(diagnosis),
     }
 }
 
-fn parse_create(mut words: Words<'_>) -> Option<Line>
-    ensures { result ≡ create_of (words_of words.entry.line.now) }
+/// What this line of the text means, inside a block or outside.
+pub fn meaning_of_line(inside: bool, text: &[u8]) -> Meaning
+    ensures { result ≡ meaning_of inside text.now }
 {
-    let uuid = words.next()?;
-    if !has_create_keys(words) {
-        return None;
+    match read_line(inside, text) {
+        Ok(meaning) => meaning,
+        Err(_) => Meaning::Bad,
     }
-    let uuid = parse_uuid(uuid)?;
-    let shape = shape_of(words)?;
-    let size = number(value_of(words, b"size=", None)?)?;
-    let offset = number(value_of(words, b"offset=", Some(b"2048"))?)?;
-    Some(Line::Create(CreateLine {
-        uuid,
-        shape,
-        size,
-        offset,
-    }))
-}
-
-fn has_create_keys(words: Words<'_>) -> bool
-    ensures { result ≡ list_all (has_key create_keys) (words_of words.entry.line.now) }
-{
-    let keys: [&[u8]; 6] = [
-        b"level=", b"disks=", b"chunk=", b"layout=", b"size=", b"offset=",
-    ];
-    have_keys(words, &keys)
-}
-
-fn parse_assemble(mut words: Words<'_>) -> Option<Line>
-    ensures { result ≡ assemble_of (words_of words.entry.line.now) }
-{
-    let Some(uuid) = words.next() else {
-        return Some(Line::Assemble { uuid: None });
-    };
-    if words.next().is_some() {
-        return None;
-    }
-    let uuid = parse_uuid(uuid)?;
-    Some(Line::Assemble { uuid: Some(uuid) })
-}
-
-// The bytes of the uuid that a word writes, if it writes one.
-fn parse_uuid(word: &[u8]) -> Option<[u8; 16]>
-    ensures { result ≡ parsed word.now }
-{
-    match Uuid::try_parse_ascii(word) {
-        Ok(uuid) => Some(*uuid.as_bytes()),
-        Err(_) => None,
-    }
-}
-
-fn parse_read(mut words: Words<'_>) -> Option<Line>
-    ensures { result ≡ read_of (words_of words.entry.line.now) }
-{
-    let (at, count) = parse_span(words.next()?, words.next()?)?;
-    if words.next().is_some() {
-        return None;
-    }
-    Some(Line::Read { at, count })
-}
-
-fn parse_write(mut words: Words<'_>) -> Option<Line>
-    ensures { result ≡ write_of (words_of words.entry.line.now) }
-{
-    let (at, count) = parse_span(words.next()?, words.next()?)?;
-    let seed = small_number(words.next()?)?;
-    if words.next().is_some() {
-        return None;
-    }
-    Some(Line::Write { at, count, seed })
-}
-
-fn parse_fail(mut words: Words<'_>) -> Option<Line>
-    ensures { result ≡ fail_of (words_of words.entry.line.now) }
-{
-    let role = small_number(words.next()?)?;
-    parse_alone(words, Line::Fail { role })
-}
-
-fn parse_add(mut words: Words<'_>) -> Option<Line>
-    ensures { result ≡ add_of (words_of words.entry.line.now) }
-{
-    let slot = small_number(words.next()?)?;
-    parse_alone(words, Line::Add { slot })
-}
-
-fn parse_examine(mut words: Words<'_>) -> Option<Line>
-    ensures { result ≡ examine_of (words_of words.entry.line.now) }
-{
-    let slot = small_number(words.next()?)?;
-    parse_alone(words, Line::Examine { slot })
-}
-
-fn parse_step(mut words: Words<'_>) -> Option<Line>
-    ensures { result ≡ step_of (words_of words.entry.line.now) }
-{
-    let most = small_number(words.next()?)?;
-    if most < 1 {
-        return None;
-    }
-    parse_alone(words, Line::Step { most })
-}
-
-// The limit of `array-size N`, or none for `array-size max`.
-fn parse_array_size(mut words: Words<'_>) -> Option<Line>
-    ensures { result ≡ array_size_of (words_of words.entry.line.now) }
-{
-    let limit = parse_limit(words.next()?)?;
-    parse_alone(words, Line::ArraySize { limit })
-}
-
-fn parse_limit(word: &[u8]) -> Option<Option<u64>>
-    ensures { result ≡ limit_given word.now }
-{
-    if word == b"max".as_slice() {
-        return Some(None);
-    }
-    let limit = number(word)?;
-    Some(Some(limit))
-}
-
-fn parse_grow(words: Words<'_>) -> Option<Line>
-    ensures { result ≡ grow_of (words_of words.entry.line.now) }
-{
-    let wish = wish_of(words)?;
-    Some(Line::Grow(wish))
-}
-
-// The sectors from X on, COUNT of them.
-fn parse_span(at: &[u8], count: &[u8]) -> Option<(u64, u32)>
-    ensures { result ≡ span_of at.now count.now }
-{
-    let at = number(at)?;
-    let count = small_number(count)?;
-    if count < 1 || count > 128 || at.checked_add(u64::from(count))? >= 1 << 63 {
-        return None;
-    }
-    Some((at, count))
 }

@@ -60,11 +60,11 @@ pub enum ScriptFault {
     NoMemory,
 }
 
-const MOST_BYTES: usize = 1_048_576;
+pub const MOST_BYTES: usize = 1_048_576;
 
-const MOST_LINES: u64 = 65_536;
+pub const MOST_LINES: u64 = 65_536;
 
-const MOST_SECTORS: u64 = 262_144;
+pub const MOST_SECTORS: u64 = 262_144;
 
 impl Line {
     /// How many sectors the line reads or writes.
@@ -78,8 +78,8 @@ impl Line {
     }
 }
 
-// The text, less one newline at its end.
-fn without_last_newline(text: &[u8]) -> &[u8]
+/// The text, less one newline at its end.
+pub fn without_last_newline(text: &[u8]) -> &[u8]
     ensures { result.now ≡ without_end text.now }
 {
     match text {
@@ -88,8 +88,8 @@ fn without_last_newline(text: &[u8]) -> &[u8]
     }
 }
 
-// Whether the text behind a line of this meaning is inside a block.
-fn is_inside_behind(inside: bool, meaning: Meaning) -> bool
+/// Whether the text behind a line of this meaning is inside a block.
+pub fn is_inside_behind(inside: bool, meaning: Meaning) -> bool
     ensures { result ≡ is_inside_behind inside meaning }
 {
     match meaning {

@@ -1,0 +1,12 @@
+//! What people are told of a line that means nothing: what is wrong, where, what is wanted there, and which word may have been meant.
+#![tactic(auto)]
+
+pub mod messages;
+pub mod nearest;
+pub mod scripts;
+#[cfg(test)]
+mod tests;
+
+pub use messages::{Message, push_marked, suggestion, told};
+pub use script::{Diagnosis, Mistake, diagnose_line};
+pub use scripts::{Reason, ScriptMistake, diagnose_script};
