@@ -1,5 +1,5 @@
 //! Tests of `layout`, `geometry`, `grow_plan`, `parity` and `parity_lanes`: places, reshapes, plans and rows of parity, against tables from elsewhere or by
-//! hand, and each call of the lanes beside that of `parity`.
+//! hand, and each call of the lanes, over one row and over many, beside that of `parity`.
 #![tactic(auto)]
 
 #[cfg(test)]
@@ -12,3 +12,5 @@ mod layouts;
 mod plans;
 #[cfg(test)]
 mod reshapes;
+#[cfg(test)]
+mod runs;

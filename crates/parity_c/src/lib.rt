@@ -1,7 +1,9 @@
 //! The calls of the crates `parity` and `parity_lanes` for a caller in C.
 #![tactic(auto)]
 
-ghost use Rattle.std.specs.Prelude.{◌≡◌, ◌≢◌, ◌==◌, ◌<◌, ◌≤◌, ◌||◌, ℕ, Some, None, IsTrue, if◌then◌else◌};
+ghost use Rattle.std.specs.Prelude.{◌≡◌, ◌≢◌, ◌==◌, ◌+◌, ◌<◌, ◌≤◌, ◌||◌, ℕ, Some, None, IsTrue, if◌then◌else◌, length};
+ghost use Rattle.parity_lanes.specs.Buffers.{IsRun, role_sectors, buffered};
+ghost use Rattle.parity_lanes.specs.Parts.{IsOutside};
 ghost use Rattle.parity_lanes.specs.parity_Exponents.{is_data};
 ghost use Rattle.parity_lanes.specs.parity_Parity.{AreEquationsMet, fill};
 ghost use Rattle.parity_lanes.specs.parity_Rows.{IsRowOf, sector_of, row_without, whole_row};
@@ -179,5 +181,125 @@ pub extern "C" fn parity_lanes_fill_two(
         },
         first,
         second,
+    );
+}
+
+/// Sets P and Q of `count` rows of a buffer, the first of them this one.
+#[unsafe(no_mangle)]
+pub extern "C" fn parity_lanes_syndromes_run(
+    buffer: &mut [u8],
+    disks: u32,
+    p: u32,
+    q: u32,
+    first: usize,
+    count: usize,
+)
+    requires disks { disks ≤ 16 }
+    requires p { p < disks }
+    requires q { (q < disks) × (q ≢ p) }
+    requires run { IsRun disks first count (length buffer.old) }
+    ensures good { (i : ℕ) → i < count → AreEquationsMet (record { disks = disks; p = p; q = Some q }) (whole_row disks (buffered buffer.new (first + i))) }
+    ensures data { (i role : ℕ) → i < role_sectors → IsTrue (is_data (record { disks = disks; p = p; q = Some q }) role) → buffered buffer.new i role ≡ buffered buffer.old i role }
+    ensures outside { (i role : ℕ) → i < role_sectors → IsOutside first count i → buffered buffer.new i role ≡ buffered buffer.old i role }
+{
+    parity_lanes::syndromes_run(
+        buffer,
+        &RowRoles {
+            disks,
+            p,
+            q: Some(q),
+        },
+        first,
+        count,
+    );
+}
+
+/// Sets P alone, of rows without Q.
+#[unsafe(no_mangle)]
+pub extern "C" fn parity_lanes_plain_syndromes_run(
+    buffer: &mut [u8],
+    disks: u32,
+    p: u32,
+    first: usize,
+    count: usize,
+)
+    requires disks { disks ≤ 16 }
+    requires p { p < disks }
+    requires run { IsRun disks first count (length buffer.old) }
+    ensures good { (i : ℕ) → i < count → AreEquationsMet (record { disks = disks; p = p; q = None }) (whole_row disks (buffered buffer.new (first + i))) }
+    ensures data { (i role : ℕ) → i < role_sectors → IsTrue (is_data (record { disks = disks; p = p; q = None }) role) → buffered buffer.new i role ≡ buffered buffer.old i role }
+    ensures outside { (i role : ℕ) → i < role_sectors → IsOutside first count i → buffered buffer.new i role ≡ buffered buffer.old i role }
+{
+    parity_lanes::syndromes_run(buffer, &RowRoles { disks, p, q: None }, first, count);
+}
+
+/// Sets the sectors of one missing role of such rows.
+#[unsafe(no_mangle)]
+pub extern "C" fn parity_lanes_fill_one_run(
+    buffer: &mut [u8],
+    disks: u32,
+    p: u32,
+    q: u32,
+    missing: u32,
+    first: usize,
+    count: usize,
+)
+    requires disks { disks ≤ 16 }
+    requires p { p < disks }
+    requires q { (q < disks) × (q ≢ p) }
+    requires run { IsRun disks first count (length buffer.old) }
+    requires missing { missing < disks }
+    ensures filled { (i : ℕ) → i < count → buffered buffer.new (first + i) missing ≡ fill (record { disks = disks; p = p; q = Some q }) (row_without (λ role. role == missing) disks (buffered buffer.old (first + i))) missing }
+    ensures others { (i role : ℕ) → i < role_sectors → role ≢ missing → buffered buffer.new i role ≡ buffered buffer.old i role }
+    ensures outside { (i role : ℕ) → i < role_sectors → IsOutside first count i → buffered buffer.new i role ≡ buffered buffer.old i role }
+{
+    parity_lanes::fill_one_run(
+        buffer,
+        &RowRoles {
+            disks,
+            p,
+            q: Some(q),
+        },
+        missing,
+        first,
+        count,
+    );
+}
+
+/// Sets the sectors of two missing roles of such rows.
+#[unsafe(no_mangle)]
+pub extern "C" fn parity_lanes_fill_two_run(
+    buffer: &mut [u8],
+    disks: u32,
+    p: u32,
+    q: u32,
+    one: u32,
+    two: u32,
+    first: usize,
+    count: usize,
+)
+    requires disks { disks ≤ 16 }
+    requires p { p < disks }
+    requires q { (q < disks) × (q ≢ p) }
+    requires run { IsRun disks first count (length buffer.old) }
+    requires one { one < disks }
+    requires two { two < disks }
+    requires differ { one ≢ two }
+    ensures one { (i : ℕ) → i < count → buffered buffer.new (first + i) one ≡ fill (record { disks = disks; p = p; q = Some q }) (row_without (λ role. (role == one) || (role == two)) disks (buffered buffer.old (first + i))) one }
+    ensures two { (i : ℕ) → i < count → buffered buffer.new (first + i) two ≡ fill (record { disks = disks; p = p; q = Some q }) (row_without (λ role. (role == one) || (role == two)) disks (buffered buffer.old (first + i))) two }
+    ensures others { (i role : ℕ) → i < role_sectors → role ≢ one → role ≢ two → buffered buffer.new i role ≡ buffered buffer.old i role }
+    ensures outside { (i role : ℕ) → i < role_sectors → IsOutside first count i → buffered buffer.new i role ≡ buffered buffer.old i role }
+{
+    parity_lanes::fill_two_run(
+        buffer,
+        &RowRoles {
+            disks,
+            p,
+            q: Some(q),
+        },
+        one,
+        two,
+        first,
+        count,
     );
 }

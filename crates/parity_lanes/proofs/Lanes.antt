@@ -6,7 +6,6 @@ use Rattle.std.proofs.Common.{Bool, true, false, cond, leb, nat_eq, eqb-true, �
 use lib.Lanes.{sel_l, top, Each1}
 use mir.Val.{bits, hbits}
 use Rattle.parity.specs.gf256_Field.{double, product_of_bits}
-use Rattle.parity.specs.Rows.{byte_of}
 use Rattle.parity.proofs.gf256_FieldLaws.{double-lt, bits-suc}
 use Rattle.std.proofs.Math.Nat.{zero-mul, one-mul}
 use Rattle.std.proofs.lemmas.Bool.{cases_lt, agree_below_at}
@@ -42,11 +41,11 @@ xor_lane v w i hv hw lt = get_or-zip2 bit_xor v w i 0 0 0 (omega arith) (omega a
 pub loaded_lane : (at : ℕ) (xs v : List ℕ) (j : ℕ) → v ≡ chunk at 64 xs → j < 64 → get_or v j 0 ≡ get_or xs (at + j) 0
 loaded_lane at xs v j e lt = ap (λ (u : List ℕ). get_or u j 0) e ∙ get_or-chunk at 64 xs j 0 lt
 
--- one that was loaded from a role's sector
-pub loaded_byte : (row v : List ℕ) (role at i : ℕ) → v ≡ chunk (512 * role + at) 64 row → i < 64 → get_or v i 0 ≡ byte_of row role (at + i)
-loaded_byte row v role at i e lt =
-    let places : 512 * role + at + i ≡ 512 * role + (at + i) = omega arith in
-    loaded_lane (512 * role + at) row v i e lt ∙ ap (λ (k : ℕ). get_or row k 0) places
+-- one that was loaded from a place in a part
+pub loaded_place : (bytes v : List ℕ) (start at i : ℕ) → v ≡ chunk (start + at) 64 bytes → i < 64 → get_or v i 0 ≡ get_or bytes (start + (at + i)) 0
+loaded_place bytes v start at i e lt =
+    let places : start + at + i ≡ start + (at + i) = omega arith in
+    loaded_lane (start + at) bytes v i e lt ∙ ap (λ (k : ℕ). get_or bytes k 0) places
 
 pub lanes_below : (xs : List ℕ) → ((i : ℕ) → i < length xs → get_or xs i 0 < 256) → Each1 (λ x. x < 256) xs
 lanes_below [] small = tt

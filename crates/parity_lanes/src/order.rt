@@ -1,10 +1,12 @@
-//! The data roles of a row with a Q, in the order of their exponents.
+//! The data roles of a row with a Q by their exponents.
 ghost use Rattle.std.specs.Prelude.{◌≡◌, ◌+◌, ◌<◌, Some, IsTrue};
 ghost use Rattle.parity.specs.Exponents.{is_data, steps_behind, exponent};
 ghost use Rattle.parity.specs.Rows.{IsRowRoles};
-ghost use Rattle.parity_lanes.specs.ByExponent.{IsByExponent};
 
 use parity::RowRoles;
+
+/// The most roles of a row.
+pub const MOST_ROLES: usize = 16;
 
 /// How many disks a role stands behind Q, going round.
 pub(crate) fn steps_after(roles: &RowRoles, q: u32, role: u32) -> u32
@@ -20,8 +22,8 @@ pub(crate) fn steps_after(roles: &RowRoles, q: u32, role: u32) -> u32
     }
 }
 
-// The data role of an exponent.
-fn data_role(roles: &RowRoles, q: u32, wanted: u32) -> u32
+/// The data role of an exponent.
+pub(crate) fn data_role(roles: &RowRoles, q: u32, wanted: u32) -> u32
     requires roles { IsRowRoles roles.now }
     requires q { roles.now.q ≡ Some q }
     requires wanted { wanted + 2 < roles.now.disks }
@@ -37,18 +39,4 @@ fn data_role(roles: &RowRoles, q: u32, wanted: u32) -> u32
     } else {
         place - roles.disks
     }
-}
-
-/// The data roles of a row with a Q, from the greatest exponent down to exponent 0.
-pub(crate) fn data_roles(roles: &RowRoles, q: u32) -> [u32; 16]
-    requires roles { IsRowRoles roles.now }
-    requires q { roles.now.q ≡ Some q }
-    ensures { IsByExponent roles.now q result }
-{
-    let mut order = [0; 16];
-    let count = roles.disks - 2;
-    for k in 0..count {
-        order[k as usize] = data_role(roles, q, count - 1 - k);
-    }
-    order
 }

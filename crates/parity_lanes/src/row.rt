@@ -1,13 +1,27 @@
 //! The parity of a row, and its lacking roles.
-ghost use Rattle.std.specs.Prelude.{◌≡◌, ◌≢◌, ◌==◌, ℕ, ◌<◌, ◌||◌, false, IsTrue, IsSome, if◌then◌else◌, slice_index};
-ghost use Rattle.std.specs.Int.Bits.{bit_xor};
+ghost use Rattle.std.specs.Prelude.{◌≡◌, ◌≢◌, ◌==◌, ℕ, ◌*◌, ◌<◌, ◌||◌, IsTrue, IsSome, slice_index};
 ghost use Rattle.parity.specs.Exponents.{is_data};
 ghost use Rattle.parity.specs.Parity.{fill, AreEquationsMet};
 ghost use Rattle.parity.specs.Rows.{IsRowRoles, IsRowOf, sector_of, row_without, whole_row};
+ghost use Rattle.parity_lanes.specs.Parts.{role_limit};
 
-use crate::sectors::{combination, put_sector};
-use crate::sums::{Sums, rests, set_both, set_q, set_rest, weights_of};
-use parity::{RowRoles, inv, mul};
+use crate::order::MOST_ROLES;
+use crate::solve::{factors_of, set_two};
+use crate::sums::{set_both, set_q, set_rest};
+use parity::RowRoles;
+
+const SECTOR: usize = 512;
+
+// Where the sectors of a row begin.
+fn row_starts() -> [usize; MOST_ROLES]
+    ensures { (role : ℕ) → role < role_limit → slice_index result role ≡ 512 * role }
+{
+    let mut starts = [0; MOST_ROLES];
+    for role in 0..MOST_ROLES {
+        starts[role] = SECTOR * role;
+    }
+    starts
+}
 
 /// Sets P, and Q where there is one, from the data of a row of whole sectors, role after role.
 pub fn syndromes(row: &mut [u8], roles: &RowRoles)
@@ -16,9 +30,10 @@ pub fn syndromes(row: &mut [u8], roles: &RowRoles)
     ensures good { AreEquationsMet roles.now (whole_row roles.now.disks (sector_of row.new)) }
     ensures data { (role : ℕ) → IsTrue (is_data roles.now role) → sector_of row.new role ≡ sector_of row.old role }
 {
+    let starts = row_starts();
     match roles.q {
-        None => set_rest(row, roles, roles.p),
-        Some(q) => set_both(row, roles, q),
+        None => set_rest(row, &starts, SECTOR, roles, roles.p),
+        Some(q) => set_both(row, &starts, SECTOR, roles, q),
     }
 }
 
@@ -30,13 +45,14 @@ pub fn fill_one(row: &mut [u8], roles: &RowRoles, missing: u32)
     ensures filled { sector_of row.new missing ≡ fill roles.now (row_without (λ role. role == missing) roles.now.disks (sector_of row.old)) missing }
     ensures others { (role : ℕ) → role ≢ missing → sector_of row.new role ≡ sector_of row.old role }
 {
+    let starts = row_starts();
     if let Some(q) = roles.q {
         if q == missing {
-            set_q(row, roles, q);
+            set_q(row, &starts, SECTOR, roles, q);
             return;
         }
     }
-    set_rest(row, roles, missing);
+    set_rest(row, &starts, SECTOR, roles, missing);
 }
 
 /// Sets the sectors of two missing roles of a row that has a Q, from those of the others.
@@ -51,15 +67,16 @@ pub fn fill_two(row: &mut [u8], roles: &RowRoles, first: u32, second: u32)
     ensures second { sector_of row.new second ≡ fill roles.now (row_without (λ role. (role == first) || (role == second)) roles.now.disks (sector_of row.old)) second }
     ensures others { (role : ℕ) → role ≢ first → role ≢ second → sector_of row.new role ≡ sector_of row.old role }
 {
-    put_sector(row, first, &[0; 512]);
-    put_sector(row, second, &[0; 512]);
     let q = roles.q.unwrap();
-    let Sums { plain, weighed } = rests(row, roles, q);
-    let one = weights_of(roles, q, first);
-    let two = weights_of(roles, q, second);
-    let over = inv(mul(one.p, two.q) ^ mul(two.p, one.q));
-    let first_sector = combination(&plain, mul(over, two.q), &weighed, mul(over, two.p));
-    let second_sector = combination(&plain, mul(over, one.q), &weighed, mul(over, one.p));
-    put_sector(row, first, &first_sector);
-    put_sector(row, second, &second_sector);
+    let factors = factors_of(roles, q, first, second);
+    set_two(
+        row,
+        &row_starts(),
+        SECTOR,
+        roles,
+        q,
+        first,
+        second,
+        &factors,
+    );
 }

@@ -1,30 +1,23 @@
-//! The sums of a row's data, and how often each role counts in them.
-ghost use Rattle.std.specs.Prelude.{◌≡◌, ◌≢◌, ℕ, ◌+◌, ◌*◌, ◌<◌, ◌≤◌, Some, length, slice_index};
+//! The sums of the data in the parts of roles, and how often each role counts in them.
+ghost use Rattle.std.specs.Prelude.{◌≡◌, ℕ, ◌+◌, ◌<◌, ◌≤◌, false, Some, length, slice_index};
 ghost use Rattle.std.specs.Int.Bits.{bit_xor};
-ghost use Rattle.parity.specs.Exponents.{steps_behind};
+ghost use Rattle.parity.specs.Exponents.{is_q, steps_behind};
 ghost use Rattle.parity.specs.Parity.{p_byte, q_byte};
-ghost use Rattle.parity_lanes.specs.ByExponent.{IsByExponent};
-ghost use Rattle.parity.specs.Rows.{IsRowRoles, IsRowOf, byte_of, bytes_at, p_weight, q_weight};
+ghost use Rattle.parity.specs.Rows.{IsRowRoles, p_weight, q_weight};
+ghost use Rattle.parity_lanes.specs.Parts.{AreParts, IsOutside, part_byte, part_bytes, role_limit};
+ghost use Rattle.parity_lanes.specs.Places.{plain_sum, weighed_sum};
 
-use crate::order::{data_roles, steps_after};
-use crate::sectors::{
-    BLOCKS, LANES, SECTOR, add_sector, double_and_add, load, put_block, sector, store,
-};
+use crate::order::{MOST_ROLES, steps_after};
+use crate::places::{Places, data_places, other_places};
+use crate::sectors::{LANES, double_and_add, load, store};
 use parity::{RowRoles, pow_g};
 use std::simd::prelude::*;
 
-/// Two sums of a row's sectors, the second with a weight for each.
-#[derive(Drop)]
-pub(crate) struct Sums {
-    pub plain: [u8; 512],
-    pub weighed: [u8; 512],
-}
-
-// The same of one block.
+/// Two sums of one block, the second with a weight for each role.
 #[derive(Clone, Copy)]
-struct BlockSums {
-    plain: u8x64,
-    weighed: u8x64,
+pub(crate) struct BlockSums {
+    pub plain: u8x64,
+    pub weighed: u8x64,
 }
 
 /// How often a role counts in the equation of P, and in that of Q.
@@ -34,140 +27,119 @@ pub(crate) struct Weights {
     pub q: u8,
 }
 
-// The sum of one block of the data and of P: that of all roles but Q.
+/// The sum of the first block of each of these parts.
 #[inline(always)]
-fn rest_at(row: &[u8], roles: &RowRoles, at: usize) -> u8x64
-    requires roles { IsRowRoles roles.now }
-    requires whole { IsRowOf roles.now.disks row.now }
-    requires at { at + 64 ≤ 512 }
+pub(crate) fn sum_at(here: &[u8], places: &Places) -> u8x64
+    requires few { places.now.count ≤ role_limit }
+    requires room { (j : ℕ) → j < places.now.count → slice_index places.now.list j + 64 ≤ length here.now }
     ensures lanes { length result ≡ 64 }
-    ensures each { (i : ℕ) → i < 64 → slice_index result i ≡ bit_xor (p_byte roles.now (bytes_at roles.now.disks row.now (at + i))) (byte_of row.now roles.now.p (at + i)) }
+    ensures each { (i : ℕ) → i < 64 → slice_index result i ≡ plain_sum places.now.count (λ j. slice_index here.now (slice_index places.now.list j + i)) }
 {
     let mut sum = u8x64::splat(0);
-    for role in 0..roles.disks {
-        let bytes = load(row, SECTOR * role as usize + at);
-        sum ^= bytes;
+    for j in 0..places.count {
+        let block = load(here, places.list[j]);
+        sum ^= block;
     }
-    match roles.q {
-        None => sum,
-        Some(q) => {
-            let weighed = load(row, SECTOR * q as usize + at);
-            sum ^ weighed
-        }
-    }
+    sum
 }
 
-/// Sets a role's sector to the sum of all others but Q.
-pub(crate) fn set_rest(row: &mut [u8], roles: &RowRoles, role: u32)
-    requires roles { IsRowRoles roles.now }
-    requires whole { IsRowOf roles.now.disks row.old }
-    requires role { role < roles.now.disks }
-    ensures there { (at : ℕ) → at < 512 → byte_of row.new role at ≡ bit_xor (bit_xor (p_byte roles.now (bytes_at roles.now.disks row.old at)) (byte_of row.old roles.now.p at)) (byte_of row.old role at) }
-    ensures others { (other at : ℕ) → at < 512 → other ≢ role → byte_of row.new other at ≡ byte_of row.old other at }
-{
-    for block in 0..BLOCKS {
-        let at = block * LANES;
-        let rest = rest_at(row, roles, at);
-        let before = load(row, SECTOR * role as usize + at);
-        put_block(row, role, at, rest ^ before);
-    }
-}
-
-// The sums of one block of the data, as P and as Q has them.
-//
-// The roles come from the greatest exponent down, so that each doubling raises the weights of all that were passed. Both
-// sums stay in registers: each block of data is loaded once, and nothing is stored here.
+/// Sets a role's part to the sum of all others but Q.
 #[inline(always)]
-fn both_at(row: &[u8], roles: &RowRoles, q: u32, order: &[u32; 16], at: usize) -> BlockSums
+pub(crate) fn set_rest(
+    bytes: &mut [u8],
+    starts: &[usize; MOST_ROLES],
+    len: usize,
+    roles: &RowRoles,
+    role: u32,
+)
     requires roles { IsRowRoles roles.now }
-    requires whole { IsRowOf roles.now.disks row.now }
-    requires q { roles.now.q ≡ Some q }
-    requires order { IsByExponent roles.now q order.now }
-    requires at { at + 64 ≤ 512 }
+    requires parts { AreParts roles.now.disks starts.now len (length bytes.old) }
+    requires role { role < roles.now.disks }
+    requires not_q { is_q roles.now role ≡ false }
+    ensures there { (k : ℕ) → k < len → part_byte bytes.new starts.now role k ≡ bit_xor (bit_xor (p_byte roles.now (part_bytes roles.now.disks bytes.old starts.now k)) (part_byte bytes.old starts.now roles.now.p k)) (part_byte bytes.old starts.now role k) }
+    ensures others { (place : ℕ) → IsOutside (slice_index starts.now role) len place → slice_index bytes.new place ≡ slice_index bytes.old place }
+{
+    let places = other_places(starts, roles, role);
+    let start = starts[role as usize];
+    for block in 0..len / LANES {
+        let at = block * LANES;
+        let sum = sum_at(&bytes[at..], &places);
+        store(bytes, start + at, sum);
+    }
+}
+
+/// The sum of the first block of each of these parts, and the sum that is doubled before each.
+///
+/// Both sums stay in registers: each block of data is loaded once, and nothing is stored here.
+#[inline(always)]
+pub(crate) fn both_at(here: &[u8], places: &Places) -> BlockSums
+    requires few { places.now.count ≤ role_limit }
+    requires room { (j : ℕ) → j < places.now.count → slice_index places.now.list j + 64 ≤ length here.now }
     ensures plain_lanes { length result.plain ≡ 64 }
     ensures weighed_lanes { length result.weighed ≡ 64 }
-    ensures plain { (i : ℕ) → i < 64 → slice_index result.plain i ≡ p_byte roles.now (bytes_at roles.now.disks row.now (at + i)) }
-    ensures weighed { (i : ℕ) → i < 64 → slice_index result.weighed i ≡ q_byte roles.now q (bytes_at roles.now.disks row.now (at + i)) }
+    ensures bytes { (place : ℕ) → slice_index here.now place < 256 }
+    ensures plain { (i : ℕ) → i < 64 → slice_index result.plain i ≡ plain_sum places.now.count (λ j. slice_index here.now (slice_index places.now.list j + i)) }
+    ensures weighed { (i : ℕ) → i < 64 → slice_index result.weighed i ≡ weighed_sum places.now.count (λ j. slice_index here.now (slice_index places.now.list j + i)) }
 {
     let mut plain = u8x64::splat(0);
     let mut weighed = u8x64::splat(0);
-    for k in 0..roles.disks as usize - 2 {
-        let bytes = load(row, SECTOR * order[k] as usize + at);
-        plain ^= bytes;
-        weighed = double_and_add(weighed, bytes);
+    for j in 0..places.count {
+        let block = load(here, places.list[j]);
+        plain ^= block;
+        weighed = double_and_add(weighed, block);
     }
     BlockSums { plain, weighed }
 }
 
-/// The sums of the data, as P and as Q has them.
-pub(crate) fn both_sums(row: &[u8], roles: &RowRoles, q: u32) -> Sums
-    requires roles { IsRowRoles roles.now }
-    requires whole { IsRowOf roles.now.disks row.now }
-    requires q { roles.now.q ≡ Some q }
-    ensures plain { (at : ℕ) → at < 512 → slice_index result.plain at ≡ p_byte roles.now (bytes_at roles.now.disks row.now at) }
-    ensures weighed { (at : ℕ) → at < 512 → slice_index result.weighed at ≡ q_byte roles.now q (bytes_at roles.now.disks row.now at) }
-{
-    let order = data_roles(roles, q);
-    let mut plain = [0; 512];
-    let mut weighed = [0; 512];
-    for block in 0..BLOCKS {
-        let at = block * LANES;
-        let sums = both_at(row, roles, q, &order, at);
-        store(&mut plain, at, sums.plain);
-        store(&mut weighed, at, sums.weighed);
-    }
-    Sums { plain, weighed }
-}
-
 /// Sets P and Q to the sums of the data.
-pub(crate) fn set_both(row: &mut [u8], roles: &RowRoles, q: u32)
+#[inline(always)]
+pub(crate) fn set_both(
+    bytes: &mut [u8],
+    starts: &[usize; MOST_ROLES],
+    len: usize,
+    roles: &RowRoles,
+    q: u32,
+)
     requires roles { IsRowRoles roles.now }
-    requires whole { IsRowOf roles.now.disks row.old }
+    requires parts { AreParts roles.now.disks starts.now len (length bytes.old) }
     requires q { roles.now.q ≡ Some q }
-    ensures p { (at : ℕ) → at < 512 → byte_of row.new roles.now.p at ≡ p_byte roles.now (bytes_at roles.now.disks row.old at) }
-    ensures q { (at : ℕ) → at < 512 → byte_of row.new q at ≡ q_byte roles.now q (bytes_at roles.now.disks row.old at) }
-    ensures others { (role at : ℕ) → at < 512 → role ≢ roles.now.p → role ≢ q → byte_of row.new role at ≡ byte_of row.old role at }
+    ensures p { (k : ℕ) → k < len → part_byte bytes.new starts.now roles.now.p k ≡ p_byte roles.now (part_bytes roles.now.disks bytes.old starts.now k) }
+    ensures q { (k : ℕ) → k < len → part_byte bytes.new starts.now q k ≡ q_byte roles.now q (part_bytes roles.now.disks bytes.old starts.now k) }
+    ensures others { (place : ℕ) → IsOutside (slice_index starts.now roles.now.p) len place → IsOutside (slice_index starts.now q) len place → slice_index bytes.new place ≡ slice_index bytes.old place }
 {
-    let order = data_roles(roles, q);
-    for block in 0..BLOCKS {
+    let places = data_places(starts, roles, q);
+    let p_start = starts[roles.p as usize];
+    let q_start = starts[q as usize];
+    for block in 0..len / LANES {
         let at = block * LANES;
-        let sums = both_at(row, roles, q, &order, at);
-        put_block(row, roles.p, at, sums.plain);
-        put_block(row, q, at, sums.weighed);
+        let sums = both_at(&bytes[at..], &places);
+        store(bytes, p_start + at, sums.plain);
+        store(bytes, q_start + at, sums.weighed);
     }
 }
 
 /// Sets Q to the sum of the data.
-pub(crate) fn set_q(row: &mut [u8], roles: &RowRoles, q: u32)
+#[inline(always)]
+pub(crate) fn set_q(
+    bytes: &mut [u8],
+    starts: &[usize; MOST_ROLES],
+    len: usize,
+    roles: &RowRoles,
+    q: u32,
+)
     requires roles { IsRowRoles roles.now }
-    requires whole { IsRowOf roles.now.disks row.old }
+    requires parts { AreParts roles.now.disks starts.now len (length bytes.old) }
     requires q { roles.now.q ≡ Some q }
-    ensures there { (at : ℕ) → at < 512 → byte_of row.new q at ≡ q_byte roles.now q (bytes_at roles.now.disks row.old at) }
-    ensures others { (other at : ℕ) → at < 512 → other ≢ q → byte_of row.new other at ≡ byte_of row.old other at }
+    ensures there { (k : ℕ) → k < len → part_byte bytes.new starts.now q k ≡ q_byte roles.now q (part_bytes roles.now.disks bytes.old starts.now k) }
+    ensures others { (place : ℕ) → IsOutside (slice_index starts.now q) len place → slice_index bytes.new place ≡ slice_index bytes.old place }
 {
-    let order = data_roles(roles, q);
-    for block in 0..BLOCKS {
+    let places = data_places(starts, roles, q);
+    let start = starts[q as usize];
+    for block in 0..len / LANES {
         let at = block * LANES;
-        let sums = both_at(row, roles, q, &order, at);
-        put_block(row, q, at, sums.weighed);
+        let sums = both_at(&bytes[at..], &places);
+        store(bytes, start + at, sums.weighed);
     }
-}
-
-/// The sums of the data with the parity that stands there, all 0 where both equations hold.
-pub(crate) fn rests(row: &[u8], roles: &RowRoles, q: u32) -> Sums
-    requires roles { IsRowRoles roles.now }
-    requires whole { IsRowOf roles.now.disks row.now }
-    requires q { roles.now.q ≡ Some q }
-    ensures plain { (at : ℕ) → at < 512 → slice_index result.plain at ≡ bit_xor (p_byte roles.now (bytes_at roles.now.disks row.now at)) (byte_of row.now roles.now.p at) }
-    ensures weighed { (at : ℕ) → at < 512 → slice_index result.weighed at ≡ bit_xor (q_byte roles.now q (bytes_at roles.now.disks row.now at)) (byte_of row.now q at) }
-{
-    let Sums {
-        mut plain,
-        mut weighed,
-    } = both_sums(row, roles, q);
-    add_sector(&mut plain, sector(row, roles.p));
-    add_sector(&mut weighed, sector(row, q));
-    Sums { plain, weighed }
 }
 
 /// How often a role counts in the two equations.

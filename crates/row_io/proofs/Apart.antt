@@ -3,7 +3,7 @@ use Rattle.std.proofs.Common.{◌≡◌, inl, inr, ℕ, ◌+◌, ◌≤◌, Bool
 use Rattle.std.proofs.lemmas.Bool.{and_parts, cases_lt}
 use Rattle.std.proofs.lemmas.List.{get_or_past}
 use Rattle.superblocks.specs.md_base_the_Role_TheVariants.{Whole, Recovering, Missing}
-use Rattle.parity.specs.md_base_Search.{tabulate}
+use Rattle.parity_lanes.specs.md_base_Search.{tabulate}
 use Rattle.superblocks.proofs.md_base_Tabulated.{length-tabulate, get_or-tabulate}
 use Rattle.superblocks.specs.sb1_the_Sb.{Sb}
 use Rattle.superblocks.specs.Reading.{reading_by, role_count, role_state, holder, holder_from, holds_role, state_of, is_fresh, is_recovering, entry_of}

@@ -7,11 +7,11 @@ use Rattle.superblocks.specs.md_base_the_Role.{Role}
 use Rattle.superblocks.specs.md_base_the_Role_TheVariants.{Whole, Recovering, Missing}
 use Rattle.superblocks.specs.md_base_Sectors.{Sector}
 use Rattle.superblocks.specs.md_base_Shapes.{tolerance_of}
-use Rattle.parity.proofs.Columns.{tabulate-same, bool_cases}
-use Rattle.parity.specs.md_base_the_RowRoles.{RowRoles}
+use Rattle.parity_lanes.proofs.parity_Columns.{tabulate-same, bool_cases}
+use Rattle.parity_lanes.specs.md_base_the_RowRoles.{RowRoles}
 use Rattle.superblocks.specs.layout_Layout.{row_roles}
-use Rattle.parity.specs.Parity.{Row, fill}
-use Rattle.parity.specs.Rows.{row_without}
+use Rattle.parity_lanes.specs.parity_Parity.{Row, fill}
+use Rattle.parity_lanes.specs.parity_Rows.{row_without}
 use Rattle.superblocks.specs.Reading.{Reading, role_state, rows_held, is_whole}
 use Rattle.row_io.specs.Rows.{is_held, is_missing, IsTolerated}
 use Rattle.row_io.proofs.Tables.{count_below-above}

@@ -6,11 +6,11 @@ pub mod Turns
 pub mod NewRow
 pub mod Written
 pub mod Apart
-pub use Rattle.parity.proofs.Columns as parity_Columns
-pub use Rattle.parity.proofs.Contents as parity_Contents
-pub use Rattle.parity.proofs.OwnFills as parity_OwnFills
-pub use Rattle.parity.proofs.Totals as parity_Totals
-pub use Rattle.parity.proofs.gf256_FieldLaws
+pub use Rattle.parity_lanes.proofs.parity_Columns
+pub use Rattle.parity_lanes.proofs.parity_Contents
+pub use Rattle.parity_lanes.proofs.parity_OwnFills
+pub use Rattle.parity_lanes.proofs.parity_Totals
+pub use Rattle.parity_lanes.proofs.gf256_FieldLaws
 pub use Rattle.superblocks.proofs.FeatureBits as superblocks_FeatureBits
 pub use Rattle.superblocks.proofs.Searches as superblocks_Searches
 pub use Rattle.superblocks.proofs.SlotSets as superblocks_SlotSets

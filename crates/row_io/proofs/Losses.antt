@@ -13,9 +13,9 @@ use Rattle.superblocks.specs.bank_the_Operation.{Operation}
 use Rattle.superblocks.specs.bank_Tape.{Contents}
 use Rattle.superblocks.proofs.bank_Causes.{faulted_longer}
 use Rattle.superblocks.specs.layout_Layout.{row_roles}
-use Rattle.parity.specs.Parity.{fill}
-use Rattle.parity.specs.Rows.{sector_of, row_without}
-use Rattle.parity.proofs.Columns.{tabulate-same, bool_cases}
+use Rattle.parity_lanes.specs.parity_Parity.{fill}
+use Rattle.parity_lanes.specs.parity_Rows.{sector_of, row_without}
+use Rattle.parity_lanes.proofs.parity_Columns.{tabulate-same, bool_cases}
 use Rattle.superblocks.specs.declared.members.Members.{Members}
 use Rattle.superblocks.specs.Reading.{Reading, role_state, rows_held, holder, data_offset_of}
 use Rattle.row_io.specs.Rows.{reading_of, is_held, held_slot, held_sector, held_row, standing_sector, role_without, members_without, present, HasSector, HaveFailed, IsLoss}

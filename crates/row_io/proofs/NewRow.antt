@@ -3,19 +3,19 @@ use Rattle.std.proofs.Common.{◌≡◌, ◌⊎◌, inl, inr, ℕ, ◌+◌, ◌*
 use Rattle.std.specs.Option.{option_map_or}
 use Rattle.std.proofs.lemmas.Bool.{cases_eq, cases_lt, not-true}
 use Rattle.std.proofs.lemmas.List.{get_or_past}
-use Rattle.parity.specs.md_base_the_RowRoles.{RowRoles}
+use Rattle.parity_lanes.specs.md_base_the_RowRoles.{RowRoles}
 use Rattle.superblocks.specs.md_base_the_Shape.{Shape}
 use Rattle.superblocks.specs.md_base_Sectors.{Sector}
 use Rattle.superblocks.specs.layout_Layout.{row_roles}
-use Rattle.parity.specs.Exponents.{is_data, is_q}
-use Rattle.parity.specs.Parity.{Row, fill, lacking_in, AreEquationsMet}
-use Rattle.parity.specs.Rows.{IsRowRoles, IsRowOf, IsSector, parity_count, row_without, whole_row, filled_sector, sector_of}
-use Rattle.parity.proofs.Bytes.{sector_byte}
-use Rattle.parity.proofs.Columns.{bool_cases, tabulate-same, data_else}
-use Rattle.parity.proofs.Contents.{q_from}
-use Rattle.parity.proofs.Lacking.{lack_list, lacking_in-row, Known, known}
-use Rattle.parity.proofs.OwnFills.{fills-are-own}
-use Rattle.parity.proofs.RowBytes.{sector_of-length}
+use Rattle.parity_lanes.specs.parity_Exponents.{is_data, is_q}
+use Rattle.parity_lanes.specs.parity_Parity.{Row, fill, lacking_in, AreEquationsMet}
+use Rattle.parity_lanes.specs.parity_Rows.{IsRowRoles, IsRowOf, IsSector, parity_count, row_without, whole_row, filled_sector, sector_of}
+use Rattle.parity_lanes.proofs.parity_Bytes.{sector_byte}
+use Rattle.parity_lanes.proofs.parity_Columns.{bool_cases, tabulate-same, data_else}
+use Rattle.parity_lanes.proofs.parity_Contents.{q_from}
+use Rattle.parity_lanes.proofs.parity_Lacking.{lack_list, lacking_in-row, Known, known}
+use Rattle.parity_lanes.proofs.parity_OwnFills.{fills-are-own}
+use Rattle.parity_lanes.proofs.parity_RowBytes.{sector_of-length}
 use Rattle.superblocks.specs.Reading.{Reading}
 use Rattle.row_io.specs.Rows.{is_held, IsTolerated}
 use Rattle.row_io.specs.Writes.{is_parity, new_sector, IsGoodRow}

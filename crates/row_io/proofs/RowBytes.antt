@@ -5,7 +5,7 @@ use Rattle.std.proofs.lemmas.Bool.{cases_lt}
 use Rattle.std.proofs.lemmas.Slice.{drop-put_mid}
 use borrow.Rule.Slice.PartMut.{put_mid}
 use Rattle.superblocks.proofs.bank_Present.{copied_below, copied_here}
-use Rattle.parity.specs.Rows.{sector_of}
+use Rattle.parity_lanes.specs.parity_Rows.{sector_of}
 
 -- a role's sector in as few words
 plain : (bytes : List ℕ) (role : ℕ) → sector_of bytes role ≡ take 512 (drop (512 * role) bytes)

@@ -1,7 +1,7 @@
 -- Role lists of which the first states were changed, and how many of the first roles are missing.
 use Rattle.std.proofs.Common.{◌≡◌, inl, inr, ℕ, zero, suc, ◌+◌, ◌<◌, ◌≤◌, Bool, true, false, cond, List, [], ◌∷◌, ◌++◌, length, take, drop, map, set, get_or, refl, sym, ◌∙◌, ap, arith}
 use Rattle.std.proofs.lemmas.Bool.{cases_lt}
-use Rattle.parity.specs.md_base_Search.{count_below}
+use Rattle.parity_lanes.specs.md_base_Search.{count_below}
 
 -- one state more was changed
 changed-suc : {X : Type 0} (f : X → X) (table : List X) (i : ℕ) (d : X) → i < length table

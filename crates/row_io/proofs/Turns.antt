@@ -9,7 +9,7 @@ use Rattle.superblocks.specs.bank_Tape.{disk, run, EachMark}
 use Rattle.std.proofs.lemmas.List.{take_all}
 use Rattle.superblocks.proofs.bank_Laws.{choices_after-write_here, choices_after-write_other, disk-written, disk-unwritten}
 use Rattle.superblocks.proofs.bank_Marks.{Along, each_mark-along, each_mark-map, each_mark-then, each_mark-told}
-use Rattle.parity.proofs.Columns.{bool_cases}
+use Rattle.parity_lanes.proofs.parity_Columns.{bool_cases}
 use Rattle.superblocks.specs.Reading.{Reading, role_state, holder}
 use Rattle.row_io.specs.Writes.{HasNew, IsWritingTo, AreWrittenTo, IsTurn, AreApart, slot_in}
 use Rattle.row_io.proofs.Losses.{some_slot}

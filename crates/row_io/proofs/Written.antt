@@ -13,11 +13,11 @@ use Rattle.superblocks.specs.bank_the_Operation.{Operation}
 use Rattle.superblocks.specs.bank_Tape.{Contents, disk, value_after}
 use Rattle.superblocks.proofs.bank_Laws.{choices-present}
 use Rattle.superblocks.specs.layout_Layout.{row_roles}
-use Rattle.parity.specs.Parity.{Row, fill, AreEquationsMet}
-use Rattle.parity.specs.Rows.{row_without, sector_of}
-use Rattle.parity.specs.Fills.{IsGoodBut}
-use Rattle.parity.proofs.Columns.{bool_cases}
-use Rattle.parity.proofs.OwnFills.{fills-are-own, good-rows-stay-good}
+use Rattle.parity_lanes.specs.parity_Parity.{Row, fill, AreEquationsMet}
+use Rattle.parity_lanes.specs.parity_Rows.{row_without, sector_of}
+use Rattle.parity_lanes.specs.parity_Fills.{IsGoodBut}
+use Rattle.parity_lanes.proofs.parity_Columns.{bool_cases}
+use Rattle.parity_lanes.proofs.parity_OwnFills.{fills-are-own, good-rows-stay-good}
 use Rattle.superblocks.specs.declared.members.Members.{Members}
 use Rattle.superblocks.specs.Reading.{Reading, role_state, holder, data_offset_of}
 use Rattle.row_io.specs.Rows.{present, reading_of, is_held, held_slot, held_row, standing_sector, role_without, members_without, IsTolerated}

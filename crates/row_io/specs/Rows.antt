@@ -5,14 +5,14 @@ use Rattle.superblocks.specs.md_base_the_Shape.{Shape}
 use Rattle.superblocks.specs.md_base_the_Role.{Role}
 use Rattle.superblocks.specs.md_base_the_Role_TheVariants.{Missing}
 use Rattle.superblocks.specs.md_base_Sectors.{Sector}
-use Rattle.parity.specs.md_base_Search.{tabulate, count_below}
+use Rattle.parity_lanes.specs.md_base_Search.{tabulate, count_below}
 use Rattle.superblocks.specs.md_base_Shapes.{is_valid_shape, has_slot, tolerance}
 use Rattle.superblocks.specs.bank_the_Operation.{Operation}
 use Rattle.superblocks.specs.bank_Given.{Given, IsFaulted}
 use Rattle.superblocks.specs.bank_Tape.{Contents, contents}
 use Rattle.superblocks.specs.layout_Layout.{row_roles}
-use Rattle.parity.specs.Parity.{Row, fill}
-use Rattle.parity.specs.Rows.{sector_of}
+use Rattle.parity_lanes.specs.parity_Parity.{Row, fill}
+use Rattle.parity_lanes.specs.parity_Rows.{sector_of}
 use Rattle.superblocks.specs.declared.members.Members.{Members}
 use Rattle.superblocks.specs.Reading.{Reading, role_state, rows_held, holder, is_whole, data_offset_of}
 

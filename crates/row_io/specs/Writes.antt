@@ -1,16 +1,16 @@
 -- What a write of a row leaves: the new row, which of its roles are written, and what a stop may leave on the way.
 use Rattle.std.specs.Prelude.{◌≡◌, ◌⊎◌, ℕ, ◌+◌, ◌<◌, Bool, true, false, not, ◌||◌, if◌then◌else◌, List, [], ◌∷◌, Option, Some, None}
 use Rattle.superblocks.specs.md_base_the_Shape.{Shape}
-use Rattle.parity.specs.md_base_the_RowRoles.{RowRoles}
+use Rattle.parity_lanes.specs.md_base_the_RowRoles.{RowRoles}
 use Rattle.superblocks.specs.md_base_Sectors.{Sector}
 use Rattle.superblocks.specs.md_base_Shapes.{has_slot}
 use Rattle.superblocks.specs.bank_the_Operation.{Operation}
 use Rattle.superblocks.specs.bank_the_Operation_TheVariants.{Write}
 use Rattle.superblocks.specs.bank_Tape.{Contents}
 use Rattle.superblocks.specs.layout_Layout.{row_roles}
-use Rattle.parity.specs.Exponents.{is_data}
-use Rattle.parity.specs.Parity.{AreEquationsMet}
-use Rattle.parity.specs.Rows.{IsRowRoles, IsSector, sector_of, filled_sector, whole_row}
+use Rattle.parity_lanes.specs.parity_Exponents.{is_data}
+use Rattle.parity_lanes.specs.parity_Parity.{AreEquationsMet}
+use Rattle.parity_lanes.specs.parity_Rows.{IsRowRoles, IsSector, sector_of, filled_sector, whole_row}
 use Rattle.superblocks.specs.Reading.{Reading, role_state, holder, data_offset_of}
 use Rattle.row_io.specs.Rows.{held_slot}
 

@@ -3,13 +3,13 @@
 ghost use Rattle.std.specs.Prelude.{◌≡◌, ◌<◌, ◌≤◌, ◌^◌, ℕ, true, false, not, length, Some, IsTrue, MatchOption};
 ghost use Rattle.superblocks.specs.md_base_Shapes.{is_valid_shape};
 ghost use Rattle.superblocks.specs.layout_Layout.{row_roles};
-ghost use Rattle.parity.specs.Parity.{fill};
-ghost use Rattle.parity.specs.Rows.{IsRowOf, sector_of, row_without};
+ghost use Rattle.parity_lanes.specs.parity_Parity.{fill};
+ghost use Rattle.parity_lanes.specs.parity_Rows.{IsRowOf, sector_of, row_without};
 ghost use Rattle.superblocks.specs.Reading.{holder, role_state};
 ghost use Rattle.row_io.specs.Rows.{reading_of, is_held, AreHeld, IsTolerated};
 
 use crate::held::held_slot;
-use parity::{fill_one, fill_two};
+use parity_lanes::{fill_one, fill_two};
 use superblocks::{Members, Shape, row_of};
 
 // The first role from `first` on that lacks its sector of the row.

@@ -2,7 +2,7 @@
 
 ghost use Rattle.std.specs.Prelude.{◌≡◌, ◌==◌, ◌^◌, ◌<◌, ◌≤◌, ℕ, Some, length, map, slice_index_or};
 ghost use Rattle.superblocks.specs.md_base_the_Role_TheVariants.{Missing};
-ghost use Rattle.parity.specs.md_base_Search.{count_below};
+ghost use Rattle.parity_lanes.specs.md_base_Search.{count_below};
 ghost use Rattle.superblocks.specs.md_base_Shapes.{has_slot};
 ghost use Rattle.superblocks.specs.Reading.{holder, role_state};
 ghost use Rattle.row_io.specs.Rows.{reading_of, is_missing, role_without, members_without};

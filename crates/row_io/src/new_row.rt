@@ -3,11 +3,11 @@
 ghost use Rattle.std.specs.Prelude.{◌≡◌, ◌||◌, ◌^◌, ◌<◌, ℕ, IsTrue, IfSome};
 ghost use Rattle.superblocks.specs.md_base_Shapes.{is_valid_shape, has_slot};
 ghost use Rattle.superblocks.specs.layout_Layout.{row_roles};
-ghost use Rattle.parity.specs.Rows.{IsRowOf, sector_of};
+ghost use Rattle.parity_lanes.specs.parity_Rows.{IsRowOf, sector_of};
 ghost use Rattle.row_io.specs.Writes.{is_parity, is_due, new_sector, IsGoodRow};
 
 use crate::sets::with;
-use parity::{RowRoles, syndromes};
+use parity_lanes::{RowRoles, syndromes};
 use superblocks::{Shape, row_of};
 
 /// Sets the parity of a row.

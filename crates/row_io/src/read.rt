@@ -3,7 +3,7 @@
 ghost use Rattle.std.specs.Prelude.{◌≡◌, ◌≢◌, ◌+◌, ◌*◌, ◌<◌, ◌≤◌, ℕ, true, false, length, OnOk, OnErr};
 ghost use Rattle.superblocks.specs.bank_Given.{IsPlace, HasCause, NeverFalls};
 ghost use Rattle.superblocks.specs.md_base_Shapes.{has_slot, tolerance};
-ghost use Rattle.parity.specs.Rows.{IsRowOf, sector_of};
+ghost use Rattle.parity_lanes.specs.parity_Rows.{IsRowOf, sector_of};
 ghost use Rattle.row_io.specs.Rows.{present, reading_of, standing_sector, missing_count, lost_of, members_without, IsRow, IsTolerated, IsLoss, HaveFailed, HasSector};
 
 use crate::fill::fill_lacking;

@@ -6,8 +6,8 @@ ghost use Rattle.superblocks.specs.bank_Given.{NeverFalls};
 ghost use Rattle.superblocks.specs.bank_Tape.{EachMark, disk};
 ghost use Rattle.superblocks.specs.md_base_Shapes.{has_slot, tolerance};
 ghost use Rattle.superblocks.specs.layout_Layout.{row_roles};
-ghost use Rattle.parity.specs.Parity.{AreEquationsMet};
-ghost use Rattle.parity.specs.Rows.{IsRowOf, sector_of};
+ghost use Rattle.parity_lanes.specs.parity_Parity.{AreEquationsMet};
+ghost use Rattle.parity_lanes.specs.parity_Rows.{IsRowOf, sector_of};
 ghost use Rattle.row_io.specs.Rows.{present, reading_of, held_row, standing_sector, missing_count, lost_of, members_without, IsRow, IsTolerated, IsLoss, HaveFailed};
 ghost use Rattle.row_io.specs.Writes.{new_sector, slot_in, place_on, AreApart, OthersStand, IsWriting, AreWritten, IsWritingTo, AreWrittenTo, IsTurn, IsGoodRow};
 

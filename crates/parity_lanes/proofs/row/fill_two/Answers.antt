@@ -1,67 +1,40 @@
-use Rattle.std.proofs.Common.{◌≡◌, ℕ, ◌<◌, ◌||◌, eqb, get_or, sym, ap, ap₂, ◌∙◌, arith}
-use Rattle.std.proofs.lemmas.List.{get_or-replicate}
-use Rattle.std.specs.Int.Bits.{bit_xor}
-use Rattle.parity.specs.gf256_Field.{product}
-use Rattle.parity.specs.Parity.{fill}
-use Rattle.parity.specs.Rows.{sector_of, row_without, p_weight, q_weight, IsRowOf}
-use Rattle.parity.proofs.Solving.{determinant-is}
-use Rattle.parity.proofs.Filling.{det, det_pos}
-use Rattle.parity.proofs.RowBytes.{sector_of-same, two_filled}
+use Rattle.std.proofs.Common.{◌+◌, ◌*◌, get_or, arith}
+use Rattle.parity.proofs.RowBytes.{sector_of-same}
+use Rattle.parity_lanes.proofs.Apart.{apart}
+use Rattle.parity_lanes.proofs.Placed.{two_solved}
+use Rattle.parity_lanes.proofs.RowParts.{row_start, row_parts, row_outside}
 use Rattle.parity_lanes.proofs.row.fill_two.Goals as goal
 
-pub inv-over-requires : goal.inv-over-requires
-inv-over-requires c =
-    let roles = c.args.roles.now in
-    let q = c.unwrap-q.result in
-    let a = c.args.first in
-    let b = c.args.second in
-    let value : bit_xor c.mul.result c.mul-2.result ≡ det roles c.requires.roles q c.unwrap-q.ensures a b =
-    ap₂ bit_xor (c.mul.ensures ∙ ap₂ product c.weights_of-one.ensures.p c.weights_of-two.ensures.q)
-    (c.mul-2.ensures ∙ ap₂ product c.weights_of-two.ensures.p c.weights_of-one.ensures.q)
-    ∙ sym (determinant-is (p_weight roles a) (p_weight roles b) (q_weight roles q a) (q_weight roles q b)) in
-    let pos = det_pos roles c.requires.roles q c.unwrap-q.ensures a b c.requires.first c.requires.second c.requires.differ in
-    omega (arith, value, pos)
+pub set_two-requires-clause-parts : goal.set_two-requires-clause-parts
+set_two-requires-clause-parts c = row_parts c.args.roles.now c.requires.roles c.row_starts.result c.row_starts.ensures c.args.row.now c.requires.whole
 
 pub returns : goal.returns
 returns c =
     let roles = c.args.roles.now in
     let is = c.requires.roles in
     let q = c.unwrap-q.result in
-    let has_q = c.unwrap-q.ensures in
     let a = c.args.first in
     let b = c.args.second in
-    let ne = c.requires.differ in
+    let ha = c.requires.first in
+    let hb = c.requires.second in
     let old = c.args.row.now in
-    let cleared = c.put_sector-2.new.row in
-    let new = c.put_sector-4.new.row in
-    let whole : IsRowOf roles.disks new = c.put_sector-4.auto.row ∙ c.put_sector-3.auto.row ∙ c.put_sector-2.auto.row ∙ c.put_sector.auto.row ∙ c.requires.whole in
-    let small : (place : ℕ) → get_or new place 0 < 256 = λ place. let h = c.type_inv.row place in omega (arith, h) in
-    let over = c.inv-over.result in
-    let over_lt : over < 256 = omega arith in
-    let value : bit_xor c.mul.result c.mul-2.result ≡ det roles is q has_q a b =
-    ap₂ bit_xor (c.mul.ensures ∙ ap₂ product c.weights_of-one.ensures.p c.weights_of-two.ensures.q)
-    (c.mul-2.ensures ∙ ap₂ product c.weights_of-two.ensures.p c.weights_of-one.ensures.q)
-    ∙ sym (determinant-is (p_weight roles a) (p_weight roles b) (q_weight roles q a) (q_weight roles q b)) in
-    let inverse : product (det roles is q has_q a b) over ≡ 1 = ap (λ (x : ℕ). product x over) (sym value) ∙ c.inv-over.ensures in
-    let filled : (m : ℕ) → m < roles.disks → sector_of new m ≡ fill roles (row_without (λ role. eqb role a || eqb role b) roles.disks (sector_of old)) m =
-    two_filled roles is q has_q old cleared new a b c.requires.first c.requires.second ne
-    (λ at lt. c.put_sector-2.ensures.others a at lt ne ∙ c.put_sector.ensures.there at lt ∙ get_or-replicate 512 at 0 0 lt)
-    (λ at lt. c.put_sector-2.ensures.there at lt ∙ get_or-replicate 512 at 0 0 lt)
-    (λ r at lt na nb. c.put_sector-2.ensures.others r at lt nb ∙ c.put_sector.ensures.others r at lt na)
-    (λ r at lt na nb. c.put_sector-4.ensures.others r at lt nb ∙ c.put_sector-3.ensures.others r at lt na)
-    whole small over over_lt inverse (λ at. get_or c.rests.result.plain at 0) (λ at. get_or c.rests.result.weighed at 0)
-    (λ at lt. c.rests.ensures.plain at lt) (λ at lt. c.rests.ensures.weighed at lt)
-    (λ at lt. c.put_sector-4.ensures.others a at lt ne ∙ c.put_sector-3.ensures.there at lt ∙ c.combination-first_sector.ensures at lt
-    ∙ ap₂ (λ (x y : ℕ). bit_xor (product x (get_or c.rests.result.plain at 0)) (product y (get_or c.rests.result.weighed at 0)))
-    (c.mul-3.ensures ∙ ap (product over) c.weights_of-two.ensures.q) (c.mul-4.ensures ∙ ap (product over) c.weights_of-two.ensures.p))
-    (λ at lt. c.put_sector-4.ensures.there at lt ∙ c.combination-second_sector.ensures at lt
-    ∙ ap₂ (λ (x y : ℕ). bit_xor (product x (get_or c.rests.result.plain at 0)) (product y (get_or c.rests.result.weighed at 0)))
-    (c.mul-5.ensures ∙ ap (product over) c.weights_of-one.ensures.q) (c.mul-6.ensures ∙ ap (product over) c.weights_of-one.ensures.p)) in
+    let new = c.set_two.new.bytes in
+    let starts = c.row_starts.result in
+    let begins = row_start roles is starts c.row_starts.ensures in
+    let parts = row_parts roles is starts c.row_starts.ensures old c.requires.whole in
+    let factors = c.factors_of-factors.result in
+    let filled = two_solved roles is old new starts 0 (λ r. r) (λ r hr. omega (arith, begins r hr)) c.set_two.auto.bytes (λ r hr. omega (arith, c.requires.whole))
+    (λ place. let h = c.type_inv.row place in omega (arith, h)) q c.unwrap-q.ensures a b ha hb c.requires.differ
+    (λ r hr na nb at lt. c.set_two.ensures.others (get_or starts r 0 + (0 + at)) (apart parts r a (0 + at) hr ha na (omega arith)) (apart parts r b (0 + at) hr hb nb (omega arith)))
+    factors.first_plain factors.first_weighed factors.second_plain factors.second_weighed c.factors_of-factors.ensures
+    (λ at lt. c.set_two.ensures.first (0 + at) (omega arith))
+    (λ at lt. c.set_two.ensures.second (0 + at) (omega arith)) in
     record {
-      first = filled a c.requires.first;
-      second = filled b c.requires.second;
+      first = filled a ha;
+      second = filled b hb;
       others = λ role na nb.
-          sector_of-same old new role (c.put_sector-4.auto.row ∙ c.put_sector-3.auto.row ∙ c.put_sector-2.auto.row ∙ c.put_sector.auto.row) (λ at lt.
-          c.put_sector-4.ensures.others role at lt nb ∙ c.put_sector-3.ensures.others role at lt na
-          ∙ c.put_sector-2.ensures.others role at lt nb ∙ c.put_sector.ensures.others role at lt na);
+          sector_of-same old new role c.set_two.auto.bytes (λ at lt.
+          c.set_two.ensures.others (512 * role + at)
+          (row_outside roles is starts c.row_starts.ensures role a at ha na lt)
+          (row_outside roles is starts c.row_starts.ensures role b at hb nb lt));
     }

@@ -1,15 +1,16 @@
-use Rattle.std.proofs.Common.{◌≡◌, ◌≢◌, ℕ, ◌*◌, ◌<◌, ◌≤◌, length}
+use Rattle.std.proofs.Common.{◌≡◌, ℕ, ◌*◌, ◌<◌, length, get_or}
 use Rattle.std.specs.Int.Bits.{bit_xor}
 use Rattle.parity.specs.Parity.{p_byte}
-use Rattle.parity.specs.Rows.{byte_of, bytes_at}
+use Rattle.parity_lanes.specs.Parts.{AreParts, IsOutside, part_byte, part_bytes}
 use Rattle.parity_lanes.proofs.sums.set_rest.Given as goal
 
 -- the blocks that were set
 abbrev pub invariant-loop-block : goal.invariant-loop-block
 invariant-loop-block l = record {
-  whole : length l.row ≡ length l.fn.row;
+  whole : length l.bytes ≡ length l.fn.bytes;
+  parts : AreParts l.roles.disks l.starts l.len (length l.bytes);
   done : (k : ℕ) → k < l.block * 64
-      → byte_of l.row l.role k ≡ bit_xor (bit_xor (p_byte l.roles (bytes_at l.roles.disks l.fn.row k)) (byte_of l.fn.row l.roles.p k)) (byte_of l.fn.row l.role k);
-  behind : (k : ℕ) → l.block * 64 ≤ k → byte_of l.row l.role k ≡ byte_of l.fn.row l.role k;
-  others : (other k : ℕ) → k < 512 → other ≢ l.role → byte_of l.row other k ≡ byte_of l.fn.row other k;
+      → part_byte l.bytes l.starts l.role k
+      ≡ bit_xor (bit_xor (p_byte l.roles (part_bytes l.roles.disks l.fn.bytes l.starts k)) (part_byte l.fn.bytes l.starts l.roles.p k)) (part_byte l.fn.bytes l.starts l.role k);
+  outside : (place : ℕ) → IsOutside (get_or l.starts l.role 0) (l.block * 64) place → get_or l.bytes place 0 ≡ get_or l.fn.bytes place 0;
 }

@@ -1,5 +1,5 @@
 use Rattle.std.proofs.Common.{inl, inr, ℕ, ◌||◌, ◌==◌, not, Bool}
-use Rattle.parity.specs.Rows.{sector_of}
+use Rattle.parity_lanes.specs.parity_Rows.{sector_of}
 use Rattle.row_io.specs.Rows.{reading_of, is_held}
 use Rattle.row_io.proofs.Lacks.{has_q, no_third, one_lacks, two_lack, only_one, only_two, fill_is}
 use Rattle.row_io.proofs.fill.fill_lacking.Goals as goal

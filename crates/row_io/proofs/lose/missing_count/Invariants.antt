@@ -1,5 +1,5 @@
 use Rattle.std.proofs.Common.{◌≡◌}
-use Rattle.parity.specs.md_base_Search.{count_below}
+use Rattle.parity_lanes.specs.md_base_Search.{count_below}
 use Rattle.row_io.specs.Rows.{reading_of, is_missing}
 use Rattle.row_io.proofs.lose.missing_count.Given as goal
 

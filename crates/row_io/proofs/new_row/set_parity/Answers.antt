@@ -1,6 +1,6 @@
 use Rattle.std.proofs.Common.{rules, ◌≡◌, ℕ, ◌<◌, get_or, ◌∙◌, ap, arith}
-use Rattle.parity.specs.md_base_the_RowRoles.{RowRoles}
-use Rattle.parity.specs.Rows.{IsRowRoles}
+use Rattle.parity_lanes.specs.md_base_the_RowRoles.{RowRoles}
+use Rattle.parity_lanes.specs.parity_Rows.{IsRowRoles}
 use Rattle.row_io.proofs.NewRow.{new_row}
 use Rattle.row_io.proofs.new_row.set_parity.Goals as goal
 

@@ -2,7 +2,7 @@ use Rattle.std.proofs.Common.{◌≡◌, ℕ, ◌+◌, [], Some, append-nil, ◌
 use Rattle.superblocks.specs.md_base_Shapes.{has_slot}
 use Rattle.superblocks.specs.Reading.{role_state, holder}
 use Rattle.row_io.specs.Rows.{reading_of}
-use Rattle.parity.specs.Rows.{sector_of}
+use Rattle.parity_lanes.specs.parity_Rows.{sector_of}
 use Rattle.row_io.specs.Writes.{slot_in, place_on}
 use Rattle.row_io.proofs.Lacks.{or_right, equal}
 use Rattle.row_io.proofs.Losses.{chosen}

@@ -1,6 +1,6 @@
 use Rattle.std.proofs.Common.{◌≡◌, ℕ, Option, Some, ◌∙◌, arith}
 use Rattle.superblocks.specs.md_base_Sectors.{Sector}
-use Rattle.parity.specs.Rows.{sector_of}
+use Rattle.parity_lanes.specs.parity_Rows.{sector_of}
 use Rattle.row_io.specs.Rows.{reading_of}
 use Rattle.superblocks.specs.bank_Tape.{disk}
 use Rattle.row_io.specs.Writes.{slot_in, place_on, IsWritingTo}

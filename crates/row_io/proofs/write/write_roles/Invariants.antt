@@ -1,6 +1,6 @@
 use Rattle.superblocks.specs.bank_Given.{NeverFalls}
 use Rattle.superblocks.specs.bank_Tape.{EachMark, disk}
-use Rattle.parity.specs.Rows.{sector_of}
+use Rattle.parity_lanes.specs.parity_Rows.{sector_of}
 use Rattle.std.proofs.Common.{◌≡◌}
 use Rattle.row_io.specs.Rows.{reading_of, HaveFailed}
 use Rattle.row_io.specs.Writes.{slot_in, place_on, IsWritingTo, AreWrittenTo}
