@@ -133,6 +133,8 @@ impl<D: Device> Bank for FileBank<D> {
 
     ghost tape = { λ bank. tape_in D.log bank };
 
+    ghost made = { λ bank. bank.ops };
+
     fn slots(&self) -> u32 {
         self.images.len() as u32
     }

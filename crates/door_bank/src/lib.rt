@@ -95,6 +95,8 @@ impl Bank for Doors {
 
     ghost tape = { λ doors. ⟦<MemoryBank as Bank>⟧.tape doors.bank };
 
+    ghost made = { λ doors. ⟦<MemoryBank as Bank>⟧.made doors.bank };
+
     fn slots(&self) -> u32 {
         self.bank.slots()
     }
