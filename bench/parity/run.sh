@@ -5,7 +5,7 @@
 # some processors decode the loop anew each time round. What is passed in CPU goes to `rt lib`, as CPU=x86-64-v3.
 set -e
 here=$(cd "$(dirname "$0")" && pwd)
-library="$here/../../crates/parity_c"
+library="$here/../../crates/raid_parity_c"
 work=$(mktemp -d)
 trap 'rm -rf "$work"' EXIT
 (cd "$library" && rt lib ${CPU:+--cpu=$CPU} >"$work/lib.log" 2>&1) || { cat "$work/lib.log"; exit 1; }

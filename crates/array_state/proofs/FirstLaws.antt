@@ -3,17 +3,17 @@ use Rattle.std.proofs.Common.{◌≡◌, inl, inr, ℕ, ◌*◌, ◌^◌, ◌<�
 use Rattle.std.specs.Prelude.{MatchOption}
 use Rattle.std.proofs.lemmas.Bool.Decides.{nat_tests}
 use Rattle.std.proofs.lemmas.Nat.{mul-le}
-use Rattle.safe_rows.specs.md_base_the_Shape.{Shape}
-use Rattle.safe_rows.specs.md_base_Shapes.{data_disks, is_valid_shape}
-use Rattle.safe_rows.proofs.layout_Limits.{limited}
-use Rattle.safe_rows.specs.md_base_the_Refusal.{Refusal}
-use Rattle.safe_rows.specs.md_base_the_Refusal_TheVariants.{PastEnd}
-use Rattle.safe_rows.specs.superblocks_the_Members.{Members}
-use Rattle.safe_additions.specs.views_Lacking.{IsUnread, IsUnwritten}
-use Rattle.safe_additions.specs.safe_updates_First.{read_refusal, write_refusal, call_refusal}
-use Rattle.safe_additions.proofs.safe_updates_RefusingLaws.{read-none, write-none, read-cause, write-cause}
-use Rattle.calls_kept.specs.array_kept_Calls.{IsRefusalOf}
-use Rattle.calls_kept.proofs.array_kept_ReplyLaws.{unread-of, unwritten-of, refused-for}
+use Rattle.stripe_io.specs.raid_types_the_Shape.{Shape}
+use Rattle.stripe_io.specs.raid_types_Shapes.{data_disks, is_valid_shape}
+use Rattle.stripe_io.proofs.raid_layout_Limits.{limited}
+use Rattle.stripe_io.specs.raid_types_the_Refusal.{Refusal}
+use Rattle.stripe_io.specs.raid_types_the_Refusal_TheVariants.{PastEnd}
+use Rattle.stripe_io.specs.sb_specs_the_Members.{Members}
+use Rattle.sb_add_spare.specs.array_members_Lacking.{IsUnread, IsUnwritten}
+use Rattle.sb_add_spare.specs.sb_safe_updates_First.{read_refusal, write_refusal, call_refusal}
+use Rattle.sb_add_spare.proofs.sb_safe_updates_RefusingLaws.{read-none, write-none, read-cause, write-cause}
+use Rattle.array_call_laws.specs.array_call_specs_Calls.{IsRefusalOf}
+use Rattle.array_call_laws.proofs.array_call_specs_ReplyLaws.{unread-of, unwritten-of, refused-for}
 
 -- the list is short
 pub short-list : (shape : Shape) (size : ℕ) → is_valid_shape shape ≡ true → size ≤ 2 ^ 48 → data_disks shape * size ≤ 2 ^ 52

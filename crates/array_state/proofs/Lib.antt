@@ -1,6 +1,6 @@
 pub mod FirstLaws
 pub mod UnmendableLaws
-pub use Rattle.calls_kept.proofs.call_entries_CallLaws
-pub use Rattle.calls_kept.proofs.call_entries_PlainLaws
-pub use Rattle.calls_kept.proofs.md_base_Least
-pub use Rattle.calls_kept.proofs.md_base_SectorLaws
+pub use Rattle.array_call_laws.proofs.history_append_CallLaws
+pub use Rattle.array_call_laws.proofs.history_append_PlainLaws
+pub use Rattle.array_call_laws.proofs.raid_types_Least
+pub use Rattle.array_call_laws.proofs.raid_types_SectorLaws

@@ -1,13 +1,13 @@
 -- Why a stripe of a resync isn't mended, of an array of one shape: as the rows of that shape aren't written.
 use Rattle.std.proofs.Common.{◌≡◌, inl, inr, false, Option, Some, None, refl, subst}
 use Rattle.std.specs.Prelude.{MatchOption}
-use Rattle.safe_rows.specs.md_base_the_Refusal.{Refusal}
-use Rattle.safe_rows.specs.md_base_the_Shape.{Shape}
-use Rattle.safe_rows.specs.superblocks_the_Members.{Members}
-use Rattle.safe_rows.specs.superblocks_Reading.{is_reshaping, shape_of}
-use Rattle.safe_additions.specs.views_Lacking.{IsUnwritten}
-use Rattle.safe_rows.proofs.views_LackingLaws.{too-many-still}
-use Rattle.calls_kept.specs.array_kept_Calls.{IsUnmendable}
+use Rattle.stripe_io.specs.raid_types_the_Refusal.{Refusal}
+use Rattle.stripe_io.specs.raid_types_the_Shape.{Shape}
+use Rattle.stripe_io.specs.sb_specs_the_Members.{Members}
+use Rattle.stripe_io.specs.sb_specs_Reading.{is_reshaping, shape_of}
+use Rattle.sb_add_spare.specs.array_members_Lacking.{IsUnwritten}
+use Rattle.stripe_io.proofs.array_members_LackingLaws.{too-many-still}
+use Rattle.array_call_laws.specs.array_call_specs_Calls.{IsUnmendable}
 
 pub unmendable-of : (shape : Shape) (m : Members) (refusal : Refusal) → shape ≡ shape_of m.newest → IsUnwritten shape false m refusal → IsUnmendable m refusal
 unmendable-of shape m refusal same why = by (subst (λ (s : Shape). IsUnwritten s false m refusal) same why)

@@ -1,13 +1,13 @@
 //! The roles that aren't whole where an array begins.
 
 ghost use Rattle.std.specs.Prelude.{◌≡◌, ◌<◌, ◌≤◌, ◌+◌, ◌++◌, length};
-ghost use Rattle.safe_additions.specs.row_io_Rows.{reading_of};
-ghost use Rattle.safe_additions.specs.flat_history_Plain.{entries_of};
-ghost use Rattle.calls_kept.specs.call_entries_Losing.{IsSameEpoch};
-ghost use Rattle.calls_kept.specs.array_kept_Adopting.{opener, absent_loss, absent_losses};
+ghost use Rattle.sb_add_spare.specs.stripe_row_Rows.{reading_of};
+ghost use Rattle.sb_add_spare.specs.history_Plain.{entries_of};
+ghost use Rattle.array_call_laws.specs.history_append_Losing.{IsSameEpoch};
+ghost use Rattle.array_call_laws.specs.array_call_specs_Adopting.{opener, absent_loss, absent_losses};
 
-use calls_kept::{Epoch, Event, LostCause, Who, enter};
-use safe_rows::{Members, Role};
+use array_call_laws::{Epoch, Event, LostCause, Who, enter};
+use stripe_io::{Members, Role};
 
 // The loss of this role, if it isn't whole.
 fn enter_absent(epoch: &mut Epoch, members: &Members, end: u64, role: u32)

@@ -1,18 +1,18 @@
 //! Slots that may be made spares.
 
 ghost use Rattle.std.specs.Prelude.{◌≡◌, ◌+◌, ◌<◌, ◌≤◌, ℕ, true, false, drop, length, MatchOption};
-ghost use Rattle.safe_rows.specs.md_base_the_Refusal.{Refusal};
-ghost use Rattle.safe_rows.specs.superblocks_Reading.{entry_of};
-ghost use Rattle.safe_additions.specs.views_Placed.{IsPlaced};
-ghost use Rattle.safe_additions.specs.shape_views_Regions.{DoWithout};
-ghost use Rattle.safe_additions.specs.views_Numbers.{IsSpareSb};
-ghost use Rattle.calls_kept.specs.array_kept_Calls.{IsTaken, IsFirstOffset, IsUnaddable};
+ghost use Rattle.stripe_io.specs.raid_types_the_Refusal.{Refusal};
+ghost use Rattle.stripe_io.specs.sb_specs_Reading.{entry_of};
+ghost use Rattle.sb_add_spare.specs.array_members_Placed.{IsPlaced};
+ghost use Rattle.sb_add_spare.specs.crash_views_Regions.{DoWithout};
+ghost use Rattle.sb_add_spare.specs.array_members_Numbers.{IsSpareSb};
+ghost use Rattle.array_call_laws.specs.array_call_specs_Calls.{IsTaken, IsFirstOffset, IsUnaddable};
 
 use crate::holders::{first_offset, holds_role};
 use crate::refusing::refusal_of;
-use safe_additions::device::spare_sb;
-use safe_additions::is_spare;
-use safe_rows::{Bank, Members, Refusal, Sb};
+use sb_add_spare::device::spare_sb;
+use sb_add_spare::is_spare;
+use stripe_io::{Bank, Members, Refusal, Sb};
 
 // Whether the slot is the backup, holds a role or is a spare.
 fn is_taken(members: &Members, backup: Option<u32>, slot: u32) -> bool

@@ -1,19 +1,19 @@
 //! What an array tells of itself.
 
 ghost use Rattle.std.specs.Prelude.{◌≡◌, ◌+◌, ◌*◌, ◌^◌, ◌≤◌, length, IfOk, IfSome, IsTrue};
-ghost use Rattle.safe_rows.specs.md_base_Shapes.{is_valid_shape};
-ghost use Rattle.safe_rows.specs.md_base_Search.{count_below};
-ghost use Rattle.safe_rows.specs.superblocks_Reading.{shape_of};
-ghost use Rattle.safe_additions.specs.row_io_Rows.{reading_of};
-ghost use Rattle.safe_additions.specs.views_Whole.{list_size};
-ghost use Rattle.safe_additions.specs.views_Placed.{places_of, is_vacant};
-ghost use Rattle.safe_additions.specs.views_Status.{stripes_of, spare_count, recovery_left, left_of};
+ghost use Rattle.stripe_io.specs.raid_types_Shapes.{is_valid_shape};
+ghost use Rattle.stripe_io.specs.raid_types_Search.{count_below};
+ghost use Rattle.stripe_io.specs.sb_specs_Reading.{shape_of};
+ghost use Rattle.sb_add_spare.specs.stripe_row_Rows.{reading_of};
+ghost use Rattle.sb_add_spare.specs.array_members_Whole.{list_size};
+ghost use Rattle.sb_add_spare.specs.array_members_Placed.{places_of, is_vacant};
+ghost use Rattle.sb_add_spare.specs.array_members_Status.{stripes_of, spare_count, recovery_left, left_of};
 
-use calls_kept::{NoMemory, RoleList, SlotList};
-use safe_additions::{Work, is_spare, is_vacant, list_length, shape_in};
-use safe_rows::mending::stripes;
-use safe_rows::{Members, Role};
+use array_call_laws::{NoMemory, RoleList, SlotList};
+use sb_add_spare::{Work, is_spare, is_vacant, list_length, shape_in};
 use std::alloc::Global;
+use stripe_io::mending::stripes;
+use stripe_io::{Members, Role};
 
 /// How many sectors of the list can be read and written.
 pub fn visible(members: &Members) -> u64

@@ -1,15 +1,15 @@
 //! Which slots hold roles.
 
 ghost use Rattle.std.specs.Prelude.{◌≡◌, ◌<◌, ◌≤◌, ℕ, true, false, length, Some, IfSome, IfNone, IsTrue};
-ghost use Rattle.safe_rows.specs.md_base_Shapes.{is_valid_shape};
-ghost use Rattle.safe_rows.specs.superblocks_Reading.{shape_of, role_state, holder};
-ghost use Rattle.safe_additions.specs.row_io_Rows.{reading_of};
-ghost use Rattle.safe_additions.specs.views_Rebuilding.{Held};
-ghost use Rattle.calls_kept.specs.array_kept_Calls.{HasRole, IsFirstOffset};
+ghost use Rattle.stripe_io.specs.raid_types_Shapes.{is_valid_shape};
+ghost use Rattle.stripe_io.specs.sb_specs_Reading.{shape_of, role_state, holder};
+ghost use Rattle.sb_add_spare.specs.stripe_row_Rows.{reading_of};
+ghost use Rattle.sb_add_spare.specs.array_members_Rebuilding.{Held};
+ghost use Rattle.array_call_laws.specs.array_call_specs_Calls.{HasRole, IsFirstOffset};
 
-use safe_additions::adding::data_offset;
-use safe_additions::shape_in;
-use safe_rows::{Members, Role};
+use sb_add_spare::adding::data_offset;
+use sb_add_spare::shape_in;
+use stripe_io::{Members, Role};
 
 /// Whether the slot holds a role.
 pub fn holds_role(members: &Members, slot: u32) -> bool

@@ -9,11 +9,11 @@ pub mod refusing;
 pub mod room;
 pub mod work;
 
-pub use calls_kept::{
+pub use array_call_laws::{
     BusyKind, Fault, NoMemory, Sectors, Status, Who, check_number, enter, enter_behind,
     enter_failure, enter_lost,
 };
-pub use safe_additions::adding::{add_member, look_at};
-pub use safe_additions::device::{bear, free_number};
-pub use safe_rows::mending::stripes;
-pub use safe_rows::{Refusal, Role, Shape, Span};
+pub use sb_add_spare::adding::{add_member, look_at};
+pub use sb_add_spare::device::{bear, free_number};
+pub use stripe_io::mending::stripes;
+pub use stripe_io::{Refusal, Role, Shape, Span};

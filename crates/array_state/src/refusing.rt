@@ -1,21 +1,21 @@
 //! Why a call isn't done, before any device is touched.
 
 ghost use Rattle.std.specs.Prelude.{◌≡◌, ◌+◌, ◌^◌, ◌<◌, ◌≤◌, false, length, IfSome, IsTrue, MatchOption};
-ghost use Rattle.safe_rows.specs.md_base_Shapes.{is_valid_shape, is_multiple};
-ghost use Rattle.safe_rows.specs.md_base_the_Refusal.{Refusal};
-ghost use Rattle.safe_rows.specs.superblocks_Reading.{is_reshaping, role_count, shape_of};
-ghost use Rattle.safe_additions.specs.superblocks_Verdict.{AreValidShapes};
-ghost use Rattle.safe_additions.specs.views_Whole.{list_size};
-ghost use Rattle.safe_additions.specs.views_Placed.{places_of};
-ghost use Rattle.safe_additions.specs.views_Status.{stripes_of};
-ghost use Rattle.safe_additions.specs.views_Lacking.{AreTooMany, IsUnread, IsUnwritten, are_mended, mended_rows};
-ghost use Rattle.safe_additions.specs.safe_updates_First.{read_refusal, write_refusal, call_refusal};
-ghost use Rattle.calls_kept.specs.array_kept_Calls.{IsRefusalOf, IsUnmendable};
+ghost use Rattle.stripe_io.specs.raid_types_Shapes.{is_valid_shape, is_multiple};
+ghost use Rattle.stripe_io.specs.raid_types_the_Refusal.{Refusal};
+ghost use Rattle.stripe_io.specs.sb_specs_Reading.{is_reshaping, role_count, shape_of};
+ghost use Rattle.sb_add_spare.specs.sb_specs_Verdict.{AreValidShapes};
+ghost use Rattle.sb_add_spare.specs.array_members_Whole.{list_size};
+ghost use Rattle.sb_add_spare.specs.array_members_Placed.{places_of};
+ghost use Rattle.sb_add_spare.specs.array_members_Status.{stripes_of};
+ghost use Rattle.sb_add_spare.specs.array_members_Lacking.{AreTooMany, IsUnread, IsUnwritten, are_mended, mended_rows};
+ghost use Rattle.sb_add_spare.specs.sb_safe_updates_First.{read_refusal, write_refusal, call_refusal};
+ghost use Rattle.array_call_laws.specs.array_call_specs_Calls.{IsRefusalOf, IsUnmendable};
 
 use crate::asking::visible;
-use safe_additions::{list_length, shape_in, too_many, unread, unwritten};
-use safe_rows::mending::mended_rows;
-use safe_rows::{Members, Refusal, Shape};
+use sb_add_spare::{list_length, shape_in, too_many, unread, unwritten};
+use stripe_io::mending::mended_rows;
+use stripe_io::{Members, Refusal, Shape};
 
 /// The refusal of a call that ends at the sector `to`, by the visible size and how many roles are missing: `PastEnd`, or else
 /// `TooManyMissing`.

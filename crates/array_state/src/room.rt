@@ -1,9 +1,9 @@
 //! The memory of an array.
 
 ghost use Rattle.std.specs.Prelude.{◌≡◌, ◌≤◌, [], length, vec_capacity, IfOk, IfErr};
-ghost use Rattle.calls_kept.specs.md_base_the_Fault_TheVariants.{NoMemory as WantsMemory};
+ghost use Rattle.array_call_laws.specs.raid_types_the_Fault_TheVariants.{NoMemory as WantsMemory};
 
-use calls_kept::{Entries, Fault, NoMemory};
+use array_call_laws::{Entries, Fault, NoMemory};
 use std::alloc::Global;
 
 /// What an array keeps in memory: an empty history with room for its end, and the buffers of a write.

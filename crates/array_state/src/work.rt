@@ -2,17 +2,17 @@
 
 ghost use Rattle.std.specs.Prelude.{◌≡◌, ◌<◌, ◌≤◌, ◌==◌, ℕ, false, length, Some, IsTrue};
 ghost use Rattle.std.specs.Option.{option_map_or};
-ghost use Rattle.safe_rows.specs.md_base_Shapes.{is_valid_shape};
-ghost use Rattle.safe_rows.specs.md_base_Search.{tabulate};
-ghost use Rattle.safe_rows.specs.md_base_the_Role_TheVariants.{Recovering as IsRecovering};
-ghost use Rattle.safe_rows.specs.superblocks_Reading.{is_reshaping, shape_of, role_state, rows_held, holder};
-ghost use Rattle.safe_additions.specs.superblocks_Update.{own_in};
-ghost use Rattle.safe_additions.specs.row_io_Rows.{reading_of};
-ghost use Rattle.calls_kept.specs.array_kept_Adopting.{found_stripes, bearers_of, found_work};
-ghost use Rattle.calls_kept.specs.array_kept_Calls.{with_rebuilt};
+ghost use Rattle.stripe_io.specs.raid_types_Shapes.{is_valid_shape};
+ghost use Rattle.stripe_io.specs.raid_types_Search.{tabulate};
+ghost use Rattle.stripe_io.specs.raid_types_the_Role_TheVariants.{Recovering as IsRecovering};
+ghost use Rattle.stripe_io.specs.sb_specs_Reading.{is_reshaping, shape_of, role_state, rows_held, holder};
+ghost use Rattle.sb_add_spare.specs.sb_specs_Update.{own_in};
+ghost use Rattle.sb_add_spare.specs.stripe_row_Rows.{reading_of};
+ghost use Rattle.array_call_laws.specs.array_call_specs_Adopting.{found_stripes, bearers_of, found_work};
+ghost use Rattle.array_call_laws.specs.array_call_specs_Calls.{with_rebuilt};
 
-use safe_additions::{Work, is_clean, shape_in, with};
-use safe_rows::{Members, Role};
+use sb_add_spare::{Work, is_clean, shape_in, with};
+use stripe_io::{Members, Role};
 
 // The rows that a recovering slot holds, by its superblock.
 fn rows_held(members: &Members, slot: u32) -> u64

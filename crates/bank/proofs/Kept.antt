@@ -4,7 +4,7 @@ use Rattle.std.specs.Prelude.{slice_get, slice_range}
 use Rattle.std.proofs.lemmas.Bool.{cases_eq, lt-ltb, le-ltb}
 use Rattle.std.proofs.lemmas.Bool.Decides.{nat_tests}
 use Rattle.std.proofs.lemmas.List.{take_more, take-take, take-append-drop, drop-take, length-take-le}
-use Rattle.md_base.specs.Sectors.{Sector}
+use Rattle.raid_types.specs.Sectors.{Sector}
 use Rattle.bank.specs.declared.bank.Operation.{Operation}
 use Rattle.bank.specs.declared.bank.Operation.TheVariants.{Write, Flush}
 use Rattle.bank.specs.declared.image.Pick.{Pick}

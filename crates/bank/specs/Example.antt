@@ -1,6 +1,6 @@
 -- The example's statement: two slots keep a copy of one sector, and a stop never leaves both half-way.
 use Rattle.std.specs.Prelude.{◌≡◌, ◌⊎◌, ℕ, List}
-use Rattle.md_base.specs.Sectors.{Sector}
+use Rattle.raid_types.specs.Sectors.{Sector}
 use Rattle.bank.specs.Tape.{Contents, IsIn, IsDrawn}
 
 -- An image has the new bytes in the first copy, or in the second a value from before; each copy has one of the two.

@@ -1,6 +1,6 @@
 -- What bounds the values that a stop may leave, over a whole stretch of operations.
 use Rattle.std.specs.Prelude.{ℕ, List, [], ◌∷◌}
-use Rattle.md_base.specs.Sectors.{Sector}
+use Rattle.raid_types.specs.Sectors.{Sector}
 use Rattle.bank.specs.declared.bank.Operation.{Operation}
 use Rattle.bank.specs.declared.bank.Operation.TheVariants.{Write, Flush}
 use Rattle.bank.specs.Tape.{IsIn, run}

@@ -1,6 +1,6 @@
 -- Banks hold whole sectors.
 use Rattle.std.specs.Prelude.{ℕ, ◌<◌, List, All}
-use Rattle.md_base.specs.Sectors.{IsSector}
+use Rattle.raid_types.specs.Sectors.{IsSector}
 use Rattle.bank.specs.declared.bank.Operation.{Operation}
 use Rattle.bank.specs.declared.bank.Operation.TheVariants.{Write, Flush}
 use Rattle.bank.specs.Given.{Given, sizes}

@@ -3,8 +3,8 @@ use Rattle.std.proofs.Common.{◌≡◌, ◌≢◌, inl, inr, ℕ, suc, ◌+◌,
 use Rattle.std.proofs.lemmas.Bool.{cases_lt, cases_eq}
 use Rattle.std.proofs.lemmas.List.{ext_get_or, length-take-le, length-drop, get_or-take, get_or-drop, get_or_past, take_all, get_or-set_same, get_or-set_other}
 use Rattle.std.proofs.lemmas.List.Elements.{All-append, All-push}
-use Rattle.bank.proofs.md_base_Tabulated.{length-tabulate, get_or-tabulate}
-use Rattle.bank.specs.md_base_Sectors.{Sector, IsSector}
+use Rattle.bank.proofs.raid_types_Tabulated.{length-tabulate, get_or-tabulate}
+use Rattle.bank.specs.raid_types_Sectors.{Sector, IsSector}
 use Rattle.bank.specs.declared.bank.Operation.{Operation}
 use Rattle.bank.specs.declared.bank.Operation.TheVariants.{Flush}
 use Rattle.bank.specs.Tape.{writes, value_after, contents, AreSectors}

@@ -4,7 +4,7 @@ use Rattle.std.proofs.lemmas.Bool.{cases_lt}
 use Rattle.std.proofs.lemmas.Bool.Decides.{nat_tests}
 use Rattle.std.proofs.lemmas.List.{length-append, length-take-le, length-drop, get_or-take, get_or-drop, get_or_past, drop-drop}
 use Rattle.std.proofs.lemmas.List.Elements.{All-push, All-append}
-use Rattle.bank.specs.md_base_Sectors.{Sector, IsSector}
+use Rattle.bank.specs.raid_types_Sectors.{Sector, IsSector}
 use Rattle.bank.specs.declared.bank.Operation.{Operation}
 use Rattle.bank.specs.declared.bank.Operation.TheVariants.{Write}
 use Rattle.bank.specs.Tape.{writes, value_after, after_one}

@@ -1,7 +1,7 @@
 -- What a contract sees of a bank over files: the images and the operations so far. The tape is made of what was done to the devices.
 use Rattle.std.specs.Prelude.{◌≡◌, ℕ, zero, suc, ◌+◌, ◌*◌, ◌/◌, ◌<◌, ◌≤◌, ◌^◌, ◌++◌, List, [], ◌∷◌, length, slice_index, slice_index_or, map, Option, Some, None, All}
-use Rattle.bank.specs.md_base_Search.{tabulate}
-use Rattle.bank.specs.md_base_Sectors.{Sector}
+use Rattle.bank.specs.raid_types_Search.{tabulate}
+use Rattle.bank.specs.raid_types_Sectors.{Sector}
 use Rattle.bank.specs.declared.bank.Operation.{Operation}
 use Rattle.bank.specs.declared.bank.Operation.TheVariants.{Write, Flush}
 use Rattle.bank.specs.Given.{Given}

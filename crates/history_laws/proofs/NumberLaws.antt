@@ -1,10 +1,10 @@
 -- Numbers of calls in a legal history, and marks that are safe throughout.
 use Rattle.std.proofs.Common.{◌≡◌, inl, inr, ℕ, ◌+◌, Bool, true, false, not, ◌&&◌, ◌==◌, cond, List, [], ◌∷◌, ◌++◌, refl, sym, ap, ◌∙◌, Option, Some, None, unwrap_or, fold, append_assoc, append-nil, eqb-true, arith}
-use Rattle.flat_history.specs.declared.events.Entry.{Entry}
-use Rattle.flat_history.specs.Flat.{last_of, next_number, number_after}
-use Rattle.flat_history.specs.World.{World}
-use Rattle.flat_history.specs.Legal.{AreLegal, IsNumbered, GoesOn}
-use Rattle.flat_history.specs.Growing.{SafeThroughoutSuffices, NumbersCountCalls, goes_on, calls_from}
+use Rattle.history.specs.declared.events.Entry.{Entry}
+use Rattle.history.specs.Flat.{last_of, next_number, number_after}
+use Rattle.history.specs.World.{World}
+use Rattle.history.specs.Legal.{AreLegal, IsNumbered, GoesOn}
+use Rattle.history.specs.Growing.{SafeThroughoutSuffices, NumbersCountCalls, goes_on, calls_from}
 
 pub safe-throughout : SafeThroughoutSuffices
 safe-throughout world entries last within safe mark low high only = safe mark low (omega (arith, within, high))

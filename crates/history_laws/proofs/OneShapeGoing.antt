@@ -5,17 +5,17 @@ use Rattle.std.proofs.lemmas.List.Elements.{All-nil, All-append, All-head, All-t
 use Rattle.std.proofs.lemmas.List.Folds.{list_any-append}
 use Rattle.std.specs.Prelude.{IfSome, IsTrue}
 use Rattle.std.specs.List.{list_any, All}
-use Rattle.flat_history.specs.md_base_the_Who.{Who}
-use Rattle.flat_history.specs.declared.events.Entry.{Entry}
-use Rattle.flat_history.specs.declared.events.Event.{Event}
-use Rattle.flat_history.specs.declared.events.Event.TheVariants.{Lost, SpareLost, Rebuilt, Step, Refused}
-use Rattle.flat_history.specs.declared.events.LostCause.TheVariants.{Fault}
-use Rattle.flat_history.specs.Flat.{is_same_call, rest_of_call, last_of, next_number}
-use Rattle.flat_history.specs.Legal.{GoesOn, IsNumbered, IsInnerOrLast, call_before, told_left, known_left, disturbs}
-use Rattle.flat_history.specs.Growing.{BeginAnother}
-use Rattle.flat_history.specs.OneShape.{ShapeOpening, IsOneShapeEvent, IsOneShapeEntry, AreOneShape, GoesOnBehind, IsOfCall, IsCallOpen}
+use Rattle.history.specs.raid_types_the_Who.{Who}
+use Rattle.history.specs.declared.events.Entry.{Entry}
+use Rattle.history.specs.declared.events.Event.{Event}
+use Rattle.history.specs.declared.events.Event.TheVariants.{Lost, SpareLost, Rebuilt, Step, Refused}
+use Rattle.history.specs.declared.events.LostCause.TheVariants.{Fault}
+use Rattle.history.specs.Flat.{is_same_call, rest_of_call, last_of, next_number}
+use Rattle.history.specs.Legal.{GoesOn, IsNumbered, IsInnerOrLast, call_before, told_left, known_left, disturbs}
+use Rattle.history.specs.Growing.{BeginAnother}
+use Rattle.history.specs.OneShape.{ShapeOpening, IsOneShapeEvent, IsOneShapeEntry, AreOneShape, GoesOnBehind, IsOfCall, IsCallOpen}
 use Rattle.history_laws.specs.OneShapeGrowth.{OpenCallsAreNumbered, OneShapeHistoriesGoOn}
-use Rattle.flat_history.proofs.LegalLaws.{rest-apart, another-behind}
+use Rattle.history.proofs.LegalLaws.{rest-apart, another-behind}
 use Rattle.history_laws.proofs.OneShapeGrowing.{one_shape-later, next-begins, none-another}
 
 -- ---- a call that is open

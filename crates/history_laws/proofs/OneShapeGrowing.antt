@@ -6,26 +6,26 @@ use Rattle.std.proofs.lemmas.List.Folds.{list_any-append, list_all-append}
 use Rattle.std.specs.Prelude.{fold, map, reverse, not, IsTrue, IsFalse, ⊤}
 use Rattle.std.specs.Option.{option_map_or}
 use Rattle.std.specs.List.{list_any, list_all}
-use Rattle.flat_history.specs.md_base_Search.{count_below}
-use Rattle.flat_history.specs.md_base_the_Who.{Who}
-use Rattle.flat_history.specs.declared.events.Entry.{Entry}
-use Rattle.flat_history.specs.declared.events.Event.{Event}
-use Rattle.flat_history.specs.declared.events.Event.TheVariants.{Lost, SpareLost, Failed}
-use Rattle.flat_history.specs.declared.events.LostCause.{LostCause}
-use Rattle.flat_history.specs.declared.events.LostCause.TheVariants.{Absent, Recovering, Command, Fault}
-use Rattle.flat_history.specs.bank_the_Operation.{Operation}
-use Rattle.flat_history.specs.World.{World}
-use Rattle.flat_history.specs.Flat.{is_same_call, rest_of_call, last_of, next_number, number_after}
-use Rattle.flat_history.specs.Transfers.{last_end_from}
-use Rattle.flat_history.specs.Legal.{IsNumbered, GoesOn, MayBeInner, IsInnerOrLast, IsOfOpening, is_lost_by_command, IsFailed, IsFailedByCall, call_before}
-use Rattle.flat_history.specs.Growing.{grown, EndBy, BeginAnother}
-use Rattle.flat_history.specs.Plain.{entries_of}
-use Rattle.flat_history.specs.OneShape.{ShapeOpening, opening_in, gives_role, is_gone_now, AreTooManyLost, IsOneShapeEvent, IsOneShapeEntry, AreOneShape, IsOneShapeLegal}
+use Rattle.history.specs.raid_types_Search.{count_below}
+use Rattle.history.specs.raid_types_the_Who.{Who}
+use Rattle.history.specs.declared.events.Entry.{Entry}
+use Rattle.history.specs.declared.events.Event.{Event}
+use Rattle.history.specs.declared.events.Event.TheVariants.{Lost, SpareLost, Failed}
+use Rattle.history.specs.declared.events.LostCause.{LostCause}
+use Rattle.history.specs.declared.events.LostCause.TheVariants.{Absent, Recovering, Command, Fault}
+use Rattle.history.specs.bank_the_Operation.{Operation}
+use Rattle.history.specs.World.{World}
+use Rattle.history.specs.Flat.{is_same_call, rest_of_call, last_of, next_number, number_after}
+use Rattle.history.specs.Transfers.{last_end_from}
+use Rattle.history.specs.Legal.{IsNumbered, GoesOn, MayBeInner, IsInnerOrLast, IsOfOpening, is_lost_by_command, IsFailed, IsFailedByCall, call_before}
+use Rattle.history.specs.Growing.{grown, EndBy, BeginAnother}
+use Rattle.history.specs.Plain.{entries_of}
+use Rattle.history.specs.OneShape.{ShapeOpening, opening_in, gives_role, is_gone_now, AreTooManyLost, IsOneShapeEvent, IsOneShapeEntry, AreOneShape, IsOneShapeLegal}
 use Rattle.history_laws.specs.OneShapeGrowth.{OneShapeHistoriesGrow}
-use Rattle.flat_history.proofs.LegalLaws.{rest-apart, another-behind}
-use Rattle.flat_history.proofs.GoneCounts.{few_missing}
-use Rattle.flat_history.proofs.OneShapeGone.{is_gone-both}
-use Rattle.flat_history.proofs.OneShapeLegal.{last-snoc, opening-grown}
+use Rattle.history.proofs.LegalLaws.{rest-apart, another-behind}
+use Rattle.history.proofs.GoneCounts.{few_missing}
+use Rattle.history.proofs.OneShapeGone.{is_gone-both}
+use Rattle.history.proofs.OneShapeLegal.{last-snoc, opening-grown}
 
 -- ---- more operations, and another call
 

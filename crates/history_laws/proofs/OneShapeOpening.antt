@@ -4,16 +4,16 @@ use Rattle.std.proofs.lemmas.Bool.Decides.{nat_tests}
 use Rattle.std.proofs.lemmas.Bool.{lt-ltb}
 use Rattle.std.specs.Prelude.{slice_index_or, option_map, IsTrue}
 use Rattle.std.specs.Option.{option_map_or}
-use Rattle.flat_history.proofs.md_base_Tabulated.{length-tabulate}
-use Rattle.flat_history.specs.md_base_the_Who.{Who}
-use Rattle.flat_history.specs.md_base_the_Role.{Role}
-use Rattle.flat_history.specs.md_base_the_Role_TheVariants.{Whole, Recovering, Missing}
-use Rattle.flat_history.specs.sb1_the_Sb.{Sb}
-use Rattle.flat_history.specs.superblocks_Reading.{Reading, reading, reading_by, superblocks, newest_of, holder_from, is_whole, role_state, role_count, is_reshaping}
-use Rattle.flat_history.specs.World.{World, contents_at, reading_at}
-use Rattle.flat_history.specs.Left.{opened_role, found_losses, opening_losses}
-use Rattle.flat_history.specs.Plain.{entries_of}
-use Rattle.flat_history.specs.OneShape.{ShapeOpening, opening_in, is_lost, IsOneShapeLegal}
+use Rattle.history.proofs.raid_types_Tabulated.{length-tabulate}
+use Rattle.history.specs.raid_types_the_Who.{Who}
+use Rattle.history.specs.raid_types_the_Role.{Role}
+use Rattle.history.specs.raid_types_the_Role_TheVariants.{Whole, Recovering, Missing}
+use Rattle.history.specs.sb_codec_the_Sb.{Sb}
+use Rattle.history.specs.sb_specs_Reading.{Reading, reading, reading_by, superblocks, newest_of, holder_from, is_whole, role_state, role_count, is_reshaping}
+use Rattle.history.specs.World.{World, contents_at, reading_at}
+use Rattle.history.specs.Left.{opened_role, found_losses, opening_losses}
+use Rattle.history.specs.Plain.{entries_of}
+use Rattle.history.specs.OneShape.{ShapeOpening, opening_in, is_lost, IsOneShapeLegal}
 use Rattle.history_laws.proofs.OneShapeGrowing.{AreMissing, loss_events, found-legal}
 
 -- ---- a list of roles, counted from n

@@ -3,21 +3,21 @@ use Rattle.std.proofs.Common.{rules, ◌≡◌, ℕ, zero, suc, ◌≤◌, Bool,
 use Rattle.std.specs.Prelude.{⊤}
 use Rattle.std.specs.Option.{option_map_or}
 use Rattle.std.specs.List.{list_any, list_all}
-use Rattle.flat_history.specs.md_base_Search.{count_below}
-use Rattle.flat_history.proofs.md_base_Counted.{count_below-same}
-use Rattle.flat_history.specs.md_base_the_Refusal_TheVariants.{PastEnd, TooManyMissing}
-use Rattle.flat_history.specs.bank_the_Operation.{Operation}
-use Rattle.flat_history.specs.declared.events.Entry.{Entry}
-use Rattle.flat_history.specs.declared.events.Event.{Event}
-use Rattle.flat_history.specs.declared.events.Event.TheVariants.{Read, Wrote, Torn, Flushed, Lost, SpareLost, Shown, Stopped, Halted, Refused}
-use Rattle.flat_history.specs.declared.events.LostCause.TheVariants.{Fault}
-use Rattle.flat_history.specs.World.{World, until, opening_list}
-use Rattle.flat_history.specs.Stands.{stands}
-use Rattle.flat_history.specs.Flat.{is_same_call, rest_of_call, last_of, visible_of}
-use Rattle.flat_history.specs.Transfers.{last_end_from, IsTooMany}
-use Rattle.flat_history.specs.Legal.{is_loss, call_end, IsLegalEvent, AreLegal}
-use Rattle.flat_history.specs.Reshaped.{AreReshaped, is_done, behind, comes_with_finish, comes_with_step, IsFinishedRight, ArePlansDone, open_plans}
-use Rattle.flat_history.specs.Plain.{Opening, loses_role, lost_count, IsPlainEvent, ArePlain, is_no_loss, PlainHistoriesAreLegal}
+use Rattle.history.specs.raid_types_Search.{count_below}
+use Rattle.history.proofs.raid_types_Counted.{count_below-same}
+use Rattle.history.specs.raid_types_the_Refusal_TheVariants.{PastEnd, TooManyMissing}
+use Rattle.history.specs.bank_the_Operation.{Operation}
+use Rattle.history.specs.declared.events.Entry.{Entry}
+use Rattle.history.specs.declared.events.Event.{Event}
+use Rattle.history.specs.declared.events.Event.TheVariants.{Read, Wrote, Torn, Flushed, Lost, SpareLost, Shown, Stopped, Halted, Refused}
+use Rattle.history.specs.declared.events.LostCause.TheVariants.{Fault}
+use Rattle.history.specs.World.{World, until, opening_list}
+use Rattle.history.specs.Stands.{stands}
+use Rattle.history.specs.Flat.{is_same_call, rest_of_call, last_of, visible_of}
+use Rattle.history.specs.Transfers.{last_end_from, IsTooMany}
+use Rattle.history.specs.Legal.{is_loss, call_end, IsLegalEvent, AreLegal}
+use Rattle.history.specs.Reshaped.{AreReshaped, is_done, behind, comes_with_finish, comes_with_step, IsFinishedRight, ArePlansDone, open_plans}
+use Rattle.history.specs.Plain.{Opening, loses_role, lost_count, IsPlainEvent, ArePlain, is_no_loss, PlainHistoriesAreLegal}
 
 both : (a b : Bool) → (a && b) ≡ true → (a ≡ true) × (b ≡ true)
 both true b e = (refl, e)
@@ -125,12 +125,12 @@ take-twice (op ∷ ops) (suc m) (suc n) le = ap (λ l. op ∷ l) (take-twice ops
 opening-until : (world : World) (mark : ℕ) → world.first ≤ mark → opening_list (until mark world) ≡ opening_list world
 unfolding opening_list
 opening-until world mark le =
-    ap (λ (ops : List Operation). stands world.scope (λ s k. Rattle.flat_history.specs.bank_Tape.value_after s k (world.start s k) ops)) (take-twice world.tape world.first mark le)
+    ap (λ (ops : List Operation). stands world.scope (λ s k. Rattle.history.specs.bank_Tape.value_after s k (world.start s k) ops)) (take-twice world.tape world.first mark le)
 
 legal_event : (world : World) (opening : Opening) (before : List Entry) (e : Entry) (rest : List Entry) (event : Event) → opening.list ≡ opening_list world
     → list_all is_no_loss before ≡ true → not (is_loss event) ≡ true → AreNotTooMany rest → IsPlainEvent opening before e rest event → IsLegalEvent world before e rest event
-legal_event world opening before e rest (Read at body) same none kept are plain = subst (λ l. Rattle.flat_history.specs.Transfers.IsReadOver l before at body) same plain
-legal_event world opening before e rest (Wrote at body) same none kept are plain = subst (λ l. Rattle.flat_history.specs.Transfers.EndsWithinOver l before at body) same plain
+legal_event world opening before e rest (Read at body) same none kept are plain = subst (λ l. Rattle.history.specs.Transfers.IsReadOver l before at body) same plain
+legal_event world opening before e rest (Wrote at body) same none kept are plain = subst (λ l. Rattle.history.specs.Transfers.EndsWithinOver l before at body) same plain
 legal_event world opening before e rest (Torn at body) same none kept are plain = absurd (not-last rest are plain.refused)
 legal_event world opening before e rest Flushed same none kept are plain = tt
 legal_event world opening before e rest (Lost role Fault) same none kept are plain = absurd (cc)
@@ -159,7 +159,7 @@ legal_entries world opening before (e ∷ xs) same first low none more plain =
         numbered = plain.0.numbered;
         timed = record { rises = subst (λ n. last_end_from n before ≤ e.end) first rises; within = rw long bounds.0 };
         inner = plain.0.inner;
-        opening = match_false (e.caller == 254) (Rattle.flat_history.specs.Legal.IsOfOpening e.event) plain.0.caller;
+        opening = match_false (e.caller == 254) (Rattle.history.specs.Legal.IsOfOpening e.event) plain.0.caller;
         event = legal_event (until (call_end e (rest_of_call e xs)) world) opening before e (rest_of_call e xs) e.event
             (same ∙ sym (opening-until world (call_end e (rest_of_call e xs)) late)) none parts.0
             (not-rest e xs (are_not opening (length world.tape) (before ++ e ∷ []) xs (no_loss-append before (e ∷ []) none (ap (λ b. b && true) parts.0)) parts.1 plain.1))

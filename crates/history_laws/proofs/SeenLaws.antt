@@ -2,13 +2,13 @@
 use Rattle.std.proofs.Common.{◌≡◌, ℕ, zero, suc, ◌≤◌, List, [], ◌∷◌, ◌++◌, length, take, refl, sym, subst, subst₂, Option, Some, None, MatchOption, slice_get, arith}
 use Rattle.std.proofs.lemmas.List.{take-append-le}
 use Rattle.std.proofs.lemmas.Option.{slice_get_within}
-use Rattle.flat_history.specs.bank_the_Operation.{Operation}
-use Rattle.flat_history.specs.declared.events.Entry.{Entry}
-use Rattle.flat_history.specs.declared.events.Request.{Request}
-use Rattle.flat_history.specs.World.{World}
-use Rattle.flat_history.specs.Fits.{Fits}
-use Rattle.flat_history.specs.Growing.{grown, EndBy}
-use Rattle.flat_history.specs.Seen.{AreAnswered, AnswersStay}
+use Rattle.history.specs.bank_the_Operation.{Operation}
+use Rattle.history.specs.declared.events.Entry.{Entry}
+use Rattle.history.specs.declared.events.Request.{Request}
+use Rattle.history.specs.World.{World}
+use Rattle.history.specs.Fits.{Fits}
+use Rattle.history.specs.Growing.{grown, EndBy}
+use Rattle.history.specs.Seen.{AreAnswered, AnswersStay}
 use Rattle.history_laws.proofs.ReshapedLaws.{replies-stay-fit}
 
 -- an entry stays at its place, and ended by the mark

@@ -1,12 +1,12 @@
 -- How a legal history of an array that keeps its shape grows.
 use Rattle.std.specs.Prelude.{ℕ, ◌≤◌, List, ◌++◌}
 use Rattle.std.specs.List.{All}
-use Rattle.flat_history.specs.md_base_the_Who.{Who}
-use Rattle.flat_history.specs.declared.events.Entry.{Entry}
-use Rattle.flat_history.specs.Flat.{last_of}
-use Rattle.flat_history.specs.Legal.{IsNumbered}
-use Rattle.flat_history.specs.Growing.{BeginAnother}
-use Rattle.flat_history.specs.OneShape.{ShapeOpening, AreOneShape, IsOneShapeLegal, IsOfCall, IsCallOpen}
+use Rattle.history.specs.raid_types_the_Who.{Who}
+use Rattle.history.specs.declared.events.Entry.{Entry}
+use Rattle.history.specs.Flat.{last_of}
+use Rattle.history.specs.Legal.{IsNumbered}
+use Rattle.history.specs.Growing.{BeginAnother}
+use Rattle.history.specs.OneShape.{ShapeOpening, AreOneShape, IsOneShapeLegal, IsOfCall, IsCallOpen}
 
 -- A history with a new call behind it is legal where the history is, and the call is by itself; the tape has grown meanwhile.
 abbrev pub OneShapeHistoriesGrow : Type 0

@@ -1,12 +1,12 @@
 //! Laws of histories: how they grow, call by call, and that plain ones are legal. Each function's contract is the law.
 #![tactic(auto)]
 
-ghost use Rattle.flat_history.specs.Growing.{CallsOweTheirMarks, MarksStaySafe, NumbersCountCalls, RepliesStayFit, ReshapesAddUp, ReshapesStayRight, SafeThroughoutSuffices};
-ghost use Rattle.flat_history.specs.Plain.{PlainHistoriesAreLegal};
-ghost use Rattle.flat_history.specs.Seen.{AnswersStay};
+ghost use Rattle.history.specs.Growing.{CallsOweTheirMarks, MarksStaySafe, NumbersCountCalls, RepliesStayFit, ReshapesAddUp, ReshapesStayRight, SafeThroughoutSuffices};
+ghost use Rattle.history.specs.Plain.{PlainHistoriesAreLegal};
+ghost use Rattle.history.specs.Seen.{AnswersStay};
 ghost use Rattle.history_laws.specs.OneShapeGrowth.{OneShapeHistoriesGoOn, OneShapeHistoriesGrow, OpenCallsAreNumbered};
 
-pub use flat_history::{
+pub use history::{
     Entries, Entry, Epoch, Event, LostCause, Refusal, Request, Sectors, Who, contains,
 };
 

@@ -2,13 +2,14 @@
 #![tactic(auto)]
 
 ghost use Rattle.std.specs.Prelude.{◌≡◌, ◌≤◌, length, map, string_bytes, Some, None, IfOk, IfSome};
-ghost use Rattle.command_words.specs.Words.{command_in, told_by, slots_for};
-ghost use Rattle.command_words.specs.Words.Asked.{Memory as IsMemory, Run as IsRun, Demo as IsDemo};
+ghost use Rattle.script_argv.specs.Words.{command_in, told_by, slots_for};
+ghost use Rattle.script_argv.specs.Words.Asked.{Memory as IsMemory, Run as IsRun, Demo as IsDemo};
 
 use bank::{Bank, MemoryBank};
 use bank_file::{FileBank, FileFault};
-use command_words::{Command, Paths, command_of};
-use runner::{Pace, run};
+use run_command::{Pace, run};
+use script_argv::{Command, Paths, command_of};
+use script_io::{MemorySource, Source, StdSink, StdSource};
 use std::alloc::{AllocError, Global};
 use std::fs::{File, Files};
 use std::process::ExitCode;
@@ -16,7 +17,6 @@ use std::rt::Env;
 use std::sync::Wait;
 use std::thread::Threads;
 use std::{env, io};
-use text_io::{MemorySource, Source, StdSink, StdSource};
 
 // A bank in memory: seven members and the backup.
 const SLOTS: usize = 8;

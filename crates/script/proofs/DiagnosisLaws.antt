@@ -6,8 +6,8 @@ use Rattle.std.proofs.Math.Seq.{take-append_seam, drop-append_seam, take-add}
 use Rattle.std.specs.Result.{is_ok}
 use Rattle.std.specs.List.{list_all, position, position_or_len}
 use Rattle.std.proofs.lemmas.List.Sums.{passes_at_first}
-use Rattle.line_words.specs.Numbers.{words_of}
-use Rattle.line_words.proofs.WordsLaws.{position_some, position_none}
+use Rattle.script_words.specs.Numbers.{words_of}
+use Rattle.script_words.proofs.WordsLaws.{position_some, position_none}
 use Rattle.script.specs.Grammar.{meaning_of, is_printable, is_passed_over, inside_of, outside_of}
 use Rattle.script.specs.Mistakes.{Says, would_do, GoesWrong, StandsAt, IsBadByte, IsDiagnosis, Begins, is_line, words_meaning}
 use Rattle.script.specs.Reading.{read_words}

@@ -8,11 +8,11 @@ use Rattle.std.specs.Char.{is_ascii_digit}
 use Rattle.std.specs.List.{list_all}
 use Rattle.std.specs.Str.Parse.{digits_value}
 use Rattle.uuid.specs.Text.{parsed}
-use Rattle.flat_history.specs.md_base_Search.{least_below}
-use Rattle.line_words.specs.md_base_the_WishedLayout_TheVariants.{Named, Preserve, Normalise}
-use Rattle.line_words.specs.Numbers.{is_numeral, number_below}
-use Rattle.line_words.specs.Layouts.{layout_named}
-use Rattle.line_words.specs.Wishes.{wished_as}
+use Rattle.history.specs.raid_types_Search.{least_below}
+use Rattle.script_words.specs.raid_types_the_WishedLayout_TheVariants.{Named, Preserve, Normalise}
+use Rattle.script_words.specs.Numbers.{is_numeral, number_below}
+use Rattle.script_words.specs.Layouts.{layout_named}
+use Rattle.script_words.specs.Wishes.{wished_as}
 use Rattle.script.specs.Grammar.{limit_given}
 use Rattle.script.specs.Mistakes.{Says, would_do, is_number_from, is_layout_of}
 use Rattle.script.specs.Reading.{goes_on, within, are_digits, judge_number, judge_limit, judge_uuid, judge_layout, judge_wish, or_mistake, small}

@@ -4,15 +4,15 @@ use Rattle.std.specs.Str.{bytes_eq}
 use Rattle.std.specs.Option.{option_and_then, option_map, is_some, unwrap_or}
 use Rattle.std.specs.Result.{result_ok}
 use Rattle.std.specs.List.{list_all, list_any, filter_map, cons_option}
-use Rattle.flat_history.specs.md_base_Search.{least_below}
-use Rattle.flat_history.specs.md_base_the_Shape.{Shape}
-use Rattle.line_words.specs.md_base_the_WishedLayout.{WishedLayout}
-use Rattle.line_words.specs.md_base_the_WishedLayout_TheVariants.{Named, Preserve, Normalise}
-use Rattle.line_words.specs.Keys.{behind, has_key, values_of, only_value, given, given_number, is_given}
-use Rattle.line_words.specs.Numbers.{number_below}
-use Rattle.line_words.specs.Layouts.{layout_named}
-use Rattle.line_words.specs.Shapes.{shape_from, shape_of}
-use Rattle.line_words.specs.Wishes.{wish_from, wish_of, wish_keys, wished_as, wished_number, wished_layout}
+use Rattle.history.specs.raid_types_Search.{least_below}
+use Rattle.history.specs.raid_types_the_Shape.{Shape}
+use Rattle.script_words.specs.raid_types_the_WishedLayout.{WishedLayout}
+use Rattle.script_words.specs.raid_types_the_WishedLayout_TheVariants.{Named, Preserve, Normalise}
+use Rattle.script_words.specs.Keys.{behind, has_key, values_of, only_value, given, given_number, is_given}
+use Rattle.script_words.specs.Numbers.{number_below}
+use Rattle.script_words.specs.Layouts.{layout_named}
+use Rattle.script_words.specs.Shapes.{shape_from, shape_of}
+use Rattle.script_words.specs.Wishes.{wish_from, wish_of, wish_keys, wished_as, wished_number, wished_layout}
 use Rattle.script.specs.Grammar.{array_from, create_keys, create_of, array_of, grow_of}
 use Rattle.script.specs.Tables.{keys_of, key_name, key_in}
 use Rattle.script.specs.Reading.{goes_on, wrong_at, wrongly, judge_number, small, judge_layout, judge_wish, or_mistake, has_given, give, take_by, take_key, read_keys, create_line, wish_line, nothing_given}

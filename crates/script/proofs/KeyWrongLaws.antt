@@ -5,10 +5,10 @@ use Rattle.std.specs.Result.{result_ok, is_ok}
 use Rattle.std.specs.List.{list_all, list_any}
 use Rattle.std.specs.Str.{bytes_eq}
 use Rattle.std.proofs.lemmas.Slice.Eq.{bytes_eq-Decides}
-use Rattle.line_words.specs.md_base_the_WishedLayout.{WishedLayout}
-use Rattle.line_words.specs.Keys.{behind, has_key, is_given, values_of}
-use Rattle.line_words.specs.Numbers.{number_below}
-use Rattle.line_words.specs.Shapes.{shape_from}
+use Rattle.script_words.specs.raid_types_the_WishedLayout.{WishedLayout}
+use Rattle.script_words.specs.Keys.{behind, has_key, is_given, values_of}
+use Rattle.script_words.specs.Numbers.{number_below}
+use Rattle.script_words.specs.Shapes.{shape_from}
 use Rattle.script.specs.Grammar.{create_keys}
 use Rattle.script.specs.Tables.{keys_of, key_name, key_in}
 use Rattle.script.specs.Mistakes.{Says, would_do}

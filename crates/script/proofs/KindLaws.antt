@@ -3,9 +3,9 @@ use Rattle.std.proofs.Common.{◌≡◌, ℕ, ◌+◌, ◌*◌, ◌/◌, ◌%◌
 use Rattle.std.proofs.Math.Nat.{mod-add-div', add-mul-mod_self_right, add-mod-mod, mul_assoc}
 use Rattle.std.specs.Int.{w32, to_le_bytes}
 use Rattle.std.specs.Str.{bytes_eq}
-use Rattle.flat_history.specs.md_base_Search.{tabulate}
-use Rattle.flat_history.specs.md_base_Bytes.{little}
-use Rattle.flat_history.specs.md_base_Sectors.{Sector, zero_sector}
+use Rattle.history.specs.raid_types_Search.{tabulate}
+use Rattle.history.specs.raid_types_Bytes.{little}
+use Rattle.history.specs.raid_types_Sectors.{Sector, zero_sector}
 use Rattle.script.specs.Seeds.{seed_byte, seed_sector}
 use Rattle.script.specs.Texts.{Zero, Seed, Hex, kind_of, kinds}
 

@@ -14,8 +14,8 @@ pub mod JudgeLaws
 pub mod KeyWrongLaws
 pub mod LineWrongLaws
 pub mod DiagnosisLaws
-pub use Rattle.flat_history.proofs.LegalLaws as flat_history_LegalLaws
-pub use Rattle.flat_history.proofs.OneShapeLegal as flat_history_OneShapeLegal
-pub use Rattle.flat_history.proofs.SoundLaws as flat_history_SoundLaws
-pub use Rattle.flat_history.proofs.StretchLaws as flat_history_StretchLaws
-pub use Rattle.flat_history.proofs.grow_plan_Sound
+pub use Rattle.history.proofs.LegalLaws as history_LegalLaws
+pub use Rattle.history.proofs.OneShapeLegal as history_OneShapeLegal
+pub use Rattle.history.proofs.SoundLaws as history_SoundLaws
+pub use Rattle.history.proofs.StretchLaws as history_StretchLaws
+pub use Rattle.history.proofs.reshape_plan_Sound

@@ -5,12 +5,12 @@ use Rattle.std.specs.List.{list_all}
 use Rattle.std.specs.Option.{option_and_then}
 use Rattle.uuid.specs.Text.{parsed}
 use lib.Chars.{codes}
-use Rattle.flat_history.specs.md_base_the_Shape.{Shape}
-use Rattle.flat_history.specs.md_base_the_Wish.{Wish}
-use Rattle.line_words.specs.Keys.{has_key}
-use Rattle.line_words.specs.Numbers.{words_of, number_below}
-use Rattle.line_words.specs.Shapes.{shape_of}
-use Rattle.line_words.specs.Wishes.{wish_of}
+use Rattle.history.specs.raid_types_the_Shape.{Shape}
+use Rattle.history.specs.raid_types_the_Wish.{Wish}
+use Rattle.script_words.specs.Keys.{has_key}
+use Rattle.script_words.specs.Numbers.{words_of, number_below}
+use Rattle.script_words.specs.Shapes.{shape_of}
+use Rattle.script_words.specs.Wishes.{wish_of}
 use Rattle.script.specs.Grammar.{is_span, span_of, array_from, array_of, create_keys, create_of, assemble_of, alone, read_of, write_of, fail_of, add_of, step_of, array_size_of, limit_given, grow_of, examine_of, line_of, is_printable, is_passed_over, asks_for, is_for_lanes, for_lanes, inside_of, opens, outside_of, meaning_of}
 use Rattle.script.specs.Script.{is_within_limits}
 use Rattle.script.specs.declared.reply.Lane.{Lane}

@@ -8,11 +8,11 @@ use Rattle.std.specs.List.{list_all, list_any}
 use Rattle.std.specs.Str.{bytes_eq}
 use Rattle.std.specs.Str.Parse.{digits_value}
 use Rattle.std.proofs.lemmas.Slice.Eq.{bytes_eq-Decides}
-use Rattle.line_words.specs.md_base_the_WishedLayout.{WishedLayout}
-use Rattle.line_words.specs.Keys.{behind, has_key, is_given, values_of}
-use Rattle.line_words.specs.Numbers.{number_below}
-use Rattle.line_words.specs.Shapes.{shape_from}
-use Rattle.line_words.specs.Layouts.{layout_named}
+use Rattle.script_words.specs.raid_types_the_WishedLayout.{WishedLayout}
+use Rattle.script_words.specs.Keys.{behind, has_key, is_given, values_of}
+use Rattle.script_words.specs.Numbers.{number_below}
+use Rattle.script_words.specs.Shapes.{shape_from}
+use Rattle.script_words.specs.Layouts.{layout_named}
 use Rattle.script.specs.Grammar.{create_keys}
 use Rattle.script.specs.Tables.{all_verbs, verb_in, verb_name, all_block_words, block_word_in, block_word_name, keys_of, key_name, key_in}
 use Rattle.script.specs.Mistakes.{Says, would_do, is_known, is_word_of}

@@ -7,7 +7,7 @@ use Rattle.std.specs.Result.{result_ok}
 use Rattle.std.specs.Char.{is_ascii_digit}
 use Rattle.std.specs.List.{list_all}
 use Rattle.std.specs.Str.Parse.{digits_value}
-use Rattle.line_words.specs.Numbers.{is_numeral, number_below}
+use Rattle.script_words.specs.Numbers.{is_numeral, number_below}
 use Rattle.script.specs.Grammar.{span_of, is_span}
 use Rattle.script.specs.Reading.{goes_on, wrong_at, wrongly, are_digits, within, judge_number, most_behind}
 use Rattle.script.specs.declared.mistakes.Mistake.{Mistake}

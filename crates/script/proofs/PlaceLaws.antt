@@ -5,8 +5,8 @@ use Rattle.std.proofs.lemmas.List.{drop_all, length-drop, length-take-le, drop-t
 use Rattle.std.proofs.lemmas.List.Sums.{passes_at_first}
 use Rattle.std.specs.Option.{unwrap_or}
 use Rattle.std.specs.List.{position, position_or_len}
-use Rattle.line_words.specs.Numbers.{is_space, words_of}
-use Rattle.line_words.proofs.WordsLaws.{place_or_len, words_of-skip, words_of-first}
+use Rattle.script_words.specs.Numbers.{is_space, words_of}
+use Rattle.script_words.proofs.WordsLaws.{place_or_len, words_of-skip, words_of-first}
 use Rattle.script.specs.Mistakes.{StandsAt}
 
 abbrev is_other : ℕ → Bool

@@ -6,9 +6,9 @@ use Rattle.std.specs.Option.{option_and_then, option_map, is_some, unwrap_or}
 use Rattle.std.specs.Result.{result_ok}
 use Rattle.std.specs.List.{list_all}
 use Rattle.uuid.specs.Text.{parsed}
-use Rattle.line_words.specs.Keys.{has_key, given_number}
-use Rattle.line_words.specs.Shapes.{shape_of}
-use Rattle.line_words.specs.Numbers.{number_below}
+use Rattle.script_words.specs.Keys.{has_key, given_number}
+use Rattle.script_words.specs.Shapes.{shape_of}
+use Rattle.script_words.specs.Numbers.{number_below}
 use Rattle.script.specs.Grammar.{line_of, alone, array_from, create_of, assemble_of, read_of, write_of, fail_of, add_of, step_of, array_size_of, limit_given, grow_of, examine_of, span_of, create_keys, asks_for, for_lanes, is_for_lanes, opens, outside_of, inside_of}
 use Rattle.script.specs.Tables.{all_verbs, verb_in, verb_name, all_block_words, block_word_in, block_word_name}
 use Rattle.script.specs.Reading.{goes_on, wrong_at, wrongly, judge_number, judge_limit, judge_uuid, or_mistake, small, most_behind, at_value, end_of, read_one, read_read, read_write, read_create, read_assemble, grow_from, create_from, create_line, create_with, read_keys, nothing_given, wish_line, read_verb, are_digits, is_for_lanes_verb, asked_by, misplaced, lane_by, read_lane, outside_by, read_outside, inside_by, read_inside, read_words}

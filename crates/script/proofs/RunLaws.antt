@@ -6,7 +6,7 @@ use Rattle.std.proofs.Math.Seq.{drop-length}
 use Rattle.std.proofs.lemmas.Bool.{eqb-true, eq-eqb}
 use Rattle.std.specs.Cmp.Lexicographic.{same_text}
 use Rattle.std.specs.Str.{bytes_eq}
-use Rattle.flat_history.specs.md_base_Sectors.{Sector}
+use Rattle.history.specs.raid_types_Sectors.{Sector}
 use Rattle.script.specs.Texts.{Kind, Zero, Seed, Hex, kind_of, kinds, is_same, joined, runs, run_text, runs_text}
 use Rattle.script.proofs.KindLaws.{kind_of-same, kinds-same, place_after, low_bits_wrapped}
 

@@ -6,9 +6,9 @@ use Rattle.std.proofs.lemmas.List.Elements.{filter_map-append}
 use Rattle.std.proofs.lemmas.List.Sums.{sum_by-append, fold_more}
 use Rattle.std.specs.List.{enumerate_from, filter_map, cons_option, fold, scan, AllPass}
 use Rattle.std.specs.Option.{option_to_list}
-use Rattle.flat_history.specs.md_base_Search.{least_below}
+use Rattle.history.specs.raid_types_Search.{least_below}
 use Rattle.script.proofs.TurnLaws.{outside_lane, asked_within_limits, asked_by_lanes, asked_in_turn}
-use Rattle.line_words.proofs.LeastLaws.{least_below-reached, least_below-passed}
+use Rattle.script_words.proofs.LeastLaws.{least_below-reached, least_below-passed}
 use Rattle.script.specs.Grammar.{meaning_of}
 use Rattle.script.specs.Script.{most_lines, most_bytes, most_sectors, lines_of, numbered, is_inside_behind, is_inside, meanings, asked, in_turn, sectors_of, total_sectors, is_refused, is_bad, unless_bad, script_with, is_within_limits, may_ask, are_in_turn}
 use Rattle.script.specs.declared.lines.Line.{Line}

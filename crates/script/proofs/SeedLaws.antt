@@ -4,9 +4,9 @@ use Rattle.std.proofs.lemmas.Bool.{cases_lt}
 use Rattle.std.proofs.lemmas.List.{ext_get_or, get_or-drop, length-drop, take-append-drop, get_or-set_other, length-append, take_all, take-append-le, drop-append-le}
 use Rattle.std.proofs.lemmas.Grind.{get_or-set_at}
 use Rattle.std.specs.Int.{w32, to_le_bytes}
-use Rattle.flat_history.specs.md_base_Search.{tabulate}
-use Rattle.flat_history.specs.md_base_Sectors.{first_sectors, sectors_of, IsWhole}
-use Rattle.flat_history.proofs.md_base_Tabulated.{length-tabulate, get_or-tabulate}
+use Rattle.history.specs.raid_types_Search.{tabulate}
+use Rattle.history.specs.raid_types_Sectors.{first_sectors, sectors_of, IsWhole}
+use Rattle.history.proofs.raid_types_Tabulated.{length-tabulate, get_or-tabulate}
 use Rattle.script.specs.Seeds.{seed_byte, seed_sector, seeded}
 
 -- one byte more is written

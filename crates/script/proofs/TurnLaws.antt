@@ -5,7 +5,7 @@ use Rattle.std.specs.List.{list_all, filter_map, scan, fold, cons_option, enumer
 use Rattle.std.proofs.lemmas.List.Sums.{AllPass-from_list_all}
 use Rattle.std.proofs.lemmas.List.Folds.{list_all-append}
 use lib.Chars.{codes}
-use Rattle.line_words.specs.Numbers.{words_of}
+use Rattle.script_words.specs.Numbers.{words_of}
 use Rattle.script.specs.Grammar.{line_of, alone, is_printable, is_passed_over, asks_for, is_for_lanes, for_lanes, inside_of, opens, outside_of, meaning_of}
 use Rattle.script.specs.Script.{numbered, asked, is_inside_behind, is_inside, is_of_b, is_of_worker, in_turn, is_within_limits, may_ask, may_follow, are_in_turn}
 use Rattle.script.specs.declared.lines.Line.{Line}

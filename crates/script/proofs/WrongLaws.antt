@@ -7,10 +7,10 @@ use Rattle.std.specs.List.{list_all, list_any}
 use Rattle.std.specs.Char.{is_ascii_digit}
 use Rattle.std.specs.Str.Parse.{digits_value}
 use Rattle.uuid.specs.Text.{parsed}
-use Rattle.line_words.specs.Keys.{behind, has_key, is_given}
-use Rattle.line_words.specs.Numbers.{is_numeral, number_below}
-use Rattle.line_words.specs.Layouts.{layout_named}
-use Rattle.line_words.specs.Wishes.{wished_as}
+use Rattle.script_words.specs.Keys.{behind, has_key, is_given}
+use Rattle.script_words.specs.Numbers.{is_numeral, number_below}
+use Rattle.script_words.specs.Layouts.{layout_named}
+use Rattle.script_words.specs.Wishes.{wished_as}
 use Rattle.script.specs.Grammar.{limit_given}
 use Rattle.script.specs.Tables.{all_verbs, verb_in, verb_name, all_block_words, block_word_in, keys_of, key_name}
 use Rattle.script.specs.Mistakes.{Says, would_do, is_number_from, is_layout_of, is_known}

@@ -3,11 +3,11 @@ use Rattle.std.specs.Prelude.{ℕ, ◌+◌, ◌^◌, Bool, ◌&&◌, ◌||◌, n
 use Rattle.std.specs.List.{list_all}
 use Rattle.std.specs.Option.{option_and_then}
 use Rattle.uuid.specs.Text.{parsed}
-use Rattle.flat_history.specs.md_base_the_Shape.{Shape}
-use Rattle.line_words.specs.Keys.{has_key, given_number}
-use Rattle.line_words.specs.Numbers.{is_space, words_of, number_below}
-use Rattle.line_words.specs.Shapes.{shape_of}
-use Rattle.line_words.specs.Wishes.{wish_of}
+use Rattle.history.specs.raid_types_the_Shape.{Shape}
+use Rattle.script_words.specs.Keys.{has_key, given_number}
+use Rattle.script_words.specs.Numbers.{is_space, words_of, number_below}
+use Rattle.script_words.specs.Shapes.{shape_of}
+use Rattle.script_words.specs.Wishes.{wish_of}
 use Rattle.script.specs.declared.lines.Line.{Line}
 use Rattle.script.specs.declared.lines.Line.TheVariants.{Create, Read, Write, Flush, Fail, Add, Step, Wait, ArraySize, Grow, Stop, Halt, Detail, Mdstat, Examine, Assemble}
 use Rattle.script.specs.declared.grammar.Meaning.{Meaning}
@@ -45,7 +45,7 @@ abbrev pub create_of : List (List ℕ) → Option Line
 create_of [] = None
 create_of (uuid ∷ words) = if list_all (has_key create_keys) words then array_of uuid words else None
 
--- `assemble` or `assemble UUID`
+-- `array_create_assemble` or `assemble UUID`
 abbrev pub assemble_of : List (List ℕ) → Option Line
 assemble_of [] = Some (Assemble None)
 assemble_of (uuid ∷ []) = option_map (λ bytes. Assemble (Some bytes)) (parsed uuid)

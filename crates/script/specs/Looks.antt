@@ -1,5 +1,5 @@
 -- What the code keeps of a sector's kind: the sector's bytes stay where they are.
-use Rattle.flat_history.specs.md_base_Sectors.{Sector}
+use Rattle.history.specs.raid_types_Sectors.{Sector}
 use Rattle.script.specs.declared.reply.Look.{Look}
 use Rattle.script.specs.declared.reply.Look.TheVariants.{Zero as LookZero, Seed as LookSeed, Hex as LookHex}
 use Rattle.script.specs.Texts.{Kind, Zero, Seed, Hex}

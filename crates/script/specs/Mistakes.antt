@@ -5,10 +5,10 @@ use Rattle.std.specs.List.{list_all}
 use Rattle.std.specs.Option.{is_some}
 use Rattle.std.specs.Str.Parse.{digits_value}
 use Rattle.uuid.specs.Text.{parsed}
-use Rattle.line_words.specs.Keys.{behind, has_key, is_given}
-use Rattle.line_words.specs.Layouts.{layout_named}
-use Rattle.line_words.specs.Numbers.{words_of, is_numeral}
-use Rattle.line_words.specs.Wishes.{wished_as}
+use Rattle.script_words.specs.Keys.{behind, has_key, is_given}
+use Rattle.script_words.specs.Layouts.{layout_named}
+use Rattle.script_words.specs.Numbers.{words_of, is_numeral}
+use Rattle.script_words.specs.Wishes.{wished_as}
 use Rattle.script.specs.Grammar.{is_printable, inside_of, outside_of, limit_given}
 use Rattle.script.specs.Tables.{all_verbs, verb_in, all_block_words, block_word_in, keys_of, key_name}
 use Rattle.script.specs.declared.grammar.Meaning.{Meaning}

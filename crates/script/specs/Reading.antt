@@ -5,11 +5,11 @@ use Rattle.std.specs.Option.{is_some}
 use Rattle.std.specs.Char.{is_ascii_digit}
 use Rattle.std.specs.Str.Parse.{digits_value}
 use Rattle.uuid.specs.Text.{parsed}
-use Rattle.flat_history.specs.md_base_the_Shape.{Shape}
-use Rattle.line_words.specs.md_base_the_Wish.{Wish}
-use Rattle.line_words.specs.md_base_the_WishedLayout.{WishedLayout}
-use Rattle.line_words.specs.md_base_the_WishedLayout_TheVariants.{Named, Preserve, Normalise}
-use Rattle.line_words.specs.Layouts.{layout_named}
+use Rattle.history.specs.raid_types_the_Shape.{Shape}
+use Rattle.script_words.specs.raid_types_the_Wish.{Wish}
+use Rattle.script_words.specs.raid_types_the_WishedLayout.{WishedLayout}
+use Rattle.script_words.specs.raid_types_the_WishedLayout_TheVariants.{Named, Preserve, Normalise}
+use Rattle.script_words.specs.Layouts.{layout_named}
 use Rattle.script.specs.Tables.{all_verbs, verb_in, all_block_words, block_word_in, keys_of, key_name, key_in}
 use Rattle.script.specs.declared.keyed.Given.{Given}
 use Rattle.script.specs.declared.lines.Line.{Line}

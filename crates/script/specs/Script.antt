@@ -1,7 +1,7 @@
 -- What the text of a whole script asks, or which of its lines is the first bad one.
 use Rattle.std.specs.Prelude.{◌≡◌, ℕ, ◌+◌, ◌-◌, Bool, true, false, ◌&&◌, ◌||◌, not, ◌==◌, nat_lt, nat_le, if◌then◌else◌, List, [], ◌∷◌, ◌++◌, length, take, fold, scan, sum_by, slice_index, slice_index_or, Option, Some, None, Result, Ok, Err}
 use Rattle.std.specs.List.{slice_split, enumerate_from, filter_map}
-use Rattle.flat_history.specs.md_base_Search.{least_below}
+use Rattle.history.specs.raid_types_Search.{least_below}
 use Rattle.script.specs.Grammar.{is_span, is_for_lanes, meaning_of}
 use Rattle.script.specs.declared.lines.Line.{Line}
 use Rattle.script.specs.declared.lines.Line.TheVariants.{Read, Write, Step, Wait}

@@ -1,7 +1,7 @@
 -- What a SEED writes.
 use Rattle.std.specs.Prelude.{ℕ, ◌+◌, ◌%◌, ◌^◌, List, ◌++◌}
 use Rattle.std.specs.Int.{w32, to_le_bytes}
-use Rattle.flat_history.specs.md_base_Search.{tabulate}
+use Rattle.history.specs.raid_types_Search.{tabulate}
 
 -- byte b of sector x, from byte 8 on
 abbrev pub seed_byte : ℕ → ℕ → ℕ → ℕ

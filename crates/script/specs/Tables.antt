@@ -1,7 +1,7 @@
 -- The words that a line knows.
 use Rattle.std.specs.Prelude.{ℕ, if◌then◌else◌, List, [], ◌∷◌, bytes_eq, codes, Option, Some, None}
 use Rattle.std.specs.Option.{is_some}
-use Rattle.line_words.specs.Keys.{behind}
+use Rattle.script_words.specs.Keys.{behind}
 use Rattle.script.specs.declared.tables.Verb.{Verb}
 use Rattle.script.specs.declared.tables.Verb.TheVariants.{Create, Assemble, Read, Write, Flush, Fail, Add, Step, Wait, ArraySize, Grow, Stop, Halt, Detail, Mdstat, Examine}
 use Rattle.script.specs.declared.tables.BlockWord.{BlockWord}

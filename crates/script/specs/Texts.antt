@@ -3,21 +3,21 @@ use Rattle.std.specs.Prelude.{ℕ, ◌+◌, Bool, true, false, ◌==◌, if◌th
 use Rattle.std.specs.List.{flat_map}
 use Rattle.std.specs.Str.{bytes_eq}
 use Rattle.hex.specs.Hex.{encode_lower}
-use Rattle.flat_history.specs.md_base_Sectors.{Sector, zero_sector}
-use Rattle.flat_history.specs.md_base_Bytes.{little}
-use Rattle.flat_history.specs.md_base_the_Refusal.{Refusal}
-use Rattle.flat_history.specs.md_base_the_Refusal_TheVariants.{PastEnd, TooManyMissing, NotResynced, BackupFault, NoSuchRole, SlotTaken, SlotTooSmall, PastSize, SlotFault, Busy, Degraded, SameShape, BadShape, SizeNotMultiple, NeedSpares, NeedBackup, BackupTooSmall, ArraySizeFirst, Nothing, NoSuperblock, Unsupported, BadField, TwoHolders, MembersMissing, DirtyDegraded, PositionNotOnUnit, BackupAbsent, NotRunning, Running, NoSuchSlot, UuidInUse}
-use Rattle.flat_history.specs.md_base_the_BusyKind.{BusyKind}
-use Rattle.flat_history.specs.md_base_the_BusyKind_TheVariants.{Reshape, Resync, Rebuild, Plan}
-use Rattle.flat_history.specs.md_base_the_ShapeField.{ShapeField}
-use Rattle.flat_history.specs.md_base_the_ShapeField_TheVariants.{Level, Layout, Chunk, Disks, Size, Offset}
-use Rattle.flat_history.specs.md_base_the_Shape.{Shape}
-use Rattle.flat_history.specs.md_base_the_Status.{Status}
-use Rattle.flat_history.specs.declared.events.Event.{Event}
-use Rattle.flat_history.specs.declared.events.Event.TheVariants.{Read, Wrote, Flushed, Added, Failed, Visible, Planned, Stepped, Stopped, Halted, Refused}
+use Rattle.history.specs.raid_types_Sectors.{Sector, zero_sector}
+use Rattle.history.specs.raid_types_Bytes.{little}
+use Rattle.history.specs.raid_types_the_Refusal.{Refusal}
+use Rattle.history.specs.raid_types_the_Refusal_TheVariants.{PastEnd, TooManyMissing, NotResynced, BackupFault, NoSuchRole, SlotTaken, SlotTooSmall, PastSize, SlotFault, Busy, Degraded, SameShape, BadShape, SizeNotMultiple, NeedSpares, NeedBackup, BackupTooSmall, ArraySizeFirst, Nothing, NoSuperblock, Unsupported, BadField, TwoHolders, MembersMissing, DirtyDegraded, PositionNotOnUnit, BackupAbsent, NotRunning, Running, NoSuchSlot, UuidInUse}
+use Rattle.history.specs.raid_types_the_BusyKind.{BusyKind}
+use Rattle.history.specs.raid_types_the_BusyKind_TheVariants.{Reshape, Resync, Rebuild, Plan}
+use Rattle.history.specs.raid_types_the_ShapeField.{ShapeField}
+use Rattle.history.specs.raid_types_the_ShapeField_TheVariants.{Level, Layout, Chunk, Disks, Size, Offset}
+use Rattle.history.specs.raid_types_the_Shape.{Shape}
+use Rattle.history.specs.raid_types_the_Status.{Status}
+use Rattle.history.specs.declared.events.Event.{Event}
+use Rattle.history.specs.declared.events.Event.TheVariants.{Read, Wrote, Flushed, Added, Failed, Visible, Planned, Stepped, Stopped, Halted, Refused}
 use Rattle.script.specs.declared.reply.Lane.{Lane}
 use Rattle.script.specs.declared.reply.Lane.TheVariants.{Script, A, B, Worker}
-use Rattle.line_words.specs.Layouts.{layout_name}
+use Rattle.script_words.specs.Layouts.{layout_name}
 use Rattle.script.specs.Seeds.{seed_sector}
 
 -- ---- refusals

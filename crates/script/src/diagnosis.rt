@@ -1,12 +1,12 @@
 //! What is wrong with a line that means nothing, and where.
 
 ghost use Rattle.std.specs.Prelude.{◌≡◌, ◌+◌, ◌-◌, ◌≤◌, length, take, drop, slice_index_or, not, position, unwrap_or, []};
-ghost use Rattle.line_words.specs.Numbers.{is_space, words_of};
+ghost use Rattle.script_words.specs.Numbers.{is_space, words_of};
 ghost use Rattle.script.specs.Mistakes.{StandsAt};
 
 use crate::mistakes::{Mistake, Wrong};
 use crate::reader::count_words;
-use line_words::{Words, first_other, first_space};
+use script_words::{Words, first_other, first_space};
 
 /// What is wrong with a line, and where: at the bytes from `column` on, `width` of them. Where something is missing at the line's end, there are none.
 #[derive(Clone, Copy, Debug, PartialEq, Eq)]

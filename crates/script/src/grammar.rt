@@ -5,7 +5,7 @@ ghost use Rattle.std.specs.List.{list_all};
 ghost use Rattle.script.specs.Grammar.{meaning_of, is_passed_over};
 ghost use Rattle.script.specs.Mistakes.{IsDiagnosis};
 ghost use Rattle.script.specs.Reading.{read_verb, read_read, read_write, read_assemble, read_create, asked_by, read_lane, read_outside, read_inside, is_for_lanes_verb, read_words};
-ghost use Rattle.line_words.specs.Numbers.{is_space, words_of};
+ghost use Rattle.script_words.specs.Numbers.{is_space, words_of};
 
 use crate::diagnosis::{Diagnosis, place_of};
 use crate::keyed::{create_from, grow_from};
@@ -16,7 +16,7 @@ use crate::reader::{
 };
 use crate::reply::Lane;
 use crate::tables::{BlockWord, Verb, block_word_named, verb_named};
-use line_words::Words;
+use script_words::Words;
 
 /// What the text of a line means: it may open a block, or ask something in a lane.
 #[derive(Clone, Copy, Debug, PartialEq, Eq)]

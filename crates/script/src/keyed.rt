@@ -1,7 +1,7 @@
 //! The words key=value of a line, in any order.
 
 ghost use Rattle.std.specs.Prelude.{◌≡◌, length, drop, None};
-ghost use Rattle.line_words.specs.Numbers.{words_of};
+ghost use Rattle.script_words.specs.Numbers.{words_of};
 ghost use Rattle.script.specs.Tables.{key_name};
 ghost use Rattle.script.specs.Reading.{nothing_given, has_given, give, take_key, read_keys, create_line, create_from, grow_from};
 
@@ -9,8 +9,8 @@ use crate::lines::{CreateLine, Line};
 use crate::mistakes::{Mistake, Value, Wrong};
 use crate::reader::{behind_first, judge_layout, judge_number, judge_small, judge_wish, wrong_at};
 use crate::tables::{Key, Verb, key_in};
-use flat_history::{Shape, Wish};
-use line_words::{WishedLayout, Words};
+use history::{Shape, Wish};
+use script_words::{WishedLayout, Words};
 
 /// What the keys of a line have given so far.
 #[derive(Clone, Copy, Debug, PartialEq, Eq)]

@@ -8,7 +8,7 @@ ghost use Rattle.script.specs.declared.reply.Lane.TheVariants.{Script as OfScrip
 
 use crate::grammar::{Meaning, meaning_of_line};
 use crate::reply::Lane;
-use flat_history::{Shape, Wish};
+use history::{Shape, Wish};
 use std::alloc::{AllocError, Global};
 use thiserror::Error;
 

@@ -3,13 +3,13 @@
 ghost use Rattle.std.specs.Prelude.{◌≡◌, ◌^◌, ◌-◌, ◌&&◌, nat_lt, length, drop, true};
 ghost use Rattle.std.specs.List.{list_all};
 ghost use Rattle.std.specs.Char.{is_ascii_digit};
-ghost use Rattle.line_words.specs.Numbers.{words_of, is_numeral};
+ghost use Rattle.script_words.specs.Numbers.{words_of, is_numeral};
 ghost use Rattle.script.specs.Tables.{key_name};
 ghost use Rattle.script.specs.Reading.{wrong_at, judge_number, judge_limit, judge_uuid, judge_layout, judge_wish, at_value, end_of, are_digits, most_behind};
 
 use crate::mistakes::{Mistake, Value, Wrong};
 use crate::tables::Key;
-use line_words::{WishedLayout, Words, layout_named, number};
+use script_words::{WishedLayout, Words, layout_named, number};
 use uuid::Uuid;
 
 /// How many words are left.

@@ -6,8 +6,8 @@ ghost use Rattle.script.specs.Looks.{kind_seen};
 ghost use Rattle.script.specs.Texts.{assembled_text, busy_word, created_text, ending_text, event_text, field_word, is_same, kind_of, kind_text, kinds, lane_text, layout_text, refusal_text, refused, run_text, runs, runs_text, sectors_read, shape_text, shown_text, worker_refusal_text, waited_text, worker_text, Hex};
 
 use crate::seeds::seed_contents;
-use flat_history::{BusyKind, Event, Refusal, Sectors, Shape, ShapeField, Status};
-use line_words::layout_name;
+use history::{BusyKind, Event, Refusal, Sectors, Shape, ShapeField, Status};
+use script_words::layout_name;
 use std::alloc::AllocError;
 
 /// Appends `created`.
@@ -140,7 +140,7 @@ pub fn push_lane(text: &mut Vec<u8>, lane: Lane) -> Result<(), AllocError>
     }
 }
 
-/// Appends the reply of `assemble`.
+/// Appends the reply of `array_create_assemble`.
 pub fn push_assembled(text: &mut Vec<u8>, status: &Status) -> Result<(), AllocError>
     ensures appended { Appends text.old text.new result (assembled_text status.now) }
     ensures short { AppendsFew 240 text.old text.new result }

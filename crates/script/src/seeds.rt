@@ -3,7 +3,7 @@
 ghost use Rattle.std.specs.Prelude.{◌≡◌, ◌+◌, ◌≤◌, ◌^◌, IfOk};
 ghost use Rattle.script.specs.Seeds.{seed_sector, seeded};
 
-use flat_history::Sectors;
+use history::Sectors;
 use std::alloc::{AllocError, Global};
 
 /// The 512 bytes that `seed` writes into sector `x`.

@@ -11,8 +11,8 @@ use Rattle.script.specs.declared.grammar.Meaning.{Meaning}
 use Rattle.script.specs.declared.grammar.Meaning.TheVariants.{PassedOver, Opens, Asks, Bad}
 use Rattle.script.specs.declared.lines.Numbered.{Numbered}
 use Rattle.script.proofs.ScriptLaws.{meaning_at, asked-more, inside-more, by_lines, bad_at, at_turn}
-use Rattle.md_base.specs.Search.{least_below}
-use Rattle.line_words.proofs.LeastLaws.{least_below-reached, least_below-passed}
+use Rattle.raid_types.specs.Search.{least_below}
+use Rattle.script_words.proofs.LeastLaws.{least_below-reached, least_below-passed}
 use Rattle.script_mistakes.specs.Reasons.{sectors_in}
 
 -- what is known once the first k lines were read and none was bad

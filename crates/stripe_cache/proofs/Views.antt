@@ -9,8 +9,8 @@ use Rattle.std.proofs.lemmas.Option.{slice_get-map}
 use Rattle.std.proofs.lemmas.Bool.Decides.{nat_tests}
 use Rattle.lru.proofs.CallerLemmas.{Contains-lookup_entry}
 use Rattle.lru.specs.LruCache.{LruCache, lru_cache, promoted, put_entries, displaced}
-use Rattle.md_base.specs.declared.places.Side.{Side}
-use Rattle.md_base.specs.declared.places.Side.TheVariants.{Old, New}
+use Rattle.raid_types.specs.declared.places.Side.{Side}
+use Rattle.raid_types.specs.declared.places.Side.TheVariants.{Old, New}
 use Rattle.stripe_cache.specs.contracts.key.KeyPartialEq.TheImpl as key_eq
 use Rattle.stripe_cache.specs.declared.cached.Cached.{Cached}
 use Rattle.stripe_cache.specs.declared.key.Key.{Key}

@@ -1,7 +1,7 @@
 -- The lengths of rows.
 use Rattle.std.proofs.Common.{◌≡◌, ℕ, zero, suc, ◌*◌, ◌/◌, List, [], ◌∷◌, length, drop, ◌++◌, refl, sym, ap, ap₂, ◌∙◌, arith, length-drop}
 use Rattle.std.proofs.lemmas.List.{take-append-drop}
-use Rattle.md_base.specs.Sectors.{first_sectors, sectors_of, IsWhole}
+use Rattle.raid_types.specs.Sectors.{first_sectors, sectors_of, IsWhole}
 
 pub length-first_sectors : (n : ℕ) (bytes : List ℕ) → length (first_sectors n bytes) ≡ n
 length-first_sectors zero bytes = refl

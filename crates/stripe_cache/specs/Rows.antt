@@ -2,8 +2,8 @@
 use Rattle.std.specs.Prelude.{ℕ, ◌-◌, ◌==◌, Bool, true, false, not, ◌&&◌, if◌then◌else◌, List, [], ◌∷◌, take, slice_get, Option, Some, None, bit_or}
 use Rattle.std.specs.Option.{option_map_or}
 use Rattle.std.specs.List.{find}
-use Rattle.md_base.specs.declared.places.Side.{Side}
-use Rattle.md_base.specs.declared.places.Side.TheVariants.{Old, New}
+use Rattle.raid_types.specs.declared.places.Side.{Side}
+use Rattle.raid_types.specs.declared.places.Side.TheVariants.{Old, New}
 use Rattle.stripe_cache.specs.declared.cached.Cached.{Cached}
 
 -- the rows that are held, the last used one first, and how many there may be

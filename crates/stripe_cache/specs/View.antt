@@ -1,7 +1,7 @@
 -- The rows that a cache's entries are.
 use Rattle.std.specs.Prelude.{ℕ, true, false, if◌then◌else◌, List, map}
-use Rattle.md_base.specs.declared.places.Side.{Side}
-use Rattle.md_base.specs.declared.places.Side.TheVariants.{Old, New}
+use Rattle.raid_types.specs.declared.places.Side.{Side}
+use Rattle.raid_types.specs.declared.places.Side.TheVariants.{Old, New}
 use Rattle.stripe_cache.specs.declared.cached.Cached.{Cached}
 use Rattle.stripe_cache.specs.declared.key.Key.{Key}
 use Rattle.stripe_cache.specs.HeldRow.{HeldRow}

@@ -2,13 +2,13 @@
 
 ghost use Rattle.std.specs.Prelude.{◌≡◌, ◌<◌, ◌≤◌, ◌*◌, [], length, if◌then◌else◌, is_some, IfSome, IfOk, MatchOption, None, option_map};
 ghost use Rattle.std.specs.List.{find};
-ghost use Rattle.md_base.specs.Sectors.{sectors_of, IsWhole};
+ghost use Rattle.raid_types.specs.Sectors.{sectors_of, IsWhole};
 
 use crate::cached::{Cached, Kept};
 use crate::entry::{cached, without_entry};
 use crate::key::{Held, Key};
 use lru::LruCache;
-use md_base::Side;
+use raid_types::Side;
 use std::alloc::{AllocError, Global};
 use std::marker::Model;
 use std::num::NonZeroUsize;

@@ -1,6 +1,6 @@
 //! A row of a cache.
 
-use md_base::{Sectors, Side};
+use raid_types::{Sectors, Side};
 
 /// One row, its sectors role after role, with the set of its changed roles: role r by the bit r.
 #[derive(Drop)]

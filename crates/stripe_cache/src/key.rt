@@ -1,9 +1,9 @@
 //! What a row is found by, and what is kept of it.
 
 ghost use Rattle.std.specs.Prelude.{◌≡◌, ◌*◌, length, bit_or, if◌then◌else◌, IfOk};
-ghost use Rattle.md_base.specs.Sectors.{sectors_of, IsWhole};
+ghost use Rattle.raid_types.specs.Sectors.{sectors_of, IsWhole};
 
-use md_base::{Sectors, Side};
+use raid_types::{Sectors, Side};
 use std::alloc::{AllocError, Global};
 use std::marker::Model;
 
@@ -21,7 +21,7 @@ pub struct Held {
 }
 
 impl Model for Held {
-    ghost use Rattle.md_base.specs.Sectors.{sectors_of, IsWhole};
+    ghost use Rattle.raid_types.specs.Sectors.{sectors_of, IsWhole};
     ghost use Rattle.stripe_cache.specs.HeldRow.{HeldRow};
 
     ghost Value = { HeldRow };

@@ -1,7 +1,7 @@
 //! A cache of one row.
 
 use crate::{Cache, Cached, Kept};
-use md_base::Side;
+use raid_types::Side;
 use std::test::Fail;
 
 #[test]

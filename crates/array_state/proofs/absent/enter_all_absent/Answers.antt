@@ -1,10 +1,10 @@
 use Rattle.std.proofs.Common.{◌++◌, List, sym, ap, ◌∙◌, refl, arith}
-use Rattle.safe_additions.specs.row_io_Rows.{reading_of}
-use Rattle.safe_additions.specs.flat_history_the_Event.{Event}
-use Rattle.safe_additions.specs.flat_history_Plain.{entries_of}
-use Rattle.calls_kept.specs.array_kept_Adopting.{opener, absent_losses, absent_loss}
-use Rattle.calls_kept.proofs.call_entries_LosingLaws.{entered-more, entered-none}
-use Rattle.calls_kept.proofs.AbsentLaws.{absents-first, absents-next}
+use Rattle.sb_add_spare.specs.stripe_row_Rows.{reading_of}
+use Rattle.sb_add_spare.specs.history_the_Event.{Event}
+use Rattle.sb_add_spare.specs.history_Plain.{entries_of}
+use Rattle.array_call_laws.specs.array_call_specs_Adopting.{opener, absent_losses, absent_loss}
+use Rattle.array_call_laws.proofs.history_append_LosingLaws.{entered-more, entered-none}
+use Rattle.array_call_laws.proofs.AbsentLaws.{absents-first, absents-next}
 use Rattle.array_state.proofs.absent.enter_all_absent.Goals as goal
 
 pub loop-role-init : goal.loop-role-init

@@ -1,8 +1,8 @@
 use Rattle.std.proofs.Common.{◌≡◌, ◌+◌, ◌≤◌, ◌++◌}
-use Rattle.safe_additions.specs.row_io_Rows.{reading_of}
-use Rattle.safe_additions.specs.flat_history_Plain.{entries_of}
-use Rattle.calls_kept.specs.call_entries_Losing.{IsSameEpoch}
-use Rattle.calls_kept.specs.array_kept_Adopting.{opener, absent_losses}
+use Rattle.sb_add_spare.specs.stripe_row_Rows.{reading_of}
+use Rattle.sb_add_spare.specs.history_Plain.{entries_of}
+use Rattle.array_call_laws.specs.history_append_Losing.{IsSameEpoch}
+use Rattle.array_call_laws.specs.array_call_specs_Adopting.{opener, absent_losses}
 use Rattle.array_state.proofs.absent.enter_all_absent.Given as goal
 
 abbrev pub invariant-loop-role : goal.invariant-loop-role

@@ -1,7 +1,7 @@
 use Rattle.std.proofs.Common.{◌∙◌, ap, arith}
-use Rattle.safe_rows.specs.sb1_the_Sb.{Sb}
-use Rattle.calls_kept.proofs.AddLaws.{spare-made}
-use Rattle.safe_additions.proofs.views_Fit.{few}
+use Rattle.stripe_io.specs.sb_codec_the_Sb.{Sb}
+use Rattle.array_call_laws.proofs.AddLaws.{spare-made}
+use Rattle.sb_add_spare.proofs.array_members_Fit.{few}
 use Rattle.array_state.proofs.adding.spare_for.Goals as goal
 
 pub first_offset-offset-requires-clause-few : goal.first_offset-offset-requires-clause-few

@@ -1,6 +1,6 @@
 use Rattle.std.proofs.Common.{refl, arith}
-use Rattle.calls_kept.proofs.AddLaws.{many-of, does-of, unaddable-many, unaddable-none, offset-of}
-use Rattle.safe_additions.proofs.views_Fit.{few}
+use Rattle.array_call_laws.proofs.AddLaws.{many-of, does-of, unaddable-many, unaddable-none, offset-of}
+use Rattle.sb_add_spare.proofs.array_members_Fit.{few}
 use Rattle.array_state.proofs.adding.unaddable.Goals as goal
 
 pub is_taken-requires : goal.is_taken-requires

@@ -1,11 +1,11 @@
 use Rattle.std.proofs.Common.{◌≡◌, ℕ, ◌+◌, ◌-◌, ◌≤◌, refl, sym, ◌∙◌, ap, arith}
 use Rattle.std.proofs.Math.Nat.{div-le_self}
-use Rattle.safe_rows.specs.md_base_the_Role.{Role}
-use Rattle.safe_rows.specs.md_base_the_Role_TheVariants.{Whole, Recovering, Missing}
-use Rattle.safe_rows.specs.superblocks_Reading.{shape_of, role_state}
-use Rattle.safe_additions.specs.row_io_Rows.{reading_of}
-use Rattle.safe_additions.specs.views_Status.{stripes_of, rebuilt_of, role_left}
-use Rattle.calls_kept.proofs.array_kept_StepsLeft.{recovery-none, recovery-more}
+use Rattle.stripe_io.specs.raid_types_the_Role.{Role}
+use Rattle.stripe_io.specs.raid_types_the_Role_TheVariants.{Whole, Recovering, Missing}
+use Rattle.stripe_io.specs.sb_specs_Reading.{shape_of, role_state}
+use Rattle.sb_add_spare.specs.stripe_row_Rows.{reading_of}
+use Rattle.sb_add_spare.specs.array_members_Status.{stripes_of, rebuilt_of, role_left}
+use Rattle.array_call_laws.proofs.array_call_specs_StepsLeft.{recovery-none, recovery-more}
 use Rattle.array_state.proofs.asking.recovery_left.Goals.{in-Recovering, in_default}
 use Rattle.array_state.proofs.asking.recovery_left.Goals as goal
 

@@ -1,5 +1,5 @@
 use Rattle.std.proofs.Common.{◌≡◌, ◌≤◌, ◌+◌, ◌*◌, ◌^◌}
-use Rattle.safe_additions.specs.views_Status.{recovery_left}
+use Rattle.sb_add_spare.specs.array_members_Status.{recovery_left}
 use Rattle.array_state.proofs.asking.recovery_left.Given as goal
 
 -- the steps of the roles before this one are counted

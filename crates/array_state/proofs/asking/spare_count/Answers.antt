@@ -1,6 +1,6 @@
 use Rattle.std.proofs.Common.{sym, arith}
-use Rattle.safe_additions.specs.superblocks_Reads.{has_spare}
-use Rattle.safe_additions.proofs.row_io_Tables.{count_below-none, count_below-le, count_step}
+use Rattle.sb_add_spare.specs.sb_specs_Reads.{has_spare}
+use Rattle.sb_add_spare.proofs.stripe_row_Tables.{count_below-none, count_below-le, count_step}
 use Rattle.array_state.proofs.asking.spare_count.Goals.{then-is_spare, else-is_spare}
 use Rattle.array_state.proofs.asking.spare_count.Goals as goal
 

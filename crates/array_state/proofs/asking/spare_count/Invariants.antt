@@ -1,6 +1,6 @@
 use Rattle.std.proofs.Common.{◌≡◌}
-use Rattle.safe_rows.specs.md_base_Search.{count_below}
-use Rattle.safe_additions.specs.superblocks_Reads.{has_spare}
+use Rattle.stripe_io.specs.raid_types_Search.{count_below}
+use Rattle.sb_add_spare.specs.sb_specs_Reads.{has_spare}
 use Rattle.array_state.proofs.asking.spare_count.Given as goal
 
 -- those before this one are counted

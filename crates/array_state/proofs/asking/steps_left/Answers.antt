@@ -1,9 +1,9 @@
 use Rattle.std.proofs.Common.{◌≡◌, ◌+◌, ◌*◌, ◌≤◌, ap, arith}
 use Rattle.std.proofs.Math.Nat.{div-le_self, mul-le-mul_right}
-use Rattle.safe_rows.specs.md_base_the_Shape.{Shape}
-use Rattle.safe_rows.proofs.layout_Limits.{limited}
-use Rattle.safe_rows.specs.superblocks_Reading.{shape_of}
-use Rattle.safe_additions.specs.views_Status.{stripes_of}
+use Rattle.stripe_io.specs.raid_types_the_Shape.{Shape}
+use Rattle.stripe_io.proofs.raid_layout_Limits.{limited}
+use Rattle.stripe_io.specs.sb_specs_Reading.{shape_of}
+use Rattle.sb_add_spare.specs.array_members_Status.{stripes_of}
 use Rattle.array_state.proofs.asking.steps_left.Goals.{in-Some, in-None}
 use Rattle.array_state.proofs.asking.steps_left.Goals as goal
 

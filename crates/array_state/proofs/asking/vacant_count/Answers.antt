@@ -1,7 +1,7 @@
 use Rattle.std.proofs.Common.{sym, arith}
-use Rattle.safe_additions.specs.row_io_Rows.{reading_of}
-use Rattle.safe_additions.proofs.row_io_Tables.{count_below-none, count_below-le, count_step}
-use Rattle.safe_additions.specs.views_Placed.{is_vacant}
+use Rattle.sb_add_spare.specs.stripe_row_Rows.{reading_of}
+use Rattle.sb_add_spare.proofs.stripe_row_Tables.{count_below-none, count_below-le, count_step}
+use Rattle.sb_add_spare.specs.array_members_Placed.{is_vacant}
 use Rattle.array_state.proofs.asking.vacant_count.Goals.{then-is_vacant, else-is_vacant}
 use Rattle.array_state.proofs.asking.vacant_count.Goals as goal
 

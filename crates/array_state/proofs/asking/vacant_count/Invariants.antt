@@ -1,7 +1,7 @@
 use Rattle.std.proofs.Common.{◌≡◌}
-use Rattle.safe_rows.specs.md_base_Search.{count_below}
-use Rattle.safe_additions.specs.row_io_Rows.{reading_of}
-use Rattle.safe_additions.specs.views_Placed.{is_vacant}
+use Rattle.stripe_io.specs.raid_types_Search.{count_below}
+use Rattle.sb_add_spare.specs.stripe_row_Rows.{reading_of}
+use Rattle.sb_add_spare.specs.array_members_Placed.{is_vacant}
 use Rattle.array_state.proofs.asking.vacant_count.Given as goal
 
 -- those before this one are counted

@@ -1,6 +1,6 @@
 use Rattle.std.proofs.Common.{ap, ◌∙◌, sym, inl, inr}
-use Rattle.safe_rows.specs.superblocks_Reading.{holder}
-use Rattle.safe_additions.specs.views_Rebuilding.{Held}
+use Rattle.stripe_io.specs.sb_specs_Reading.{holder}
+use Rattle.sb_add_spare.specs.array_members_Rebuilding.{Held}
 use Rattle.array_state.proofs.holders.first_offset.Goals as goal
 
 pub data_offset-requires : goal.data_offset-requires

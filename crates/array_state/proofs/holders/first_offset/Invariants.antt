@@ -1,6 +1,6 @@
 use Rattle.std.proofs.Common.{◌≡◌, ◌<◌, ℕ, true}
-use Rattle.safe_additions.specs.row_io_Rows.{reading_of}
-use Rattle.safe_additions.specs.views_Placed.{is_vacant}
+use Rattle.sb_add_spare.specs.stripe_row_Rows.{reading_of}
+use Rattle.sb_add_spare.specs.array_members_Placed.{is_vacant}
 use Rattle.array_state.proofs.holders.first_offset.Given as goal
 
 -- no role before this one is held

@@ -1,5 +1,5 @@
 use Rattle.std.proofs.Common.{◌<◌, ℕ}
-use Rattle.safe_additions.specs.views_Rebuilding.{Held}
+use Rattle.sb_add_spare.specs.array_members_Rebuilding.{Held}
 use Rattle.array_state.proofs.holders.holds_role.Given as goal
 
 -- no role before this one is held by the slot

@@ -1,11 +1,11 @@
 use Rattle.std.proofs.Common.{ℕ, ◌≤◌, Option, Some, None, arith, MatchOption}
-use Rattle.safe_rows.specs.md_base_the_Refusal.{Refusal}
-use Rattle.safe_rows.specs.superblocks_the_Members.{Members}
-use Rattle.safe_additions.specs.shape_views_Regions.{DoWithout}
-use Rattle.safe_additions.specs.views_Lacking.{AreTooMany}
-use Rattle.safe_rows.proofs.views_LackingLaws.{never-both}
-use Rattle.calls_kept.specs.array_kept_Calls.{IsRefusalOf}
-use Rattle.calls_kept.proofs.array_kept_ReplyLaws.{too-many-of, refused-for}
+use Rattle.stripe_io.specs.raid_types_the_Refusal.{Refusal}
+use Rattle.stripe_io.specs.sb_specs_the_Members.{Members}
+use Rattle.sb_add_spare.specs.crash_views_Regions.{DoWithout}
+use Rattle.sb_add_spare.specs.array_members_Lacking.{AreTooMany}
+use Rattle.stripe_io.proofs.array_members_LackingLaws.{never-both}
+use Rattle.array_call_laws.specs.array_call_specs_Calls.{IsRefusalOf}
+use Rattle.array_call_laws.proofs.array_call_specs_ReplyLaws.{too-many-of, refused-for}
 use Rattle.array_state.proofs.refusing.refusal_of.Goals as goal
 
 by-missing : (visible to : ℕ) (m : Members) (found : Option Refusal) → to ≤ visible → MatchOption found (DoWithout m) (AreTooMany m) → IsRefusalOf visible to AreTooMany m found

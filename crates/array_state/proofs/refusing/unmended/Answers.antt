@@ -1,7 +1,7 @@
 use Rattle.std.proofs.Common.{false, ◌∙◌, ap}
-use Rattle.safe_rows.specs.md_base_the_Shape.{Shape}
-use Rattle.safe_rows.specs.superblocks_Reading.{shape_of}
-use Rattle.safe_additions.specs.safe_updates_First.{write_refusal}
+use Rattle.stripe_io.specs.raid_types_the_Shape.{Shape}
+use Rattle.stripe_io.specs.sb_specs_Reading.{shape_of}
+use Rattle.sb_add_spare.specs.sb_safe_updates_First.{write_refusal}
 use Rattle.array_state.proofs.FirstLaws.{write-told}
 use Rattle.array_state.proofs.UnmendableLaws.{unmended-told}
 use Rattle.array_state.proofs.refusing.unmended.Goals as goal

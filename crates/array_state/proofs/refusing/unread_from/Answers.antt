@@ -1,11 +1,11 @@
 use Rattle.std.proofs.Common.{◌≤◌, ◌+◌, ◌*◌, ℕ, refl, ◌∙◌, ap₂, sym, subst, arith}
-use Rattle.safe_rows.specs.md_base_the_Shape.{Shape}
-use Rattle.safe_rows.specs.md_base_Shapes.{data_disks}
-use Rattle.safe_rows.specs.superblocks_Reading.{shape_of}
-use Rattle.safe_additions.specs.views_Whole.{list_size}
-use Rattle.safe_additions.specs.views_Placed.{places_of}
-use Rattle.safe_additions.specs.views_Lacking.{mended_rows}
-use Rattle.safe_additions.specs.safe_updates_First.{read_refusal}
+use Rattle.stripe_io.specs.raid_types_the_Shape.{Shape}
+use Rattle.stripe_io.specs.raid_types_Shapes.{data_disks}
+use Rattle.stripe_io.specs.sb_specs_Reading.{shape_of}
+use Rattle.sb_add_spare.specs.array_members_Whole.{list_size}
+use Rattle.sb_add_spare.specs.array_members_Placed.{places_of}
+use Rattle.sb_add_spare.specs.array_members_Lacking.{mended_rows}
+use Rattle.sb_add_spare.specs.sb_safe_updates_First.{read_refusal}
 use Rattle.array_state.proofs.FirstLaws.{short-list, past-is, within-is, read-judged}
 use Rattle.array_state.proofs.refusing.unread_from.Goals as goal
 

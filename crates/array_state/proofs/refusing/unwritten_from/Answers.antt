@@ -1,10 +1,10 @@
 use Rattle.std.proofs.Common.{◌≤◌, ◌+◌, Bool, refl, ◌∙◌, ap, ap₂, arith}
-use Rattle.safe_rows.specs.md_base_the_Shape.{Shape}
-use Rattle.safe_rows.specs.superblocks_Reading.{shape_of}
-use Rattle.safe_additions.specs.views_Whole.{list_size}
-use Rattle.safe_additions.specs.views_Placed.{places_of}
-use Rattle.safe_additions.specs.views_Lacking.{are_mended, mended_rows}
-use Rattle.safe_additions.specs.safe_updates_First.{write_refusal}
+use Rattle.stripe_io.specs.raid_types_the_Shape.{Shape}
+use Rattle.stripe_io.specs.sb_specs_Reading.{shape_of}
+use Rattle.sb_add_spare.specs.array_members_Whole.{list_size}
+use Rattle.sb_add_spare.specs.array_members_Placed.{places_of}
+use Rattle.sb_add_spare.specs.array_members_Lacking.{are_mended, mended_rows}
+use Rattle.sb_add_spare.specs.sb_safe_updates_First.{write_refusal}
 use Rattle.array_state.proofs.FirstLaws.{past-is, within-is, write-judged}
 use Rattle.array_state.proofs.refusing.unwritten_from.Goals as goal
 

@@ -1,9 +1,9 @@
 use Rattle.std.proofs.Common.{◌≡◌, ◌==◌, ◌+◌, ◌&&◌, ℕ, Bool, false, nat_lt, sym, ◌∙◌, subst, arith}
 use Rattle.std.specs.Option.{option_map_or}
 use Rattle.std.proofs.lemmas.Bool.Decides.{nat_tests}
-use Rattle.safe_rows.specs.md_base_Shapes.{has_slot}
-use Rattle.safe_additions.specs.superblocks_Update.{own_in}
-use Rattle.safe_additions.proofs.superblocks_SlotSets.{none_there, one_more, none_more, is-set_of}
+use Rattle.stripe_io.specs.raid_types_Shapes.{has_slot}
+use Rattle.sb_add_spare.specs.sb_specs_Update.{own_in}
+use Rattle.sb_add_spare.proofs.sb_specs_SlotSets.{none_there, one_more, none_more, is-set_of}
 use Rattle.array_state.proofs.work.bearers.Goals as goal
 use Rattle.array_state.proofs.work.bearers.Goals.{then-bears, else-bears}
 

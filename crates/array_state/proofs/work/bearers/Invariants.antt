@@ -1,7 +1,7 @@
 use Rattle.std.proofs.Common.{◌≡◌, ◌==◌, ◌&&◌, ℕ, false, nat_lt}
 use Rattle.std.specs.Option.{option_map_or}
-use Rattle.safe_rows.specs.md_base_Shapes.{has_slot}
-use Rattle.safe_additions.specs.superblocks_Update.{own_in}
+use Rattle.stripe_io.specs.raid_types_Shapes.{has_slot}
+use Rattle.sb_add_spare.specs.sb_specs_Update.{own_in}
 use Rattle.array_state.proofs.work.bearers.Given as goal
 
 -- of the slots before this one those that do

@@ -1,5 +1,5 @@
 use Rattle.std.proofs.Common.{◌≡◌, ℕ, refl, subst, arith}
-use Rattle.calls_kept.proofs.array_kept_FoundLaws.{AreNumbersFound, numbers-set, numbers-all}
+use Rattle.array_call_laws.proofs.array_call_specs_FoundLaws.{AreNumbersFound, numbers-set, numbers-all}
 use Rattle.array_state.proofs.work.found_numbers.Goals as goal
 
 pub loop-number-init : goal.loop-number-init

@@ -1,4 +1,4 @@
-use Rattle.calls_kept.proofs.array_kept_FoundLaws.{AreNumbersFound}
+use Rattle.array_call_laws.proofs.array_call_specs_FoundLaws.{AreNumbersFound}
 use Rattle.array_state.proofs.work.found_numbers.Given as goal
 
 -- the numbers before this one are looked for

@@ -1,11 +1,11 @@
 use Rattle.std.proofs.Common.{◌≡◌, ℕ, ◌<◌, ◌+◌, ◌/◌, List, refl, sym, ◌∙◌, ap, subst, arith}
 use Rattle.std.proofs.lemmas.List.{get_or-replicate}
-use Rattle.safe_rows.specs.md_base_the_Role.{Role}
-use Rattle.safe_rows.specs.md_base_the_Role_TheVariants.{Whole, Recovering, Missing}
-use Rattle.safe_rows.specs.superblocks_Reading.{holder}
-use Rattle.safe_additions.specs.row_io_Rows.{reading_of}
-use Rattle.calls_kept.specs.array_kept_Adopting.{stripes_held}
-use Rattle.calls_kept.proofs.array_kept_FoundLaws.{AreStripesFound, no-stripes, stripes-set, stripes-none, stripes-all}
+use Rattle.stripe_io.specs.raid_types_the_Role.{Role}
+use Rattle.stripe_io.specs.raid_types_the_Role_TheVariants.{Whole, Recovering, Missing}
+use Rattle.stripe_io.specs.sb_specs_Reading.{holder}
+use Rattle.sb_add_spare.specs.stripe_row_Rows.{reading_of}
+use Rattle.array_call_laws.specs.array_call_specs_Adopting.{stripes_held}
+use Rattle.array_call_laws.proofs.array_call_specs_FoundLaws.{AreStripesFound, no-stripes, stripes-set, stripes-none, stripes-all}
 use Rattle.array_state.proofs.work.found_rebuilt.Goals.{in-Recovering, in_default}
 use Rattle.array_state.proofs.work.found_rebuilt.Goals as goal
 

@@ -1,5 +1,5 @@
-use Rattle.safe_additions.specs.row_io_Rows.{reading_of}
-use Rattle.calls_kept.proofs.array_kept_FoundLaws.{AreStripesFound}
+use Rattle.sb_add_spare.specs.stripe_row_Rows.{reading_of}
+use Rattle.array_call_laws.proofs.array_call_specs_FoundLaws.{AreStripesFound}
 use Rattle.array_state.proofs.work.found_rebuilt.Given as goal
 
 -- those of the roles before this one

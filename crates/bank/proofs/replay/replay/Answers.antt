@@ -1,6 +1,6 @@
 use Rattle.std.proofs.Common.{◌∙◌, [], ap, sym, get_or, if◌then◌else◌}
 use Rattle.std.specs.Prelude.{slice_index}
-use Rattle.md_base.specs.Sectors.{Sector}
+use Rattle.raid_types.specs.Sectors.{Sector}
 use Rattle.bank.specs.declared.bank.Operation.{Operation}
 use Rattle.bank.specs.declared.bank.Operation.TheVariants.{Write}
 use Rattle.bank.specs.Memory.{sector_of, lists_of}

@@ -1,5 +1,5 @@
 use Rattle.std.proofs.Common.{◌≡◌, drop, ap, ap₂, ◌∙◌}
-use Rattle.line_words.specs.Numbers.{words_of}
+use Rattle.script_words.specs.Numbers.{words_of}
 use Rattle.script.proofs.PlaceLaws.{found_in, word_len, behind-words}
 use Rattle.script.proofs.diagnosis.behind_word.Goals as goal
 

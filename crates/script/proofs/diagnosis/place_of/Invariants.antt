@@ -1,6 +1,6 @@
 -- The rest of the text, and the words that it has.
 use Rattle.std.proofs.Common.{◌≡◌, ◌-◌, ◌≤◌, length, drop}
-use Rattle.line_words.specs.Numbers.{words_of}
+use Rattle.script_words.specs.Numbers.{words_of}
 use Rattle.script.proofs.diagnosis.place_of.Given as goal
 
 abbrev pub invariant-loop-more : goal.invariant-loop-more

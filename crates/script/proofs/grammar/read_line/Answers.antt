@@ -1,5 +1,5 @@
 use Rattle.std.proofs.Common.{◌≡◌, sym, ap, subst, ◌∙◌, refl, true, false, true≢false, Option, Some, None, Ok, Err}
-use Rattle.line_words.specs.Numbers.{words_of}
+use Rattle.script_words.specs.Numbers.{words_of}
 use Rattle.script.specs.Reading.{read_words}
 use Rattle.script.specs.declared.mistakes.Mistake.{Mistake}
 use Rattle.script.specs.Mistakes.{IsDiagnosis}

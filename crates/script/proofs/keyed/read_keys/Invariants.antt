@@ -1,6 +1,6 @@
 -- What is given so far, with the words that are left.
 use Rattle.std.proofs.Common.{◌≡◌}
-use Rattle.line_words.specs.Numbers.{words_of}
+use Rattle.script_words.specs.Numbers.{words_of}
 use Rattle.script.specs.Reading.{read_keys, nothing_given}
 use Rattle.script.proofs.keyed.read_keys.Given as goal
 

@@ -2,7 +2,7 @@ use Rattle.std.proofs.Common.{◌≡◌, ℕ, ◌+◌, ◌<◌, ◌≤◌, ltb, 
 use Rattle.std.specs.List.{count_by, slice_split}
 use Rattle.std.proofs.lemmas.List.Sums.{length-filter, count_by-le-length}
 use Rattle.std.proofs.lemmas.List.Splits.{length-slice_split}
-use Rattle.line_words.specs.Numbers.{is_space, words_of}
+use Rattle.script_words.specs.Numbers.{is_space, words_of}
 use Rattle.script.proofs.reader.count_words.Goals as goal
 
 -- no more words than bytes, and one

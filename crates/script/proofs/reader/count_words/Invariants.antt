@@ -1,6 +1,6 @@
 -- Those counted and those left are all.
 use Rattle.std.proofs.Common.{◌≡◌, ◌+◌, length}
-use Rattle.line_words.specs.Numbers.{words_of}
+use Rattle.script_words.specs.Numbers.{words_of}
 use Rattle.script.proofs.reader.count_words.Given as goal
 
 abbrev pub invariant-loop-words : goal.invariant-loop-words

@@ -1,6 +1,6 @@
 use Rattle.std.proofs.Common.{◌≡◌, ◌≤◌, take, length, replicate, ◌∙◌, arith}
 use Rattle.std.specs.Str.{bytes_eq}
-use Rattle.flat_history.specs.md_base_Bytes.{little}
+use Rattle.history.specs.raid_types_Bytes.{little}
 use Rattle.script.proofs.KindLaws.{kind-zero, kind-seed, kind-hex, little-four}
 use Rattle.script.proofs.reply.look_at.Goals as goal
 

@@ -1,5 +1,5 @@
 use Rattle.std.proofs.Common.{◌≡◌, Option, Some, None, MatchOption, option_map, sym, ap, ◌∙◌, subst}
-use Rattle.md_base.specs.Sectors.{sectors_of}
+use Rattle.raid_types.specs.Sectors.{sectors_of}
 use Rattle.stripe_cache.specs.declared.cached.Cached.{Cached}
 use Rattle.stripe_cache.specs.declared.cached.Kept.{Kept}
 use Rattle.stripe_cache.specs.declared.cached.Kept.TheVariants.{Here, Evicted}

@@ -1,6 +1,6 @@
 use Rattle.std.proofs.Common.{◌≡◌, ℕ, List, is_some, None, MatchOption, sym, ap, ◌∙◌, subst}
-use Rattle.md_base.specs.Sectors.{sectors_of}
-use Rattle.md_base.specs.declared.places.Side.{Side}
+use Rattle.raid_types.specs.Sectors.{sectors_of}
+use Rattle.raid_types.specs.declared.places.Side.{Side}
 use Rattle.stripe_cache.specs.HeldRow.{HeldRow}
 use Rattle.stripe_cache.specs.Rows.{Rows, held_row, used}
 use Rattle.stripe_cache.specs.View.{rows_of}

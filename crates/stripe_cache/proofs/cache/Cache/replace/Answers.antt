@@ -1,7 +1,7 @@
 use Rattle.std.proofs.Common.{◌≡◌, Bool, true, false, if◌then◌else◌, is_some, sym, ap, ◌∙◌}
 use Rattle.std.specs.Map.{set_value}
 use Rattle.lru.specs.LruCache.{lru_cache, promoted}
-use Rattle.md_base.specs.Sectors.{sectors_of}
+use Rattle.raid_types.specs.Sectors.{sectors_of}
 use Rattle.stripe_cache.specs.Rows.{Rows}
 use Rattle.stripe_cache.specs.View.{rows_of}
 use Rattle.stripe_cache.proofs.Views.{same_key, found_in, none_in, found_length, replaced_in}

@@ -1,0 +1,12 @@
+pub use Rattle.array_call_specs.specs.Adopting as array_call_specs_Adopting
+pub use Rattle.array_call_specs.specs.Calls as array_call_specs_Calls
+pub use Rattle.array_call_specs.specs.history_append_Losing
+pub use Rattle.array_call_specs.specs.raid_types_the_BusyKind_TheVariants
+pub use Rattle.array_call_specs.specs.raid_types_the_Fault
+pub use Rattle.array_call_specs.specs.raid_types_the_Fault_TheVariants
+pub use Rattle.array_call_specs.specs.raid_types_the_Phase
+pub use Rattle.array_call_specs.specs.raid_types_the_Phase_TheVariants
+pub use Rattle.array_call_specs.specs.raid_types_the_Place
+pub use Rattle.array_call_specs.specs.raid_types_the_Refusal_TheVariants
+pub use Rattle.array_call_specs.specs.raid_types_the_Status
+pub use Rattle.array_call_specs.specs.raid_types_the_Who

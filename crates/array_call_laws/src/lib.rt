@@ -1,0 +1,8 @@
+//! What each call of an array keeps: laws over what the array keeps.
+#![tactic(auto)]
+
+pub use array_call_specs::{
+    BusyKind, Entries, Epoch, Event, Fault, LostCause, NoMemory, Refusal, Role, RoleList, Sectors,
+    Shape, SlotList, Span, Status, Who, check_number, enter, enter_behind, enter_failure,
+    enter_lost,
+};

@@ -1,0 +1,22 @@
+pub mod LookedAt
+pub mod Judged
+pub mod SafeLaws
+pub mod OpenedHeld
+pub mod EntryLaws
+pub mod CreateLaws
+pub mod FillLaws
+pub mod MadeLaws
+pub mod FirstLaws
+pub mod NewLaws
+pub mod NewZeros
+pub mod StillFit
+pub mod FoundRows
+pub mod Adopting
+pub mod RunningLaws
+pub mod NewSound
+pub use Rattle.array_found_laws.proofs.raid_types_Tabulated
+pub use Rattle.array_found_laws.proofs.array_members_Fit
+pub use Rattle.array_found_laws.proofs.array_members_Flushed
+pub use Rattle.array_found_laws.proofs.array_members_Still
+pub use Rattle.bank.proofs.Causes as bank_Causes
+pub use Rattle.sb_add_spare.proofs.sb_specs_SlotSets

@@ -1,0 +1,52 @@
+pub mod Opening
+pub mod Looking
+pub mod Safe
+pub mod Making
+pub mod Creating
+pub mod Filling
+pub mod Made
+pub mod NewList
+pub mod Running
+pub use Rattle.array_found_laws.specs.history_Epochs
+pub use Rattle.array_found_laws.specs.history_Flat
+pub use Rattle.array_found_laws.specs.history_Growing
+pub use Rattle.array_found_laws.specs.history_Left
+pub use Rattle.array_found_laws.specs.history_Plain
+pub use Rattle.array_found_laws.specs.history_Reshaped
+pub use Rattle.array_found_laws.specs.history_Sound
+pub use Rattle.array_found_laws.specs.history_Stands
+pub use Rattle.array_found_laws.specs.history_World
+pub use Rattle.array_found_laws.specs.history_the_Entry
+pub use Rattle.array_found_laws.specs.history_the_Event
+pub use Rattle.array_found_laws.specs.history_the_Event_TheVariants
+pub use Rattle.array_found_laws.specs.history_the_LostCause
+pub use Rattle.array_found_laws.specs.raid_types_Search
+pub use Rattle.array_found_laws.specs.raid_types_Shapes
+pub use Rattle.array_found_laws.specs.raid_types_the_Fault
+pub use Rattle.array_found_laws.specs.raid_types_the_Fault_TheVariants
+pub use Rattle.array_found_laws.specs.raid_types_the_Refusal
+pub use Rattle.array_found_laws.specs.raid_types_the_Refusal_TheVariants
+pub use Rattle.array_found_laws.specs.raid_types_the_Role
+pub use Rattle.array_found_laws.specs.raid_types_the_Role_TheVariants
+pub use Rattle.array_found_laws.specs.raid_types_the_ShapeField
+pub use Rattle.array_found_laws.specs.raid_types_the_Who
+pub use Rattle.array_found_laws.specs.sb_specs_Found
+pub use Rattle.array_found_laws.specs.sb_specs_Writing
+pub use Rattle.array_found_laws.specs.array_members_Flushing
+pub use Rattle.array_found_laws.specs.array_members_Numbers
+pub use Rattle.array_found_laws.specs.array_members_Placed
+pub use Rattle.array_found_laws.specs.array_members_Rebuilding
+pub use Rattle.array_found_laws.specs.array_members_Status
+pub use Rattle.array_found_laws.specs.array_members_the_Work
+pub use Rattle.bank.specs.Given as bank_Given
+pub use Rattle.bank.specs.Tape as bank_Tape
+pub use Rattle.bank.specs.Whole as bank_Whole
+pub use Rattle.bank.specs.declared.bank.Operation as bank_the_Operation
+pub use Rattle.sb_election.specs.sb_codec_Superblock
+pub use Rattle.sb_election.specs.sb_specs_Election
+pub use Rattle.sb_election.specs.sb_specs_Outcome
+pub use Rattle.sb_election.specs.sb_specs_Reading
+pub use Rattle.sb_election.specs.sb_specs_Reads
+pub use Rattle.sb_election.specs.sb_specs_Update
+pub use Rattle.sb_election.specs.sb_specs_the_Members
+pub use Rattle.sb_add_spare.specs.array_members_Parts

@@ -1,0 +1,276 @@
+use Rattle.std.proofs.Common.{◌≡◌, ◌++◌, ◌∷◌, [], List, refl, sym, ◌∙◌, ap, subst, arith}
+use Rattle.array_state.specs.raid_types_the_Refusal_TheVariants.{NoSuchRole}
+use Rattle.sb_election.specs.sb_specs_Reading.{list_length, is_clean, role_count}
+use Rattle.sb_election.proofs.sb_specs_ValidFields.{few-roles}
+use Rattle.array_parts.specs.history_the_Entry.{Entry}
+use Rattle.array_parts.specs.history_the_Event_TheVariants.{Refused, Lost, Failed}
+use Rattle.array_parts.specs.history_the_LostCause_TheVariants.{Command}
+use Rattle.array_parts.specs.history_Flat.{next_number}
+use Rattle.array_parts.specs.history_Plain.{entries_of}
+use Rattle.array_parts.proofs.array_members_Fit.{roles-still, count-alike}
+use Rattle.array_parts.proofs.array_members_HeldRows.{vacant-moved}
+use Rattle.array_parts.proofs.array_members_LiveLeft.{holder-left}
+use Rattle.array_parts.proofs.array_members_MovedLaws.{grows-none, moved-same}
+use Rattle.array_state.specs.history_append_Losing.{losses_of}
+use Rattle.array_fixed_laws.specs.array_call_specs_Kept.{scope_in}
+use Rattle.array_fixed_laws.proofs.array_call_specs_ReadyLaws.{scope-same}
+use Rattle.array_fixed_laws.proofs.array_call_specs_ReplyLaws.{fail_reply, no_role_reply}
+use Rattle.array_fixed_laws.proofs.array_call_specs_LossLaws.{losses-failed, ended-behind}
+use Rattle.array_fixed_laws.proofs.array_call_laws_FailedLaws.{placed-out, unlost-out, moved-out, out-vacant, clean-out, rise-out, named-out, out-only, out-spares}
+use Rattle.array_fixed_laws.proofs.history_invariant_Records.{begins-going}
+use Rattle.array_fixed_laws.proofs.array_fixed_invariant_Failing.{IsTakenOut, failed-stands}
+use Rattle.array_fixed_laws.specs.array_specs_Parts.{still_left}
+use Rattle.array_fixed_laws.proofs.array_specs_Called.{not_254, called, alone-lossless, risen-told}
+use Rattle.array_fixed_laws.proofs.array_specs_Lengths.{alone-keeps, behind-keeps}
+use Rattle.array_fixed_laws.proofs.array_specs_TakenOut.{behind-loss, moved-all, since-out, missing-out}
+use Rattle.array_fixed_laws.proofs.Asking.{refused-alone}
+use Rattle.array_fixed_laws.proofs.Kept.{ready, rows-same, rows-moved, roomier}
+use Rattle.array_fixed_laws.proofs.PlainBehind.{here-plain}
+use Rattle.array_fixed_laws.proofs.PlainAdds.{failed-plain}
+use Rattle.sb_election.specs.sb_specs_the_Members.{Members}
+use Rattle.array_fixed_laws.specs.array_call_specs_Calls.{HasRole}
+use Rattle.array_fixed.proofs.Asked.{number-behind, same-known, entries-alike, undone-called}
+use Rattle.array_fixed.proofs.state.Still.fail.Goals as goal
+
+-- ---- what it asks of the functions that it calls
+
+pub slot_of-requires-clause-roles : goal.slot_of-requires-clause-roles
+slot_of-requires-clause-roles g c = let are = c.self.invariant.kept.members_are in roles-still (g.B.Bank.given c.self.inside.bank) c.self.inside.members are.placed are.still
+
+pub overflow_cast-count : goal.overflow_cast-count
+overflow_cast-count g c =
+    let placed = c.self.invariant.kept.members_are.placed in
+    let few = few-roles c.self.inside.members.newest placed.fit.valid in
+    let n = placed.roles in
+    let l = c.len-count.ensures in
+    omega (arith, few, n, l)
+
+pub lose_slot-requires-clause-slot : goal.lose_slot-requires-clause-slot
+lose_slot-requires-clause-slot g c = (c.self.invariant.kept.members_are.placed.holders c.args.role c.in-Some.slot c.in-Some.ensures.held).small
+
+pub lose_slot-requires-clause-few : goal.lose_slot-requires-clause-few
+lose_slot-requires-clause-few g c =
+    let placed = c.self.invariant.kept.members_are.placed in
+    let few = few-roles c.self.inside.members.newest placed.fit.valid in
+    let n = placed.roles in
+    omega (arith, few, n)
+
+pub lose_slot-requires-clause-small : goal.lose_slot-requires-clause-small
+lose_slot-requires-clause-small g c = λ role slot held. (c.self.invariant.kept.members_are.placed.holders role slot held).small
+
+pub vacant_roles-before-requires-clause-few : goal.vacant_roles-before-requires-clause-few
+vacant_roles-before-requires-clause-few g c =
+    let placed = c.self.invariant.kept.members_are.placed in
+    let few = few-roles c.self.inside.members.newest placed.fit.valid in
+    let n = placed.roles in
+    let l = c.len-count.ensures in
+    omega (arith, few, n, l)
+
+pub newly_vacant-roles-requires-clause-few : goal.newly_vacant-roles-requires-clause-few
+newly_vacant-roles-requires-clause-few g c =
+    let placed = c.self.invariant.kept.members_are.placed in
+    let few = few-roles c.self.inside.members.newest placed.fit.valid in
+    let n = placed.roles in
+    let l = c.len-count.ensures in
+    omega (arith, few, n, l)
+
+pub name_missing-spares-requires-clause-placed : goal.name_missing-spares-requires-clause-placed
+name_missing-spares-requires-clause-placed g c =
+    let was = c.self.invariant.kept.members_are in
+    placed-out (g.B.Bank.given c.self.inside.bank) c.self.inside.members c.lose_slot.new.members c.lose_slot.result c.in-Some.slot c.args.role was.placed was.unlost
+    c.lose_slot.ensures.members c.lose_slot.ensures.alone c.in-Some.ensures.held
+
+pub name_missing-spares-requires-clause-unlost : goal.name_missing-spares-requires-clause-unlost
+name_missing-spares-requires-clause-unlost g c =
+    let was = c.self.invariant.kept.members_are in
+    unlost-out (g.B.Bank.given c.self.inside.bank) c.self.inside.members c.lose_slot.new.members c.lose_slot.result c.in-Some.slot c.args.role was.placed was.unlost
+    c.lose_slot.ensures.members c.lose_slot.ensures.alone c.in-Some.ensures.held
+
+pub name_missing-spares-requires-clause-free : goal.name_missing-spares-requires-clause-free
+name_missing-spares-requires-clause-free g c =
+    let was = c.self.invariant.kept.members_are in
+    (moved-out (g.B.Bank.given c.self.inside.bank) c.self.inside.members c.lose_slot.new.members c.lose_slot.result c.in-Some.slot c.args.role was.placed was.unlost
+    c.lose_slot.ensures.members c.lose_slot.ensures.alone c.in-Some.ensures.held).free was.free
+
+-- ---- no slot holds the role
+
+pub invariant_of-self-in_default : goal.invariant_of-self-in_default
+invariant_of-self-in_default g c =
+    let was = c.self.invariant in
+    let a = c.self.inside in
+    let given = g.B.Bank.given a.bank in
+    let number : c.args.who.number ≡ next_number c.args.who.caller a.epoch.entries.items = c.requires.next ∙ ap (λ p. next_number c.args.who.caller p.parts.entries) (sym c.self.view_is) in
+    ready (entries_of c.args.who c.ops-end.result (Refused (NoSuchRole c.args.role) ∷ [])) was (rows-same a.members.newest)
+    (refused-alone c.args.who c.ops-end.result was.kept number c.requires.caller c.ops-end.ensures.count (NoSuchRole c.args.role) (λ t right. tt))
+    (here-plain was c.args.who c.ops-end.result (begins-going a.epoch.entries.items c.args.who number) c.requires.caller c.ops-end.ensures.count (grows-none (λ t. refl)) (NoSuchRole c.args.role) c.in_default.ensures.none)
+    (λ slot. omega arith) (alone-keeps c.args.who c.ops-end.result (Refused (NoSuchRole c.args.role)) (λ n. refl) (λ limit. refl))
+    refl (scope-same given a.backup refl c.enter.ensures.uuid c.enter.ensures.given) c.enter.ensures.first c.make_room.ensures.items c.enter.ensures.items
+    (omega (arith, c.enter.ensures.room, c.in-Ok.ensures.ok))
+
+pub returns-in_default-clause-answered : goal.returns-in_default-clause-answered
+returns-in_default-clause-answered g c =
+    no_role_reply (list_length c.args.self.now.parts.members.newest) c.args.who c.args.self.now.parts.entries c.enter.new.epoch.entries.items c.ops-end.result c.args.role
+    (c.enter.ensures.items ∙ ap (λ (l : List Entry). l ++ entries_of c.args.who c.ops-end.result (Refused (NoSuchRole c.args.role) ∷ [])) (c.make_room.ensures.items ∙ ap (λ p. p.parts.entries) c.self.view_is))
+    c.requires.next
+
+pub returns-in_default-clause-called : goal.returns-in_default-clause-called
+returns-in_default-clause-called g c =
+    let was = c.self.invariant in
+    let a = c.self.inside in
+    let given = g.B.Bank.given a.bank in
+    let faults = g.B.Bank.faults_of a.bank in
+    let end = c.ops-end.result in
+    rw (← c.self.view_is) (called (grows-none (λ t. refl)) (moved-same given given a.members a.members refl refl was.kept.members_are.placed was.kept.members_are.unlost)
+    (ended-behind (g.B.Bank.tape a.bank) c.enter.new.epoch.first c.make_room.new.self.items c.args.who end [] (Refused (NoSuchRole c.args.role)) c.enter.ensures.items c.ops-end.ensures.count)
+    (alone-lossless a.members faults faults a.epoch.entries.items c.make_room.new.self.items c.enter.new.epoch.entries.items c.args.who end (Refused (NoSuchRole c.args.role)) tt c.make_room.ensures.items c.enter.ensures.items)
+    (λ slot. omega arith)
+    (record { uuid = c.enter.ensures.uuid; given = c.enter.ensures.given; first = c.enter.ensures.first; backup = refl; work = refl; ahead = refl; limit = refl })
+    (λ t. (was.kept.recorded t).begun))
+
+-- ---- a slot is taken out
+
+pub invariant_of-self-2 : goal.invariant_of-self-2
+invariant_of-self-2 g c =
+    let was = c.self.invariant in
+    let here = was.kept.members_are in
+    let a = c.self.inside in
+    let given = g.B.Bank.given a.bank in
+    let tape = g.B.Bank.tape a.bank in
+    let tape' = g.B.Bank.tape c.name_missing-spares.new.bank in
+    let number : c.args.who.number ≡ next_number c.args.who.caller a.epoch.entries.items = c.requires.next ∙ ap (λ p. next_number c.args.who.caller p.parts.entries) (sym c.self.view_is) in
+    let role = c.args.role in
+    let mid = c.lose_slot.new.members in
+    let m = c.name_missing-spares.new.members in
+    let did = c.name_missing-spares.ensures in
+    let roles = c.newly_vacant-roles.result in
+    let spares = c.name_missing-spares.result in
+    let end = c.ops-end-2.result in
+    let scope = scope_in given a.epoch.uuid a.epoch.given a.backup in
+    let lost = c.lose_slot.result in
+    let is = c.lose_slot.ensures.members in
+    let moved = moved-all given a.members mid m lost c.in-Some.slot role here.placed here.unlost is c.lose_slot.ensures.alone c.in-Some.ensures.held did.moved in
+    let out : IsTakenOut g.B.Bank.tells given tape tape' a.members m role roles =
+    record {
+      moved = moved;
+      since = missing-out given a.members mid m lost c.in-Some.slot role here.placed here.unlost is c.lose_slot.ensures.alone c.in-Some.ensures.held did.moved
+          c.len-count.result c.vacant_roles-before.result roles spares (g.B.Bank.faults_of a.bank) (g.B.Bank.faults_of c.name_missing-spares.new.bank) did.failed (c.len-count.ensures ∙ here.placed.roles)
+          c.vacant_roles-before.ensures c.newly_vacant-roles.ensures;
+      grows = did.grows;
+      clean = did.clean ∙ clean-out a.members mid lost is;
+      rise = risen-told (rise-out a.members mid lost is m tape tape' did.rise);
+      others = did.others;
+      safe = named-out a.members mid lost is given m tape tape' did.safe;
+    } in
+    let items = behind-loss c.make_room.new.self.items c.enter-2.new.epoch.entries.items c.enter_behind.new.epoch.entries.items c.args.who end (Lost role Command) (losses_of roles spares ++ Failed role ∷ []) c.enter-2.ensures.items c.enter_behind.ensures.items in
+    let quiet = behind-keeps c.args.who end roles spares (Failed role ∷ []) (alone-keeps c.args.who end (Failed role) (λ n. refl) (λ limit. refl)) in
+    ready (entries_of c.args.who end ((Lost role Command ∷ losses_of roles spares) ++ Failed role ∷ [])) was (rows-moved given a.members m moved)
+    (failed-stands g.B.Bank.tells given tape tape' scope a.epoch.first a.epoch.entries.items a.members m a.work (still_left a.work a.members a.ahead) (still_left a.work m a.ahead) c.args.who end role roles spares
+    was.kept (holder-left given a.members role c.in-Some.slot here.placed here.unlost c.in-Some.ensures.held) (begins-going a.epoch.entries.items c.args.who number) (not_254 c.args.who.caller c.requires.caller) c.ops-end-2.ensures.count out)
+    (failed-plain was c.args.who end (begins-going a.epoch.entries.items c.args.who number) c.requires.caller c.ops-end-2.ensures.count did.grows moved role
+    (out-only given a.members mid lost c.in-Some.slot role here.placed here.unlost is c.lose_slot.ensures.alone c.in-Some.ensures.held)
+    (since-out given a.members mid m lost c.in-Some.slot role here.placed here.unlost is c.lose_slot.ensures.alone c.in-Some.ensures.held did.moved
+    c.len-count.result c.vacant_roles-before.result roles spares (g.B.Bank.faults_of a.bank) (g.B.Bank.faults_of c.name_missing-spares.new.bank) did.failed (c.len-count.ensures ∙ here.placed.roles)
+    c.vacant_roles-before.ensures c.newly_vacant-roles.ensures)
+    (vacant-moved did.moved role (out-vacant given a.members mid lost c.in-Some.slot role here.placed here.unlost is c.lose_slot.ensures.alone c.in-Some.ensures.held))
+    (out-spares given a.members mid lost c.in-Some.slot role here.placed here.unlost is c.lose_slot.ensures.alone c.in-Some.ensures.held))
+    did.counts (record { long = λ n. quiet.long n; free = quiet.free })
+    did.given (scope-same given a.backup did.given (c.enter_behind.ensures.uuid ∙ c.enter-2.ensures.uuid) (c.enter_behind.ensures.given ∙ c.enter-2.ensures.given)) (c.enter_behind.ensures.first ∙ c.enter-2.ensures.first)
+    c.make_room.ensures.items items (omega (arith, c.enter_behind.ensures.room, c.enter-2.ensures.room, c.in-Ok.ensures.ok))
+
+pub returns-clause-answered : goal.returns-clause-answered
+returns-clause-answered g c =
+    let role = c.args.role in
+    let roles = c.newly_vacant-roles.result in
+    let spares = c.name_missing-spares.result in
+    let end = c.ops-end-2.result in
+    let items = behind-loss c.make_room.new.self.items c.enter-2.new.epoch.entries.items c.enter_behind.new.epoch.entries.items c.args.who end (Lost role Command) (losses_of roles spares ++ Failed role ∷ []) c.enter-2.ensures.items c.enter_behind.ensures.items in
+    fail_reply (list_length c.args.self.now.parts.members.newest) c.args.who c.args.self.now.parts.entries c.enter_behind.new.epoch.entries.items end role roles spares
+    (items ∙ ap (λ (l : List Entry). l ++ entries_of c.args.who end ((Lost role Command ∷ losses_of roles spares) ++ Failed role ∷ [])) (c.make_room.ensures.items ∙ ap (λ p. p.parts.entries) c.self.view_is))
+    c.requires.next
+
+pub returns-clause-called : goal.returns-clause-called
+returns-clause-called g c =
+    let was = c.self.invariant in
+    let here = was.kept.members_are in
+    let a = c.self.inside in
+    let given = g.B.Bank.given a.bank in
+    let role = c.args.role in
+    let mid = c.lose_slot.new.members in
+    let m = c.name_missing-spares.new.members in
+    let did = c.name_missing-spares.ensures in
+    let before = g.B.Bank.faults_of a.bank in
+    let after = g.B.Bank.faults_of c.name_missing-spares.new.bank in
+    let roles = c.newly_vacant-roles.result in
+    let spares = c.name_missing-spares.result in
+    let end = c.ops-end-2.result in
+    let moved = moved-all given a.members mid m c.lose_slot.result c.in-Some.slot role here.placed here.unlost c.lose_slot.ensures.members c.lose_slot.ensures.alone c.in-Some.ensures.held did.moved in
+    let since = since-out given a.members mid m c.lose_slot.result c.in-Some.slot role here.placed here.unlost c.lose_slot.ensures.members c.lose_slot.ensures.alone c.in-Some.ensures.held did.moved
+    c.len-count.result c.vacant_roles-before.result roles spares before after did.failed (c.len-count.ensures ∙ here.placed.roles) c.vacant_roles-before.ensures c.newly_vacant-roles.ensures in
+    let first = moved-out given a.members mid c.lose_slot.result c.in-Some.slot role here.placed here.unlost c.lose_slot.ensures.members c.lose_slot.ensures.alone c.in-Some.ensures.held in
+    let items = behind-loss c.make_room.new.self.items c.enter-2.new.epoch.entries.items c.enter_behind.new.epoch.entries.items c.args.who end (Lost role Command) (losses_of roles spares ++ Failed role ∷ []) c.enter-2.ensures.items c.enter_behind.ensures.items in
+    rw (← c.self.view_is) (called did.grows moved
+    (ended-behind (g.B.Bank.tape c.name_missing-spares.new.bank) c.enter_behind.new.epoch.first c.make_room.new.self.items c.args.who end (Lost role Command ∷ losses_of roles spares) (Failed role) items c.ops-end-2.ensures.count)
+    (losses-failed a.members mid m before after a.epoch.entries.items c.make_room.new.self.items c.enter_behind.new.epoch.entries.items c.args.who end role c.in-Some.slot roles spares first.held first.fewer since c.in-Some.ensures.held c.make_room.ensures.items items)
+    did.counts
+    (record { uuid = c.enter_behind.ensures.uuid ∙ c.enter-2.ensures.uuid; given = c.enter_behind.ensures.given ∙ c.enter-2.ensures.given; first = c.enter_behind.ensures.first ∙ c.enter-2.ensures.first; backup = refl; work = refl; ahead = refl; limit = refl })
+    (λ t. (was.kept.recorded t).begun))
+
+pub returns-clause-others : goal.returns-clause-others
+returns-clause-others g c = rw (← c.self.view_is) c.name_missing-spares.ensures.others
+
+pub returns-clause-caused : goal.returns-clause-caused
+returns-clause-caused g c =
+    let here = c.self.invariant.kept.members_are in
+    let a = c.self.inside in
+    let gone = out-vacant (g.B.Bank.given a.bank) a.members c.lose_slot.new.members c.lose_slot.result c.in-Some.slot c.args.role here.placed here.unlost c.lose_slot.ensures.members c.lose_slot.ensures.alone c.in-Some.ensures.held in
+    rw (← c.self.view_is) (c.in-Some.ensures.some, vacant-moved c.name_missing-spares.ensures.moved c.args.role gone)
+
+-- ---- what else the calls ask
+
+pub check_number-requires : goal.check_number-requires
+check_number-requires g c = c.requires.next ∙ ap (λ p. next_number c.args.who.caller p.parts.entries) (sym c.self.view_is) ∙ ap (λ (l : List Entry). next_number c.args.who.caller l) (sym c.make_room.ensures.items)
+
+pub vacant_roles-before-requires-clause-known : goal.vacant_roles-before-requires-clause-known
+vacant_roles-before-requires-clause-known g c =
+    let here = c.self.invariant.kept.members_are in
+    let out = placed-out (g.B.Bank.given c.self.inside.bank) c.self.inside.members c.lose_slot.new.members c.lose_slot.result c.in-Some.slot c.args.role here.placed here.unlost c.lose_slot.ensures.members c.lose_slot.ensures.alone c.in-Some.ensures.held in
+    same-known c.len-count.ensures here.placed.roles (out.roles ∙ ap (λ (m : Members). role_count m.newest) c.lose_slot.ensures.members)
+
+pub newly_vacant-roles-requires-clause-known : goal.newly_vacant-roles-requires-clause-known
+newly_vacant-roles-requires-clause-known g c =
+    let here = c.self.invariant.kept.members_are in
+    let moved = moved-all (g.B.Bank.given c.self.inside.bank) c.self.inside.members c.lose_slot.new.members c.name_missing-spares.new.members c.lose_slot.result c.in-Some.slot c.args.role here.placed here.unlost c.lose_slot.ensures.members c.lose_slot.ensures.alone c.in-Some.ensures.held c.name_missing-spares.ensures.moved in
+    same-known c.len-count.ensures here.placed.roles (moved.placed.roles ∙ count-alike c.self.inside.members.newest c.name_missing-spares.new.members.newest moved.reshape moved.shape moved.size)
+
+pub enter_behind-requires-clause-number : goal.enter_behind-requires-clause-number
+enter_behind-requires-clause-number g c = number-behind _ _ c.enter-2.ensures.items c.check_number.ensures
+
+-- ---- memory was short
+
+pub invariant_of-self : goal.invariant_of-self
+invariant_of-self g c = roomier c.self.invariant c.make_room.ensures.items c.make_room.ensures.keeps
+
+pub returns-in-Err-clause-answered : goal.returns-in-Err-clause-answered
+returns-in-Err-clause-answered g c = c.make_room.ensures.items ∙ ap (λ p. p.parts.entries) c.self.view_is
+
+pub returns-in-Err-clause-unchanged : goal.returns-in-Err-clause-unchanged
+returns-in-Err-clause-unchanged g c = entries-alike c.make_room.new.self.items c.self.view_is c.make_room.ensures.items
+
+pub returns-in-Err-clause-called : goal.returns-in-Err-clause-called
+returns-in-Err-clause-called g c =
+    let kept = c.self.invariant.kept in
+    rw (← c.self.view_is) (undone-called kept.members_are.placed kept.members_are.unlost (λ t. (kept.recorded t).ended) (λ t. (kept.recorded t).begun) (entries-alike c.make_room.new.self.items refl c.make_room.ensures.items))
+
+pub returns-in-Err-clause-caused : goal.returns-in-Err-clause-caused
+returns-in-Err-clause-caused g c = ap (λ p. p.parts.members) c.self.view_is
+
+-- ---- what is as it was
+
+pub returns-in_default-clause-caused : goal.returns-in_default-clause-caused
+returns-in_default-clause-caused g c = (refl, ap (λ p. p.parts.members) c.self.view_is, subst (λ p. HasRole p.parts.members c.args.role → ⊥) c.self.view_is c.in_default.ensures.none)
+
+pub returns-clause-clean : goal.returns-clause-clean
+returns-clause-clean g c = c.name_missing-spares.ensures.clean ∙ clean-out c.self.inside.members c.lose_slot.new.members c.lose_slot.result c.lose_slot.ensures.members ∙ ap (λ p. is_clean p.parts.members.newest) c.self.view_is
+
+pub returns-clause-given : goal.returns-clause-given
+returns-clause-given g c = c.name_missing-spares.ensures.given ∙ ap (λ p. g.B.Bank.given p.parts.bank) c.self.view_is

@@ -1,0 +1,389 @@
+use Rattle.std.proofs.Common.{◌≡◌, [], ◌∷◌, ◌++◌, refl, sym, ◌∙◌, ap, arith, inl, List, subst}
+use Rattle.sb_election.proofs.sb_specs_ValidFields.{few-roles}
+use Rattle.array_parts.specs.history_the_Event_TheVariants.{Refused}
+use Rattle.array_parts.specs.history_Flat.{next_number}
+use Rattle.array_parts.specs.history_Plain.{entries_of}
+use Rattle.array_parts.proofs.array_members_LackingLaws.{lost-since, never-both}
+use Rattle.array_parts.proofs.array_members_LiveLeft.{without-left}
+use Rattle.array_parts.proofs.array_members_MovedLaws.{grows-none, moved-same}
+use Rattle.array_state.specs.history_append_Losing.{losses_of}
+use Rattle.array_fixed_laws.specs.array_call_specs_Kept.{scope_in}
+use Rattle.array_fixed_laws.proofs.array_call_specs_LossLaws.{losses-behind, ended-behind, behind-alone, settling-no-loss}
+use Rattle.array_fixed_laws.proofs.array_call_specs_ReadyLaws.{scope-same}
+use Rattle.array_fixed_laws.proofs.history_invariant_Records.{begins-going}
+use Rattle.array_fixed_laws.proofs.array_fixed_invariant_Flushing.{IsFlushedStill, unflushed-stands}
+use Rattle.array_fixed_laws.specs.array_specs_Parts.{visible_size, still_left}
+use Rattle.array_fixed_laws.proofs.array_specs_Called.{not_254, called, alone-lossless, risen-told, many-of}
+use Rattle.array_fixed_laws.proofs.array_specs_Lengths.{alone-keeps, behind-keeps}
+use Rattle.array_fixed_laws.proofs.Asking.{many-alone}
+use Rattle.array_fixed_laws.proofs.Kept.{ready, rows-same, rows-moved, roomier}
+use Rattle.array_fixed_laws.proofs.Left.{left-alike}
+use Rattle.array_fixed_laws.proofs.Settled.{settled-stands, left-settled, settling-keeps}
+use Rattle.array_fixed_laws.proofs.array_call_specs_DegradedLaws.{too-many-here}
+use Rattle.array_fixed_laws.proofs.PlainBehind.{plain-refused, plain-settled, here-plain}
+use Rattle.std.specs.Prelude.{is_some}
+use Rattle.sb_election.specs.sb_specs_Reading.{list_length}
+use Rattle.array_parts.specs.stripe_row_Rows.{reading_of, present}
+use Rattle.array_parts.specs.history_the_Entry.{Entry}
+use Rattle.array_parts.specs.array_members_Lacking.{AreHoldersFlushed, AreTooMany, HaveRolesFailed}
+use Rattle.array_parts.specs.array_members_Placed.{AreWhole}
+use Rattle.array_fixed_laws.specs.crash_safety_laws_Marking.{AreOthersPresent}
+use Rattle.array_fixed_laws.specs.array_call_specs_Calls.{IsRefusedFor}
+use Rattle.array_fixed_laws.proofs.array_call_specs_ReplyLaws.{refused-for, too-many-of}
+use Rattle.array_fixed_laws.proofs.array_call_laws_SettledLaws.{all-mended}
+use Rattle.array_fixed.proofs.Rested.{count-moved, from-0, le-of, room-1, room-49}
+use Rattle.array_fixed.proofs.Asked.{entries-alike, undone-called}
+use Rattle.array_fixed.proofs.state.Still.settle_entering.Goals as goal
+
+pub overflow_cast-count : goal.overflow_cast-count
+overflow_cast-count g c =
+    let members = c.self.invariant.kept.members_are in
+    let few = few-roles c.self.inside.members.newest members.placed.fit.valid in
+    let roles = members.placed.roles in
+    let long = c.len-count.ensures in
+    omega (arith, few, roles, long)
+
+pub vacant_roles-before-requires-clause-few : goal.vacant_roles-before-requires-clause-few
+vacant_roles-before-requires-clause-few g c =
+    let members = c.self.invariant.kept.members_are in
+    let few = few-roles c.self.inside.members.newest members.placed.fit.valid in
+    let roles = members.placed.roles in
+    let long = c.len-count.ensures in
+    omega (arith, few, roles, long)
+
+pub newly_vacant-roles-requires-clause-few : goal.newly_vacant-roles-requires-clause-few
+newly_vacant-roles-requires-clause-few g c =
+    let members = c.self.invariant.kept.members_are in
+    let few = few-roles c.self.inside.members.newest members.placed.fit.valid in
+    let roles = members.placed.roles in
+    let long = c.len-count.ensures in
+    omega (arith, few, roles, long)
+
+-- ---- too many are missing
+
+pub invariant_of-self-in-Some : goal.invariant_of-self-in-Some
+invariant_of-self-in-Some g c =
+    let was = c.self.invariant in
+    let a = c.self.inside in
+    let given = g.B.Bank.given a.bank in
+    let number : c.args.who.number ≡ next_number c.args.who.caller a.epoch.entries.items = c.requires.next ∙ ap (λ p. next_number c.args.who.caller p.parts.entries) (sym c.self.view_is) in
+    let end = c.ops-end.result in
+    let refusal = c.in-Some.refusal in
+    ready (entries_of c.args.who end (Refused refusal ∷ [])) was (rows-same a.members.newest)
+    (many-alone c.args.who end was.kept number c.requires.caller c.ops-end.ensures.count refusal c.in-Some.ensures)
+    (here-plain was c.args.who end (begins-going a.epoch.entries.items c.args.who number) c.requires.caller c.ops-end.ensures.count (grows-none (λ t. refl)) refusal
+    (too-many-here (visible_size a.members a.limit) a.work.resync a.members refusal c.in-Some.ensures))
+    (λ slot. omega arith) (alone-keeps c.args.who end (Refused refusal) (λ n. refl) (λ limit. refl))
+    refl (scope-same given a.backup refl c.enter.ensures.uuid c.enter.ensures.given) c.enter.ensures.first c.make_room.ensures.items c.enter.ensures.items
+    (omega (arith, c.enter.ensures.room, c.in-Ok.ensures.ok))
+
+pub returns-in-Some-clause-answered : goal.returns-in-Some-clause-answered
+returns-in-Some-clause-answered g c =
+    rw (← c.self.view_is) (behind-alone c.args.who c.ops-end.result (Refused c.in-Some.refusal) c.make_room.ensures.items c.enter.ensures.items)
+
+pub returns-in-Some-clause-called : goal.returns-in-Some-clause-called
+returns-in-Some-clause-called g c =
+    let was = c.self.invariant in
+    let a = c.self.inside in
+    let given = g.B.Bank.given a.bank in
+    let faults = g.B.Bank.faults_of a.bank in
+    let end = c.ops-end.result in
+    let refusal = c.in-Some.refusal in
+    rw (← c.self.view_is) (called (grows-none (λ t. refl)) (moved-same given given a.members a.members refl refl was.kept.members_are.placed was.kept.members_are.unlost)
+    (ended-behind (g.B.Bank.tape a.bank) c.enter.new.epoch.first c.make_room.new.self.items c.args.who end [] (Refused refusal) c.enter.ensures.items c.ops-end.ensures.count)
+    (alone-lossless a.members faults faults a.epoch.entries.items c.make_room.new.self.items c.enter.new.epoch.entries.items c.args.who end (Refused refusal) tt c.make_room.ensures.items c.enter.ensures.items)
+    (λ slot. omega arith)
+    (record { uuid = c.enter.ensures.uuid; given = c.enter.ensures.given; first = c.enter.ensures.first; backup = refl; work = refl; ahead = refl; limit = refl })
+    (λ t. (was.kept.recorded t).begun))
+
+-- ---- it is refused behind what it lost
+
+pub invariant_of-self-in-Some-refusal : goal.invariant_of-self-in-Some-refusal
+invariant_of-self-in-Some-refusal g c =
+    let was = c.self.invariant in
+    let here = was.kept.members_are in
+    let a = c.self.inside in
+    let given = g.B.Bank.given a.bank in
+    let scope = scope_in given a.epoch.uuid a.epoch.given a.backup in
+    let number : c.args.who.number ≡ next_number c.args.who.caller a.epoch.entries.items = c.requires.next ∙ ap (λ p. next_number c.args.who.caller p.parts.entries) (sym c.self.view_is) in
+    let m = c.settle-settled.new.members in
+    let did = c.settle-settled.ensures in
+    let tape = g.B.Bank.tape a.bank in
+    let tape' = g.B.Bank.tape c.settle-settled.new.bank in
+    let before = g.B.Bank.faults_of a.bank in
+    let after = g.B.Bank.faults_of c.settle-settled.new.bank in
+    let roles = c.newly_vacant-roles.result in
+    let spares = c.settle-settled.result.spares in
+    let end = c.ops-end-2.result in
+    let refusal = c.in-Some-refusal.refusal in
+    let left = still_left a.work a.members a.ahead in
+    let left' = still_left a.work m a.ahead in
+    let since = lost-since given a.members m c.len-count.result c.vacant_roles-before.result roles spares before after here.placed did.moved did.failed
+    (c.len-count.ensures ∙ here.placed.roles) c.vacant_roles-before.ensures c.newly_vacant-roles.ensures in
+    let flushed : IsFlushedStill g.B.Bank.tells given tape tape' a.members m roles spares before after c.is_some.result =
+    record { moved = did.moved; since = since; grows = did.grows; rise = risen-told did.rise; others = did.others; safe = did.safe } in
+    ready (entries_of c.args.who end (losses_of roles spares ++ Refused refusal ∷ [])) was (rows-moved given a.members m did.moved)
+    (unflushed-stands g.B.Bank.tells given tape tape' scope a.epoch.first a.epoch.entries.items a.members m a.work left c.args.who end roles spares before after c.is_some.result was.kept
+    (without-left given a.members here.placed here.unlost c.in_default.ensures) (begins-going a.epoch.entries.items c.args.who number) (not_254 c.args.who.caller c.requires.caller) c.ops-end-2.ensures.count
+    (all-mended a.members a.work.resync c.is_some.result c.is_some.ensures) flushed left' refusal (many-of m c.settle-settled.result.refusal refusal c.in-Some-refusal.is did.refused)
+    (left-alike a.work a.ahead roles spares before after did.moved since))
+    (plain-refused was c.args.who end (begins-going a.epoch.entries.items c.args.who number) c.requires.caller c.ops-end-2.ensures.count did.grows did.moved since refusal
+    (too-many-here (visible_size a.members a.limit) a.work.resync m refusal (many-of m c.settle-settled.result.refusal refusal c.in-Some-refusal.is did.refused)))
+    did.counts (behind-keeps c.args.who end roles spares (Refused refusal ∷ []) (alone-keeps c.args.who end (Refused refusal) (λ n. refl) (λ limit. refl)))
+    did.given (scope-same given a.backup did.given c.enter_behind.ensures.uuid c.enter_behind.ensures.given) c.enter_behind.ensures.first c.make_room.ensures.items c.enter_behind.ensures.items
+    (omega (arith, c.enter_behind.ensures.room, c.in-Ok.ensures.ok))
+
+pub returns-in-Some-refusal-clause-called : goal.returns-in-Some-refusal-clause-called
+returns-in-Some-refusal-clause-called g c =
+    let was = c.self.invariant in
+    let here = was.kept.members_are in
+    let a = c.self.inside in
+    let given = g.B.Bank.given a.bank in
+    let m = c.settle-settled.new.members in
+    let did = c.settle-settled.ensures in
+    let before = g.B.Bank.faults_of a.bank in
+    let after = g.B.Bank.faults_of c.settle-settled.new.bank in
+    let roles = c.newly_vacant-roles.result in
+    let spares = c.settle-settled.result.spares in
+    let end = c.ops-end-2.result in
+    let event = Refused c.in-Some-refusal.refusal in
+    let since = lost-since given a.members m c.len-count.result c.vacant_roles-before.result roles spares before after here.placed did.moved did.failed
+    (c.len-count.ensures ∙ here.placed.roles) c.vacant_roles-before.ensures c.newly_vacant-roles.ensures in
+    rw (← c.self.view_is) (called did.grows did.moved
+    (ended-behind (g.B.Bank.tape c.settle-settled.new.bank) c.enter_behind.new.epoch.first c.make_room.new.self.items c.args.who end (losses_of roles spares) event c.enter_behind.ensures.items c.ops-end-2.ensures.count)
+    (losses-behind a.members m before after a.epoch.entries.items c.make_room.new.self.items c.enter_behind.new.epoch.entries.items c.args.who end roles spares event since tt c.make_room.ensures.items c.enter_behind.ensures.items)
+    did.counts
+    (record { uuid = c.enter_behind.ensures.uuid; given = c.enter_behind.ensures.given; first = c.enter_behind.ensures.first; backup = refl; work = refl; ahead = refl; limit = refl })
+    (λ t. (was.kept.recorded t).begun))
+
+-- ---- it is done
+
+pub invariant_of-self-2 : goal.invariant_of-self-2
+invariant_of-self-2 g c =
+    let was = c.self.invariant in
+    let here = was.kept.members_are in
+    let a = c.self.inside in
+    let given = g.B.Bank.given a.bank in
+    let number : c.args.who.number ≡ next_number c.args.who.caller a.epoch.entries.items = c.requires.next ∙ ap (λ p. next_number c.args.who.caller p.parts.entries) (sym c.self.view_is) in
+    let m = c.settle-settled.new.members in
+    let did = c.settle-settled.ensures in
+    let tape = g.B.Bank.tape a.bank in
+    let tape' = g.B.Bank.tape c.settle-settled.new.bank in
+    let before = g.B.Bank.faults_of a.bank in
+    let after = g.B.Bank.faults_of c.settle-settled.new.bank in
+    let roles = c.newly_vacant-roles.result in
+    let spares = c.settle-settled.result.spares in
+    let end = c.ops-end-2.result in
+    let since = lost-since given a.members m c.len-count.result c.vacant_roles-before.result roles spares before after here.placed did.moved did.failed
+    (c.len-count.ensures ∙ here.placed.roles) c.vacant_roles-before.ensures c.newly_vacant-roles.ensures in
+    let flushed : IsFlushedStill g.B.Bank.tells given tape tape' a.members m roles spares before after c.is_some.result =
+    record { moved = did.moved; since = since; grows = did.grows; rise = risen-told did.rise; others = did.others; safe = did.safe } in
+    ready (entries_of c.args.who end (losses_of roles spares ++ c.args.event ∷ [])) was (rows-moved given a.members m did.moved)
+    (settled-stands (still_left a.work m a.ahead) c.args.who end c.args.event c.requires.event was.kept (without-left given a.members here.placed here.unlost c.in_default.ensures)
+    (begins-going a.epoch.entries.items c.args.who number) (not_254 c.args.who.caller c.requires.caller) c.ops-end-2.ensures.count c.is_some.ensures flushed
+    (record { clean = did.clean c.in_default-refusal.is; stays = did.stays; settled = did.settled c.in_default-refusal.is })
+    (left-alike a.work a.ahead roles spares before after did.moved since))
+    (plain-settled was c.args.who end (begins-going a.epoch.entries.items c.args.who number) c.requires.caller c.ops-end-2.ensures.count did.grows did.moved since c.args.event c.requires.event)
+    did.counts (behind-keeps c.args.who end roles spares (c.args.event ∷ []) (settling-keeps c.args.who end c.args.event c.requires.event))
+    did.given (scope-same given a.backup did.given c.enter_behind-2.ensures.uuid c.enter_behind-2.ensures.given) c.enter_behind-2.ensures.first c.make_room.ensures.items c.enter_behind-2.ensures.items
+    (omega (arith, c.enter_behind-2.ensures.room, c.in-Ok.ensures.ok))
+
+pub returns-clause-called : goal.returns-clause-called
+returns-clause-called g c =
+    let was = c.self.invariant in
+    let here = was.kept.members_are in
+    let a = c.self.inside in
+    let given = g.B.Bank.given a.bank in
+    let m = c.settle-settled.new.members in
+    let did = c.settle-settled.ensures in
+    let before = g.B.Bank.faults_of a.bank in
+    let after = g.B.Bank.faults_of c.settle-settled.new.bank in
+    let roles = c.newly_vacant-roles.result in
+    let spares = c.settle-settled.result.spares in
+    let end = c.ops-end-2.result in
+    let since = lost-since given a.members m c.len-count.result c.vacant_roles-before.result roles spares before after here.placed did.moved did.failed
+    (c.len-count.ensures ∙ here.placed.roles) c.vacant_roles-before.ensures c.newly_vacant-roles.ensures in
+    rw (← c.self.view_is) (called did.grows did.moved
+    (ended-behind (g.B.Bank.tape c.settle-settled.new.bank) c.enter_behind-2.new.epoch.first c.make_room.new.self.items c.args.who end (losses_of roles spares) c.args.event c.enter_behind-2.ensures.items c.ops-end-2.ensures.count)
+    (losses-behind a.members m before after a.epoch.entries.items c.make_room.new.self.items c.enter_behind-2.new.epoch.entries.items c.args.who end roles spares c.args.event since
+    (settling-no-loss a.members before after c.args.event c.requires.event) c.make_room.ensures.items c.enter_behind-2.ensures.items)
+    did.counts
+    (record { uuid = c.enter_behind-2.ensures.uuid; given = c.enter_behind-2.ensures.given; first = c.enter_behind-2.ensures.first; backup = refl; work = refl; ahead = refl; limit = refl })
+    (λ t. (was.kept.recorded t).begun))
+
+pub returns-clause-left : goal.returns-clause-left
+returns-clause-left g c =
+    let here = c.self.invariant.kept.members_are in
+    let a = c.self.inside in
+    let given = g.B.Bank.given a.bank in
+    let m = c.settle-settled.new.members in
+    let did = c.settle-settled.ensures in
+    let before = g.B.Bank.faults_of a.bank in
+    let after = g.B.Bank.faults_of c.settle-settled.new.bank in
+    let roles = c.newly_vacant-roles.result in
+    let spares = c.settle-settled.result.spares in
+    let since = lost-since given a.members m c.len-count.result c.vacant_roles-before.result roles spares before after here.placed did.moved did.failed
+    (c.len-count.ensures ∙ here.placed.roles) c.vacant_roles-before.ensures c.newly_vacant-roles.ensures in
+    rw (← c.self.view_is) (λ t. left-settled given a.members m a.epoch.entries.items c.make_room.new.self.items c.enter_behind-2.new.epoch.entries.items c.args.who c.ops-end-2.result roles spares c.args.event before after
+    (g.B.Bank.tape c.settle-settled.new.bank) here.placed did.moved (few-roles m.newest did.moved.placed.fit.valid) since c.make_room.ensures.items c.enter_behind-2.ensures.items (did.flushed t))
+
+pub returns-clause-caused : goal.returns-clause-caused
+returns-clause-caused g c = rw (← c.self.view_is) (omega arith, λ refusal many. never-both c.self.inside.members refusal c.in_default.ensures many)
+
+-- ---- what is handed down, and what is left of it
+
+pub invariant_of-self : goal.invariant_of-self
+invariant_of-self g c = roomier c.self.invariant c.make_room.ensures.items c.make_room.ensures.keeps
+
+pub returns-in-Err-clause-answered : goal.returns-in-Err-clause-answered
+returns-in-Err-clause-answered g c = c.make_room.ensures.items ∙ ap (λ p. p.parts.entries) c.self.view_is
+
+pub returns-in-Err-clause-unchanged : goal.returns-in-Err-clause-unchanged
+returns-in-Err-clause-unchanged g c = entries-alike c.make_room.new.self.items c.self.view_is c.make_room.ensures.items
+
+pub returns-in-Err-clause-called : goal.returns-in-Err-clause-called
+returns-in-Err-clause-called g c =
+    let kept = c.self.invariant.kept in
+    rw (← c.self.view_is) (undone-called kept.members_are.placed kept.members_are.unlost (λ t. (kept.recorded t).ended) (λ t. (kept.recorded t).begun) (entries-alike c.make_room.new.self.items refl c.make_room.ensures.items))
+
+pub returns-in-Err-clause-whole : goal.returns-in-Err-clause-whole
+returns-in-Err-clause-whole g c = subst (λ p. AreWhole c.self.inside.members → AreWhole p.parts.members) c.self.view_is (λ whole. whole)
+
+pub returns-in-Err-clause-caused : goal.returns-in-Err-clause-caused
+returns-in-Err-clause-caused g c = ap (λ p. p.parts.members) c.self.view_is
+
+pub returns-in-Err-clause-failed : goal.returns-in-Err-clause-failed
+returns-in-Err-clause-failed g c =
+    let a = c.self.inside in
+    subst (λ p. HaveRolesFailed p.parts.members a.members (g.B.Bank.faults_of p.parts.bank) (g.B.Bank.faults_of a.bank)) c.self.view_is (λ role slot held. inl held)
+
+pub returns-in-Err-clause-given : goal.returns-in-Err-clause-given
+returns-in-Err-clause-given g c = ap (λ p. g.B.Bank.given p.parts.bank) c.self.view_is
+
+pub check_number-requires : goal.check_number-requires
+check_number-requires g c =
+    c.requires.next ∙ ap (λ p. next_number c.args.who.caller p.parts.entries) (sym c.self.view_is) ∙ ap (λ (l : List Entry). next_number c.args.who.caller l) (sym c.make_room.ensures.items)
+
+pub enter-requires-clause-room : goal.enter-requires-clause-room
+enter-requires-clause-room g c = room-1 c.make_room.new.self.room c.in-Ok.ensures.ok
+
+pub enter-requires-clause-number : goal.enter-requires-clause-number
+enter-requires-clause-number g c = c.check_number.ensures
+
+pub returns-in-Some-clause-whole : goal.returns-in-Some-clause-whole
+returns-in-Some-clause-whole g c = subst (λ p. AreWhole c.self.inside.members → AreWhole p.parts.members) c.self.view_is (λ whole. whole)
+
+pub returns-in-Some-clause-others : goal.returns-in-Some-clause-others
+returns-in-Some-clause-others g c =
+    let a = c.self.inside in
+    subst (λ p. g.B.Bank.tells → AreOthersPresent (present (g.B.Bank.given p.parts.bank) (g.B.Bank.tape p.parts.bank)) (present (g.B.Bank.given p.parts.bank) (g.B.Bank.tape a.bank))) c.self.view_is (λ t s k apart. refl)
+
+pub returns-in-Some-clause-caused : goal.returns-in-Some-clause-caused
+returns-in-Some-clause-caused g c =
+    let m = c.self.inside.members in
+    let refusal = c.in-Some.refusal in
+    subst (λ p. IsRefusedFor (list_length p.parts.members.newest) 0 AreTooMany p.parts.members m refusal) c.self.view_is
+    (refused-for (list_length m.newest) 0 AreTooMany m m refusal (too-many-of m refusal c.in-Some.ensures) (from-0 (list_length m.newest)) c.in-Some.ensures)
+
+pub returns-in-Some-clause-failed : goal.returns-in-Some-clause-failed
+returns-in-Some-clause-failed g c =
+    let a = c.self.inside in
+    subst (λ p. HaveRolesFailed p.parts.members a.members (g.B.Bank.faults_of p.parts.bank) (g.B.Bank.faults_of a.bank)) c.self.view_is (λ role slot held. inl held)
+
+pub returns-in-Some-clause-given : goal.returns-in-Some-clause-given
+returns-in-Some-clause-given g c = ap (λ p. g.B.Bank.given p.parts.bank) c.self.view_is
+
+pub vacant_roles-before-requires-clause-known : goal.vacant_roles-before-requires-clause-known
+vacant_roles-before-requires-clause-known g c = le-of c.len-count.ensures
+
+pub settle-settled-requires-clause-slots : goal.settle-settled-requires-clause-slots
+settle-settled-requires-clause-slots g c = c.self.invariant.kept.slots
+
+pub newly_vacant-roles-requires-clause-known : goal.newly_vacant-roles-requires-clause-known
+newly_vacant-roles-requires-clause-known g c = count-moved c.len-count.result c.self.invariant.kept.members_are.placed c.settle-settled.ensures.moved c.len-count.ensures
+
+pub enter_behind-requires-clause-room : goal.enter_behind-requires-clause-room
+enter_behind-requires-clause-room g c = room-49 c.make_room.new.self.room c.in-Ok.ensures.ok
+
+pub enter_behind-requires-clause-number : goal.enter_behind-requires-clause-number
+enter_behind-requires-clause-number g c = c.check_number.ensures
+
+pub returns-in-Some-refusal-clause-answered : goal.returns-in-Some-refusal-clause-answered
+returns-in-Some-refusal-clause-answered g c =
+    let end = c.ops-end-2.result in
+    let roles = c.newly_vacant-roles.result in
+    let spares = c.settle-settled.result.spares in
+    let refusal = c.in-Some-refusal.refusal in
+    record {
+      roles = roles;
+      spares = spares;
+      end = end;
+      is = c.enter_behind.ensures.items ∙ ap (λ (l : List Entry). l ++ entries_of c.args.who end (losses_of roles spares ++ Refused refusal ∷ [])) (c.make_room.ensures.items ∙ ap (λ p. p.parts.entries) c.self.view_is);
+    }
+
+pub returns-in-Some-refusal-clause-caused : goal.returns-in-Some-refusal-clause-caused
+returns-in-Some-refusal-clause-caused g c =
+    let a = c.self.inside in
+    let m = c.settle-settled.new.members in
+    let refusal = c.in-Some-refusal.refusal in
+    let many = many-of m c.settle-settled.result.refusal refusal c.in-Some-refusal.is c.settle-settled.ensures.refused in
+    subst (λ p. IsRefusedFor (list_length p.parts.members.newest) 0 AreTooMany p.parts.members m refusal) c.self.view_is
+    (refused-for (list_length a.members.newest) 0 AreTooMany a.members m refusal (too-many-of m refusal many) (from-0 (list_length a.members.newest)) many)
+
+pub returns-in-Some-refusal-clause-given : goal.returns-in-Some-refusal-clause-given
+returns-in-Some-refusal-clause-given g c = c.settle-settled.ensures.given ∙ ap (λ p. g.B.Bank.given p.parts.bank) c.self.view_is
+
+pub enter_behind-requires-2-clause-room : goal.enter_behind-requires-2-clause-room
+enter_behind-requires-2-clause-room g c = room-49 c.make_room.new.self.room c.in-Ok.ensures.ok
+
+pub enter_behind-requires-2-clause-number : goal.enter_behind-requires-2-clause-number
+enter_behind-requires-2-clause-number g c = c.check_number.ensures
+
+pub returns-clause-answered : goal.returns-clause-answered
+returns-clause-answered g c =
+    let end = c.ops-end-2.result in
+    let roles = c.newly_vacant-roles.result in
+    let spares = c.settle-settled.result.spares in
+    record {
+      roles = roles;
+      spares = spares;
+      end = end;
+      is = c.enter_behind-2.ensures.items ∙ ap (λ (l : List Entry). l ++ entries_of c.args.who end (losses_of roles spares ++ c.args.event ∷ [])) (c.make_room.ensures.items ∙ ap (λ p. p.parts.entries) c.self.view_is);
+    }
+
+pub returns-clause-clean : goal.returns-clause-clean
+returns-clause-clean g c = λ none. c.settle-settled.ensures.clean c.in_default-refusal.is (c.is_some.ensures ∙ ap (λ p. is_some p.parts.work.resync) c.self.view_is ∙ ap is_some none)
+
+pub returns-clause-last : goal.returns-clause-last
+returns-clause-last g c = λ t. c.enter_behind-2.ensures.last ∙ c.ops-end-2.ensures.count t
+
+pub returns-clause-given : goal.returns-clause-given
+returns-clause-given g c = c.settle-settled.ensures.given ∙ ap (λ p. g.B.Bank.given p.parts.bank) c.self.view_is
+
+-- ---- what it leaves of the members
+
+pub returns-in-Some-refusal-clause-others : goal.returns-in-Some-refusal-clause-others
+returns-in-Some-refusal-clause-others g c =
+    subst (λ p. g.B.Bank.tells → AreOthersPresent (present (g.B.Bank.given p.parts.bank) (g.B.Bank.tape p.parts.bank)) (present (g.B.Bank.given p.parts.bank) (g.B.Bank.tape c.settle-settled.new.bank))) c.self.view_is c.settle-settled.ensures.others
+
+pub returns-in-Some-refusal-clause-failed : goal.returns-in-Some-refusal-clause-failed
+returns-in-Some-refusal-clause-failed g c =
+    subst (λ p. HaveRolesFailed p.parts.members c.settle-settled.new.members (g.B.Bank.faults_of p.parts.bank) (g.B.Bank.faults_of c.settle-settled.new.bank)) c.self.view_is c.settle-settled.ensures.failed.roles
+
+pub returns-in-Some-refusal-clause-whole : goal.returns-in-Some-refusal-clause-whole
+returns-in-Some-refusal-clause-whole g c = subst (λ p. AreWhole c.settle-settled.new.members → AreWhole p.parts.members) c.self.view_is c.settle-settled.ensures.moved.whole
+
+pub returns-clause-others : goal.returns-clause-others
+returns-clause-others g c =
+    subst (λ p. g.B.Bank.tells → AreOthersPresent (present (g.B.Bank.given p.parts.bank) (g.B.Bank.tape p.parts.bank)) (present (g.B.Bank.given p.parts.bank) (g.B.Bank.tape c.settle-settled.new.bank))) c.self.view_is c.settle-settled.ensures.others
+
+pub returns-clause-failed : goal.returns-clause-failed
+returns-clause-failed g c =
+    subst (λ p. HaveRolesFailed p.parts.members c.settle-settled.new.members (g.B.Bank.faults_of p.parts.bank) (g.B.Bank.faults_of c.settle-settled.new.bank)) c.self.view_is c.settle-settled.ensures.failed.roles
+
+pub returns-clause-whole : goal.returns-clause-whole
+returns-clause-whole g c = subst (λ p. AreWhole c.settle-settled.new.members → AreWhole p.parts.members) c.self.view_is c.settle-settled.ensures.moved.whole
+
+pub returns-clause-flushed : goal.returns-clause-flushed
+returns-clause-flushed g c =
+    subst (λ p. g.B.Bank.tells → AreHoldersFlushed (reading_of c.settle-settled.new.members) (g.B.Bank.given p.parts.bank) (g.B.Bank.tape c.settle-settled.new.bank)) c.self.view_is c.settle-settled.ensures.flushed

@@ -1,0 +1,144 @@
+use Rattle.std.proofs.Common.{◌≡◌, ◌∷◌, ◌++◌, [], List, length, refl, sym, ◌∙◌, ap, ap₂, subst, arith, ◌≤◌, ℕ, ◌<◌}
+use Rattle.array_state.specs.raid_types_the_Status.{Status}
+use Rattle.sb_election.proofs.sb_specs_ValidFields.{few-roles}
+use Rattle.array_parts.specs.history_Flat.{next_number}
+use Rattle.array_parts.specs.history_Plain.{entries_of}
+use Rattle.array_parts.specs.history_the_Entry.{Entry}
+use Rattle.array_parts.specs.history_the_Event_TheVariants.{Shown}
+use Rattle.array_fixed_laws.proofs.array_call_specs_LossLaws.{ended-behind}
+use Rattle.array_fixed_laws.proofs.array_call_specs_ReadyLaws.{scope-same, list-same}
+use Rattle.array_fixed_laws.specs.array_specs_Parts.{still_left, RunningParts}
+use Rattle.array_fixed_laws.proofs.array_specs_Lengths.{alone-keeps}
+use Rattle.array_fixed_laws.proofs.Kept.{ready, rows-same, roomier}
+use Rattle.array_fixed_laws.proofs.Asking.{status-same, shown-stands}
+use Rattle.array_parts.proofs.array_members_MovedLaws.{grows-none}
+use Rattle.array_fixed_laws.proofs.history_invariant_Records.{begins-going}
+use Rattle.array_fixed_laws.proofs.PlainBehind.{shown-plain}
+use Rattle.array_parts.specs.history_Transfers.{last_end_from}
+use Rattle.sb_election.specs.bank_Given.{Given}
+use Rattle.sb_election.specs.bank_the_Operation.{Operation}
+use Rattle.array_fixed_laws.specs.array_call_specs_Calls.{IsEndOf}
+use Rattle.array_fixed_laws.specs.array_call_specs_Kept.{scope_in}
+use Rattle.array_fixed_laws.specs.array_specs_Calls.{moving_world, IsSameReshape}
+use Rattle.array_fixed_laws.proofs.StepLaws.{IsSameEpoch}
+use Rattle.sb_election.specs.sb_specs_Reading.{is_backward, shape_of, final_shape}
+use Rattle.sb_election.specs.sb_specs_the_Members.{Members}
+use Rattle.array_fixed.proofs.Asked.{entries-alike}
+use Rattle.array_fixed.proofs.state.Still.status.Goals as goal
+
+pub invariant_of-self : goal.invariant_of-self
+invariant_of-self g c = roomier c.self.invariant c.make_room.ensures.items c.make_room.ensures.keeps
+
+pub invariant_of-self-2 : goal.invariant_of-self-2
+invariant_of-self-2 g c =
+    let was = c.self.invariant in
+    let a = c.self.inside in
+    let given = g.B.Bank.given a.bank in
+    let number : c.args.who.number ≡ next_number c.args.who.caller a.epoch.entries.items = c.requires.next ∙ ap (λ p. next_number c.args.who.caller p.parts.entries) (sym c.self.view_is) in
+    let steps : c.in-Ok.shown.left ≡ still_left a.work a.members a.ahead = c.in-Ok.ensures.left ∙ ap (λ p. still_left p.parts.work p.parts.members p.ahead) (sym c.self.view_is) in
+    ready (entries_of c.args.who c.ops-end.result (Shown c.in-Ok.shown ∷ [])) was (rows-same a.members.newest)
+    (shown-stands c.args.who c.ops-end.result was.kept number c.requires.caller c.ops-end.ensures.count c.in-Ok.shown steps)
+    (shown-plain was c.args.who c.ops-end.result (begins-going a.epoch.entries.items c.args.who number) c.requires.caller c.ops-end.ensures.count (grows-none (λ t. refl)) c.in-Ok.shown steps
+    (c.in-Ok.ensures.spares ∙ ap (λ p. p.parts.members.spares) (sym c.self.view_is)))
+    (λ slot. omega arith) (alone-keeps c.args.who c.ops-end.result (Shown c.in-Ok.shown) (λ n. refl) (λ limit. refl))
+    refl (scope-same given a.backup refl c.enter.ensures.uuid c.enter.ensures.given) c.enter.ensures.first c.make_room.ensures.items c.enter.ensures.items
+    (omega (arith, c.enter.ensures.room, c.in-Ok-make_room.ensures.ok))
+
+pub returns-clause-ended : goal.returns-clause-ended
+returns-clause-ended g c =
+    ended-behind (g.B.Bank.tape c.self.inside.bank) c.enter.new.epoch.first c.make_room.new.self.items c.args.who c.ops-end.result [] (Shown c.in-Ok.shown) c.enter.ensures.items c.ops-end.ensures.count
+
+pub returns-clause-entered : goal.returns-clause-entered
+returns-clause-entered g c =
+    let same : c.in-Ok.shown ≡ c.in-Ok-told.status = status-same c.args.self.now c.in-Ok.shown c.in-Ok-told.status c.in-Ok.ensures c.in-Ok-told.ensures in
+    rw (← c.self.view_is) (record {
+      end = c.ops-end.result;
+      at_end = c.ops-end.ensures.count;
+      is = c.enter.ensures.items ∙ ap₂ (λ (l : List Entry) (s : Status). l ++ entries_of c.args.who c.ops-end.result (Shown s ∷ [])) c.make_room.ensures.items same;
+    })
+
+pub returns-clause-few : goal.returns-clause-few
+returns-clause-few g c =
+    let told = c.in-Ok-told.ensures in
+    let are = c.self.invariant.kept.members_are in
+    let roles = told.roles ∙ ap (λ p. p.parts.members.roles) (sym c.self.view_is) in
+    let spares = told.spares ∙ ap (λ p. p.parts.members.spares) (sym c.self.view_is) in
+    let most = few-roles c.self.inside.members.newest are.placed.fit.valid in (
+      omega (arith, ap length roles, are.placed.roles, most),
+      omega (arith, ap length spares, are.spares),
+    )
+
+-- ---- nothing was done
+
+-- the epoch goes on, with the same members on the same bank
+still-same : {B : Type 0} {tells : Type 0} (given : Given) (tape : List Operation) {old new : RunningParts B} → IsSameEpoch old new → new.parts.members ≡ old.parts.members → (tells → old.parts.first ≤ length tape)
+    → IsSameReshape tells old new (moving_world given tape old) (moving_world given tape new)
+still-same given tape {old = old} epoch members begun = record {
+  array = record {
+    uuid = epoch.uuid;
+    given = epoch.given;
+    first = epoch.first;
+    backup = epoch.backup;
+    shape = ap (λ (m : Members). shape_of m.newest) members;
+    size = ap (λ (m : Members). m.newest.size) members;
+    list = list-same given (scope_in given old.parts.uuid old.parts.given old.parts.backup) old.parts.first refl
+        (λ i. scope_in given (epoch.uuid i) (epoch.given i) (epoch.backup i)) epoch.first (grows-none (λ t. refl)) begun;
+  };
+  final = ap (λ (m : Members). final_shape m.newest) members;
+  backward = ap (λ (m : Members). is_backward m.newest) members;
+  ahead = epoch.ahead;
+  limit = epoch.limit;
+}
+
+pub returns-in-Err-make_room-clause-same : goal.returns-in-Err-make_room-clause-same
+returns-in-Err-make_room-clause-same g c =
+    rw (← c.self.view_is) (still-same (g.B.Bank.given c.self.inside.bank) (g.B.Bank.tape c.self.inside.bank) (record { uuid = refl; given = refl; first = refl; backup = refl; ahead = refl; limit = refl }) refl (λ t. (c.self.invariant.kept.recorded t).begun))
+
+pub returns-clause-same : goal.returns-clause-same
+returns-clause-same g c =
+    rw (← c.self.view_is) (still-same (g.B.Bank.given c.self.inside.bank) (g.B.Bank.tape c.self.inside.bank) (record { uuid = c.enter.ensures.uuid; given = c.enter.ensures.given; first = c.enter.ensures.first; backup = refl; ahead = refl; limit = refl }) refl (λ t. (c.self.invariant.kept.recorded t).begun))
+
+pub returns-in-Err-make_room-clause-unchanged : goal.returns-in-Err-make_room-clause-unchanged
+returns-in-Err-make_room-clause-unchanged g c = entries-alike c.make_room.new.self.items c.self.view_is c.make_room.ensures.items
+
+pub returns-in-Err-make_room-clause-ended : goal.returns-in-Err-make_room-clause-ended
+returns-in-Err-make_room-clause-ended g c = λ t. ap (λ (l : List Entry). last_end_from c.self.inside.epoch.first l) c.make_room.ensures.items ∙ (c.self.invariant.kept.recorded t).ended
+
+pub returns-in-Err-make_room-clause-members : goal.returns-in-Err-make_room-clause-members
+returns-in-Err-make_room-clause-members g c = ap (λ p. p.parts.members) c.self.view_is
+
+pub returns-in-Err-make_room-clause-bank : goal.returns-in-Err-make_room-clause-bank
+returns-in-Err-make_room-clause-bank g c = ap (λ p. p.parts.bank) c.self.view_is
+
+pub returns-in-Err-make_room-clause-work : goal.returns-in-Err-make_room-clause-work
+returns-in-Err-make_room-clause-work g c = ap (λ p. p.parts.work) c.self.view_is
+
+pub check_number-requires : goal.check_number-requires
+check_number-requires g c =
+    c.requires.next ∙ ap (λ p. next_number c.args.who.caller p.parts.entries) (sym c.self.view_is) ∙ ap (λ (l : List Entry). next_number c.args.who.caller l) (sym c.make_room.ensures.items)
+
+pub enter-requires-clause-number : goal.enter-requires-clause-number
+enter-requires-clause-number g c = c.check_number.ensures
+
+pub returns-in-Err-clause-ended : goal.returns-in-Err-clause-ended
+returns-in-Err-clause-ended g c = subst (λ p. IsEndOf g.B.Bank.tells p.parts.first p.parts.entries (g.B.Bank.tape p.parts.bank)) c.self.view_is (λ t. (c.self.invariant.kept.recorded t).ended)
+
+pub returns-in-Err-told-clause-ended : goal.returns-in-Err-told-clause-ended
+returns-in-Err-told-clause-ended g c = subst (λ p. IsEndOf g.B.Bank.tells p.parts.first p.parts.entries (g.B.Bank.tape p.parts.bank)) c.self.view_is (λ t. (c.self.invariant.kept.recorded t).ended)
+
+room-first : (room : ℕ) → 2 ≤ room → 0 < room
+room-first room left = omega (arith, left)
+
+pub enter-requires-clause-room : goal.enter-requires-clause-room
+enter-requires-clause-room g c = room-first c.make_room.new.self.room c.in-Ok-make_room.ensures.ok
+
+-- ---- what stays
+
+pub returns-clause-members : goal.returns-clause-members
+returns-clause-members g c = ap (λ p. p.parts.members) c.self.view_is
+
+pub returns-clause-bank : goal.returns-clause-bank
+returns-clause-bank g c = ap (λ p. p.parts.bank) c.self.view_is
+
+pub returns-clause-work : goal.returns-clause-work
+returns-clause-work g c = ap (λ p. p.parts.work) c.self.view_is

@@ -1,0 +1,112 @@
+pub mod KeptStands
+pub mod Leaving
+pub mod Named
+pub mod Closing
+pub mod Ends
+pub mod Whole
+pub mod Stood
+pub mod Resting
+pub mod Quiet
+pub mod Refusals
+pub mod Staying
+pub mod Reading
+pub mod Adding
+pub mod Flushing
+pub mod Failing
+pub mod Writing
+pub mod Resync
+pub mod Sparing
+pub mod Bridges
+pub mod Rebuilding
+pub mod Ending
+pub use Rattle.array_call_laws.proofs.AbsentLaws as array_call_laws_AbsentLaws
+pub use Rattle.array_call_laws.proofs.AddLaws as array_call_laws_AddLaws
+pub use Rattle.array_call_laws.proofs.AddedKept as array_call_laws_AddedKept
+pub use Rattle.array_call_laws.proofs.AddedNumbers as array_call_laws_AddedNumbers
+pub use Rattle.array_call_laws.proofs.AddedLosses as array_call_laws_AddedLosses
+pub use Rattle.array_call_laws.proofs.AdoptingLaws as array_call_laws_AdoptingLaws
+pub use Rattle.array_call_laws.proofs.EndLaws as array_call_laws_EndLaws
+pub use Rattle.array_call_laws.proofs.FailedLaws as array_call_laws_FailedLaws
+pub use Rattle.array_call_laws.proofs.MendLaws as array_call_laws_MendLaws
+pub use Rattle.array_call_laws.proofs.ReadLaws as array_call_laws_ReadLaws
+pub use Rattle.array_call_laws.proofs.RebuildEnded as array_call_laws_RebuildEnded
+pub use Rattle.array_call_laws.proofs.RebuildGiven as array_call_laws_RebuildGiven
+pub use Rattle.array_call_laws.proofs.RebuildLaws as array_call_laws_RebuildLaws
+pub use Rattle.array_call_laws.proofs.TouchedLaws as array_call_laws_TouchedLaws
+pub use Rattle.array_reshaping_invariant.proofs.array_call_specs_DegradedLaws
+pub use Rattle.array_reshaping_invariant.proofs.array_call_specs_KeptLaws
+pub use Rattle.array_reshaping_invariant.proofs.array_call_specs_LedgerLaws
+pub use Rattle.array_reshaping_invariant.proofs.array_call_specs_LossLaws
+pub use Rattle.array_reshaping_invariant.proofs.array_call_specs_NowLaws
+pub use Rattle.array_reshaping_invariant.proofs.array_call_specs_OnlyLaws
+pub use Rattle.array_reshaping_invariant.proofs.array_call_specs_ReadyLaws
+pub use Rattle.array_reshaping_invariant.proofs.array_call_specs_RecordLaws
+pub use Rattle.array_reshaping_invariant.proofs.array_call_specs_ReplyLaws
+pub use Rattle.array_reshaping_invariant.proofs.array_call_specs_StepsLeft
+pub use Rattle.array_reshaping_invariant.proofs.array_call_specs_ToldLosses
+pub use Rattle.array_reshaping_invariant.proofs.history_invariant_laws_Behind
+pub use Rattle.array_reshaping_invariant.proofs.history_invariant_laws_Plans
+pub use Rattle.array_reshaping_invariant.proofs.history_invariant_laws_Quiet
+pub use Rattle.array_reshaping_invariant.proofs.reshape_begin_end_Made
+pub use Rattle.array_reshaping_invariant.proofs.reshape_sb_updates_BegunNewest
+pub use Rattle.array_reshaping_invariant.proofs.reshape_sb_updates_BegunPlan
+pub use Rattle.array_reshaping_invariant.proofs.reshape_sb_updates_EndedPlan
+pub use Rattle.array_reshaping_invariant.proofs.reshape_sb_updates_NewRoles
+pub use Rattle.array_reshaping_invariant.proofs.reshape_sb_updates_Taken
+pub use Rattle.history_fixed_shape_laws.proofs.Kept as history_fixed_shape_laws_Kept
+pub use Rattle.array_reshaping_invariant.proofs.history_append_CallLaws
+pub use Rattle.array_reshaping_invariant.proofs.history_append_LeftLaws
+pub use Rattle.array_reshaping_invariant.proofs.history_append_PlainLaws
+pub use Rattle.array_reshaping_invariant.proofs.crash_reshape_laws_EndLaws
+pub use Rattle.array_reshaping_invariant.proofs.crash_reshape_laws_TakenShapes
+pub use Rattle.array_reshaping_invariant.proofs.crash_reshape_laws_Takeovers
+pub use Rattle.array_reshaping_invariant.proofs.crash_reshape_laws_GrownLaws
+pub use Rattle.array_reshaping_invariant.proofs.array_members_HeldRows
+pub use Rattle.array_reshaping_invariant.proofs.array_members_MovedLaws
+pub use Rattle.array_reshaping_invariant.proofs.array_members_Still
+pub use Rattle.array_reshaping_invariant.proofs.array_members_Fit
+pub use Rattle.array_reshaping_invariant.proofs.array_members_SoundViews
+pub use Rattle.array_reshaping_invariant.proofs.history_invariant_Calls
+pub use Rattle.array_reshaping_invariant.proofs.history_invariant_Entered
+pub use Rattle.array_reshaping_invariant.proofs.history_invariant_Growing
+pub use Rattle.array_reshaping_invariant.proofs.history_invariant_KeptCalls
+pub use Rattle.array_reshaping_invariant.proofs.history_invariant_Ledgers
+pub use Rattle.array_reshaping_invariant.proofs.history_invariant_Lengths
+pub use Rattle.array_reshaping_invariant.proofs.history_invariant_Longer
+pub use Rattle.array_reshaping_invariant.proofs.history_invariant_Reshapes
+pub use Rattle.array_reshaping_invariant.proofs.history_invariant_Tests
+pub use Rattle.array_reshaping_invariant.proofs.history_invariant_Turned
+pub use Rattle.array_reshaping_invariant.proofs.history_invariant_Turns
+pub use Rattle.array_reshaping_invariant.proofs.crash_safety_laws_Steady
+pub use Rattle.array_reshaping_invariant.proofs.crash_views_Stands
+pub use Rattle.array_reshaping_invariant.proofs.crash_views_Alike
+pub use Rattle.array_reshaping_invariant.proofs.history_append_LosingLaws
+pub use Rattle.array_reshaping_invariant.proofs.history_append_StepLaws
+pub use Rattle.array_reshaping_invariant.proofs.array_members_Flushed
+pub use Rattle.array_reshaping_invariant.proofs.array_members_MarkedSafe
+pub use Rattle.array_reshaping_invariant.proofs.array_members_LackingLaws
+pub use Rattle.array_reshaping_invariant.proofs.array_members_LiveLeft
+pub use Rattle.array_reshaping_invariant.proofs.array_members_LackingLists
+pub use Rattle.array_reshaping_invariant.proofs.array_members_GivenMembers
+pub use Rattle.array_reshaping_invariant.proofs.history_invariant_Records
+pub use Rattle.array_reshaping_invariant.proofs.crash_safety_laws_Risen
+pub use Rattle.array_reshaping_invariant.proofs.crash_safety_laws_PlannedRoles
+pub use Rattle.array_reshaping_invariant.proofs.crash_safety_laws_Kept
+pub use Rattle.array_reshaping_invariant.proofs.history_SoundLaws
+pub use Rattle.array_reshaping_invariant.proofs.sb_specs_ValidFields
+pub use Rattle.array_reshaping_invariant.proofs.history_laws_NumberLaws
+pub use Rattle.array_reshaping_invariant.proofs.history_laws_OneShapeGrowing
+pub use Rattle.array_reshaping_invariant.proofs.history_OneShapeLegal
+pub use Rattle.array_reshaping_invariant.proofs.stripe_row_Tables
+pub use Rattle.array_reshaping_invariant.proofs.sb_specs_SlotSets
+pub use Rattle.array_reshaping_invariant.proofs.sb_read_laws_SaidLists
+pub use Rattle.array_reshaping_invariant.proofs.sb_read_laws_SaidSlots
+pub use Rattle.array_call_laws.proofs.raid_types_Least
+pub use Rattle.array_call_laws.proofs.raid_types_SectorLaws
+pub use Rattle.array_call_laws.proofs.raid_types_Tabulated
+pub use Rattle.array_reshaping_invariant.proofs.raid_layout_Limits
+pub use Rattle.array_reshaping_invariant.proofs.raid_layout_Places
+pub use Rattle.array_reshaping_invariant.proofs.history_append_BearerLaws
+pub use Rattle.array_reshaping_invariant.proofs.array_call_specs_IdleLaws
+pub use Rattle.array_call_laws.proofs.SettledLaws as array_call_laws_SettledLaws
+pub use Rattle.array_call_laws.proofs.WriteLaws as array_call_laws_WriteLaws

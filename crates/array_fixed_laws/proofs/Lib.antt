@@ -1,0 +1,67 @@
+pub mod Adopting
+pub mod Asking
+pub mod Plain
+pub mod Kept
+pub mod Left
+pub mod Settled
+pub mod Reading
+pub mod Limiting
+pub mod Writing
+pub mod Going
+pub mod StepLaws
+pub mod Closing
+pub mod MendLaws
+pub mod RebuildLaws
+pub mod AddLaws
+pub mod AnswerLaws
+pub mod PlansKept
+pub mod PlainBehind
+pub mod PlainSteps
+pub mod PlainAdds
+pub use Rattle.array_specs.proofs.Called as array_specs_Called
+pub use Rattle.array_specs.proofs.Lengths as array_specs_Lengths
+pub use Rattle.array_specs.proofs.Replies as array_specs_Replies
+pub use Rattle.array_specs.proofs.TakenOut as array_specs_TakenOut
+pub use Rattle.array_specs.proofs.VisibleLaws as array_specs_VisibleLaws
+pub use Rattle.array_fixed_invariant.proofs.Ending as array_fixed_invariant_Ending
+pub use Rattle.array_fixed_invariant.proofs.Failing as array_fixed_invariant_Failing
+pub use Rattle.array_fixed_invariant.proofs.Flushing as array_fixed_invariant_Flushing
+pub use Rattle.array_fixed_invariant.proofs.Leaving as array_fixed_invariant_Leaving
+pub use Rattle.array_fixed_invariant.proofs.Reading as array_fixed_invariant_Reading
+pub use Rattle.array_fixed_invariant.proofs.Rebuilding as array_fixed_invariant_Rebuilding
+pub use Rattle.array_fixed_invariant.proofs.Refusals as array_fixed_invariant_Refusals
+pub use Rattle.array_fixed_invariant.proofs.Resting as array_fixed_invariant_Resting
+pub use Rattle.array_fixed_invariant.proofs.Resync as array_fixed_invariant_Resync
+pub use Rattle.array_fixed_invariant.proofs.Staying as array_fixed_invariant_Staying
+pub use Rattle.array_fixed_invariant.proofs.Stood as array_fixed_invariant_Stood
+pub use Rattle.array_fixed_invariant.proofs.Writing as array_fixed_invariant_Writing
+pub use Rattle.array_fixed_invariant.proofs.array_call_specs_DegradedLaws
+pub use Rattle.array_fixed_invariant.proofs.array_call_specs_KeptLaws
+pub use Rattle.array_fixed_invariant.proofs.array_call_specs_LossLaws
+pub use Rattle.array_fixed_invariant.proofs.array_call_specs_NowLaws
+pub use Rattle.array_fixed_invariant.proofs.array_call_specs_ReadyLaws
+pub use Rattle.array_fixed_invariant.proofs.array_call_specs_ReplyLaws
+pub use Rattle.array_fixed_invariant.proofs.array_call_specs_StepsLeft
+pub use Rattle.array_fixed_invariant.proofs.array_call_laws_AddLaws
+pub use Rattle.array_fixed_invariant.proofs.array_call_laws_AddedKept
+pub use Rattle.array_fixed_invariant.proofs.array_call_laws_AddedNumbers
+pub use Rattle.array_fixed_invariant.proofs.array_call_laws_AddedLosses
+pub use Rattle.array_fixed_invariant.proofs.array_call_laws_AdoptingLaws
+pub use Rattle.array_fixed_invariant.proofs.array_call_laws_FailedLaws
+pub use Rattle.array_fixed_invariant.proofs.array_call_laws_MendLaws
+pub use Rattle.array_fixed_invariant.proofs.array_call_laws_ReadLaws
+pub use Rattle.array_fixed_invariant.proofs.array_call_laws_RebuildEnded
+pub use Rattle.array_fixed_invariant.proofs.array_call_laws_RebuildGiven
+pub use Rattle.array_fixed_invariant.proofs.array_call_laws_RebuildLaws
+pub use Rattle.array_fixed_invariant.proofs.history_invariant_laws_Behind
+pub use Rattle.array_fixed_invariant.proofs.history_invariant_laws_Plans
+pub use Rattle.array_fixed_invariant.proofs.history_invariant_Records
+pub use Rattle.array_fixed_invariant.proofs.crash_safety_laws_Risen
+pub use Rattle.array_fixed_invariant.proofs.crash_views_Stands
+pub use Rattle.array_fixed_invariant.proofs.crash_safety_laws_PlannedRoles
+pub use Rattle.array_fixed_invariant.proofs.crash_safety_laws_Kept
+pub use Rattle.array_fixed_invariant.proofs.sb_read_laws_SaidLists
+pub use Rattle.array_fixed_invariant.proofs.sb_read_laws_SaidSlots
+pub use Rattle.array_fixed_invariant.proofs.history_append_BearerLaws
+pub use Rattle.array_fixed_invariant.proofs.array_call_laws_SettledLaws
+pub use Rattle.array_fixed_invariant.proofs.history_laws_OneShapeGrowing

@@ -1,0 +1,32 @@
+pub use Rattle.array_fixed.proofs.Lowest
+pub mod NextLaws
+pub mod RebuildLaws
+pub mod ResyncLaws
+pub use Rattle.array_fixed.proofs.array_fixed_laws_AddLaws
+pub use Rattle.array_fixed.proofs.array_fixed_laws_Closing
+pub use Rattle.array_fixed.proofs.array_fixed_laws_Going
+pub use Rattle.array_fixed.proofs.array_fixed_laws_Kept
+pub use Rattle.array_fixed.proofs.array_fixed_laws_Left
+pub use Rattle.array_fixed.proofs.array_fixed_laws_Plain
+pub use Rattle.array_fixed.proofs.array_fixed_laws_PlainBehind
+pub use Rattle.array_fixed.proofs.array_fixed_laws_PlansKept
+pub use Rattle.array_fixed.proofs.array_fixed_laws_StepLaws
+pub use Rattle.array_fixed.proofs.array_call_specs_KeptLaws
+pub use Rattle.array_fixed.proofs.array_call_specs_NowLaws
+pub use Rattle.array_fixed.proofs.array_call_specs_ReadyLaws
+pub use Rattle.array_fixed.proofs.array_call_specs_StepsLeft
+pub use Rattle.array_fixed.proofs.history_invariant_laws_Behind
+pub use Rattle.array_fixed.proofs.history_invariant_laws_Plans
+pub use Rattle.array_fixed.proofs.array_specs_Called
+pub use Rattle.array_fixed.proofs.array_specs_Lengths
+pub use Rattle.array_fixed.proofs.array_specs_VisibleLaws
+pub use Rattle.array_fixed.proofs.array_fixed_invariant_Refusals
+pub use Rattle.array_fixed.proofs.array_fixed_invariant_Resting
+pub use Rattle.array_fixed.proofs.crash_safety_laws_PlannedRoles
+pub use Rattle.array_fixed.proofs.crash_safety_laws_Kept
+pub use Rattle.array_fixed.proofs.crash_views_Stands
+pub use Rattle.array_fixed.proofs.sb_read_laws_SaidLists
+pub use Rattle.array_fixed.proofs.sb_read_laws_SaidSlots
+mod RebuildParts
+mod StepParts
+pub use Rattle.array_fixed.proofs.array_fixed_laws_RebuildLaws

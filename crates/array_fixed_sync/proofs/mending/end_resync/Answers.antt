@@ -1,0 +1,327 @@
+use Rattle.std.proofs.Common.{◌≤◌, [], ◌∷◌, ◌++◌, false, None, inl, inr, refl, sym, ◌∙◌, ap, subst, arith}
+use Rattle.array_fixed.specs.raid_types_the_Shape.{Shape}
+use Rattle.array_fixed.specs.sb_specs_Reading.{list_length}
+use Rattle.array_fixed.specs.history_the_Event_TheVariants.{Refused, Step}
+use Rattle.array_fixed.specs.history_the_StepKind_TheVariants.{ResyncEnded}
+use Rattle.array_fixed.specs.history_Plain.{entries_of}
+use Rattle.array_fixed.specs.array_members_Lacking.{AreLostSince, AreTooMany, AreHoldersFlushed}
+use Rattle.array_fixed.specs.array_members_Status.{left_of}
+use Rattle.array_fixed.proofs.array_members_LackingLaws.{lost-since, never-both}
+use Rattle.array_fixed.proofs.array_members_Still.{count-still}
+use Rattle.array_fixed.specs.history_append_Losing.{losses_of}
+use Rattle.array_fixed.specs.array_call_specs_Calls.{IsAllMended, AreSparesFewer}
+use Rattle.array_fixed.proofs.array_call_specs_LossLaws.{losses-behind, ended-behind}
+use Rattle.array_fixed.proofs.array_call_specs_ReadyLaws.{scope-same}
+use Rattle.array_fixed.proofs.array_call_specs_ReplyLaws.{too-many-of, refused-for}
+use Rattle.array_fixed.proofs.array_call_specs_StepsLeft.{left-ended, steps-fewer, steps-kept}
+use Rattle.array_fixed.specs.history_invariant_Recorded.{IsCallGoing}
+use Rattle.array_fixed.specs.array_specs_Parts.{visible_size}
+use Rattle.array_fixed.proofs.array_fixed_invariant_Flushing.{IsFlushedStill, IsSettledStill}
+use Rattle.array_fixed.specs.array_specs_Calls.{moving_world}
+use Rattle.array_fixed.specs.array_specs_Plans.{ArePlansKept}
+use Rattle.array_fixed.proofs.array_specs_Called.{risen-told}
+use Rattle.array_fixed.proofs.array_specs_Lengths.{alone-keeps, behind-keeps}
+use Rattle.array_fixed.proofs.array_fixed_laws_Kept.{ready, rows-moved}
+use Rattle.array_fixed.proofs.array_fixed_laws_Going.{step-going}
+use Rattle.array_fixed.proofs.array_fixed_laws_StepLaws.{refused-of, shapes-moved, planned-same, stepped, fewer-more, kept-more}
+use Rattle.array_fixed.proofs.array_fixed_laws_MendLaws.{resync-done, resync-refused}
+use Rattle.array_fixed.proofs.array_call_specs_DegradedLaws.{too-many-here}
+use Rattle.array_fixed.proofs.array_fixed_laws_PlainBehind.{plain-refused}
+use Rattle.array_fixed.proofs.array_fixed_laws_PlainSteps.{resynced-plain}
+use Rattle.array_fixed.specs.array_members_the_Work.{Work}
+use Rattle.array_fixed.proofs.array_members_Fit.{short}
+use Rattle.array_fixed.proofs.Asked.{known-at, few-at, known-behind, sound-behind, step-taken, room-for-step, one-entered, step-behind, room-after}
+use Rattle.array_fixed.specs.array_members_Placed.{AreStillHeld}
+use Rattle.array_fixed.specs.stripe_row_Rows.{reading_of}
+use Rattle.array_fixed_sync.proofs.mending.end_resync.Goals as goal
+
+-- ---- refused before anything is done
+
+pub refuse_step-requires-clause-why : goal.refuse_step-requires-clause-why
+refuse_step-requires-clause-why g c = rw (← c.still.view_is) (inl c.in-Some.ensures)
+
+pub refuse_step-requires-clause-synced : goal.refuse_step-requires-clause-synced
+refuse_step-requires-clause-synced g c = rw (← c.still.view_is) (λ none. c.in-Some.ensures)
+
+pub returns-in-Some-clause-caused : goal.returns-in-Some-clause-caused
+returns-in-Some-clause-caused g c =
+    let a = c.still.inside in
+    let refusal = c.in-Some.refusal in
+    let many : AreTooMany c.args.still.now.parts.members refusal = subst (λ p. AreTooMany p.parts.members refusal) c.still.view_is c.in-Some.ensures in
+    refused-for (list_length c.args.still.now.parts.members.newest) 0 AreTooMany c.args.still.now.parts.members c.refuse_step.new.still.parts.members refusal
+    (too-many-of a.members refusal c.in-Some.ensures) (omega arith) (subst (λ m. AreTooMany m refusal) (sym c.refuse_step.ensures.members) many)
+
+-- ---- refused behind the losses
+
+pub invariant_of-still : goal.invariant_of-still
+invariant_of-still g c =
+    let was = c.still.invariant in
+    let here = was.kept.members_are in
+    let a = c.still.inside in
+    let given = g.B.Bank.given a.bank in
+    let goes : IsCallGoing a.epoch.entries.items c.args.who = subst (λ p. IsCallGoing p.parts.entries c.args.who) (sym c.still.view_is) c.requires.open in
+    let all : IsAllMended a.work.resync a.members = subst (λ p. IsAllMended p.parts.work.resync p.parts.members) (sym c.still.view_is) c.requires.pending in
+    let some : 1 ≤ a.steps = subst (λ p. 1 ≤ p.parts.steps) (sym c.still.view_is) c.requires.room in
+    let did = c.settle-settled.ensures in
+    let m = c.settle-settled.new.members in
+    let before = g.B.Bank.faults_of a.bank in
+    let after = g.B.Bank.faults_of c.settle-settled.new.bank in
+    let roles = c.newly_vacant-roles.result in
+    let spares = c.settle-settled.result.spares in
+    let end = c.ops-end.result in
+    let refusal = c.in-Some-refusal.refusal in
+    let since : AreLostSince a.members m roles spares before after = lost-since given a.members m c.shape_in-disks.result.disks c.vacant_roles-before.result roles spares before after here.placed did.moved did.failed
+    (ap (λ (s : Shape). s.disks) c.shape_in-disks.ensures ∙ sym (count-still a.members.newest here.still)) c.vacant_roles-before.ensures c.newly_vacant-roles.ensures in
+    let leaves : IsFlushedStill g.B.Bank.tells given (g.B.Bank.tape a.bank) (g.B.Bank.tape c.settle-settled.new.bank) a.members m roles spares before after false = record {
+      moved = did.moved;
+      since = since;
+      grows = did.grows;
+      rise = risen-told did.rise;
+      others = did.others;
+      safe = did.safe;
+    } in
+    ready (entries_of c.args.who end (losses_of roles spares ++ Refused refusal ∷ [])) was (rows-moved given a.members m did.moved)
+    (resync-refused a.ahead c.args.who end roles spares was.kept c.in_default.ensures goes c.requires.caller c.ops-end.ensures.count all leaves refusal
+    (refused-of (AreTooMany m) c.settle-settled.result.refusal refusal c.in-Some-refusal.is did.refused))
+    (plain-refused was c.args.who end goes c.requires.caller c.ops-end.ensures.count did.grows did.moved since refusal
+    (too-many-here (visible_size a.members a.limit) a.work.resync m refusal (refused-of (AreTooMany m) c.settle-settled.result.refusal refusal c.in-Some-refusal.is did.refused)))
+    did.counts (behind-keeps c.args.who end roles spares (Refused refusal ∷ []) (alone-keeps c.args.who end (Refused refusal) (λ n. refl) (λ limit. refl)))
+    did.given (scope-same given a.backup did.given c.enter_behind.ensures.uuid c.enter_behind.ensures.given) c.enter_behind.ensures.first refl c.enter_behind.ensures.items
+    (room-after was.room_left some c.enter_behind.ensures.room)
+
+pub returns-in-Some-refusal-clause-stepped : goal.returns-in-Some-refusal-clause-stepped
+returns-in-Some-refusal-clause-stepped g c =
+    let was = c.still.invariant in
+    let here = was.kept.members_are in
+    let a = c.still.inside in
+    let given = g.B.Bank.given a.bank in
+    let did = c.settle-settled.ensures in
+    let m = c.settle-settled.new.members in
+    let before = g.B.Bank.faults_of a.bank in
+    let after = g.B.Bank.faults_of c.settle-settled.new.bank in
+    let roles = c.newly_vacant-roles.result in
+    let spares = c.settle-settled.result.spares in
+    let end = c.ops-end.result in
+    let refusal = c.in-Some-refusal.refusal in
+    let since : AreLostSince a.members m roles spares before after = lost-since given a.members m c.shape_in-disks.result.disks c.vacant_roles-before.result roles spares before after here.placed did.moved did.failed
+    (ap (λ (s : Shape). s.disks) c.shape_in-disks.ensures ∙ sym (count-still a.members.newest here.still)) c.vacant_roles-before.ensures c.newly_vacant-roles.ensures in
+    rw (← c.still.view_is) (stepped did.grows (shapes-moved did.moved)
+    (ended-behind (g.B.Bank.tape c.settle-settled.new.bank) c.enter_behind.new.epoch.first a.epoch.entries.items c.args.who end (losses_of roles spares) (Refused refusal) c.enter_behind.ensures.items c.ops-end.ensures.count)
+    did.failed.roles
+    (losses-behind a.members m before after a.epoch.entries.items a.epoch.entries.items c.enter_behind.new.epoch.entries.items c.args.who end roles spares (Refused refusal) since tt refl c.enter_behind.ensures.items)
+    did.counts
+    (record { uuid = c.enter_behind.ensures.uuid; given = c.enter_behind.ensures.given; first = c.enter_behind.ensures.first; backup = refl; ahead = refl; limit = refl })
+    (λ t. (was.kept.recorded t).begun))
+
+pub returns-in-Some-refusal-clause-stays : goal.returns-in-Some-refusal-clause-stays
+returns-in-Some-refusal-clause-stays g c =
+    let was = c.still.invariant in
+    let here = was.kept.members_are in
+    let a = c.still.inside in
+    let did = c.settle-settled.ensures in
+    let m = c.settle-settled.new.members in
+    let before = g.B.Bank.faults_of a.bank in
+    let after = g.B.Bank.faults_of c.settle-settled.new.bank in
+    let roles = c.newly_vacant-roles.result in
+    let spares = c.settle-settled.result.spares in
+    let since : AreLostSince a.members m roles spares before after = lost-since (g.B.Bank.given a.bank) a.members m c.shape_in-disks.result.disks c.vacant_roles-before.result roles spares before after here.placed did.moved did.failed
+    (ap (λ (s : Shape). s.disks) c.shape_in-disks.ensures ∙ sym (count-still a.members.newest here.still)) c.vacant_roles-before.ensures c.newly_vacant-roles.ensures in
+    rw (← c.still.view_is) (kept-more (planned-same a.ahead (shapes-moved did.moved))
+    (steps-kept a.work c.args.who c.ops-end.result (Refused c.in-Some-refusal.refusal ∷ []) did.moved since c.enter_behind.ensures.items))
+
+pub returns-in-Some-refusal-clause-caused : goal.returns-in-Some-refusal-clause-caused
+returns-in-Some-refusal-clause-caused g c =
+    let a = c.still.inside in
+    let m = c.settle-settled.new.members in
+    let refusal = c.in-Some-refusal.refusal in
+    let many = refused-of (AreTooMany m) c.settle-settled.result.refusal refusal c.in-Some-refusal.is c.settle-settled.ensures.refused in
+    rw (← c.still.view_is) (refused-for (list_length a.members.newest) 0 AreTooMany a.members m refusal (too-many-of m refusal many) (omega arith) many)
+
+pub returns-in-Some-refusal-clause-held : goal.returns-in-Some-refusal-clause-held
+returns-in-Some-refusal-clause-held g c = subst (λ p. AreStillHeld p.parts.members c.settle-settled.new.members) c.still.view_is c.settle-settled.ensures.moved.held
+
+pub returns-in-Some-refusal-clause-spares : goal.returns-in-Some-refusal-clause-spares
+returns-in-Some-refusal-clause-spares g c = subst (λ p. AreSparesFewer p.parts.members c.settle-settled.new.members) c.still.view_is c.settle-settled.ensures.moved.fewer
+
+-- ---- ended
+
+pub invariant_of-still-2 : goal.invariant_of-still-2
+invariant_of-still-2 g c =
+    let was = c.still.invariant in
+    let here = was.kept.members_are in
+    let a = c.still.inside in
+    let given = g.B.Bank.given a.bank in
+    let goes : IsCallGoing a.epoch.entries.items c.args.who = subst (λ p. IsCallGoing p.parts.entries c.args.who) (sym c.still.view_is) c.requires.open in
+    let all : IsAllMended a.work.resync a.members = subst (λ p. IsAllMended p.parts.work.resync p.parts.members) (sym c.still.view_is) c.requires.pending in
+    let plans = subst (λ p. ArePlansKept g.B.Bank.tells (moving_world (g.B.Bank.given p.parts.bank) (g.B.Bank.tape p.parts.bank) p) p) (sym c.still.view_is) c.requires.plans in
+    let some : 1 ≤ a.steps = subst (λ p. 1 ≤ p.parts.steps) (sym c.still.view_is) c.requires.room in
+    let did = c.settle-settled.ensures in
+    let m = c.settle-settled.new.members in
+    let before = g.B.Bank.faults_of a.bank in
+    let after = g.B.Bank.faults_of c.settle-settled.new.bank in
+    let roles = c.newly_vacant-roles.result in
+    let spares = c.settle-settled.result.spares in
+    let end = c.ops-end.result in
+    let left = c.all_left-left.result in
+    let since : AreLostSince a.members m roles spares before after = lost-since given a.members m c.shape_in-disks.result.disks c.vacant_roles-before.result roles spares before after here.placed did.moved did.failed
+    (ap (λ (s : Shape). s.disks) c.shape_in-disks.ensures ∙ sym (count-still a.members.newest here.still)) c.vacant_roles-before.ensures c.newly_vacant-roles.ensures in
+    let leaves : IsFlushedStill g.B.Bank.tells given (g.B.Bank.tape a.bank) (g.B.Bank.tape c.settle-settled.new.bank) a.members m roles spares before after false = record {
+      moved = did.moved;
+      since = since;
+      grows = did.grows;
+      rise = risen-told did.rise;
+      others = did.others;
+      safe = did.safe;
+    } in
+    let done : IsSettledStill g.B.Bank.tells given (g.B.Bank.tape a.bank) (g.B.Bank.tape c.settle-settled.new.bank) a.members m false = record {
+      clean = did.clean c.in_default-refusal.is;
+      stays = did.stays;
+      settled = did.settled c.in_default-refusal.is;
+    } in
+    ready (entries_of c.args.who end (losses_of roles spares ++ Step ResyncEnded left ∷ [])) was (rows-moved given a.members m did.moved)
+    (resync-done a.ahead c.args.who end roles spares was.kept c.in_default.ensures goes c.requires.caller c.ops-end.ensures.count all leaves left c.all_left-left.ensures plans done)
+    (resynced-plain was c.args.who end goes c.requires.caller c.ops-end.ensures.count did.grows did.moved since left all c.all_left-left.ensures)
+    did.counts (behind-keeps c.args.who end roles spares (Step ResyncEnded left ∷ []) (alone-keeps c.args.who end (Step ResyncEnded left) (λ n. refl) (λ limit. refl)))
+    did.given (scope-same given a.backup did.given c.enter_behind-2.ensures.uuid c.enter_behind-2.ensures.given) c.enter_behind-2.ensures.first refl c.enter_behind-2.ensures.items
+    (room-after was.room_left some c.enter_behind-2.ensures.room)
+
+pub returns-clause-stepped : goal.returns-clause-stepped
+returns-clause-stepped g c =
+    let was = c.still.invariant in
+    let here = was.kept.members_are in
+    let a = c.still.inside in
+    let given = g.B.Bank.given a.bank in
+    let did = c.settle-settled.ensures in
+    let m = c.settle-settled.new.members in
+    let before = g.B.Bank.faults_of a.bank in
+    let after = g.B.Bank.faults_of c.settle-settled.new.bank in
+    let roles = c.newly_vacant-roles.result in
+    let spares = c.settle-settled.result.spares in
+    let end = c.ops-end.result in
+    let event = Step ResyncEnded c.all_left-left.result in
+    let since : AreLostSince a.members m roles spares before after = lost-since given a.members m c.shape_in-disks.result.disks c.vacant_roles-before.result roles spares before after here.placed did.moved did.failed
+    (ap (λ (s : Shape). s.disks) c.shape_in-disks.ensures ∙ sym (count-still a.members.newest here.still)) c.vacant_roles-before.ensures c.newly_vacant-roles.ensures in
+    rw (← c.still.view_is) (stepped did.grows (shapes-moved did.moved)
+    (ended-behind (g.B.Bank.tape c.settle-settled.new.bank) c.enter_behind-2.new.epoch.first a.epoch.entries.items c.args.who end (losses_of roles spares) event c.enter_behind-2.ensures.items c.ops-end.ensures.count)
+    did.failed.roles
+    (losses-behind a.members m before after a.epoch.entries.items a.epoch.entries.items c.enter_behind-2.new.epoch.entries.items c.args.who end roles spares event since tt refl c.enter_behind-2.ensures.items)
+    did.counts
+    (record { uuid = c.enter_behind-2.ensures.uuid; given = c.enter_behind-2.ensures.given; first = c.enter_behind-2.ensures.first; backup = refl; ahead = refl; limit = refl })
+    (λ t. (was.kept.recorded t).begun))
+
+pub returns-clause-left : goal.returns-clause-left
+returns-clause-left g c =
+    let was = c.still.invariant in
+    let here = was.kept.members_are in
+    let a = c.still.inside in
+    let all : IsAllMended a.work.resync a.members = subst (λ p. IsAllMended p.parts.work.resync p.parts.members) (sym c.still.view_is) c.requires.pending in
+    let did = c.settle-settled.ensures in
+    let m = c.settle-settled.new.members in
+    let before = g.B.Bank.faults_of a.bank in
+    let after = g.B.Bank.faults_of c.settle-settled.new.bank in
+    let roles = c.newly_vacant-roles.result in
+    let spares = c.settle-settled.result.spares in
+    let since : AreLostSince a.members m roles spares before after = lost-since (g.B.Bank.given a.bank) a.members m c.shape_in-disks.result.disks c.vacant_roles-before.result roles spares before after here.placed did.moved did.failed
+    (ap (λ (s : Shape). s.disks) c.shape_in-disks.ensures ∙ sym (count-still a.members.newest here.still)) c.vacant_roles-before.ensures c.newly_vacant-roles.ensures in
+    rw (← c.still.view_is) (fewer-more (planned-same a.ahead (shapes-moved did.moved))
+    (steps-fewer (record a.work { resync = None }) (left_of a.work a.members) c.args.who c.ops-end.result (Step ResyncEnded c.all_left-left.result ∷ []) did.moved since
+    (left-ended a.work a.members all) c.enter_behind-2.ensures.items))
+
+pub returns-clause-caused : goal.returns-clause-caused
+returns-clause-caused g c = rw (← c.still.view_is) (omega arith, λ refusal many. never-both c.still.inside.members refusal c.in_default.ensures many)
+
+pub returns-clause-good : goal.returns-clause-good
+returns-clause-good g c = λ t does fit row low. ((invariant_of-still-2 g c).kept.listed t does (inr fit)).rows fit row low low
+
+pub returns-clause-flushed : goal.returns-clause-flushed
+returns-clause-flushed g c = subst (λ p. g.B.Bank.tells → AreHoldersFlushed (reading_of c.settle-settled.new.members) (g.B.Bank.given p.parts.bank) (g.B.Bank.tape c.settle-settled.new.bank)) c.still.view_is c.settle-settled.ensures.flushed
+
+pub returns-clause-held : goal.returns-clause-held
+returns-clause-held g c = subst (λ p. AreStillHeld p.parts.members c.settle-settled.new.members) c.still.view_is c.settle-settled.ensures.moved.held
+
+pub returns-clause-spares : goal.returns-clause-spares
+returns-clause-spares g c = subst (λ p. AreSparesFewer p.parts.members c.settle-settled.new.members) c.still.view_is c.settle-settled.ensures.moved.fewer
+
+-- ---- the call goes on
+
+pub returns-in-Some-refusal-clause-open : goal.returns-in-Some-refusal-clause-open
+returns-in-Some-refusal-clause-open g c = step-going c.args.who c.ops-end.result c.newly_vacant-roles.result c.settle-settled.result.spares (Refused c.in-Some-refusal.refusal) c.requires.open tt (ap (λ p. p.parts.entries) c.still.view_is) c.enter_behind.ensures.items
+
+pub returns-clause-open : goal.returns-clause-open
+returns-clause-open g c = step-going c.args.who c.ops-end.result c.newly_vacant-roles.result c.settle-settled.result.spares (Step ResyncEnded c.all_left-left.result) c.requires.open tt (ap (λ p. p.parts.entries) c.still.view_is) c.enter_behind-2.ensures.items
+
+-- ---- what the calls ask
+
+pub check_going-requires : goal.check_going-requires
+check_going-requires g c = subst (λ p. IsCallGoing p.parts.entries c.args.who) (sym c.still.view_is) c.requires.open
+
+pub vacant_roles-before-requires-clause-known : goal.vacant_roles-before-requires-clause-known
+vacant_roles-before-requires-clause-known g c = known-at c.still.invariant.kept.members_are.placed c.shape_in-disks.ensures
+
+pub vacant_roles-before-requires-clause-few : goal.vacant_roles-before-requires-clause-few
+vacant_roles-before-requires-clause-few g c = few-at c.still.invariant.kept.members_are.placed c.shape_in-disks.ensures
+
+pub newly_vacant-roles-requires-clause-known : goal.newly_vacant-roles-requires-clause-known
+newly_vacant-roles-requires-clause-known g c = known-behind c.settle-settled.ensures.moved c.shape_in-disks.ensures
+
+pub newly_vacant-roles-requires-clause-few : goal.newly_vacant-roles-requires-clause-few
+newly_vacant-roles-requires-clause-few g c = few-at c.still.invariant.kept.members_are.placed c.shape_in-disks.ensures
+
+pub all_left-left-requires-clause-shape : goal.all_left-left-requires-clause-shape
+all_left-left-requires-clause-shape g c = c.settle-settled.ensures.moved.placed.fit.valid.old
+
+pub all_left-left-requires-clause-size : goal.all_left-left-requires-clause-size
+all_left-left-requires-clause-size g c = short (g.B.Bank.given c.still.inside.bank) c.settle-settled.new.members c.settle-settled.ensures.moved.placed
+
+pub all_left-left-requires-clause-roles : goal.all_left-left-requires-clause-roles
+all_left-left-requires-clause-roles g c = known-at c.settle-settled.ensures.moved.placed refl
+
+pub all_left-left-requires-clause-sound : goal.all_left-left-requires-clause-sound
+all_left-left-requires-clause-sound g c = sound-behind c.still.inside.ahead c.settle-settled.ensures.moved c.still.invariant.planned
+
+pub enter_behind-requires-clause-room : goal.enter_behind-requires-clause-room
+enter_behind-requires-clause-room g c = room-for-step (ap (λ p. p.parts.steps) c.still.view_is) c.still.invariant.room_left c.requires.room
+
+pub enter_behind-requires-clause-number : goal.enter_behind-requires-clause-number
+enter_behind-requires-clause-number g c = c.check_going.ensures
+
+pub enter_behind-requires-2-clause-room : goal.enter_behind-requires-2-clause-room
+enter_behind-requires-2-clause-room g c = room-for-step (ap (λ p. p.parts.steps) c.still.view_is) c.still.invariant.room_left c.requires.room
+
+pub enter_behind-requires-2-clause-number : goal.enter_behind-requires-2-clause-number
+enter_behind-requires-2-clause-number g c = c.check_going.ensures
+
+-- ---- what it enters, and what it leaves as it was
+
+pub returns-in-Some-clause-stays : goal.returns-in-Some-clause-stays
+returns-in-Some-clause-stays g c = c.refuse_step.ensures.stays
+
+pub returns-in-Some-refusal-clause-entered : goal.returns-in-Some-refusal-clause-entered
+returns-in-Some-refusal-clause-entered g c = one-entered c.args.who c.ops-end.result c.newly_vacant-roles.result c.settle-settled.result.spares (Refused c.in-Some-refusal.refusal) (ap (λ p. p.parts.entries) c.still.view_is) c.enter_behind.ensures.items
+
+pub returns-in-Some-refusal-clause-work : goal.returns-in-Some-refusal-clause-work
+returns-in-Some-refusal-clause-work g c = ap (λ p. p.parts.work) c.still.view_is
+
+pub returns-in-Some-refusal-clause-room : goal.returns-in-Some-refusal-clause-room
+returns-in-Some-refusal-clause-room g c = step-taken (ap (λ p. p.parts.steps) c.still.view_is) c.requires.room
+
+pub returns-in-Some-refusal-clause-given : goal.returns-in-Some-refusal-clause-given
+returns-in-Some-refusal-clause-given g c = c.settle-settled.ensures.given ∙ ap (λ p. g.B.Bank.given p.parts.bank) c.still.view_is
+
+pub returns-clause-entered : goal.returns-clause-entered
+returns-clause-entered g c = step-behind c.args.who c.ops-end.result c.newly_vacant-roles.result c.settle-settled.result.spares ResyncEnded (ap (λ p. p.parts.entries) c.still.view_is) c.all_left-left.ensures c.enter_behind-2.ensures.items
+
+pub returns-clause-work : goal.returns-clause-work
+returns-clause-work g c = ap (λ (w : Work). record w { resync = None }) (ap (λ p. p.parts.work) c.still.view_is)
+
+pub returns-clause-closable : goal.returns-clause-closable
+returns-clause-closable g c = λ none. inr (inr (c.settle-settled.ensures.clean c.in_default-refusal.is refl))
+
+pub returns-clause-clean : goal.returns-clause-clean
+returns-clause-clean g c = c.settle-settled.ensures.clean c.in_default-refusal.is refl
+
+pub returns-clause-room : goal.returns-clause-room
+returns-clause-room g c = step-taken (ap (λ p. p.parts.steps) c.still.view_is) c.requires.room
+
+pub returns-clause-given : goal.returns-clause-given
+returns-clause-given g c = c.settle-settled.ensures.given ∙ ap (λ p. g.B.Bank.given p.parts.bank) c.still.view_is

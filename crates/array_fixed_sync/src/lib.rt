@@ -1,0 +1,15 @@
+//! The background steps of an array without a reshape: which is the next one.
+#![tactic(auto)]
+
+mod choosing;
+mod filling;
+mod mending;
+mod naming;
+mod rebuilding;
+mod refusing;
+mod resyncing;
+mod stepping;
+
+pub use array_fixed::{Opened, Still, first_spare, set_rebuilt, steps_left, vacant_roles};
+pub use choosing::first_recovering;
+pub use stepping::still_step;

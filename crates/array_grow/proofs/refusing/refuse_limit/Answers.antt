@@ -1,0 +1,5 @@
+use Rattle.array_reply_specs.specs.history_the_Request_TheVariants.{Visible as AsksVisible}
+use Rattle.array_grow.proofs.refusing.refuse_limit.Goals as goal
+
+pub returns-in-Ok-clause-answered : goal.returns-in-Ok-clause-answered
+returns-in-Ok-clause-answered g c = let reply = rw c.in-Ok.is at c.enter_busy-moving.ensures.reply in reply (AsksVisible c.args.asked.1) tt

@@ -1,0 +1,20 @@
+//! A request to grow an array: it is judged, and planned where nothing speaks against it. In a reshape it is refused, as one to limit
+//! the list is.
+#![tactic(auto)]
+
+mod backing;
+mod judging;
+mod planning;
+mod refusing;
+
+pub use array_reply_specs::{
+    Bank, Fault, NoMemory, Phase, Refusal, Shape, Who, final_in, shape_in,
+};
+pub use array_transition::{
+    Course, Due, Moving, Opened, Room, Still, answer, begin_reshape, due_step, enter_all_absent,
+    finish_reshape, first_recovering, found_numbers, list_sectors, make_room, room_for, step,
+    steps_left, still_step, zeros,
+};
+pub use backing::can_back;
+pub use planning::{PlannedGrow, plan_grow};
+pub use refusing::{refuse_grow, refuse_limit};

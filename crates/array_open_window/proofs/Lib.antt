@@ -1,0 +1,2 @@
+pub mod FindLaws
+pub use Rattle.array_reshaping_state.proofs.ReshapeLaws as array_reshaping_state_ReshapeLaws

@@ -1,0 +1,84 @@
+pub use Rattle.array_reshaping_laws.proofs.Kept as array_reshaping_laws_Kept
+pub use Rattle.array_reshaping_laws.proofs.Copied as array_reshaping_laws_Copied
+pub use Rattle.array_reshaping_laws.proofs.MendLaws as array_reshaping_laws_MendLaws
+pub use Rattle.array_reshaping_laws.proofs.reshape_progress_resync_laws_Mended
+pub use Rattle.array_reshaping_laws.proofs.array_reshaping_invariant_BegunCall
+pub use Rattle.array_reshaping_laws.proofs.array_reshaping_invariant_BegunMembers
+pub use Rattle.array_reshaping_laws.proofs.array_reshaping_invariant_Refusals
+pub use Rattle.array_reshaping_laws.proofs.array_reshaping_invariant_Resting
+pub use Rattle.array_reshaping_laws.proofs.array_reshaping_invariant_Staying
+pub use Rattle.array_reshaping_laws.proofs.array_reshaping_invariant_Steps
+pub use Rattle.array_reshaping_laws.proofs.array_reshaping_state_DueLaws
+pub use Rattle.array_reshaping_laws.proofs.array_reshaping_state_ReshapeLaws
+pub use Rattle.array_reshaping_laws.proofs.array_specs_Called
+pub use Rattle.array_reshaping_laws.proofs.array_specs_Lengths
+pub use Rattle.array_reshaping_laws.proofs.array_specs_VisibleLaws
+pub use Rattle.array_parts.proofs.array_members_Fit
+pub use Rattle.array_parts.proofs.array_members_MovedLaws
+pub use Rattle.array_reshaping_laws.proofs.history_invariant_Entered
+pub use Rattle.array_reshaping_laws.proofs.history_invariant_Tests
+pub use Rattle.array_reshaping_laws.proofs.history_invariant_Ledgers
+pub use Rattle.array_reshaping_laws.proofs.crash_safety_laws_Without
+pub use Rattle.array_reshaping_laws.proofs.crash_safety_laws_PlannedRoles
+pub use Rattle.array_reshaping_laws.proofs.crash_views_Stands
+pub use Rattle.array_reshaping_laws.proofs.history_invariant_Records
+pub use Rattle.array_reshaping_laws.proofs.history_invariant_Turned
+pub use Rattle.array_reshaping_laws.proofs.history_invariant_Lengths
+pub use Rattle.array_reshaping_laws.proofs.history_invariant_Growing
+pub use Rattle.array_reshaping_laws.proofs.crash_safety_laws_Steady
+pub use Rattle.array_reshaping_laws.proofs.crash_views_Alike
+pub use Rattle.array_reshaping_laws.proofs.history_invariant_Marks
+pub use Rattle.array_reshaping_laws.proofs.crash_views_Headers
+pub use Rattle.array_reshaping_laws.proofs.history_invariant_Opened
+pub use Rattle.array_reshaping_laws.proofs.sb_read_laws_SaidLists
+pub use Rattle.array_reshaping_laws.proofs.sb_read_laws_SaidSlots
+pub use Rattle.array_reshaping_laws.proofs.history_laws_OneShapeGrowing
+pub use Rattle.array_reshaping_laws.proofs.history_laws_ReshapedLaws
+pub use Rattle.array_reshaping_laws.proofs.history_laws_GrowingLaws
+pub mod StepLaws
+pub mod Calls
+pub use Rattle.array_reshaping_laws.proofs.array_call_specs_LossLaws
+pub use Rattle.array_reshaping_laws.proofs.array_call_specs_ReadyLaws
+pub use Rattle.array_reshaping_laws.proofs.array_call_specs_ReplyLaws
+pub use Rattle.array_reshaping_laws.proofs.array_reshaping_invariant_FinishedCall
+pub use Rattle.array_reshaping_laws.proofs.array_reshaping_invariant_Going
+pub use Rattle.array_reshaping_laws.proofs.RecordLaws as array_reshaping_laws_RecordLaws
+pub use Rattle.array_reshaping_laws.proofs.Settled as array_reshaping_laws_Settled
+pub use Rattle.array_reshaping_laws.proofs.WriteLaws as array_reshaping_laws_WriteLaws
+pub use Rattle.array_reshaping_laws.proofs.ZeroLaws as array_reshaping_laws_ZeroLaws
+pub use Rattle.array_reshaping_laws.proofs.BarredLaws as array_reshaping_laws_BarredLaws
+pub use Rattle.array_reshaping_laws.proofs.FirstLaws as array_reshaping_laws_FirstLaws
+pub use Rattle.array_reshaping_laws.proofs.Examined as array_reshaping_laws_Examined
+pub use Rattle.array_reshaping_laws.proofs.EnterLaws as array_reshaping_laws_EnterLaws
+pub use Rattle.array_reshaping_laws.proofs.DueSteps as array_reshaping_laws_DueSteps
+pub use Rattle.array_reshaping_laws.proofs.array_call_laws_ReadLaws
+pub use Rattle.array_reshaping_laws.proofs.array_reshaping_invariant_Writing
+pub use Rattle.array_reshaping_laws.proofs.WriteReplies as array_reshaping_laws_WriteReplies
+pub use Rattle.array_reshaping_laws.proofs.Entered as array_reshaping_laws_Entered
+pub use Rattle.sb_election.proofs.reshape_geometry_ClosedForms
+pub use Rattle.sb_election.proofs.reshape_geometry_Valid
+pub use Rattle.sb_election.proofs.sb_specs_Searches
+pub use Rattle.array_parts.proofs.history_OneShapeReplies
+pub use Rattle.array_parts.proofs.reshape_request_FirstLaws
+pub use Rattle.array_parts.proofs.reshape_request_FitLaws
+pub use Rattle.array_parts.proofs.reshape_request_LeftLaws
+pub use Rattle.array_parts.proofs.reshape_request_PlanLaws
+pub use Rattle.array_parts.proofs.reshape_plan_Sound
+pub use Rattle.array_parts.proofs.stripe_row_Losses
+pub use Rattle.array_parts.proofs.array_members_MarkLaws
+pub use Rattle.array_parts.proofs.array_members_MemberLaws
+pub use Rattle.array_state.proofs.raid_types_SectorLaws
+pub use Rattle.array_reshaping_laws.proofs.Reading as array_reshaping_laws_Reading
+pub use Rattle.array_parts.proofs.array_members_LackingLists
+pub use Rattle.array_reshaping_laws.proofs.array_specs_Replies
+pub use Rattle.array_reshaping_laws.proofs.array_call_laws_AddLaws
+pub use Rattle.array_reshaping_laws.proofs.array_reshaping_invariant_AddedSpare
+pub use Rattle.array_reshaping_laws.proofs.AddLaws as array_reshaping_laws_AddLaws
+pub use Rattle.array_parts.proofs.array_members_Flushed
+pub use Rattle.array_reshaping_laws.proofs.array_call_laws_AddedKept
+pub use Rattle.array_reshaping_laws.proofs.array_call_laws_AddedNumbers
+pub use Rattle.array_reshaping_laws.proofs.array_call_laws_AddedLosses
+pub use Rattle.array_reshaping_laws.proofs.history_append_BearerLaws
+pub use Rattle.array_reshaping_laws.proofs.array_call_specs_LedgerLaws
+pub use Rattle.array_reshaping_laws.proofs.array_call_specs_RecordLaws
+pub use Rattle.array_reshaping_laws.proofs.array_call_specs_DegradedLaws

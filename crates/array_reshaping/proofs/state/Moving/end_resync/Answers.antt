@@ -1,0 +1,361 @@
+use Rattle.std.proofs.Common.{◌≤◌, [], ◌∷◌, ◌++◌, false, Some, refl, sym, ◌∙◌, subst, arith, ap, None}
+use Rattle.sb_election.specs.sb_specs_Reading.{list_length}
+use Rattle.sb_election.proofs.sb_specs_ValidFields.{few-roles}
+use Rattle.array_parts.specs.history_the_Event_TheVariants.{Refused, Step}
+use Rattle.array_parts.specs.history_the_StepKind_TheVariants.{ResyncEnded as EndsResync}
+use Rattle.array_parts.specs.history_Plain.{entries_of}
+use Rattle.array_parts.specs.array_members_Lacking.{AreTooMany, AreHoldersFlushed}
+use Rattle.array_parts.specs.array_members_Numbers.{bears}
+use Rattle.array_parts.proofs.array_members_LackingLaws.{lost-since, never-both}
+use Rattle.array_parts.proofs.array_members_MovedLaws.{grows-none, moved-same}
+use Rattle.array_state.specs.history_append_Losing.{losses_of}
+use Rattle.array_reshaping_laws.specs.array_call_specs_Kept.{scope_in}
+use Rattle.array_reshaping_laws.proofs.array_call_specs_LossLaws.{losses-behind, ended-behind, behind-alone}
+use Rattle.array_reshaping_laws.proofs.array_call_specs_ReadyLaws.{scope-same}
+use Rattle.array_reshaping_laws.proofs.array_call_specs_ReplyLaws.{refused-for, too-many-of}
+use Rattle.array_reshaping_laws.specs.history_invariant_Recorded.{IsCallGoing}
+use Rattle.array_reshaping_laws.specs.history_invariant_Safe.{world_in}
+use Rattle.array_reshaping_laws.proofs.array_reshaping_invariant_Flushing.{AreFlushed, AreSettled}
+use Rattle.array_reshaping_laws.proofs.array_reshaping_invariant_Refusals.{quiet-refusal, refused-right}
+use Rattle.array_reshaping_laws.proofs.array_reshaping_invariant_Resting.{resting-moves}
+use Rattle.array_reshaping_laws.proofs.array_reshaping_invariant_Steps.{missing-since}
+use Rattle.array_reshaping_laws.specs.array_specs_Parts.{left_in}
+use Rattle.array_reshaping_laws.proofs.array_specs_Called.{not_254, called, alone-lossless, risen-told, many-of}
+use Rattle.array_reshaping_laws.specs.Mending.{IsResyncEndDue}
+use Rattle.array_reshaping_laws.specs.Ready.{bytes_in}
+use Rattle.array_reshaping_laws.proofs.Kept.{ready, ready-with, shapes-same, shapes-moved, behind-keeps, behind-whole}
+use Rattle.array_reshaping_laws.proofs.MendLaws.{aside-right, end-refused, end-done, end-left, rows-good}
+use Rattle.array_parts.specs.reshape_request_Left.{phases_of}
+use Rattle.array_reshaping_laws.specs.array_call_specs_Calls.{IsRefusedFor}
+use Rattle.array_reshaping_laws.proofs.array_reshaping_state_ReshapeLaws.{under-way-of}
+use Rattle.array_reshaping_laws.proofs.array_specs_Lengths.{alone-keeps}
+use Rattle.array_reshaping.proofs.Calls.{room-49, one-less, many-refused, sound-same, zeroed-moved, known-moved, never-falls, room-after-1, room-after-49, step-entered, zero-le}
+use Rattle.array_parts.specs.stripe_row_Rows.{reading_of}
+use Rattle.array_reshaping.proofs.state.Moving.end_resync.Goals as goal
+
+-- ---- refused before anything is done
+
+pub invariant_of-self : goal.invariant_of-self
+invariant_of-self g c =
+    let was = c.self.invariant in
+    let a = c.self.inside in
+    let given = g.B.Bank.given a.bank in
+    let scope = scope_in given a.epoch.uuid a.epoch.given (Some a.backup) in
+    let goes : IsCallGoing a.epoch.entries.items c.args.who = subst (λ p. IsCallGoing p.parts.entries c.args.who) (sym c.self.view_is) c.requires.open in
+    let some : 1 ≤ a.steps = subst (λ p. 1 ≤ p.parts.steps) (sym c.self.view_is) c.requires.room in
+    let tape = g.B.Bank.tape a.bank in
+    let end = c.ops-end.result in
+    let refusal = c.in-Some.refusal in
+    let kept = resting-moves g.B.Bank.tells given tape scope a.epoch.first a.epoch.entries.items a.members (bears a.work) a.work.resync a.course (bytes_in a.course.window a.window.items) (left_in a.work a.members a.course a.ahead)
+    c.args.who end (Refused refusal) was.kept goes (not_254 c.args.who.caller c.requires.caller) c.ops-end.ensures.count (quiet-refusal refusal) (λ told is. is)
+    (λ t right. refused-right (world_in given tape scope a.epoch.first) a.epoch.entries.items given a.members was.kept.members_are.placed (was.kept.gone t right) (was.kept.levelled t right) refusal c.in-Some.ensures) in
+    ready (entries_of c.args.who end (Refused refusal ∷ [])) was (grows-none (λ t. refl)) (shapes-same a.members.newest) kept
+    refl (never-falls _) (alone-keeps c.args.who end (Refused refusal) (λ n. refl) (λ limit. refl)) (λ none whole. whole) refl (scope-same given (Some a.backup) refl c.enter.ensures.uuid c.enter.ensures.given) c.enter.ensures.first refl c.enter.ensures.items
+    (room-after-1 a.steps a.epoch.entries.room c.enter.new.epoch.entries.room was.room_left c.enter.ensures.room some)
+
+pub returns-in-Some-clause-entered : goal.returns-in-Some-clause-entered
+returns-in-Some-clause-entered g c =
+    rw (← c.self.view_is) (behind-alone c.args.who c.ops-end.result (Refused c.in-Some.refusal) refl c.enter.ensures.items)
+
+pub returns-in-Some-clause-called : goal.returns-in-Some-clause-called
+returns-in-Some-clause-called g c =
+    let was = c.self.invariant in
+    let a = c.self.inside in
+    let given = g.B.Bank.given a.bank in
+    let faults = g.B.Bank.faults_of a.bank in
+    let end = c.ops-end.result in
+    let refusal = c.in-Some.refusal in
+    rw (← c.self.view_is) (called (grows-none (λ t. refl)) (moved-same given given a.members a.members refl refl was.kept.members_are.placed was.kept.members_are.unlost)
+    (ended-behind (g.B.Bank.tape a.bank) c.enter.new.epoch.first a.epoch.entries.items c.args.who end [] (Refused refusal) c.enter.ensures.items c.ops-end.ensures.count)
+    (alone-lossless a.members faults faults a.epoch.entries.items a.epoch.entries.items c.enter.new.epoch.entries.items c.args.who end (Refused refusal) tt refl c.enter.ensures.items)
+    (never-falls _)
+    (record { uuid = c.enter.ensures.uuid; given = c.enter.ensures.given; first = c.enter.ensures.first; backup = refl; work = refl; ahead = refl; limit = refl })
+    (λ t. (was.kept.recorded t).begun))
+
+-- ---- the roles
+
+pub overflow_cast-count : goal.overflow_cast-count
+overflow_cast-count g c =
+    let members = c.self.invariant.kept.members_are in
+    let few = few-roles c.self.inside.members.newest members.placed.fit.valid in
+    let roles = members.backed.roles in
+    let long = c.len-count.ensures in
+    omega (arith, few, roles, long)
+
+pub vacant_roles-before-requires-clause-few : goal.vacant_roles-before-requires-clause-few
+vacant_roles-before-requires-clause-few g c =
+    let members = c.self.invariant.kept.members_are in
+    let few = few-roles c.self.inside.members.newest members.placed.fit.valid in
+    let roles = members.backed.roles in
+    let long = c.len-count.ensures in
+    omega (arith, few, roles, long)
+
+pub newly_vacant-lost-requires-clause-few : goal.newly_vacant-lost-requires-clause-few
+newly_vacant-lost-requires-clause-few g c =
+    let members = c.self.invariant.kept.members_are in
+    let few = few-roles c.self.inside.members.newest members.placed.fit.valid in
+    let roles = members.backed.roles in
+    let long = c.len-count.ensures in
+    omega (arith, few, roles, long)
+
+-- ---- it is refused
+
+pub invariant_of-self-in-Some-refusal : goal.invariant_of-self-in-Some-refusal
+invariant_of-self-in-Some-refusal g c =
+    let was = c.self.invariant in
+    let here = was.kept.members_are in
+    let a = c.self.inside in
+    let given = g.B.Bank.given a.bank in
+    let goes : IsCallGoing a.epoch.entries.items c.args.who = subst (λ p. IsCallGoing p.parts.entries c.args.who) (sym c.self.view_is) c.requires.open in
+    let some : 1 ≤ a.steps = subst (λ p. 1 ≤ p.parts.steps) (sym c.self.view_is) c.requires.room in
+    let due = subst (λ p. IsResyncEndDue p) (sym c.self.view_is) c.requires.due in
+    let m = c.settle-settled.new.members in
+    let did = c.settle-settled.ensures in
+    let tape = g.B.Bank.tape a.bank in
+    let tape' = g.B.Bank.tape c.settle-settled.new.bank in
+    let before = g.B.Bank.faults_of a.bank in
+    let after = g.B.Bank.faults_of c.settle-settled.new.bank in
+    let roles = c.newly_vacant-lost.result in
+    let spares = c.settle-settled.result.spares in
+    let end = c.ops-end-2.result in
+    let refusal = c.in-Some-refusal.refusal in
+    let since = lost-since given a.members m c.len-count.result c.vacant_roles-before.result roles spares before after here.placed did.moved did.failed
+    (c.len-count.ensures ∙ here.backed.roles) c.vacant_roles-before.ensures c.newly_vacant-lost.ensures in
+    let flushed : AreFlushed g.B.Bank.tells given tape tape' a.members m roles false = record {
+      moved = did.moved;
+      few = few-roles m.newest did.moved.placed.fit.valid;
+      since = missing-since roles did.moved since.vacant;
+      stays = did.stays;
+      rise = risen-told did.rise;
+      others = did.others;
+      unused = did.unused;
+      safe = did.safe;
+    } in
+    let kept = end-refused a.work a.course a.ahead c.args.who end roles spares due.is due.aside was.kept c.in_default.ensures goes c.requires.caller c.ops-end-2.ensures.count did.grows flushed refusal
+    (many-of m c.settle-settled.result.refusal refusal c.in-Some-refusal.is did.refused) in
+    ready (entries_of c.args.who end (losses_of roles spares ++ Refused refusal ∷ [])) was did.grows (shapes-moved given a.members m did.moved) kept
+    refl did.counts (behind-keeps c.args.who end roles spares (Refused refusal) (λ n. refl) (λ limit. refl)) (behind-whole tape' (scope_in given a.epoch.uuid a.epoch.given (Some a.backup)) a.epoch.first a.epoch.entries.items c.args.who end roles spares (Refused refusal) did.moved (missing-since roles did.moved since.vacant)) did.given (scope-same given (Some a.backup) did.given c.enter_behind.ensures.uuid c.enter_behind.ensures.given) c.enter_behind.ensures.first refl c.enter_behind.ensures.items
+    (room-after-49 a.steps a.epoch.entries.room c.enter_behind.new.epoch.entries.room was.room_left c.enter_behind.ensures.room some)
+
+pub returns-in-Some-refusal-clause-called : goal.returns-in-Some-refusal-clause-called
+returns-in-Some-refusal-clause-called g c =
+    let was = c.self.invariant in
+    let here = was.kept.members_are in
+    let a = c.self.inside in
+    let given = g.B.Bank.given a.bank in
+    let m = c.settle-settled.new.members in
+    let did = c.settle-settled.ensures in
+    let before = g.B.Bank.faults_of a.bank in
+    let after = g.B.Bank.faults_of c.settle-settled.new.bank in
+    let roles = c.newly_vacant-lost.result in
+    let spares = c.settle-settled.result.spares in
+    let end = c.ops-end-2.result in
+    let refusal = c.in-Some-refusal.refusal in
+    let since = lost-since given a.members m c.len-count.result c.vacant_roles-before.result roles spares before after here.placed did.moved did.failed
+    (c.len-count.ensures ∙ here.backed.roles) c.vacant_roles-before.ensures c.newly_vacant-lost.ensures in
+    rw (← c.self.view_is) (called did.grows did.moved
+    (ended-behind (g.B.Bank.tape c.settle-settled.new.bank) c.enter_behind.new.epoch.first a.epoch.entries.items c.args.who end (losses_of roles spares) (Refused refusal) c.enter_behind.ensures.items c.ops-end-2.ensures.count)
+    (losses-behind a.members m before after a.epoch.entries.items a.epoch.entries.items c.enter_behind.new.epoch.entries.items c.args.who end roles spares (Refused refusal) since tt refl c.enter_behind.ensures.items)
+    did.counts
+    (record { uuid = c.enter_behind.ensures.uuid; given = c.enter_behind.ensures.given; first = c.enter_behind.ensures.first; backup = refl; work = refl; ahead = refl; limit = refl })
+    (λ t. (was.kept.recorded t).begun))
+
+pub returns-in-Some-refusal-clause-caused : goal.returns-in-Some-refusal-clause-caused
+returns-in-Some-refusal-clause-caused g c =
+    let a = c.self.inside in
+    let m = c.settle-settled.new.members in
+    let refusal = c.in-Some-refusal.refusal in
+    let many = many-of m c.settle-settled.result.refusal refusal c.in-Some-refusal.is c.settle-settled.ensures.refused in
+    rw (← c.self.view_is) (refused-for (list_length a.members.newest) 0 AreTooMany a.members m refusal (too-many-of m refusal many) (zero-le _) many)
+
+-- ---- it is done
+
+pub all_left-left-requires-clause-open : goal.all_left-left-requires-clause-open
+all_left-left-requires-clause-open g c =
+    let a = c.self.inside in
+    let due = subst (λ p. IsResyncEndDue p) (sym c.self.view_is) c.requires.due in
+    aside-right c.settle-settled.new.members.newest a.course.window due.aside
+
+pub invariant_of-self-2 : goal.invariant_of-self-2
+invariant_of-self-2 g c =
+    let was = c.self.invariant in
+    let here = was.kept.members_are in
+    let a = c.self.inside in
+    let given = g.B.Bank.given a.bank in
+    let goes : IsCallGoing a.epoch.entries.items c.args.who = subst (λ p. IsCallGoing p.parts.entries c.args.who) (sym c.self.view_is) c.requires.open in
+    let some : 1 ≤ a.steps = subst (λ p. 1 ≤ p.parts.steps) (sym c.self.view_is) c.requires.room in
+    let due = subst (λ p. IsResyncEndDue p) (sym c.self.view_is) c.requires.due in
+    let m = c.settle-settled.new.members in
+    let did = c.settle-settled.ensures in
+    let tape = g.B.Bank.tape a.bank in
+    let tape' = g.B.Bank.tape c.settle-settled.new.bank in
+    let before = g.B.Bank.faults_of a.bank in
+    let after = g.B.Bank.faults_of c.settle-settled.new.bank in
+    let roles = c.newly_vacant-lost.result in
+    let spares = c.settle-settled.result.spares in
+    let end = c.ops-end-2.result in
+    let left = c.all_left-left.result in
+    let since = lost-since given a.members m c.len-count.result c.vacant_roles-before.result roles spares before after here.placed did.moved did.failed
+    (c.len-count.ensures ∙ here.backed.roles) c.vacant_roles-before.ensures c.newly_vacant-lost.ensures in
+    let flushed : AreFlushed g.B.Bank.tells given tape tape' a.members m roles false = record {
+      moved = did.moved;
+      few = few-roles m.newest did.moved.placed.fit.valid;
+      since = missing-since roles did.moved since.vacant;
+      stays = did.stays;
+      rise = risen-told did.rise;
+      others = did.others;
+      unused = did.unused;
+      safe = did.safe;
+    } in
+    let done : AreSettled g.B.Bank.tells given tape tape' a.members m false = record { clean = did.clean c.in_default-refusal.is; settled = did.settled c.in_default-refusal.is } in
+    let kept = end-done a.work a.course a.ahead c.args.who end roles spares due.is due.aside was.kept c.in_default.ensures goes c.requires.caller c.ops-end-2.ensures.count did.grows flushed left c.all_left-left.ensures done in
+    ready-with (entries_of c.args.who end (losses_of roles spares ++ Step EndsResync left ∷ [])) was did.grows (shapes-moved given a.members m did.moved) kept
+    refl did.counts (behind-keeps c.args.who end roles spares (Step EndsResync left) (λ n. refl) (λ limit. refl)) (behind-whole tape' (scope_in given a.epoch.uuid a.epoch.given (Some a.backup)) a.epoch.first a.epoch.entries.items c.args.who end roles spares (Step EndsResync left) did.moved (missing-since roles did.moved since.vacant)) did.given (scope-same given (Some a.backup) did.given c.enter_behind-2.ensures.uuid c.enter_behind-2.ensures.given) c.enter_behind-2.ensures.first refl c.enter_behind-2.ensures.items
+    (room-after-49 a.steps a.epoch.entries.room c.enter_behind-2.new.epoch.entries.room was.room_left c.enter_behind-2.ensures.room some)
+
+pub returns-clause-called : goal.returns-clause-called
+returns-clause-called g c =
+    let was = c.self.invariant in
+    let here = was.kept.members_are in
+    let a = c.self.inside in
+    let given = g.B.Bank.given a.bank in
+    let m = c.settle-settled.new.members in
+    let did = c.settle-settled.ensures in
+    let before = g.B.Bank.faults_of a.bank in
+    let after = g.B.Bank.faults_of c.settle-settled.new.bank in
+    let roles = c.newly_vacant-lost.result in
+    let spares = c.settle-settled.result.spares in
+    let end = c.ops-end-2.result in
+    let event = Step EndsResync c.all_left-left.result in
+    let since = lost-since given a.members m c.len-count.result c.vacant_roles-before.result roles spares before after here.placed did.moved did.failed
+    (c.len-count.ensures ∙ here.backed.roles) c.vacant_roles-before.ensures c.newly_vacant-lost.ensures in
+    rw (← c.self.view_is) (called did.grows did.moved
+    (ended-behind (g.B.Bank.tape c.settle-settled.new.bank) c.enter_behind-2.new.epoch.first a.epoch.entries.items c.args.who end (losses_of roles spares) event c.enter_behind-2.ensures.items c.ops-end-2.ensures.count)
+    (losses-behind a.members m before after a.epoch.entries.items a.epoch.entries.items c.enter_behind-2.new.epoch.entries.items c.args.who end roles spares event since tt refl c.enter_behind-2.ensures.items)
+    did.counts
+    (record { uuid = c.enter_behind-2.ensures.uuid; given = c.enter_behind-2.ensures.given; first = c.enter_behind-2.ensures.first; backup = refl; work = refl; ahead = refl; limit = refl })
+    (λ t. (was.kept.recorded t).begun))
+
+pub returns-clause-left : goal.returns-clause-left
+returns-clause-left g c =
+    let was = c.self.invariant in
+    let a = c.self.inside in
+    let due = subst (λ p. IsResyncEndDue p) (sym c.self.view_is) c.requires.due in
+    end-left (g.B.Bank.given a.bank) a.members c.settle-settled.new.members a.work a.course a.ahead was.kept.members_are.placed.fit was.kept.members_are.active due.is c.settle-settled.ensures.moved due.aside ∙ ap (λ p. left_in p.parts.work p.parts.members p.course p.ahead) c.self.view_is
+
+pub returns-clause-caused : goal.returns-clause-caused
+returns-clause-caused g c = rw (← c.self.view_is) (zero-le _, λ refusal many. never-both c.self.inside.members refusal c.in_default.ensures many)
+
+pub returns-clause-clean : goal.returns-clause-clean
+returns-clause-clean g c = c.settle-settled.ensures.clean c.in_default-refusal.is refl
+
+pub returns-clause-good : goal.returns-clause-good
+returns-clause-good g c =
+    let due = subst (λ p. IsResyncEndDue p) (sym c.self.view_is) c.requires.due in
+    λ t fit. rows-good c.self.inside.course due.aside (invariant_of-self-2 g c).kept t fit
+
+pub returns-clause-flushed : goal.returns-clause-flushed
+returns-clause-flushed g c = subst (λ p. g.B.Bank.tells → AreHoldersFlushed (reading_of c.settle-settled.new.members) (g.B.Bank.given p.parts.bank) (g.B.Bank.tape c.settle-settled.new.bank)) c.self.view_is c.settle-settled.ensures.flushed
+
+-- ---- by what stands above
+
+pub check_going-requires : goal.check_going-requires
+check_going-requires g c = subst (λ p. IsCallGoing p.parts.entries c.args.who) (sym c.self.view_is) c.requires.open
+
+pub returns-in-Some-clause-caused : goal.returns-in-Some-clause-caused
+returns-in-Some-clause-caused g c =
+    let a = c.self.inside in
+    subst (λ p. IsRefusedFor (list_length p.parts.members.newest) 0 AreTooMany p.parts.members a.members c.in-Some.refusal) c.self.view_is (many-refused a.members c.in-Some.refusal c.in-Some.ensures)
+
+pub returns-in-Some-clause-room : goal.returns-in-Some-clause-room
+returns-in-Some-clause-room g c = one-less c.self.inside.steps (subst (λ p. 1 ≤ p.parts.steps) (sym c.self.view_is) c.requires.room) ∙ ap (λ p. p.parts.steps) c.self.view_is
+
+pub returns-in-Some-refusal-clause-room : goal.returns-in-Some-refusal-clause-room
+returns-in-Some-refusal-clause-room g c = one-less c.self.inside.steps (subst (λ p. 1 ≤ p.parts.steps) (sym c.self.view_is) c.requires.room) ∙ ap (λ p. p.parts.steps) c.self.view_is
+
+pub returns-clause-room : goal.returns-clause-room
+returns-clause-room g c = one-less c.self.inside.steps (subst (λ p. 1 ≤ p.parts.steps) (sym c.self.view_is) c.requires.room) ∙ ap (λ p. p.parts.steps) c.self.view_is
+
+pub enter_behind-requires-clause-room : goal.enter_behind-requires-clause-room
+enter_behind-requires-clause-room g c = room-49 c.self.inside.steps c.self.inside.epoch.entries.room (subst (λ p. 1 ≤ p.parts.steps) (sym c.self.view_is) c.requires.room) c.self.invariant.room_left
+
+pub enter_behind-requires-2-clause-room : goal.enter_behind-requires-2-clause-room
+enter_behind-requires-2-clause-room g c = room-49 c.self.inside.steps c.self.inside.epoch.entries.room (subst (λ p. 1 ≤ p.parts.steps) (sym c.self.view_is) c.requires.room) c.self.invariant.room_left
+
+pub enter_behind-requires-clause-number : goal.enter_behind-requires-clause-number
+enter_behind-requires-clause-number g c = c.check_going.ensures
+
+pub enter_behind-requires-2-clause-number : goal.enter_behind-requires-2-clause-number
+enter_behind-requires-2-clause-number g c = c.check_going.ensures
+
+pub enter-requires-clause-number : goal.enter-requires-clause-number
+enter-requires-clause-number g c = c.check_going.ensures
+
+pub returns-in-Some-refusal-clause-entered : goal.returns-in-Some-refusal-clause-entered
+returns-in-Some-refusal-clause-entered g c = rw (← c.self.view_is) (record { roles = c.newly_vacant-lost.result; spares = c.settle-settled.result.spares; end = c.ops-end-2.result; is = c.enter_behind.ensures.items })
+
+pub returns-clause-entered : goal.returns-clause-entered
+returns-clause-entered g c = step-entered c.newly_vacant-lost.result c.settle-settled.result.spares c.ops-end-2.result c.enter_behind-2.ensures.items c.all_left-left.ensures (ap (λ p. p.parts.entries) c.self.view_is)
+
+pub settle-settled-requires-clause-placed : goal.settle-settled-requires-clause-placed
+settle-settled-requires-clause-placed g c = c.self.invariant.kept.members_are.placed
+
+pub settle-settled-requires-clause-unlost : goal.settle-settled-requires-clause-unlost
+settle-settled-requires-clause-unlost g c = c.self.invariant.kept.members_are.unlost
+
+pub settle-settled-requires-clause-free : goal.settle-settled-requires-clause-free
+settle-settled-requires-clause-free g c = c.self.invariant.kept.members_are.free
+
+pub settle-settled-requires-clause-slots : goal.settle-settled-requires-clause-slots
+settle-settled-requires-clause-slots g c = c.self.invariant.kept.slots
+
+pub returns-in-Some-refusal-clause-given : goal.returns-in-Some-refusal-clause-given
+returns-in-Some-refusal-clause-given g c = c.settle-settled.ensures.given ∙ ap (λ p. g.B.Bank.given p.parts.bank) c.self.view_is
+
+pub returns-clause-given : goal.returns-clause-given
+returns-clause-given g c = c.settle-settled.ensures.given ∙ ap (λ p. g.B.Bank.given p.parts.bank) c.self.view_is
+
+pub returns-in-Some-clause-given : goal.returns-in-Some-clause-given
+returns-in-Some-clause-given g c = ap (λ p. g.B.Bank.given p.parts.bank) c.self.view_is
+
+pub returns-in-Some-clause-course : goal.returns-in-Some-clause-course
+returns-in-Some-clause-course g c = ap (λ p. p.course) c.self.view_is
+
+pub returns-in-Some-refusal-clause-course : goal.returns-in-Some-refusal-clause-course
+returns-in-Some-refusal-clause-course g c = ap (λ p. p.course) c.self.view_is
+
+pub all_left-left-requires-clause-reshape : goal.all_left-left-requires-clause-reshape
+all_left-left-requires-clause-reshape g c =
+    let moved = c.settle-settled.ensures.moved in
+    under-way-of c.settle-settled.new.members.newest moved.placed.fit (moved.reshape.reshaping ∙ c.self.invariant.kept.members_are.active)
+
+pub all_left-left-requires-clause-fit : goal.all_left-left-requires-clause-fit
+all_left-left-requires-clause-fit g c =
+    let moved = c.settle-settled.ensures.moved in
+    moved.placed.fit
+
+pub all_left-left-requires-clause-sound : goal.all_left-left-requires-clause-sound
+all_left-left-requires-clause-sound g c = sound-same (phases_of c.self.inside.ahead) (shapes-moved (g.B.Bank.given c.self.inside.bank) c.self.inside.members c.settle-settled.new.members c.settle-settled.ensures.moved) c.self.invariant.planned
+
+pub all_left-left-requires-clause-zeroed : goal.all_left-left-requires-clause-zeroed
+all_left-left-requires-clause-zeroed g c =
+    let moved = c.settle-settled.ensures.moved in
+    zeroed-moved _ moved c.self.invariant.kept.course_is.few
+
+pub newly_vacant-lost-requires-clause-known : goal.newly_vacant-lost-requires-clause-known
+newly_vacant-lost-requires-clause-known g c = known-moved c.len-count.result c.settle-settled.ensures.moved c.len-count.ensures c.self.invariant.kept.members_are.placed.roles
+
+pub returns-in-Some-clause-work : goal.returns-in-Some-clause-work
+returns-in-Some-clause-work g c = ap (λ p. p.parts.work) c.self.view_is
+
+pub returns-in-Some-refusal-clause-work : goal.returns-in-Some-refusal-clause-work
+returns-in-Some-refusal-clause-work g c = ap (λ p. p.parts.work) c.self.view_is
+
+pub returns-clause-course : goal.returns-clause-course
+returns-clause-course g c = ap (λ p. p.course) c.self.view_is
+
+pub returns-clause-work : goal.returns-clause-work
+returns-clause-work g c = ap (λ p. record p.parts.work { resync = None }) c.self.view_is
+
+pub overflow_sub-self : goal.overflow_sub-self
+overflow_sub-self g c = subst (λ p. 1 ≤ p.parts.steps) (sym c.self.view_is) c.requires.room

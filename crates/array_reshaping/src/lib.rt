@@ -1,0 +1,26 @@
+//! An array in a reshape: it is read and written while its windows are moved, and keeps its history.
+#![tactic(auto)]
+
+mod state;
+
+pub use array_parts::{
+    Entries, Epoch, Event, PhasesLeft, Pieces, StepKind, Window, Work,
+    all_left as grow_asked_all_left, is_backward, is_missing, judge_grow, plan_of, planned_left,
+    reshape_left,
+};
+pub use array_reshaping_laws::{
+    Course, Due, Finished, begin, clear_window, copy, due_step, enter_next, fetch_beside, final_in,
+    finish, finish_window, has_unnamed, hidden_span, is_spare, is_window_critical, list_length,
+    list_sectors, meets, newly_vacant, next_window_of, open_span, put_list, record, relied_sector,
+    stripe_to_copy, stripe_to_zero, too_many, unread_from, unsure_span, unwritten_from,
+    vacant_roles, visible, zero,
+};
+pub use array_state::absent::enter_all_absent;
+pub use array_state::adding::{spare_for, unaddable};
+pub use array_state::asking::steps_left;
+pub use array_state::holders::holds_role;
+pub use array_state::room::{Room, room_for, zeros};
+pub use array_state::work::found_numbers;
+pub use array_state::{add_member, bear, check_number, free_number, look_at};
+pub use sb_election::{Bank, Members, contains, with, without};
+pub use state::{Moving, all_left, check_going};

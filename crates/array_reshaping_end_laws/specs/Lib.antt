@@ -1,0 +1,2 @@
+pub use Rattle.array_reshaping_invariant.specs.Moving as array_reshaping_invariant_Moving
+pub use Rattle.array_reshaping_invariant.specs.history_invariant_laws_Reliable

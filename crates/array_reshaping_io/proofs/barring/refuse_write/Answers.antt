@@ -1,0 +1,140 @@
+use Rattle.std.proofs.Common.{inr, ◌≡◌, ◌≤◌, ◌+◌, ℕ, Option, [], ◌∷◌, Some, refl, sym, subst, arith, ap}
+use Rattle.std.specs.Prelude.{Result, Err}
+use Rattle.array_reshaping_steps.specs.raid_types_the_Fault.{Fault as AnyFault}
+use Rattle.array_reshaping_steps.specs.raid_types_the_Fault_TheVariants.{Refused as IsRefusedWith}
+use Rattle.array_reshaping_steps.specs.raid_types_the_Refusal.{Refusal}
+use Rattle.array_reshaping_steps.specs.raid_types_the_Refusal_TheVariants.{BackupFault}
+use Rattle.array_reshaping_steps.specs.raid_types_the_Span.{Span}
+use Rattle.array_reshaping_steps.specs.sb_specs_the_Members.{Members}
+use Rattle.array_reshaping_steps.specs.history_the_Event_TheVariants.{Refused}
+use Rattle.array_reshaping_steps.specs.history_Plain.{entries_of}
+use Rattle.array_reshaping_steps.specs.array_members_Numbers.{bears}
+use Rattle.array_reshaping_steps.proofs.array_members_MovedLaws.{grows-none, moved-same}
+use Rattle.array_reshaping_steps.specs.array_call_specs_Kept.{scope_in}
+use Rattle.array_reshaping_steps.specs.array_call_specs_Calls.{IsRefusedFor, IsCausedBy}
+use Rattle.array_reshaping_steps.proofs.array_call_specs_LossLaws.{ended-behind}
+use Rattle.array_reshaping_steps.proofs.array_call_specs_ReadyLaws.{scope-same}
+use Rattle.array_reshaping_steps.specs.reshape_request_the_Window.{Window}
+use Rattle.array_reshaping_steps.specs.reshape_request_the_Window_TheVariants.{Closed, Entered, Unsure}
+use Rattle.array_reshaping_steps.specs.stripe_region_write_Runs.{IsListUnwritten}
+use Rattle.array_reshaping_steps.specs.stripe_region_resync_Mends.{relied_sector}
+use Rattle.array_reshaping_steps.specs.history_invariant_Recorded.{IsCallGoing}
+use Rattle.array_reshaping_steps.proofs.array_reshaping_invariant_Refusals.{quiet-refusal}
+use Rattle.array_reshaping_steps.proofs.array_reshaping_invariant_Resting.{resting-moves}
+use Rattle.array_reshaping_steps.specs.array_specs_Parts.{visible_size, visible_in, left_in}
+use Rattle.array_reshaping_steps.proofs.array_specs_Called.{not_254, called, alone-lossless}
+use Rattle.array_reshaping_steps.specs.array_reshaping_laws_Ready.{bytes_in}
+use Rattle.array_reshaping_steps.specs.array_reshaping_laws_Writing.{TouchesUnsure, IsWriteBarred}
+use Rattle.array_reshaping_steps.proofs.array_reshaping_laws_Kept.{ready, shapes-same}
+use Rattle.array_reshaping_steps.proofs.array_reshaping_laws_WriteLaws.{first-right, torn-missing}
+use Rattle.array_reshaping_steps.proofs.array_reshaping_laws_BarredLaws.{unwritten-barred}
+use Rattle.array_reshaping_steps.proofs.array_reshaping_laws_FirstLaws.{first-told, first-none}
+use Rattle.array_reshaping_steps.proofs.array_reshaping_Calls.{refused-same}
+use Rattle.array_reshaping_steps.proofs.array_specs_Lengths.{alone-keeps}
+use Rattle.array_reshaping_io.proofs.barring.refuse_write.Goals as goal
+
+-- ---- refused before the backup is asked
+
+pub invariant_of-moving : goal.invariant_of-moving
+invariant_of-moving g c =
+    let was = c.moving.invariant in
+    let a = c.moving.inside in
+    let given = g.B.Bank.given a.bank in
+    let scope = scope_in given a.epoch.uuid a.epoch.given (Some a.backup) in
+    let goes : IsCallGoing a.epoch.entries.items c.args.who = subst (λ p. IsCallGoing p.parts.entries c.args.who) (sym c.moving.view_is) c.requires.open in
+    let steps : 1 ≤ a.steps = subst (λ p. 1 ≤ p.parts.steps) (sym c.moving.view_is) c.requires.room in
+    let tape = g.B.Bank.tape a.bank in
+    let end = c.ops-end.result in
+    let refusal = c.in-Some.refusal in
+    let kept = resting-moves g.B.Bank.tells given tape scope a.epoch.first a.epoch.entries.items a.members (bears a.work) a.work.resync a.course (bytes_in a.course.window a.window.items) (left_in a.work a.members a.course a.ahead)
+    c.args.who end (Refused refusal) was.kept goes (not_254 c.args.who.caller c.requires.caller) c.ops-end.ensures.count (quiet-refusal refusal) (λ told is. is)
+    (λ t right. first-right was.kept was.limited c.open_span-window.result c.relied_sector-relied.result c.args.at (c.args.at + c.args.count) refusal c.relied_sector-relied.ensures.value c.in-Some.ensures.why t right) in
+    ready (entries_of c.args.who end (Refused refusal ∷ [])) was (grows-none (λ t. refl)) (shapes-same a.members.newest) kept
+    refl (λ slot. omega arith) (alone-keeps c.args.who end (Refused refusal) (λ n. refl) (λ limit. refl)) (λ none whole. whole) refl (scope-same given (Some a.backup) refl c.enter.ensures.uuid c.enter.ensures.given) c.enter.ensures.first refl c.enter.ensures.items
+    (let had = was.room_left in let room = c.enter.ensures.room in omega (arith, room, had, steps))
+
+pub returns-in-Some-clause-called : goal.returns-in-Some-clause-called
+returns-in-Some-clause-called g c =
+    let was = c.moving.invariant in
+    let a = c.moving.inside in
+    let given = g.B.Bank.given a.bank in
+    let faults = g.B.Bank.faults_of a.bank in
+    let end = c.ops-end.result in
+    let refusal = c.in-Some.refusal in
+    rw (← c.moving.view_is) (called (grows-none (λ t. refl)) (moved-same given given a.members a.members refl refl was.kept.members_are.placed was.kept.members_are.unlost)
+    (ended-behind (g.B.Bank.tape a.bank) c.enter.new.epoch.first a.epoch.entries.items c.args.who end [] (Refused refusal) c.enter.ensures.items c.ops-end.ensures.count)
+    (alone-lossless a.members faults faults a.epoch.entries.items a.epoch.entries.items c.enter.new.epoch.entries.items c.args.who end (Refused refusal) tt refl c.enter.ensures.items)
+    (λ slot. omega arith)
+    (record { uuid = c.enter.ensures.uuid; given = c.enter.ensures.given; first = c.enter.ensures.first; backup = refl; work = refl; ahead = refl; limit = refl })
+    (λ t. (was.kept.recorded t).begun))
+
+-- a sector lies in an unsure window only where there is one
+unsure-touched : (window : Window) (from to : ℕ) → TouchesUnsure window from to → (span : Span) × (window ≡ Unsure span)
+unsure-touched Closed from to touched = absurd (let covered = touched.3 in cc)
+unsure-touched (Entered span copied sectioned) from to touched = absurd (let covered = touched.3 in cc)
+unsure-touched (Unsure span) from to touched = (span, refl)
+
+-- no write beside it is refused for the backup
+unwritten-never : {P : Type 0} (window : Option Span) (visible relied at to : ℕ) (m : Members) (refusal : Refusal) → IsRefusedFor visible to (IsListUnwritten window relied at to) m m refusal → refusal ≡ BackupFault → P
+unwritten-never window visible relied at to m refusal why is =
+    let told = subst (λ (r : Refusal). IsRefusedFor visible to (IsListUnwritten window relied at to) m m r) is why in
+    absurd ((torn-missing window relied at to m BackupFault told.1).0)
+
+backup-caused : {T : Type 0} (window : Window) (visible relied at to : ℕ) (old new : Members) (result : Result T AnyFault) → result ≡ Err (IsRefusedWith BackupFault) → to ≤ visible → TouchesUnsure window at to
+    → IsCausedBy visible to (IsWriteBarred window relied at to) old new result
+backup-caused {T = T} window visible relied at to old new result is within touches =
+    subst (λ (r : Result T AnyFault). IsCausedBy visible to (IsWriteBarred window relied at to) old new r) (sym is) (within, inr (touches, refl))
+
+pub returns-in-Some-clause-caused : goal.returns-in-Some-clause-caused
+returns-in-Some-clause-caused g c =
+    let a = c.moving.inside in
+    let to = c.args.at + c.args.count in
+    let relied = relied_sector a.members.newest a.work.resync in
+    rw (← c.moving.view_is) (unwritten-barred a.course.window (visible_size a.members a.limit) relied c.args.at to a.members c.in-Some.refusal
+    (subst (λ (o : Option Span). IsRefusedFor (visible_size a.members a.limit) to (IsListUnwritten o relied c.args.at to) a.members a.members c.in-Some.refusal) c.open_span-window.ensures
+    (subst (λ (n : ℕ). IsRefusedFor (visible_size a.members a.limit) to (IsListUnwritten c.open_span-window.result n c.args.at to) a.members a.members c.in-Some.refusal) c.relied_sector-relied.ensures.value c.in-Some.ensures.why)))
+
+pub returns-in-Some-clause-backup : goal.returns-in-Some-clause-backup
+returns-in-Some-clause-backup g c = λ is.
+    unwritten-never c.open_span-window.result (visible_size c.moving.inside.members c.moving.inside.limit) c.relied_sector-relied.result c.args.at (c.args.at + c.args.count) c.moving.inside.members c.in-Some.refusal c.in-Some.ensures.why (refused-same c.in-Some.refusal BackupFault is)
+
+-- ---- the backup fails
+
+pub clear-requires-clause-unsure : goal.clear-requires-clause-unsure
+clear-requires-clause-unsure g c = unsure-touched c.args.moving.now.course.window c.args.at (c.args.at + c.args.count) c.requires.touches
+
+pub returns-clause-caused : goal.returns-clause-caused
+returns-clause-caused g c =
+    let old = c.args.moving.now in
+    let to = c.args.at + c.args.count in
+    let within = subst (λ p. to ≤ visible_in p) c.moving.view_is c.in_default.ensures.why.0 in
+    backup-caused old.course.window (visible_in old) (relied_sector old.parts.members.newest old.parts.work.resync) c.args.at to old.parts.members c.clear.new.moving.parts.members c.clear.result
+    c.clear.ensures.refused within c.requires.touches
+
+-- ---- which refusal is the first
+
+pub returns-in-Some-clause-first : goal.returns-in-Some-clause-first
+returns-in-Some-clause-first g c = rw (← c.moving.view_is) (first-told _ _ c.in-Some.refusal c.in-Some.ensures.first)
+
+pub returns-clause-first : goal.returns-clause-first
+returns-clause-first g c = rw (← c.moving.view_is) (first-none _ c.clear.result c.in_default.ensures.first)
+
+-- ---- by what stands above
+
+pub returns-in-Some-clause-members : goal.returns-in-Some-clause-members
+returns-in-Some-clause-members g c = ap (λ p. p.parts.members) c.moving.view_is
+
+pub check_going-requires : goal.check_going-requires
+check_going-requires g c = subst (λ p. IsCallGoing p.parts.entries c.args.who) (sym c.moving.view_is) c.requires.open
+
+pub overflow_sub-moving : goal.overflow_sub-moving
+overflow_sub-moving g c = subst (λ p. 1 ≤ p.parts.steps) (sym c.moving.view_is) c.requires.room
+
+pub returns-in-Some-clause-alone : goal.returns-in-Some-clause-alone
+returns-in-Some-clause-alone g c = rw (← c.moving.view_is) (c.ops-end.result, c.enter.ensures.items)
+
+pub enter-requires-clause-number : goal.enter-requires-clause-number
+enter-requires-clause-number g c = c.check_going.ensures
+
+pub returns-in-Some-clause-course : goal.returns-in-Some-clause-course
+returns-in-Some-clause-course g c = ap (λ p. p.course) c.moving.view_is

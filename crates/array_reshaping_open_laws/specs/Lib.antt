@@ -1,0 +1,10 @@
+pub mod Opening
+pub use Rattle.array_open_window.specs.Finding as array_open_window_Finding
+pub use Rattle.array_open_window.specs.Recovering as array_open_window_Recovering
+pub use Rattle.array_found_laws.specs.Causes as array_found_laws_Causes
+pub use Rattle.array_found_laws.specs.Found as array_found_laws_Found
+pub use Rattle.array_reshaping_invariant.specs.reshape_request_Asked
+pub use Rattle.array_reshaping_invariant.specs.reshape_request_Left
+pub use Rattle.array_reshaping_invariant.specs.reshape_request_the_PhasesLeft
+pub use Rattle.array_reshaping_invariant.specs.reshape_request_the_Window
+pub use Rattle.array_reshaping_invariant.specs.reshape_request_the_Window_TheVariants

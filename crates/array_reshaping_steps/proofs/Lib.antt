@@ -1,0 +1,103 @@
+pub mod AnswerLaws
+pub use Rattle.array_reshaping.proofs.reshape_progress_resync_laws_Mended
+pub use Rattle.array_reshaping.proofs.array_reshaping_invariant_BegunCall
+pub use Rattle.array_reshaping.proofs.array_reshaping_invariant_BegunMembers
+pub use Rattle.array_reshaping.proofs.array_reshaping_invariant_Refusals
+pub use Rattle.array_reshaping.proofs.array_reshaping_invariant_Resting
+pub use Rattle.array_reshaping.proofs.array_reshaping_invariant_Staying
+pub use Rattle.array_reshaping.proofs.array_reshaping_invariant_Steps
+pub use Rattle.array_reshaping.proofs.array_reshaping_laws_Kept
+pub use Rattle.array_reshaping.proofs.array_reshaping_laws_MendLaws
+pub use Rattle.array_reshaping.proofs.array_reshaping_state_DueLaws
+pub use Rattle.array_reshaping.proofs.array_reshaping_state_ReshapeLaws
+pub use Rattle.array_reshaping.proofs.array_specs_Called
+pub use Rattle.array_reshaping.proofs.array_specs_Lengths
+pub use Rattle.array_reshaping.proofs.array_specs_VisibleLaws
+pub use Rattle.array_fixed_invariant.proofs.Bridges as array_fixed_invariant_Bridges
+pub use Rattle.array_fixed_invariant.proofs.Leaving as array_fixed_invariant_Leaving
+pub use Rattle.array_fixed_invariant.proofs.Quiet as array_fixed_invariant_Quiet
+pub use Rattle.array_fixed_invariant.proofs.Refusals as array_fixed_invariant_Refusals
+pub use Rattle.array_fixed_invariant.proofs.Resting as array_fixed_invariant_Resting
+pub use Rattle.array_fixed_invariant.proofs.Stood as array_fixed_invariant_Stood
+pub use Rattle.array_fixed_invariant.proofs.Whole as array_fixed_invariant_Whole
+pub use Rattle.array_fixed_invariant.proofs.array_call_specs_KeptLaws
+pub use Rattle.array_fixed_invariant.proofs.array_call_specs_LossLaws
+pub use Rattle.array_fixed_invariant.proofs.array_call_specs_NowLaws
+pub use Rattle.array_fixed_invariant.proofs.array_call_specs_ReadyLaws
+pub use Rattle.array_fixed_invariant.proofs.history_invariant_laws_Behind
+pub use Rattle.array_fixed_invariant.proofs.reshape_begin_end_Made
+pub use Rattle.array_fixed_invariant.proofs.reshape_sb_updates_BegunNewest
+pub use Rattle.array_fixed_invariant.proofs.reshape_sb_updates_BegunPlan
+pub use Rattle.array_fixed_invariant.proofs.reshape_sb_updates_EndedPlan
+pub use Rattle.array_fixed_invariant.proofs.reshape_sb_updates_NewRoles
+pub use Rattle.array_fixed_invariant.proofs.reshape_sb_updates_Taken
+pub mod Told
+pub use Rattle.array_reshaping.proofs.history_invariant_Entered
+pub use Rattle.array_reshaping.proofs.history_invariant_Tests
+pub use Rattle.array_reshaping.proofs.history_invariant_Ledgers
+pub use Rattle.array_reshaping.proofs.crash_safety_laws_Without
+pub use Rattle.array_reshaping.proofs.crash_safety_laws_PlannedRoles
+pub use Rattle.array_reshaping.proofs.crash_views_Stands
+pub use Rattle.array_reshaping.proofs.history_invariant_Records
+pub use Rattle.array_reshaping.proofs.history_invariant_Turned
+pub use Rattle.array_reshaping.proofs.history_invariant_Lengths
+pub use Rattle.array_reshaping.proofs.history_invariant_Growing
+pub use Rattle.array_reshaping.proofs.crash_safety_laws_Steady
+pub use Rattle.array_reshaping.proofs.crash_views_Alike
+pub use Rattle.array_reshaping.proofs.history_invariant_Marks
+pub use Rattle.array_reshaping.proofs.crash_views_Headers
+pub use Rattle.array_reshaping.proofs.history_invariant_Opened
+pub use Rattle.array_reshaping.proofs.sb_read_laws_SaidLists
+pub use Rattle.array_reshaping.proofs.sb_read_laws_SaidSlots
+pub use Rattle.array_reshaping.proofs.history_laws_OneShapeGrowing
+pub use Rattle.array_reshaping.proofs.history_laws_ReshapedLaws
+pub use Rattle.array_reshaping.proofs.history_laws_GrowingLaws
+pub use Rattle.array_reshaping.proofs.history_OneShapeReplies
+pub use Rattle.array_reshaping.proofs.reshape_geometry_Valid
+pub use Rattle.array_reshaping.proofs.reshape_request_FirstLaws
+pub use Rattle.array_reshaping.proofs.reshape_request_FitLaws
+pub use Rattle.array_reshaping.proofs.reshape_request_LeftLaws
+pub use Rattle.array_reshaping.proofs.reshape_request_PlanLaws
+pub use Rattle.array_reshaping.proofs.reshape_plan_Sound
+pub use Rattle.array_reshaping.proofs.stripe_row_Losses
+pub use Rattle.array_reshaping.proofs.sb_specs_Searches
+pub use Rattle.array_reshaping.proofs.array_members_Fit
+pub use Rattle.array_reshaping.proofs.array_members_MarkLaws
+pub use Rattle.array_reshaping.proofs.array_members_MemberLaws
+pub use Rattle.array_reshaping.proofs.array_members_MovedLaws
+pub use Rattle.array_fixed_invariant.proofs.history_append_CallLaws
+pub use Rattle.array_fixed_invariant.proofs.history_append_LosingLaws
+pub use Rattle.array_fixed_invariant.proofs.history_append_PlainLaws
+pub use Rattle.array_fixed_invariant.proofs.raid_layout_Limits
+pub use Rattle.array_fixed_invariant.proofs.raid_types_Tabulated
+pub use Rattle.array_fixed_invariant.proofs.stripe_row_Tables
+pub use Rattle.array_fixed_invariant.proofs.sb_specs_SlotSets
+pub use Rattle.array_fixed_invariant.proofs.sb_specs_ValidFields
+pub use Rattle.array_fixed_invariant.proofs.array_members_LackingLaws
+pub use Rattle.array_fixed_invariant.proofs.array_members_LiveLeft
+pub use Rattle.array_fixed_invariant.proofs.array_members_Still
+pub use Rattle.array_reshaping.proofs.raid_types_SectorLaws
+pub use Rattle.array_reshaping.proofs.array_call_specs_ReplyLaws
+pub use Rattle.array_reshaping.proofs.array_reshaping_laws_Reading
+pub use Rattle.array_reshaping.proofs.array_reshaping_laws_WriteLaws
+pub use Rattle.array_reshaping.proofs.array_reshaping_laws_FirstLaws
+pub use Rattle.array_reshaping.proofs.Calls as array_reshaping_Calls
+pub use Rattle.array_reshaping.proofs.array_members_LackingLists
+pub use Rattle.array_reshaping.proofs.array_call_laws_ReadLaws
+pub use Rattle.array_reshaping.proofs.array_specs_Replies
+pub use Rattle.array_reshaping.proofs.array_reshaping_laws_Settled
+pub use Rattle.array_reshaping.proofs.array_call_laws_AddLaws
+pub use Rattle.array_reshaping.proofs.array_reshaping_invariant_AddedSpare
+pub use Rattle.array_reshaping.proofs.array_reshaping_laws_AddLaws
+pub use Rattle.array_reshaping.proofs.array_members_Flushed
+pub use Rattle.array_reshaping.proofs.array_call_laws_AddedKept
+pub use Rattle.array_reshaping.proofs.array_call_laws_AddedNumbers
+pub use Rattle.array_reshaping.proofs.array_call_laws_AddedLosses
+pub use Rattle.array_reshaping.proofs.StepLaws as array_reshaping_StepLaws
+pub use Rattle.array_reshaping.proofs.array_reshaping_laws_BarredLaws
+pub use Rattle.array_reshaping.proofs.array_reshaping_invariant_Writing
+pub use Rattle.array_reshaping.proofs.array_reshaping_laws_WriteReplies
+pub use Rattle.array_reshaping.proofs.history_append_BearerLaws
+pub use Rattle.array_reshaping.proofs.array_call_specs_LedgerLaws
+pub use Rattle.array_reshaping.proofs.array_call_specs_RecordLaws
+pub use Rattle.array_reshaping.proofs.array_call_specs_DegradedLaws

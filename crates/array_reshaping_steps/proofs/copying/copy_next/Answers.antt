@@ -1,0 +1,71 @@
+use Rattle.std.proofs.Common.{ℕ, sym, ◌∙◌, subst, arith}
+use Rattle.array_fixed_invariant.specs.raid_types_the_Shape.{Shape}
+use Rattle.array_reshaping.specs.sb_specs_Reading.{final_shape}
+use Rattle.array_fixed_invariant.proofs.sb_specs_ValidFields.{few-roles}
+use Rattle.array_fixed_invariant.specs.stripe_row_Rows.{reading_of, present}
+use Rattle.array_reshaping.specs.stripe_list_Full.{RowStands}
+use Rattle.array_reshaping.proofs.crash_views_Stands.{span-order}
+use Rattle.array_reshaping.specs.array_members_Lacking.{AreOtherRowsKept, IsOfStripe}
+use Rattle.array_fixed_invariant.proofs.array_members_LackingLaws.{lost-since}
+use Rattle.array_reshaping.specs.reshape_progress_Laws.{next_stripe}
+use Rattle.array_reshaping.proofs.Calls.{known-moved}
+use Rattle.array_reshaping_steps.proofs.copying.copy_next.Goals as goal
+
+pub overflow_cast-count : goal.overflow_cast-count
+overflow_cast-count g c =
+    let few = few-roles c.args.members.now.newest c.requires.placed.fit.valid in
+    let roles = c.requires.placed.roles in
+    let long = c.len-count.ensures in
+    omega (arith, few, roles, long)
+
+pub vacant_roles-before-requires-clause-few : goal.vacant_roles-before-requires-clause-few
+vacant_roles-before-requires-clause-few g c =
+    let few = few-roles c.args.members.now.newest c.requires.placed.fit.valid in
+    let roles = c.requires.placed.roles in
+    let long = c.len-count.ensures in
+    omega (arith, few, roles, long)
+
+pub newly_vacant-requires-clause-few : goal.newly_vacant-requires-clause-few
+newly_vacant-requires-clause-few g c =
+    let few = few-roles c.args.members.now.newest c.requires.placed.fit.valid in
+    let roles = c.requires.placed.roles in
+    let long = c.len-count.ensures in
+    omega (arith, few, roles, long)
+
+pub overflow_sub-width : goal.overflow_sub-width
+overflow_sub-width g c = span-order c.args.members.now.newest c.requires.placed.fit c.args.span.now c.requires.next
+
+pub returns-clause-since : goal.returns-clause-since
+returns-clause-since g c =
+    lost-since (g.B.Bank.given c.args.bank.now) c.args.members.now c.copy-done.new.members c.len-count.result c.vacant_roles-before.result c.newly_vacant.result c.copy-done.result.spares
+    (g.B.Bank.faults_of c.args.bank.now) (g.B.Bank.faults_of c.copy-done.new.bank) c.requires.placed c.copy-done.ensures.moved c.copy-done.ensures.failed
+    (c.len-count.ensures ∙ c.requires.placed.roles) c.vacant_roles-before.ensures c.newly_vacant.ensures
+
+pub returns-clause-stands : goal.returns-clause-stands
+returns-clause-stands g c = λ none t list copied row at.
+    let m = c.args.members.now in
+    let new = c.copy-done.new.members in
+    let tape = g.B.Bank.tape c.copy-done.new.bank in
+    let given = g.B.Bank.given c.args.bank.now in
+    subst (λ (s : Shape). RowStands (reading_of new) (present given tape) s list row) {y = final_shape c.args.members.now.newest} c.final_in-shape.ensures
+    (c.copy-done.ensures.stands none t list copied row
+    (subst (λ (s : Shape). IsOfStripe s c.stripe_to_copy-stripe.result row) (sym {b = final_shape c.args.members.now.newest} c.final_in-shape.ensures)
+    (subst (λ (n : ℕ). IsOfStripe (final_shape m.newest) n row) (sym {b = next_stripe c.args.members.now c.args.span.now c.args.copied} c.stripe_to_copy-stripe.ensures.value) at)))
+
+pub returns-clause-others : goal.returns-clause-others
+returns-clause-others g c = λ t.
+    let m = c.args.members.now in
+    let new = c.copy-done.new.members in
+    let given = g.B.Bank.given c.args.bank.now in
+    let before = present given (g.B.Bank.tape c.args.bank.now) in
+    let after = present given (g.B.Bank.tape c.copy-done.new.bank) in
+    subst (λ (n : ℕ). AreOtherRowsKept (IsOfStripe (final_shape m.newest) n) (reading_of new) before after) {y = next_stripe c.args.members.now c.args.span.now c.args.copied} c.stripe_to_copy-stripe.ensures.value
+    (subst (λ (s : Shape). AreOtherRowsKept (IsOfStripe s c.stripe_to_copy-stripe.result) (reading_of new) before after) {y = final_shape c.args.members.now.newest} c.final_in-shape.ensures (c.copy-done.ensures.others t))
+
+-- ---- by what stands above
+
+pub newly_vacant-requires-clause-known : goal.newly_vacant-requires-clause-known
+newly_vacant-requires-clause-known g c = known-moved c.len-count.result c.copy-done.ensures.moved c.len-count.ensures c.requires.placed.roles
+
+pub returns-clause-counts : goal.returns-clause-counts
+returns-clause-counts g c = c.copy-done.ensures.counts

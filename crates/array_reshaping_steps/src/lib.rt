@@ -1,0 +1,31 @@
+//! What moves the windows of an array in a reshape: its steps; room for their entries, and the answer to a request for some.
+#![tactic(auto)]
+
+mod answering;
+mod clearing;
+mod copying;
+mod entering;
+mod finishing;
+mod recording;
+mod rooms;
+mod stepping;
+mod zeroing;
+
+pub use answering::answer;
+pub use array_fixed_invariant::{
+    Fault, Refusal, Role, Sectors, Shape, Span, Who, enter, enter_behind, enter_failure,
+    enter_lost, newly_vacant, shape_in, too_many, vacant_roles,
+};
+pub use array_reshaping::{
+    Bank, Course, Due, Entries, Epoch, Event, Finished, Members, Moving, PhasesLeft, Pieces, Room,
+    StepKind, Window, Work, add_member, bear, begin, check_going, check_number, contains, due_step,
+    enter_all_absent, fetch_beside, final_in, finish, found_numbers, free_number,
+    grow_asked_all_left as all_left, has_unnamed, hidden_span, holds_role, is_backward, is_missing,
+    is_spare, judge_grow, list_length, list_sectors, look_at, meets, open_span, plan_of,
+    planned_left, put_list, relied_sector, reshape_left, room_for, spare_for, steps_left,
+    unaddable, unread_from, unsure_span, unwritten_from, visible, with, without, zeros,
+};
+pub use clearing::clear;
+pub use finishing::finish_open;
+pub use rooms::make_room;
+pub use stepping::step;

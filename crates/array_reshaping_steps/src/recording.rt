@@ -1,0 +1,70 @@
+//! The windows of a reshape are recorded.
+
+ghost use Rattle.std.specs.Prelude.{◌≡◌, ◌≢◌, ◌+◌, ◌≤◌, OnOk, OnErr};
+ghost use Rattle.array_fixed_invariant.specs.history_the_StepKind_TheVariants.{Checkpointed as RecordsWindow};
+ghost use Rattle.array_reshaping.specs.sb_specs_Reading.{is_clean, list_length};
+ghost use Rattle.array_reshaping.specs.array_members_Lacking.{AreTooMany};
+ghost use Rattle.array_reshaping.specs.array_call_specs_Calls.{IsCausedBy};
+ghost use Rattle.array_reshaping.specs.history_invariant_Recorded.{IsCallGoing};
+ghost use Rattle.array_reshaping.specs.reshape_progress_Laws.{closed};
+ghost use Rattle.array_reshaping.specs.array_specs_Parts.{left_in};
+ghost use Rattle.array_reshaping.specs.array_specs_Calls.{IsCalled, IsStepTaken, IsRecordDue};
+
+use array_fixed_invariant::{Fault, Who, enter, enter_behind};
+use array_reshaping::{
+    Bank, Course, Event, Moving, StepKind, Window, all_left, check_going, newly_vacant, record,
+    too_many, vacant_roles,
+};
+
+/// A step of the reshape: the open window, whose stripes are all copied, is recorded. Refusals: `TooManyMissing`. It takes no
+/// memory.
+pub fn record_window<B: Bank>(moving: &mut Moving<B>, who: Who) -> Result<(), Fault>
+    requires open { IsCallGoing moving.old.parts.entries who }
+    requires caller { who.caller ≢ 254 }
+    requires room { 1 ≤ moving.old.parts.steps }
+    requires due { IsRecordDue moving.old }
+    ensures entered { IsStepTaken who moving.old.parts.entries moving.new.parts.entries RecordsWindow (left_in moving.new.parts.work moving.new.parts.members moving.new.course moving.new.ahead) result }
+    ensures called { IsCalled B.tells (B.given moving.old.parts.bank) (B.tape moving.old.parts.bank) (B.tape moving.new.parts.bank) (B.faults_of moving.old.parts.bank) (B.faults_of moving.new.parts.bank) moving.old moving.new }
+    ensures clean { is_clean moving.new.parts.members.newest ≡ is_clean moving.old.parts.members.newest }
+    ensures caused { IsCausedBy (list_length moving.old.parts.members.newest) 0 AreTooMany moving.old.parts.members moving.new.parts.members result }
+    ensures left { OnOk result (left_in moving.new.parts.work moving.new.parts.members moving.new.course moving.new.ahead + 1 ≡ left_in moving.old.parts.work moving.old.parts.members moving.old.course moving.old.ahead) }
+    ensures closed { OnOk result (moving.new.course ≡ closed 0) }
+    ensures course { OnErr result (moving.new.course ≡ moving.old.course) }
+    ensures room { moving.new.parts.steps + 1 ≡ moving.old.parts.steps }
+    ensures given { B.given moving.new.parts.bank ≡ B.given moving.old.parts.bank }
+{
+    moving.steps -= 1;
+    check_going(&moving.epoch.entries, who);
+    if let Some(refusal) = too_many(&moving.members) {
+        let end = moving.bank.ops();
+        enter(&mut moving.epoch, who, end, Event::Refused { refusal });
+        return Err(Fault::Refused(refusal));
+    }
+    let Window::Entered {
+        span,
+        copied: _,
+        sectioned: _,
+    } = moving.course.window
+    else {
+        unreachable!()
+    };
+    let count = moving.members.roles.len() as u32;
+    let before = vacant_roles(&moving.members, count);
+    let done = record(&mut moving.members, &mut moving.bank, &span);
+    let roles = newly_vacant(&moving.members, count, before);
+    let end = moving.bank.ops();
+    if let Some(refusal) = done.refusal {
+        let event = Event::Refused { refusal };
+        enter_behind(&mut moving.epoch, who, end, roles, done.spares, event);
+        return Err(Fault::Refused(refusal));
+    }
+    moving.course = Course {
+        window: Window::Closed,
+        zeroed: 0,
+    };
+    let kind = StepKind::Checkpointed;
+    let left = all_left(&moving.members, &moving.work, &moving.course, &moving.ahead);
+    let event = Event::Step { kind, left };
+    enter_behind(&mut moving.epoch, who, end, roles, done.spares, event);
+    Ok(())
+}

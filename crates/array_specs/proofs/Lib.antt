@@ -1,0 +1,33 @@
+pub mod Called
+pub mod Lengths
+pub mod VisibleLaws
+pub mod Replies
+pub mod TakenOut
+pub use Rattle.array_call_laws.proofs.AddLaws as array_call_laws_AddLaws
+pub use Rattle.array_call_laws.proofs.AddedKept as array_call_laws_AddedKept
+pub use Rattle.array_call_laws.proofs.AddedNumbers as array_call_laws_AddedNumbers
+pub use Rattle.array_call_laws.proofs.AddedLosses as array_call_laws_AddedLosses
+pub use Rattle.array_call_laws.proofs.AdoptingLaws as array_call_laws_AdoptingLaws
+pub use Rattle.array_call_laws.proofs.FailedLaws as array_call_laws_FailedLaws
+pub use Rattle.array_call_laws.proofs.ReadLaws as array_call_laws_ReadLaws
+pub use Rattle.history_invariant_laws.proofs.Adding as history_invariant_laws_Adding
+pub use Rattle.history_invariant_laws.proofs.Behind as history_invariant_laws_Behind
+pub use Rattle.history_invariant_laws.proofs.Failed as history_invariant_laws_Failed
+pub use Rattle.history_invariant_laws.proofs.LastStep as history_invariant_laws_LastStep
+pub use Rattle.history_invariant_laws.proofs.Quiet as history_invariant_laws_Quiet
+pub use Rattle.array_reshaping_state.proofs.DueLaws as array_reshaping_state_DueLaws
+pub use Rattle.array_reshaping_state.proofs.LeftLaws as array_reshaping_state_LeftLaws
+pub use Rattle.array_reshaping_state.proofs.ReshapeLaws as array_reshaping_state_ReshapeLaws
+pub use Rattle.array_reshaping_state.proofs.array_call_specs_KeptLaws
+pub use Rattle.array_reshaping_state.proofs.array_call_specs_LossLaws
+pub use Rattle.array_reshaping_state.proofs.array_call_specs_NowLaws
+pub use Rattle.array_reshaping_state.proofs.array_call_specs_ReadyLaws
+pub use Rattle.array_reshaping_state.proofs.array_call_specs_ReplyLaws
+pub use Rattle.array_reshaping_state.proofs.reshape_sb_updates_NewRoles
+pub use Rattle.array_reshaping_state.proofs.sb_safe_updates_RefusingLaws
+pub use Rattle.array_reshaping_state.proofs.sb_safe_updates_Unused
+pub use Rattle.array_call_laws.proofs.raid_types_SectorLaws
+pub use Rattle.history_invariant_laws.proofs.history_append_LeftLaws
+pub use Rattle.array_reshaping_state.proofs.history_append_CallLaws
+pub use Rattle.array_reshaping_state.proofs.history_append_LosingLaws
+pub use Rattle.array_reshaping_state.proofs.history_append_PlainLaws

@@ -1,0 +1,61 @@
+pub mod Parts
+pub mod Calls
+pub mod Adding
+pub mod Still
+pub mod Plans
+pub mod Visible
+pub use Rattle.array_reshaping_state.specs.reshape_progress_Course
+pub use Rattle.array_reshaping_state.specs.reshape_progress_Laws
+pub use Rattle.array_reshaping_state.specs.reshape_progress_the_Course
+pub use Rattle.array_reshaping_state.specs.stripe_region_resync_Left
+pub use Rattle.array_reshaping_state.specs.stripe_region_resync_Mends
+pub use Rattle.array_reshaping_state.specs.stripe_region_resync_the_Stripe
+pub use Rattle.history_invariant_laws.specs.Reliable as history_invariant_laws_Reliable
+pub use Rattle.array_reshaping_state.specs.Due as array_reshaping_state_Due
+pub use Rattle.array_reshaping_state.specs.First as array_reshaping_state_First
+pub use Rattle.array_reshaping_state.specs.Left as array_reshaping_state_Left
+pub use Rattle.array_reshaping_state.specs.array_call_specs_Adopting
+pub use Rattle.array_reshaping_state.specs.array_call_specs_Calls
+pub use Rattle.array_reshaping_state.specs.array_call_specs_Kept
+pub use Rattle.array_reshaping_state.specs.declared.stepping.Due as array_reshaping_state_the_Due
+pub use Rattle.array_reshaping_state.specs.declared.stepping.Due.TheVariants as array_reshaping_state_the_Due_TheVariants
+pub use Rattle.array_reshaping_state.specs.stripe_region_write_Runs
+pub use Rattle.array_reshaping_state.specs.reshape_begin_end_Begun
+pub use Rattle.array_reshaping_state.specs.reshape_sb_updates_Beginning
+pub use Rattle.array_reshaping_state.specs.sb_safe_updates_First
+pub use Rattle.array_reshaping_state.specs.sb_safe_updates_Unused
+pub use Rattle.array_reshaping_state.specs.reshape_window_steps_Zeroing
+pub use Rattle.array_reshaping_state.specs.array_members_Moving
+pub use Rattle.array_reshaping_state.specs.array_members_Rebuilding
+pub use Rattle.array_reshaping_state.specs.reshape_request_Left
+pub use Rattle.array_reshaping_state.specs.history_the_Entry
+pub use Rattle.array_reshaping_state.specs.history_the_Event
+pub use Rattle.array_reshaping_state.specs.history_the_Event_TheVariants
+pub use Rattle.array_reshaping_state.specs.history_the_StepKind_TheVariants
+pub use Rattle.array_reshaping_state.specs.history_Flat
+pub use Rattle.array_reshaping_state.specs.history_Reshaped
+pub use Rattle.array_reshaping_state.specs.history_the_Request
+pub use Rattle.array_reshaping_state.specs.history_the_Request_TheVariants
+pub use Rattle.array_reshaping_state.specs.history_Fits
+pub use Rattle.array_reshaping_state.specs.history_Legal
+pub use Rattle.array_reshaping_state.specs.history_OneShape
+pub use Rattle.array_reshaping_state.specs.history_Transfers
+pub use Rattle.array_reshaping_state.specs.history_the_LostCause
+pub use Rattle.array_reshaping_state.specs.history_the_LostCause_TheVariants
+pub use Rattle.array_reshaping_state.specs.sb_specs_the_Members
+pub use Rattle.array_reshaping_state.specs.sb_specs_Reads
+pub use Rattle.array_reshaping_state.specs.sb_specs_Reading
+pub use Rattle.array_reshaping_state.specs.history_Growing
+pub use Rattle.array_reshaping_state.specs.history_Seen
+pub use Rattle.array_call_laws.specs.raid_types_the_Fault_TheVariants
+pub use Rattle.array_call_laws.specs.raid_types_the_Refusal_TheVariants
+pub use Rattle.history_invariant_laws.specs.raid_types_the_Refusal
+pub use Rattle.history_invariant_laws.specs.raid_types_the_Shape
+pub use Rattle.history_invariant_laws.specs.raid_types_the_Who
+pub use Rattle.array_reshaping_state.specs.history_append_Losing
+pub use Rattle.array_reshaping_state.specs.raid_types_Sectors
+pub use Rattle.array_reshaping_state.specs.raid_types_Shapes
+pub use Rattle.array_reshaping_state.specs.raid_types_the_Fault
+pub use Rattle.array_reshaping_state.specs.raid_types_the_Phase
+pub use Rattle.array_reshaping_state.specs.raid_types_the_Span
+pub use Rattle.array_reshaping_state.specs.raid_types_the_Status

@@ -1,0 +1,37 @@
+pub mod Steps
+pub use Rattle.array.specs.Calls as array_Calls
+pub use Rattle.array.specs.reshape_progress_the_Course
+pub use Rattle.array.specs.array_reshaping_laws_Ready
+pub use Rattle.array.specs.array_reshaping_laws_Writing
+pub use Rattle.array.specs.array_reshaping_state_Due
+pub use Rattle.array.specs.stripe_region_resync_Left
+pub use Rattle.array.specs.array_reply_specs_Going
+pub use Rattle.array.specs.array_reply_specs_Replies
+pub use Rattle.array.specs.array_specs_Adding
+pub use Rattle.array.specs.array_specs_Calls
+pub use Rattle.array.specs.array_specs_Parts
+pub use Rattle.array.specs.array_specs_Plans
+pub use Rattle.array.specs.array_specs_Still
+pub use Rattle.array.specs.array_fixed_laws_Plain
+pub use Rattle.array.specs.array_call_specs_Adopting
+pub use Rattle.array.specs.array_call_specs_Calls
+pub use Rattle.array.specs.array_call_specs_Kept
+pub use Rattle.array.specs.history_invariant_laws_Reliable
+pub use Rattle.array.specs.array_grow_Planned
+pub use Rattle.array.specs.array_reply_specs_Limits
+pub use Rattle.array.specs.array_specs_Visible
+pub use Rattle.array.specs.history_invariant_Safe
+pub use Rattle.array.specs.crash_views_Regions
+pub use Rattle.array.specs.history_append_Losing
+pub use Rattle.array.specs.history_invariant_Recorded
+pub use Rattle.array.specs.stripe_row_Rows
+pub use Rattle.array.specs.crash_safety_laws_Marking
+pub use Rattle.array.specs.array_grow_Plans
+pub use Rattle.array.specs.array_grow_Replied
+pub use Rattle.array.specs.sb_safe_updates_First
+pub use Rattle.array.specs.reshape_progress_Laws
+pub use Rattle.array.specs.State as array_State
+pub use Rattle.array.specs.array_members_Moving
+pub use Rattle.array.specs.array_members_Lacking
+pub use Rattle.array.specs.array_fixed_invariant_Still
+pub use Rattle.array.specs.array_grow_Stored

@@ -1,0 +1,11 @@
+pub use Rattle.array_fixed_invariant.specs.history_append_Losing
+pub use Rattle.array_fixed_invariant.specs.raid_types_Search
+pub use Rattle.array_fixed_invariant.specs.raid_types_Shapes
+pub use Rattle.array_fixed_invariant.specs.raid_types_the_Phase
+pub use Rattle.array_fixed_invariant.specs.raid_types_the_Phase_TheVariants
+pub use Rattle.array_fixed_invariant.specs.raid_types_the_Refusal
+pub use Rattle.array_fixed_invariant.specs.raid_types_the_Refusal_TheVariants
+pub use Rattle.array_fixed_invariant.specs.raid_types_the_Role
+pub use Rattle.array_fixed_invariant.specs.raid_types_the_Role_TheVariants
+pub use Rattle.array_fixed_invariant.specs.raid_types_the_Shape
+pub use Rattle.array_fixed_invariant.specs.raid_types_the_Who

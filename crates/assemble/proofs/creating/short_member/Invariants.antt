@@ -1,6 +1,0 @@
-use Rattle.std.proofs.Common.{◌≡◌, ◌<◌, ℕ, nat_lt, false}
-use Rattle.assemble.specs.Creating.{rows_end}
-use Rattle.assemble.proofs.creating.short_member.Given as goal
-
-abbrev pub invariant-loop-slot : goal.invariant-loop-slot
-invariant-loop-slot g l = (slot : ℕ) → slot < l.slot → nat_lt ((g.B.Bank.given l.bank).sectors slot) (rows_end l.spec) ≡ false

@@ -1,6 +1,0 @@
-use Rattle.std.proofs.Common.{◌≡◌, ◌<◌, ℕ, false}
-use Rattle.found_members.specs.md_base_Shapes.{has_slot}
-use Rattle.assemble.proofs.used.first_slot.Given as goal
-
-abbrev pub invariant-loop-slot : goal.invariant-loop-slot
-invariant-loop-slot l = (s : ℕ) → s < l.slot → has_slot l.set s ≡ false

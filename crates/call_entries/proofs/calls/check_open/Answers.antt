@@ -1,6 +1,0 @@
-use Rattle.std.proofs.Common.{◌≤◌, length, subst, ℕ}
-use Rattle.call_entries.proofs.StepLaws.{open-few}
-use Rattle.call_entries.proofs.calls.check_open.Goals as goal
-
-pub returns : goal.returns
-returns c = open-few c.args.entries.now.items c.args.who c.requires (subst (λ (n : ℕ). n ≤ length c.args.entries.now.items) c.next_number.ensures.number c.next_number.ensures.few)

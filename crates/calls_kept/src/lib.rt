@@ -1,8 +1,0 @@
-//! What each call of an array keeps: laws over what the array keeps.
-#![tactic(auto)]
-
-pub use array_kept::{
-    BusyKind, Entries, Epoch, Event, Fault, LostCause, NoMemory, Refusal, Role, RoleList, Sectors,
-    Shape, SlotList, Span, Status, Who, check_number, enter, enter_behind, enter_failure,
-    enter_lost,
-};

@@ -1,6 +1,0 @@
-use Rattle.std.specs.Prelude.{◌≡◌, true, ⊤}
-use Rattle.course_kept.proofs.Finishes.{rests-go-on}
-use Rattle.course_kept.proofs.laws.a_rest_goes_on.Goals as goal
-
-pub returns : goal.returns
-returns c = λ among. rests-go-on ⊤ (λ shape. among shape ≡ true)

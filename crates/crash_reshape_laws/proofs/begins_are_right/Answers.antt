@@ -1,0 +1,6 @@
+use Rattle.std.specs.Prelude.{⊤}
+use Rattle.crash_reshape_laws.proofs.EndLaws.{begins}
+use Rattle.crash_reshape_laws.proofs.begins_are_right.Goals as goal
+
+pub returns : goal.returns
+returns c = begins ⊤

@@ -1,4 +1,0 @@
-use Rattle.election.proofs.fields.bad_offset.Goals as goal
-
-pub returns : goal.returns
-returns c = cc

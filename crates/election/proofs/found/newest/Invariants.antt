@@ -1,7 +1,0 @@
-use Rattle.std.proofs.Common.{◌≡◌, drop}
-use Rattle.superblocks.specs.Reading.{newest_of}
-use Rattle.election.proofs.found.newest.Given as goal
-
--- the newest from this slot on
-abbrev pub invariant-loop-slot : goal.invariant-loop-slot
-invariant-loop-slot l = l.newest ≡ newest_of (drop l.slot l.own)

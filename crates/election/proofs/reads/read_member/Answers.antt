@@ -1,7 +1,0 @@
-use Rattle.std.proofs.Common.{sym, ◌∙◌}
-use Rattle.election.proofs.reads.read_member.Goals as goal
-
-pub returns-clause-found : goal.returns-clause-found
-returns-clause-found g c =
-    let e = sym c.is_backup.ensures ∙ c.if-is_backup.false in
-    simp e c.read_superblock.ensures.found

@@ -1,5 +1,0 @@
-use Rattle.found_members.proofs.Read.{found-read}
-use Rattle.found_members.proofs.laws.elected_members_are_read.Goals as goal
-
-pub returns : goal.returns
-returns c = λ bank given scope members are placed sizes_are. found-read bank given members are placed scope sizes_are

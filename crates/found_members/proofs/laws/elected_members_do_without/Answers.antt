@@ -1,7 +1,0 @@
-use Rattle.std.proofs.Common.{take}
-use Rattle.array_kept.specs.bank_Given.{sizes}
-use Rattle.found_members.proofs.Elected.{elected-does}
-use Rattle.found_members.proofs.laws.elected_members_do_without.Goals as goal
-
-pub returns : goal.returns
-returns c = λ bank given members are. elected-does (sizes bank).sectors (take bank.slots members.own) members.lost members are.elected

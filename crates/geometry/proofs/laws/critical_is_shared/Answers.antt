@@ -1,5 +1,0 @@
-use Rattle.geometry.proofs.Rows.{critical_shared}
-use Rattle.geometry.proofs.laws.critical_is_shared.Goals as goal
-
-pub returns : goal.returns
-returns c = critical_shared

@@ -1,5 +1,0 @@
-use Rattle.geometry.proofs.GoingOn.{steps_fall}
-use Rattle.geometry.proofs.laws.steps_fall.Goals as goal
-
-pub returns : goal.returns
-returns c = steps_fall

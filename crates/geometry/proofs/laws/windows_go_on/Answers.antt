@@ -1,5 +1,0 @@
-use Rattle.geometry.proofs.GoingOn.{goes_on}
-use Rattle.geometry.proofs.laws.windows_go_on.Goals as goal
-
-pub returns : goal.returns
-returns c = goes_on

@@ -1,5 +1,0 @@
-use Rattle.geometry.proofs.Rows.{writes_apart}
-use Rattle.geometry.proofs.laws.writes_are_apart.Goals as goal
-
-pub returns : goal.returns
-returns c = writes_apart

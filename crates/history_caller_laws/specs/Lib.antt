@@ -1,0 +1,9 @@
+pub mod Callers
+pub use Rattle.array_reply_specs.specs.history_Flat
+pub use Rattle.array_reply_specs.specs.history_OneShape
+pub use Rattle.array_reply_specs.specs.history_Seen
+pub use Rattle.array_reply_specs.specs.history_the_Entry
+pub use Rattle.array_reply_specs.specs.history_the_Event
+pub use Rattle.array_reply_specs.specs.history_the_Event_TheVariants
+pub use Rattle.array_reply_specs.specs.history_the_Request
+pub use Rattle.array_reply_specs.specs.history_the_Request_TheVariants

@@ -1,0 +1,47 @@
+pub mod Told
+pub mod Safe
+pub mod Recorded
+pub use Rattle.array_call_specs.specs.Adopting as array_call_specs_Adopting
+pub use Rattle.array_call_specs.specs.Calls as array_call_specs_Calls
+pub use Rattle.array_call_specs.specs.Kept as array_call_specs_Kept
+pub use Rattle.array_call_specs.specs.bank_Given
+pub use Rattle.array_call_specs.specs.bank_Tape
+pub use Rattle.array_call_specs.specs.bank_the_Operation
+pub use Rattle.array_call_specs.specs.history_append_Losing
+pub use Rattle.array_call_specs.specs.history_Epochs
+pub use Rattle.array_call_specs.specs.history_Flat
+pub use Rattle.array_call_specs.specs.history_Growing
+pub use Rattle.array_call_specs.specs.history_Legal
+pub use Rattle.array_call_specs.specs.history_Losses
+pub use Rattle.array_call_specs.specs.history_OneShape
+pub use Rattle.array_call_specs.specs.history_Plain
+pub use Rattle.array_call_specs.specs.history_Reshaped
+pub use Rattle.array_call_specs.specs.history_Sound
+pub use Rattle.array_call_specs.specs.history_Transfers
+pub use Rattle.array_call_specs.specs.history_World
+pub use Rattle.array_call_specs.specs.history_the_Entry
+pub use Rattle.array_call_specs.specs.history_the_Event
+pub use Rattle.array_call_specs.specs.history_the_Event_TheVariants
+pub use Rattle.array_call_specs.specs.history_the_LostCause
+pub use Rattle.array_call_specs.specs.history_the_LostCause_TheVariants
+pub use Rattle.array_call_specs.specs.history_the_StepKind_TheVariants
+pub use Rattle.array_call_specs.specs.reshape_plan_Plans
+pub use Rattle.array_call_specs.specs.raid_types_Search
+pub use Rattle.array_call_specs.specs.raid_types_Sectors
+pub use Rattle.array_call_specs.specs.raid_types_Shapes
+pub use Rattle.array_call_specs.specs.raid_types_the_Refusal
+pub use Rattle.array_call_specs.specs.raid_types_the_Refusal_TheVariants
+pub use Rattle.array_call_specs.specs.raid_types_the_Role
+pub use Rattle.array_call_specs.specs.raid_types_the_Role_TheVariants
+pub use Rattle.array_call_specs.specs.raid_types_the_Shape
+pub use Rattle.array_call_specs.specs.raid_types_the_Side_TheVariants
+pub use Rattle.array_call_specs.specs.raid_types_the_Span
+pub use Rattle.array_call_specs.specs.raid_types_the_Who
+pub use Rattle.array_call_specs.specs.stripe_row_Rows
+pub use Rattle.array_call_specs.specs.crash_safety_laws_Safety
+pub use Rattle.array_call_specs.specs.crash_safety_laws_Steady
+pub use Rattle.array_call_specs.specs.crash_views_Views
+pub use Rattle.array_call_specs.specs.sb_specs_Reading
+pub use Rattle.array_call_specs.specs.sb_specs_the_Members
+pub use Rattle.array_call_specs.specs.array_members_Numbers
+pub use Rattle.array_call_specs.specs.array_members_the_Work

@@ -1,0 +1,19 @@
+pub mod Reliable
+pub use Rattle.history_invariant.specs.history_append_Losing
+pub use Rattle.history_invariant.specs.Recorded as history_invariant_Recorded
+pub use Rattle.history_invariant.specs.Safe as history_invariant_Safe
+pub use Rattle.history_invariant.specs.Told as history_invariant_Told
+pub use Rattle.history_invariant.specs.array_call_specs_Adopting
+pub use Rattle.history_invariant.specs.array_call_specs_Calls
+pub use Rattle.history_invariant.specs.array_call_specs_Kept
+pub use Rattle.history_invariant.specs.raid_types_Search
+pub use Rattle.history_invariant.specs.raid_types_Sectors
+pub use Rattle.history_invariant.specs.raid_types_Shapes
+pub use Rattle.history_invariant.specs.raid_types_the_Refusal
+pub use Rattle.history_invariant.specs.raid_types_the_Refusal_TheVariants
+pub use Rattle.history_invariant.specs.raid_types_the_Role
+pub use Rattle.history_invariant.specs.raid_types_the_Role_TheVariants
+pub use Rattle.history_invariant.specs.raid_types_the_Shape
+pub use Rattle.history_invariant.specs.raid_types_the_Side_TheVariants
+pub use Rattle.history_invariant.specs.raid_types_the_Span
+pub use Rattle.history_invariant.specs.raid_types_the_Who

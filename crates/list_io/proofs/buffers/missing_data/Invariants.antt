@@ -1,7 +1,0 @@
-use Rattle.std.proofs.Common.{◌≡◌, ◌<◌, ℕ, true}
-use Rattle.layout.specs.Layout.{is_parity_only}
-use Rattle.row_io.specs.Rows.{reading_of, is_missing}
-use Rattle.list_io.proofs.buffers.missing_data.Given as goal
-
-abbrev pub invariant-loop-role : goal.invariant-loop-role
-invariant-loop-role l = (role : ℕ) → role < l.role → is_missing (reading_of l.members) role ≡ true → is_parity_only l.shape role ≡ true

@@ -1,5 +1,0 @@
-use Rattle.moving_state.proofs.LeftLaws.{entering-one}
-use Rattle.moving_state.proofs.left_laws.entering_takes_one.Goals as goal
-
-pub returns : goal.returns
-returns c = entering-one

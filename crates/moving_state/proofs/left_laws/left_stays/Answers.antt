@@ -1,5 +1,0 @@
-use Rattle.moving_state.proofs.LeftLaws.{left-stays}
-use Rattle.moving_state.proofs.left_laws.left_stays.Goals as goal
-
-pub returns : goal.returns
-returns c = left-stays

@@ -1,5 +1,0 @@
-use Rattle.moving_state.proofs.LeftLaws.{plans-counted}
-use Rattle.moving_state.proofs.left_laws.plans_are_counted.Goals as goal
-
-pub returns : goal.returns
-returns c = plans-counted

@@ -1,5 +1,0 @@
-use Rattle.moving_state.proofs.LeftLaws.{recording-one}
-use Rattle.moving_state.proofs.left_laws.recording_takes_one.Goals as goal
-
-pub returns : goal.returns
-returns c = recording-one

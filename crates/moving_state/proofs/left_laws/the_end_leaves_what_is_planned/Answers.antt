@@ -1,5 +1,0 @@
-use Rattle.moving_state.proofs.LeftLaws.{end-leaves}
-use Rattle.moving_state.proofs.left_laws.the_end_leaves_what_is_planned.Goals as goal
-
-pub returns : goal.returns
-returns c = end-leaves

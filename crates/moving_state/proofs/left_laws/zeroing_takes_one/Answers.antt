@@ -1,5 +1,0 @@
-use Rattle.moving_state.proofs.LeftLaws.{zeroing-one}
-use Rattle.moving_state.proofs.left_laws.zeroing_takes_one.Goals as goal
-
-pub returns : goal.returns
-returns c = zeroing-one

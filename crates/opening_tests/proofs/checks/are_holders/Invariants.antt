@@ -1,9 +1,0 @@
-use Rattle.std.proofs.Common.{◌≡◌, ◌<◌, ℕ, true, slice_index_or}
-use Rattle.md_base.specs.declared.status.Role.TheVariants.{Missing}
-use Rattle.superblocks.specs.Update.{is_held_by, own_in}
-use Rattle.superblocks.specs.Writing.{IsMember}
-use Rattle.opening_tests.proofs.checks.are_holders.Given as goal
-
-abbrev pub invariant-loop-role : goal.invariant-loop-role
-invariant-loop-role g l = (role slot : ℕ) → role < l.role → is_held_by slot (slice_index_or l.members.roles role Missing) ≡ true
-    → IsMember (g.B.Bank.given l.bank) (own_in l.members.own slot) slot

@@ -1,5 +1,0 @@
-use Rattle.parity.proofs.OwnFills.{fills-are-unique}
-use Rattle.parity.proofs.laws.fills_are_unique.Goals as goal
-
-pub returns : goal.returns
-returns c = fills-are-unique

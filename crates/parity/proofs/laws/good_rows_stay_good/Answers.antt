@@ -1,5 +1,0 @@
-use Rattle.parity.proofs.OwnFills.{good-rows-stay-good}
-use Rattle.parity.proofs.laws.good_rows_stay_good.Goals as goal
-
-pub returns : goal.returns
-returns c = good-rows-stay-good

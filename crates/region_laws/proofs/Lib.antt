@@ -1,3 +1,0 @@
-pub mod RegionLaws
-pub use Rattle.geometry.proofs.Divisions as geometry_Divisions
-pub use Rattle.geometry.proofs.Rows as geometry_Rows

@@ -1,5 +1,0 @@
-use Rattle.region_laws.proofs.RegionLaws.{regions-apart}
-use Rattle.region_laws.proofs.regions_are_apart.Goals as goal
-
-pub returns : goal.returns
-returns c = regions-apart

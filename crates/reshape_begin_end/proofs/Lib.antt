@@ -1,0 +1,107 @@
+pub mod Made
+pub mod Named
+pub mod Cleared
+pub mod BeginLaws
+pub mod FinishLaws
+pub use Rattle.reshape_sb_updates.proofs.MoreLess as reshape_sb_updates_MoreLess
+pub use Rattle.reshape_sb_updates.proofs.Taken as reshape_sb_updates_Taken
+pub use Rattle.reshape_sb_updates.proofs.crash_reshape_laws_PlanPlaced
+pub use Rattle.reshape_sb_updates.proofs.crash_reshape_laws_PlanRoles
+pub use Rattle.reshape_sb_updates.proofs.crash_reshape_laws_Takeovers
+pub use Rattle.sb_safe_updates.proofs.array_members_Fit
+pub use Rattle.sb_safe_updates.proofs.array_members_Still
+pub use Rattle.sb_safe_updates.proofs.array_members_MarkedLaws
+pub use Rattle.sb_safe_updates.proofs.crash_safety_laws_PlannedRoles
+pub use Rattle.sb_safe_updates.proofs.crash_safety_laws_Without
+pub use Rattle.sb_safe_updates.proofs.crash_safety_laws_FitKinds
+pub use Rattle.sb_safe_updates.proofs.crash_safety_laws_Kept
+pub use Rattle.sb_safe_updates.proofs.crash_safety_laws_KeptSafe
+pub use Rattle.sb_safe_updates.proofs.crash_safety_laws_CalledLaws
+pub use Rattle.sb_safe_updates.proofs.crash_safety_laws_ChangeSafe
+pub use Rattle.sb_safe_updates.proofs.crash_safety_laws_ChangeViews
+pub use Rattle.sb_safe_updates.proofs.crash_safety_laws_PlansLose
+pub use Rattle.sb_safe_updates.proofs.crash_safety_laws_Stretch
+pub use Rattle.sb_safe_updates.proofs.crash_views_Alike
+pub use Rattle.sb_safe_updates.proofs.sb_read_laws_SaidSlots
+pub use Rattle.sb_safe_updates.proofs.sb_read_laws_SaidLists
+pub use Rattle.reshape_sb_updates.proofs.BegunNewest as reshape_sb_updates_BegunNewest
+pub use Rattle.reshape_sb_updates.proofs.BegunPlan as reshape_sb_updates_BegunPlan
+pub use Rattle.reshape_sb_updates.proofs.EndedPlan as reshape_sb_updates_EndedPlan
+pub use Rattle.reshape_sb_updates.proofs.NewRoles as reshape_sb_updates_NewRoles
+pub use Rattle.reshape_sb_updates.proofs.crash_reshape_laws_CopyRuns
+pub use Rattle.reshape_sb_updates.proofs.crash_reshape_laws_EndLaws
+pub use Rattle.reshape_sb_updates.proofs.crash_reshape_laws_GrownLaws
+pub use Rattle.reshape_sb_updates.proofs.crash_reshape_laws_GrownStanding
+pub use Rattle.reshape_sb_updates.proofs.crash_reshape_laws_PastWindows
+pub use Rattle.reshape_sb_updates.proofs.crash_reshape_laws_TakenShapes
+pub use Rattle.sb_safe_updates.proofs.SparesLaws as sb_safe_updates_SparesLaws
+pub use Rattle.sb_safe_updates.proofs.Under as sb_safe_updates_Under
+pub use Rattle.sb_safe_updates.proofs.Unused as sb_safe_updates_Unused
+pub use Rattle.sb_safe_updates.proofs.bank_Causes
+pub use Rattle.sb_safe_updates.proofs.bank_Laws
+pub use Rattle.sb_safe_updates.proofs.bank_Marks
+pub use Rattle.sb_safe_updates.proofs.history_GivenLaws
+pub use Rattle.sb_safe_updates.proofs.history_GoneCounts
+pub use Rattle.sb_safe_updates.proofs.history_LegalLaws
+pub use Rattle.sb_safe_updates.proofs.history_OneShapeGone
+pub use Rattle.sb_safe_updates.proofs.history_OneShapeLegal
+pub use Rattle.sb_safe_updates.proofs.history_SoundLaws
+pub use Rattle.sb_safe_updates.proofs.reshape_geometry_Divisions
+pub use Rattle.sb_safe_updates.proofs.reshape_geometry_Rows
+pub use Rattle.sb_safe_updates.proofs.reshape_geometry_Valid
+pub use Rattle.sb_safe_updates.proofs.raid_layout_Limits
+pub use Rattle.sb_safe_updates.proofs.stripe_list_FullLaws
+pub use Rattle.sb_safe_updates.proofs.stripe_list_ListLaws
+pub use Rattle.sb_safe_updates.proofs.stripe_list_LossLaws
+pub use Rattle.sb_safe_updates.proofs.stripe_list_Parities
+pub use Rattle.sb_safe_updates.proofs.stripe_list_PartBytes
+pub use Rattle.sb_safe_updates.proofs.stripe_list_PutLaws
+pub use Rattle.sb_safe_updates.proofs.raid_types_Tabulated
+pub use Rattle.sb_safe_updates.proofs.stripe_region_laws_RegionLaws
+pub use Rattle.sb_safe_updates.proofs.stripe_row_Lacks
+pub use Rattle.sb_safe_updates.proofs.stripe_row_Losses
+pub use Rattle.sb_safe_updates.proofs.stripe_row_NewRow
+pub use Rattle.sb_safe_updates.proofs.stripe_row_RowBytes
+pub use Rattle.sb_safe_updates.proofs.stripe_row_Tables
+pub use Rattle.sb_safe_updates.proofs.stripe_row_Turns
+pub use Rattle.sb_safe_updates.proofs.stripe_row_Written
+pub use Rattle.sb_safe_updates.proofs.crash_safety_laws_Drawn
+pub use Rattle.sb_safe_updates.proofs.crash_safety_laws_HeldKept
+pub use Rattle.sb_safe_updates.proofs.crash_safety_laws_LessViews
+pub use Rattle.sb_safe_updates.proofs.crash_safety_laws_Risen
+pub use Rattle.sb_safe_updates.proofs.crash_safety_laws_Since
+pub use Rattle.sb_safe_updates.proofs.crash_safety_laws_Spent
+pub use Rattle.sb_safe_updates.proofs.crash_safety_laws_Started
+pub use Rattle.sb_safe_updates.proofs.crash_safety_laws_Steady
+pub use Rattle.sb_safe_updates.proofs.crash_views_BackupLaws
+pub use Rattle.sb_safe_updates.proofs.crash_views_Headers
+pub use Rattle.sb_safe_updates.proofs.crash_views_SoundViews
+pub use Rattle.sb_safe_updates.proofs.crash_views_Standing
+pub use Rattle.sb_safe_updates.proofs.crash_views_Stands
+pub use Rattle.sb_safe_updates.proofs.crash_views_Tails
+pub use Rattle.sb_safe_updates.proofs.crash_views_UnderWay
+pub use Rattle.sb_safe_updates.proofs.crash_views_WindowLaws
+pub use Rattle.sb_safe_updates.proofs.sb_update_laws_Laws
+pub use Rattle.sb_safe_updates.proofs.sb_specs_ReadLists
+pub use Rattle.sb_safe_updates.proofs.sb_specs_Searches
+pub use Rattle.sb_safe_updates.proofs.sb_specs_SlotSets
+pub use Rattle.sb_safe_updates.proofs.sb_specs_ValidFields
+pub use Rattle.sb_safe_updates.proofs.array_members_AddedMembers
+pub use Rattle.sb_safe_updates.proofs.array_members_AddedRows
+pub use Rattle.sb_safe_updates.proofs.array_members_Flushed
+pub use Rattle.sb_safe_updates.proofs.array_members_GivenMembers
+pub use Rattle.sb_safe_updates.proofs.array_members_HeldRows
+pub use Rattle.sb_safe_updates.proofs.array_members_LackingLaws
+pub use Rattle.sb_safe_updates.proofs.array_members_LackingLists
+pub use Rattle.sb_safe_updates.proofs.array_members_LackingWrites
+pub use Rattle.sb_safe_updates.proofs.array_members_LiveLeft
+pub use Rattle.sb_safe_updates.proofs.array_members_MarkLaws
+pub use Rattle.sb_safe_updates.proofs.array_members_MarkedSafe
+pub use Rattle.sb_safe_updates.proofs.array_members_MemberLaws
+pub use Rattle.sb_safe_updates.proofs.array_members_MendedParts
+pub use Rattle.sb_safe_updates.proofs.array_members_MovedLaws
+pub use Rattle.sb_safe_updates.proofs.array_members_PlacedLaws
+pub use Rattle.sb_safe_updates.proofs.array_members_SafeStretch
+pub use Rattle.sb_safe_updates.proofs.array_members_SoundViews
+pub use Rattle.sb_safe_updates.proofs.array_members_Stripes
+pub use Rattle.sb_safe_updates.proofs.MarkEnds as sb_safe_updates_MarkEnds

@@ -1,0 +1,102 @@
+pub mod Mended
+pub mod Ends
+pub mod Spares
+pub mod Windows
+pub mod Torn
+pub use Rattle.reshape_progress.proofs.Courses as reshape_progress_Courses
+pub use Rattle.reshape_progress.proofs.Frames as reshape_progress_Frames
+pub use Rattle.reshape_progress.proofs.Spares as reshape_progress_Spares
+pub use Rattle.reshape_progress.proofs.Under as reshape_progress_Under
+pub use Rattle.reshape_progress.proofs.reshape_window_steps_CopyLaws
+pub use Rattle.reshape_progress.proofs.reshape_window_steps_PastLaws
+pub use Rattle.reshape_progress.proofs.reshape_window_steps_ZeroLaws
+pub use Rattle.stripe_region_resync.proofs.Alike as stripe_region_resync_Alike
+pub use Rattle.stripe_region_resync.proofs.LeftLaws as stripe_region_resync_LeftLaws
+pub use Rattle.stripe_region_resync.proofs.RefusalLaws as stripe_region_resync_RefusalLaws
+pub use Rattle.stripe_region_resync.proofs.ReliedLaws as stripe_region_resync_ReliedLaws
+pub use Rattle.stripe_region_resync.proofs.StripeLaws as stripe_region_resync_StripeLaws
+pub use Rattle.stripe_region_resync.proofs.stripe_region_write_RunLists
+pub use Rattle.stripe_region_resync.proofs.stripe_region_write_Sides
+pub use Rattle.stripe_region_resync.proofs.stripe_region_write_Together
+pub use Rattle.reshape_progress.proofs.reshape_begin_end_BeginLaws
+pub use Rattle.reshape_progress.proofs.reshape_begin_end_Cleared
+pub use Rattle.reshape_progress.proofs.reshape_begin_end_FinishLaws
+pub use Rattle.reshape_progress.proofs.reshape_begin_end_Made
+pub use Rattle.reshape_progress.proofs.reshape_sb_updates_BegunNewest
+pub use Rattle.reshape_progress.proofs.reshape_sb_updates_BegunPlan
+pub use Rattle.reshape_progress.proofs.reshape_sb_updates_EndedPlan
+pub use Rattle.reshape_progress.proofs.reshape_sb_updates_NewRoles
+pub use Rattle.reshape_progress.proofs.reshape_sb_updates_Taken
+pub use Rattle.reshape_progress.proofs.sb_safe_updates_Under
+pub use Rattle.reshape_progress.proofs.sb_safe_updates_Unused
+pub use Rattle.reshape_progress.proofs.crash_reshape_laws_EndLaws
+pub use Rattle.reshape_progress.proofs.array_members_AddedMembers
+pub use Rattle.reshape_progress.proofs.array_members_Fit
+pub use Rattle.reshape_progress.proofs.array_members_Flushed
+pub use Rattle.reshape_progress.proofs.array_members_HeldRows
+pub use Rattle.reshape_progress.proofs.array_members_LiveLeft
+pub use Rattle.reshape_progress.proofs.array_members_MarkedSafe
+pub use Rattle.reshape_progress.proofs.array_members_MarkLaws
+pub use Rattle.reshape_progress.proofs.array_members_MovedLaws
+pub use Rattle.reshape_progress.proofs.array_members_SafeStretch
+pub use Rattle.reshape_progress.proofs.array_members_SoundViews
+pub use Rattle.reshape_progress.proofs.array_members_Still
+pub use Rattle.reshape_progress.proofs.array_members_LackingLaws
+pub use Rattle.reshape_progress.proofs.array_members_LackingLists
+pub use Rattle.reshape_progress.proofs.array_members_LackingWrites
+pub use Rattle.reshape_progress.proofs.crash_safety_laws_Without
+pub use Rattle.reshape_progress.proofs.crash_safety_laws_PlannedRoles
+pub use Rattle.reshape_progress.proofs.crash_safety_laws_ChangeSafe
+pub use Rattle.reshape_progress.proofs.crash_safety_laws_FitKinds
+pub use Rattle.reshape_progress.proofs.crash_safety_laws_ChangeViews
+pub use Rattle.reshape_progress.proofs.crash_safety_laws_Started
+pub use Rattle.reshape_progress.proofs.crash_views_Headers
+pub use Rattle.reshape_progress.proofs.crash_views_Stands
+pub use Rattle.reshape_progress.proofs.crash_views_Alike
+pub use Rattle.reshape_progress.proofs.crash_views_UnderWay
+pub use Rattle.reshape_progress.proofs.crash_reshape_laws_GrownLaws
+pub use Rattle.reshape_progress.proofs.crash_reshape_laws_GrownStanding
+pub use Rattle.reshape_progress.proofs.crash_safety_laws_Steady
+pub use Rattle.reshape_progress.proofs.crash_safety_laws_Risen
+pub use Rattle.reshape_progress.proofs.crash_safety_laws_LessViews
+pub use Rattle.reshape_progress.proofs.crash_views_SoundViews
+pub use Rattle.reshape_progress.proofs.crash_views_Standing
+pub use Rattle.reshape_progress.proofs.array_members_GivenMembers
+pub use Rattle.reshape_progress.proofs.array_members_PlacedLaws
+pub use Rattle.reshape_progress.proofs.array_members_Stripes
+pub use Rattle.reshape_progress.proofs.array_members_AddedRows
+pub use Rattle.reshape_progress.proofs.array_members_MemberLaws
+pub use Rattle.reshape_progress.proofs.crash_views_WindowLaws
+pub use Rattle.reshape_progress.proofs.crash_reshape_laws_TakenShapes
+pub use Rattle.reshape_progress.proofs.crash_reshape_laws_Takeovers
+pub use Rattle.reshape_progress.proofs.crash_safety_laws_Kept
+pub use Rattle.reshape_progress.proofs.stripe_list_FullLaws
+pub use Rattle.reshape_progress.proofs.sb_update_laws_Laws
+pub use Rattle.reshape_progress.proofs.sb_specs_ValidFields
+pub use Rattle.reshape_progress.proofs.history_SoundLaws
+pub use Rattle.reshape_progress.proofs.history_LegalLaws
+pub use Rattle.reshape_progress.proofs.stripe_row_Losses
+pub use Rattle.reshape_progress.proofs.sb_read_laws_SaidSlots
+pub use Rattle.reshape_progress.proofs.sb_specs_Searches
+pub use Rattle.reshape_progress.proofs.history_OneShapeGone
+pub use Rattle.reshape_progress.proofs.history_OneShapeLegal
+pub use Rattle.reshape_progress.proofs.history_GoneCounts
+pub use Rattle.reshape_progress.proofs.sb_specs_ReadLists
+pub use Rattle.reshape_progress.proofs.stripe_list_Parities
+pub use Rattle.reshape_progress.proofs.history_GivenLaws
+pub use Rattle.reshape_progress.proofs.stripe_row_NewRow
+pub use Rattle.reshape_progress.proofs.reshape_request_LeftLaws
+pub use Rattle.reshape_progress.proofs.stripe_row_Lacks
+pub use Rattle.reshape_progress.proofs.stripe_row_Tables
+pub use Rattle.reshape_progress.proofs.sb_specs_SlotSets
+pub use Rattle.reshape_progress.proofs.sb_read_laws_SaidLists
+pub use Rattle.reshape_progress.proofs.bank_backup_StoringLaws
+pub use Rattle.reshape_progress.proofs.bank_Marks
+pub use Rattle.reshape_progress.proofs.bank_Whole
+pub use Rattle.reshape_progress.proofs.reshape_geometry_Divisions
+pub use Rattle.reshape_progress.proofs.reshape_geometry_Rows
+pub use Rattle.reshape_progress.proofs.reshape_request_FirstLaws
+pub use Rattle.reshape_progress.proofs.raid_parity_Columns
+pub use Rattle.reshape_progress.proofs.raid_parity_OwnFills
+pub use Rattle.reshape_progress.proofs.raid_parity_Refilled
+pub use Rattle.reshape_progress.proofs.sb_safe_updates_MarkEnds

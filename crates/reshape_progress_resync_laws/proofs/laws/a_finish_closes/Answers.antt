@@ -1,0 +1,6 @@
+use Rattle.std.specs.Prelude.{⊤}
+use Rattle.reshape_progress_resync_laws.proofs.Windows.{mended-finishes-close}
+use Rattle.reshape_progress_resync_laws.proofs.laws.a_finish_closes.Goals as goal
+
+pub returns : goal.returns
+returns c = mended-finishes-close ⊤

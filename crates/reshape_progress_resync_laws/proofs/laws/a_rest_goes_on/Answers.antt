@@ -1,0 +1,6 @@
+use Rattle.std.specs.Prelude.{◌≡◌, true, ⊤}
+use Rattle.reshape_progress_resync_laws.proofs.Windows.{mended-rests-go-on}
+use Rattle.reshape_progress_resync_laws.proofs.laws.a_rest_goes_on.Goals as goal
+
+pub returns : goal.returns
+returns c = λ among. mended-rests-go-on ⊤ (λ shape. among shape ≡ true)

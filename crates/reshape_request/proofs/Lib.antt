@@ -1,0 +1,21 @@
+pub mod FirstLaws
+pub mod FitLaws
+pub mod LeftChecks
+pub mod LeftLaws
+pub mod PlanLaws
+pub use Rattle.history.proofs.OneShapeReplies as history_OneShapeReplies
+pub use Rattle.history.proofs.bank_backup_StoringLaws
+pub use Rattle.history.proofs.bank_Causes
+pub use Rattle.history.proofs.bank_Laws
+pub use Rattle.history.proofs.bank_Marks
+pub use Rattle.history.proofs.bank_Whole
+pub use Rattle.history.proofs.reshape_geometry_ClosedForms
+pub use Rattle.history.proofs.reshape_geometry_Divisions
+pub use Rattle.history.proofs.reshape_geometry_GoingOn
+pub use Rattle.history.proofs.reshape_geometry_Rows
+pub use Rattle.history.proofs.reshape_geometry_Valid
+pub use Rattle.history.proofs.reshape_plan_Sound
+pub use Rattle.history.proofs.raid_layout_Places
+pub use Rattle.history.proofs.raid_parity_Columns
+pub use Rattle.history.proofs.raid_parity_OwnFills
+pub use Rattle.history.proofs.raid_parity_Refilled

@@ -1,0 +1,8 @@
+use Rattle.std.proofs.Common.{◌≡◌, false, take}
+use Rattle.std.specs.List.{list_any}
+use Rattle.history.specs.Fits.{is_missing_role}
+use Rattle.reshape_request.proofs.judging.has_missing.Given as goal
+
+-- no role before this one is so
+abbrev pub invariant-loop-role : goal.invariant-loop-role
+invariant-loop-role l = list_any is_missing_role (take l.role l.members.roles) ≡ false

@@ -1,0 +1,3 @@
+pub mod TakenPlan
+pub mod TakenLosses
+pub use Rattle.reshape_begin_end.proofs.raid_layout_Limits

@@ -1,0 +1,9 @@
+pub mod Backup
+pub mod Entering
+pub use Rattle.reshape_progress.specs.bank_Given
+pub use Rattle.reshape_progress.specs.bank_Tape
+pub use Rattle.reshape_progress.specs.bank_the_Operation
+pub use Rattle.reshape_progress.specs.reshape_geometry_Geometry
+pub use Rattle.reshape_progress.specs.reshape_plan_Plans
+pub use Rattle.reshape_progress.specs.raid_parity_Rows
+pub use Rattle.reshape_progress.specs.sb_codec_the_Sb

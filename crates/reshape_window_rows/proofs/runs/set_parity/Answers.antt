@@ -1,0 +1,15 @@
+use Rattle.std.proofs.Common.{rules, ◌≡◌, ℕ, ◌<◌, get_or, ◌∙◌, ap, arith}
+use Rattle.raid_layout.specs.raid_types_the_RowRoles.{RowRoles}
+use Rattle.reshape_begin_end.specs.raid_parity_Rows.{IsRowRoles}
+use Rattle.reshape_begin_end.proofs.stripe_row_NewRow.{new_row}
+use Rattle.reshape_window_rows.proofs.runs.set_parity.Goals as goal
+
+pub returns : goal.returns
+returns c =
+    let roles = c.row_of.result in
+    let are = c.row_of.ensures in
+    let disks : roles.disks ≡ c.args.shape.now.disks = ap (λ (rs : RowRoles). rs.disks) are.roles in
+    let valid : IsRowRoles roles = search rules in
+    let small : (place : ℕ) → get_or c.syndromes.new.row place 0 < 256 = λ place. let h = c.type_inv.bytes place in omega (arith, h) in
+    let is = new_row c.args.shape.now c.args.row roles c.args.bytes.now c.syndromes.new.row are.roles valid (c.syndromes.auto.row ∙ c.requires.whole) small c.syndromes.ensures.good c.syndromes.ensures.data in
+    record { sectors = is.sectors }

@@ -1,0 +1,17 @@
+//! The steps of a reshape's window, each safe at each moment: it is entered, and recorded, and what they leave of an array that is steady.
+#![tactic(auto)]
+
+mod copying;
+mod entering;
+pub mod laws;
+mod recording;
+mod zeroing;
+
+pub use copying::{Stepped, copy};
+pub use entering::{Entered, NotEntered, enter_window};
+pub use recording::record;
+pub use reshape_window_rows::{
+    Finished, begin, finish, flush_and_record, give_role, has_unnamed, is_spare, is_vacant,
+    list_length, name_missing, newly_vacant, settle, too_many, unread, unwritten, vacant_roles,
+};
+pub use zeroing::zero;

@@ -1,5 +1,0 @@
-use Rattle.row_io.specs.Rows.{reading_of, AreHeld}
-use Rattle.row_io.proofs.fill.next_lacking.Given as goal
-
-abbrev pub invariant-loop-role : goal.invariant-loop-role
-invariant-loop-role l = AreHeld (reading_of l.members) l.row l.first l.role

@@ -1,8 +1,0 @@
-//! A law of what is read of the slots.
-
-ghost use Rattle.row_io.specs.Laws.{ReadingsAreApart};
-
-/// No slot holds two roles where an election has given the roles: each slot has one device number, and that one entry.
-pub fn readings_are_apart()
-    ensures { ReadingsAreApart }
-{}

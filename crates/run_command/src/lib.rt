@@ -1,0 +1,9 @@
+//! A run: the command's words, the script's text, its lines performed on an array, and the text of their replies.
+#![tactic(auto)]
+
+mod words;
+
+pub use run_scripts::{
+    LONGEST_TEXT, Made, Pace, Report, Session, Stop, TextFault, perform, read_text,
+};
+pub use words::run;

@@ -1,5 +1,0 @@
-use Rattle.run_laws.proofs.RuledLaws.{healthy-stay}
-use Rattle.run_laws.proofs.laws.healthy_roles_stay.Goals as goal
-
-pub returns : goal.returns
-returns c = healthy-stay

@@ -1,5 +1,0 @@
-use Rattle.run_laws.proofs.RuledLaws.{new-roles}
-use Rattle.run_laws.proofs.laws.new_roles_fail.Goals as goal
-
-pub returns : goal.returns
-returns c = new-roles

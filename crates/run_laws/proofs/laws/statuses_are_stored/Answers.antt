@@ -1,5 +1,0 @@
-use Rattle.run_laws.proofs.RuledLaws.{shown-stored}
-use Rattle.run_laws.proofs.laws.statuses_are_stored.Goals as goal
-
-pub returns : goal.returns
-returns c = shown-stored

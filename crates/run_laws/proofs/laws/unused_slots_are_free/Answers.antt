@@ -1,5 +1,0 @@
-use Rattle.run_laws.proofs.RuledLaws.{unused-slots}
-use Rattle.run_laws.proofs.laws.unused_slots_are_free.Goals as goal
-
-pub returns : goal.returns
-returns c = unused-slots

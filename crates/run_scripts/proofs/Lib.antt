@@ -1,0 +1,6 @@
+pub mod Texts
+pub mod Reopening
+pub mod NothingDone
+pub mod Marks
+pub mod Ends
+pub use Rattle.run_session.proofs.Unmoved as run_session_Unmoved

@@ -1,0 +1,19 @@
+pub mod Unmoved
+pub mod WritesPlaced
+pub mod Steps
+pub mod Showing
+pub mod Replied
+pub mod BlockReplies
+pub mod AmidBlocks
+pub use Rattle.run_blocks.proofs.run_specs_AskLaws
+pub use Rattle.run_blocks.proofs.run_requests_Legal
+pub use Rattle.run_blocks.proofs.run_specs_Growth
+pub use Rattle.run_blocks.proofs.run_requests_RecordLaws
+pub use Rattle.run_blocks.proofs.ShownLaws as run_blocks_ShownLaws
+pub use Rattle.run_blocks.proofs.run_specs_Turned
+pub use Rattle.run_blocks.proofs.run_specs_Losses
+pub use Rattle.run_blocks.proofs.run_line_answers_Turns
+pub use Rattle.run_blocks.proofs.run_specs_Plain
+pub use Rattle.run_blocks.proofs.run_requests_Called
+pub use Rattle.run_blocks.proofs.run_requests_Writing
+pub use Rattle.run_blocks.proofs.array_members_SafeStretch

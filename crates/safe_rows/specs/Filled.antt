@@ -1,9 +1,0 @@
--- In which order a stripe is rebuilt.
-use Rattle.std.specs.Prelude.{◌⊎◌, ℕ, List}
-use Rattle.safe_updates.specs.md_base_Sectors.{Sector}
-use Rattle.safe_updates.specs.list_io_Writing.{AreSuperblocksKept}
-use Rattle.safe_updates.specs.Named.{AreDataKept}
-
--- Between two moments, at this mark: no data was written yet, or the superblocks are what they are in the end. So none is written behind data.
-abbrev pub IsNamedFirst : (ℕ → ℕ → List Sector) → (ℕ → ℕ → List Sector) → (ℕ → ℕ → List Sector) → Type 0
-IsNamedFirst first last e = AreDataKept first e ⊎ AreSuperblocksKept last e

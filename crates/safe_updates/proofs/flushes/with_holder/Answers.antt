@@ -1,6 +1,0 @@
-use Rattle.std.proofs.Common.{inl, inr, ap}
-use Rattle.superblock_updates.specs.superblocks_Reading.{holder}
-use Rattle.safe_updates.proofs.flushes.with_holder.Goals as goal
-
-pub with-requires : goal.with-requires
-with-requires c = elim c.in-Whole.is [ inl whole ↦ c.requires c.in-Whole.slot (ap holder whole) | inr first ↦ c.requires c.in-Whole.slot (ap holder first) ]

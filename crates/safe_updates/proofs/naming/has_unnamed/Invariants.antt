@@ -1,9 +1,0 @@
-use Rattle.std.proofs.Common.{◌≡◌, ◌<◌, ℕ, true}
-use Rattle.views.specs.row_io_Rows.{reading_of}
-use Rattle.views.specs.Placed.{is_vacant}
-use Rattle.views.specs.Lacking.{IsNamed}
-use Rattle.safe_updates.proofs.naming.has_unnamed.Given as goal
-
--- no role before this one is vacant and named
-abbrev pub invariant-loop-role : goal.invariant-loop-role
-invariant-loop-role l = (role : ℕ) → role < l.role → is_vacant (reading_of l.members) role ≡ true → IsNamed l.members.newest role → ⊥

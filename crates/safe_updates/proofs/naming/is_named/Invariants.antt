@@ -1,7 +1,0 @@
-use Rattle.std.proofs.Common.{◌≢◌, ◌<◌, ℕ}
-use Rattle.superblock_updates.specs.superblocks_Reading.{entry_of}
-use Rattle.safe_updates.proofs.naming.is_named.Given as goal
-
--- no device before this one has the role
-abbrev pub invariant-loop-device : goal.invariant-loop-device
-invariant-loop-device l = (device : ℕ) → device < l.device → entry_of l.newest device ≢ l.role

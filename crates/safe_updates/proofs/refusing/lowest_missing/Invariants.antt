@@ -1,8 +1,0 @@
-use Rattle.std.proofs.Common.{◌≡◌, ◌<◌, ◌&&◌, ℕ, false, not}
-use Rattle.layout.specs.Layout.{is_parity_only}
-use Rattle.views.specs.row_io_Rows.{reading_of, is_missing}
-use Rattle.safe_updates.proofs.refusing.lowest_missing.Given as goal
-
--- no role before this one is missing and has data
-abbrev pub invariant-loop-role : goal.invariant-loop-role
-invariant-loop-role l = (role : ℕ) → role < l.role → (is_missing (reading_of l.members) role && not (is_parity_only l.shape role)) ≡ false

@@ -1,8 +1,0 @@
-use Rattle.std.proofs.Common.{◌+◌, ◌-◌, sym, arith}
-use Rattle.std.proofs.lemmas.Slice.{drop-put_mid}
-use Rattle.sb1.proofs.fields.put_u32.Goals as goal
-
-pub returns-clause-after : goal.returns-clause-after
-returns-clause-after c =
-    let at = c.args.offset in
-    record { same = sym (drop-put_mid at (at + 4 - at) c.args.sectors.now c.write_u32.new.buf (at + 4) (omega arith) (omega arith) (omega arith)) }

@@ -1,0 +1,163 @@
+-- Each field stays as it was written, since what is written later stands behind it.
+use Rattle.std.proofs.lemmas.Int.{to_z-of_z}
+use Rattle.std.proofs.Common.{rules, w32, ◌≡◌, sym, ap, ◌∙◌, lit≤, slice_range}
+use Rattle.raid_types.specs.Bytes.{field}
+use Rattle.sb_codec.specs.Kept.{KeptBefore, KeptFrom}
+use Rattle.sb_codec.specs.Superblock.{sb_of, signed, two_by_two}
+use Rattle.sb_codec.proofs.SameBytes.{before-then, from-then, field-before, range-before, range-from}
+use Rattle.sb_codec.proofs.SameFields.{from-fields}
+use Rattle.sb_codec.proofs.codec.put_fields.Goals as goal
+
+pub returns-clause-after : goal.returns-clause-after
+returns-clause-after c =
+    let from_8 : KeptFrom 8 c.args.sectors.now c.put_u32-2.new.sectors = from-then 4 8 (lit≤ tt) c.put_u32.ensures.after c.put_u32-2.ensures.after in
+    let from_12 : KeptFrom 12 c.args.sectors.now c.put_u32-3.new.sectors = from-then 8 12 (lit≤ tt) from_8 c.put_u32-3.ensures.after in
+    let from_16 : KeptFrom 16 c.args.sectors.now c.put_u32-4.new.sectors = from-then 12 16 (lit≤ tt) from_12 c.put_u32-4.ensures.after in
+    let from_32 : KeptFrom 32 c.args.sectors.now c.put_bytes.new.sectors = from-then 16 32 (lit≤ tt) from_16 c.put_bytes.ensures.after in
+    let from_64 : KeptFrom 64 c.args.sectors.now c.put_bytes-2.new.sectors = from-then 32 64 (lit≤ tt) from_32 c.put_bytes-2.ensures.after in
+    let from_72 : KeptFrom 72 c.args.sectors.now c.put_u64.new.sectors = from-then 64 72 (lit≤ tt) from_64 c.put_u64.ensures.after in
+    let from_76 : KeptFrom 76 c.args.sectors.now c.put_u32-5.new.sectors = from-then 72 76 (lit≤ tt) from_72 c.put_u32-5.ensures.after in
+    let from_80 : KeptFrom 80 c.args.sectors.now c.put_u32-6.new.sectors = from-then 76 80 (lit≤ tt) from_76 c.put_u32-6.ensures.after in
+    let from_88 : KeptFrom 88 c.args.sectors.now c.put_u64-2.new.sectors = from-then 80 88 (lit≤ tt) from_80 c.put_u64-2.ensures.after in
+    let from_92 : KeptFrom 92 c.args.sectors.now c.put_u32-7.new.sectors = from-then 88 92 (lit≤ tt) from_88 c.put_u32-7.ensures.after in
+    let from_96 : KeptFrom 96 c.args.sectors.now c.put_u32-8.new.sectors = from-then 92 96 (lit≤ tt) from_92 c.put_u32-8.ensures.after in
+    let from_100 : KeptFrom 100 c.args.sectors.now c.put_u32-9.new.sectors = from-then 96 100 (lit≤ tt) from_96 c.put_u32-9.ensures.after in
+    let from_104 : KeptFrom 104 c.args.sectors.now c.put_u32-10.new.sectors = from-then 100 104 (lit≤ tt) from_100 c.put_u32-10.ensures.after in
+    let from_112 : KeptFrom 112 c.args.sectors.now c.put_u64-3.new.sectors = from-then 104 112 (lit≤ tt) from_104 c.put_u64-3.ensures.after in
+    let from_116 : KeptFrom 116 c.args.sectors.now c.put_i32.new.sectors = from-then 112 116 (lit≤ tt) from_112 c.put_i32.ensures.after in
+    let from_120 : KeptFrom 120 c.args.sectors.now c.put_u32-11.new.sectors = from-then 116 120 (lit≤ tt) from_116 c.put_u32-11.ensures.after in
+    let from_124 : KeptFrom 124 c.args.sectors.now c.put_u32-12.new.sectors = from-then 120 124 (lit≤ tt) from_120 c.put_u32-12.ensures.after in
+    let from_128 : KeptFrom 128 c.args.sectors.now c.put_i32-2.new.sectors = from-then 124 128 (lit≤ tt) from_124 c.put_i32-2.ensures.after in
+    let from_136 : KeptFrom 136 c.args.sectors.now c.put_u64-4.new.sectors = from-then 128 136 (lit≤ tt) from_128 c.put_u64-4.ensures.after in
+    let from_144 : KeptFrom 144 c.args.sectors.now c.put_u64-5.new.sectors = from-then 136 144 (lit≤ tt) from_136 c.put_u64-5.ensures.after in
+    let from_152 : KeptFrom 152 c.args.sectors.now c.put_u64-6.new.sectors = from-then 144 152 (lit≤ tt) from_144 c.put_u64-6.ensures.after in
+    let from_160 : KeptFrom 160 c.args.sectors.now c.put_u64-7.new.sectors = from-then 152 160 (lit≤ tt) from_152 c.put_u64-7.ensures.after in
+    let from_164 : KeptFrom 164 c.args.sectors.now c.put_u32-13.new.sectors = from-then 160 164 (lit≤ tt) from_160 c.put_u32-13.ensures.after in
+    let from_168 : KeptFrom 168 c.args.sectors.now c.put_u32-14.new.sectors = from-then 164 168 (lit≤ tt) from_164 c.put_u32-14.ensures.after in
+    let from_184 : KeptFrom 184 c.args.sectors.now c.put_bytes-3.new.sectors = from-then 168 184 (lit≤ tt) from_168 c.put_bytes-3.ensures.after in
+    let from_185 : KeptFrom 185 c.args.sectors.now c.put_u8.new.sectors = from-then 184 185 (lit≤ tt) from_184 c.put_u8.ensures.after in
+    let from_186 : KeptFrom 186 c.args.sectors.now c.put_u8-2.new.sectors = from-then 185 186 (lit≤ tt) from_185 c.put_u8-2.ensures.after in
+    let from_188 : KeptFrom 188 c.args.sectors.now c.put_u16.new.sectors = from-then 186 188 (lit≤ tt) from_186 c.put_u16.ensures.after in
+    let from_192 : KeptFrom 192 c.args.sectors.now c.put_u32-15.new.sectors = from-then 188 192 (lit≤ tt) from_188 c.put_u32-15.ensures.after in
+    let from_200 : KeptFrom 200 c.args.sectors.now c.put_u64-8.new.sectors = from-then 192 200 (lit≤ tt) from_192 c.put_u64-8.ensures.after in
+    let from_208 : KeptFrom 208 c.args.sectors.now c.put_u64-9.new.sectors = from-then 200 208 (lit≤ tt) from_200 c.put_u64-9.ensures.after in
+    let from_216 : KeptFrom 216 c.args.sectors.now c.put_u64-10.new.sectors = from-then 208 216 (lit≤ tt) from_208 c.put_u64-10.ensures.after in
+    let from_220 : KeptFrom 220 c.args.sectors.now c.put_u32-16.new.sectors = from-then 216 220 (lit≤ tt) from_216 c.put_u32-16.ensures.after in
+    let from_224 : KeptFrom 224 c.args.sectors.now c.put_u32-17.new.sectors = from-then 220 224 (lit≤ tt) from_220 c.put_u32-17.ensures.after in
+    from-then 224 256 (lit≤ tt) from_224 c.put_bytes-4.ensures.after
+
+pub returns-clause-fields : goal.returns-clause-fields
+returns-clause-fields c =
+    let sb = c.args.sb.now in
+    let last = c.put_bytes-4.new.sectors in
+    let to_224 : KeptBefore 224 c.put_u32-17.new.sectors last = c.put_bytes-4.ensures.before in
+    let to_220 : KeptBefore 220 c.put_u32-16.new.sectors last = before-then 220 224 (lit≤ tt) c.put_u32-17.ensures.before to_224 in
+    let to_216 : KeptBefore 216 c.put_u64-10.new.sectors last = before-then 216 220 (lit≤ tt) c.put_u32-16.ensures.before to_220 in
+    let to_208 : KeptBefore 208 c.put_u64-9.new.sectors last = before-then 208 216 (lit≤ tt) c.put_u64-10.ensures.before to_216 in
+    let to_200 : KeptBefore 200 c.put_u64-8.new.sectors last = before-then 200 208 (lit≤ tt) c.put_u64-9.ensures.before to_208 in
+    let to_192 : KeptBefore 192 c.put_u32-15.new.sectors last = before-then 192 200 (lit≤ tt) c.put_u64-8.ensures.before to_200 in
+    let to_188 : KeptBefore 188 c.put_u16.new.sectors last = before-then 188 192 (lit≤ tt) c.put_u32-15.ensures.before to_192 in
+    let to_186 : KeptBefore 186 c.put_u8-2.new.sectors last = before-then 186 188 (lit≤ tt) c.put_u16.ensures.before to_188 in
+    let to_185 : KeptBefore 185 c.put_u8.new.sectors last = before-then 185 186 (lit≤ tt) c.put_u8-2.ensures.before to_186 in
+    let to_184 : KeptBefore 184 c.put_bytes-3.new.sectors last = before-then 184 185 (lit≤ tt) c.put_u8.ensures.before to_185 in
+    let to_168 : KeptBefore 168 c.put_u32-14.new.sectors last = before-then 168 184 (lit≤ tt) c.put_bytes-3.ensures.before to_184 in
+    let to_164 : KeptBefore 164 c.put_u32-13.new.sectors last = before-then 164 168 (lit≤ tt) c.put_u32-14.ensures.before to_168 in
+    let to_160 : KeptBefore 160 c.put_u64-7.new.sectors last = before-then 160 164 (lit≤ tt) c.put_u32-13.ensures.before to_164 in
+    let to_152 : KeptBefore 152 c.put_u64-6.new.sectors last = before-then 152 160 (lit≤ tt) c.put_u64-7.ensures.before to_160 in
+    let to_144 : KeptBefore 144 c.put_u64-5.new.sectors last = before-then 144 152 (lit≤ tt) c.put_u64-6.ensures.before to_152 in
+    let to_136 : KeptBefore 136 c.put_u64-4.new.sectors last = before-then 136 144 (lit≤ tt) c.put_u64-5.ensures.before to_144 in
+    let to_128 : KeptBefore 128 c.put_i32-2.new.sectors last = before-then 128 136 (lit≤ tt) c.put_u64-4.ensures.before to_136 in
+    let to_124 : KeptBefore 124 c.put_u32-12.new.sectors last = before-then 124 128 (lit≤ tt) c.put_i32-2.ensures.before to_128 in
+    let to_120 : KeptBefore 120 c.put_u32-11.new.sectors last = before-then 120 124 (lit≤ tt) c.put_u32-12.ensures.before to_124 in
+    let to_116 : KeptBefore 116 c.put_i32.new.sectors last = before-then 116 120 (lit≤ tt) c.put_u32-11.ensures.before to_120 in
+    let to_112 : KeptBefore 112 c.put_u64-3.new.sectors last = before-then 112 116 (lit≤ tt) c.put_i32.ensures.before to_116 in
+    let to_104 : KeptBefore 104 c.put_u32-10.new.sectors last = before-then 104 112 (lit≤ tt) c.put_u64-3.ensures.before to_112 in
+    let to_100 : KeptBefore 100 c.put_u32-9.new.sectors last = before-then 100 104 (lit≤ tt) c.put_u32-10.ensures.before to_104 in
+    let to_96 : KeptBefore 96 c.put_u32-8.new.sectors last = before-then 96 100 (lit≤ tt) c.put_u32-9.ensures.before to_100 in
+    let to_92 : KeptBefore 92 c.put_u32-7.new.sectors last = before-then 92 96 (lit≤ tt) c.put_u32-8.ensures.before to_96 in
+    let to_88 : KeptBefore 88 c.put_u64-2.new.sectors last = before-then 88 92 (lit≤ tt) c.put_u32-7.ensures.before to_92 in
+    let to_80 : KeptBefore 80 c.put_u32-6.new.sectors last = before-then 80 88 (lit≤ tt) c.put_u64-2.ensures.before to_88 in
+    let to_76 : KeptBefore 76 c.put_u32-5.new.sectors last = before-then 76 80 (lit≤ tt) c.put_u32-6.ensures.before to_80 in
+    let to_72 : KeptBefore 72 c.put_u64.new.sectors last = before-then 72 76 (lit≤ tt) c.put_u32-5.ensures.before to_76 in
+    let to_64 : KeptBefore 64 c.put_bytes-2.new.sectors last = before-then 64 72 (lit≤ tt) c.put_u64.ensures.before to_72 in
+    let to_32 : KeptBefore 32 c.put_bytes.new.sectors last = before-then 32 64 (lit≤ tt) c.put_bytes-2.ensures.before to_64 in
+    let to_16 : KeptBefore 16 c.put_u32-4.new.sectors last = before-then 16 32 (lit≤ tt) c.put_bytes.ensures.before to_32 in
+    let to_12 : KeptBefore 12 c.put_u32-3.new.sectors last = before-then 12 16 (lit≤ tt) c.put_u32-4.ensures.before to_16 in
+    let to_8 : KeptBefore 8 c.put_u32-2.new.sectors last = before-then 8 12 (lit≤ tt) c.put_u32-3.ensures.before to_12 in
+    let to_4 : KeptBefore 4 c.put_u32.new.sectors last = before-then 4 8 (lit≤ tt) c.put_u32-2.ensures.before to_8 in
+    let magic : field last 0 4 ≡ sb.magic = sym (field-before 0 4 4 (lit≤ tt) to_4) ∙ c.put_u32.ensures.value in
+    let major : field last 4 4 ≡ sb.major = sym (field-before 4 4 8 (lit≤ tt) to_8) ∙ c.put_u32-2.ensures.value in
+    let feature_map : field last 8 4 ≡ sb.feature_map = sym (field-before 8 4 12 (lit≤ tt) to_12) ∙ c.put_u32-3.ensures.value in
+    let pad0 : field last 12 4 ≡ sb.pad0 = sym (field-before 12 4 16 (lit≤ tt) to_16) ∙ c.put_u32-4.ensures.value in
+    let set_uuid : slice_range last 16 32 ≡ sb.set_uuid = sym (range-before 16 32 32 (lit≤ tt) to_32) ∙ c.put_bytes.ensures.value in
+    let set_name : slice_range last 32 64 ≡ sb.set_name = sym (range-before 32 64 64 (lit≤ tt) to_64) ∙ c.put_bytes-2.ensures.value in
+    let ctime : field last 64 8 ≡ sb.ctime = sym (field-before 64 8 72 (lit≤ tt) to_72) ∙ c.put_u64.ensures.value in
+    let level : field last 72 4 ≡ sb.level = sym (field-before 72 4 76 (lit≤ tt) to_76) ∙ c.put_u32-5.ensures.value in
+    let layout : field last 76 4 ≡ sb.layout = sym (field-before 76 4 80 (lit≤ tt) to_80) ∙ c.put_u32-6.ensures.value in
+    let size : field last 80 8 ≡ sb.size = sym (field-before 80 8 88 (lit≤ tt) to_88) ∙ c.put_u64-2.ensures.value in
+    let chunksize : field last 88 4 ≡ sb.chunksize = sym (field-before 88 4 92 (lit≤ tt) to_92) ∙ c.put_u32-7.ensures.value in
+    let raid_disks : field last 92 4 ≡ sb.raid_disks = sym (field-before 92 4 96 (lit≤ tt) to_96) ∙ c.put_u32-8.ensures.value in
+    let bitmap_offset : field last 96 4 ≡ sb.bitmap_offset = sym (field-before 96 4 100 (lit≤ tt) to_100) ∙ c.put_u32-9.ensures.value in
+    let new_level : field last 100 4 ≡ sb.new_level = sym (field-before 100 4 104 (lit≤ tt) to_104) ∙ c.put_u32-10.ensures.value in
+    let reshape_position : field last 104 8 ≡ sb.reshape_position = sym (field-before 104 8 112 (lit≤ tt) to_112) ∙ c.put_u64-3.ensures.value in
+    let delta_disks : signed (field last 112 4) ≡ sb.delta_disks = sym (ap signed (field-before 112 4 116 (lit≤ tt) to_116)) ∙ c.put_i32.ensures.value ∙ to_z-of_z w32 _ (search rules) in
+    let new_layout : field last 116 4 ≡ sb.new_layout = sym (field-before 116 4 120 (lit≤ tt) to_120) ∙ c.put_u32-11.ensures.value in
+    let new_chunk : field last 120 4 ≡ sb.new_chunk = sym (field-before 120 4 124 (lit≤ tt) to_124) ∙ c.put_u32-12.ensures.value in
+    let new_offset : signed (field last 124 4) ≡ sb.new_offset = sym (ap signed (field-before 124 4 128 (lit≤ tt) to_128)) ∙ c.put_i32-2.ensures.value ∙ to_z-of_z w32 _ (search rules) in
+    let data_offset : field last 128 8 ≡ sb.data_offset = sym (field-before 128 8 136 (lit≤ tt) to_136) ∙ c.put_u64-4.ensures.value in
+    let data_size : field last 136 8 ≡ sb.data_size = sym (field-before 136 8 144 (lit≤ tt) to_144) ∙ c.put_u64-5.ensures.value in
+    let super_offset : field last 144 8 ≡ sb.super_offset = sym (field-before 144 8 152 (lit≤ tt) to_152) ∙ c.put_u64-6.ensures.value in
+    let recovery_offset : field last 152 8 ≡ sb.recovery_offset = sym (field-before 152 8 160 (lit≤ tt) to_160) ∙ c.put_u64-7.ensures.value in
+    let dev_number : field last 160 4 ≡ sb.dev_number = sym (field-before 160 4 164 (lit≤ tt) to_164) ∙ c.put_u32-13.ensures.value in
+    let cnt_corrected_read : field last 164 4 ≡ sb.cnt_corrected_read = sym (field-before 164 4 168 (lit≤ tt) to_168) ∙ c.put_u32-14.ensures.value in
+    let device_uuid : slice_range last 168 184 ≡ sb.device_uuid = sym (range-before 168 184 184 (lit≤ tt) to_184) ∙ c.put_bytes-3.ensures.value in
+    let devflags : field last 184 1 ≡ sb.devflags = sym (field-before 184 1 185 (lit≤ tt) to_185) ∙ c.put_u8.ensures.value in
+    let bblog_shift : field last 185 1 ≡ sb.bblog_shift = sym (field-before 185 1 186 (lit≤ tt) to_186) ∙ c.put_u8-2.ensures.value in
+    let bblog_size : field last 186 2 ≡ sb.bblog_size = sym (field-before 186 2 188 (lit≤ tt) to_188) ∙ c.put_u16.ensures.value in
+    let bblog_offset : field last 188 4 ≡ sb.bblog_offset = sym (field-before 188 4 192 (lit≤ tt) to_192) ∙ c.put_u32-15.ensures.value in
+    let utime : field last 192 8 ≡ sb.utime = sym (field-before 192 8 200 (lit≤ tt) to_200) ∙ c.put_u64-8.ensures.value in
+    let events : field last 200 8 ≡ sb.events = sym (field-before 200 8 208 (lit≤ tt) to_208) ∙ c.put_u64-9.ensures.value in
+    let resync_offset : field last 208 8 ≡ sb.resync_offset = sym (field-before 208 8 216 (lit≤ tt) to_216) ∙ c.put_u64-10.ensures.value in
+    let sb_csum : field last 216 4 ≡ sb.sb_csum = sym (field-before 216 4 220 (lit≤ tt) to_220) ∙ c.put_u32-16.ensures.value in
+    let max_dev : field last 220 4 ≡ sb.max_dev = sym (field-before 220 4 224 (lit≤ tt) to_224) ∙ c.put_u32-17.ensures.value in
+    let pad3 : slice_range last 224 256 ≡ sb.pad3 = c.put_bytes-4.ensures.value in
+    let roles : slice_range c.args.sectors.now 256 1024 ≡ slice_range last 256 1024 = range-from 256 256 1024 (lit≤ tt) (returns-clause-after c) in
+    from-fields (sb_of last) (record sb { dev_roles = two_by_two (slice_range c.args.sectors.now 256 1024) }) (record {
+      magic = magic;
+      major = major;
+      feature_map = feature_map;
+      pad0 = pad0;
+      set_uuid = set_uuid;
+      set_name = set_name;
+      ctime = ctime;
+      level = level;
+      layout = layout;
+      size = size;
+      chunksize = chunksize;
+      raid_disks = raid_disks;
+      bitmap_offset = bitmap_offset;
+      new_level = new_level;
+      reshape_position = reshape_position;
+      delta_disks = delta_disks;
+      new_layout = new_layout;
+      new_chunk = new_chunk;
+      new_offset = new_offset;
+      data_offset = data_offset;
+      data_size = data_size;
+      super_offset = super_offset;
+      recovery_offset = recovery_offset;
+      dev_number = dev_number;
+      cnt_corrected_read = cnt_corrected_read;
+      device_uuid = device_uuid;
+      devflags = devflags;
+      bblog_shift = bblog_shift;
+      bblog_size = bblog_size;
+      bblog_offset = bblog_offset;
+      utime = utime;
+      events = events;
+      resync_offset = resync_offset;
+      sb_csum = sb_csum;
+      max_dev = max_dev;
+      pad3 = pad3;
+      dev_roles = ap two_by_two (sym roles);
+    })

@@ -1,0 +1,165 @@
+//! Marks of the superblocks, which name the roles that no slot holds.
+
+ghost use Rattle.std.specs.Prelude.{◌≡◌, ◌<◌, ◌≤◌, ◌^◌, ◌&&◌, ℕ, true, false, nat_lt, not, length};
+ghost use Rattle.sb_update.specs.bank_Given.{NeverFalls};
+ghost use Rattle.raid_layout.specs.raid_types_Shapes.{has_slot};
+ghost use Rattle.sb_update.specs.sb_specs_Reading.{role_count, is_clean};
+ghost use Rattle.array_members.specs.stripe_row_Rows.{reading_of, present};
+ghost use Rattle.array_members.specs.Placed.{is_vacant, AreWhole, IsPlaced};
+ghost use Rattle.array_members.specs.crash_safety_laws_Steady.{AreUnlost, IsSafeOver, IsNamedOver, KeepsSafe, AreGoneTold, IsUncleanTold};
+ghost use Rattle.array_members.specs.Rebuilding.{AreSparesFree};
+ghost use Rattle.array_members.specs.crash_safety_laws_Marking.{AreOthersPresent};
+ghost use Rattle.sb_safe_updates.specs.Named.{AreNamedMissing, AreDataKept};
+ghost use Rattle.array_members.specs.Moving.{Grows, IsMoved};
+ghost use Rattle.array_members.specs.crash_safety_laws_Safety.{HasLiveSlot, HasRoomLeft, IsRisen};
+ghost use Rattle.array_members.specs.Under.{IsRestKept};
+ghost use Rattle.array_members.specs.Lacking.{HaveFailedSince, AreHoldersFlushed, IsNamed, AreUnnamed};
+ghost use Rattle.sb_update.specs.bank_Tape.{EachMark, disk};
+ghost use Rattle.array_members.specs.history_World.{World};
+ghost use Rattle.array_members.specs.history_Sound.{OpensFit};
+ghost use Rattle.array_members.specs.crash_views_Views.{Ledger};
+ghost use Rattle.array_members.specs.crash_safety_laws_Kinds.{IsMarkable};
+
+use crate::flushes::holders;
+use crate::marks::mark;
+use crate::roles::{is_vacant, vacant_roles};
+use sb_update::{Bank, Members, Sb, entry_of, is_clean, without};
+
+/// The roles that no slot holds, of so many, and that aren't among these.
+pub fn newly_vacant(members: &Members, disks: u32, before: u32) -> u32
+    requires known { disks ≤ length members.now.roles }
+    requires few { disks ≤ 32 }
+    ensures { (role : ℕ) → has_slot result role ≡ ((nat_lt role disks && is_vacant (reading_of members.now) role) && not (has_slot before role)) }
+{
+    without(vacant_roles(members, disks), before)
+}
+
+// Whether some device has the role, by the newest superblock.
+fn is_named(newest: &Sb, role: u32) -> bool
+    ensures named { result ≡ true → IsNamed newest.now role }
+    ensures unnamed { result ≡ false → IsNamed newest.now role → ⊥ }
+{
+    for device in 0..384u32 {
+        if u32::from(entry_of(newest, device)) == role {
+            return true;
+        }
+    }
+    false
+}
+
+/// Whether the newest superblock still gives a device a role that no slot holds.
+pub fn has_unnamed(members: &Members) -> bool
+    requires roles { length members.now.roles ≡ role_count members.now.newest }
+    requires few { length members.now.roles < 2 ^ 32 }
+    ensures some { result ≡ true → (role : ℕ) × (role < role_count members.now.newest) × (is_vacant (reading_of members.now) role ≡ true) × IsNamed members.now.newest role }
+    ensures none { result ≡ false → AreUnnamed members.now }
+{
+    for role in 0..members.roles.len() as u32 {
+        if is_vacant(members, role) && is_named(&members.newest, role) {
+            return true;
+        }
+    }
+    false
+}
+
+// A superblock has 384 role entries.
+fn check_entries(newest: &Sb)
+    ensures { length newest.now.dev_roles ≡ 384 }
+{
+    let entries = newest.dev_roles;
+    let _ = entries.len();
+}
+
+/// Marks the array clean or dirty, which names the roles that no slot holds. The spares that were lost in this.
+pub fn mark_members<B: Bank>(members: &mut Members, bank: &mut B, clean: bool) -> u32
+    requires slots { (B.given bank.old).slots ≤ 32 }
+    requires placed { IsPlaced (B.given bank.old) members.old }
+    requires unlost { AreUnlost members.old }
+    requires free { AreSparesFree (B.given bank.old) members.old }
+    ensures moved { IsMoved (B.given bank.old) members.old members.new }
+    ensures failed { HaveFailedSince members.old members.new result (B.faults_of bank.old) (B.faults_of bank.new) }
+    ensures grows { Grows B.tells (B.tape bank.old) (B.tape bank.new) }
+    ensures others { B.tells → AreOthersPresent (present (B.given bank.old) (B.tape bank.old)) (present (B.given bank.old) (B.tape bank.new)) }
+    ensures flushed { B.tells → AreHoldersFlushed (reading_of members.old) (B.given bank.old) (B.tape bank.old) → AreHoldersFlushed (reading_of members.old) (B.given bank.old) (B.tape bank.new) }
+    ensures clean { is_clean members.new.newest ≡ clean }
+    ensures missing { HasLiveSlot members.new → AreNamedMissing members.new }
+    ensures rest { B.tells → IsRestKept members.old (disk (B.given bank.old).start (B.tape bank.old)) (disk (B.given bank.old).start (B.tape bank.new)) }
+    ensures data { let start = (B.given bank.old).start in EachMark B.tells start (B.tape bank.old) (B.tape bank.new) (AreDataKept (disk start (B.tape bank.old))) }
+    ensures rise { IsRisen B.tells members.old members.new (B.tape bank.old) (B.tape bank.new) }
+    ensures safe { B.tells → (world : World) → (told : Ledger) → HasRoomLeft members.old (B.tape bank.old) (B.tape bank.new)
+        → IsMarkable (OpensFit world) world.scope clean told members.old members.new (disk (B.given bank.old).start (B.tape bank.old))
+        → IsSafeOver world (B.given bank.old) told members.old (B.tape bank.old)
+        → KeepsSafe world (B.given bank.old) told members.new (B.tape bank.old) (B.tape bank.new) }
+    ensures named { B.tells → (world : World) → (told : Ledger) → HasRoomLeft members.old (B.tape bank.old) (B.tape bank.new)
+        → IsMarkable (OpensFit world) world.scope clean told members.old members.new (disk (B.given bank.old).start (B.tape bank.old))
+        → IsSafeOver world (B.given bank.old) told members.old (B.tape bank.old)
+        → HasLiveSlot members.new → IsNamedOver world (B.given bank.old) told members.new (B.tape bank.new) }
+    ensures given { B.given bank.new ≡ B.given bank.old }
+    ensures counts { NeverFalls (B.faults_of bank.old) (B.faults_of bank.new) }
+{
+    let held = holders(members);
+    let lost = mark(members, bank, clean);
+    check_entries(&members.newest);
+    without(lost, held)
+}
+
+/// Names the roles that no slot holds, where they aren't yet: an update that changes nothing else. The spares that were lost
+/// in this.
+pub fn name_missing<B: Bank>(members: &mut Members, bank: &mut B) -> u32
+    requires slots { (B.given bank.old).slots ≤ 32 }
+    requires placed { IsPlaced (B.given bank.old) members.old }
+    requires unlost { AreUnlost members.old }
+    requires free { AreSparesFree (B.given bank.old) members.old }
+    ensures moved { IsMoved (B.given bank.old) members.old members.new }
+    ensures failed { HaveFailedSince members.old members.new result (B.faults_of bank.old) (B.faults_of bank.new) }
+    ensures grows { Grows B.tells (B.tape bank.old) (B.tape bank.new) }
+    ensures others { B.tells → AreOthersPresent (present (B.given bank.old) (B.tape bank.old)) (present (B.given bank.old) (B.tape bank.new)) }
+    ensures flushed { B.tells → AreHoldersFlushed (reading_of members.old) (B.given bank.old) (B.tape bank.old) → AreHoldersFlushed (reading_of members.old) (B.given bank.old) (B.tape bank.new) }
+    ensures clean { is_clean members.new.newest ≡ is_clean members.old.newest }
+    ensures kept { AreWhole members.old → members.new ≡ members.old }
+    ensures tape { AreWhole members.old → B.tells → B.tape bank.new ≡ B.tape bank.old }
+    ensures missing { HasLiveSlot members.new → AreNamedMissing members.new }
+    ensures rest { B.tells → IsRestKept members.old (disk (B.given bank.old).start (B.tape bank.old)) (disk (B.given bank.old).start (B.tape bank.new)) }
+    ensures data { let start = (B.given bank.old).start in EachMark B.tells start (B.tape bank.old) (B.tape bank.new) (AreDataKept (disk start (B.tape bank.old))) }
+    ensures rise { IsRisen B.tells members.old members.new (B.tape bank.old) (B.tape bank.new) }
+    ensures safe { B.tells → (world : World) → (told : Ledger) → HasRoomLeft members.old (B.tape bank.old) (B.tape bank.new)
+        → AreGoneTold told members.new → IsUncleanTold told members.old → IsSafeOver world (B.given bank.old) told members.old (B.tape bank.old)
+        → KeepsSafe world (B.given bank.old) told members.new (B.tape bank.old) (B.tape bank.new) }
+    ensures named { B.tells → (world : World) → (told : Ledger) → HasRoomLeft members.old (B.tape bank.old) (B.tape bank.new)
+        → AreGoneTold told members.new → IsUncleanTold told members.old → IsSafeOver world (B.given bank.old) told members.old (B.tape bank.old)
+        → HasLiveSlot members.new → IsNamedOver world (B.given bank.old) told members.new (B.tape bank.new) }
+    ensures given { B.given bank.new ≡ B.given bank.old }
+    ensures counts { NeverFalls (B.faults_of bank.old) (B.faults_of bank.new) }
+{
+    if !has_unnamed(members) {
+        return 0;
+    }
+    let clean = is_clean(&members.newest);
+    mark_members(members, bank, clean)
+}
+
+/// Marks a clean array dirty, and names the roles that no slot holds. The spares that were lost in this.
+pub fn raise<B: Bank>(members: &mut Members, bank: &mut B) -> u32
+    requires slots { (B.given bank.old).slots ≤ 32 }
+    requires placed { IsPlaced (B.given bank.old) members.old }
+    requires unlost { AreUnlost members.old }
+    requires free { AreSparesFree (B.given bank.old) members.old }
+    ensures moved { IsMoved (B.given bank.old) members.old members.new }
+    ensures failed { HaveFailedSince members.old members.new result (B.faults_of bank.old) (B.faults_of bank.new) }
+    ensures grows { Grows B.tells (B.tape bank.old) (B.tape bank.new) }
+    ensures others { B.tells → AreOthersPresent (present (B.given bank.old) (B.tape bank.old)) (present (B.given bank.old) (B.tape bank.new)) }
+    ensures dirty { is_clean members.new.newest ≡ false }
+    ensures missing { HasLiveSlot members.new → AreNamedMissing members.new }
+    ensures rest { B.tells → IsRestKept members.old (disk (B.given bank.old).start (B.tape bank.old)) (disk (B.given bank.old).start (B.tape bank.new)) }
+    ensures rise { IsRisen B.tells members.old members.new (B.tape bank.old) (B.tape bank.new) }
+    ensures safe { B.tells → (world : World) → (told : Ledger) → HasRoomLeft members.old (B.tape bank.old) (B.tape bank.new)
+        → AreGoneTold told members.new → told.unclean ≡ true → IsSafeOver world (B.given bank.old) told members.old (B.tape bank.old)
+        → KeepsSafe world (B.given bank.old) told members.new (B.tape bank.old) (B.tape bank.new) }
+    ensures given { B.given bank.new ≡ B.given bank.old }
+    ensures counts { NeverFalls (B.faults_of bank.old) (B.faults_of bank.new) }
+{
+    if is_clean(&members.newest) {
+        return mark_members(members, bank, false);
+    }
+    name_missing(members, bank)
+}

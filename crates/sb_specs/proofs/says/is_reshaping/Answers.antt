@@ -1,0 +1,6 @@
+use Rattle.std.proofs.Common.{lit<, refl}
+use Rattle.sb_specs.proofs.FeatureBits.{masked}
+use Rattle.sb_specs.proofs.says.is_reshaping.Goals as goal
+
+pub returns : goal.returns
+returns c = masked c.args.sb.now.feature_map 2 4 refl (lit< tt)

@@ -1,5 +1,0 @@
-use Rattle.seen_laws.proofs.PlaceLaws.{calls-own}
-use Rattle.seen_laws.proofs.calls_are_ones_own.Goals as goal
-
-pub returns : goal.returns
-returns c = calls-own

@@ -1,5 +1,0 @@
-use Rattle.seen_laws.proofs.BeforeLaws.{shorter-before}
-use Rattle.seen_laws.proofs.shorter_is_before.Goals as goal
-
-pub returns : goal.returns
-returns c = shorter-before

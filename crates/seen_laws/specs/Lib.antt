@@ -1,9 +1,0 @@
-pub mod Callers
-pub use Rattle.running_replies.specs.flat_history_Flat
-pub use Rattle.running_replies.specs.flat_history_OneShape
-pub use Rattle.running_replies.specs.flat_history_Seen
-pub use Rattle.running_replies.specs.flat_history_the_Entry
-pub use Rattle.running_replies.specs.flat_history_the_Event
-pub use Rattle.running_replies.specs.flat_history_the_Event_TheVariants
-pub use Rattle.running_replies.specs.flat_history_the_Request
-pub use Rattle.running_replies.specs.flat_history_the_Request_TheVariants

@@ -1,5 +1,0 @@
-use Rattle.shape_views.proofs.BackupLaws.{named-is-open}
-use Rattle.shape_views.proofs.named_is_open.Goals as goal
-
-pub returns : goal.returns
-returns c = named-is-open

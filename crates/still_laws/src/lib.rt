@@ -1,9 +1,0 @@
-//! What the calls of an array without an active reshape leave, from what is done below them. Definitions and laws alone.
-#![tactic(auto)]
-
-pub use running_words::{is_spare, visible_of};
-pub use still_kept::{
-    Filled, fetch, fill, flush_and_record, give_role, has_unnamed, is_vacant, mend, mended_rows,
-    name_missing, newly_vacant, put, recovering_slot, settle, shape_in, too_many, unread,
-    unwritten, vacant_roles,
-};

@@ -1,0 +1,20 @@
+pub mod Runs
+pub mod Ends
+pub use Rattle.stripe_region_read.specs.Stretches as stripe_region_read_Stretches
+pub use Rattle.stripe_region_read.specs.sb_safe_updates_First
+pub use Rattle.stripe_region_read.specs.sb_safe_updates_Unused
+pub use Rattle.stripe_region_read.specs.array_members_Placed
+pub use Rattle.stripe_region_read.specs.array_members_Rebuilding
+pub use Rattle.stripe_region_read.specs.array_members_Moving
+pub use Rattle.stripe_region_read.specs.array_members_Lacking
+pub use Rattle.stripe_region_read.specs.crash_safety_laws_Steady
+pub use Rattle.stripe_region_read.specs.crash_safety_laws_Safety
+pub use Rattle.stripe_region_read.specs.crash_views_Regions
+pub use Rattle.stripe_region_read.specs.crash_views_Views
+pub use Rattle.stripe_region_read.specs.crash_views_Windows
+pub use Rattle.stripe_region_read.specs.stripe_list_Full
+pub use Rattle.stripe_region_read.specs.stripe_list_Writing
+pub use Rattle.stripe_region_read.specs.history_Sound
+pub use Rattle.stripe_region_read.specs.history_World
+pub use Rattle.stripe_region_read.specs.history_Stands
+pub use Rattle.stripe_region_read.specs.stripe_row_Rows

@@ -1,5 +1,0 @@
-use Rattle.superblock_laws.proofs.MadeWholeSaid.{stay-said}
-use Rattle.superblock_laws.proofs.members_made_whole_stay_said.Goals as goal
-
-pub returns : goal.returns
-returns c = stay-said

@@ -1,5 +1,0 @@
-use Rattle.superblock_laws.proofs.Laws.{making-ends}
-use Rattle.superblock_laws.proofs.update_making_whole_ends.Goals as goal
-
-pub returns : goal.returns
-returns c = making-ends

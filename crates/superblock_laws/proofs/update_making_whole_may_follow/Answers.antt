@@ -1,5 +1,0 @@
-use Rattle.superblock_laws.proofs.Laws.{making-follows}
-use Rattle.superblock_laws.proofs.update_making_whole_may_follow.Goals as goal
-
-pub returns : goal.returns
-returns c = making-follows

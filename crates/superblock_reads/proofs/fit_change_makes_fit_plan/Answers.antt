@@ -1,5 +1,0 @@
-use Rattle.superblock_reads.proofs.PlanFits.{plan-fits}
-use Rattle.superblock_reads.proofs.fit_change_makes_fit_plan.Goals as goal
-
-pub returns : goal.returns
-returns c = λ scope known lost left before members change d held within fits. plan-fits scope known lost left before members change d held within fits

@@ -1,8 +1,0 @@
-use Rattle.std.proofs.Common.{List, ℕ, ◌∙◌, ap}
-use Rattle.superblocks.specs.md_base_Shapes.{has_slot}
-use Rattle.superblocks.proofs.SlotSets.{slots-same}
-use Rattle.superblock_updates.proofs.recording.spares.keep_spares.Goals as goal
-
-pub returns : goal.returns
-returns c = ap (λ (l : List ℕ). record c.args.members.now { spares = l })
-    (c.put_slots.ensures ∙ slots-same 32 (has_slot c.spare_set-spares.result) _ c.spare_set-spares.ensures)

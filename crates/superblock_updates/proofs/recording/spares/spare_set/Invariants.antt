@@ -1,9 +1,0 @@
-use Rattle.std.proofs.Common.{◌≡◌, ℕ, not, ◌&&◌, nat_lt}
-use Rattle.superblocks.specs.md_base_Shapes.{has_slot}
-use Rattle.superblocks.specs.Update.{is_planned_spare, give_of}
-use Rattle.superblock_updates.proofs.recording.spares.spare_set.Given as goal
-
--- those before this slot are in the set
-abbrev pub invariant-loop-slot : goal.invariant-loop-slot
-invariant-loop-slot l =
-    (s : ℕ) → has_slot l.spares s ≡ (nat_lt s l.slot && (not (has_slot l.members.lost s) && is_planned_spare l.members.spares l.change.added (give_of l.change.gives s) s))

@@ -1,6 +1,0 @@
-use Rattle.std.proofs.Common.{lit<, refl}
-use Rattle.superblocks.proofs.FeatureBits.{masked}
-use Rattle.superblocks.proofs.says.is_recovering.Goals as goal
-
-pub returns : goal.returns
-returns c = masked c.args.sb.now.feature_map 1 2 refl (lit< tt)

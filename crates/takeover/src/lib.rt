@@ -1,8 +1,0 @@
-//! The level of an array without an active reshape is taken over.
-#![tactic(auto)]
-
-mod choosing;
-mod taking;
-
-pub use still_calls::{Epoch, Event, Members, PhasesLeft, Pieces, add, read, write};
-pub use taking::take_over;

@@ -1,3 +1,0 @@
-pub mod TakenPlan
-pub mod TakenLosses
-pub use Rattle.reshape_ends.proofs.layout_Limits

@@ -1,8 +1,0 @@
-use Rattle.std.proofs.Common.{◌+◌, refl}
-use Rattle.turning.proofs.Begun.{begun-counted}
-use Rattle.turning.proofs.beginning.begun_left.Goals as goal
-
-pub returns : goal.returns
-returns c =
-    begun-counted c.args.members.now c.args.behind.now c.args.to.now c.reshape_left-moved.result c.planned_left.result (c.reshape_left-moved.result + c.planned_left.result) c.requires.reshape.active c.requires.to
-    c.reshape_left-moved.ensures.value c.planned_left.ensures.value refl

@@ -1,6 +1,0 @@
-use Rattle.std.proofs.Common.{◌≤◌, length, subst, ℕ}
-use Rattle.moving_steps.proofs.kept_history_Records.{going-few}
-use Rattle.turning.proofs.beginning.check_going.Goals as goal
-
-pub returns : goal.returns
-returns c = going-few c.args.entries.now.items c.args.who c.requires (subst (λ (n : ℕ). n ≤ length c.args.entries.now.items) c.next_number.ensures.number c.next_number.ensures.few)

@@ -1,6 +1,0 @@
-use Rattle.std.proofs.Common.{arith}
-use Rattle.still_steps.proofs.still_laws_Left.{left-few}
-use Rattle.turning.proofs.ending.ended_left.Goals as goal
-
-pub overflow_add-result : goal.overflow_add-result
-overflow_add-result c = let few = left-few c.args.work.now c.args.members.now c.requires.shape c.requires.size in omega (arith, few, c.steps_left-left.ensures, c.planned_left.ensures.few)

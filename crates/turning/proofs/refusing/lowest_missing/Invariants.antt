@@ -1,7 +1,0 @@
-use Rattle.std.proofs.Common.{◌≡◌, ◌<◌, ℕ, false}
-use Rattle.moving_steps.specs.row_io_Rows.{reading_of, is_missing}
-use Rattle.turning.proofs.refusing.lowest_missing.Given as goal
-
--- each role before this one is whole
-abbrev pub invariant-loop-role : goal.invariant-loop-role
-invariant-loop-role l = (role : ℕ) → role < l.role → is_missing (reading_of l.members) role ≡ false

@@ -1,9 +1,0 @@
-pub mod Backup
-pub mod Entering
-pub use Rattle.course_kept.specs.bank_Given
-pub use Rattle.course_kept.specs.bank_Tape
-pub use Rattle.course_kept.specs.bank_the_Operation
-pub use Rattle.course_kept.specs.geometry_Geometry
-pub use Rattle.course_kept.specs.grow_plan_Plans
-pub use Rattle.course_kept.specs.parity_Rows
-pub use Rattle.course_kept.specs.sb1_the_Sb

@@ -1,6 +1,0 @@
-use Rattle.std.specs.Prelude.{⊤}
-use Rattle.window_steps.proofs.SteadyLaws.{clearing-steady}
-use Rattle.window_steps.proofs.laws.cleared_headers_stay_steady.Goals as goal
-
-pub returns : goal.returns
-returns c = clearing-steady ⊤

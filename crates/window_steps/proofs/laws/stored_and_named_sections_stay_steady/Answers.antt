@@ -1,6 +1,0 @@
-use Rattle.std.specs.Prelude.{⊤}
-use Rattle.window_steps.proofs.SteadyLaws.{sections-steady}
-use Rattle.window_steps.proofs.laws.stored_and_named_sections_stay_steady.Goals as goal
-
-pub returns : goal.returns
-returns c = sections-steady ⊤
