@@ -1,4 +1,4 @@
-//! Lanes and workers over one running array: the tests of `lanes`.
+//! Lanes and workers over one running array: the tests of `lane_shared`.
 #![tactic(auto)]
 
 #[cfg(test)]
