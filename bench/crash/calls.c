@@ -5,6 +5,7 @@
  *   CALLS_FAIL=N       the N-th call of an image file, from 0, answers EIO
  *   CALLS_FAIL_ON=1    and so does each call behind it
  *   CALLS_FAIL_DONE=1  what fails is done nevertheless, and only its answer is an error
+ *   CALLS_FAIL_SILENT=1  what fails isn't done, but answers as if it were; what is read is zeros (no device of ours: it shows how sharp a judge is)
  */
 #define _GNU_SOURCE
 #include <dlfcn.h>
@@ -29,7 +30,7 @@ struct head {
 
 static int log_to = -1;
 static long fail_at = -1;
-static int fail_on, fail_done;
+static int fail_on, fail_done, fail_silent;
 static atomic_long calls;
 static atomic_char named[1024];
 
@@ -55,6 +56,7 @@ __attribute__((constructor)) static void begin(void) {
         fail_at = atol(at);
     fail_on = getenv("CALLS_FAIL_ON") != NULL;
     fail_done = getenv("CALLS_FAIL_DONE") != NULL;
+    fail_silent = getenv("CALLS_FAIL_SILENT") != NULL;
 }
 
 static void name(int file) {
@@ -79,6 +81,10 @@ static int fails(enum kind kind, int file) {
 
 ssize_t pread64(int file, void *into, size_t count, off64_t offset) {
     if (fails(READ, file)) {
+        if (fail_silent) {
+            memset(into, 0, count);
+            return count;
+        }
         errno = EIO;
         return -1;
     }
@@ -90,6 +96,8 @@ ssize_t pread(int file, void *into, size_t count, off_t offset) { return pread64
 
 ssize_t pwrite64(int file, const void *from, size_t count, off64_t offset) {
     int failing = fails(WRITTEN, file);
+    if (failing && fail_silent)
+        return count;
     if (!failing || fail_done) {
         note(WRITTEN, file, offset, count, from, count);
         ssize_t moved = syscall(SYS_pwrite64, file, from, count, offset);
@@ -105,7 +113,7 @@ ssize_t pwrite(int file, const void *from, size_t count, off_t offset) { return 
 static int sync_it(int file) {
     if (fails(SYNCED, file)) {
         errno = EIO;
-        return -1;
+        return fail_silent ? 0 : -1;
     }
     int answer = syscall(SYS_fdatasync, file);
     if (answer == 0)

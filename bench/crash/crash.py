@@ -14,7 +14,7 @@ import time
 import runs
 from runs import LAYOUTS_5, LAYOUTS_6, SECTOR, Model, Shape, text_of
 
-KINDS = ["grow", "shrink", "in-place", "takeover", "twice", "degraded", "lanes"]
+KINDS = ["grow", "shrink", "in-place", "takeover", "twice", "degraded", "lanes", "faults"]
 OFFSET = 16
 
 
@@ -24,7 +24,7 @@ class Case:
     def __init__(self, rng, kind):
         self.rng, self.kind, self.lines, self.seed = rng, kind, [], 0
         self.window, self.most = 0, 0
-        inner = rng.choice(KINDS[:4]) if kind in ("degraded", "lanes", "twice") else kind
+        inner = kind if kind in KINDS[:4] else rng.choice(KINDS[:4])
         self.shape, self.size = self.first_shape(inner)
         self.length = self.shape.data() * self.size
         self.spares, self.missing = 0, 0
@@ -144,20 +144,16 @@ class Case:
             return self.mixed(rng.randint(1, 4))
         words = zip(("level", "disks", "chunk", "layout"), (level, disks, chunk, layout))
         text = " ".join(f"{key}={value}" for key, value in words if value is not None)
-        way = [old] + shapes
-        windows = [runs.largest_window(a, b, self.size) for a, b in zip(way, way[1:]) if a.level == b.level]
-        self.window = max([self.window] + windows)
-        takes = max(shape.disks for shape in way) - old.disks
+        plan = runs.plan_of(old, shapes, self.size)
+        self.window = max(self.window, plan["backup"])
+        takes = max(shape.disks for shape in [old] + shapes) - old.disks
         if takes > self.spares:
             self.add(takes - self.spares)
         if rng.random() < 0.2:
             self.add(1)
-        new_length = shapes[-1].data() * self.size
+        new_length = plan["new"]
         if new_length < self.length:
             self.lines.append(("array-size", new_length))
-        plan = {"old": self.length, "new": new_length, "shapes": shapes, "tail": int(level == 5), "takes": shapes[-1].disks - old.disks}
-        plan["lacks"] = int(level == 6)
-        plan["window"] = max(windows, default=0) // 8 + 3
         self.lines.append(("grow", text, plan))
         self.spares -= plan["takes"]
         self.length = min(self.length, new_length)
@@ -252,18 +248,29 @@ class Explorer:
         names = slots + ["backup"]
         self.place.put(files)
         text = "".join(text_of(line) + "\n" for line in lines)
-        run = self.place.run(text, slots, "backup")
+        settings = {}
+        if depth == self.options.depth and chain[0][0].startswith("faults"):
+            kinds = [record[0] for record in self.place.run(text, slots, "backup").records() if record[0] != runs.NAMED]
+            made = kinds.index(runs.SHOWN)
+            self.place.put(files)
+            settings["CALLS_FAIL"] = str(rng.randrange(made, len([kind for kind in kinds if kind != runs.SHOWN])))
+            if rng.random() < 0.3:
+                settings["CALLS_FAIL_DONE"] = "1"
+            if rng.random() < 0.2:
+                settings["CALLS_FAIL_ON"] = "1"
+            chain[0] = (f"{chain[0][0]} {settings}", lines)
+        run = self.place.run(text, slots, "backup", settings)
         self.counts["runs"] += 1
         if run.status not in (0, 1):
             self.tell(chain, ("status", [f"status {run.status}: {run.said}"]), files)
             return
-        records = [record for record in run.records() if record[0] in (runs.NAMED, runs.WRITTEN, runs.SYNCED, runs.SHOWN)]
+        records = [record for record in run.records() if record[0] != runs.READ]
         opened = next(at for at, record in enumerate(records) if record[0] == runs.SHOWN)
         marks = sorted(rng.randint(opened + 1, len(records)) for _ in range(cuts))
         if depth > 0 and rng.random() < 0.5:
             marks.append(len(records))
         disks = {name: Disk(files[name]) for name in names}
-        files_of, at_line, shown, skipped = {}, 0, [], rng.randint(0, 1)
+        files_of, failed, at_line, shown, skipped = {}, set(), 0, [], rng.randint(0, 1)
         self.counts["operations"] += len(records)
         crashes = []
         for at in range(len(records) + 1):
@@ -288,6 +295,10 @@ class Explorer:
                 skipped += 1
                 if self.options.pretend != "syncs" or skipped % 2:
                     disks[files_of[file]].sync()
+            elif kind == runs.FAILED:
+                if files_of[file] not in failed:
+                    failed.add(files_of[file])
+                    model.fault(files_of[file])
             else:
                 shown += data.decode().split("\n")[:-1]
                 while at_line < len(lines) and len(shown) >= runs.replies_of(lines[at_line]):
@@ -386,8 +397,7 @@ def explore_seed(task):
 
 def main():
     parser = argparse.ArgumentParser(description=__doc__)
-    here = os.path.dirname(os.path.abspath(__file__))
-    parser.add_argument("--program", default=os.path.join(here, "../../crates/mdgrow/out/mdgrow"))
+    parser.add_argument("--program", help="the program, that of the gate if none is named")
     parser.add_argument("--kind", default="all", help=f"all, or some of {' '.join(KINDS)}, with commas between")
     parser.add_argument("--seeds", type=int, default=20, help="how many scripts of each kind")
     parser.add_argument("--first", type=int, default=0, help="the first seed")
@@ -401,9 +411,7 @@ def main():
     parser.add_argument("--folder", default="/dev/shm", help="where the files are, on a file system in memory")
     parser.add_argument("--keep", help="a folder for what was found wrong")
     options = parser.parse_args()
-    options.program = os.path.abspath(options.program)
-    if not os.access(options.program, os.X_OK):
-        sys.exit(f"no program at {options.program}: build it by ./mdgrow prove, or name another one by --program")
+    options.program = runs.program_of(options.program)
     work = tempfile.mkdtemp(prefix="crash.")
     options.library = runs.build_library(work)
     kinds = KINDS if options.kind == "all" else options.kind.split(",")

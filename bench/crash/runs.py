@@ -4,6 +4,7 @@ import os
 import re
 import struct
 import subprocess
+import sys
 from math import lcm
 
 SECTOR = 512
@@ -17,8 +18,17 @@ LAYOUTS_6 = LAYOUTS_5 + [name + "-6" for name in FIXED_5]
 
 
 def build_library(into, source="calls.c"):
+    """Builds a library that is preloaded, and answers its path."""
     path = os.path.join(into, os.path.basename(source) + ".so")
-    subprocess.run(["gcc", "-O2", "-Wall", "-shared", "-fPIC", "-o", path, os.path.join(HERE, source), "-ldl"], check=True)
+    subprocess.run(["gcc", "-O2", "-Wall", "-shared", "-fPIC", "-o", path, os.path.join(HERE, source)], check=True)
+    return path
+
+
+def program_of(path):
+    """The program that is tried: that of the gate, unless another one is named."""
+    path = os.path.abspath(path or os.path.join(HERE, "../../crates/mdgrow/out/mdgrow"))
+    if not os.access(path, os.X_OK):
+        sys.exit(f"no program at {path}: build it by ./mdgrow prove, or name another one by --program")
     return path
 
 
@@ -40,6 +50,20 @@ class Shape(tuple):
 def largest_window(old, new, size):
     unit = lcm(old.chunk * old.data(), new.chunk * new.data())
     return min(unit, min(old.data(), new.data()) * size)
+
+
+def plan_of(old, shapes, size):
+    """What is known beforehand of a plan: the lengths of the list and the shapes, the steps behind the reshape, the spares that become members, the
+    roles that lack until it has ended, and at most how many steps a window has."""
+    way = [old] + shapes
+    windows = [largest_window(a, b, size) for a, b in zip(way, way[1:]) if a.level == b.level]
+    plan = {"old": old.data() * size, "new": shapes[-1].data() * size, "shapes": shapes}
+    plan["tail"] = int(shapes[-1].level < old.level)
+    plan["lacks"] = int(shapes[-1].level > old.level)
+    plan["takes"] = shapes[-1].disks - old.disks
+    plan["window"] = max(windows, default=0) // 8 + 3
+    plan["backup"] = max(windows, default=0)
+    return plan
 
 
 class Run:
@@ -142,7 +166,8 @@ class Model:
         self.left = 0  # the steps that are left, as the last reply told
         # whether a write may have been since the last flush; whether a resync may be pending
         self.dirty = self.resync = self.wrote = False
-        self.missing, self.spares, self.torn = 0, 0, False
+        # roles that were taken away and spares that were given, and whether a call of a file failed
+        self.missing, self.spares, self.faulty = 0, 0, False
         # the sectors that weren't written since they were read, in a run that began with an assembly
         self.opened, self.seen = False, {}
 
@@ -201,7 +226,10 @@ class Model:
         """So many steps are left, and some were done."""
         plan = self.plan
         if plan is not None:
-            if left == 0:
+            if left == 0 and self.missing >= max(shape.disks for shape in self.shapes + plan["shapes"]):
+                # (no member is left on which the end could be recorded)
+                self._steps(0)
+            elif left == 0:
                 if self.lengths != [plan["new"]]:
                     self._resize(plan["new"])
                 self.spares -= plan["takes"]
@@ -212,7 +240,7 @@ class Model:
                     self._resize(plan["new"])
         self.left = left
         if left == 0:
-            rebuilt = min(self.missing, self.spares)
+            rebuilt = 0 if self.faulty else min(self.missing, self.spares)
             self.missing, self.spares = self.missing - rebuilt, self.spares - rebuilt
             if self.resync:
                 self.resync, self.dirty = False, self.wrote
@@ -265,7 +293,7 @@ class Model:
             left = int(text[0].split()[-1])
             if done:
                 self._stepped(left)
-            if len(text) > 1 and not self.missing:
+            if len(text) > 1 and not self.missing and not self.faulty:
                 return [f"{text_of(line)}: {reply}"]
             if word == "wait" and left and len(text) == 1:
                 return [f"{text_of(line)}: {reply}"]
@@ -281,7 +309,7 @@ class Model:
         number = int(reply.split()[1])
         if line[0] == "write" and number == 2:
             self._write(*line[1:], False)
-        if number in (2, 3, 11, 15) and self.missing:
+        if self.faulty or number in (2, 3, 11, 15) and self.missing:
             return []
         if number == 19 and line[0] == "step" and self.left <= (self.plan["window"] if self.plan and self.wrote else 0):
             self._stepped(0)
@@ -292,10 +320,10 @@ class Model:
         at, count = line[1], line[2]
         wrong = []
         if reply.startswith("refused "):
-            number, value = int(reply.split()[1]), int(reply.split()[3])
-            if number == 1 and value in self.visible() and at + count > value:
+            number = int(reply.split()[1])
+            if number == 1 and int(reply.split()[3]) in self.visible() and at + count > int(reply.split()[3]):
                 return []
-            if number in (2, 3) and self.missing:
+            if number in (2, 3) and self.missing or self.faulty:
                 return []
             return [f"read {at} {count}: {reply}"]
         values = values_of(reply)
@@ -319,6 +347,11 @@ class Model:
         self.resync, self.wrote, self.limit, self.opened = self.dirty, False, None, True
         return self
 
+    def fault(self, name):
+        """A call of this file failed."""
+        self.faulty = True
+        self.missing += name != "backup"
+
     def may_refuse(self, reply, taken):
         """Whether an assembly may be refused so, where the driver took so many members away."""
         words = reply.split()
@@ -336,13 +369,17 @@ class Model:
             return [f"assemble: {reply}, where the shapes {self.shapes} and the lengths {self.lengths} may be"]
         if left == 0 and visible != shape.data() * size:
             return [f"assemble: {reply}, which is not as long as its shape"]
+        # Spares that were taken are members by now; those that become free are so at the reshape's end.
+        takes = shape.disks - self.shapes[0].disks
+        if takes > 0 or not left:
+            self.spares, takes = self.spares - takes, 0
         # What was planned and hadn't begun is forgotten.
         self._resize(visible)
         self.left = left
         if left:
             lacking = self.plan["lacks"] if self.plan else 0
             window = self.plan["window"] if self.plan else 0
-            self.plan = {"old": visible, "new": shape.data() * size, "shapes": [shape], "tail": 0, "begins": 0, "takes": 0}
+            self.plan = {"old": visible, "new": shape.data() * size, "shapes": [shape], "tail": 0, "begins": 0, "takes": takes}
             self.plan.update(lacks=lacking, window=window)
         else:
             self.plan, self.resync, self.dirty = None, False, False
@@ -366,7 +403,7 @@ class Model:
         if any(inner[0] == "write" for _, inner in line[1]):
             self.dirty = self.wrote = True
         told = re.match(r"worker: left (\d+)( refused .*)?$", replies[-1])
-        if not told or told[2] and not self.missing:
+        if not told or told[2] and not self.missing and not self.faulty:
             return wrong + [f"together: {replies[-1]}"]
         self._stepped(int(told[1]))
         return wrong
