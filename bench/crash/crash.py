@@ -243,8 +243,9 @@ class Explorer:
                 file.write("\n".join(what[1]) + "\n")
             self.counts["kept"] += 1
 
-    def explore(self, rng, chain, files, slots, model, lines, depth, cuts):
-        """Runs the lines over the files and judges each reply; then crashes it at so many places, and explores what is left."""
+    def explore(self, rng, chain, files, slots, model, lines, depth, cuts, gone):
+        """Runs the lines over the files and judges each reply; then crashes it at so many places, and explores what is left. `gone` has what
+        the members held that were taken away before."""
         names = slots + ["backup"]
         self.place.put(files)
         text = "".join(text_of(line) + "\n" for line in lines)
@@ -279,7 +280,7 @@ class Explorer:
                 begun = model.copy()
                 if at_line < len(lines):
                     begun.begin(lines[at_line])
-                crashes.append((at, at_line, begun.open(), self.images(rng, disks, slots, at == len(records))))
+                crashes.append((at, at_line, begun.open(), self.images(rng, disks, slots, at == len(records), gone)))
             if at == len(records):
                 break
             kind, file, offset, _, data = records[at]
@@ -315,27 +316,33 @@ class Explorer:
             self.tell(chain, ("replies", [f"{len(lines) - at_line} lines without a reply"]), files)
         if depth <= 0:
             return
-        for at, line, begun, (image, taken, how) in crashes:
+        for at, line, begun, (image, taken, away, how) in crashes:
             title = f"cut at {at} of {len(records)}, in line {line + 1}, {how}"
-            self.judge(rng, chain, title, image, slots, begun, taken, depth - 1)
+            self.judge(rng, chain, title, image, slots, begun, taken, depth - 1, away)
 
-    def images(self, rng, disks, slots, ended):
-        """One image of these disks. In a share of the cases members are taken away; in all where the run has ended."""
+    def images(self, rng, disks, slots, ended, gone):
+        """One image of these disks. In a share of the cases members are taken away, in all where the run has ended; in a share, those come back
+        that were taken away before, with what they held then."""
         manner = rng.choice(["none", "all", "some", "some", "some", "heads", "data", "heads and some", "files", "files", "ways"])
         image = {}
         for name, disk in disks.items():
             ways = chooser(rng, name == "backup")
             way = rng.choice(["none", "all"]) if manner == "files" else rng.choice(list(ways)) if manner == "ways" else manner
             image[name] = disk.left(ways[way])
-        taken = 0
+        taken, away = 0, {}
+        if gone and rng.random() < self.options.back:
+            image.update(gone)
+            self.counts["images with members that came back"] += 1
+            manner += f", with {' '.join(gone)} back"
         if ended or rng.random() < self.options.away:
             taken = rng.choice([1, 1, 2])
             for name in rng.sample(slots, taken):
+                away[name] = image[name]
                 image[name] = bytes(len(image[name]))
-            manner += f", without {taken}"
-        return image, taken, manner
+            manner += f", without {' '.join(away)}"
+        return image, taken, away, manner
 
-    def judge(self, rng, chain, title, image, slots, model, taken, depth):
+    def judge(self, rng, chain, title, image, slots, model, taken, depth, away):
         """Assembles an image, reads all of it, goes on, and judges what is read."""
         self.counts["images"] += 1
         self.counts[f"images at depth {len(chain)}"] += 1
@@ -353,7 +360,7 @@ class Explorer:
                 self.tell(chain, ("refusals", [first.replies[0]]), image)
             return
         model.missing += taken
-        self.explore(rng, chain, image, slots, model, lines, depth, self.options.nested if depth > 0 else 0)
+        self.explore(rng, chain, image, slots, model, lines, depth, self.options.nested if depth > 0 else 0, away)
 
     def lines(self, rng, model):
         """What is asked of an image."""
@@ -389,7 +396,7 @@ def explore_seed(task):
         case = Case(rng, kind)
         files = {name: bytes(count * SECTOR) for name, count in case.files.items()}
         chain = [(f"{kind}-{seed}", case.lines)]
-        explorer.explore(rng, chain, files, case.slots, Model(), case.lines, options.depth, options.cuts)
+        explorer.explore(rng, chain, files, case.slots, Model(), case.lines, options.depth, options.cuts, {})
         return kind, seed, explorer.counts, explorer.wrong
     finally:
         shutil.rmtree(folder)
@@ -405,6 +412,7 @@ def main():
     parser.add_argument("--nested", type=int, default=2, help="crashes of each run over an image")
     parser.add_argument("--depth", type=int, default=2, help="how often a run is crashed, one in another")
     parser.add_argument("--away", type=float, default=0.2, help="the share of images without a member or two")
+    parser.add_argument("--back", type=float, default=0.3, help="where members were taken away, the share of later images in which they are back")
     parser.add_argument("--waits", type=float, default=0.5, help="the share of runs that go on to the end")
     parser.add_argument("--pretend", choices=["syncs", "headers", "sections"], help="leave out one sync in two, or each header or section")
     parser.add_argument("--jobs", type=int, default=2)
