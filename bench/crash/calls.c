@@ -6,9 +6,10 @@
  *   CALLS_FAIL_ON=1    and so does each call behind it
  *   CALLS_FAIL_DONE=1  what fails is done nevertheless, and only its answer is an error
  *   CALLS_FAIL_SILENT=1  what fails isn't done, but answers as if it were; what is read is zeros (no device of ours: it shows how sharp a judge is)
+ *   CALLS_SHORT=N      no call moves more than N bytes
+ *   CALLS_BROKEN=N     each N-th call is interrupted: it answers EINTR, and nothing is done
  */
 #define _GNU_SOURCE
-#include <dlfcn.h>
 #include <errno.h>
 #include <fcntl.h>
 #include <limits.h>
@@ -31,6 +32,7 @@ struct head {
 static int log_to = -1;
 static long fail_at = -1;
 static int fail_on, fail_done, fail_silent;
+static long most = LONG_MAX, broken;
 static atomic_long calls;
 static atomic_char named[1024];
 
@@ -44,7 +46,7 @@ static void note(enum kind kind, int file, uint64_t offset, uint64_t length, con
 }
 
 __attribute__((constructor)) static void begin(void) {
-    const char *path = getenv("CALLS_LOG"), *at = getenv("CALLS_FAIL");
+    const char *path = getenv("CALLS_LOG"), *at = getenv("CALLS_FAIL"), *count = getenv("CALLS_SHORT"), *each = getenv("CALLS_BROKEN");
     if (path) {
         int opened = syscall(SYS_openat, AT_FDCWD, path, O_WRONLY | O_CREAT | O_TRUNC | O_APPEND | O_CLOEXEC, 0600);
         log_to = fcntl(opened, F_DUPFD_CLOEXEC, 500);
@@ -54,6 +56,10 @@ __attribute__((constructor)) static void begin(void) {
     }
     if (at)
         fail_at = atol(at);
+    if (count)
+        most = atol(count);
+    if (each)
+        broken = atol(each);
     fail_on = getenv("CALLS_FAIL_ON") != NULL;
     fail_done = getenv("CALLS_FAIL_DONE") != NULL;
     fail_silent = getenv("CALLS_FAIL_SILENT") != NULL;
@@ -79,6 +85,16 @@ static int fails(enum kind kind, int file) {
     return 1;
 }
 
+/* Whether this call is interrupted, and how much of it is moved. */
+static int is_broken(size_t *count) {
+    if (*count > (size_t)most)
+        *count = most;
+    if (broken == 0 || atomic_load(&calls) % broken != 0)
+        return 0;
+    errno = EINTR;
+    return 1;
+}
+
 ssize_t pread64(int file, void *into, size_t count, off64_t offset) {
     if (fails(READ, file)) {
         if (fail_silent) {
@@ -88,6 +104,8 @@ ssize_t pread64(int file, void *into, size_t count, off64_t offset) {
         errno = EIO;
         return -1;
     }
+    if (is_broken(&count))
+        return -1;
     note(READ, file, offset, count, NULL, 0);
     return syscall(SYS_pread64, file, into, count, offset);
 }
@@ -98,6 +116,8 @@ ssize_t pwrite64(int file, const void *from, size_t count, off64_t offset) {
     int failing = fails(WRITTEN, file);
     if (failing && fail_silent)
         return count;
+    if (!failing && is_broken(&count))
+        return -1;
     if (!failing || fail_done) {
         note(WRITTEN, file, offset, count, from, count);
         ssize_t moved = syscall(SYS_pwrite64, file, from, count, offset);
@@ -115,6 +135,8 @@ static int sync_it(int file) {
         errno = EIO;
         return fail_silent ? 0 : -1;
     }
+    if (is_broken(&(size_t){0}))
+        return -1;
     int answer = syscall(SYS_fdatasync, file);
     if (answer == 0)
         note(SYNCED, file, 0, 0, NULL, 0);

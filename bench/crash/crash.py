@@ -321,8 +321,8 @@ class Explorer:
             self.judge(rng, chain, title, image, slots, begun, taken, depth - 1, away)
 
     def images(self, rng, disks, slots, ended, gone):
-        """One image of these disks. In a share of the cases members are taken away, in all where the run has ended; in a share, those come back
-        that were taken away before, with what they held then."""
+        """One image of these disks. In a share of the cases members are taken away, in all where the run has ended; or in a share of them those
+        come back that were taken away before, with what they held then. (Not both: without the others, who know better, old members look whole.)"""
         manner = rng.choice(["none", "all", "some", "some", "some", "heads", "data", "heads and some", "files", "files", "ways"])
         image = {}
         for name, disk in disks.items():
@@ -334,7 +334,7 @@ class Explorer:
             image.update(gone)
             self.counts["images with members that came back"] += 1
             manner += f", with {' '.join(gone)} back"
-        if ended or rng.random() < self.options.away:
+        elif ended or rng.random() < self.options.away:
             taken = rng.choice([1, 1, 2])
             for name in rng.sample(slots, taken):
                 away[name] = image[name]
@@ -424,12 +424,15 @@ def main():
     options.library = runs.build_library(work)
     kinds = KINDS if options.kind == "all" else options.kind.split(",")
     tasks = [(seed, kind, options) for seed in range(options.first, options.first + options.seeds) for kind in kinds]
-    totals, by_kind, told = collections.Counter(), collections.defaultdict(collections.Counter), 0
+    totals, by_kind, told, done = collections.Counter(), collections.defaultdict(collections.Counter), 0, 0
     begun = time.time()
     with multiprocessing.Pool(options.jobs) as pool:
         for kind, seed, counts, wrong in pool.imap_unordered(explore_seed, tasks):
             totals += counts
             by_kind[kind] += counts
+            done += 1
+            if done % 20 == 0:
+                print(f"{done} of {len(tasks)} scripts, {totals['images']} images, {time.time() - begun:.0f} s", file=sys.stderr, flush=True)
             for chain, what in wrong[: 0 if told > 20 else 3]:
                 told += 1
                 print(f"WRONG {kind} {seed}: {' > '.join(title for title, _ in chain[1:])}: {'; '.join(what)}", flush=True)

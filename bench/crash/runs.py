@@ -356,6 +356,8 @@ class Model:
         """Whether an assembly may be refused so, where the driver took so many members away."""
         words = reply.split()
         number, gone = int(words[1]), self.missing + taken
+        if number == 20:
+            return gone >= min(shape.disks for shape in self.shapes)
         lacking = self.plan["lacks"] if self.plan else 0
         return bool(number == 25 and self.dirty and gone or number == 24 and gone + lacking >= int(words[3]))
 

@@ -73,11 +73,12 @@ class Tried:
             return [f"status {run.status}, {len(run.replies)} replies: {run.said}"]
         if (run.status == 1) != any("refused" in reply for reply in run.replies):
             return [f"status {run.status}"]
-        wrong, model = [], Model()
+        wrong, model, same = [], Model(), True
         for name in failed:
             model.fault(name)
         for line, reply, own in zip(self.lines, run.replies, wanted):
-            if line[0] == "read" and reply != own and not reply.startswith("refused "):
+            same = same and (line[0] != "write" or reply == own)
+            if line[0] == "read" and same and reply != own and not reply.startswith("refused "):
                 wrong.append(f"{text_of(line)}: {reply}")
             wrong += model.end(line, [reply])
             if line[0] == "create" and reply != "created":
@@ -115,6 +116,19 @@ class Tried:
         told = ", ".join(f"{what} {count}" for what, count in sorted(self.counts.items()))
         print(f"{self.name}, {' '.join(settings) or 'one call'}: {told}", flush=True)
         wrong, self.counts = self.counts["wrong"], collections.Counter()
+        return wrong
+
+
+    def pieces(self):
+        """Lets calls move a part only, or be interrupted. Each run's replies and files must be those of the run without."""
+        first = self.run({})
+        files, wrong = self.place.get(self.sizes), 0
+        for settings in {"CALLS_SHORT": "512"}, {"CALLS_SHORT": "700"}, {"CALLS_SHORT": "1600"}, {"CALLS_BROKEN": "2"}, {"CALLS_BROKEN": "3", "CALLS_SHORT": "512"}:
+            run = self.run(settings)
+            if run.replies != first.replies or run.status != first.status or self.place.get(self.sizes) != files:
+                wrong += 1
+                print(f"WRONG {self.name} {settings}: status {run.status}")
+        print(f"{self.name}, short or interrupted calls: 5 runs, {wrong} wrong", flush=True)
         return wrong
 
 
@@ -214,6 +228,7 @@ def main():
     parser = argparse.ArgumentParser(description=__doc__)
     parser.add_argument("--program", help="the program, that of the gate if none is named")
     parser.add_argument("--scripts", default="", help="some of the scripts, by name, with commas between")
+    parser.add_argument("--pieces", action="store_true", help="short and interrupted calls alone")
     parser.add_argument("--pretend", choices=["silent"], help="what fails isn't done, but answers as if it were")
     options = parser.parse_args()
     work = tempfile.mkdtemp(prefix="faults.", dir="/dev/shm")
@@ -228,6 +243,9 @@ def main():
             tried = Tried(place, name, lines, members, backup, options)
             if options.pretend:
                 wrong += tried.each(CALLS_FAIL_SILENT="1")
+                continue
+            wrong += tried.pieces()
+            if options.pieces:
                 continue
             wrong += tried.each()
             wrong += tried.each(CALLS_FAIL_DONE="1")
