@@ -271,6 +271,9 @@ class Explorer:
         if depth > 0 and rng.random() < 0.5:
             marks.append(len(records))
         disks = {name: Disk(files[name]) for name in names}
+        # Whether an update was cut off before this run, so that not all members tell the same.
+        events = {runs.events_of(files[name]) for name in slots}
+        uneven = len(chain) > 1 and max(events) - 1 in events - {0}
         files_of, failed, at_line, shown, skipped = {}, set(), 0, [], rng.randint(0, 1)
         self.counts["operations"] += len(records)
         crashes = []
@@ -280,7 +283,7 @@ class Explorer:
                 begun = model.copy()
                 if at_line < len(lines):
                     begun.begin(lines[at_line])
-                crashes.append((at, at_line, begun.open(), self.images(rng, disks, slots, at == len(records), gone)))
+                crashes.append((at, at_line, begun.open(), self.images(rng, disks, slots, at == len(records), gone, uneven)))
             if at == len(records):
                 break
             kind, file, offset, _, data = records[at]
@@ -320,7 +323,7 @@ class Explorer:
             title = f"cut at {at} of {len(records)}, in line {line + 1}, {how}"
             self.judge(rng, chain, title, image, slots, begun, taken, depth - 1, away)
 
-    def images(self, rng, disks, slots, ended, gone):
+    def images(self, rng, disks, slots, ended, gone, uneven):
         """One image of these disks. In a share of the cases members are taken away, in all where the run has ended; or in a share of them those
         come back that were taken away before, with what they held then. (Not both: without the others, who know better, old members look whole.)"""
         manner = rng.choice(["none", "all", "some", "some", "some", "heads", "data", "heads and some", "files", "files", "ways"])
@@ -336,10 +339,16 @@ class Explorer:
             manner += f", with {' '.join(gone)} back"
         elif ended or rng.random() < self.options.away:
             taken = rng.choice([1, 1, 2])
-            for name in rng.sample(slots, taken):
-                away[name] = image[name]
-                image[name] = bytes(len(image[name]))
+            away = {name: image[name] for name in rng.sample(slots, taken)}
+            others = max(runs.events_of(image[name]) for name in slots if name not in away)
+            alone = max(runs.events_of(content) for content in away.values()) > others
+            if alone and uneven and not self.options.uneven:
+                self.counts["images whose members were left, since they alone knew of an update before the run"] += 1
+                return image, 0, {}, manner
+            image.update({name: bytes(len(content)) for name, content in away.items()})
             manner += f", without {' '.join(away)}"
+            # (what such members hold would win over what the others do without them)
+            away = {} if alone else away
         return image, taken, away, manner
 
     def judge(self, rng, chain, title, image, slots, model, taken, depth, away):
@@ -414,6 +423,7 @@ def main():
     parser.add_argument("--away", type=float, default=0.2, help="the share of images without a member or two")
     parser.add_argument("--back", type=float, default=0.3, help="where members were taken away, the share of later images in which they are back")
     parser.add_argument("--waits", type=float, default=0.5, help="the share of runs that go on to the end")
+    parser.add_argument("--uneven", action="store_true", help="take members away also where they alone knew of an update before the run")
     parser.add_argument("--pretend", choices=["syncs", "headers", "sections"], help="leave out one sync in two, or each header or section")
     parser.add_argument("--jobs", type=int, default=2)
     parser.add_argument("--folder", default="/dev/shm", help="where the files are, on a file system in memory")

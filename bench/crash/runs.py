@@ -66,6 +66,12 @@ def plan_of(old, shapes, size):
     return plan
 
 
+def events_of(content):
+    """The event count of the superblock that stands in a slot, 0 where none does."""
+    head = content[8 * SECTOR : 9 * SECTOR]
+    return struct.unpack_from("<Q", head, 200)[0] if head[:4] == b"\xfc\x4e\x2b\xa9" else 0
+
+
 class Run:
     """What a run did: its status, its replies, and its log."""
 
