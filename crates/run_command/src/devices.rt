@@ -1,6 +1,6 @@
 //! A whole run over devices, such as image files.
 
-ghost use Rattle.std.specs.Prelude.{◌≡◌, ◌⊎◌, ◌<◌, ◌≤◌, ◌+◌, ◌-◌, true, length, map, string_bytes, None, IfSome};
+ghost use Rattle.std.specs.Prelude.{◌≡◌, ◌⊎◌, ◌<◌, ◌≤◌, ◌+◌, ◌-◌, true, length, map, string_bytes, None, IfSome, IsSome};
 ghost use Rattle.run_scripts.specs.bank_Given.{NeverFalls};
 ghost use Rattle.run_scripts.specs.array_members_Moving.{Grows};
 ghost use Rattle.run_scripts.specs.script_io_Causes.{HasRisen};
@@ -8,6 +8,7 @@ ghost use Rattle.bank_file.specs.Images.{given_of, faults_in, tape_in};
 ghost use Rattle.script_argv.specs.Words.{command_in, is_parsed, slots_for, backup_in, demo_in};
 ghost use Rattle.run_scripts.specs.lane_shared_Pace.{AnswersSteps, asked_by};
 ghost use Rattle.run_scripts.specs.run_specs_Ended.{AreLegal, AreRight};
+ghost use Rattle.run_scripts.specs.Complete.{NoneFailed, HasNotFailed, AreUnfailed, EndsWell};
 ghost use Rattle.run_scripts.specs.Kept.{AreKept};
 ghost use Rattle.run_scripts.specs.run_specs_Making.{setting_of};
 ghost use Rattle.run_scripts.specs.Runs.{IsAfterLines, IsBeforeLines, IsNothing, sunk_of, IsScriptPerformed, IsScriptBad, AreLossesFailed, AreEndedAt};
@@ -57,6 +58,9 @@ pub fn run_over_devices<
     ensures kept { D.tells → AreKept (given_of D.start bank) (tape_in D.log result.bank) (backup_in (map string_bytes words.now)) result.epochs.items }
     ensures ended { D.tells → AreEndedAt (length (tape_in D.log result.bank)) result.epochs.items }
     ensures losses { AreLossesFailed (setting_of D.tells (given_of D.start bank) (tape_in D.log bank) (tape_in D.log result.bank) (backup_in (map string_bytes words.now)) (faults_in bank) (faults_in result.bank)) result.epochs.items }
+    ensures ends_well { IsSome (command_in (map string_bytes words.now)) → HasNotFailed (S.faults_of script.old) (S.faults_of script.new) → HasNotFailed (K.faults_of out.old) (K.faults_of out.new)
+        → EndsWell (demo_in (map string_bytes words.now)) S.tells (S.left script.old) (S.left script.new) result.status }
+    ensures unfailed { NoneFailed (faults_in bank) (faults_in result.bank) → AreUnfailed result.epochs.items }
     ensures never_falls { NeverFalls (faults_in bank) (faults_in result.bank) }
     ensures grows { Grows D.tells (tape_in D.log bank) (tape_in D.log result.bank) }
     ensures source_never_falls { S.faults_of script.old ≤ S.faults_of script.new }
