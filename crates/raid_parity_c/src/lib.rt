@@ -1,4 +1,4 @@
-//! The calls of the crates `raid_parity` and `raid_parity_simd` for a caller in C.
+//! The calls of the crates `parity` and `raid_parity_simd` for a caller in C.
 #![tactic(auto)]
 
 ghost use Rattle.std.specs.Prelude.{◌≡◌, ◌≢◌, ◌==◌, ◌+◌, ◌<◌, ◌≤◌, ◌||◌, ℕ, Some, None, IsTrue, if◌then◌else◌, length};

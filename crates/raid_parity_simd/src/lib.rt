@@ -1,4 +1,4 @@
-//! The parity of a row by vectors of bytes: the calls of `raid_parity`, with the same clauses, and the same over many rows of
+//! The parity of a row by vectors of bytes: the calls of `parity`, with the same clauses, and the same over many rows of
 //! a buffer at once.
 #![tactic(auto)]
 

@@ -1,4 +1,4 @@
-//! Tests of what stands by a device: `bank` and `bank_file`, `bank_backup`, `sb_codec` and `script_io`, against tables by hand and what mdadm wrote.
+//! Tests of what stands by a device: `bank` and `bank_file`, `backup`, `sb_codec` and `script_io`, against tables by hand and what mdadm wrote.
 #![tactic(auto)]
 
 #[cfg(test)]

@@ -1,4 +1,4 @@
-//! Lanes and workers over one running array: the tests of `lane_shared`.
+//! Lanes and workers over one running array: the tests of `lanes`.
 #![tactic(auto)]
 
 #[cfg(test)]

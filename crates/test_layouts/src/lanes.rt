@@ -1,4 +1,4 @@
-//! Each call of `raid_parity_simd` beside the one of `raid_parity`, byte for byte, on the rows of every layout.
+//! Each call of `raid_parity_simd` beside the one of `parity`, byte for byte, on the rows of every layout.
 
 ghost use Rattle.std.specs.Prelude.{◌≢◌, ◌+◌, ◌*◌, ◌<◌, ◌≤◌, IsSome, length};
 ghost use Rattle.raid_parity.specs.Rows.{IsRowRoles};

@@ -1,5 +1,5 @@
-//! Tests of `raid_layout`, `reshape_geometry`, `reshape_plan`, `raid_parity` and `raid_parity_simd`: places, reshapes, plans and rows of parity, against tables from elsewhere or by
-//! hand, and each call of the lanes, over one row and over many, beside that of `raid_parity`.
+//! Tests of `layout`, `reshape_geometry`, `reshape_plan`, `parity` and `raid_parity_simd`: places, reshapes, plans and rows of parity, against tables from elsewhere or by
+//! hand, and each call of the lanes, over one row and over many, beside that of `parity`.
 #![tactic(auto)]
 
 #[cfg(test)]

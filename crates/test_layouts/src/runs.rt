@@ -1,4 +1,4 @@
-//! Each call of `raid_parity_simd` over many rows of a buffer beside the one of `raid_parity` over each row.
+//! Each call of `raid_parity_simd` over many rows of a buffer beside the one of `parity` over each row.
 
 ghost use Rattle.std.specs.Prelude.{◌≢◌, ◌+◌, ◌*◌, ◌<◌, ◌≤◌, IsSome, length};
 ghost use Rattle.raid_parity.specs.Rows.{IsRowRoles};

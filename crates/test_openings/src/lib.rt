@@ -1,4 +1,4 @@
-//! Tests of `sb_specs` and `array_create_assemble`: what an election and an update answer, what a stop leaves of an update, arrays that are found or refused, and
+//! Tests of `superblocks` and `array_create_assemble`: what an election and an update answer, what a stop leaves of an update, arrays that are found or refused, and
 //! arrays that are made, against tables by hand and real arrays.
 #![tactic(auto)]
 
