@@ -35,7 +35,7 @@ class Case:
         self.mixed(rng.randint(0, 5), steps=False)
         self.reshape(inner)
         if kind == "twice":
-            self.lines.append(("wait",))
+            self.lines += [("wait",), ("array-size", "max")]
             self.length = self.shape.data() * self.size
             self.mixed(rng.randint(0, 3), steps=False)
             self.reshape(rng.choice(KINDS[:4]))
