@@ -7,7 +7,7 @@ ghost use Rattle.script_argv.specs.Words.Asked.{Memory as IsMemory, Run as IsRun
 
 use bank::{Bank, MemoryBank};
 use bank_file::{FileBank, FileFault};
-use run_command::{Pace, run};
+use run_command::{Hook, Pace, run};
 use script_argv::{Command, Paths, command_of};
 use script_io::{MemorySource, Source, StdSink, StdSource};
 use std::alloc::{AllocError, Global};
@@ -80,7 +80,8 @@ fn run_over<B: Bank + Drop + Send, S: Source, R: Print + AllocGlobal + Threads +
 {
     let mut sink = StdSink::new(io::writer(rt));
     let pace = Pace::new(|turn, left| steps(turn, left));
-    let report = run(rt, rt.alloc(), words, source, &mut sink, bank, pace);
+    let hook = Hook::new(|_, _| true);
+    let report = run(rt, rt.alloc(), words, source, &mut sink, bank, pace, hook);
     Ended {
         status: report.status,
         bad_line: report.bad_line,

@@ -1,4 +1,5 @@
 pub mod Texts
+pub mod AlertTexts
 pub use Rattle.script.specs.Appends as script_Appends
 pub use Rattle.script.specs.Grammar as script_Grammar
 pub use Rattle.script.specs.Script as script_Script
@@ -23,3 +24,10 @@ pub use Rattle.script.specs.history_the_Event
 pub use Rattle.script.specs.history_the_Event_TheVariants
 pub use Rattle.script.specs.history_the_Request
 pub use Rattle.script.specs.history_the_Request_TheVariants
+pub use Rattle.history_monitor.specs.Alerts as history_monitor_Alerts
+pub use Rattle.history_monitor.specs.Hooks as history_monitor_Hooks
+pub use Rattle.history_monitor.specs.Told as history_monitor_Told
+pub use Rattle.history_monitor.specs.Urgent as history_monitor_Urgent
+pub use Rattle.history_monitor.specs.declared.alerts.Alert as history_monitor_the_Alert
+pub use Rattle.history_monitor.specs.declared.alerts.AlertKind as history_monitor_the_AlertKind
+pub use Rattle.history_monitor.specs.declared.past.Past as history_monitor_the_Past

@@ -5,7 +5,7 @@
 ghost use Rattle.std.specs.Prelude.{◌≡◌, length, IfOk};
 
 use bank::MemoryBank;
-use run_scripts::{Pace, Report, run_script};
+use run_scripts::{Hook, Pace, Report, run_script};
 use script_io::{MemorySink, MemorySource};
 use std::alloc::Global;
 use std::process::Abort;
@@ -87,6 +87,7 @@ fn ran<R: Threads + Wait + Sync>(
         bank,
         Some(7),
         &pace,
+        &Hook::new(|_, _| true),
     );
     let taken = Vec::from_slice(alloc, sink.bytes())?;
     Ok((report, taken))
