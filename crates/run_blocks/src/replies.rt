@@ -133,6 +133,7 @@ fn push_reply<B: Bank>(
 }
 
 /// Puts the text of a reply in place of what the buffer held, which has room for it: for every one but a list of alerts, and for this list.
+#[tactic(auto, using(crate::proofs::Shortness::short_itself, crate::proofs::Shortness::short_fits))]
 pub fn put_text<B: Bank>(text: &mut Vec<u8>, state: &State<B>, line: Line, reply: &LineReply)
     requires named { IsNamed (histories_in state.now) reply.now.what }
     requires short { IsAnswerShort (vec_capacity text.old) (histories_in state.now) reply.now.what }

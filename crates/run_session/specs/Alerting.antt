@@ -1,5 +1,5 @@
 -- What the `alerts` lines of a run tell.
-use Rattle.std.specs.Prelude.{◌≡◌, ℕ, ◌-◌, Bool, if◌then◌else◌, List, [], ◌∷◌, ◌++◌, take, slice_get, Some, ⊤}
+use Rattle.std.specs.Prelude.{◌≡◌, ℕ, ◌-◌, Bool, true, false, if◌then◌else◌, List, [], ◌∷◌, ◌++◌, take, slice_get, Some, ⊤}
 use Rattle.run_blocks.specs.history_Flat.{next_number}
 use Rattle.run_blocks.specs.history_the_Entry.{Entry}
 use Rattle.run_blocks.specs.script_the_Line.{Line}
@@ -21,7 +21,7 @@ use Rattle.run_blocks.specs.run_specs_the_State_TheVariants.{Idle, Running}
 use Rattle.run_blocks.specs.run_specs_Blocks.{caller_of}
 use Rattle.run_blocks.specs.run_specs_Histories.{History}
 use Rattle.run_blocks.specs.run_specs_Replies.{Course, course_after}
-use Rattle.run_blocks.specs.run_specs_States.{IsGrown}
+use Rattle.run_blocks.specs.run_specs_States.{entries_in, IsGrown}
 use Rattle.run_session.specs.Sessions.{IsBlock}
 
 -- ---- the theorem
@@ -75,10 +75,22 @@ pub record IsWatching (answers : AlertKind → ℕ → Bool → Type 0) (past : 
   pub scanned : HasScanned past entries
   pub all : AreTold answers (alerts (take past.scanned entries)) told
 
--- the line `alerts` tells the alerts of the entries that are new, if an array runs, and no other scans any
+abbrev pub asks_alerts : Line → Bool
+asks_alerts AsksAlerts = true
+asks_alerts line = false
+
+-- the line tells alerts, if an array runs
+abbrev pub tells_alerts : {B : Type 0} → State B → Line → Bool
+tells_alerts (Idle bank epochs) line = false
+tells_alerts (Running array epochs) line = asks_alerts line
+
+-- such a line tells the alerts of the entries that are new, and no other scans any
+abbrev pub AreToldBy : (AlertKind → ℕ → Bool → Type 0) → List Entry → Past → Past → Bool → List Alert → Type 0
+AreToldBy answers entries old new true list = AreTold answers (alerts_since old.scanned entries) list × (new ≡ past_of entries)
+AreToldBy answers entries old new false list = (list ≡ []) × (new ≡ old)
+
 abbrev pub AreToldNow : {B : Type 0} → (AlertKind → ℕ → Bool → Type 0) → State B → Past → Past → Line → List Alert → Type 0
-AreToldNow answers (Running array epochs) old new AsksAlerts list = AreTold answers (alerts_since old.scanned array.parts.entries) list × (new ≡ past_of array.parts.entries)
-AreToldNow answers state old new line list = (list ≡ []) × (new ≡ old)
+AreToldNow answers state old new line list = AreToldBy answers (entries_in state) old new (tells_alerts state line) list
 
 -- so it is of an answer
 abbrev pub IsScanned : (AlertKind → ℕ → Bool → Type 0) → List Entry → Past → Past → Answered → Type 0

@@ -13,7 +13,7 @@ ghost use Rattle.run_blocks.specs.run_specs_Making.{setting_of};
 ghost use Rattle.run_blocks.specs.run_specs_States.{histories_in, bank_in, entries_in, course_in, RunsOwn, IsFitBank, IsTurnOrNone};
 ghost use Rattle.run_blocks.specs.run_specs_Written.{IsWrittenBy};
 ghost use Rattle.run_blocks.specs.script_Script.{is_within_limits};
-ghost use Rattle.run_session.specs.Alerting.{AreToldNow, IsScanned, watched_by};
+ghost use Rattle.run_session.specs.Alerting.{asks_alerts, AreToldBy, AreToldNow, IsScanned, watched_by};
 
 use crate::sessions::LONGEST_REPLY;
 use run_blocks::{
@@ -63,8 +63,38 @@ fn scan<B: Bank, G: Fn(AlertKind, u32) -> bool>(
     Ok(list)
 }
 
-// The alerts that a line tells: of the array that runs, the wanted ones since the former line `alerts`; other lines tell none. There is
-// room for their text then.
+fn asks_alerts(line: Line) -> bool
+    ensures { result ≡ asks_alerts line }
+{
+    matches!(line, Line::Alerts)
+}
+
+// The alerts that a line tells of this array: the wanted ones since the former line `alerts`; other lines tell none. There is room for
+// their text then.
+fn alerts_of<B: Bank, G: Fn(AlertKind, u32) -> bool>(
+    alloc: Global,
+    array: &Running<B>,
+    line: Line,
+    monitor: &mut Monitor,
+    hook: &Hook<G>,
+    text: &mut Vec<u8>,
+) -> Result<AlertList, NoMemory>
+    requires begins { HasScanned monitor.old array.now.parts.entries }
+    requires callable { G.IsAlwaysCallable (wanted_by hook.now) }
+    requires urgent { WantsUrgent (G.post (wanted_by hook.now)) }
+    requires room { longest_reply ≤ vec_capacity text.old }
+    ensures told { IfOk result (λ list. AreToldBy (G.post (wanted_by hook.now)) array.now.parts.entries monitor.old monitor.new (asks_alerts line) list) }
+    ensures room { IfOk result (λ list. longest_reply + 40 * length list ≤ vec_capacity text.new) }
+    ensures wider { vec_capacity text.old ≤ vec_capacity text.new }
+{
+    if asks_alerts(line) {
+        scan(alloc, array, monitor, hook, text)
+    } else {
+        Ok(AlertList::new(alloc))
+    }
+}
+
+// So it is of the array that runs, if one does; without one no line tells any.
 fn alerts_for<B: Bank, G: Fn(AlertKind, u32) -> bool>(
     alloc: Global,
     state: &State<B>,
@@ -81,9 +111,9 @@ fn alerts_for<B: Bank, G: Fn(AlertKind, u32) -> bool>(
     ensures room { IfOk result (λ list. longest_reply + 40 * length list ≤ vec_capacity text.new) }
     ensures wider { vec_capacity text.old ≤ vec_capacity text.new }
 {
-    match (line, state) {
-        (Line::Alerts, State::Running(array, _)) => scan(alloc, array, monitor, hook, text),
-        _ => Ok(AlertList::new(alloc)),
+    match state {
+        State::Idle(_, _) => Ok(AlertList::new(alloc)),
+        State::Running(array, _) => alerts_of(alloc, array, line, monitor, hook, text),
     }
 }
 
