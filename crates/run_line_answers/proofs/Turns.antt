@@ -48,8 +48,9 @@ use Rattle.run_requests.specs.array_create_assemble_Opening.{AreGiven, array_of,
 use Rattle.run_requests.specs.array_create_assemble_Made.{used_slot}
 use Rattle.run_requests.specs.array_create_assemble_Running.{IsCreated, OpensWithZeros}
 use Rattle.run_requests.specs.script_the_CreateLine.{CreateLine}
+use Rattle.run_requests.specs.history_monitor_the_Alert.{Alert}
 use Rattle.run_requests.specs.script_the_Line.{Line}
-use Rattle.run_requests.specs.script_the_Line_TheVariants.{Create, Read, Write, Flush, Fail, Add, ArraySize, Grow, Step, Wait, Assemble}
+use Rattle.run_requests.specs.script_the_Line_TheVariants.{Create, Read, Write, Flush, Fail, Add, ArraySize, Grow, Step, Wait, Alerts, Assemble}
 use Rattle.run_requests.specs.run_specs_the_Outside_TheVariants.{Created, Assembled, Alerts as ToldAlerts, Refused}
 use Rattle.run_requests.specs.run_specs_the_Answered_TheVariants.{Inside, Outside as IsOutside}
 use Rattle.run_requests.specs.run_specs_the_State_TheVariants.{Idle, Running}
