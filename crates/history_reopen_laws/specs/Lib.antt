@@ -18,4 +18,7 @@ pub use Rattle.history.specs.declared.events.Entry as history_the_Entry
 pub use Rattle.history.specs.declared.events.Epoch as history_the_Epoch
 pub use Rattle.history.specs.declared.events.Event as history_the_Event
 pub use Rattle.history.specs.declared.events.Event.TheVariants as history_the_Event_TheVariants
+pub use Rattle.history.specs.declared.events.LostCause.TheVariants as history_the_LostCause_TheVariants
+pub use Rattle.history.specs.raid_types_the_Refusal
+pub use Rattle.history.specs.raid_types_the_Refusal_TheVariants
 pub use Rattle.history.specs.raid_types_the_Who

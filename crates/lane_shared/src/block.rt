@@ -6,7 +6,7 @@ ghost use Rattle.lane_shared.specs.array_requests_Entered.{HasEntered};
 ghost use Rattle.lane_shared.specs.array_requests_Going.{HasGoneOn};
 ghost use Rattle.lane_shared.specs.array_requests_Replies.{IsAskable};
 ghost use Rattle.lane_shared.specs.array_Calls.{running_left};
-ghost use Rattle.lane_shared.specs.Pace.{AnswersSteps, asked_by};
+ghost use Rattle.lane_shared.specs.Pace.{AnswersSteps, Paces, asked_by};
 ghost use Rattle.lane_shared.specs.Serving.{IsEarlier, HasMade};
 ghost use Rattle.lane_shared.specs.Blocks.{HasRun, HasWorkedBy};
 
@@ -50,7 +50,7 @@ pub fn run_block<B: Bank + Drop + Send, F: Fn(u64, u64) -> u64 + Sync, R: Thread
     ensures ended { IfOk result (λ t. IsEndOf B.tells t.array.parts.first t.array.parts.entries (B.tape t.array.parts.bank)) }
     ensures first { IfOk result (λ t. HasRun array t.array 1 first.items t.first.items) }
     ensures second { IfOk result (λ t. HasRun array t.array 2 second.items t.second.items) }
-    ensures worked { IfOk result (λ t. HasWorkedBy (HasRun array t.array 255) (F.post (asked_by pace.now)) (running_left array) t.worked) }
+    ensures worked { IfOk result (λ t. HasWorkedBy (HasRun array t.array 255) (Paces (F.post (asked_by pace.now))) (running_left array) t.worked) }
     ensures others { IfOk result (λ t. (caller : ℕ) → caller ≢ 1 → caller ≢ 2 → caller ≢ 255 → HasMade B.tells B.given B.tape B.faults_of array t.array caller []) }
 {
     let Some((one, two)) = rooms(alloc, &first, &second) else {

@@ -4,7 +4,7 @@ ghost use Rattle.std.specs.List.{All};
 ghost use Rattle.lane_shared.specs.array_call_specs_Calls.{IsEndOf};
 ghost use Rattle.lane_shared.specs.array_requests_Replies.{IsAskable};
 ghost use Rattle.lane_lock.specs.Passes.{AreNew, Ended};
-ghost use Rattle.lane_shared.specs.Pace.{AnswersSteps, asked_by};
+ghost use Rattle.lane_shared.specs.Pace.{AnswersSteps, Paces, asked_by};
 ghost use Rattle.lane_shared.specs.Serving.{array_ways};
 ghost use Rattle.lane_shared.specs.Lanes.{carried_by};
 ghost use Rattle.lane_shared.specs.Threads.{HasPassed, HasWorkedBy};
@@ -76,7 +76,7 @@ pub(crate) fn ran<B: Bank + Drop + Send, F: Fn(u64, u64) -> u64 + Sync, R: Threa
     ensures locks { (result.0.0.seat.table_id ≡ passes.0.seat.table_id) × (result.0.1.seat.table_id ≡ passes.1.seat.table_id) × (result.0.2.seat.table_id ≡ passes.2.seat.table_id) }
     ensures first { HasPassed B.tells (carried_by B.given B.tape passes.0) (carried_by B.given B.tape result.0.0) first.0.items result.1.0.items }
     ensures second { HasPassed B.tells (carried_by B.given B.tape passes.1) (carried_by B.given B.tape result.0.1) second.0.items result.1.1.items }
-    ensures worked { HasWorkedBy (HasPassed B.tells (carried_by B.given B.tape passes.2) (carried_by B.given B.tape result.0.2)) (F.post (asked_by pace.now)) left result.1.2 }
+    ensures worked { HasWorkedBy (HasPassed B.tells (carried_by B.given B.tape passes.2) (carried_by B.given B.tape result.0.2)) (Paces (F.post (asked_by pace.now))) left result.1.2 }
 {
     at_once(rt, shared, passes, first, second, pace, left)
 }

@@ -2,7 +2,7 @@
 ghost use Rattle.std.specs.Prelude.{◌≡◌, ◌≢◌, ◌≤◌, [], vec_len, vec_capacity};
 ghost use Rattle.std.specs.List.{All};
 ghost use Rattle.lane_shared.specs.array_requests_Replies.{IsAskable};
-ghost use Rattle.lane_shared.specs.Pace.{AnswersSteps, asked_by};
+ghost use Rattle.lane_shared.specs.Pace.{AnswersSteps, Paces, asked_by};
 ghost use Rattle.lane_shared.specs.Threads.{HasPassed, HasWorkedBy};
 
 use crate::{Pace, Reply, Service, Worked, run_lane, run_worker};
@@ -44,7 +44,7 @@ fn work<R: Wait, S: Service, F: Fn(u64, u64) -> u64>(
     requires callable { F.IsAlwaysCallable (asked_by pace.now) }
     requires answers { AnswersSteps (F.post (asked_by pace.now)) }
     ensures lock { S.lock_of result.0 ≡ S.lock_of pass }
-    ensures worked { HasWorkedBy (HasPassed S.tells (S.carried pass) (S.carried result.0)) (F.post (asked_by pace.now)) left result.1 }
+    ensures worked { HasWorkedBy (HasPassed S.tells (S.carried pass) (S.carried result.0)) (Paces (F.post (asked_by pace.now))) left result.1 }
 {
     run_worker(rt, service, pass, pace, left)
 }
@@ -107,7 +107,7 @@ where
     ensures locks { (S.lock_of result.0.0 ≡ S.lock_of passes.0) × (S.lock_of result.0.1 ≡ S.lock_of passes.1) × (S.lock_of result.0.2 ≡ S.lock_of passes.2) }
     ensures first { HasPassed S.tells (S.carried passes.0) (S.carried result.0.0) first.0.items result.1.0.items }
     ensures second { HasPassed S.tells (S.carried passes.1) (S.carried result.0.1) second.0.items result.1.1.items }
-    ensures worked { HasWorkedBy (HasPassed S.tells (S.carried passes.2) (S.carried result.0.2)) (F.post (asked_by pace.now)) left result.1.2 }
+    ensures worked { HasWorkedBy (HasPassed S.tells (S.carried passes.2) (S.carried result.0.2)) (Paces (F.post (asked_by pace.now))) left result.1.2 }
 {
     let (pass, other_pass, worker_pass) = passes;
     let (requests, replies) = first;
@@ -138,7 +138,7 @@ where
             requires callable { F.IsAlwaysCallable (asked_by pace.now) }
             requires answers { AnswersSteps (F.post (asked_by pace.now)) }
             ensures lock { S.lock_of result.0 ≡ S.lock_of worker_pass }
-            ensures worked { HasWorkedBy (HasPassed S.tells (S.carried worker_pass) (S.carried result.0)) (F.post (asked_by pace.entry.now)) left result.1 }
+            ensures worked { HasWorkedBy (HasPassed S.tells (S.carried worker_pass) (S.carried result.0)) (Paces (F.post (asked_by pace.entry.now))) left result.1 }
         { work(rt, service, worker_pass, pace, left) },
     );
     ((a, b, c), (first, second, worked))

@@ -7,7 +7,7 @@ ghost use Rattle.script_argv.specs.Words.Asked.{Memory as IsMemory, Run as IsRun
 
 use bank::{Bank, MemoryBank};
 use bank_file::{FileBank, FileFault};
-use run_command::{Hook, Pace, run};
+use run_command::{Hook, Pace, Report, run, run_over_devices};
 use script_argv::{Command, Paths, command_of};
 use script_io::{MemorySource, Source, StdSink, StdSource};
 use std::alloc::{AllocError, Global};
@@ -69,7 +69,15 @@ fn demo_bank(alloc: Global, size: u64) -> Result<MemoryBank, AllocError>
     MemoryBank::new(alloc, lengths, 2_048 * size + 16_384, Vec::new(alloc))
 }
 
-// Runs over this bank, which is what the words ask for.
+// What a report says of the end.
+fn end_of<B: Drop>(report: Report<B>) -> Ended {
+    Ended {
+        status: report.status,
+        bad_line: report.bad_line,
+    }
+}
+
+// Runs over this bank in memory, as the words ask.
 fn run_over<B: Bank + Drop + Send, S: Source, R: Print + AllocGlobal + Threads + Wait + Sync>(
     rt: &R,
     words: &[String],
@@ -82,10 +90,7 @@ fn run_over<B: Bank + Drop + Send, S: Source, R: Print + AllocGlobal + Threads +
     let pace = Pace::new(|turn, left| steps(turn, left));
     let hook = Hook::new(|_, _| true);
     let report = run(rt, rt.alloc(), words, source, &mut sink, bank, pace, hook);
-    Ended {
-        status: report.status,
-        bad_line: report.bad_line,
-    }
+    end_of(report)
 }
 
 // Words that are no command's form open nothing.
@@ -138,7 +143,7 @@ fn cannot_open<R: Eprint>(rt: &R, path: &str) -> Ended {
     }
 }
 
-// Runs a script's file over image files.
+// Runs a script's file over image files, by the call for any devices.
 fn run_files<R: Files<File = File> + Print + Eprint + AllocGlobal + Threads + Wait + Sync>(
     rt: &R,
     words: &[String],
@@ -163,7 +168,10 @@ fn run_files<R: Files<File = File> + Print + Eprint + AllocGlobal + Threads + Wa
         }
     };
     let mut source = StdSource::new(script);
-    run_over(rt, words, &mut source, bank)
+    let mut sink = StdSink::new(io::writer(rt));
+    let pace = Pace::new(|turn, left| steps(turn, left));
+    let report = run_over_devices(rt, alloc, words, &mut source, &mut sink, bank, pace);
+    end_of(report)
 }
 
 fn words_of<R: Env + AllocGlobal>(rt: &R) -> io::Result<Vec<String>> {

@@ -24,6 +24,7 @@ use Rattle.script_status.specs.script_the_Numbered.{Numbered}
 use Rattle.script_status.specs.script_the_Lane.{Lane}
 use Rattle.script_status.specs.script_the_Lane_TheVariants.{Script as InScript, A as InA, B as InB, Worker as InWorker}
 use Rattle.lane_shared.specs.Blocks.{HasWorkedBy}
+use Rattle.lane_shared.specs.Pace.{Paces}
 use Rattle.lane_shared.specs.Worker.{left_behind, AreTurns}
 use Rattle.lane_shared.specs.declared.worker.Worked.{Worked}
 use Rattle.lane_shared.specs.history_caller_laws_Callers.{RepliesFrom}
@@ -216,51 +217,51 @@ module _ (size : ℕ) (entries : List Entry) where
   leaves-at reply told = ap (λ (o : Option Entry). option_map_or (λ e. leaves_more e.event) o false) reply.there ∙ ap (λ (e : Event). leaves_more e) told
 
   -- the worker's turns, the last of which has its reply at this place
-  worked-at : (answers : ℕ → ℕ → ℕ → Type 0) (turn left number : ℕ) (before : List (ℕ × Reply)) (most at : ℕ) (event : Event)
-      → AreCallersReplies size entries 255 number (map asked (before ++ (most, Done at event) ∷ [])) (map replied (before ++ (most, Done at event) ∷ [])) → AreTurns answers turn left (before ++ (most, Done at event) ∷ [])
+  worked-at : (asks : ℕ → ℕ → ℕ → Type 0) (turn left number : ℕ) (before : List (ℕ × Reply)) (most at : ℕ) (event : Event)
+      → AreCallersReplies size entries 255 number (map asked (before ++ (most, Done at event) ∷ [])) (map replied (before ++ (most, Done at event) ∷ [])) → AreTurns (Paces asks) turn left (before ++ (most, Done at event) ∷ [])
       → (earlier : List ℕ) × IsWorkedAt size entries earlier at number × (places_told (map replied (before ++ (most, Done at event) ∷ [])) ≡ earlier ++ at ∷ []) × (length earlier ≡ length before) × (leaves_more_at entries at ≡ leaves_more event)
-  worked-at answers turn left number [] most at event ((reply, told), done) turns = ([], (most, reply), refl, refl, leaves-at reply told)
-  worked-at answers turn left number ((m, Short) ∷ before) most at event was turns = absurd (not-empty before (most, Done at event) turns.1)
-  worked-at answers turn left number ((m, Done p ev) ∷ before) most at event ((reply, told), rest) turns =
-      by (left_behind (Done p ev)) refl turns.1 (λ more next. worked-at answers (turn + 1) more (number + 1) before most at event rest next)
+  worked-at asks turn left number [] most at event ((reply, told), done) turns = ([], (most, turns.0.1, turns.0.2, reply), refl, refl, leaves-at reply told)
+  worked-at asks turn left number ((m, Short) ∷ before) most at event was turns = absurd (not-empty before (most, Done at event) turns.1)
+  worked-at asks turn left number ((m, Done p ev) ∷ before) most at event ((reply, told), rest) turns =
+      by (left_behind (Done p ev)) refl turns.1 (λ more next. worked-at asks (turn + 1) more (number + 1) before most at event rest next)
     where
-      by : (o : Option ℕ) → left_behind (Done p ev) ≡ o → MatchOption o (before ++ (most, Done at event) ∷ [] ≡ []) (λ more. AreTurns answers (turn + 1) more (before ++ (most, Done at event) ∷ []))
-          → ((more : ℕ) → AreTurns answers (turn + 1) more (before ++ (most, Done at event) ∷ []) → (earlier : List ℕ) × IsWorkedAt size entries earlier at (number + 1)
+      by : (o : Option ℕ) → left_behind (Done p ev) ≡ o → MatchOption o (before ++ (most, Done at event) ∷ [] ≡ []) (λ more. AreTurns (Paces asks) (turn + 1) more (before ++ (most, Done at event) ∷ []))
+          → ((more : ℕ) → AreTurns (Paces asks) (turn + 1) more (before ++ (most, Done at event) ∷ []) → (earlier : List ℕ) × IsWorkedAt size entries earlier at (number + 1)
           × (places_told (map replied (before ++ (most, Done at event) ∷ [])) ≡ earlier ++ at ∷ []) × (length earlier ≡ length before) × (leaves_more_at entries at ≡ leaves_more event))
           → (earlier : List ℕ) × IsWorkedAt size entries earlier at number × (places_told (map replied ((m, Done p ev) ∷ before ++ (most, Done at event) ∷ [])) ≡ earlier ++ at ∷ []) × (length earlier ≡ length ((m, Done p ev) ∷ before)) × (leaves_more_at entries at ≡ leaves_more event)
       by None is none again = absurd (not-empty before (most, Done at event) none)
-      by (Some more) is turns again =
-          let now = again more turns in
+      by (Some more) is going again =
+          let now = again more going in
           let count = now.3 in (
             p ∷ now.0,
-            ((m, reply), leaves-at reply told ∙ leaves-told p ev more is, now.1),
+            ((m, turns.0.1, turns.0.2, reply), leaves-at reply told ∙ leaves-told p ev more is, now.1),
             ap (λ (l : List ℕ). p ∷ l) now.2,
             omega (arith, count),
             now.4,
           )
 
   -- the first of its turns, the last of which may have found no memory
-  worked-some : (answers : ℕ → ℕ → ℕ → Type 0) (turn left number : ℕ) (turns : List (ℕ × Reply)) → AreCallersReplies size entries 255 number (map asked turns) (map replied turns) → AreTurns answers turn left turns
+  worked-some : (asks : ℕ → ℕ → ℕ → Type 0) (turn left number : ℕ) (turns : List (ℕ × Reply)) → AreCallersReplies size entries 255 number (map asked turns) (map replied turns) → AreTurns (Paces asks) turn left turns
       → (places_told (map replied turns) ≡ []) ⊎ ((earlier : List ℕ) × (at : ℕ) × IsWorkedAt size entries earlier at number × (places_told (map replied turns) ≡ earlier ++ at ∷ []))
-  worked-some answers turn left number [] was turns = inl refl
-  worked-some answers turn left number ((m, Short) ∷ rest) was turns = inl refl
-  worked-some answers turn left number ((m, Done p ev) ∷ rest) ((reply, told), was) turns =
-      by (left_behind (Done p ev)) refl turns.1 (λ more going. worked-some answers (turn + 1) more (number + 1) rest was going)
+  worked-some asks turn left number [] was turns = inl refl
+  worked-some asks turn left number ((m, Short) ∷ rest) was turns = inl refl
+  worked-some asks turn left number ((m, Done p ev) ∷ rest) ((reply, told), was) turns =
+      by (left_behind (Done p ev)) refl turns.1 (λ more going. worked-some asks (turn + 1) more (number + 1) rest was going)
     where
-      by : (o : Option ℕ) → left_behind (Done p ev) ≡ o → MatchOption o (rest ≡ []) (λ more. AreTurns answers (turn + 1) more rest)
-          → ((more : ℕ) → AreTurns answers (turn + 1) more rest → (places_told (map replied rest) ≡ []) ⊎ ((earlier : List ℕ) × (at : ℕ) × IsWorkedAt size entries earlier at (number + 1) × (places_told (map replied rest) ≡ earlier ++ at ∷ [])))
+      by : (o : Option ℕ) → left_behind (Done p ev) ≡ o → MatchOption o (rest ≡ []) (λ more. AreTurns (Paces asks) (turn + 1) more rest)
+          → ((more : ℕ) → AreTurns (Paces asks) (turn + 1) more rest → (places_told (map replied rest) ≡ []) ⊎ ((earlier : List ℕ) × (at : ℕ) × IsWorkedAt size entries earlier at (number + 1) × (places_told (map replied rest) ≡ earlier ++ at ∷ [])))
           → (places_told (map replied ((m, Done p ev) ∷ rest)) ≡ []) ⊎ ((earlier : List ℕ) × (at : ℕ) × IsWorkedAt size entries earlier at number × (places_told (map replied ((m, Done p ev) ∷ rest)) ≡ earlier ++ at ∷ []))
-      by None is none later = inr ([], p, (m, reply), ap (λ (l : List (ℕ × Reply)). p ∷ places_told (map replied l)) none)
+      by None is none later = inr ([], p, (m, turns.0.1, turns.0.2, reply), ap (λ (l : List (ℕ × Reply)). p ∷ places_told (map replied l)) none)
       by (Some more) is going later = so_on (later more going)
         where
           so_on : (places_told (map replied rest) ≡ []) ⊎ ((earlier : List ℕ) × (at : ℕ) × IsWorkedAt size entries earlier at (number + 1) × (places_told (map replied rest) ≡ earlier ++ at ∷ []))
               → (places_told (map replied ((m, Done p ev) ∷ rest)) ≡ []) ⊎ ((earlier : List ℕ) × (at : ℕ) × IsWorkedAt size entries earlier at number × (places_told (map replied ((m, Done p ev) ∷ rest)) ≡ earlier ++ at ∷ []))
-          so_on (inl none) = inr ([], p, (m, reply), ap (λ (l : List ℕ). p ∷ l) none)
-          so_on (inr (earlier, at, worked, are)) = inr (p ∷ earlier, at, ((m, reply), leaves-at reply told ∙ leaves-told p ev more is, worked), ap (λ (l : List ℕ). p ∷ l) are)
+          so_on (inl none) = inr ([], p, (m, turns.0.1, turns.0.2, reply), ap (λ (l : List ℕ). p ∷ l) none)
+          so_on (inr (earlier, at, worked, are)) = inr (p ∷ earlier, at, ((m, turns.0.1, turns.0.2, reply), leaves-at reply told ∙ leaves-told p ev more is, worked), ap (λ (l : List ℕ). p ∷ l) are)
 
   -- the last of them
   worked-last : (earlier : List ℕ) (at number : ℕ) → IsWorkedAt size entries earlier at number → (most : ℕ) × IsCallersReply size entries 255 (number + length earlier) at (AsksSteps most)
-  worked-last [] at number (most, reply) =
+  worked-last [] at number (most, some, few, reply) =
       let same : number ≡ number + 0 = omega arith in
       (most, subst (λ (n : ℕ). IsCallersReply size entries 255 n at (AsksSteps most)) same reply)
   worked-last (first ∷ others) at number (one, going, rest) =
@@ -516,7 +517,7 @@ module _ {B : Type 0} (old new : RunningParts B) (epochs : Vec Epoch) where
   module _ (setting : Setting) (turn : IsBlockTurn setting (Running old epochs) (Running new epochs)) (left : IsLeftByBlock setting.before setting.now (record_of old) (record_of new)) (entered : IsBlockEntered old.parts.entries entries) (sized : length_of size entries ≡ list_length new.parts.members.newest)
       (later : setting.tells → RepliesFrom setting.began (drop (length old.parts.entries) entries)) (first second : List Numbered) (worker : Numbered) (first_lane : All (λ line. line.lane ≡ InA) first) (second_lane : All (λ line. line.lane ≡ InB) second) (worker_lane : worker.lane ≡ InWorker)
       (one two : List Reply) (ran_one : HasRunLane size old.parts.entries entries 1 (requests_in first) one) (ran_two : HasRunLane size old.parts.entries entries 2 (requests_in second) two)
-      (answers : ℕ → ℕ → ℕ → Type 0) (steps : ℕ) (worked : Worked) (ran : HasWorkedBy (HasRunLane size old.parts.entries entries 255) answers steps worked) where
+      (asks : ℕ → ℕ → ℕ → Type 0) (steps : ℕ) (worked : Worked) (ran : HasWorkedBy (HasRunLane size old.parts.entries entries 255) (Paces asks) steps worked) where
     abbrev start : Course
     start = course_with k old
 
@@ -627,7 +628,7 @@ module _ {B : Type 0} (old new : RunningParts B) (epochs : Vec Epoch) where
       }
 
     amid_far : IsStanding far (course_with k new) ⊎ HasWorkedOn hs far (course_with k new)
-    amid_far = by (worked-some size entries answers 0 steps (next_number 255 old.parts.entries) ran.turns ran.made.replied ran.asked)
+    amid_far = by (worked-some size entries asks 0 steps (next_number 255 old.parts.entries) ran.turns ran.made.replied ran.asked)
       where
         by : (places_told (map replied ran.turns) ≡ []) ⊎ ((earlier : List ℕ) × (at : ℕ) × IsWorkedAt size entries earlier at (next_number 255 old.parts.entries) × (places_told (map replied ran.turns) ≡ earlier ++ at ∷ []))
             → IsStanding far (course_with k new) ⊎ HasWorkedOn hs far (course_with k new)
@@ -736,8 +737,8 @@ module _ {B : Type 0} (old new : RunningParts B) (epochs : Vec Epoch) where
 
           facts : (earlier : List ℕ) × IsWorkedAt size entries earlier at (next_number 255 old.parts.entries)
               × (places_told (map replied (ran.last.0 ++ (ran.last.1, Done at event) ∷ [])) ≡ earlier ++ at ∷ []) × (length earlier ≡ length ran.last.0) × (leaves_more_at entries at ≡ leaves_more event)
-          facts = worked-at size entries answers 0 steps (next_number 255 old.parts.entries) ran.last.0 ran.last.1 at event worker_ran.replied
-              (subst (λ (l : List (ℕ × Reply)). AreTurns answers 0 steps l) turns_are ran.asked)
+          facts = worked-at size entries asks 0 steps (next_number 255 old.parts.entries) ran.last.0 ran.last.1 at event worker_ran.replied
+              (subst (λ (l : List (ℕ × Reply)). AreTurns (Paces asks) 0 steps l) turns_are ran.asked)
 
           abbrev earlier : List ℕ
           earlier = facts.0

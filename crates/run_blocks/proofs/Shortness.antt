@@ -142,7 +142,7 @@ short_asked size before e (Fail role) limits is = short_fail size before (call_b
 short_asked size before e line limits is = short_flush size before (call_before before e) e.event is.answers
 
 short_worked : (size : ℕ) (entries : List Entry) (earlier : List ℕ) (place number : ℕ) → IsWorkedAt size entries earlier place number → IsShortAt entries place
-short_worked size entries [] place number (most, reply) =
+short_worked size entries [] place number (most, some, few, reply) =
     subst (λ (o : Option Entry). MatchOption o ⊥ (λ e. IsShort e.event)) (sym reply.there) (short_steps size (take place entries) (call_before (take place entries) reply.entry) most reply.entry.event reply.fits.answers)
 short_worked size entries (first ∷ others) place number was = short_worked size entries others place (number + 1) was.2
 

@@ -11,7 +11,7 @@ ghost use Rattle.run_line_answers.specs.array_Calls.{running_left};
 ghost use Rattle.run_line_answers.specs.run_specs_Blocks.{is_allowed, is_in_lane, request_of, requests_in, HasRunLane, IsBlockEntered};
 ghost use Rattle.run_line_answers.specs.Turning.{IsTurningTold};
 ghost use Rattle.lane_shared.specs.Blocks.{HasWorkedBy};
-ghost use Rattle.lane_shared.specs.Pace.{AnswersSteps, asked_by};
+ghost use Rattle.lane_shared.specs.Pace.{AnswersSteps, Paces, asked_by};
 ghost use Rattle.lane_shared.specs.array_requests_Going.{HasGoneOn};
 ghost use Rattle.lane_shared.specs.history_caller_laws_Callers.{RepliesFrom};
 
@@ -80,7 +80,7 @@ pub fn ask_together<B: Bank + Drop + Send, F: Fn(u64, u64) -> u64 + Sync, R: Thr
     requires answers { AnswersSteps (F.post (asked_by pace.now)) }
     ensures first { IfOk result.1 (λ t. HasRunLane (list_length array.parts.members.newest) array.parts.entries result.0.parts.entries 1 (requests_in first.now) t.first.items) }
     ensures second { IfOk result.1 (λ t. HasRunLane (list_length array.parts.members.newest) array.parts.entries result.0.parts.entries 2 (requests_in second.now) t.second.items) }
-    ensures worked { IfOk result.1 (λ t. HasWorkedBy (HasRunLane (list_length array.parts.members.newest) array.parts.entries result.0.parts.entries 255) (F.post (asked_by pace.now)) (running_left array) t.worked) }
+    ensures worked { IfOk result.1 (λ t. HasWorkedBy (HasRunLane (list_length array.parts.members.newest) array.parts.entries result.0.parts.entries 255) (Paces (F.post (asked_by pace.now))) (running_left array) t.worked) }
     ensures back { IfErr result.1 (λ none. (result.0 ≡ array) ⊎ (2 ^ 61 < length result.0.parts.entries)) }
     ensures entered { IsBlockEntered array.parts.entries result.0.parts.entries }
     ensures later { B.tells → RepliesFrom (length (B.tape array.parts.bank)) (drop (length array.parts.entries) result.0.parts.entries) }

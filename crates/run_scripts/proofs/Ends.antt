@@ -206,9 +206,10 @@ module _ {B bank_tells : Type 0} {given : Given} {backup : Option ℕ} {tape : L
       performed.losses ended.losses)
 
   module _ {K : Type 0} {old new : List ℕ} {old_faults new_faults : ℕ} (shown : IsShownTo K lines session old new old_faults new_faults) where
-    pub end_taken : K → IsTaken (stop_of status) old new (report_text (histories_of epochs) lines session.replies.items)
-    end_taken holds = subst (λ (o : Option Stop). IsTaken o old new (report_text (histories_of epochs) lines session.replies.items)) (sym is_stop)
-        (subst (λ (t : List ℕ). IsTaken session.stopped old new t) (sym (shown_end.0)) (shown.taken holds))
+    pub end_taken : K → IsTaken (stop_of status) old new (length (report_text (histories_of epochs) lines (taken_whole (stop_of status) session.replies.items))) (report_text (histories_of epochs) lines session.replies.items)
+    end_taken holds = subst (λ (o : Option Stop). IsTaken o old new (length (report_text (histories_of epochs) lines (taken_whole o session.replies.items))) (report_text (histories_of epochs) lines session.replies.items)) (sym is_stop)
+        (subst (λ (t : List ℕ). IsTaken session.stopped old new (length t) (report_text (histories_of epochs) lines session.replies.items)) (sym (whole_end session.stopped))
+        (subst (λ (t : List ℕ). IsTaken session.stopped old new (length (report_text (histories_in session.state) lines (taken_whole session.stopped session.replies.items))) t) (sym (shown_end.0)) (shown.taken holds)))
 
     pub end_shown : session.shown ≡ counted (length (report_text (histories_of epochs) lines (taken_whole (stop_of status) session.replies.items)))
     end_shown = shown.shown ∙ ap (λ (t : List ℕ). counted (length t)) (sym (whole_end session.stopped))

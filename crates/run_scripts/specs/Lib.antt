@@ -1,6 +1,7 @@
 pub mod Source
 pub mod Runs
 pub mod Kept
+pub mod Complete
 pub use Rattle.run_session.specs.array_members_Moving
 pub use Rattle.run_session.specs.lane_shared_Pace
 pub use Rattle.run_session.specs.run_specs_Ended

@@ -79,7 +79,7 @@ sunk_of tells old new shown = record { tells = tells; old = old; new = new; show
 
 -- The text of the replies to these lines went to the sink, and the status tells whether one of them is a refusal.
 pub record AreShown (sunk : Sunk) (status : ℕ) (asked : List Numbered) (epochs : List Epoch) (lines : List LineReply) : Type 0 where
-  pub taken : sunk.tells → IsTaken (stop_of status) sunk.old sunk.new (report_text (histories_of epochs) asked lines)
+  pub taken : sunk.tells → IsTaken (stop_of status) sunk.old sunk.new (length (report_text (histories_of epochs) asked (taken_whole (stop_of status) lines))) (report_text (histories_of epochs) asked lines)
   pub shown : sunk.shown ≡ counted (length (report_text (histories_of epochs) asked (taken_whole (stop_of status) lines)))
   pub refusals : AreTold status (has_refusal (histories_of epochs) asked lines)
 

@@ -172,7 +172,7 @@ fn run_lines<
     ensures status { result.status ≡ status_for (stop_of result.status) (has_refusal (histories_of result.epochs.items) lines.now result.lines.items) }
     ensures performed { AreLinesPerformed (setting_of B.tells (B.given bank) (B.tape bank) (B.tape result.bank) backup (B.faults_of bank) (B.faults_of result.bank)) lines.now (stop_of result.status) result.epochs.items result.lines.items }
     ensures alerts { AreAlertsTold (G.post (wanted_by hook.now)) (histories_of result.epochs.items) (at_rest 0) [] lines.now result.lines.items }
-    ensures taken { K.tells → IsTaken (stop_of result.status) (K.taken out.old) (K.taken out.new) (report_text (histories_of result.epochs.items) lines.now result.lines.items) }
+    ensures taken { K.tells → IsTaken (stop_of result.status) (K.taken out.old) (K.taken out.new) (length (report_text (histories_of result.epochs.items) lines.now (taken_whole (stop_of result.status) result.lines.items))) (report_text (histories_of result.epochs.items) lines.now result.lines.items) }
     ensures shown { result.shown ≡ counted (length (report_text (histories_of result.epochs.items) lines.now (taken_whole (stop_of result.status) result.lines.items))) }
     ensures write_fault { result.status ≡ 5 → HasRisen (K.faults_of out.old) (K.faults_of out.new) }
     ensures sink_never_falls { K.faults_of out.old ≤ K.faults_of out.new }

@@ -23,7 +23,7 @@ or_nothing true = refl
 or_nothing false = refl
 
 -- none was shown yet
-pub none-shown : {B : Type 0} (tells bank_tells : Type 0) (mark : ℕ) (hs : List History) (old new : Session B) (lines : List Numbered) (whats : List Answered) (taken : List ℕ) (o : Option Stop) → taken_whole o [] ≡ [] → ((told : tells) → IsTaken o taken taken [])
+pub none-shown : {B : Type 0} (tells bank_tells : Type 0) (mark : ℕ) (hs : List History) (old new : Session B) (lines : List Numbered) (whats : List Answered) (taken : List ℕ) (o : Option Stop) → taken_whole o [] ≡ [] → ((told : tells) → IsTaken o taken taken (length (report_text hs lines (taken_whole o []))) [])
     → new.replies.items ≡ old.replies.items → new.refused ≡ old.refused → new.shown ≡ old.shown → (shown : AreShownOf tells bank_tells mark hs old new lines whats o taken taken) × (length shown.made ≡ 0)
 none-shown tells bank_tells mark hs old new lines whats taken o nothing same replies refused shown = (
   record {
@@ -53,11 +53,12 @@ module _ {B : Type 0} {tells bank_tells : Type 0} (mark : ℕ) (hs : List Histor
   shown-text : IsTextShown tells mid new text mid_taken new_taken new.stopped
   shown-text = subst (λ (h : List History). IsTextShown tells mid new (reply_text h line.line one.reply) mid_taken new_taken new.stopped) states one.shown
 
-  taken-on : (o : Option Stop) → IsTextShown tells mid new text mid_taken new_taken o → tells → IsTaken o first_taken new_taken (report_text hs lines was.made ++ text)
+  taken-on : (o : Option Stop) → IsTextShown tells mid new text mid_taken new_taken o → tells → IsTaken o first_taken new_taken (length (report_text hs lines (taken_whole o (was.made ++ one.reply ∷ [])))) (report_text hs lines was.made ++ text)
   taken-on None did told = did.0 told ∙ ap (λ (t : List ℕ). t ++ text) (was.taken told) ∙ append_assoc first_taken (report_text hs lines was.made) text
   taken-on (Some WriteFault) did told =
       let part = did.0 told in (
         length (report_text hs lines was.made) + part.0,
+        (let whole = ap (λ (l : List LineReply). length (report_text hs lines l)) (take_at was.made (one.reply ∷ []) (length (was.made ++ one.reply ∷ []) - 1) (let sum = length-append was.made (one.reply ∷ []) in omega (arith, sum))) in omega (arith, whole)),
         part.1 ∙ ap (λ (t : List ℕ). t ++ take part.0 text) (was.taken told) ∙ append_assoc first_taken (report_text hs lines was.made) (take part.0 text)
             ∙ ap (λ (t : List ℕ). first_taken ++ t) (sym (take-append-add (report_text hs lines was.made) text part.0)),
       )
@@ -80,7 +81,7 @@ module _ {B : Type 0} {tells bank_tells : Type 0} (mark : ℕ) (hs : List Histor
       refused = one.refused ∙ ap (λ (h : List History). mid.refused || is_refusal h line.line what) states ∙ ap (λ (b : Bool). b || is_refusal hs line.line what) was.refused
           ∙ sym (or_and_or old.refused (has_refusal hs lines was.made) (is_refusal hs line.line what))
           ∙ ap (λ (b : Bool). old.refused || b) (ap (λ (w : Answered). has_refusal hs lines was.made || is_refusal hs line.line w) (sym one.made.what_is) ∙ sym (refusal_more hs lines was.made nothing line one.reply lt refl));
-      taken = λ told. subst (λ (t : List ℕ). IsTaken new.stopped first_taken new_taken t) (sym all-text) (taken-on new.stopped shown-text told);
+      taken = λ told. subst (λ (t : List ℕ). IsTaken new.stopped first_taken new_taken (length (report_text hs lines (taken_whole new.stopped (was.made ++ one.reply ∷ [])))) t) (sym all-text) (taken-on new.stopped shown-text told);
       shown = shown-on new.stopped shown-text;
     },
     length-append was.made (one.reply ∷ []),

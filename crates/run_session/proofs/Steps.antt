@@ -251,7 +251,7 @@ module _ {B bank_tells : Type 0} {given : Given} {backup : Option ℕ} {first_ta
 
     module _ {tells : Type 0} {first before : List ℕ} {first_faults before_faults : ℕ} (after : List ℕ) (after_faults : ℕ) (shown : IsShownTo tells lines old first before first_faults before_faults) where
       taken_before : tells → before ≡ first ++ report_text (histories_in old.state) lines old.replies.items
-      taken_before told = subst (λ (o : Option Stop). IsTaken o first before (report_text (histories_in old.state) lines old.replies.items)) going (shown.taken told)
+      taken_before told = subst (λ (o : Option Stop). IsTaken o first before (length (report_text (histories_in old.state) lines (taken_whole o old.replies.items))) (report_text (histories_in old.state) lines old.replies.items)) going (shown.taken told)
 
       shown_before : old.shown ≡ counted (length (report_text (histories_in old.state) lines old.replies.items))
       shown_before = subst (λ (o : Option Stop). old.shown ≡ counted (length (report_text (histories_in old.state) lines (taken_whole o old.replies.items)))) going shown.shown
@@ -262,7 +262,7 @@ module _ {B bank_tells : Type 0} {given : Given} {backup : Option ℕ} {first_ta
       step None stop is cause le = (
         performed_reply is.reply None stop (λ f c same. same),
         record {
-          taken = λ told. subst (λ (o : Option Stop). IsTaken o first after (report_text (histories_in new.state) lines new.replies.items)) (sym stop)
+          taken = λ told. subst (λ (o : Option Stop). IsTaken o first after (length (report_text (histories_in new.state) lines (taken_whole o new.replies.items))) (report_text (histories_in new.state) lines new.replies.items)) (sym stop)
               (is.taken told ∙ ap (λ (t : List ℕ). t ++ reply_text (histories_in new.state) numbered.line is.reply.made.reply) (taken_before told)
               ∙ append_assoc first (report_text (histories_in old.state) lines old.replies.items) (reply_text (histories_in new.state) numbered.line is.reply.made.reply)
               ∙ ap (λ (t : List ℕ). first ++ t) (sym (text_new is.reply)));
@@ -278,7 +278,7 @@ module _ {B bank_tells : Type 0} {given : Given} {backup : Option ℕ} {first_ta
       step (Some WriteFault) stop is cause le = (
         performed_reply is.reply (Some WriteFault) stop (λ f c same. inl same),
         record {
-          taken = λ told. subst (λ (o : Option Stop). IsTaken o first after (report_text (histories_in new.state) lines new.replies.items)) (sym stop)
+          taken = λ told. subst (λ (o : Option Stop). IsTaken o first after (length (report_text (histories_in new.state) lines (taken_whole o new.replies.items))) (report_text (histories_in new.state) lines new.replies.items)) (sym stop)
               (part told (is.taken told));
           shown = subst (λ (o : Option Stop). new.shown ≡ counted (length (report_text (histories_in new.state) lines (taken_whole o new.replies.items)))) (sym stop)
               (is.shown ∙ shown_before ∙ ap (λ (t : List ℕ). counted (length t)) (sym ((shown_still is.reply.replied.turn.grown).0))
@@ -292,9 +292,10 @@ module _ {B bank_tells : Type 0} {given : Given} {backup : Option ℕ} {first_ta
           all_but_last = ap (λ (rs : List LineReply). take (length new.replies.items - 1) rs) is.reply.more
               ∙ take_at old.replies.items (is.reply.made.reply ∷ []) (length new.replies.items - 1) (omega (arith, one_more is.reply))
 
-          part : tells → ((n : ℕ) × (after ≡ before ++ take n (reply_text (histories_in new.state) numbered.line is.reply.made.reply))) → (n : ℕ) × (after ≡ first ++ take n (report_text (histories_in new.state) lines new.replies.items))
+          part : tells → ((n : ℕ) × (after ≡ before ++ take n (reply_text (histories_in new.state) numbered.line is.reply.made.reply))) → (n : ℕ) × (length (report_text (histories_in new.state) lines (take (length new.replies.items - 1) new.replies.items)) ≤ n) × (after ≡ first ++ take n (report_text (histories_in new.state) lines new.replies.items))
           part told (n, taken) = (
             length (report_text (histories_in old.state) lines old.replies.items) + n,
+            (let whole = ap (λ (rs : List LineReply). length (report_text (histories_in new.state) lines rs)) all_but_last ∙ ap (λ (t : List ℕ). length t) ((shown_still is.reply.replied.turn.grown).0) in omega (arith, whole)),
             taken ∙ ap (λ (t : List ℕ). t ++ take n (reply_text (histories_in new.state) numbered.line is.reply.made.reply)) (taken_before told)
                 ∙ append_assoc first (report_text (histories_in old.state) lines old.replies.items) (take n (reply_text (histories_in new.state) numbered.line is.reply.made.reply))
                 ∙ ap (λ (t : List ℕ). first ++ t) (sym (take-append-add (report_text (histories_in old.state) lines old.replies.items) (reply_text (histories_in new.state) numbered.line is.reply.made.reply) n)
@@ -306,7 +307,7 @@ module _ {B bank_tells : Type 0} {given : Given} {backup : Option ℕ} {first_ta
       step (Some WantsMemory) stop is cause le = (
         performed_short is.none is.same is.refused stop,
         record {
-          taken = λ told. subst (λ (o : Option Stop). IsTaken o first after (report_text (histories_in new.state) lines new.replies.items)) (sym stop)
+          taken = λ told. subst (λ (o : Option Stop). IsTaken o first after (length (report_text (histories_in new.state) lines (taken_whole o new.replies.items))) (report_text (histories_in new.state) lines new.replies.items)) (sym stop)
               (is.taken ∙ taken_before told ∙ ap (λ (t : List ℕ). first ++ t) (sym same_text));
           shown = subst (λ (o : Option Stop). new.shown ≡ counted (length (report_text (histories_in new.state) lines (taken_whole o new.replies.items)))) (sym stop)
               (is.shown ∙ shown_before ∙ ap (λ (t : List ℕ). counted (length t)) (sym same_text));
@@ -503,32 +504,37 @@ module _ {B bank_tells : Type 0} {given : Given} {backup : Option ℕ} {first_ta
       text = report_text (histories_in old.state) lines old.replies.items
 
       was_taken : tells → old_taken ≡ first ++ text
-      was_taken told = subst (λ (o : Option Stop). IsTaken o first old_taken text) going (shown.taken told)
+      was_taken told = subst (λ (o : Option Stop). IsTaken o first old_taken (length (report_text (histories_in old.state) lines (taken_whole o old.replies.items))) text) going (shown.taken told)
 
       was_shown : old.shown ≡ counted (length text)
       was_shown = subst (λ (o : Option Stop). old.shown ≡ counted (length (report_text (histories_in old.state) lines (taken_whole o old.replies.items)))) going shown.shown
 
-      taken_on : (told : tells) (o : Option Stop) → IsTaken o old_taken new_taken (report_text hs block made) → IsTaken o first new_taken (text ++ report_text hs block made)
-      taken_on told None is = is ∙ ap (λ (t : List ℕ). t ++ report_text hs block made) (was_taken told) ∙ append_assoc first text (report_text hs block made)
-      taken_on told (Some WriteFault) (k, is) = (
+      taken_on : (told : tells) (o : Option Stop) (whole : ℕ) → IsTaken o old_taken new_taken whole (report_text hs block made) → IsTaken o first new_taken (length text + whole) (text ++ report_text hs block made)
+      taken_on told None whole is = is ∙ ap (λ (t : List ℕ). t ++ report_text hs block made) (was_taken told) ∙ append_assoc first text (report_text hs block made)
+      taken_on told (Some WriteFault) whole (k, le, is) = (
         length text + k,
+        omega (arith, le),
         is ∙ ap (λ (t : List ℕ). t ++ take k (report_text hs block made)) (was_taken told) ∙ append_assoc first text (take k (report_text hs block made))
             ∙ ap (λ (t : List ℕ). first ++ t) (sym (take-append-add text (report_text hs block made) k)),
       )
-      taken_on told (Some WantsMemory) is = is ∙ ap (λ (t : List ℕ). t ++ report_text hs block made) (was_taken told) ∙ append_assoc first text (report_text hs block made)
+      taken_on told (Some WantsMemory) whole is = is ∙ ap (λ (t : List ℕ). t ++ report_text hs block made) (was_taken told) ∙ append_assoc first text (report_text hs block made)
 
       cause_on : (o : Option Stop) → IsStopCause o before_faults after_faults → IsStopCause o first_faults after_faults
       cause_on None is = tt
       cause_on (Some WriteFault) is = grind (arith, nat_tests, is, shown.never_falls)
       cause_on (Some WantsMemory) is = tt
 
+      -- the bytes of the replies that were taken whole
+      whole_long : length (report_text hs lines (taken_whole new.stopped new.replies.items)) ≡ length text + length (report_text hs block (taken_whole new.stopped made))
+      whole_long = ap (λ (rs : List LineReply). length (report_text hs lines rs)) (whole_is new.stopped did.shown.all)
+          ∙ ap (λ (t : List ℕ). length t) (text_is (taken_whole new.stopped made) (whole_few new.stopped)) ∙ length-append text (report_text hs block (taken_whole new.stopped made))
+
       block_shown : IsShownTo tells lines new first new_taken first_faults after_faults
       block_shown = record {
-        taken = λ told. subst (λ (t : List ℕ). IsTaken new.stopped first new_taken t) (sym (ap (λ (rs : List LineReply). report_text hs lines rs) did.shown.shown.more ∙ text_is made few_made))
-            (taken_on told new.stopped (did.shown.shown.taken told));
-        shown = did.shown.shown.shown (length text) was_shown
-            ∙ ap counted (sym (ap (λ (rs : List LineReply). length (report_text hs lines rs)) (whole_is new.stopped did.shown.all)
-            ∙ ap (λ (t : List ℕ). length t) (text_is (taken_whole new.stopped made) (whole_few new.stopped)) ∙ length-append text (report_text hs block (taken_whole new.stopped made))));
+        taken = λ told. subst (λ (w : ℕ). IsTaken new.stopped first new_taken w (report_text hs lines new.replies.items)) (sym whole_long)
+            (subst (λ (t : List ℕ). IsTaken new.stopped first new_taken (length text + length (report_text hs block (taken_whole new.stopped made))) t) (sym (ap (λ (rs : List LineReply). report_text hs lines rs) did.shown.shown.more ∙ text_is made few_made))
+            (taken_on told new.stopped (length (report_text hs block (taken_whole new.stopped made))) (did.shown.shown.taken told)));
+        shown = did.shown.shown.shown (length text) was_shown ∙ ap counted (sym whole_long);
         cause = cause_on new.stopped cause;
         never_falls = omega (arith, falls, shown.never_falls);
       }
@@ -604,7 +610,7 @@ module _ {B : Type 0} (tells : Type 0) (lines : List Numbered) (session : Sessio
 
   pub shown_none : session.stopped ≡ None → IsShownTo tells lines session taken taken faults faults
   shown_none going = record {
-    taken = λ t. subst (λ (o : Option Stop). IsTaken o taken taken (report_text (histories_in session.state) lines session.replies.items)) (sym going) none_taken;
+    taken = λ t. subst (λ (o : Option Stop). IsTaken o taken taken (length (report_text (histories_in session.state) lines (taken_whole o session.replies.items))) (report_text (histories_in session.state) lines session.replies.items)) (sym going) none_taken;
     shown = subst (λ (o : Option Stop). session.shown ≡ counted (length (report_text (histories_in session.state) lines (taken_whole o session.replies.items)))) (sym going) none_shown;
     cause = subst (λ (o : Option Stop). IsStopCause o faults faults) (sym going) tt;
     never_falls = omega arith;
@@ -612,7 +618,7 @@ module _ {B : Type 0} (tells : Type 0) (lines : List Numbered) (session : Sessio
 
   pub shown_short : session.stopped ≡ Some WantsMemory → IsShownTo tells lines session taken taken faults faults
   shown_short short = record {
-    taken = λ t. subst (λ (o : Option Stop). IsTaken o taken taken (report_text (histories_in session.state) lines session.replies.items)) (sym short) none_taken;
+    taken = λ t. subst (λ (o : Option Stop). IsTaken o taken taken (length (report_text (histories_in session.state) lines (taken_whole o session.replies.items))) (report_text (histories_in session.state) lines session.replies.items)) (sym short) none_taken;
     shown = subst (λ (o : Option Stop). session.shown ≡ counted (length (report_text (histories_in session.state) lines (taken_whole o session.replies.items)))) (sym short) none_shown;
     cause = subst (λ (o : Option Stop). IsStopCause o faults faults) (sym short) tt;
     never_falls = omega arith;

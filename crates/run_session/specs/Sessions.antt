@@ -94,11 +94,11 @@ taken_whole None replies = replies
 taken_whole (Some WriteFault) replies = take (length replies - 1) replies
 taken_whole (Some WantsMemory) replies = replies
 
--- the bytes that the sink took since: the text, or where it failed a part of it
-abbrev pub IsTaken : Option Stop → List ℕ → List ℕ → List ℕ → Type 0
-IsTaken None old new text = new ≡ old ++ text
-IsTaken (Some WriteFault) old new text = (n : ℕ) × (new ≡ old ++ take n text)
-IsTaken (Some WantsMemory) old new text = new ≡ old ++ text
+-- The bytes that the sink took since: the text, or where it failed a part of it, in which at least those replies stand whole that it answered Ok; `whole` is their length.
+abbrev pub IsTaken : Option Stop → List ℕ → List ℕ → ℕ → List ℕ → Type 0
+IsTaken None old new whole text = new ≡ old ++ text
+IsTaken (Some WriteFault) old new whole text = (n : ℕ) × (whole ≤ n) × (new ≡ old ++ take n text)
+IsTaken (Some WantsMemory) old new whole text = new ≡ old ++ text
 
 -- what a line of its own does
 pub record IsLineStep {B : Type 0} (tells : Type 0) (setting : Setting) (old new : Session B) (lines : List Numbered) (old_taken new_taken : List ℕ) : Type 0 where
@@ -170,7 +170,7 @@ pub record AreShownOf {B : Type 0} (tells bank_tells : Type 0) (mark : ℕ) (his
   pub more : new.replies.items ≡ old.replies.items ++ made
   pub told : AreMadeOf bank_tells mark histories lines whats made
   pub refused : new.refused ≡ (old.refused || has_refusal histories lines made)
-  pub taken : tells → IsTaken stopped old_taken new_taken (report_text histories lines made)
+  pub taken : tells → IsTaken stopped old_taken new_taken (length (report_text histories lines (taken_whole stopped made))) (report_text histories lines made)
   pub shown : IsShownBy old new (length (report_text histories lines (taken_whole stopped made)))
 
 -- how many of them were made: all, or some where the sink failed, or not all where memory was short
@@ -237,7 +237,7 @@ pub record IsPerformed {B : Type 0} (setting : Setting) (lines : List Numbered) 
 
 -- their text went to the sink
 pub record IsShownTo {B : Type 0} (tells : Type 0) (lines : List Numbered) (session : Session B) (old new : List ℕ) (old_faults new_faults : ℕ) : Type 0 where
-  pub taken : tells → IsTaken session.stopped old new (report_text (histories_in session.state) lines session.replies.items)
+  pub taken : tells → IsTaken session.stopped old new (length (report_text (histories_in session.state) lines (taken_whole session.stopped session.replies.items))) (report_text (histories_in session.state) lines session.replies.items)
   pub shown : session.shown ≡ counted (length (report_text (histories_in session.state) lines (taken_whole session.stopped session.replies.items)))
   pub cause : IsStopCause session.stopped old_faults new_faults
   pub never_falls : old_faults ≤ new_faults

@@ -251,16 +251,16 @@ callers_longer {size = size} {entries = entries} {place = place} {request = requ
 
 worked_longer : (size place : ℕ) (entries more : List Entry) → All (λ e. rest_of_call e more ≡ []) entries
     → (earlier : List ℕ) (number : ℕ) → IsWorkedAt size entries earlier place number → IsWorkedAt size (entries ++ more) earlier place number
-worked_longer size place entries more later [] number (most, reply) = (most, callers_longer more later reply)
-worked_longer size place entries more later (first ∷ others) number ((most, reply), going, rest) = (
-  (most, callers_longer more later reply),
+worked_longer size place entries more later [] number (most, some, few, reply) = (most, some, few, callers_longer more later reply)
+worked_longer size place entries more later (first ∷ others) number ((most, some, few, reply), going, rest) = (
+  (most, some, few, callers_longer more later reply),
   subst (λ (b : Bool). IsTrue b) (sym (leaves_longer entries more first reply.entry reply.there)) going,
   worked_longer size place entries more later others (number + 1) rest,
 )
 
 -- the entry of a worker's reply is there, and is the worker's
 worked_there : (size place : ℕ) (entries : List Entry) (earlier : List ℕ) (number : ℕ) → IsWorkedAt size entries earlier place number → (e : Entry) × (slice_get entries place ≡ Some e) × (e.caller ≡ 255)
-worked_there size place entries [] number (most, reply) = (reply.entry, reply.there, reply.callers)
+worked_there size place entries [] number (most, some, few, reply) = (reply.entry, reply.there, reply.callers)
 worked_there size place entries (first ∷ others) number (reply, going, rest) = worked_there size place entries others (number + 1) rest
 
 all_worked_longer : (size place number : ℕ) (entries more : List Entry) → All (λ e. rest_of_call e more ≡ []) entries → IsWorked size entries place number → IsWorked size (entries ++ more) place number

@@ -302,11 +302,11 @@ IsAnswer setting histories course line end (IsOutside (Refused refusal)) = IsRef
 
 -- ---- a line of a block
 
--- The worker's calls from this number on have their replies at these places: each is to a request for some steps, and those before the last leave more to do.
+-- The worker's calls from this number on have their replies at these places: each is to a request for 1 to 64 steps, and those before the last leave more to do.
 abbrev pub IsWorkedAt : ℕ → List Entry → List ℕ → ℕ → ℕ → Type 0
-IsWorkedAt size entries [] place number = (most : ℕ) × IsCallersReply size entries (caller_of Worker) number place (AsksSteps most)
+IsWorkedAt size entries [] place number = (most : ℕ) × (1 ≤ most) × (most ≤ 64) × IsCallersReply size entries (caller_of Worker) number place (AsksSteps most)
 IsWorkedAt size entries (first ∷ others) place number =
-    ((most : ℕ) × IsCallersReply size entries (caller_of Worker) number first (AsksSteps most)) × IsTrue (leaves_more_at entries first) × IsWorkedAt size entries others place (number + 1)
+    ((most : ℕ) × (1 ≤ most) × (most ≤ 64) × IsCallersReply size entries (caller_of Worker) number first (AsksSteps most)) × IsTrue (leaves_more_at entries first) × IsWorkedAt size entries others place (number + 1)
 
 -- after so many turns a worker ends, whatever is left
 abbrev pub most_turns : ℕ

@@ -4,8 +4,6 @@
 pub mod messages;
 pub mod nearest;
 pub mod scripts;
-#[cfg(test)]
-mod tests;
 
 pub use messages::{Message, push_marked, suggestion, told};
 pub use script::{Diagnosis, Mistake, diagnose_line};

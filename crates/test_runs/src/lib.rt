@@ -4,6 +4,8 @@
 #[cfg(test)]
 mod beside;
 #[cfg(test)]
+mod devices;
+#[cfg(test)]
 mod parts;
 #[cfg(test)]
 mod runs;

@@ -1,6 +1,6 @@
 use Rattle.std.proofs.Common.{◌≡◌, ℕ, ◌≤◌, sym, ◌∙◌, subst, Option, Some, IfSome, arith}
 use Rattle.lane_shared.specs.Worker.{done_in, left_behind}
-use Rattle.lane_shared.specs.Pace.{asked_by}
+use Rattle.lane_shared.specs.Pace.{Paces, asked_by}
 use Rattle.lane_shared.proofs.Done.{on}
 use Rattle.lane_shared.proofs.Turns.{first-turn, turn-more, if-more}
 use Rattle.lane_shared.proofs.worker.run_worker.Goals as goal
@@ -13,7 +13,7 @@ loop-turns-init g c =
       turn.lock,
       turn.later,
       turn.own,
-      first-turn g.S.Service.answered g.S.Service.carried (goal.F-post g (asked_by c.args.pace.now)) c.args.left turn.asked.0 c.args.pass c.take_turn-pass.result.0
+      first-turn g.S.Service.answered g.S.Service.carried (Paces (goal.F-post g (asked_by c.args.pace.now))) c.args.left turn.asked.0 c.args.pass c.take_turn-pass.result.0
           c.take_turn-pass.result.1 c.steps_done-done.result turn.asked.1 turn.asked.2 turn.later turn.asked.3 is,
       omega arith,
       omega arith,
@@ -35,7 +35,7 @@ loop-turns-preserved g c =
       turn.lock ∙ was.0,
       on (g.S.Service.carried c.args.pass) (g.S.Service.carried c.loop-turns.pass) (g.S.Service.carried c.take_turn-next.result.0) was.1 turn.later,
       turn.own,
-      turn-more g.S.Service.answered g.S.Service.carried (goal.F-post g (asked_by c.args.pace.now)) c.args.left c.in-Some.left turn.asked.0 c.args.pass c.loop-turns.pass
+      turn-more g.S.Service.answered g.S.Service.carried (Paces (goal.F-post g (asked_by c.args.pace.now))) c.args.left c.in-Some.left turn.asked.0 c.args.pass c.loop-turns.pass
           c.take_turn-next.result.0 (record { turns = c.loop-turns.turns; done = c.loop-turns.done; last = c.loop-turns.last })
           c.take_turn-next.result.1 c.steps_done-done-in-loop-turns.result more was.3 turn.asked.1 turn.asked.2 turn.later turn.asked.3 is,
       omega arith,

@@ -1,5 +1,5 @@
 use Rattle.std.proofs.Common.{◌≡◌, ◌+◌, ◌*◌, ◌≤◌, ◌^◌, IfSome, ◌-◌}
-use Rattle.lane_shared.specs.Pace.{asked_by}
+use Rattle.lane_shared.specs.Pace.{Paces, asked_by}
 use Rattle.lane_shared.specs.Carried.{GoesOn, IsOwn}
 use Rattle.lane_shared.specs.Worker.{left_behind, HasWorked}
 use Rattle.lane_shared.proofs.worker.run_worker.Given as goal
@@ -9,7 +9,7 @@ invariant-loop-turns g l =
     (g.S.Service.lock_of l.pass ≡ g.S.Service.lock_of l.fn.pass)
     × GoesOn g.S.Service.tells (g.S.Service.carried l.fn.pass) (g.S.Service.carried l.pass)
     × IsOwn (g.S.Service.carried l.pass)
-    × HasWorked g.S.Service.answered g.S.Service.carried (goal.F-post g (asked_by l.pace)) l.fn.left l.fn.pass l.pass (record { turns = l.turns; done = l.done; last = l.last })
+    × HasWorked g.S.Service.answered g.S.Service.carried (Paces (goal.F-post g (asked_by l.pace))) l.fn.left l.fn.pass l.pass (record { turns = l.turns; done = l.done; last = l.last })
     × (1 ≤ l.turns)
     × (l.turns ≤ 2 ^ 40)
     × (l.done ≤ 64 * l.turns)

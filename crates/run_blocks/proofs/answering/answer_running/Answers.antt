@@ -3,7 +3,7 @@ use Rattle.std.specs.Prelude.{IfOk, IfErr}
 use Rattle.lane_shared.specs.raid_types_the_NoMemory.{NoMemory}
 use Rattle.run_line_answers.specs.sb_specs_Reading.{list_length}
 use Rattle.lane_shared.specs.Blocks.{HasWorkedBy}
-use Rattle.lane_shared.specs.Pace.{asked_by}
+use Rattle.lane_shared.specs.Pace.{Paces, asked_by}
 use Rattle.run_line_answers.specs.array_Calls.{running_left}
 use Rattle.run_line_answers.specs.array_specs_Parts.{RunningParts}
 use Rattle.run_line_answers.specs.run_specs_the_Answered.{Answered}
@@ -40,7 +40,7 @@ returns-in-Ok-clause-answered g c =
     let together : Together = c.in-Ok.together in
     let ran_one = subst (λ (r : Result Together NoMemory). IfOk r (λ t. HasRunLane size old.parts.entries entries 1 (requests_in c.args.first.now) t.first.items)) c.in-Ok.is did.first in
     let ran_two = subst (λ (r : Result Together NoMemory). IfOk r (λ t. HasRunLane size old.parts.entries entries 2 (requests_in c.args.second.now) t.second.items)) c.in-Ok.is did.second in
-    let worked = subst (λ (r : Result Together NoMemory). IfOk r (λ t. HasWorkedBy (HasRunLane size old.parts.entries entries 255) (goal.F-post g (asked_by c.args.pace.now)) (running_left old) t.worked)) c.in-Ok.is did.worked in
+    let worked = subst (λ (r : Result Together NoMemory). IfOk r (λ t. HasWorkedBy (HasRunLane size old.parts.entries entries 255) (Paces (goal.F-post g (asked_by c.args.pace.now))) (running_left old) t.worked)) c.in-Ok.is did.worked in
     let counted : IsSizedBy size (list_length new.parts.members.newest) old.parts.entries entries = record { more = did.went.more; grown = did.went.grown; sized = did.went.sized } in
     let sized = (sized-now c.requires.own.sized counted).0 in
     let places = block_places (length c.args.first.now) (length c.args.second.now) together.first.items together.second.items together.worked.last in

@@ -4,6 +4,7 @@ use Rattle.run_scripts.specs.run_specs_Ended.{AreLegal, AreRight}
 use Rattle.run_scripts.specs.run_specs_Making.{setting_of}
 use Rattle.run_scripts.specs.Runs.{IsScriptPerformed, sunk_of}
 use Rattle.run_scripts.proofs.NothingDone.{none-legal, none-right, none-kept, none-ended, none-lost, same-faults, before-lines, short-before}
+use Rattle.run_scripts.proofs.Unfailed.{unfailed-epochs, none-unfailed, no-bad-line, well-ended}
 use Rattle.run_scripts.proofs.run_session_Unmoved.{grows-same}
 use Rattle.run_scripts.specs.history_monitor_Hooks.{wanted_by}
 use Rattle.run_command.proofs.words.run.Goals as goal
@@ -92,3 +93,12 @@ returns-in_default-clause-short g c six = absurd (omega (arith, c.nothing_done-i
 
 pub returns-in_default-clause-nothing : goal.returns-in_default-clause-nothing
 returns-in_default-clause-nothing g c before = record { lines_are = c.nothing_done-in_default.ensures.lines; epochs_are = c.nothing_done-in_default.ensures.epochs; taken = λ told. refl; shown = c.nothing_done-in_default.ensures.shown }
+
+pub returns-clause-unfailed : goal.returns-clause-unfailed
+returns-clause-unfailed g c none = unfailed-epochs (setting_of g.B.Bank.tells (g.B.Bank.given c.args.bank) (g.B.Bank.tape c.args.bank) (g.B.Bank.tape c.run_script.result.bank) c.backup_of-backup.result (g.B.Bank.faults_of c.args.bank) (g.B.Bank.faults_of c.run_script.result.bank)) none c.run_script.result.epochs.items c.run_script.ensures.losses
+
+pub returns-in-Err-clause-unfailed : goal.returns-in-Err-clause-unfailed
+returns-in-Err-clause-unfailed g c none = none-unfailed c.nothing_done.result.epochs.items c.nothing_done.ensures.epochs
+
+pub returns-in_default-clause-unfailed : goal.returns-in_default-clause-unfailed
+returns-in_default-clause-unfailed g c none = none-unfailed c.nothing_done-in_default.result.epochs.items c.nothing_done-in_default.ensures.epochs

@@ -1,6 +1,6 @@
 //! Lines as people get them wrong, and what they are told.
 
-use crate::{Reason, diagnose_line, diagnose_script, push_marked, told};
+use script_mistakes::{Reason, diagnose_line, diagnose_script, push_marked, told};
 use std::alloc::Global;
 use std::process::Abort;
 use std::test::Fail;

@@ -1,0 +1,5 @@
+//! Tests of `script_mistakes`.
+#![tactic(auto)]
+
+#[cfg(test)]
+mod told;
