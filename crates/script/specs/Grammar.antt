@@ -45,7 +45,7 @@ abbrev pub create_of : List (List ℕ) → Option Line
 create_of [] = None
 create_of (uuid ∷ words) = if list_all (has_key create_keys) words then array_of uuid words else None
 
--- `array_create_assemble` or `assemble UUID`
+-- `assemble` or `assemble UUID`
 abbrev pub assemble_of : List (List ℕ) → Option Line
 assemble_of [] = Some (Assemble None)
 assemble_of (uuid ∷ []) = option_map (λ bytes. Assemble (Some bytes)) (parsed uuid)
