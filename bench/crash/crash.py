@@ -3,10 +3,12 @@
 
 import argparse
 import collections
+import itertools
 import multiprocessing
 import os
 import random
 import shutil
+import subprocess
 import sys
 import tempfile
 import time
@@ -33,7 +35,7 @@ class Case:
         self.mixed(rng.randint(0, 5), steps=False)
         self.reshape(inner)
         if kind == "twice":
-            self.lines.append(("wait",))
+            self.lines += [("wait",), ("array-size", "max")]
             self.length = self.shape.data() * self.size
             self.mixed(rng.randint(0, 3), steps=False)
             self.reshape(rng.choice(KINDS[:4]))
@@ -222,8 +224,8 @@ def chooser(rng, backup):
 
 
 class Explorer:
-    def __init__(self, place, options):
-        self.place, self.options = place, options
+    def __init__(self, place, options, kind):
+        self.place, self.options, self.kind = place, options, kind
         self.counts = collections.Counter()
         self.wrong = []
 
@@ -262,6 +264,8 @@ class Explorer:
             chain[0] = (f"{chain[0][0]} {settings}", lines)
         run = self.place.run(text, slots, "backup", settings)
         self.counts["runs"] += 1
+        if self.options.beside and not settings and self.kind != "lanes":
+            self.compare(chain, files, slots, text, run)
         if run.status not in (0, 1):
             self.tell(chain, ("status", [f"status {run.status}: {run.said}"]), files)
             return
@@ -322,6 +326,28 @@ class Explorer:
         for at, line, begun, (image, taken, away, how) in crashes:
             title = f"cut at {at} of {len(records)}, in line {line + 1}, {how}"
             self.judge(rng, chain, title, image, slots, begun, taken, depth - 1, away)
+
+    def compare(self, chain, files, slots, text, run):
+        """Runs the same lines by another program over the same files, and compares replies and superblocks."""
+        found = self.place.get(slots)
+        self.place.put(files)
+        with open(self.place.path("script"), "w") as file:
+            file.write(text)
+        words = self.options.beside.split() + ["run", "--backup", "backup", "script"] + slots
+        other = subprocess.run(words, cwd=self.place.folder, capture_output=True, timeout=120)
+        self.counts["runs beside another program"] += 1
+        theirs = other.stdout.decode().split("\n")[:-1]
+        pairs = list(itertools.zip_longest(run.replies, theirs))
+        if theirs != run.replies:
+            at = next(at for at, (one, two) in enumerate(pairs) if one != two)
+            self.tell(chain, ("beside", [f"reply {at + 1}: {pairs[at][0]}, where the other program answers {pairs[at][1]}"]), files)
+        else:
+            heads = slice(8 * SECTOR, 10 * SECTOR)
+            content = self.place.get(slots)
+            differ = [name for name in slots if found[name][heads] != content[name][heads]]
+            if differ:
+                self.tell(chain, ("beside", [f"the superblocks of {differ} differ from the other program's"]), files)
+        self.place.put(found)
 
     def images(self, rng, disks, slots, ended, gone, uneven):
         """One image of these disks. In a share of the cases members are taken away, in all where the run has ended; or in a share of them those
@@ -401,7 +427,7 @@ def explore_seed(task):
     rng = random.Random(f"{seed} {kind}")
     folder = tempfile.mkdtemp(prefix="crash.", dir=options.folder)
     try:
-        explorer = Explorer(runs.Place(folder, options.program, options.library), options)
+        explorer = Explorer(runs.Place(folder, options.program, options.library), options, kind)
         case = Case(rng, kind)
         files = {name: bytes(count * SECTOR) for name, count in case.files.items()}
         chain = [(f"{kind}-{seed}", case.lines)]
@@ -423,6 +449,7 @@ def main():
     parser.add_argument("--away", type=float, default=0.2, help="the share of images without a member or two")
     parser.add_argument("--back", type=float, default=0.3, help="where members were taken away, the share of later images in which they are back")
     parser.add_argument("--waits", type=float, default=0.5, help="the share of runs that go on to the end")
+    parser.add_argument("--beside", help="another program and its first words, which is given the same files and lines, and must answer the same")
     parser.add_argument("--uneven", action="store_true", help="take members away also where they alone knew of an update before the run")
     parser.add_argument("--pretend", choices=["syncs", "headers", "sections"], help="leave out one sync in two, or each header or section")
     parser.add_argument("--jobs", type=int, default=2)

@@ -315,7 +315,7 @@ class Model:
         number = int(reply.split()[1])
         if line[0] == "write" and number == 2:
             self._write(*line[1:], False)
-        if self.faulty or number in (2, 3, 11, 15) and self.missing:
+        if self.faulty or number in (2, 3, 5, 11, 15) and self.missing:
             return []
         if number == 19 and line[0] == "step" and self.left <= (self.plan["window"] if self.plan and self.wrote else 0):
             self._stepped(0)

@@ -112,7 +112,7 @@ class Tried:
             if wrong:
                 self.counts["wrong"] += 1
                 print(f"WRONG {self.name}, call {number} {settings}: {'; '.join(wrong[:3])}")
-            number += 1
+            number += self.options.every
         told = ", ".join(f"{what} {count}" for what, count in sorted(self.counts.items()))
         print(f"{self.name}, {' '.join(settings) or 'one call'}: {told}", flush=True)
         wrong, self.counts = self.counts["wrong"], collections.Counter()
@@ -228,6 +228,7 @@ def main():
     parser = argparse.ArgumentParser(description=__doc__)
     parser.add_argument("--program", help="the program, that of the gate if none is named")
     parser.add_argument("--scripts", default="", help="some of the scripts, by name, with commas between")
+    parser.add_argument("--every", type=int, default=1, help="let only each so many-th call fail")
     parser.add_argument("--pieces", action="store_true", help="short and interrupted calls alone")
     parser.add_argument("--pretend", choices=["silent"], help="what fails isn't done, but answers as if it were")
     options = parser.parse_args()

@@ -1,8 +1,9 @@
-use Rattle.std.proofs.Common.{◌≡◌, ◌≢◌, ℕ, ◌≤◌, ◌<◌, List, [], ◌∷◌, ◌++◌, Option, None, Some, MatchOption, IfSome, IsOk, Result, Ok, Err, inl, inr, ◌⊎◌, sym, ◌∙◌, ap, subst, arith}
+use Rattle.std.proofs.Common.{◌≡◌, ◌≢◌, ℕ, ◌≤◌, ◌<◌, true, List, [], ◌∷◌, ◌++◌, Option, None, Some, MatchOption, IfSome, IsOk, Result, Ok, Err, inl, inr, ◌⊎◌, sym, ◌∙◌, ap, subst, arith}
 use Rattle.std.specs.List.{All}
+use Rattle.std.proofs.lemmas.Bool.{cases_lt}
 use Rattle.std.proofs.lemmas.List.{append_cancel_right}
 use Rattle.std.proofs.lemmas.List.Elements.{All-nil, All-cons, All-head, All-tail}
-use Rattle.run_session.specs.bank_Given.{IsFaulted}
+use Rattle.history_reopen_laws.specs.bank_Given.{IsFaulted}
 use Rattle.run_session.specs.script_io_Causes.{HasRisen}
 use Rattle.script_demo.specs.script_Script.{script_with}
 use Rattle.history_reopen_laws.specs.raid_types_the_Refusal.{Refusal}
@@ -74,16 +75,16 @@ no-bad-line demo old new text line told is good bad =
 pub well-ended : (status : ℕ) → status ≤ 6 → (status ≡ 2 → ⊥) → (status ≡ 4 → ⊥) → (status ≡ 5 → ⊥) → (status ≤ 1) ⊎ (status ≡ 3) ⊎ (status ≡ 6)
 well-ended status few words source sink = elim (cases_lt 1 status) [
   | inl more ↦ elim (cases_lt status 3) [
-    | inl two ↦ absurd (words (exact (omega (arith, more, two))))
+    | inl two ↦ absurd (words (omega (arith, more, two)))
     | inr three ↦ elim (cases_lt 3 status) [
       | inl past ↦ elim (cases_lt status 6) [
         | inl below ↦ elim (cases_lt status 5) [
-          | inl four ↦ absurd (source (exact (omega (arith, past, four))))
-          | inr five ↦ absurd (sink (exact (omega (arith, below, five))))
+          | inl four ↦ absurd (source (omega (arith, past, four)))
+          | inr five ↦ absurd (sink (omega (arith, below, five)))
         ]
-        | inr six ↦ inr (inr (exact (omega (arith, few, six))))
+        | inr six ↦ inr (inr (omega (arith, few, six)))
       ]
-      | inr here ↦ inr (inl (exact (omega (arith, three, here))))
+      | inr here ↦ inr (inl (omega (arith, three, here)))
     ]
   ]
   | inr one ↦ inl one

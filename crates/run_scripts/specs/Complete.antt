@@ -1,7 +1,7 @@
 -- What a run tells and how it ends where nothing failed.
-use Rattle.std.specs.Prelude.{◌≡◌, ◌≢◌, ◌⊎◌, ℕ, ◌≤◌, List, Option, IfSome, IsOk, ⊤}
+use Rattle.std.specs.Prelude.{◌≡◌, ◌≢◌, ◌⊎◌, ℕ, ◌≤◌, true, List, Option, IfSome, IsOk, ⊤}
 use Rattle.std.specs.List.{All}
-use Rattle.run_session.specs.bank_Given.{IsFaulted}
+use Rattle.history_reopen_laws.specs.bank_Given.{IsFaulted}
 use Rattle.run_session.specs.script_io_Causes.{HasRisen}
 use Rattle.script_demo.specs.script_Script.{script_with}
 use Rattle.history_reopen_laws.specs.raid_types_the_Refusal.{Refusal}

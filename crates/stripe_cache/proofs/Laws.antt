@@ -8,18 +8,8 @@ use Rattle.raid_types.specs.declared.places.Side.{Side}
 use Rattle.raid_types.specs.declared.places.Side.TheVariants.{Old, New}
 use Rattle.stripe_cache.specs.declared.cached.Cached.{Cached}
 use Rattle.stripe_cache.specs.Rows.{Rows, same_side, is_row, is_delayed, held_row, without, used, kept, pushed_out, if_delayed, leaving}
+use Rattle.stripe_cache.specs.Apart.{IsApart, IsCache}
 use Rattle.stripe_cache.proofs.Views.{without-none}
-
--- no row has one of the same side and number behind it
-abbrev pub IsApart : List Cached → Type 0
-IsApart [] = Unit {0}
-IsApart (cached ∷ rows) = (find (is_row cached.side cached.row) rows ≡ None) × IsApart rows
-
--- each row stands once, and there are at most as many as there may be
-pub record IsCache (rows : Rows) : Type 0 where
-  pub apart : IsApart rows.held
-  pub fits : length rows.held ≤ rows.room
-  pub some : 0 < rows.room
 
 -- names of rows
 side_true : (a b : Side) → same_side a b ≡ true → a ≡ b
@@ -147,7 +137,7 @@ stays p s r (c ∷ cs) d found name = by_bool (find (is_row s r) (without p (c �
     (λ t. let later : find p cs ≡ Some d = sym (find-later p c cs t) ∙ found in
     ap (λ xs. find (is_row s r) xs) (without-later p c cs t) ∙ ap (λ o. cond (is_row s r c) (Some c) o) (stays p s r cs d later name))
 
-length_without : (p : Cached → Bool) (cs : List Cached) (d : Cached) → find p cs ≡ Some d → suc (length (without p cs)) ≡ length cs
+pub length_without : (p : Cached → Bool) (cs : List Cached) (d : Cached) → find p cs ≡ Some d → suc (length (without p cs)) ≡ length cs
 length_without p [] d found = absurd (cc)
 length_without p (c ∷ cs) d found = by_bool (suc (length (without p (c ∷ cs))) ≡ length (c ∷ cs)) (p c)
     (λ t. ap (λ xs. suc (length xs)) (without-here p c cs t))
@@ -283,23 +273,23 @@ IsCache-kept cached rows cache = by_row (held_row cached.side cached.row rows) r
           some = cache.some;
         }
 
--- a row that is taken out is gone, and the others stay
-pub held_row-taken : (rows : Rows) → IsCache rows → (d : Cached) → find is_delayed rows.held ≡ Some d
-    → held_row d.side d.row (record rows { held = without is_delayed rows.held }) ≡ None
-held_row-taken rows cache d found = gone is_delayed d.side d.row rows.held d cache.apart found (is_row-self d)
+-- a row that is taken out by any test is gone, and the others stay
+pub held_row-without : (p : Cached → Bool) (rows : Rows) → IsCache rows → (d : Cached) → find p rows.held ≡ Some d
+    → held_row d.side d.row (record rows { held = without p rows.held }) ≡ None
+held_row-without p rows cache d found = gone p d.side d.row rows.held d cache.apart found (is_row-self d)
 
-pub held_row-taken_other : (rows : Rows) (d : Cached) → find is_delayed rows.held ≡ Some d → (s : Side) (r : ℕ) → is_row s r d ≡ false
-    → held_row s r (record rows { held = without is_delayed rows.held }) ≡ held_row s r rows
-held_row-taken_other rows d found s r name = stays is_delayed s r rows.held d found name
+pub held_row-without_other : (p : Cached → Bool) (rows : Rows) (d : Cached) → find p rows.held ≡ Some d → (s : Side) (r : ℕ) → is_row s r d ≡ false
+    → held_row s r (record rows { held = without p rows.held }) ≡ held_row s r rows
+held_row-without_other p rows d found s r name = stays p s r rows.held d found name
 
-pub IsCache-taken : (rows : Rows) → IsCache rows → IsCache (record rows { held = without is_delayed rows.held })
-IsCache-taken rows cache = by_row (find is_delayed rows.held) refl
+pub IsCache-without : (p : Cached → Bool) (rows : Rows) → IsCache rows → IsCache (record rows { held = without p rows.held })
+IsCache-without p rows cache = by_row (find p rows.held) refl
   where
-    by_row : (o : Option Cached) → find is_delayed rows.held ≡ o → IsCache (record rows { held = without is_delayed rows.held })
-    by_row None none = subst (λ held. IsCache (record rows { held = held })) (sym (without-none is_delayed rows.held none)) cache
+    by_row : (o : Option Cached) → find p rows.held ≡ o → IsCache (record rows { held = without p rows.held })
+    by_row None none = subst (λ held. IsCache (record rows { held = held })) (sym (without-none p rows.held none)) cache
     by_row (Some d) found =
-        let n : suc (length (without is_delayed rows.held)) ≡ length rows.held = length_without is_delayed rows.held d found in
-        record { apart = apart_without is_delayed rows.held cache.apart; fits = omega (arith, n, cache.fits); some = cache.some }
+        let n : suc (length (without p rows.held)) ≡ length rows.held = length_without p rows.held d found in
+        record { apart = apart_without p rows.held cache.apart; fits = omega (arith, n, cache.fits); some = cache.some }
 
 -- where none is delayed, no row that is held is
 pub delayed-none : (rows : Rows) → find is_delayed rows.held ≡ None → (s : Side) (r : ℕ) (d : Cached) → held_row s r rows ≡ Some d → is_delayed d ≡ false

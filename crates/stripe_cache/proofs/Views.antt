@@ -1,10 +1,10 @@
 -- A cache's rows against its entries.
-use Rattle.std.proofs.Common.{◌≡◌, ℕ, ◌-◌, ◌==◌, Bool, true, false, cond, not, if◌then◌else◌, List, [], ◌∷◌, length, take, map, Option, Some, None, IfSome, ◌*◌, refl, sym, ap, ap₂, ◌∙◌, subst, arith, bit_or, slice_get}
+use Rattle.std.proofs.Common.{◌≡◌, ℕ, ◌-◌, ◌==◌, Bool, true, false, cond, not, if◌then◌else◌, List, [], ◌∷◌, length, take, map, Option, Some, None, is_some, IfSome, ◌*◌, refl, sym, ap, ap₂, ◌∙◌, subst, arith, bit_or, slice_get}
 use Rattle.std.specs.Option.{option_map, option_map_or}
 use Rattle.std.specs.List.{find, IsDistinct, AllByRecursion}
 use Rattle.std.specs.Map.{keys_of, lookup, lookup_entry, remove_entry, set_value}
 use Rattle.std.proofs.lemmas.Map.Keys.{IsDistinct-head, IsDistinct-tail}
-use Rattle.std.proofs.lemmas.List.{take-map}
+use Rattle.std.proofs.lemmas.List.{take-map, length-map}
 use Rattle.std.proofs.lemmas.Option.{slice_get-map}
 use Rattle.std.proofs.lemmas.Bool.Decides.{nat_tests}
 use Rattle.lru.proofs.CallerLemmas.{Contains-lookup_entry}
@@ -275,23 +275,6 @@ key_parts false m = refl
 pub key_of-cached_of : (e : Key × HeldRow) → key_of (cached_of e).side (cached_of e).row ≡ e.0
 key_of-cached_of e = key_parts e.0.is_new e.0.row
 
-delayed-true : (e : Key × HeldRow) → (e.1.changed ≡ 0 → ⊥) → is_delayed (cached_of e) ≡ true
-delayed-true e h = by_count e.1.changed h
-  where
-    by_count : (n : ℕ) → (n ≡ 0 → ⊥) → not (n == 0) ≡ true
-    by_count n h = grind (arith, nat_tests)
-
--- an entry in front that is delayed is the first one
-pub first_found : (k : Key) (h : HeldRow) (rest es : List (Key × HeldRow)) (found : Option Cached) → es ≡ (k, h) ∷ rest
-    → find is_delayed (map cached_of es) ≡ found → (h.changed ≡ 0 → ⊥) → Some k ≡ option_map (λ row. key_of row.side row.row) found
-first_found k h rest es found e f changed =
-    ap (λ k. Some k) (sym (key_of-cached_of (k, h)))
-    ∙ ap (λ o. option_map (λ row. key_of row.side row.row) o)
-    (sym (front (is_delayed (cached_of (k, h))) (cached_of (k, h)) (map cached_of rest) (delayed-true (k, h) changed)) ∙ ap (λ es. find is_delayed (map cached_of es)) (sym e) ∙ f)
-  where
-    front : (b : Bool) (c : Cached) (cs : List Cached) → b ≡ true → cond b (Some c) (find is_delayed cs) ≡ Some c
-    front b c cs t = rw t refl
-
 -- no key stands twice
 all_at : (P : Key → Type 0) (test : Key → Bool) (es : List (Key × HeldRow)) (e : Key × HeldRow) → AllByRecursion P (keys_of es) → lookup_entry test es ≡ Some e → P e.0
 all_at P test [] e all h = absurd (cc)
@@ -360,24 +343,24 @@ without-none p (c ∷ cs) h = by_test (p c) h (λ h. without-none p cs h)
     by_test true h further = absurd (cc)
     by_test false h further = ap (λ cs. c ∷ cs) (further h)
 
--- the entry of the first delayed row, by its key
-pub record IsTaken (key : Key) (old : LruCache Key HeldRow) (rows : Rows) : Type 0 where
+-- the entry of the first row that passes, by its key
+pub record IsTaken (p : Cached → Bool) (key : Key) (old : LruCache Key HeldRow) (rows : Rows) : Type 0 where
   pub entry : Key × HeldRow
   pub found : lookup_entry (same_key key) old.entries ≡ Some entry
-  pub row : find is_delayed rows.held ≡ Some (cached_of entry)
-  pub rest : rows_of (remove_entry (same_key key) old.entries) old.cap ≡ record rows { held = without is_delayed rows.held }
+  pub row : find p rows.held ≡ Some (cached_of entry)
+  pub rest : rows_of (remove_entry (same_key key) old.entries) old.cap ≡ record rows { held = without p rows.held }
 
-pub taken : (key : Key) (old : LruCache Key HeldRow) (rows : Rows) → rows_of old.entries old.cap ≡ rows → IsDistinct same_key (keys_of old.entries)
-    → Some key ≡ option_map (λ row. key_of row.side row.row) (find is_delayed rows.held) → IsTaken key old rows
-taken key old rows rows_is distinct key_is =
-    subst (λ rows. Some key ≡ option_map (λ row. key_of row.side row.row) (find is_delayed rows.held) → IsTaken key old rows) rows_is
-    (λ e. by_row (find is_delayed (map cached_of old.entries)) refl e) key_is
+pub taken : (p : Cached → Bool) (key : Key) (old : LruCache Key HeldRow) (rows : Rows) → rows_of old.entries old.cap ≡ rows → IsDistinct same_key (keys_of old.entries)
+    → Some key ≡ option_map (λ row. key_of row.side row.row) (find p rows.held) → IsTaken p key old rows
+taken p key old rows rows_is distinct key_is =
+    subst (λ rows. Some key ≡ option_map (λ row. key_of row.side row.row) (find p rows.held) → IsTaken p key old rows) rows_is
+    (λ e. by_row (find p (map cached_of old.entries)) refl e) key_is
   where
-    by_row : (o : Option Cached) → find is_delayed (map cached_of old.entries) ≡ o → Some key ≡ option_map (λ row. key_of row.side row.row) o
-        → IsTaken key old (rows_of old.entries old.cap)
+    by_row : (o : Option Cached) → find p (map cached_of old.entries) ≡ o → Some key ≡ option_map (λ row. key_of row.side row.row) o
+        → IsTaken p key old (rows_of old.entries old.cap)
     by_row None found e = absurd (cc)
     by_row (Some row) found e =
-        let entry : IsEntry is_delayed old.entries row = find-entry is_delayed old.entries row distinct found in
+        let entry : IsEntry p old.entries row = find-entry p old.entries row distinct found in
         let same : key ≡ key_of row.side row.row = cc in
         let key_is : key ≡ entry.entry.0 = same ∙ ap (λ row. key_of row.side row.row) entry.is ∙ key_of-cached_of entry.entry in
         record {
@@ -388,13 +371,46 @@ taken key old rows rows_is distinct key_is =
               ∙ ap (λ held. let rows : Rows = record { held = held; room = old.cap } in rows) (sym entry.rest);
         }
 
--- no key, no delayed row
-pub untaken : (rows : Rows) → option_map (λ row. key_of row.side row.row) (find is_delayed rows.held) ≡ None
-    → (find is_delayed rows.held ≡ None) × (rows ≡ record rows { held = without is_delayed rows.held })
-untaken rows h =
-    let none : find is_delayed rows.held ≡ None = by_row (find is_delayed rows.held) h in
-    (none, ap (λ held. record rows { held = held }) (sym (without-none is_delayed rows.held none)))
+-- no key, no such row
+pub untaken : (p : Cached → Bool) (rows : Rows) → option_map (λ row. key_of row.side row.row) (find p rows.held) ≡ None
+    → (find p rows.held ≡ None) × (rows ≡ record rows { held = without p rows.held })
+untaken p rows h =
+    let none : find p rows.held ≡ None = by_row (find p rows.held) h in
+    (none, ap (λ held. record rows { held = held }) (sym (without-none p rows.held none)))
   where
     by_row : (o : Option Cached) → option_map (λ row. key_of row.side row.row) o ≡ None → o ≡ None
     by_row None e = refl
     by_row (Some row) e = absurd (cc)
+
+-- an entry in front that passes is the first one
+pub first-passes : (p : Cached → Bool) (k : Key) (h : HeldRow) (rest es : List (Key × HeldRow)) (found : Option Cached) → es ≡ (k, h) ∷ rest
+    → find p (map cached_of es) ≡ found → p (cached_of (k, h)) ≡ true → Some k ≡ option_map (λ row. key_of row.side row.row) found
+first-passes p k h rest es found e f passes =
+    ap (λ k. Some k) (sym (key_of-cached_of (k, h)))
+    ∙ ap (λ o. option_map (λ row. key_of row.side row.row) o)
+    (sym (front (p (cached_of (k, h))) (cached_of (k, h)) (map cached_of rest) passes) ∙ ap (λ es. find p (map cached_of es)) (sym e) ∙ f)
+  where
+    front : (b : Bool) (c : Cached) (cs : List Cached) → b ≡ true → cond b (Some c) (find p cs) ≡ Some c
+    front b c cs t = rw t refl
+
+-- one that doesn't is passed over
+pub first-later : (p : Cached → Bool) (k : Key) (h : HeldRow) (rest es : List (Key × HeldRow)) (found : Option Cached) → es ≡ (k, h) ∷ rest
+    → find p (map cached_of es) ≡ found → p (cached_of (k, h)) ≡ false → find p (map cached_of rest) ≡ found
+first-later p k h rest es found e f fails =
+    sym (front (p (cached_of (k, h))) fails) ∙ ap (λ es. find p (map cached_of es)) (sym e) ∙ f
+  where
+    front : (b : Bool) → b ≡ false → cond b (Some (cached_of (k, h))) (find p (map cached_of rest)) ≡ find p (map cached_of rest)
+    front b t = rw t refl
+
+-- whether a row is held, by its key
+pub held-is : (side : Side) (row : ℕ) (key : Key) (es : List (Key × HeldRow)) (cap : ℕ) (rows : Rows) → key ≡ key_of side row → rows_of es cap ≡ rows
+    → is_some (lookup (same_key key) es) ≡ is_some (held_row side row rows)
+held-is side row key es cap rows key_is rows_is = by_value (lookup (same_key key) es) refl
+  where
+    by_value : (o : Option HeldRow) → lookup (same_key key) es ≡ o → is_some o ≡ is_some (held_row side row rows)
+    by_value None e = sym (ap (λ o. is_some o) (none_in side row key es cap rows key_is rows_is e))
+    by_value (Some held) e = sym (ap (λ o. is_some o) (found_in side row key es cap rows key_is rows_is held e).is)
+
+-- how many rows are held
+pub held-count : (es : List (Key × HeldRow)) (cap : ℕ) (rows : Rows) → rows_of es cap ≡ rows → length rows.held ≡ length es
+held-count es cap rows rows_is = ap (λ rows. length rows.held) (sym rows_is) ∙ length-map es cached_of

@@ -1,10 +1,12 @@
 -- The rows of a cache, and what its calls do with them.
-use Rattle.std.specs.Prelude.{ℕ, ◌-◌, ◌==◌, Bool, true, false, not, ◌&&◌, if◌then◌else◌, List, [], ◌∷◌, take, slice_get, Option, Some, None, bit_or}
+use Rattle.std.specs.Prelude.{ℕ, ◌-◌, ◌==◌, nat_le, nat_lt, Bool, true, false, not, ◌&&◌, if◌then◌else◌, List, [], ◌∷◌, take, slice_get, Option, Some, None, bit_or}
 use Rattle.std.specs.Option.{option_map_or}
 use Rattle.std.specs.List.{find}
 use Rattle.raid_types.specs.declared.places.Side.{Side}
 use Rattle.raid_types.specs.declared.places.Side.TheVariants.{Old, New}
 use Rattle.stripe_cache.specs.declared.cached.Cached.{Cached}
+use Rattle.stripe_cache.specs.declared.cached.Delayed.{Delayed}
+use Rattle.stripe_cache.specs.declared.cached.Delayed.TheVariants.{Anywhere, Within}
 
 -- the rows that are held, the last used one first, and how many there may be
 pub record Rows : Type 0 where
@@ -24,6 +26,11 @@ is_row side row cached = same_side side cached.side && (row == cached.row)
 -- some roles are changed and not written yet
 abbrev pub is_delayed : Cached → Bool
 is_delayed cached = not (cached.changed == 0)
+
+-- it is one of the delayed rows that are meant
+abbrev pub is_meant : Delayed → Cached → Bool
+is_meant Anywhere cached = is_delayed cached
+is_meant (Within side rows) cached = is_delayed cached && same_side side cached.side && nat_le rows.lo cached.row && nat_lt cached.row rows.hi
 
 -- the row, where it is held
 abbrev pub held_row : Side → ℕ → Rows → Option Cached

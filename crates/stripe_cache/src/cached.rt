@@ -1,6 +1,6 @@
 //! A row of a cache.
 
-use raid_types::{Sectors, Side};
+use raid_types::{Sectors, Side, Span};
 
 /// One row, its sectors role after role, with the set of its changed roles: role r by the bit r.
 #[derive(Drop)]
@@ -17,4 +17,11 @@ pub enum Kept {
     Here,
     Evicted(Cached),
     NoMemory,
+}
+
+/// Which delayed rows are meant: all, or those of one side from row `lo` up to row `hi`.
+#[derive(Clone, Copy)]
+pub enum Delayed {
+    Anywhere,
+    Within(Side, Span),
 }

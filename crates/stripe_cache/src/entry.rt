@@ -1,10 +1,10 @@
 //! The row of an entry.
 
 ghost use Rattle.std.specs.Prelude.{◌≡◌, MatchOption, option_map};
-ghost use Rattle.stripe_cache.specs.Rows.{if_delayed};
+ghost use Rattle.stripe_cache.specs.Rows.{if_delayed, is_meant};
 ghost use Rattle.stripe_cache.specs.View.{cached_of};
 
-use crate::cached::{Cached, Kept};
+use crate::cached::{Cached, Delayed, Kept};
 use crate::key::{Held, Key};
 
 /// The row of this key.
@@ -34,5 +34,18 @@ pub fn without_entry(gone: Option<(Key, Held)>) -> Kept
             }
         }
         None => Kept::Here,
+    }
+}
+
+/// Whether the entry is one of the delayed rows that are meant.
+pub fn is_meant(key: Key, held: &Held, which: Delayed) -> bool
+    ensures { result ≡ is_meant which (cached_of (key, held.now)) }
+{
+    let is_delayed = held.changed() != 0;
+    match which {
+        Delayed::Anywhere => is_delayed,
+        Delayed::Within(side, rows) => {
+            is_delayed && key.is_on(side) && rows.lo <= key.row && key.row < rows.hi
+        }
     }
 }

@@ -1,6 +1,7 @@
 //! What a row is found by, and what is kept of it.
 
 ghost use Rattle.std.specs.Prelude.{◌≡◌, ◌*◌, length, bit_or, if◌then◌else◌, IfOk};
+ghost use Rattle.stripe_cache.specs.Rows.{same_side};
 ghost use Rattle.raid_types.specs.Sectors.{sectors_of, IsWhole};
 
 use raid_types::{Sectors, Side};
@@ -89,5 +90,15 @@ impl Key {
         ensures { result ≡ (if self.is_new then Side.New else Side.Old) }
     {
         if self.is_new { Side::New } else { Side::Old }
+    }
+
+    /// Whether the row is one of this side.
+    pub fn is_on(self, side: Side) -> bool
+        ensures { result ≡ same_side side (if self.is_new then Side.New else Side.Old) }
+    {
+        match side {
+            Side::Old => !self.is_new,
+            Side::New => self.is_new,
+        }
     }
 }

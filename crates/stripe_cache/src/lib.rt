@@ -7,7 +7,4 @@ mod entry;
 mod key;
 
 pub use cache::Cache;
-pub use cached::{Cached, Kept};
-
-#[cfg(test)]
-mod tests;
+pub use cached::{Cached, Delayed, Kept};

@@ -2,7 +2,7 @@ use Rattle.std.proofs.Common.{ℕ, Option, map, string_bytes, length, inr, refl,
 use Rattle.script_argv.specs.Words.{demo_in, backup_in}
 use Rattle.run_scripts.specs.run_specs_Ended.{AreLegal, AreRight}
 use Rattle.run_scripts.specs.run_specs_Making.{setting_of}
-use Rattle.run_scripts.specs.Runs.{IsScriptPerformed, sunk_of}
+use Rattle.run_scripts.specs.Runs.{IsScriptPerformed, IsScriptBad, sunk_of}
 use Rattle.run_scripts.proofs.NothingDone.{none-legal, none-right, none-kept, none-ended, none-lost, same-faults, before-lines, short-before}
 use Rattle.run_scripts.proofs.Unfailed.{unfailed-epochs, none-unfailed, no-bad-line, well-ended}
 use Rattle.run_scripts.proofs.run_session_Unmoved.{grows-same}
@@ -102,3 +102,13 @@ returns-in-Err-clause-unfailed g c none = none-unfailed c.nothing_done.result.ep
 
 pub returns-in_default-clause-unfailed : goal.returns-in_default-clause-unfailed
 returns-in_default-clause-unfailed g c none = none-unfailed c.nothing_done-in_default.result.epochs.items c.nothing_done-in_default.ensures.epochs
+
+pub returns-clause-ends_well : goal.returns-clause-ends_well
+returns-clause-ends_well g c commanded source sink = record {
+  status_is = well-ended c.run_script.result.status c.run_script.ensures.status
+      (λ two. absurd (let none = two in omega (arith, two, c.run_script.ensures.status)))
+      (λ four. source (c.run_script.ensures.read_fault four))
+      (λ five. sink (c.run_script.ensures.write_fault five));
+  script = λ told text read good three. no-bad-line (demo_in (map string_bytes c.args.words.now)) (g.S.Source.left c.args.script.now) (g.S.Source.left c.run_script.new.script) text c.run_script.result.bad_line told read good
+      (subst (λ (demo : Option ℕ). IsScriptBad demo g.S.Source.tells (g.S.Source.left c.args.script.now) (g.S.Source.left c.run_script.new.script) c.run_script.result.bad_line) c.demo_of-demo.ensures.demo (c.run_script.ensures.bad_line three));
+}

@@ -2,8 +2,10 @@ use Rattle.std.proofs.Common.{◌≡◌, ℕ, List, is_some, None, MatchOption, 
 use Rattle.raid_types.specs.Sectors.{sectors_of}
 use Rattle.raid_types.specs.declared.places.Side.{Side}
 use Rattle.stripe_cache.specs.HeldRow.{HeldRow}
+use Rattle.stripe_cache.specs.Apart.{IsCache}
 use Rattle.stripe_cache.specs.Rows.{Rows, held_row, used}
 use Rattle.stripe_cache.specs.View.{rows_of}
+use Rattle.stripe_cache.proofs.Laws.{IsCache-used}
 use Rattle.stripe_cache.proofs.Views.{IsFound, found_in, none_in, used_in, found_length}
 use Rattle.stripe_cache.proofs.cache.Cache.look.Goals as goal
 use Rattle.stripe_cache.proofs.cache.Cache.look.Goals.{in-Some, in-None}
@@ -51,3 +53,11 @@ returns-clause-rows c =
       | in-Some w ↦ ap (λ inside. rows_of inside.rows.entries inside.rows.cap) w.self-inside-is ∙ moved
       | in-None w ↦ ap (λ inside. rows_of inside.rows.entries inside.rows.cap) w.self-inside-is ∙ moved
     ]
+
+pub returns-clause-cache : goal.returns-clause-cache
+returns-clause-cache c =
+    subst IsCache (sym (returns-clause-rows c)) (IsCache-used c.args.side c.args.row c.args.self.now (subst IsCache c.self.view_is c.self.invariant))
+
+pub invariant_of-self : goal.invariant_of-self
+invariant_of-self c =
+    subst IsCache (sym (returns-clause-rows c)) (IsCache-used c.args.side c.args.row c.args.self.now (subst IsCache c.self.view_is c.self.invariant))

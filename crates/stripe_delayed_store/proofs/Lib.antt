@@ -1,0 +1,12 @@
+pub mod RowLaws
+pub mod StoredLaws
+pub use Rattle.sb_safe_updates.proofs.array_members_Fit
+pub use Rattle.sb_safe_updates.proofs.array_members_HeldRows
+pub use Rattle.sb_safe_updates.proofs.array_members_LackingLaws
+pub use Rattle.sb_safe_updates.proofs.array_members_LackingLists
+pub use Rattle.sb_safe_updates.proofs.array_members_LackingWrites
+pub use Rattle.sb_safe_updates.proofs.array_members_MovedLaws
+pub use Rattle.sb_safe_updates.proofs.array_members_SafeStretch
+pub use Rattle.sb_safe_updates.proofs.crash_safety_laws_Risen
+pub use Rattle.sb_safe_updates.proofs.raid_layout_Places
+pub use Rattle.sb_safe_updates.proofs.stripe_row_Losses

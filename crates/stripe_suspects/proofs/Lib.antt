@@ -1,0 +1,5 @@
+pub mod Changing
+pub mod Exact
+pub mod Unique
+pub mod RowsJudged
+pub mod Zeros

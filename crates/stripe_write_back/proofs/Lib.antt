@@ -1,0 +1,2 @@
+pub mod WrittenOutLaws
+pub mod KeepingLaws
