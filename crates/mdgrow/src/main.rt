@@ -170,7 +170,8 @@ fn run_files<R: Files<File = File> + Print + Eprint + AllocGlobal + Threads + Wa
     let mut source = StdSource::new(script);
     let mut sink = StdSink::new(io::writer(rt));
     let pace = Pace::new(|turn, left| steps(turn, left));
-    let report = run_over_devices(rt, alloc, words, &mut source, &mut sink, bank, pace);
+    let hook = Hook::new(|_, _| true);
+    let report = run_over_devices(rt, alloc, words, &mut source, &mut sink, bank, pace, hook);
     end_of(report)
 }
 

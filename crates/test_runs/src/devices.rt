@@ -6,7 +6,7 @@ ghost use Rattle.bank_file.specs.Images.{IsFresh};
 ghost use Rattle.bank_file.specs.Entries.{noted};
 
 use bank_file::{FileBank, Manner, MemoryDevice};
-use run_command::{Pace, run_over_devices};
+use run_command::{Hook, Pace, run_over_devices};
 use script_argv::{Command, command_of};
 use script_io::{Sink, Source, StdSink, StdSource};
 use std::alloc::{AllocError, Global};
@@ -102,6 +102,7 @@ fn ran<R: Threads + Wait + Sync>(
         &mut sink,
         four(alloc, failing)?,
         pace,
+        Hook::new(|_, _| true),
     );
     let mut found = true;
     for slot in 0..3 {

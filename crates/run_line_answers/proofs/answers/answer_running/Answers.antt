@@ -3,6 +3,8 @@ use Rattle.run_requests.specs.bank_Given.{NeverFalls}
 use Rattle.run_requests.specs.raid_types_the_NoMemory.{NoMemory}
 use Rattle.run_requests.specs.script_the_Line.{Line}
 use Rattle.run_requests.specs.script_the_Line_TheVariants.{Read, Write, Flush, Fail, Add, ArraySize, Grow, Step, Wait, Detail, Mdstat}
+use Rattle.run_requests.specs.run_specs_the_Outside_TheVariants.{Alerts as ToldAlerts}
+use Rattle.run_requests.specs.run_specs_the_Answered_TheVariants.{Outside as IsOutside}
 use Rattle.run_requests.specs.raid_types_the_Refusal_TheVariants.{Running as RefusedRunning}
 use Rattle.run_requests.specs.run_specs_Making.{setting_of}
 use Rattle.run_requests.specs.run_specs_Replies.{IsRefusedOutside}
@@ -437,7 +439,7 @@ pub returns-in-Alerts-clause-written : goal.returns-in-Alerts-clause-written
 returns-in-Alerts-clause-written g c told =
     let array = c.args.array in
     let setting = setting_of g.B.Bank.tells (g.B.Bank.given array.parts.bank) (g.B.Bank.tape array.parts.bank) (g.B.Bank.tape array.parts.bank) c.args.backup (g.B.Bank.faults_of array.parts.bank) (g.B.Bank.faults_of array.parts.bank) in
-    written-nothing setting (histories_in (IsRunning array c.args.epochs)) (HasWritten (g.B.Bank.given array.parts.bank) c.args.backup c.args.line _) (omega arith)
+    written-nothing setting (histories_in (IsRunning array c.args.epochs)) (HasWritten (g.B.Bank.given array.parts.bank) c.args.backup c.args.line (IsOutside (ToldAlerts c.args.alerts))) (omega arith)
 
 pub returns-in-Assemble-clause-written : goal.returns-in-Assemble-clause-written
 returns-in-Assemble-clause-written g c told =
