@@ -4,8 +4,6 @@
 #[cfg(test)]
 mod beside;
 #[cfg(test)]
-mod devices;
-#[cfg(test)]
 mod parts;
 #[cfg(test)]
 mod runs;
