@@ -7,7 +7,7 @@ ghost use Rattle.script_argv.specs.Words.Asked.{Memory as IsMemory, Run as IsRun
 
 use bank::{Bank, MemoryBank};
 use bank_file::{FileBank, FileFault};
-use run_command::{Pace, Report, run, run_over_devices};
+use run_command::{Hook, Pace, Report, run, run_over_devices};
 use script_argv::{Command, Paths, command_of};
 use script_io::{MemorySource, Source, StdSink, StdSource};
 use std::alloc::{AllocError, Global};
@@ -88,7 +88,8 @@ fn run_over<B: Bank + Drop + Send, S: Source, R: Print + AllocGlobal + Threads +
 {
     let mut sink = StdSink::new(io::writer(rt));
     let pace = Pace::new(|turn, left| steps(turn, left));
-    let report = run(rt, rt.alloc(), words, source, &mut sink, bank, pace);
+    let hook = Hook::new(|_, _| true);
+    let report = run(rt, rt.alloc(), words, source, &mut sink, bank, pace, hook);
     end_of(report)
 }
 
@@ -169,7 +170,8 @@ fn run_files<R: Files<File = File> + Print + Eprint + AllocGlobal + Threads + Wa
     let mut source = StdSource::new(script);
     let mut sink = StdSink::new(io::writer(rt));
     let pace = Pace::new(|turn, left| steps(turn, left));
-    let report = run_over_devices(rt, alloc, words, &mut source, &mut sink, bank, pace);
+    let hook = Hook::new(|_, _| true);
+    let report = run_over_devices(rt, alloc, words, &mut source, &mut sink, bank, pace, hook);
     end_of(report)
 }
 

@@ -18,3 +18,4 @@ pub use Rattle.run_line_answers.proofs.run_requests_Writing
 pub use Rattle.run_line_answers.proofs.run_specs_Causes
 pub use Rattle.run_line_answers.proofs.array_members_SafeStretch
 pub use Rattle.run_line_answers.proofs.array_members_MovedLaws
+pub use Rattle.script_status.proofs.history_monitor_ToldLaws

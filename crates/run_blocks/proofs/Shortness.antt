@@ -18,14 +18,15 @@ use Rattle.script_status.specs.script_Seeds.{seeded}
 use Rattle.script_status.specs.script_the_Line.{Line}
 use Rattle.script_status.specs.script_the_Lane.{Lane}
 use Rattle.script_status.specs.script_the_Lane_TheVariants.{Script as InScript, A as InA, B as InB, Worker as InWorker}
-use Rattle.script_status.specs.script_the_Line_TheVariants.{Create, Read, Write, Flush, Fail, Add, ArraySize, Grow, Step, Wait, Stop, Halt, Detail, Mdstat, Examine, Assemble}
+use Rattle.script_status.specs.script_the_Line_TheVariants.{Create, Read, Write, Flush, Fail, Add, ArraySize, Grow, Step, Wait, Stop, Halt, Detail, Mdstat, Alerts, Examine, Assemble}
 use Rattle.run_line_answers.specs.run_specs_the_Answered.{Answered}
 use Rattle.run_line_answers.specs.run_specs_the_Answered_TheVariants.{Inside, Outside as IsOutside}
 use Rattle.run_line_answers.specs.run_specs_Histories.{History}
 use Rattle.run_line_answers.specs.run_specs_Making.{Setting}
 use Rattle.run_line_answers.specs.run_specs_Replies.{Course, FitsLine, IsReplyAt, IsWaitedAt, IsRepliedAt, IsAnswer, IsWorkedAt, IsRepliedBeside, IsAnswerBeside, steps_at_once}
 use Rattle.run_line_answers.specs.run_specs_Showing.{IsShown}
-use Rattle.run_blocks.specs.Shown.{IsShort, IsAnswerShort}
+use Rattle.run_line_answers.specs.run_specs_the_Outside_TheVariants.{Created, Assembled, Examined, Alerts as ToldAlerts, Refused}
+use Rattle.run_blocks.specs.Shown.{longest_reply, more_room, IsShort, IsAnswerShort}
 
 short_read : (size : ℕ) (before call : List Entry) (at count : ℕ) (event : Event) → count ≤ 128 → OneShapeAnswers size before call (AsksRead at count) event → IsShort event
 short_read size before call at count (IsRead a body) few is = omega (arith, few, is.1)
@@ -100,6 +101,7 @@ short_line size before e Stop limits is = short_stop e.event is
 short_line size before e Halt limits is = short_halt e.event is
 short_line size before e Detail limits is = short_shown size before e.event is
 short_line size before e Mdstat limits is = short_shown size before e.event is
+short_line size before e Alerts limits is = absurd is
 short_line size before e (Examine slot) limits is = absurd is
 short_line size before e (Assemble uuid) limits is = absurd is
 
@@ -120,11 +122,16 @@ short_replied size entries place number Wait limits was = short_waited size entr
 short_replied size entries place number line limits was = short_reply size entries place number line limits was
 
 -- an answer to a line names a short entry
-pub answer_short : (setting : Setting) (histories : List History) (course : Course) (line : Line) (end : ℕ) (what : Answered) → IsTrue (is_within_limits line) → IsAnswer setting histories course line end what → IsAnswerShort histories what
-answer_short setting histories course line end (Inside epoch at) limits is =
+pub answer_short : (setting : Setting) (histories : List History) (course : Course) (line : Line) (end : ℕ) (what : Answered) → IsTrue (is_within_limits line) → IsAnswer setting histories course line end what
+    → (room : ℕ) → longest_reply + more_room what ≤ room → IsAnswerShort room histories what
+answer_short setting histories course line end (Inside epoch at) limits is room fits =
     subst (λ (o : Option Entry). MatchOption o ⊥ (λ e. IsShort e.event)) (sym (ap (λ (o : Option History). option_and_then (λ h. slice_get h.entries at) o) is.there))
     (short_replied course.size is.history.entries at (course.calls InScript) line limits is.replied)
-answer_short setting histories course line end (IsOutside outside) limits is = tt
+answer_short setting histories course line end (IsOutside Created) limits is room fits = tt
+answer_short setting histories course line end (IsOutside (Assembled epoch status)) limits is room fits = tt
+answer_short setting histories course line end (IsOutside (Examined slot found)) limits is room fits = tt
+answer_short setting histories course line end (IsOutside (ToldAlerts list)) limits is room fits = fits
+answer_short setting histories course line end (IsOutside (Refused refusal)) limits is room fits = tt
 
 -- ---- in a block
 
@@ -149,8 +156,40 @@ short_beside InScript size entries place number line limits was = short_lane siz
 short_beside InA size entries place number line limits was = short_lane size entries 1 number place line limits was
 short_beside InB size entries place number line limits was = short_lane size entries 2 number place line limits was
 
-pub beside_short : (histories : List History) (course : Course) (lane : Lane) (line : Line) (what : Answered) → IsTrue (is_within_limits line) → IsAnswerBeside histories course lane line what → IsAnswerShort histories what
+pub beside_short : (histories : List History) (course : Course) (lane : Lane) (line : Line) (what : Answered) → IsTrue (is_within_limits line) → IsAnswerBeside histories course lane line what → IsAnswerShort 0 histories what
 beside_short histories course lane line (Inside epoch at) limits is =
     subst (λ (o : Option Entry). MatchOption o ⊥ (λ e. IsShort e.event)) (sym (ap (λ (o : Option History). option_and_then (λ h. slice_get h.entries at) o) is.there))
     (short_beside lane course.size is.history.entries at (course.calls lane) line limits is.replied)
-beside_short histories course lane line (IsOutside outside) limits is = tt
+beside_short histories course lane line (IsOutside Created) limits is = tt
+beside_short histories course lane line (IsOutside (Assembled epoch status)) limits is = tt
+beside_short histories course lane line (IsOutside (Examined slot found)) limits is = tt
+beside_short histories course lane line (IsOutside (ToldAlerts list)) limits is = absurd is
+beside_short histories course lane line (IsOutside (Refused refusal)) limits is = tt
+
+-- ---- in a room
+
+-- an answer that fits one room fits a wider one, and its own
+pub short_wider : (histories : List History) (what : Answered) (room wider : ℕ) → room ≤ wider → IsAnswerShort room histories what → IsAnswerShort wider histories what
+short_wider histories (Inside epoch at) room wider le is = is
+short_wider histories (IsOutside Created) room wider le is = tt
+short_wider histories (IsOutside (Assembled epoch status)) room wider le is = tt
+short_wider histories (IsOutside (Examined slot found)) room wider le is = tt
+short_wider histories (IsOutside (ToldAlerts list)) room wider le is = omega (arith, le, is)
+short_wider histories (IsOutside (Refused refusal)) room wider le is = tt
+
+pub short_itself : (histories : List History) (what : Answered) (room : ℕ) → IsAnswerShort room histories what → IsAnswerShort (longest_reply + more_room what) histories what
+short_itself histories (Inside epoch at) room is = is
+short_itself histories (IsOutside Created) room is = tt
+short_itself histories (IsOutside (Assembled epoch status)) room is = tt
+short_itself histories (IsOutside (Examined slot found)) room is = tt
+short_itself histories (IsOutside (ToldAlerts list)) room is = omega arith
+short_itself histories (IsOutside (Refused refusal)) room is = tt
+
+-- the text fits the room
+pub short_fits : (histories : List History) (what : Answered) (room : ℕ) → longest_reply ≤ room → IsAnswerShort room histories what → longest_reply + more_room what ≤ room
+short_fits histories (Inside epoch at) room le is = omega (arith, le)
+short_fits histories (IsOutside Created) room le is = omega (arith, le)
+short_fits histories (IsOutside (Assembled epoch status)) room le is = omega (arith, le)
+short_fits histories (IsOutside (Examined slot found)) room le is = omega (arith, le)
+short_fits histories (IsOutside (ToldAlerts list)) room le is = is
+short_fits histories (IsOutside (Refused refusal)) room le is = omega (arith, le)

@@ -34,6 +34,7 @@ pub use Rattle.lane_shared.specs.bank_the_Operation_TheVariants
 pub use Rattle.lane_shared.specs.raid_types_Sectors
 pub use Rattle.lane_shared.specs.raid_types_the_NoMemory
 pub use Rattle.script_status.specs.history_Transfers
+pub use Rattle.script_status.specs.history_Flat
 pub use Rattle.script_status.specs.history_the_Entry
 pub use Rattle.script_status.specs.history_the_Epoch
 pub use Rattle.script_status.specs.script_Script
@@ -42,3 +43,10 @@ pub use Rattle.script_status.specs.script_the_Lane_TheVariants
 pub use Rattle.script_status.specs.script_the_Line
 pub use Rattle.script_status.specs.script_the_Line_TheVariants
 pub use Rattle.script_status.specs.script_the_Numbered
+pub use Rattle.script_status.specs.history_monitor_Alerts
+pub use Rattle.script_status.specs.history_monitor_Hooks
+pub use Rattle.script_status.specs.history_monitor_Told
+pub use Rattle.script_status.specs.history_monitor_Urgent
+pub use Rattle.script_status.specs.history_monitor_the_Alert
+pub use Rattle.script_status.specs.history_monitor_the_AlertKind
+pub use Rattle.script_status.specs.history_monitor_the_Past

@@ -1,5 +1,5 @@
 -- The text of the replies, and whether one of them is a refusal.
-use Rattle.std.specs.Prelude.{ℕ, ◌≤◌, Bool, true, false, ◌||◌, if◌then◌else◌, List, [], ◌∷◌, ◌++◌, length, Some, MatchOption, codes, ⊤}
+use Rattle.std.specs.Prelude.{ℕ, ◌+◌, ◌*◌, ◌≤◌, Bool, true, false, ◌||◌, if◌then◌else◌, List, [], ◌∷◌, ◌++◌, length, Some, MatchOption, codes, ⊤}
 use Rattle.std.specs.Option.{option_map_or}
 use Rattle.lane_shared.specs.raid_types_the_Refusal_TheVariants.{Nothing}
 use Rattle.script_status.specs.history_the_Event.{Event}
@@ -11,8 +11,9 @@ use Rattle.script_status.specs.script_the_Lane.{Lane}
 use Rattle.script_status.specs.script_Script.{is_of_worker}
 use Rattle.script_status.specs.script_Texts.{created_text, assembled_text, refusal_text, event_text, waited_text, worker_text, worker_refusal_text, lane_text}
 use Rattle.script_status.specs.Texts.{detail_text, mdstat_text, examined_text}
+use Rattle.script_status.specs.AlertTexts.{alerts_text}
 use Rattle.run_line_answers.specs.run_specs_the_Outside.{Outside}
-use Rattle.run_line_answers.specs.run_specs_the_Outside_TheVariants.{Created, Assembled, Examined, Refused}
+use Rattle.run_line_answers.specs.run_specs_the_Outside_TheVariants.{Created, Assembled, Examined, Alerts, Refused}
 use Rattle.run_line_answers.specs.run_specs_the_Answered.{Answered}
 use Rattle.run_line_answers.specs.run_specs_the_Answered_TheVariants.{Inside, Outside as IsOutside}
 use Rattle.run_line_answers.specs.run_specs_the_LineReply.{LineReply}
@@ -23,6 +24,7 @@ abbrev pub outside_text : Lane → Outside → List ℕ
 outside_text lane Created = created_text
 outside_text lane (Assembled epoch status) = assembled_text status
 outside_text lane (Examined slot found) = examined_text slot found
+outside_text lane (Alerts list) = alerts_text list
 outside_text lane (Refused refusal) = if is_of_worker lane then worker_refusal_text refusal else refusal_text refusal
 
 -- the event of an entry that answers a line; a wait has a text of its own, so has the worker, and a status one for each form that is asked for
@@ -58,6 +60,7 @@ abbrev pub is_refused_outside : Outside → Bool
 is_refused_outside Created = false
 is_refused_outside (Assembled epoch status) = false
 is_refused_outside (Examined slot found) = false
+is_refused_outside (Alerts list) = false
 is_refused_outside (Refused refusal) = true
 
 abbrev pub is_refusal : List History → Line → Answered → Bool
@@ -78,14 +81,24 @@ IsShort (IsRead at body) = length body ≤ 128
 IsShort (Shown status) = (length status.roles ≤ 16) × (length status.spares ≤ 32)
 IsShort event = ⊤
 
--- so does the entry that an answer names
-abbrev pub IsAnswerShort : List History → Answered → Type 0
-IsAnswerShort histories (Inside epoch at) = MatchOption (entry_at histories epoch at) ⊥ (λ e. IsShort e.event)
-IsAnswerShort histories (IsOutside outside) = ⊤
-
 -- the bytes that its text takes at most, and a whole reply
 abbrev pub longest_answer : ℕ
 longest_answer = 142000
 
 abbrev pub longest_reply : ℕ
 longest_reply = 143000
+
+-- the bytes that a list of alerts takes beside that, at most
+abbrev pub outside_room : Outside → ℕ
+outside_room (Alerts list) = 40 * length list
+outside_room outside = 0
+
+abbrev pub more_room : Answered → ℕ
+more_room (Inside epoch at) = 0
+more_room (IsOutside outside) = outside_room outside
+
+-- what the entry that an answer names tells is short, and a list of alerts fits so many bytes
+abbrev pub IsAnswerShort : ℕ → List History → Answered → Type 0
+IsAnswerShort room histories (Inside epoch at) = MatchOption (entry_at histories epoch at) ⊥ (λ e. IsShort e.event)
+IsAnswerShort room histories (IsOutside (Alerts list)) = longest_reply + 40 * length list ≤ room
+IsAnswerShort room histories (IsOutside outside) = ⊤

@@ -9,7 +9,7 @@ pub use answering::answer_block;
 pub use lane_shared::{Bank, NoMemory, Pace};
 pub use replies::{is_answer_refused, put_text};
 pub use run_line_answers::{
-    Answered, LineReply, Outside, State, answer, entry_of, halt, script_call,
+    Answered, LineReply, Outside, Running, State, answer, entry_of, halt, script_call,
 };
-pub use script_status::{Lane, Numbered};
+pub use script_status::{AlertKind, AlertList, Hook, Lane, Line, Monitor, Numbered};
 pub use together::{Together, ask_together};

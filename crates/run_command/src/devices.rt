@@ -6,6 +6,8 @@ ghost use Rattle.run_scripts.specs.array_members_Moving.{Grows};
 ghost use Rattle.run_scripts.specs.script_io_Causes.{HasRisen};
 ghost use Rattle.bank_file.specs.Images.{given_of, faults_in, tape_in};
 ghost use Rattle.script_argv.specs.Words.{command_in, is_parsed, slots_for, backup_in, demo_in};
+ghost use Rattle.run_scripts.specs.history_monitor_Hooks.{wanted_by};
+ghost use Rattle.run_scripts.specs.history_monitor_Urgent.{WantsUrgent};
 ghost use Rattle.run_scripts.specs.lane_shared_Pace.{AnswersSteps, asked_by};
 ghost use Rattle.run_scripts.specs.run_specs_Ended.{AreLegal, AreRight};
 ghost use Rattle.run_scripts.specs.Complete.{NoneFailed, HasNotFailed, AreUnfailed, EndsWell};
@@ -15,7 +17,7 @@ ghost use Rattle.run_scripts.specs.Runs.{IsAfterLines, IsBeforeLines, IsNothing,
 
 use crate::words::run;
 use bank_file::{Device, FileBank};
-use run_scripts::{Pace, Report, Sink, Source};
+use run_scripts::{AlertKind, Hook, Pace, Report, Sink, Source};
 use std::alloc::Global;
 use std::sync::Wait;
 use std::thread::Threads;
@@ -29,6 +31,7 @@ pub fn run_over_devices<
     S: Source,
     K: Sink,
     F: Fn(u64, u64) -> u64 + Sync + Drop,
+    G: Fn(AlertKind, u32) -> bool + Sync + Drop,
 >(
     rt: &R,
     alloc: Global,
@@ -37,10 +40,13 @@ pub fn run_over_devices<
     out: &mut K,
     bank: FileBank<D>,
     pace: Pace<F>,
+    hook: Hook<G>,
 ) -> Report<FileBank<D>>
     requires slots { IfSome (command_in (map string_bytes words.now)) (λ command. (given_of D.start bank).slots ≡ slots_for command) }
     requires callable { F.IsAlwaysCallable (asked_by pace) }
     requires answers { AnswersSteps (F.post (asked_by pace)) }
+    requires wants { G.IsAlwaysCallable (wanted_by hook) }
+    requires urgent { WantsUrgent (G.post (wanted_by hook)) }
     ensures status { result.status ≤ 6 }
     ensures bad_words { result.status ≡ 2 → command_in (map string_bytes words.now) ≡ None }
     ensures no_command { command_in (map string_bytes words.now) ≡ None → (result.status ≡ 2) ⊎ ((result.status ≡ 6) × (is_parsed (map string_bytes words.now) ≡ true)) }
@@ -48,8 +54,8 @@ pub fn run_over_devices<
     ensures unread { IfSome (demo_in (map string_bytes words.now)) (λ size. script.new ≡ script.old) }
     ensures read_fault { result.status ≡ 4 → HasRisen (S.faults_of script.old) (S.faults_of script.new) }
     ensures write_fault { result.status ≡ 5 → HasRisen (K.faults_of out.old) (K.faults_of out.new) }
-    ensures performed { IsAfterLines result.status → IsScriptPerformed (demo_in (map string_bytes words.now)) S.tells (S.left script.old) (S.left script.new) (setting_of D.tells (given_of D.start bank) (tape_in D.log bank) (tape_in D.log result.bank) (backup_in (map string_bytes words.now)) (faults_in bank) (faults_in result.bank)) (sunk_of K.tells (K.taken out.old) (K.taken out.new) result.shown) result.status result.epochs.items result.lines.items }
-    ensures short { result.status ≡ 6 → IsScriptPerformed (demo_in (map string_bytes words.now)) S.tells (S.left script.old) (S.left script.new) (setting_of D.tells (given_of D.start bank) (tape_in D.log bank) (tape_in D.log result.bank) (backup_in (map string_bytes words.now)) (faults_in bank) (faults_in result.bank)) (sunk_of K.tells (K.taken out.old) (K.taken out.new) result.shown) result.status result.epochs.items result.lines.items
+    ensures performed { IsAfterLines result.status → IsScriptPerformed (G.post (wanted_by hook)) (demo_in (map string_bytes words.now)) S.tells (S.left script.old) (S.left script.new) (setting_of D.tells (given_of D.start bank) (tape_in D.log bank) (tape_in D.log result.bank) (backup_in (map string_bytes words.now)) (faults_in bank) (faults_in result.bank)) (sunk_of K.tells (K.taken out.old) (K.taken out.new) result.shown) result.status result.epochs.items result.lines.items }
+    ensures short { result.status ≡ 6 → IsScriptPerformed (G.post (wanted_by hook)) (demo_in (map string_bytes words.now)) S.tells (S.left script.old) (S.left script.new) (setting_of D.tells (given_of D.start bank) (tape_in D.log bank) (tape_in D.log result.bank) (backup_in (map string_bytes words.now)) (faults_in bank) (faults_in result.bank)) (sunk_of K.tells (K.taken out.old) (K.taken out.new) result.shown) result.status result.epochs.items result.lines.items
         ⊎ (IsNothing (sunk_of K.tells (K.taken out.old) (K.taken out.new) result.shown) result.epochs.items result.lines.items × (result.bank ≡ bank)) }
     ensures nothing { IsBeforeLines result.status → IsNothing (sunk_of K.tells (K.taken out.old) (K.taken out.new) result.shown) result.epochs.items result.lines.items }
     ensures untouched { IsBeforeLines result.status → result.bank ≡ bank }
@@ -67,5 +73,5 @@ pub fn run_over_devices<
     ensures sink_never_falls { K.faults_of out.old ≤ K.faults_of out.new }
     ensures given { given_of D.start result.bank ≡ given_of D.start bank }
 {
-    run(rt, alloc, words, script, out, bank, pace)
+    run(rt, alloc, words, script, out, bank, pace, hook)
 }

@@ -6,6 +6,6 @@ mod words;
 
 pub use devices::run_over_devices;
 pub use run_scripts::{
-    LONGEST_TEXT, Made, Pace, Report, Session, Stop, TextFault, perform, read_text,
+    AlertKind, Hook, LONGEST_TEXT, Made, Pace, Report, Session, Stop, TextFault, perform, read_text,
 };
 pub use words::run;

@@ -48,9 +48,10 @@ use Rattle.run_requests.specs.array_create_assemble_Opening.{AreGiven, array_of,
 use Rattle.run_requests.specs.array_create_assemble_Made.{used_slot}
 use Rattle.run_requests.specs.array_create_assemble_Running.{IsCreated, OpensWithZeros}
 use Rattle.run_requests.specs.script_the_CreateLine.{CreateLine}
+use Rattle.run_requests.specs.history_monitor_the_Alert.{Alert}
 use Rattle.run_requests.specs.script_the_Line.{Line}
-use Rattle.run_requests.specs.script_the_Line_TheVariants.{Create, Read, Write, Flush, Fail, Add, ArraySize, Grow, Step, Wait, Assemble}
-use Rattle.run_requests.specs.run_specs_the_Outside_TheVariants.{Created, Assembled, Refused}
+use Rattle.run_requests.specs.script_the_Line_TheVariants.{Create, Read, Write, Flush, Fail, Add, ArraySize, Grow, Step, Wait, Alerts, Assemble}
+use Rattle.run_requests.specs.run_specs_the_Outside_TheVariants.{Created, Assembled, Alerts as ToldAlerts, Refused}
 use Rattle.run_requests.specs.run_specs_the_Answered_TheVariants.{Inside, Outside as IsOutside}
 use Rattle.run_requests.specs.run_specs_the_State_TheVariants.{Idle, Running}
 use Rattle.run_requests.specs.run_specs_Asked.{script_who, IsAskedAt, IsAsked, IsStillWaiting, IsWaited, IsSizedBy}
@@ -367,6 +368,19 @@ turn_refused setting array epochs line own longer refused = record {
   grown = grown_kept (histories_of epochs.items ++ running_history array.parts ∷ []);
   ends = longer;
   answer = refused;
+  course = refl;
+  recorded = refl;
+}
+
+-- its alerts were told
+pub turn_alerts : {B : Type 0} (setting : Setting) (array : RunningParts B) (epochs : Vec Epoch) (line : Line) (list : List Alert) → RunsOwn (Running array epochs) → (setting.tells → setting.began ≤ length setting.tape) → line ≡ Alerts
+    → IsTurn setting (Running array epochs) (Running array epochs) line (IsOutside (ToldAlerts list))
+turn_alerts setting array epochs line list own longer asked = record {
+  own = own;
+  losses = losses-kept setting (histories_of epochs.items ++ running_history array.parts ∷ []);
+  grown = grown_kept (histories_of epochs.items ++ running_history array.parts ∷ []);
+  ends = longer;
+  answer = (refl, asked);
   course = refl;
   recorded = refl;
 }

@@ -4,7 +4,7 @@ ghost use Rattle.std.specs.Prelude.{◌≡◌, ◌<◌, ◌≤◌, ◌^◌, ℕ,
 ghost use Rattle.run_requests.specs.bank_Given.{NeverFalls};
 ghost use Rattle.run_requests.specs.array_members_Moving.{Grows};
 ghost use Rattle.run_requests.specs.script_Script.{is_within_limits};
-ghost use Rattle.run_requests.specs.script_the_Line_TheVariants.{Create as AsksCreate, Stop as AsksStop, Halt as AsksHalt, Assemble as AsksAssemble};
+ghost use Rattle.run_requests.specs.script_the_Line_TheVariants.{Create as AsksCreate, Stop as AsksStop, Halt as AsksHalt, Alerts as AsksAlerts, Assemble as AsksAssemble};
 ghost use Rattle.run_requests.specs.run_specs_Caused.{record_of};
 ghost use Rattle.run_requests.specs.run_specs_Ended.{IsRunKept};
 ghost use Rattle.run_requests.specs.run_specs_Histories.{entry_at};
@@ -13,15 +13,15 @@ ghost use Rattle.run_requests.specs.run_specs_Records.{IsLeftTold};
 ghost use Rattle.run_requests.specs.run_specs_States.{answer_at, histories_in, bank_in, course_in, RunsOwn, IsFitBank, IsTurnOrNone, IsNamed};
 ghost use Rattle.run_requests.specs.run_specs_Written.{IsWrittenBy};
 ghost use Rattle.run_requests.specs.run_specs_the_Answered_TheVariants.{Inside as AnsweredInside, Outside as AnsweredOutside};
-ghost use Rattle.run_requests.specs.run_specs_the_Outside_TheVariants.{Refused as IsRefused};
+ghost use Rattle.run_requests.specs.run_specs_the_Outside_TheVariants.{Alerts as ToldAlerts, Refused as IsRefused};
 ghost use Rattle.run_requests.specs.run_specs_the_State_TheVariants.{Idle as IsIdle, Running as IsRunning};
 
 use crate::examines::{examine_idle, examine_running};
 use run_requests::{
-    Answered, Bank, CreateLine, CreateSpec, Entry, Epoch, Fault, Line, NoMemory, Outside, Refusal,
-    Running, State, ask_add, ask_fail, ask_flush, ask_grow, ask_read, ask_show, ask_steps,
-    ask_visible, ask_wait, ask_write, create_array as create_running, last_place, open_running,
-    script_call,
+    AlertList, Answered, Bank, CreateLine, CreateSpec, Entry, Epoch, Fault, Line, NoMemory,
+    Outside, Refusal, Running, State, ask_add, ask_fail, ask_flush, ask_grow, ask_read, ask_show,
+    ask_steps, ask_visible, ask_wait, ask_write, create_array as create_running, last_place,
+    open_running, script_call,
 };
 use std::alloc::Global;
 
@@ -130,18 +130,20 @@ fn halt_array<B: Bank>(
     (State::Idle(bank, epochs), Ok(what))
 }
 
-// The answer of the array that runs.
+// The answer of the array that runs. These are the alerts to tell.
 fn answer_running<B: Bank>(
     alloc: Global,
     array: Running<B>,
     epochs: Vec<Epoch>,
     backup: Option<u32>,
     line: Line,
+    alerts: AlertList,
 ) -> (State<B>, Result<Answered, NoMemory>)
     requires limits { IsTrue (is_within_limits line) }
     requires own { RunsOwn (IsRunning array epochs) }
     requires former { IsRunKept B.tells (B.given array.parts.bank) (B.tape array.parts.bank) backup (IsRunning array epochs) }
     ensures answered { IsTurnOrNone (setting_of B.tells (B.given array.parts.bank) (B.tape array.parts.bank) (B.tape (bank_in result.0)) backup (B.faults_of array.parts.bank) (B.faults_of (bank_in result.0))) (IsRunning array epochs) result.0 line result.1 }
+    ensures alerts { line ≡ AsksAlerts → result.1 ≡ Ok (AnsweredOutside (ToldAlerts alerts)) }
     ensures written { B.tells → IsWrittenBy (setting_of B.tells (B.given array.parts.bank) (B.tape array.parts.bank) (B.tape (bank_in result.0)) backup (B.faults_of array.parts.bank) (B.faults_of (bank_in result.0))) true (histories_in (IsRunning array epochs)) (histories_in result.0) line result.1 }
     ensures former { IsRunKept B.tells (B.given array.parts.bank) (B.tape (bank_in result.0)) backup result.0 }
     ensures never_falls { NeverFalls (B.faults_of array.parts.bank) (B.faults_of (bank_in result.0)) }
@@ -167,6 +169,10 @@ fn answer_running<B: Bank>(
         Line::Halt => halt_array(array, epochs, backup),
         Line::Detail => goes_on(ask_show(&mut array), array, epochs),
         Line::Mdstat => goes_on(ask_show(&mut array), array, epochs),
+        Line::Alerts => (
+            State::Running(array, epochs),
+            Ok(Answered::Outside(Outside::Alerts { list: alerts })),
+        ),
         Line::Examine { slot } => examine_running(array, epochs, backup, slot),
         Line::Create(_) => (State::Running(array, epochs), Ok(refused(Refusal::Running))),
         Line::Assemble { .. } => (State::Running(array, epochs), Ok(refused(Refusal::Running))),
@@ -309,22 +315,26 @@ fn answer_idle<B: Bank>(
         Line::Halt => (State::Idle(bank, epochs), Ok(refused(Refusal::NotRunning))),
         Line::Detail => (State::Idle(bank, epochs), Ok(refused(Refusal::NotRunning))),
         Line::Mdstat => (State::Idle(bank, epochs), Ok(refused(Refusal::NotRunning))),
+        Line::Alerts => (State::Idle(bank, epochs), Ok(refused(Refusal::NotRunning))),
         Line::Examine { slot } => examine_idle(bank, epochs, backup, slot),
     }
 }
 
-/// The answer to one line. Where memory is short, nothing was entered and no array opened, but a wait may have made some calls.
+/// The answer to one line. Where memory is short, nothing was entered and no array opened, but a wait may have made some calls. The
+/// line `alerts` tells these alerts, if an array runs.
 pub fn answer<B: Bank>(
     alloc: Global,
     state: State<B>,
     backup: Option<u32>,
     line: Line,
+    alerts: AlertList,
 ) -> (State<B>, Result<Answered, NoMemory>)
     requires limits { IsTrue (is_within_limits line) }
     requires bank { IsFitBank (B.given (bank_in state)) backup }
     requires own { RunsOwn state }
     requires former { IsRunKept B.tells (B.given (bank_in state)) (B.tape (bank_in state)) backup state }
     ensures answered { IsTurnOrNone (setting_of B.tells (B.given (bank_in state)) (B.tape (bank_in state)) (B.tape (bank_in result.0)) backup (B.faults_of (bank_in state)) (B.faults_of (bank_in result.0))) state result.0 line result.1 }
+    ensures alerts { line ≡ AsksAlerts → IsTrue (course_in state).running → result.1 ≡ Ok (AnsweredOutside (ToldAlerts alerts)) }
     ensures written { B.tells → IsWrittenBy (setting_of B.tells (B.given (bank_in state)) (B.tape (bank_in state)) (B.tape (bank_in result.0)) backup (B.faults_of (bank_in state)) (B.faults_of (bank_in result.0))) (course_in state).running (histories_in state) (histories_in result.0) line result.1 }
     ensures former { IsRunKept B.tells (B.given (bank_in state)) (B.tape (bank_in result.0)) backup result.0 }
     ensures never_falls { NeverFalls (B.faults_of (bank_in state)) (B.faults_of (bank_in result.0)) }
@@ -333,7 +343,9 @@ pub fn answer<B: Bank>(
 {
     match state {
         State::Idle(bank, epochs) => answer_idle(alloc, bank, epochs, backup, line),
-        State::Running(array, epochs) => answer_running(alloc, array, epochs, backup, line),
+        State::Running(array, epochs) => {
+            answer_running(alloc, array, epochs, backup, line, alerts)
+        }
     }
 }
 

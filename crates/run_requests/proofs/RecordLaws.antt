@@ -43,7 +43,7 @@ use Rattle.run_specs.specs.script_the_Lane_TheVariants.{Script as InScript, A as
 use Rattle.run_specs.specs.declared.report.Answered.{Answered}
 use Rattle.run_specs.specs.declared.report.Answered.TheVariants.{Inside, Outside as IsOutside}
 use Rattle.run_specs.specs.declared.report.LineReply.{LineReply}
-use Rattle.run_specs.specs.declared.report.Outside.TheVariants.{Created, Assembled, Examined, Refused as IsRefusedOutside}
+use Rattle.run_specs.specs.declared.report.Outside.TheVariants.{Created, Assembled, Examined, Alerts as ToldAlerts, Refused as IsRefusedOutside}
 use Rattle.run_specs.specs.Asked.{IsAskedAt, IsAsked}
 use Rattle.run_specs.specs.Caused.{Record, record_of, IsJudgedBy}
 use Rattle.run_specs.specs.Histories.{History, entry_at}
@@ -305,6 +305,7 @@ module _ (was now : Setting) (wider : IsWider was now) where
   recorded-wider histories line (IsOutside (Assembled epoch status)) old new is =
       subst (λ (b : Option ℕ). MatchOption new ⊥ (λ array. MatchOption (slice_get histories epoch) ⊥ (λ history. IsRecordFound b history status array))) (sym wider.backup) is
   recorded-wider histories line (IsOutside (Examined slot found)) old new is = is
+  recorded-wider histories line (IsOutside (ToldAlerts list)) old new is = is
   recorded-wider histories line (IsOutside (IsRefusedOutside refusal)) old new is = is
 
   behind-wider : (histories : List History) (course : Course) (what : Answered) (old new : Option Record) → IsRecordedBehind was histories course what old new → IsRecordedBehind now histories course what old new
@@ -371,6 +372,7 @@ module _ (setting : Setting) (olds news : List History) (grown : AreGrown olds n
   recorded-grown line (IsOutside (Assembled epoch status)) old None is = absurd is
   recorded-grown line (IsOutside (Assembled epoch status)) old (Some array) is = found-grown epoch status array is
   recorded-grown line (IsOutside (Examined slot found)) old new is = is
+  recorded-grown line (IsOutside (ToldAlerts list)) old new is = is
   recorded-grown line (IsOutside (IsRefusedOutside refusal)) old new is = is
 
   behind-grown : (course : Course) (what : Answered) (old new : Option Record) → IsNamed olds what → IsRecordedBehind setting olds course what old new → IsRecordedBehind setting news course what old new

@@ -102,3 +102,4 @@ pub use Rattle.run_specs.specs.script_the_Lane
 pub use Rattle.run_specs.specs.script_the_Lane_TheVariants
 pub use Rattle.run_specs.specs.script_the_Line
 pub use Rattle.run_specs.specs.script_the_Line_TheVariants
+pub use Rattle.run_specs.specs.history_monitor_the_Alert

@@ -9,8 +9,8 @@ pub use asks::{
     last_place, script_call,
 };
 pub use run_specs::{
-    Answered, Bank, BankFault, CreateLine, CreateSpec, Entry, Epoch, Fault, Line, LineReply,
-    NoMemory, Outside, Refusal, Running, Sb, State, create_array, examine, halt, open_running,
-    read_superblock, status, stop,
+    AlertList, Answered, Bank, BankFault, CreateLine, CreateSpec, Entry, Epoch, Fault, Line,
+    LineReply, NoMemory, Outside, Refusal, Running, Sb, State, create_array, examine, halt,
+    open_running, read_superblock, status, stop,
 };
 pub use shows::ask_show;

@@ -18,6 +18,8 @@ use Rattle.run_session.specs.run_specs_Making.{Setting}
 use Rattle.run_session.specs.run_specs_Caused.{Record}
 use Rattle.run_session.specs.run_specs_Records.{AreRecorded}
 use Rattle.run_session.specs.run_specs_Replies.{Course, at_rest, course_of, AreCallsTold, AreReplies, AreInOrder}
+use Rattle.run_session.specs.history_monitor_the_AlertKind.{AlertKind}
+use Rattle.run_session.specs.Alerting.{AreAlertsTold}
 use Rattle.run_session.specs.Sessions.{IsCourse, counted, taken_whole, IsTaken}
 use Rattle.run_session.specs.run_blocks_Shown.{report_text, has_refusal}
 use Rattle.run_scripts.specs.Source.{IsTextFor}
@@ -81,14 +83,15 @@ pub record AreShown (sunk : Sunk) (status : ℕ) (asked : List Numbered) (epochs
   pub shown : sunk.shown ≡ counted (length (report_text (histories_of epochs) asked (taken_whole (stop_of status) lines)))
   pub refusals : AreTold status (has_refusal (histories_of epochs) asked lines)
 
--- the whole text of the script was there, and then its lines were performed, and their replies were shown
-pub record IsScriptPerformed (demo : Option ℕ) (source_tells : Type 0) (old new : List ℕ) (setting : Setting) (sunk : Sunk) (status : ℕ) (epochs : List Epoch) (lines : List LineReply) : Type 0 where
+-- The whole text of the script was there, and then its lines were performed, and their replies were shown. What its `alerts` lines tell are the alerts that are wanted by these answers.
+pub record IsScriptPerformed (answers : AlertKind → ℕ → Bool → Type 0) (demo : Option ℕ) (source_tells : Type 0) (old new : List ℕ) (setting : Setting) (sunk : Sunk) (status : ℕ) (epochs : List Epoch) (lines : List LineReply) : Type 0 where
   pub text : List ℕ
   pub read : IsTextFor demo source_tells old new text
   pub asked : List Numbered
   pub parsed : script_with true text ≡ Ok asked
   pub performed : AreLinesPerformed setting asked (stop_of status) epochs lines
   pub shown : AreShown sunk status asked epochs lines
+  pub alerts : AreAlertsTold answers (histories_of epochs) (at_rest 0) [] asked lines
 
 -- the whole text was there, or one byte more than it may have, and this is its first bad line
 pub record IsScriptBad (demo : Option ℕ) (tells : Type 0) (old new : List ℕ) (line : ℕ) : Type 0 where

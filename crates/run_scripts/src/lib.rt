@@ -7,6 +7,6 @@ mod text;
 
 pub use history_reopen_laws::Bank;
 pub use report::Report;
-pub use run_session::{Made, Pace, Session, Sink, Source, Stop, perform};
+pub use run_session::{AlertKind, Hook, Made, Pace, Session, Sink, Source, Stop, perform};
 pub use runs::{nothing_done, run_script};
 pub use text::{LONGEST_TEXT, TextFault, read_text};

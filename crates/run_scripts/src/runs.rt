@@ -8,6 +8,10 @@ ghost use Rattle.run_session.specs.script_io_Causes.{HasRisen};
 ghost use Rattle.script_demo.specs.Demo.{IsDemoSize};
 ghost use Rattle.script_demo.specs.script_Script.{is_within_limits, may_ask, are_in_turn};
 ghost use Rattle.script_demo.specs.script_the_Lane_TheVariants.{Script as InScript};
+ghost use Rattle.run_session.specs.history_monitor_Hooks.{wanted_by};
+ghost use Rattle.run_session.specs.history_monitor_Urgent.{WantsUrgent};
+ghost use Rattle.run_session.specs.Alerting.{AreAlertsTold};
+ghost use Rattle.run_session.specs.run_specs_Replies.{at_rest};
 ghost use Rattle.run_session.specs.lane_shared_Pace.{AnswersSteps, asked_by};
 ghost use Rattle.run_session.specs.run_specs_Ended.{IsRunKept, AreLegal, AreRight, AreRising, AreFormer};
 ghost use Rattle.run_session.specs.run_specs_Histories.{history_of, histories_of};
@@ -22,7 +26,9 @@ ghost use Rattle.run_session.specs.run_specs_Written.{IsWritten};
 use crate::report::Report;
 use crate::text::{TextFault, script_text};
 use history_reopen_laws::{Bank, Epoch};
-use run_session::{Pace, Session, Sink, Source, State, Stop, perform, script_call};
+use run_session::{
+    AlertKind, Hook, Pace, Session, Sink, Source, State, Stop, perform, script_call,
+};
 use script_demo::{Numbered, ScriptFault, read_script_with_blocks};
 use std::alloc::Global;
 use std::sync::Wait;
@@ -143,6 +149,7 @@ fn run_lines<
     B: Bank + Drop + Send,
     K: Sink,
     F: Fn(u64, u64) -> u64 + Sync,
+    G: Fn(AlertKind, u32) -> bool,
     R: Threads + Wait + Sync,
 >(
     rt: &R,
@@ -151,6 +158,7 @@ fn run_lines<
     backup: Option<u32>,
     lines: &[Numbered],
     pace: &Pace<F>,
+    hook: &Hook<G>,
     out: &mut K,
 ) -> Report<B>
     requires limits { AllPass (λ numbered. is_within_limits numbered.line) lines.now }
@@ -158,9 +166,12 @@ fn run_lines<
     requires turns { IsTrue (are_in_turn InScript lines.now) }
     requires callable { F.IsAlwaysCallable (asked_by pace.now) }
     requires answers { AnswersSteps (F.post (asked_by pace.now)) }
+    requires wants { G.IsAlwaysCallable (wanted_by hook.now) }
+    requires urgent { WantsUrgent (G.post (wanted_by hook.now)) }
     requires bank { IsFitBank (B.given bank) backup }
     ensures status { result.status ≡ status_for (stop_of result.status) (has_refusal (histories_of result.epochs.items) lines.now result.lines.items) }
     ensures performed { AreLinesPerformed (setting_of B.tells (B.given bank) (B.tape bank) (B.tape result.bank) backup (B.faults_of bank) (B.faults_of result.bank)) lines.now (stop_of result.status) result.epochs.items result.lines.items }
+    ensures alerts { AreAlertsTold (G.post (wanted_by hook.now)) (histories_of result.epochs.items) (at_rest 0) [] lines.now result.lines.items }
     ensures taken { K.tells → IsTaken (stop_of result.status) (K.taken out.old) (K.taken out.new) (length (report_text (histories_of result.epochs.items) lines.now (taken_whole (stop_of result.status) result.lines.items))) (report_text (histories_of result.epochs.items) lines.now result.lines.items) }
     ensures shown { result.shown ≡ counted (length (report_text (histories_of result.epochs.items) lines.now (taken_whole (stop_of result.status) result.lines.items))) }
     ensures write_fault { result.status ≡ 5 → HasRisen (K.faults_of out.old) (K.faults_of out.new) }
@@ -181,7 +192,7 @@ fn run_lines<
         shown,
         refused,
         stopped,
-    } = perform(rt, alloc, bank, backup, lines, pace, out);
+    } = perform(rt, alloc, bank, backup, lines, pace, hook, out);
     let (bank, epochs) = end_run(state, backup);
     Report {
         status: status_of(stopped, refused),
@@ -199,6 +210,7 @@ pub fn run_script<
     S: Source,
     K: Sink,
     F: Fn(u64, u64) -> u64 + Sync,
+    G: Fn(AlertKind, u32) -> bool,
     R: Threads + Wait + Sync,
 >(
     rt: &R,
@@ -209,19 +221,22 @@ pub fn run_script<
     bank: B,
     backup: Option<u32>,
     pace: &Pace<F>,
+    hook: &Hook<G>,
 ) -> Report<B>
     requires few { IfSome demo IsDemoSize }
     requires bank { IsFitBank (B.given bank) backup }
     requires callable { F.IsAlwaysCallable (asked_by pace.now) }
     requires answers { AnswersSteps (F.post (asked_by pace.now)) }
+    requires wants { G.IsAlwaysCallable (wanted_by hook.now) }
+    requires urgent { WantsUrgent (G.post (wanted_by hook.now)) }
     ensures status { result.status ≤ 6 }
     ensures good_words { result.status ≢ 2 }
     ensures bad_line { result.status ≡ 3 → IsScriptBad demo S.tells (S.left script.old) (S.left script.new) result.bad_line }
     ensures unread { IfSome demo (λ size. script.new ≡ script.old) }
     ensures read_fault { result.status ≡ 4 → HasRisen (S.faults_of script.old) (S.faults_of script.new) }
     ensures write_fault { result.status ≡ 5 → HasRisen (K.faults_of out.old) (K.faults_of out.new) }
-    ensures performed { IsAfterLines result.status → IsScriptPerformed demo S.tells (S.left script.old) (S.left script.new) (setting_of B.tells (B.given bank) (B.tape bank) (B.tape result.bank) backup (B.faults_of bank) (B.faults_of result.bank)) (sunk_of K.tells (K.taken out.old) (K.taken out.new) result.shown) result.status result.epochs.items result.lines.items }
-    ensures short { result.status ≡ 6 → IsScriptPerformed demo S.tells (S.left script.old) (S.left script.new) (setting_of B.tells (B.given bank) (B.tape bank) (B.tape result.bank) backup (B.faults_of bank) (B.faults_of result.bank)) (sunk_of K.tells (K.taken out.old) (K.taken out.new) result.shown) result.status result.epochs.items result.lines.items
+    ensures performed { IsAfterLines result.status → IsScriptPerformed (G.post (wanted_by hook.now)) demo S.tells (S.left script.old) (S.left script.new) (setting_of B.tells (B.given bank) (B.tape bank) (B.tape result.bank) backup (B.faults_of bank) (B.faults_of result.bank)) (sunk_of K.tells (K.taken out.old) (K.taken out.new) result.shown) result.status result.epochs.items result.lines.items }
+    ensures short { result.status ≡ 6 → IsScriptPerformed (G.post (wanted_by hook.now)) demo S.tells (S.left script.old) (S.left script.new) (setting_of B.tells (B.given bank) (B.tape bank) (B.tape result.bank) backup (B.faults_of bank) (B.faults_of result.bank)) (sunk_of K.tells (K.taken out.old) (K.taken out.new) result.shown) result.status result.epochs.items result.lines.items
         ⊎ (IsNothing (sunk_of K.tells (K.taken out.old) (K.taken out.new) result.shown) result.epochs.items result.lines.items × (result.bank ≡ bank)) }
     ensures nothing { IsBeforeLines result.status → IsNothing (sunk_of K.tells (K.taken out.old) (K.taken out.new) result.shown) result.epochs.items result.lines.items }
     ensures untouched { IsBeforeLines result.status → result.bank ≡ bank }
@@ -242,7 +257,7 @@ pub fn run_script<
         Err(TextFault::NoMemory) => return nothing_done(alloc, bank, NO_MEMORY, 0),
     };
     match read_script_with_blocks(alloc, text.as_slice()) {
-        Ok(lines) => run_lines(rt, alloc, bank, backup, lines.as_slice(), pace, out),
+        Ok(lines) => run_lines(rt, alloc, bank, backup, lines.as_slice(), pace, hook, out),
         Err(ScriptFault::BadLine(line)) => nothing_done(alloc, bank, BAD_LINE, line),
         Err(ScriptFault::NoMemory) => nothing_done(alloc, bank, NO_MEMORY, 0),
     }

@@ -11,7 +11,7 @@ use Rattle.run_blocks.specs.script_the_Lane_TheVariants.{Script as InScript, A a
 use Rattle.run_blocks.specs.run_specs_the_Answered.{Answered}
 use Rattle.run_blocks.specs.run_specs_the_Answered_TheVariants.{Inside, Outside as IsOutside}
 use Rattle.run_blocks.specs.run_specs_the_LineReply.{LineReply}
-use Rattle.run_blocks.specs.run_specs_the_Outside_TheVariants.{Created, Assembled, Examined, Refused}
+use Rattle.run_blocks.specs.run_specs_the_Outside_TheVariants.{Created, Assembled, Examined, Alerts as ToldAlerts, Refused}
 use Rattle.run_blocks.specs.run_specs_Histories.{History}
 use Rattle.run_blocks.specs.run_specs_Replies.{Course, course_after, course_of, IsAnswerBeside}
 use Rattle.run_blocks.specs.run_specs_States.{IsStanding, HasWorkedOn, IsAmidBlock, IsAmidBehind, AreAnswersBeside}
@@ -92,6 +92,7 @@ worker-answered hs c course line (IsOutside (Refused refusal)) answer stands = i
 worker-answered hs c course line (IsOutside Created) answer stands = absurd answer
 worker-answered hs c course line (IsOutside (Assembled epoch status)) answer stands = absurd answer
 worker-answered hs c course line (IsOutside (Examined slot found)) answer stands = absurd answer
+worker-answered hs c course line (IsOutside (ToldAlerts list)) answer stands = absurd answer
 
 -- so were other lines
 amid-told : (hs : List History) (c course : Course) (l : Numbered) (lines : List Numbered) (whats : List Answered) → EndsWithWorker (l ∷ lines) → AreAnswersBeside hs c (l ∷ lines) whats → IsAmidBehind hs c (l ∷ lines) whats course

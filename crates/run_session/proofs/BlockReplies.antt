@@ -15,7 +15,7 @@ use Rattle.run_blocks.specs.script_the_Lane_TheVariants.{Script as InScript, A a
 use Rattle.run_blocks.specs.run_specs_the_Answered.{Answered}
 use Rattle.run_blocks.specs.run_specs_the_Answered_TheVariants.{Inside, Outside as IsOutside}
 use Rattle.run_blocks.specs.run_specs_the_LineReply.{LineReply}
-use Rattle.run_blocks.specs.run_specs_the_Outside_TheVariants.{Created, Assembled, Examined, Refused}
+use Rattle.run_blocks.specs.run_specs_the_Outside_TheVariants.{Created, Assembled, Examined, Alerts as ToldAlerts, Refused}
 use Rattle.run_blocks.specs.run_specs_Histories.{History, entry_at}
 use Rattle.run_blocks.specs.run_specs_Making.{Setting}
 use Rattle.run_blocks.specs.run_specs_Caused.{Record}
@@ -364,6 +364,7 @@ module _ (tells : Type 0) (hs : List History) (mid high : ℕ) (t : tells) where
   ordered-running low le within c runs (l ∷ lines) (IsOutside Created ∷ whats) (r ∷ made) lanes (answer, answers) was ends = absurd answer
   ordered-running low le within c runs (l ∷ lines) (IsOutside (Assembled epoch status) ∷ whats) (r ∷ made) lanes (answer, answers) was ends = absurd answer
   ordered-running low le within c runs (l ∷ lines) (IsOutside (Examined slot found) ∷ whats) (r ∷ made) lanes (answer, answers) was ends = absurd answer
+  ordered-running low le within c runs (l ∷ lines) (IsOutside (ToldAlerts list) ∷ whats) (r ∷ made) lanes (answer, answers) was ends = absurd answer
   ordered-running low le within c runs (l ∷ lines) (IsOutside (Refused refusal) ∷ whats) (r ∷ made) lanes (answer, answers) was ends = absurd (let clash : true ≡ false = sym runs ∙ answer.0 in cc)
 
   -- where none runs, each is made now
@@ -500,11 +501,11 @@ answers-named hs c [] (w ∷ whats) was = absurd was
 answers-named hs c (l ∷ lines) (w ∷ whats) (one, rest) =
     All-cons (λ what. IsNamed hs what) w whats (beside_named hs c l.lane l.line w one) (answers-named hs (course_after hs c l.lane l.line w) lines whats rest)
 
-pub answers-short : (hs : List History) (c : Course) (lines : List Numbered) (whats : List Answered) → AllPass (λ line. is_within_limits line.line) lines → AreAnswersBeside hs c lines whats → All (λ what. IsAnswerShort hs what) whats
-answers-short hs c lines [] limits was = All-nil (λ what. IsAnswerShort hs what)
+pub answers-short : (hs : List History) (c : Course) (lines : List Numbered) (whats : List Answered) → AllPass (λ line. is_within_limits line.line) lines → AreAnswersBeside hs c lines whats → All (λ what. IsAnswerShort 0 hs what) whats
+answers-short hs c lines [] limits was = All-nil (λ what. IsAnswerShort 0 hs what)
 answers-short hs c [] (w ∷ whats) limits was = absurd was
 answers-short hs c (l ∷ lines) (w ∷ whats) limits (one, rest) =
-    All-cons (λ what. IsAnswerShort hs what) w whats (beside_short hs c l.lane l.line w (All-head (λ line. is_within_limits line.line ≡ true) l lines limits) one)
+    All-cons (λ what. IsAnswerShort 0 hs what) w whats (beside_short hs c l.lane l.line w (All-head (λ line. is_within_limits line.line ≡ true) l lines limits) one)
     (answers-short hs (course_after hs c l.lane l.line w) lines whats (All-tail (λ line. is_within_limits line.line ≡ true) l lines limits) rest)
 
 -- ---- one reply more

@@ -1,6 +1,7 @@
 pub mod Unmoved
 pub mod WritesPlaced
 pub mod Steps
+pub mod Alerted
 pub mod Showing
 pub mod Replied
 pub mod BlockReplies

@@ -1,5 +1,6 @@
 pub mod Writes
 pub mod Sessions
+pub mod Alerting
 pub use Rattle.run_blocks.specs.array_members_Moving
 pub use Rattle.run_blocks.specs.lane_shared_Pace
 pub use Rattle.run_blocks.specs.run_specs_Ended
@@ -22,3 +23,6 @@ pub use Rattle.run_blocks.specs.history_invariant_laws_Reliable
 pub use Rattle.run_blocks.specs.array_specs_Plans
 pub use Rattle.run_blocks.specs.array_fixed_laws_Plain
 pub use Rattle.script_io.specs.Causes as script_io_Causes
+pub use Rattle.run_blocks.specs.history_monitor_Hooks
+pub use Rattle.run_blocks.specs.history_monitor_Urgent
+pub use Rattle.run_blocks.specs.history_monitor_the_AlertKind

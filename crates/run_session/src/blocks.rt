@@ -55,7 +55,7 @@ fn show<B: Bank, K: Sink>(
     out: &mut K,
 ) -> Session<B>
     requires named { IsNamed (histories_in session.state) what }
-    requires short { IsAnswerShort (histories_in session.state) what }
+    requires short { IsAnswerShort 0 (histories_in session.state) what }
     requires room { longest_reply ≤ vec_capacity session.buffer }
     requires spare { length session.replies.items < vec_capacity session.replies }
     ensures state { result.state ≡ session.state }
@@ -92,7 +92,7 @@ fn show_answers<B: Bank, K: Sink>(
     out: &mut K,
 ) -> Session<B>
     requires named { All (λ what. IsNamed (histories_in session.state) what) whats.items }
-    requires short { All (λ what. IsAnswerShort (histories_in session.state) what) whats.items }
+    requires short { All (λ what. IsAnswerShort 0 (histories_in session.state) what) whats.items }
     requires few { length whats.items ≤ length lines.now }
     requires room { longest_reply ≤ vec_capacity session.buffer }
     requires spare { length session.replies.items + length lines.now ≤ vec_capacity session.replies }

@@ -1,6 +1,6 @@
 //! The lines of a script performed one after another, each reply shown before the next line.
 
-ghost use Rattle.std.specs.Prelude.{◌≡◌, ◌≤◌, length, take, drop, vec_capacity, None, IfSome, IsTrue};
+ghost use Rattle.std.specs.Prelude.{◌≡◌, ◌≤◌, [], length, take, drop, vec_capacity, None, IfOk, IfSome, IsTrue};
 ghost use Rattle.std.specs.List.{AllPass};
 ghost use Rattle.run_blocks.specs.bank_Given.{NeverFalls};
 ghost use Rattle.run_blocks.specs.array_members_Moving.{Grows};
@@ -8,25 +8,30 @@ ghost use Rattle.run_blocks.specs.script_Script.{is_within_limits, may_ask, are_
 ghost use Rattle.run_blocks.specs.lane_shared_Pace.{AnswersSteps, asked_by};
 ghost use Rattle.run_blocks.specs.Shown.{longest_reply};
 ghost use Rattle.run_blocks.specs.run_specs_Records.{IsRecordStored};
-ghost use Rattle.run_blocks.specs.run_specs_States.{histories_in, bank_in, record_in, RunsOwn, IsFitBank, IsNamed};
+ghost use Rattle.run_blocks.specs.run_specs_States.{histories_in, bank_in, entries_in, record_in, RunsOwn, IsFitBank, IsNamed};
+ghost use Rattle.run_blocks.specs.history_monitor_Hooks.{wanted_by};
+ghost use Rattle.run_blocks.specs.history_monitor_Told.{HasScanned};
+ghost use Rattle.run_blocks.specs.history_monitor_Urgent.{WantsUrgent};
+ghost use Rattle.run_session.specs.Alerting.{AreAlertsTold, IsScanned, IsFirstScanned, IsTurnScanned};
 ghost use Rattle.run_session.specs.Sessions.{IsEndNow, IsRepliedOrNot, IsStep, IsTurnStep, IsStopCause, IsPerformed, IsShownTo};
 ghost use Rattle.run_blocks.specs.run_specs_Ended.{IsRunKept};
 ghost use Rattle.run_blocks.specs.run_specs_Making.{setting_of};
-ghost use Rattle.run_blocks.specs.run_specs_Replies.{IsEnd};
+ghost use Rattle.run_blocks.specs.run_specs_Replies.{IsEnd, at_rest};
 ghost use Rattle.run_blocks.specs.script_the_Lane_TheVariants.{Script as InScript};
 
+use crate::alerting::{answer_line, watch};
 use crate::blocks::{block_length, perform_block};
 use run_blocks::{
-    Answered, Bank, Lane, LineReply, NoMemory, Numbered, Pace, State, answer, entry_of,
-    is_answer_refused, put_text,
+    AlertKind, Answered, Bank, Hook, Lane, LineReply, Monitor, NoMemory, Numbered, Pace, State,
+    entry_of, is_answer_refused, put_text,
 };
 use script_io::Sink;
 use std::alloc::Global;
 use std::sync::Wait;
 use std::thread::Threads;
 
-// The bytes that the text of a reply takes at most: 128 sectors, each shown by its bytes.
-const LONGEST_REPLY: usize = 143_000;
+/// The bytes that the text of a reply takes at most, but for one that tells alerts: 128 sectors, each shown by its bytes.
+pub const LONGEST_REPLY: usize = 143_000;
 
 /// Why no later line was performed.
 #[derive(Clone, Copy, Debug, PartialEq, Eq)]
@@ -76,12 +81,14 @@ pub fn reply_of<B: Bank>(state: &State<B>, line: u64, lane: Lane, what: Answered
     }
 }
 
-// Performs one line, and puts the text of its reply into the buffer, which takes no memory.
-fn reply_to<B: Bank>(
+// Performs one line, and puts the text of its reply into the buffer, which takes no memory unless it tells alerts.
+fn reply_to<B: Bank, G: Fn(AlertKind, u32) -> bool>(
     alloc: Global,
     state: State<B>,
+    monitor: &mut Monitor,
     backup: Option<u32>,
     numbered: Numbered,
+    hook: &Hook<G>,
     text: &mut Vec<u8>,
 ) -> (State<B>, Result<Made, NoMemory>)
     requires limits { IsTrue (is_within_limits numbered.line) }
@@ -89,14 +96,18 @@ fn reply_to<B: Bank>(
     requires own { RunsOwn state }
     requires former { IsRunKept B.tells (B.given (bank_in state)) (B.tape (bank_in state)) backup state }
     requires room { longest_reply ≤ vec_capacity text.old }
+    requires begins { HasScanned monitor.old (entries_in state) }
+    requires wants { G.IsAlwaysCallable (wanted_by hook.now) }
+    requires urgent { WantsUrgent (G.post (wanted_by hook.now)) }
     ensures room { longest_reply ≤ vec_capacity text.new }
     ensures former { IsRunKept B.tells (B.given (bank_in state)) (B.tape (bank_in result.0)) backup result.0 }
     ensures replied { IsRepliedOrNot (setting_of B.tells (B.given (bank_in state)) (B.tape (bank_in state)) (B.tape (bank_in result.0)) backup (B.faults_of (bank_in state)) (B.faults_of (bank_in result.0))) state result.0 numbered text.new.items result.1 }
+    ensures alerts { IfOk result.1 (λ made. IsScanned (G.post (wanted_by hook.now)) (entries_in state) monitor.old monitor.new made.reply.what) }
     ensures never_falls { NeverFalls (B.faults_of (bank_in state)) (B.faults_of (bank_in result.0)) }
     ensures grows { Grows B.tells (B.tape (bank_in state)) (B.tape (bank_in result.0)) }
     ensures given { B.given (bank_in result.0) ≡ B.given (bank_in state) }
 {
-    let (state, what) = answer(alloc, state, backup, numbered.line);
+    let (state, what) = answer_line(alloc, state, monitor, backup, numbered.line, hook, text);
     let what = match what {
         Ok(what) => what,
         Err(fault) => return (state, Err(fault)),
@@ -108,11 +119,13 @@ fn reply_to<B: Bank>(
 }
 
 // Performs one line and shows its reply. The room for the reply is taken first.
-fn perform_line<B: Bank, K: Sink>(
+fn perform_line<B: Bank, K: Sink, G: Fn(AlertKind, u32) -> bool>(
     alloc: Global,
     mut session: Session<B>,
+    monitor: &mut Monitor,
     backup: Option<u32>,
     numbered: Numbered,
+    hook: &Hook<G>,
     out: &mut K,
 ) -> Session<B>
     requires limits { IsTrue (is_within_limits numbered.line) }
@@ -120,8 +133,12 @@ fn perform_line<B: Bank, K: Sink>(
     requires own { RunsOwn session.state }
     requires former { IsRunKept B.tells (B.given (bank_in session.state)) (B.tape (bank_in session.state)) backup session.state }
     requires room { longest_reply ≤ vec_capacity session.buffer }
+    requires begins { HasScanned monitor.old (entries_in session.state) }
+    requires wants { G.IsAlwaysCallable (wanted_by hook.now) }
+    requires urgent { WantsUrgent (G.post (wanted_by hook.now)) }
     ensures room { longest_reply ≤ vec_capacity result.buffer }
     ensures former { IsRunKept B.tells (B.given (bank_in session.state)) (B.tape (bank_in result.state)) backup result.state }
+    ensures alerts { IsFirstScanned (G.post (wanted_by hook.now)) (entries_in session.state) monitor.old monitor.new (drop (length session.replies.items) result.replies.items) }
     ensures step { IsStep K.tells (setting_of B.tells (B.given (bank_in session.state)) (B.tape (bank_in session.state)) (B.tape (bank_in result.state)) backup (B.faults_of (bank_in session.state)) (B.faults_of (bank_in result.state))) session result numbered (K.taken out.old) (K.taken out.new) result.stopped }
     ensures cause { IsStopCause result.stopped (K.faults_of out.old) (K.faults_of out.new) }
     ensures sink_never_falls { K.faults_of out.old ≤ K.faults_of out.new }
@@ -133,7 +150,15 @@ fn perform_line<B: Bank, K: Sink>(
         session.stopped = Some(Stop::NoMemory);
         return session;
     }
-    let (state, made) = reply_to(alloc, session.state, backup, numbered, &mut session.buffer);
+    let (state, made) = reply_to(
+        alloc,
+        session.state,
+        monitor,
+        backup,
+        numbered,
+        hook,
+        &mut session.buffer,
+    );
     session.state = state;
     let Ok(made) = made else {
         session.stopped = Some(Stop::NoMemory);
@@ -171,14 +196,17 @@ fn perform_turn<
     B: Bank + Drop + Send,
     K: Sink,
     F: Fn(u64, u64) -> u64 + Sync,
+    G: Fn(AlertKind, u32) -> bool,
     R: Threads + Wait + Sync,
 >(
     rt: &R,
     alloc: Global,
     session: Session<B>,
+    monitor: &mut Monitor,
     backup: Option<u32>,
     lines: &[Numbered],
     pace: &Pace<F>,
+    hook: &Hook<G>,
     out: &mut K,
 ) -> (Session<B>, usize)
     requires some { 1 ≤ length lines.now }
@@ -191,11 +219,15 @@ fn perform_turn<
     requires own { RunsOwn session.state }
     requires former { IsRunKept B.tells (B.given (bank_in session.state)) (B.tape (bank_in session.state)) backup session.state }
     requires room { longest_reply ≤ vec_capacity session.buffer }
+    requires begins { HasScanned monitor.old (entries_in session.state) }
+    requires wants { G.IsAlwaysCallable (wanted_by hook.now) }
+    requires urgent { WantsUrgent (G.post (wanted_by hook.now)) }
     ensures some { 1 ≤ result.1 }
     ensures within { result.1 ≤ length lines.now }
     ensures turns { IsTrue (are_in_turn InScript (drop result.1 lines.now)) }
     ensures room { longest_reply ≤ vec_capacity result.0.buffer }
     ensures former { IsRunKept B.tells (B.given (bank_in session.state)) (B.tape (bank_in result.0.state)) backup result.0.state }
+    ensures alerts { IsTurnScanned (G.post (wanted_by hook.now)) (entries_in session.state) monitor.old monitor.new (drop (length session.replies.items) result.0.replies.items) (take result.1 lines.now) }
     ensures step { IsTurnStep K.tells (setting_of B.tells (B.given (bank_in session.state)) (B.tape (bank_in session.state)) (B.tape (bank_in result.0.state)) backup (B.faults_of (bank_in session.state)) (B.faults_of (bank_in result.0.state))) session result.0 (take result.1 lines.now) (K.taken out.old) (K.taken out.new) }
     ensures cause { IsStopCause result.0.stopped (K.faults_of out.old) (K.faults_of out.new) }
     ensures sink_never_falls { K.faults_of out.old ≤ K.faults_of out.new }
@@ -205,7 +237,10 @@ fn perform_turn<
 {
     let first = lines[0];
     match first.lane {
-        Lane::Script => (perform_line(alloc, session, backup, first, out), 1),
+        Lane::Script => (
+            perform_line(alloc, session, monitor, backup, first, hook, out),
+            1,
+        ),
         _ => {
             let count = block_length(lines);
             let block = &lines[..count];
@@ -219,11 +254,13 @@ fn perform_turn<
 
 /// Performs the lines on a bank, those of a block at once, in threads, the replies being shown one by one, up to the first that can't be
 /// shown or for which memory is short. The room for a reply is taken before its line is performed. The lines are in the order of their
-/// replies; the worker asks for steps as many at a time as the pace answers. It may wait.
+/// replies; the worker asks for steps as many at a time as the pace answers. Of the alerts of an array each `alerts` line tells those that
+/// are new since the former one, as far as the hook wants them. It may wait.
 pub fn perform<
     B: Bank + Drop + Send,
     K: Sink,
     F: Fn(u64, u64) -> u64 + Sync,
+    G: Fn(AlertKind, u32) -> bool,
     R: Threads + Wait + Sync,
 >(
     rt: &R,
@@ -232,6 +269,7 @@ pub fn perform<
     backup: Option<u32>,
     lines: &[Numbered],
     pace: &Pace<F>,
+    hook: &Hook<G>,
     out: &mut K,
 ) -> Session<B>
     requires limits { AllPass (λ numbered. is_within_limits numbered.line) lines.now }
@@ -239,9 +277,12 @@ pub fn perform<
     requires turns { IsTrue (are_in_turn InScript lines.now) }
     requires callable { F.IsAlwaysCallable (asked_by pace.now) }
     requires answers { AnswersSteps (F.post (asked_by pace.now)) }
+    requires wants { G.IsAlwaysCallable (wanted_by hook.now) }
+    requires urgent { WantsUrgent (G.post (wanted_by hook.now)) }
     requires bank { IsFitBank (B.given bank) backup }
     ensures former { IsRunKept B.tells (B.given bank) (B.tape (bank_in result.state)) backup result.state }
     ensures performed { IsPerformed (setting_of B.tells (B.given bank) (B.tape bank) (B.tape (bank_in result.state)) backup (B.faults_of bank) (B.faults_of (bank_in result.state))) lines.now result }
+    ensures alerts { AreAlertsTold (G.post (wanted_by hook.now)) (histories_in result.state) (at_rest 0) [] lines.now result.replies.items }
     ensures all { result.stopped ≡ None → length result.replies.items ≡ length lines.now }
     ensures shown { IsShownTo K.tells lines.now result (K.taken out.old) (K.taken out.new) (K.faults_of out.old) (K.faults_of out.new) }
     ensures never_falls { NeverFalls (B.faults_of bank) (B.faults_of (bank_in result.state)) }
@@ -266,10 +307,22 @@ pub fn perform<
         refused: false,
         stopped: None,
     };
+    let mut monitor = Monitor::new();
     let mut next = 0;
     while next < lines.len() {
-        let (after, count) = perform_turn(rt, alloc, session, backup, &lines[next..], pace, out);
+        let (after, count) = perform_turn(
+            rt,
+            alloc,
+            session,
+            &mut monitor,
+            backup,
+            &lines[next..],
+            pace,
+            hook,
+            out,
+        );
         check_stored(&after.state);
+        watch(&mut monitor, &after.state);
         session = after;
         if session.stopped.is_some() {
             return session;

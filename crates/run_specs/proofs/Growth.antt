@@ -25,9 +25,9 @@ use Rattle.array_requests.specs.array_create_assemble_Opening.{AreGiven, HasFoun
 use Rattle.array_requests.specs.array_create_assemble_Made.{HasCreateCause, used_slot}
 use Rattle.array_requests.specs.array_create_assemble_Running.{OpensWithZeros}
 use Rattle.std.specs.List.{All}
-use Rattle.std.proofs.lemmas.List.Elements.{All-head, All-tail}
+use Rattle.std.proofs.lemmas.List.Elements.{All-nil, All-cons, All-head, All-tail}
 use Rattle.array_requests.specs.array_create_assemble_the_CreateSpec.{CreateSpec}
-use Rattle.script.specs.declared.lines.Line.TheVariants.{Create, Read, Write, Flush, Fail, Add, ArraySize, Grow, Step, Wait, Stop, Halt, Detail, Mdstat, Examine, Assemble}
+use Rattle.script.specs.declared.lines.Line.TheVariants.{Create, Read, Write, Flush, Fail, Add, ArraySize, Grow, Step, Wait, Stop, Halt, Detail, Mdstat, Alerts, Examine, Assemble}
 use Rattle.script.specs.history_the_Entry.{Entry}
 use Rattle.script.specs.history_the_Event_TheVariants.{Shown}
 use Rattle.script.specs.history_the_Request.{Request}
@@ -39,7 +39,7 @@ use Rattle.script.specs.declared.lines.Line.{Line}
 use Rattle.script.specs.declared.lines.Numbered.{Numbered}
 use Rattle.script.specs.declared.reply.Lane.{Lane}
 use Rattle.script.specs.declared.reply.Lane.TheVariants.{Script as InScript, A as InA, B as InB, Worker as InWorker}
-use Rattle.run_specs.specs.declared.report.Outside.TheVariants.{Created, Assembled, Examined, Refused}
+use Rattle.run_specs.specs.declared.report.Outside.TheVariants.{Created, Assembled, Examined, Alerts as ToldAlerts, Refused}
 use Rattle.run_specs.specs.declared.report.Answered.{Answered}
 use Rattle.run_specs.specs.declared.report.Answered.TheVariants.{Inside, Outside as IsOutside}
 use Rattle.run_specs.specs.declared.report.LineReply.{LineReply}
@@ -77,6 +77,23 @@ history_stays [] news grown epoch old is = absurd (omega (arith, slice_get_withi
 history_stays (h ∷ olds) [] grown epoch old is = absurd grown
 history_stays (h ∷ olds) (k ∷ news) (one, more) zero old is = (k, refl, subst (λ (o : History). IsGrown o k) (cc) one)
 history_stays (h ∷ olds) (k ∷ news) (one, more) (suc epoch) old is = history_stays olds news more epoch old is
+
+-- a history that went on, and went on again
+later_both : (xs ys one two : List Entry) → All (λ e. rest_of_call e one ≡ []) xs → All (λ e. rest_of_call e two ≡ []) (xs ++ ys) → All (λ e. rest_of_call e (one ++ two) ≡ []) xs
+later_both [] ys one two first second = All-nil (λ e. rest_of_call e (one ++ two) ≡ [])
+later_both (x ∷ xs) ys one two first second =
+    All-cons (λ e. rest_of_call e (one ++ two) ≡ []) x xs (rest_append x one two (All-head (λ e. rest_of_call e one ≡ []) x xs first) (All-head (λ e. rest_of_call e two ≡ []) x (xs ++ ys) second))
+    (later_both xs ys one two (All-tail (λ e. rest_of_call e one ≡ []) x xs first) (All-tail (λ e. rest_of_call e two ≡ []) x (xs ++ ys) second))
+
+pub grown_then : (first second third : History) → IsGrown first second → IsGrown second third → IsGrown first third
+grown_then first second third one two = record {
+  uuid = two.uuid ∙ one.uuid;
+  given = two.given ∙ one.given;
+  first = two.first ∙ one.first;
+  more = one.more ++ two.more;
+  grown = two.grown ∙ ap (λ (l : List Entry). l ++ two.more) one.grown ∙ append_assoc first.entries one.more two.more;
+  later = later_both first.entries one.more one.more two.more one.later (subst (λ (l : List Entry). All (λ e. rest_of_call e two.more ≡ []) l) one.grown two.later);
+}
 
 -- an entry stays where it is
 pub named_stays : (olds news : List History) → AreGrown olds news → (epoch place : ℕ) (e : Entry) → entry_at olds epoch place ≡ Some e → entry_at news epoch place ≡ Some e
@@ -290,6 +307,7 @@ beside_stays olds news course lane line (Inside epoch at) grown was =
 beside_stays olds news course lane line (IsOutside Created) grown was = absurd was
 beside_stays olds news course lane line (IsOutside (Assembled epoch status)) grown was = absurd was
 beside_stays olds news course lane line (IsOutside (Examined slot found)) grown was = absurd was
+beside_stays olds news course lane line (IsOutside (ToldAlerts list)) grown was = absurd was
 beside_stays olds news course lane line (IsOutside (Refused refusal)) grown was = was
 
 pub beside_named : (histories : List History) (course : Course) (lane : Lane) (line : Line) (what : Answered) → IsAnswerBeside histories course lane line what → IsNamed histories what
@@ -316,6 +334,7 @@ beside_after histories course lane ne line (Inside epoch at) is =
 beside_after histories course lane ne line (IsOutside Created) is = absurd is
 beside_after histories course lane ne line (IsOutside (Assembled epoch status)) is = absurd is
 beside_after histories course lane ne line (IsOutside (Examined slot found)) is = absurd is
+beside_after histories course lane ne line (IsOutside (ToldAlerts list)) is = absurd is
 beside_after histories course lane ne line (IsOutside (Refused refusal)) is = record { opened = refl; running = refl; script = refl }
 
 -- the same bank, over a longer time
@@ -392,6 +411,7 @@ module _ (was now : Setting) (wider : IsWider was now) (end later : ℕ) (moved 
   refused_stays true Halt refusal is = is
   refused_stays true Detail refusal is = is
   refused_stays true Mdstat refusal is = is
+  refused_stays true Alerts refusal is = is
   refused_stays true (Examine slot) refusal is = unexamined_stays slot refusal is
   refused_stays true (Assemble uuid) refusal is = is
   refused_stays false (Create line) refusal is = uncreated_stays (spec_of line) refusal is
@@ -408,6 +428,7 @@ module _ (was now : Setting) (wider : IsWider was now) (end later : ℕ) (moved 
   refused_stays false Halt refusal is = is
   refused_stays false Detail refusal is = is
   refused_stays false Mdstat refusal is = is
+  refused_stays false Alerts refusal is = is
   refused_stays false (Examine slot) refusal is = unexamined_stays slot refusal is
   refused_stays false (Assemble uuid) refusal is = unassembled_stays uuid refusal is
 
@@ -445,6 +466,7 @@ module _ (was now : Setting) (wider : IsWider was now) (end later : ℕ) (moved 
   made_wider histories epoch Halt is = is
   made_wider histories epoch Detail is = is
   made_wider histories epoch Mdstat is = is
+  made_wider histories epoch Alerts is = is
   made_wider histories epoch (Examine slot) is = is
   made_wider histories epoch (Assemble uuid) is = is
 
@@ -463,6 +485,7 @@ module _ (was now : Setting) (wider : IsWider was now) (end later : ℕ) (moved 
   found_wider histories epoch Halt status is = is
   found_wider histories epoch Detail status is = is
   found_wider histories epoch Mdstat status is = is
+  found_wider histories epoch Alerts status is = is
   found_wider histories epoch (Examine slot) status is = is
   found_wider histories epoch (Assemble asked) status is = record {
     history = is.history;
@@ -485,6 +508,7 @@ module _ (was now : Setting) (wider : IsWider was now) (end later : ℕ) (moved 
   answer_wider histories course line (IsOutside Created) (idle, made) = (idle, made_wider histories course.opened line made)
   answer_wider histories course line (IsOutside (Assembled epoch status)) (idle, next, found) = (idle, next, found_wider histories course.opened line status found)
   answer_wider histories course line (IsOutside (Examined slot found)) is = examined_wider line slot found is
+  answer_wider histories course line (IsOutside (ToldAlerts list)) is = is
   answer_wider histories course line (IsOutside (Refused refusal)) is = refused_stays course.running line refusal is
 
 -- the world of a history that went on
@@ -523,6 +547,7 @@ made_stays setting olds news grown epoch end Stop is = is
 made_stays setting olds news grown epoch end Halt is = is
 made_stays setting olds news grown epoch end Detail is = is
 made_stays setting olds news grown epoch end Mdstat is = is
+made_stays setting olds news grown epoch end Alerts is = is
 made_stays setting olds news grown epoch end (Examine slot) is = is
 made_stays setting olds news grown epoch end (Assemble uuid) is = is
 
@@ -553,6 +578,7 @@ found_stays setting olds news grown epoch end Stop status is = is
 found_stays setting olds news grown epoch end Halt status is = is
 found_stays setting olds news grown epoch end Detail status is = is
 found_stays setting olds news grown epoch end Mdstat status is = is
+found_stays setting olds news grown epoch end Alerts status is = is
 found_stays setting olds news grown epoch end (Examine slot) status is = is
 found_stays setting olds news grown epoch end (Assemble asked) status is =
     let now = history_stays olds news grown epoch is.history is.there in
@@ -574,6 +600,7 @@ answer_stays setting olds news course line end (Inside epoch at) grown is = insi
 answer_stays setting olds news course line end (IsOutside Created) grown (idle, made) = (idle, made_stays setting olds news grown course.opened end line made)
 answer_stays setting olds news course line end (IsOutside (Assembled epoch status)) grown (idle, next, found) = (idle, next, found_stays setting olds news grown course.opened end line status found)
 answer_stays setting olds news course line end (IsOutside (Examined slot found)) grown is = is
+answer_stays setting olds news course line end (IsOutside (ToldAlerts list)) grown is = is
 answer_stays setting olds news course line end (IsOutside (Refused refusal)) grown is = is
 
 pub some_named : (o : Option Entry) → IsSome o → (e : Entry) × (o ≡ Some e)
@@ -614,6 +641,7 @@ course_stays olds news course lane line (Inside epoch at) grown named =
 course_stays olds news course lane line (IsOutside Created) grown named = refl
 course_stays olds news course lane line (IsOutside (Assembled epoch status)) grown named = refl
 course_stays olds news course lane line (IsOutside (Examined slot found)) grown named = refl
+course_stays olds news course lane line (IsOutside (ToldAlerts list)) grown named = refl
 course_stays olds news course lane line (IsOutside (Refused refusal)) grown named = refl
 
 -- amid a block too

@@ -119,3 +119,4 @@ pub use Rattle.script.specs.raid_types_the_Shape
 pub use Rattle.script.specs.sb_codec_Superblock
 pub use Rattle.script.specs.sb_codec_the_Sb
 pub use Rattle.array_requests.specs.array_grow_Stored
+pub use Rattle.history_monitor.specs.declared.alerts.Alert as history_monitor_the_Alert

@@ -34,14 +34,14 @@ use Rattle.array_requests.specs.array_specs_Parts.{visible_in}
 use Rattle.array_requests.specs.array_grow_Stored.{IsStoredBy}
 use Rattle.script.specs.declared.lines.CreateLine.{CreateLine}
 use Rattle.script.specs.declared.lines.Line.{Line}
-use Rattle.script.specs.declared.lines.Line.TheVariants.{Create, Read, Write, Flush, Fail, Add, ArraySize, Grow, Step, Wait, Stop, Halt, Detail, Mdstat, Examine, Assemble}
+use Rattle.script.specs.declared.lines.Line.TheVariants.{Create, Read, Write, Flush, Fail, Add, ArraySize, Grow, Step, Wait, Stop, Halt, Detail, Mdstat, Alerts, Examine, Assemble}
 use Rattle.script.specs.declared.lines.Numbered.{Numbered}
 use Rattle.script.specs.declared.reply.Lane.{Lane}
 use Rattle.script.specs.declared.reply.Lane.TheVariants.{Script as InScript, Worker as InWorker}
 use Rattle.run_specs.specs.declared.report.Answered.{Answered}
 use Rattle.run_specs.specs.declared.report.Answered.TheVariants.{Inside, Outside as IsOutside}
 use Rattle.run_specs.specs.declared.report.LineReply.{LineReply}
-use Rattle.run_specs.specs.declared.report.Outside.TheVariants.{Created, Assembled, Examined, Refused as IsRefusedOutside}
+use Rattle.run_specs.specs.declared.report.Outside.TheVariants.{Created, Assembled, Examined, Alerts as ToldAlerts, Refused as IsRefusedOutside}
 use Rattle.run_specs.specs.Blocks.{IsBlockEntered}
 use Rattle.run_specs.specs.Caused.{Record, IsJudgedBy}
 use Rattle.run_specs.specs.Histories.{History, entry_at, is_end}
@@ -211,6 +211,7 @@ IsRecordMade backup Stop array = ⊥
 IsRecordMade backup Halt array = ⊥
 IsRecordMade backup Detail array = ⊥
 IsRecordMade backup Mdstat array = ⊥
+IsRecordMade backup Alerts array = ⊥
 IsRecordMade backup (Examine slot) array = ⊥
 IsRecordMade backup (Assemble asked) array = ⊥
 
@@ -248,6 +249,7 @@ IsRecorded setting histories line (IsOutside Created) old new = MatchOption new 
 IsRecorded setting histories line (IsOutside (Assembled epoch status)) old new =
     MatchOption new ⊥ (λ array. MatchOption (slice_get histories epoch) ⊥ (λ history. IsRecordFound setting.backup history status array))
 IsRecorded setting histories line (IsOutside (Examined slot found)) old new = new ≡ old
+IsRecorded setting histories line (IsOutside (ToldAlerts list)) old new = new ≡ old
 IsRecorded setting histories line (IsOutside (IsRefusedOutside refusal)) old new = new ≡ old
 
 -- The record behind the worker's answer, the last of its block: the block's calls leave it, with the history up to the latest of the block's replies. Where no array runs, none does behind the block.

@@ -21,12 +21,12 @@ use Rattle.array_requests.specs.array_create_assemble_Opening.{AreGiven, array_o
 use Rattle.array_requests.specs.array_create_assemble_Made.{used_slot}
 use Rattle.array_requests.specs.array_create_assemble_Running.{OpensWithZeros}
 use Rattle.script.specs.declared.lines.Line.{Line}
-use Rattle.script.specs.declared.lines.Line.TheVariants.{Create, Read, Write, Flush, Fail, Add, ArraySize, Grow, Step, Wait, Stop, Halt, Detail, Mdstat, Examine, Assemble}
+use Rattle.script.specs.declared.lines.Line.TheVariants.{Create, Read, Write, Flush, Fail, Add, ArraySize, Grow, Step, Wait, Stop, Halt, Detail, Mdstat, Alerts, Examine, Assemble}
 use Rattle.script.specs.declared.lines.Numbered.{Numbered}
 use Rattle.script.specs.declared.reply.Lane.{Lane}
 use Rattle.script.specs.declared.reply.Lane.TheVariants.{Script as InScript, Worker}
 use Rattle.script.specs.Seeds.{seeded}
-use Rattle.run_specs.specs.declared.report.Outside.TheVariants.{Created, Assembled, Examined, Refused}
+use Rattle.run_specs.specs.declared.report.Outside.TheVariants.{Created, Assembled, Examined, Alerts as ToldAlerts, Refused}
 use Rattle.run_specs.specs.declared.report.Answered.{Answered}
 use Rattle.run_specs.specs.declared.report.Answered.TheVariants.{Inside, Outside as IsOutside}
 use Rattle.run_specs.specs.declared.report.LineReply.{LineReply}
@@ -57,6 +57,7 @@ FitsLine size before e Stop = FitsStop e.event
 FitsLine size before e Halt = FitsHalt e.event
 FitsLine size before e Detail = IsShown size before e.event
 FitsLine size before e Mdstat = IsShown size before e.event
+FitsLine size before e Alerts = ⊥
 FitsLine size before e (Examine slot) = ⊥
 FitsLine size before e (Assemble uuid) = ⊥
 
@@ -99,6 +100,7 @@ size_made Stop = 0
 size_made Halt = 0
 size_made Detail = 0
 size_made Mdstat = 0
+size_made Alerts = 0
 size_made (Examine slot) = 0
 size_made (Assemble uuid) = 0
 
@@ -128,6 +130,7 @@ course_after histories course lane line (Inside epoch at) = option_map_or (cours
 course_after histories course lane line (IsOutside Created) = begun course.opened 0 (size_made line)
 course_after histories course lane line (IsOutside (Assembled epoch status)) = begun course.opened 1 status.length
 course_after histories course lane line (IsOutside (Examined slot found)) = course
+course_after histories course lane line (IsOutside (ToldAlerts list)) = course
 course_after histories course lane line (IsOutside (Refused refusal)) = course
 
 abbrev pub course_of : List History → Course → List Numbered → List LineReply → Course
@@ -212,6 +215,7 @@ IsMadeBy setting histories epoch end Stop = ⊥
 IsMadeBy setting histories epoch end Halt = ⊥
 IsMadeBy setting histories epoch end Detail = ⊥
 IsMadeBy setting histories epoch end Mdstat = ⊥
+IsMadeBy setting histories epoch end Alerts = ⊥
 IsMadeBy setting histories epoch end (Examine slot) = ⊥
 IsMadeBy setting histories epoch end (Assemble uuid) = ⊥
 
@@ -244,6 +248,7 @@ IsFoundBy setting histories epoch end Stop status = ⊥
 IsFoundBy setting histories epoch end Halt status = ⊥
 IsFoundBy setting histories epoch end Detail status = ⊥
 IsFoundBy setting histories epoch end Mdstat status = ⊥
+IsFoundBy setting histories epoch end Alerts status = ⊥
 IsFoundBy setting histories epoch end (Examine slot) status = ⊥
 IsFoundBy setting histories epoch end (Assemble uuid) status = IsFoundAt setting histories epoch end uuid status
 
@@ -265,6 +270,7 @@ IsRefusedOutside setting true end Stop refusal = ⊥
 IsRefusedOutside setting true end Halt refusal = ⊥
 IsRefusedOutside setting true end Detail refusal = ⊥
 IsRefusedOutside setting true end Mdstat refusal = ⊥
+IsRefusedOutside setting true end Alerts refusal = ⊥
 IsRefusedOutside setting true end (Examine slot) refusal = IsUnexamined setting slot refusal
 IsRefusedOutside setting false end (Create line) refusal = IsUncreated setting (spec_of line) end refusal
 IsRefusedOutside setting false end (Assemble uuid) refusal = IsUnassembled setting uuid end refusal
@@ -281,6 +287,7 @@ IsRefusedOutside setting false end Stop refusal = refusal ≡ NotRunning
 IsRefusedOutside setting false end Halt refusal = refusal ≡ NotRunning
 IsRefusedOutside setting false end Detail refusal = refusal ≡ NotRunning
 IsRefusedOutside setting false end Mdstat refusal = refusal ≡ NotRunning
+IsRefusedOutside setting false end Alerts refusal = refusal ≡ NotRunning
 IsRefusedOutside setting false end (Examine slot) refusal = IsUnexamined setting slot refusal
 
 -- an answer to a line, given at this mark, where the run stands at this point
@@ -290,6 +297,7 @@ IsAnswer setting histories course line end (IsOutside Created) = IsFalse course.
 IsAnswer setting histories course line end (IsOutside (Assembled epoch status)) =
     IsFalse course.running × (epoch ≡ course.opened) × IsFoundBy setting histories course.opened end line status
 IsAnswer setting histories course line end (IsOutside (Examined slot found)) = IsExaminedBy setting end line slot found
+IsAnswer setting histories course line end (IsOutside (ToldAlerts list)) = IsTrue course.running × (line ≡ Alerts)
 IsAnswer setting histories course line end (IsOutside (Refused refusal)) = IsRefusedOutside setting course.running end line refusal
 
 -- ---- a line of a block

@@ -11,6 +11,7 @@ pub use array_requests::{
     examine, fail, flush, halt, open_running, plan_grow, read, read_superblock, set_visible,
     status, steps, stop, write,
 };
+pub use history_monitor::{Alert, AlertKind, AlertList, Hook, Monitor};
 pub use report::{Answered, LineReply, Outside};
 pub use script::{CreateLine, Entry, Epoch, Event, Line, Sb, seed_sectors};
 pub use states::State;

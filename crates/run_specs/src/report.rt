@@ -1,14 +1,17 @@
 //! The replies to the lines of a script.
 
 use array_requests::Refusal;
+use history_monitor::AlertList;
 use script::{Lane, Sb, Status};
 
-/// A reply that no history holds: an array was made or found, a slot's superblock was looked at, or the line was refused.
+/// A reply that no history holds: an array was made or found, a slot's superblock was looked at, alerts of the array that runs were told, or
+/// the line was refused.
 #[derive(Drop)]
 pub enum Outside {
     Created,
     Assembled { epoch: u32, status: Status },
     Examined { slot: u32, found: Option<Sb> },
+    Alerts { list: AlertList },
     Refused { refusal: Refusal },
 }
 

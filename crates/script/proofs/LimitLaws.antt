@@ -16,7 +16,7 @@ use Rattle.script.specs.Script.{is_within_limits}
 use Rattle.script.specs.declared.reply.Lane.{Lane}
 use Rattle.script.specs.declared.reply.Lane.TheVariants.{Script, A, B, Worker}
 use Rattle.script.specs.declared.lines.Line.{Line}
-use Rattle.script.specs.declared.lines.Line.TheVariants.{Create, Read, Write, Flush, Fail, Add, Step, Wait, ArraySize, Grow, Stop, Halt, Detail, Mdstat, Examine, Assemble}
+use Rattle.script.specs.declared.lines.Line.TheVariants.{Create, Read, Write, Flush, Fail, Add, Step, Wait, ArraySize, Grow, Stop, Halt, Detail, Mdstat, Alerts, Examine, Assemble}
 use Rattle.script.specs.declared.grammar.Meaning.{Meaning}
 use Rattle.script.specs.declared.grammar.Meaning.TheVariants.{PassedOver, Asks, Bad}
 
@@ -153,7 +153,8 @@ line_ok (verb ∷ values) line e =
     (verb_ok (bytes_eq verb (codes "halt")) (alone Halt values) _ line (alone_ok Halt line values refl)
     (verb_ok (bytes_eq verb (codes "detail")) (alone Detail values) _ line (alone_ok Detail line values refl)
     (verb_ok (bytes_eq verb (codes "mdstat")) (alone Mdstat values) _ line (alone_ok Mdstat line values refl)
-    (verb_ok (bytes_eq verb (codes "examine")) (examine_of values) None line (examine_ok values line) (λ h. absurd (cc)))))))))))))))))
+    (verb_ok (bytes_eq verb (codes "examine")) (examine_of values) _ line (examine_ok values line)
+    (verb_ok (bytes_eq verb (codes "alerts")) (alone Alerts values) None line (alone_ok Alerts line values refl) (λ h. absurd (cc))))))))))))))))))
     e
 
 for_lanes_ok : (o : Option Line) (line : Line) → ((l : Line) → o ≡ Some l → is_within_limits l ≡ true) → for_lanes o ≡ Some line → is_within_limits line ≡ true

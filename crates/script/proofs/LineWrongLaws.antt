@@ -19,7 +19,7 @@ use Rattle.script.specs.Mistakes.{Says, would_do, is_known, is_word_of}
 use Rattle.script.specs.Reading.{goes_on, wrong_at, wrongly, within, small, most_behind, judge_number, judge_limit, judge_uuid, at_value, end_of, read_one, has_given, read_keys, nothing_given, create_with, create_line, create_from, wish_line, grow_from, read_read, read_write, read_create, read_assemble, read_verb, is_for_lanes_verb, asked_by, misplaced, lane_by, read_lane, outside_by, read_outside, inside_by, read_inside, read_words}
 use Rattle.script.specs.declared.keyed.Given.{Given}
 use Rattle.script.specs.declared.lines.Line.{Line}
-use Rattle.script.specs.declared.lines.Line.TheVariants.{Read, Write, Flush, Fail, Add, Step, Wait, ArraySize, Stop, Halt, Detail, Mdstat, Examine, Assemble}
+use Rattle.script.specs.declared.lines.Line.TheVariants.{Read, Write, Flush, Fail, Add, Step, Wait, ArraySize, Stop, Halt, Detail, Mdstat, Alerts, Examine, Assemble}
 use Rattle.script.specs.declared.grammar.Meaning.{Meaning}
 use Rattle.script.specs.declared.grammar.Meaning.TheVariants.{Opens, Asks}
 use Rattle.script.specs.declared.mistakes.Mistake.{Mistake}
@@ -32,7 +32,7 @@ use Rattle.script.specs.declared.mistakes.Wrong.{Wrong}
 use Rattle.script.specs.declared.reply.Lane.{Lane}
 use Rattle.script.specs.declared.reply.Lane.TheVariants.{Script, A, B, Worker}
 use Rattle.script.specs.declared.tables.Verb.{Verb}
-use Rattle.script.specs.declared.tables.Verb.TheVariants.{Create as ToCreate, Assemble as ToAssemble, Read as ToRead, Write as ToWrite, Flush as ToFlush, Fail as ToFail, Add as ToAdd, Step as ToStep, Wait as ToWait, ArraySize as ToSize, Grow as ToGrow, Stop as ToStop, Halt as ToHalt, Detail as ToDetail, Mdstat as ToMdstat, Examine as ToExamine}
+use Rattle.script.specs.declared.tables.Verb.TheVariants.{Create as ToCreate, Assemble as ToAssemble, Read as ToRead, Write as ToWrite, Flush as ToFlush, Fail as ToFail, Add as ToAdd, Step as ToStep, Wait as ToWait, ArraySize as ToSize, Grow as ToGrow, Stop as ToStop, Halt as ToHalt, Detail as ToDetail, Mdstat as ToMdstat, Examine as ToExamine, Alerts as ToAlerts}
 use Rattle.script.specs.declared.tables.BlockWord.{BlockWord}
 use Rattle.script.specs.declared.tables.BlockWord.TheVariants.{Together, A as NameA, B as NameB, End}
 use Rattle.script.specs.declared.tables.Key.{Key}
@@ -336,6 +336,7 @@ verb_fine ToHalt words w told = end_fine Halt words w told
 verb_fine ToDetail words w told = end_fine Detail words w told
 verb_fine ToMdstat words w told = end_fine Mdstat words w told
 verb_fine ToExamine words w told = one_fine small small_judge Slot (λ n. Examine n) words w told
+verb_fine ToAlerts words w told = end_fine Alerts words w told
 
 verb_reach : (verb : Verb) → (more : List (List ℕ)) × (is_ok (read_verb verb more) ≡ true)
 verb_reach ToCreate = (codes "00000000000000000000000000000000" ∷ codes "level=5" ∷ codes "disks=3" ∷ codes "size=8" ∷ [], refl)
@@ -354,6 +355,7 @@ verb_reach ToHalt = ([], refl)
 verb_reach ToDetail = ([], refl)
 verb_reach ToMdstat = ([], refl)
 verb_reach ToExamine = (codes "0" ∷ [], refl)
+verb_reach ToAlerts = ([], refl)
 
 -- ---- the first word
 
@@ -464,6 +466,7 @@ named_verb ToHalt = refl
 named_verb ToDetail = refl
 named_verb ToMdstat = refl
 named_verb ToExamine = refl
+named_verb ToAlerts = refl
 
 lane_on : (lane : Lane) (verb : Verb) → is_for_lanes_verb verb ≡ true → (more : List (List ℕ)) → lane_lang lane (verb_name verb ∷ more) ≡ is_ok (read_verb verb more)
 lane_on lane verb for_lanes more =

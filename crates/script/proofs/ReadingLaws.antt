@@ -13,7 +13,7 @@ use Rattle.script.specs.Grammar.{line_of, alone, array_from, create_of, assemble
 use Rattle.script.specs.Tables.{all_verbs, verb_in, verb_name, all_block_words, block_word_in, block_word_name}
 use Rattle.script.specs.Reading.{goes_on, wrong_at, wrongly, judge_number, judge_limit, judge_uuid, or_mistake, small, most_behind, at_value, end_of, read_one, read_read, read_write, read_create, read_assemble, grow_from, create_from, create_line, create_with, read_keys, nothing_given, wish_line, read_verb, are_digits, is_for_lanes_verb, asked_by, misplaced, lane_by, read_lane, outside_by, read_outside, inside_by, read_inside, read_words}
 use Rattle.script.specs.declared.lines.Line.{Line}
-use Rattle.script.specs.declared.lines.Line.TheVariants.{Create, Read, Write, Flush, Fail, Add, Step, Wait, ArraySize, Grow, Stop, Halt, Detail, Mdstat, Examine, Assemble}
+use Rattle.script.specs.declared.lines.Line.TheVariants.{Create, Read, Write, Flush, Fail, Add, Step, Wait, ArraySize, Grow, Stop, Halt, Detail, Mdstat, Alerts, Examine, Assemble}
 use Rattle.script.specs.declared.grammar.Meaning.{Meaning}
 use Rattle.script.specs.declared.grammar.Meaning.TheVariants.{PassedOver, Opens, Asks, Bad}
 use Rattle.script.specs.declared.keyed.Given.{Given}
@@ -27,7 +27,7 @@ use Rattle.script.specs.declared.mistakes.Wrong.{Wrong}
 use Rattle.script.specs.declared.reply.Lane.{Lane}
 use Rattle.script.specs.declared.reply.Lane.TheVariants.{Script, A, B, Worker}
 use Rattle.script.specs.declared.tables.Verb.{Verb}
-use Rattle.script.specs.declared.tables.Verb.TheVariants.{Create as ToCreate, Assemble as ToAssemble, Read as ToRead, Write as ToWrite, Flush as ToFlush, Fail as ToFail, Add as ToAdd, Step as ToStep, Wait as ToWait, ArraySize as ToSize, Grow as ToGrow, Stop as ToStop, Halt as ToHalt, Detail as ToDetail, Mdstat as ToMdstat, Examine as ToExamine}
+use Rattle.script.specs.declared.tables.Verb.TheVariants.{Create as ToCreate, Assemble as ToAssemble, Read as ToRead, Write as ToWrite, Flush as ToFlush, Fail as ToFail, Add as ToAdd, Step as ToStep, Wait as ToWait, ArraySize as ToSize, Grow as ToGrow, Stop as ToStop, Halt as ToHalt, Detail as ToDetail, Mdstat as ToMdstat, Examine as ToExamine, Alerts as ToAlerts}
 use Rattle.script.specs.declared.tables.BlockWord.{BlockWord}
 use Rattle.script.specs.declared.tables.BlockWord.TheVariants.{Together, A as NameA, B as NameB, End}
 use Rattle.script.proofs.NumberLaws.{number_means, number_means_from, span_means}
@@ -218,6 +218,7 @@ line_means ToHalt words = alone_means Halt words
 line_means ToDetail words = alone_means Detail words
 line_means ToMdstat words = alone_means Mdstat words
 line_means ToExamine words = examine_means words
+line_means ToAlerts words = alone_means Alerts words
 
 -- ---- the first word
 
@@ -255,23 +256,24 @@ skip x y e = ap (λ t. cond t x y) e
 -- a word that begins no line
 pub no_line : (word : List ℕ) (words : List (List ℕ)) → verb_in all_verbs word ≡ None → line_of (word ∷ words) ≡ None
 no_line word words none =
-    let p0 = none_first (bytes_eq word (codes "create")) ToCreate (verb_in (ToAssemble ∷ ToRead ∷ ToWrite ∷ ToFlush ∷ ToFail ∷ ToAdd ∷ ToStep ∷ ToWait ∷ ToSize ∷ ToGrow ∷ ToStop ∷ ToHalt ∷ ToDetail ∷ ToMdstat ∷ ToExamine ∷ []) word) none in
-    let p1 = none_first (bytes_eq word (codes "assemble")) ToAssemble (verb_in (ToRead ∷ ToWrite ∷ ToFlush ∷ ToFail ∷ ToAdd ∷ ToStep ∷ ToWait ∷ ToSize ∷ ToGrow ∷ ToStop ∷ ToHalt ∷ ToDetail ∷ ToMdstat ∷ ToExamine ∷ []) word) p0.1 in
-    let p2 = none_first (bytes_eq word (codes "read")) ToRead (verb_in (ToWrite ∷ ToFlush ∷ ToFail ∷ ToAdd ∷ ToStep ∷ ToWait ∷ ToSize ∷ ToGrow ∷ ToStop ∷ ToHalt ∷ ToDetail ∷ ToMdstat ∷ ToExamine ∷ []) word) p1.1 in
-    let p3 = none_first (bytes_eq word (codes "write")) ToWrite (verb_in (ToFlush ∷ ToFail ∷ ToAdd ∷ ToStep ∷ ToWait ∷ ToSize ∷ ToGrow ∷ ToStop ∷ ToHalt ∷ ToDetail ∷ ToMdstat ∷ ToExamine ∷ []) word) p2.1 in
-    let p4 = none_first (bytes_eq word (codes "flush")) ToFlush (verb_in (ToFail ∷ ToAdd ∷ ToStep ∷ ToWait ∷ ToSize ∷ ToGrow ∷ ToStop ∷ ToHalt ∷ ToDetail ∷ ToMdstat ∷ ToExamine ∷ []) word) p3.1 in
-    let p5 = none_first (bytes_eq word (codes "fail")) ToFail (verb_in (ToAdd ∷ ToStep ∷ ToWait ∷ ToSize ∷ ToGrow ∷ ToStop ∷ ToHalt ∷ ToDetail ∷ ToMdstat ∷ ToExamine ∷ []) word) p4.1 in
-    let p6 = none_first (bytes_eq word (codes "add")) ToAdd (verb_in (ToStep ∷ ToWait ∷ ToSize ∷ ToGrow ∷ ToStop ∷ ToHalt ∷ ToDetail ∷ ToMdstat ∷ ToExamine ∷ []) word) p5.1 in
-    let p7 = none_first (bytes_eq word (codes "step")) ToStep (verb_in (ToWait ∷ ToSize ∷ ToGrow ∷ ToStop ∷ ToHalt ∷ ToDetail ∷ ToMdstat ∷ ToExamine ∷ []) word) p6.1 in
-    let p8 = none_first (bytes_eq word (codes "wait")) ToWait (verb_in (ToSize ∷ ToGrow ∷ ToStop ∷ ToHalt ∷ ToDetail ∷ ToMdstat ∷ ToExamine ∷ []) word) p7.1 in
-    let p9 = none_first (bytes_eq word (codes "array-size")) ToSize (verb_in (ToGrow ∷ ToStop ∷ ToHalt ∷ ToDetail ∷ ToMdstat ∷ ToExamine ∷ []) word) p8.1 in
-    let p10 = none_first (bytes_eq word (codes "grow")) ToGrow (verb_in (ToStop ∷ ToHalt ∷ ToDetail ∷ ToMdstat ∷ ToExamine ∷ []) word) p9.1 in
-    let p11 = none_first (bytes_eq word (codes "stop")) ToStop (verb_in (ToHalt ∷ ToDetail ∷ ToMdstat ∷ ToExamine ∷ []) word) p10.1 in
-    let p12 = none_first (bytes_eq word (codes "halt")) ToHalt (verb_in (ToDetail ∷ ToMdstat ∷ ToExamine ∷ []) word) p11.1 in
-    let p13 = none_first (bytes_eq word (codes "detail")) ToDetail (verb_in (ToMdstat ∷ ToExamine ∷ []) word) p12.1 in
-    let p14 = none_first (bytes_eq word (codes "mdstat")) ToMdstat (verb_in (ToExamine ∷ []) word) p13.1 in
-    let p15 = none_first (bytes_eq word (codes "examine")) ToExamine (verb_in [] word) p14.1 in
-    rw (p0.0, p1.0, p2.0, p3.0, p4.0, p5.0, p6.0, p7.0, p8.0, p9.0, p10.0, p11.0, p12.0, p13.0, p14.0, p15.0) refl
+    let p0 = none_first (bytes_eq word (codes "create")) ToCreate (verb_in (ToAssemble ∷ ToRead ∷ ToWrite ∷ ToFlush ∷ ToFail ∷ ToAdd ∷ ToStep ∷ ToWait ∷ ToSize ∷ ToGrow ∷ ToStop ∷ ToHalt ∷ ToDetail ∷ ToMdstat ∷ ToExamine ∷ ToAlerts ∷ []) word) none in
+    let p1 = none_first (bytes_eq word (codes "assemble")) ToAssemble (verb_in (ToRead ∷ ToWrite ∷ ToFlush ∷ ToFail ∷ ToAdd ∷ ToStep ∷ ToWait ∷ ToSize ∷ ToGrow ∷ ToStop ∷ ToHalt ∷ ToDetail ∷ ToMdstat ∷ ToExamine ∷ ToAlerts ∷ []) word) p0.1 in
+    let p2 = none_first (bytes_eq word (codes "read")) ToRead (verb_in (ToWrite ∷ ToFlush ∷ ToFail ∷ ToAdd ∷ ToStep ∷ ToWait ∷ ToSize ∷ ToGrow ∷ ToStop ∷ ToHalt ∷ ToDetail ∷ ToMdstat ∷ ToExamine ∷ ToAlerts ∷ []) word) p1.1 in
+    let p3 = none_first (bytes_eq word (codes "write")) ToWrite (verb_in (ToFlush ∷ ToFail ∷ ToAdd ∷ ToStep ∷ ToWait ∷ ToSize ∷ ToGrow ∷ ToStop ∷ ToHalt ∷ ToDetail ∷ ToMdstat ∷ ToExamine ∷ ToAlerts ∷ []) word) p2.1 in
+    let p4 = none_first (bytes_eq word (codes "flush")) ToFlush (verb_in (ToFail ∷ ToAdd ∷ ToStep ∷ ToWait ∷ ToSize ∷ ToGrow ∷ ToStop ∷ ToHalt ∷ ToDetail ∷ ToMdstat ∷ ToExamine ∷ ToAlerts ∷ []) word) p3.1 in
+    let p5 = none_first (bytes_eq word (codes "fail")) ToFail (verb_in (ToAdd ∷ ToStep ∷ ToWait ∷ ToSize ∷ ToGrow ∷ ToStop ∷ ToHalt ∷ ToDetail ∷ ToMdstat ∷ ToExamine ∷ ToAlerts ∷ []) word) p4.1 in
+    let p6 = none_first (bytes_eq word (codes "add")) ToAdd (verb_in (ToStep ∷ ToWait ∷ ToSize ∷ ToGrow ∷ ToStop ∷ ToHalt ∷ ToDetail ∷ ToMdstat ∷ ToExamine ∷ ToAlerts ∷ []) word) p5.1 in
+    let p7 = none_first (bytes_eq word (codes "step")) ToStep (verb_in (ToWait ∷ ToSize ∷ ToGrow ∷ ToStop ∷ ToHalt ∷ ToDetail ∷ ToMdstat ∷ ToExamine ∷ ToAlerts ∷ []) word) p6.1 in
+    let p8 = none_first (bytes_eq word (codes "wait")) ToWait (verb_in (ToSize ∷ ToGrow ∷ ToStop ∷ ToHalt ∷ ToDetail ∷ ToMdstat ∷ ToExamine ∷ ToAlerts ∷ []) word) p7.1 in
+    let p9 = none_first (bytes_eq word (codes "array-size")) ToSize (verb_in (ToGrow ∷ ToStop ∷ ToHalt ∷ ToDetail ∷ ToMdstat ∷ ToExamine ∷ ToAlerts ∷ []) word) p8.1 in
+    let p10 = none_first (bytes_eq word (codes "grow")) ToGrow (verb_in (ToStop ∷ ToHalt ∷ ToDetail ∷ ToMdstat ∷ ToExamine ∷ ToAlerts ∷ []) word) p9.1 in
+    let p11 = none_first (bytes_eq word (codes "stop")) ToStop (verb_in (ToHalt ∷ ToDetail ∷ ToMdstat ∷ ToExamine ∷ ToAlerts ∷ []) word) p10.1 in
+    let p12 = none_first (bytes_eq word (codes "halt")) ToHalt (verb_in (ToDetail ∷ ToMdstat ∷ ToExamine ∷ ToAlerts ∷ []) word) p11.1 in
+    let p13 = none_first (bytes_eq word (codes "detail")) ToDetail (verb_in (ToMdstat ∷ ToExamine ∷ ToAlerts ∷ []) word) p12.1 in
+    let p14 = none_first (bytes_eq word (codes "mdstat")) ToMdstat (verb_in (ToExamine ∷ ToAlerts ∷ []) word) p13.1 in
+    let p15 = none_first (bytes_eq word (codes "examine")) ToExamine (verb_in (ToAlerts ∷ []) word) p14.1 in
+    let p16 = none_first (bytes_eq word (codes "alerts")) ToAlerts (verb_in [] word) p15.1 in
+    rw (p0.0, p1.0, p2.0, p3.0, p4.0, p5.0, p6.0, p7.0, p8.0, p9.0, p10.0, p11.0, p12.0, p13.0, p14.0, p15.0, p16.0) refl
 
 abbrev pub of_result : Result Meaning Wrong → Meaning
 of_result (Ok meaning) = meaning
@@ -338,6 +340,7 @@ lines_of_lanes ToHalt words is_one = absurd (true≢false (sym is_one))
 lines_of_lanes ToDetail words is_one = absurd (true≢false (sym is_one))
 lines_of_lanes ToMdstat words is_one = absurd (true≢false (sym is_one))
 lines_of_lanes ToExamine words is_one = absurd (true≢false (sym is_one))
+lines_of_lanes ToAlerts words is_one = absurd (true≢false (sym is_one))
 
 created_none : (uuid : List ℕ) (given : Given) (l d s : Option ℕ) → for_lanes (result_ok (wrongly [] 0 (create_with uuid given l d s))) ≡ None
 created_none uuid given None d s = refl
@@ -370,6 +373,7 @@ lines_of_none ToHalt words is_none = ended_none Halt words refl
 lines_of_none ToDetail words is_none = ended_none Detail words refl
 lines_of_none ToMdstat words is_none = ended_none Mdstat words refl
 lines_of_none ToExamine words is_none = no_lane_on (at_value small Slot words) (λ n. end_of (Examine n) (drop 1 words)) (λ n. ended_none (Examine n) (drop 1 words) refl)
+lines_of_none ToAlerts words is_none = ended_none Alerts words refl
 
 pub lane_means : (lane : Lane) (words : List (List ℕ)) → of_result (read_lane lane words) ≡ asks_for lane (for_lanes (line_of words))
 lane_means lane [] = refl
@@ -411,6 +415,7 @@ outside_verb ToHalt words = refl
 outside_verb ToDetail words = refl
 outside_verb ToMdstat words = refl
 outside_verb ToExamine words = refl
+outside_verb ToAlerts words = refl
 
 pub outside_means : (words : List (List ℕ)) → of_result (read_outside words) ≡ outside_of words
 outside_means [] = refl

@@ -9,7 +9,7 @@ use Rattle.script_words.specs.Numbers.{is_space, words_of, number_below}
 use Rattle.script_words.specs.Shapes.{shape_of}
 use Rattle.script_words.specs.Wishes.{wish_of}
 use Rattle.script.specs.declared.lines.Line.{Line}
-use Rattle.script.specs.declared.lines.Line.TheVariants.{Create, Read, Write, Flush, Fail, Add, Step, Wait, ArraySize, Grow, Stop, Halt, Detail, Mdstat, Examine, Assemble}
+use Rattle.script.specs.declared.lines.Line.TheVariants.{Create, Read, Write, Flush, Fail, Add, Step, Wait, ArraySize, Grow, Stop, Halt, Detail, Mdstat, Alerts, Examine, Assemble}
 use Rattle.script.specs.declared.grammar.Meaning.{Meaning}
 use Rattle.script.specs.declared.grammar.Meaning.TheVariants.{PassedOver, Opens, Asks, Bad}
 use Rattle.script.specs.declared.reply.Lane.{Lane}
@@ -45,7 +45,7 @@ abbrev pub create_of : List (List ℕ) → Option Line
 create_of [] = None
 create_of (uuid ∷ words) = if list_all (has_key create_keys) words then array_of uuid words else None
 
--- `array_create_assemble` or `assemble UUID`
+-- `assemble` or `assemble UUID`
 abbrev pub assemble_of : List (List ℕ) → Option Line
 assemble_of [] = Some (Assemble None)
 assemble_of (uuid ∷ []) = option_map (λ bytes. Assemble (Some bytes)) (parsed uuid)
@@ -120,6 +120,7 @@ line_of (verb ∷ values) =
     else if bytes_eq verb (codes "detail") then alone Detail values
     else if bytes_eq verb (codes "mdstat") then alone Mdstat values
     else if bytes_eq verb (codes "examine") then examine_of values
+    else if bytes_eq verb (codes "alerts") then alone Alerts values
     else None
 
 -- printable ASCII and spaces

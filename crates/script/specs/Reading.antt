@@ -13,7 +13,7 @@ use Rattle.script_words.specs.Layouts.{layout_named}
 use Rattle.script.specs.Tables.{all_verbs, verb_in, all_block_words, block_word_in, keys_of, key_name, key_in}
 use Rattle.script.specs.declared.keyed.Given.{Given}
 use Rattle.script.specs.declared.lines.Line.{Line}
-use Rattle.script.specs.declared.lines.Line.TheVariants.{Create, Read, Write, Flush, Fail, Add, Step, Wait, ArraySize, Grow, Stop, Halt, Detail, Mdstat, Examine, Assemble}
+use Rattle.script.specs.declared.lines.Line.TheVariants.{Create, Read, Write, Flush, Fail, Add, Step, Wait, ArraySize, Grow, Stop, Halt, Detail, Mdstat, Alerts, Examine, Assemble}
 use Rattle.script.specs.declared.grammar.Meaning.{Meaning}
 use Rattle.script.specs.declared.grammar.Meaning.TheVariants.{Opens, Asks}
 use Rattle.script.specs.declared.mistakes.Mistake.{Mistake}
@@ -26,7 +26,7 @@ use Rattle.script.specs.declared.mistakes.Wrong.{Wrong}
 use Rattle.script.specs.declared.reply.Lane.{Lane}
 use Rattle.script.specs.declared.reply.Lane.TheVariants.{Script, A, B, Worker}
 use Rattle.script.specs.declared.tables.Verb.{Verb}
-use Rattle.script.specs.declared.tables.Verb.TheVariants.{Create as ToCreate, Assemble as ToAssemble, Read as ToRead, Write as ToWrite, Flush as ToFlush, Fail as ToFail, Add as ToAdd, Step as ToStep, Wait as ToWait, ArraySize as ToSize, Grow as ToGrow, Stop as ToStop, Halt as ToHalt, Detail as ToDetail, Mdstat as ToMdstat, Examine as ToExamine}
+use Rattle.script.specs.declared.tables.Verb.TheVariants.{Create as ToCreate, Assemble as ToAssemble, Read as ToRead, Write as ToWrite, Flush as ToFlush, Fail as ToFail, Add as ToAdd, Step as ToStep, Wait as ToWait, ArraySize as ToSize, Grow as ToGrow, Stop as ToStop, Halt as ToHalt, Detail as ToDetail, Mdstat as ToMdstat, Examine as ToExamine, Alerts as ToAlerts}
 use Rattle.script.specs.declared.tables.BlockWord.{BlockWord}
 use Rattle.script.specs.declared.tables.BlockWord.TheVariants.{Together, A as NameA, B as NameB, End}
 use Rattle.script.specs.declared.tables.Key.{Key}
@@ -203,6 +203,7 @@ read_verb ToHalt words = end_of Halt words
 read_verb ToDetail words = end_of Detail words
 read_verb ToMdstat words = end_of Mdstat words
 read_verb ToExamine words = read_one small Slot (λ n. Examine n) words
+read_verb ToAlerts words = end_of Alerts words
 
 abbrev pub is_for_lanes_verb : Verb → Bool
 is_for_lanes_verb ToRead = true

@@ -3,7 +3,7 @@ use Rattle.std.specs.Prelude.{ℕ, if◌then◌else◌, List, [], ◌∷◌, byt
 use Rattle.std.specs.Option.{is_some}
 use Rattle.script_words.specs.Keys.{behind}
 use Rattle.script.specs.declared.tables.Verb.{Verb}
-use Rattle.script.specs.declared.tables.Verb.TheVariants.{Create, Assemble, Read, Write, Flush, Fail, Add, Step, Wait, ArraySize, Grow, Stop, Halt, Detail, Mdstat, Examine}
+use Rattle.script.specs.declared.tables.Verb.TheVariants.{Create, Assemble, Read, Write, Flush, Fail, Add, Step, Wait, ArraySize, Grow, Stop, Halt, Detail, Mdstat, Examine, Alerts}
 use Rattle.script.specs.declared.tables.BlockWord.{BlockWord}
 use Rattle.script.specs.declared.tables.BlockWord.TheVariants.{Together, A, B, End}
 use Rattle.script.specs.declared.tables.Key.{Key}
@@ -11,7 +11,7 @@ use Rattle.script.specs.declared.tables.Key.TheVariants.{Level, Disks, Chunk, La
 
 abbrev pub all_verbs : List Verb
 all_verbs =
-    Create ∷ Assemble ∷ Read ∷ Write ∷ Flush ∷ Fail ∷ Add ∷ Step ∷ Wait ∷ ArraySize ∷ Grow ∷ Stop ∷ Halt ∷ Detail ∷ Mdstat ∷ Examine ∷ []
+    Create ∷ Assemble ∷ Read ∷ Write ∷ Flush ∷ Fail ∷ Add ∷ Step ∷ Wait ∷ ArraySize ∷ Grow ∷ Stop ∷ Halt ∷ Detail ∷ Mdstat ∷ Examine ∷ Alerts ∷ []
 
 abbrev pub verb_name : Verb → List ℕ
 verb_name Create = codes "create"
@@ -30,6 +30,7 @@ verb_name Halt = codes "halt"
 verb_name Detail = codes "detail"
 verb_name Mdstat = codes "mdstat"
 verb_name Examine = codes "examine"
+verb_name Alerts = codes "alerts"
 
 -- the first of these verbs that a word is
 abbrev pub verb_in : List Verb → List ℕ → Option Verb

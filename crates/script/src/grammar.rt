@@ -101,6 +101,7 @@ fn read_verb(verb: Verb, words: Words<'_>) -> Result<Line, Wrong>
             let slot = small_at(words, Value::Slot, 0, u32::MAX)?;
             end_of(behind_first(words), Line::Examine { slot })
         }
+        Verb::Alerts => end_of(words, Line::Alerts),
     }
 }
 

@@ -29,6 +29,7 @@ pub enum Line {
     Halt,
     Detail,
     Mdstat,
+    Alerts,
     Examine { slot: u32 },
     Assemble { uuid: Option<[u8; 16]> },
 }

@@ -140,7 +140,7 @@ pub fn push_lane(text: &mut Vec<u8>, lane: Lane) -> Result<(), AllocError>
     }
 }
 
-/// Appends the reply of `array_create_assemble`.
+/// Appends the reply of `assemble`.
 pub fn push_assembled(text: &mut Vec<u8>, status: &Status) -> Result<(), AllocError>
     ensures appended { Appends text.old text.new result (assembled_text status.now) }
     ensures short { AppendsFew 240 text.old text.new result }

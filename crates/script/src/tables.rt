@@ -23,6 +23,7 @@ pub enum Verb {
     Detail,
     Mdstat,
     Examine,
+    Alerts,
 }
 
 /// A word that opens a block, closes one, or names a lane in it.
@@ -46,7 +47,7 @@ pub enum Key {
     Offset,
 }
 
-pub const VERBS: [Verb; 16] = [
+pub const VERBS: [Verb; 17] = [
     Verb::Create,
     Verb::Assemble,
     Verb::Read,
@@ -63,6 +64,7 @@ pub const VERBS: [Verb; 16] = [
     Verb::Detail,
     Verb::Mdstat,
     Verb::Examine,
+    Verb::Alerts,
 ];
 
 pub const BLOCK_WORDS: [BlockWord; 4] = [
@@ -94,6 +96,7 @@ impl Verb {
             Verb::Detail => "detail",
             Verb::Mdstat => "mdstat",
             Verb::Examine => "examine",
+            Verb::Alerts => "alerts",
         }
     }
 

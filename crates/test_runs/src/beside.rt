@@ -3,7 +3,7 @@
 ghost use Rattle.std.specs.Prelude.{◌≡◌};
 
 use crate::runs::{PLAIN, Row, bank_of, source_of};
-use run_scripts::{Pace, run_script};
+use run_scripts::{Hook, Pace, run_script};
 use script_io::MemorySink;
 use std::alloc::Global;
 use std::sync::Wait;
@@ -46,6 +46,7 @@ fn status_beside(
         bank,
         Some(7),
         &pace,
+        &Hook::new(|_, _| true),
     );
     Ok(report.status)
 }

@@ -5,7 +5,7 @@
 ghost use Rattle.std.specs.Prelude.{◌≡◌, length, IfOk};
 
 use bank::MemoryBank;
-use run_scripts::{Pace, Report, run_script};
+use run_scripts::{AlertKind, Hook, Pace, Report, run_script};
 use script_io::{MemorySink, MemorySource};
 use std::alloc::Global;
 use std::process::Abort;
@@ -63,11 +63,12 @@ pub fn bank_of(alloc: Global, row: &Row) -> Result<MemoryBank, Fail>
     Ok(MemoryBank::new(alloc, lengths, row.room, calls)?)
 }
 
-// The report of a run, and what its sink took.
+// The report of a run whose hook wants every alert, or the urgent ones alone, and what its sink took.
 fn ran<R: Threads + Wait + Sync>(
     rt: &R,
     alloc: Global,
     row: &Row,
+    urgent_alone: bool,
 ) -> Result<(Report<MemoryBank>, Vec<u8>), Fail> {
     let mut source = source_of(alloc, row)?;
     let pushes = Vec::from_slice(alloc, row.pushes)?;
@@ -78,6 +79,10 @@ fn ran<R: Threads + Wait + Sync>(
             ensures { result ≡ 1 }
         { 1 },
     );
+    let hook = Hook::new(move |kind, _number| match kind {
+        AlertKind::Fail | AlertKind::DegradedArray => true,
+        _ => !urgent_alone,
+    });
     let report = run_script(
         rt,
         alloc,
@@ -87,6 +92,7 @@ fn ran<R: Threads + Wait + Sync>(
         bank,
         Some(7),
         &pace,
+        &hook,
     );
     let taken = Vec::from_slice(alloc, sink.bytes())?;
     Ok((report, taken))
@@ -98,7 +104,7 @@ fn compare<R: Threads + Wait + Sync + Abort>(
     rows: &[Row],
 ) -> Result<(), Fail> {
     for row in rows {
-        let (report, taken) = ran(rt, alloc, row)?;
+        let (report, taken) = ran(rt, alloc, row, false)?;
         assert!(rt; taken.as_slice() == row.output, "{}", row.lines);
         assert!(rt;
             report.status == row.status && report.bad_line == 0,
@@ -212,4 +218,18 @@ const RUNS: [Row; 12] = [
 #[test]
 fn runs_of_scripts(rt: HostRuntime) -> Result<(), Fail> {
     compare(&rt, rt.alloc(), &RUNS)
+}
+
+// A role is failed, and rebuilt onto a spare.
+const REBUILT: Row = Row {
+    lines: "add 3\nfail 1\nstep 7\nalerts\nalerts\n",
+    output: b"created\nadded 3\nfailed 1\nstepped 7 left 0\nalerts 1 Fail 1\nalerts 0\n",
+    ..PLAIN
+};
+
+#[test]
+fn urgent_alerts_alone(rt: HostRuntime) -> Result<(), Fail> {
+    let (report, taken) = ran(&rt, rt.alloc(), &REBUILT, true)?;
+    assert!(rt; report.status == 0 && taken.as_slice() == REBUILT.output);
+    Ok(())
 }

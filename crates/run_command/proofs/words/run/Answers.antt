@@ -6,14 +6,15 @@ use Rattle.run_scripts.specs.Runs.{IsScriptPerformed, IsScriptBad, sunk_of}
 use Rattle.run_scripts.proofs.NothingDone.{none-legal, none-right, none-kept, none-ended, none-lost, same-faults, before-lines, short-before}
 use Rattle.run_scripts.proofs.Unfailed.{unfailed-epochs, none-unfailed, no-bad-line, well-ended}
 use Rattle.run_scripts.proofs.run_session_Unmoved.{grows-same}
+use Rattle.run_scripts.specs.history_monitor_Hooks.{wanted_by}
 use Rattle.run_command.proofs.words.run.Goals as goal
 
 pub returns-clause-performed : goal.returns-clause-performed
 returns-clause-performed g c after =
     let source = g.S.Source.left c.args.script.now in
     let sunk = sunk_of g.K.Sink.tells (g.K.Sink.taken c.args.out.now) (g.K.Sink.taken c.run_script.new.out) c.run_script.result.shown in
-    let performed = subst (λ (demo : Option ℕ). IsScriptPerformed demo g.S.Source.tells source (g.S.Source.left c.run_script.new.script) (setting_of g.B.Bank.tells (g.B.Bank.given c.args.bank) (g.B.Bank.tape c.args.bank) (g.B.Bank.tape c.run_script.result.bank) c.backup_of-backup.result (g.B.Bank.faults_of c.args.bank) (g.B.Bank.faults_of c.run_script.result.bank)) sunk c.run_script.result.status c.run_script.result.epochs.items c.run_script.result.lines.items) c.demo_of-demo.ensures.demo (c.run_script.ensures.performed after) in
-    subst (λ (backup : Option ℕ). IsScriptPerformed (demo_in (map string_bytes c.args.words.now)) g.S.Source.tells source (g.S.Source.left c.run_script.new.script) (setting_of g.B.Bank.tells (g.B.Bank.given c.args.bank) (g.B.Bank.tape c.args.bank) (g.B.Bank.tape c.run_script.result.bank) backup (g.B.Bank.faults_of c.args.bank) (g.B.Bank.faults_of c.run_script.result.bank)) sunk c.run_script.result.status c.run_script.result.epochs.items c.run_script.result.lines.items) c.backup_of-backup.ensures.backup performed
+    let performed = subst (λ (demo : Option ℕ). IsScriptPerformed (goal.G-post g (wanted_by c.args.hook)) demo g.S.Source.tells source (g.S.Source.left c.run_script.new.script) (setting_of g.B.Bank.tells (g.B.Bank.given c.args.bank) (g.B.Bank.tape c.args.bank) (g.B.Bank.tape c.run_script.result.bank) c.backup_of-backup.result (g.B.Bank.faults_of c.args.bank) (g.B.Bank.faults_of c.run_script.result.bank)) sunk c.run_script.result.status c.run_script.result.epochs.items c.run_script.result.lines.items) c.demo_of-demo.ensures.demo (c.run_script.ensures.performed after) in
+    subst (λ (backup : Option ℕ). IsScriptPerformed (goal.G-post g (wanted_by c.args.hook)) (demo_in (map string_bytes c.args.words.now)) g.S.Source.tells source (g.S.Source.left c.run_script.new.script) (setting_of g.B.Bank.tells (g.B.Bank.given c.args.bank) (g.B.Bank.tape c.args.bank) (g.B.Bank.tape c.run_script.result.bank) backup (g.B.Bank.faults_of c.args.bank) (g.B.Bank.faults_of c.run_script.result.bank)) sunk c.run_script.result.status c.run_script.result.epochs.items c.run_script.result.lines.items) c.backup_of-backup.ensures.backup performed
 
 pub returns-clause-right : goal.returns-clause-right
 returns-clause-right g c =

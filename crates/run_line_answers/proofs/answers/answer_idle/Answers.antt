@@ -103,6 +103,13 @@ returns-in-Mdstat-clause-answered g c =
     (turn_idle setting c.args.bank c.args.epochs c.args.epochs refl c.requires.own c.args.bank c.args.line NotRunning (λ t. omega arith)
     (subst (λ (l : Line). IsRefusedOutside setting false (length (g.B.Bank.tape c.args.bank)) l NotRunning) (sym c.in-Mdstat.is) refl))
 
+pub returns-in-Alerts-clause-answered : goal.returns-in-Alerts-clause-answered
+returns-in-Alerts-clause-answered g c =
+    let setting = setting_of g.B.Bank.tells (g.B.Bank.given c.args.bank) (g.B.Bank.tape c.args.bank) (g.B.Bank.tape c.args.bank) c.args.backup (g.B.Bank.faults_of c.args.bank) (g.B.Bank.faults_of c.args.bank) in
+    subst (λ (what : Answered). IsTurn setting (IsIdle c.args.bank c.args.epochs) (IsIdle c.args.bank c.args.epochs) c.args.line what) (sym c.refused-in-Alerts.ensures)
+    (turn_idle setting c.args.bank c.args.epochs c.args.epochs refl c.requires.own c.args.bank c.args.line NotRunning (λ t. omega arith)
+    (subst (λ (l : Line). IsRefusedOutside setting false (length (g.B.Bank.tape c.args.bank)) l NotRunning) (sym c.in-Alerts.is) refl))
+
 pub returns-in-Read-clause-written : goal.returns-in-Read-clause-written
 returns-in-Read-clause-written g c told =
     let setting = setting_of g.B.Bank.tells (g.B.Bank.given c.args.bank) (g.B.Bank.tape c.args.bank) (g.B.Bank.tape c.args.bank) c.args.backup (g.B.Bank.faults_of c.args.bank) (g.B.Bank.faults_of c.args.bank) in
@@ -165,5 +172,10 @@ returns-in-Detail-clause-written g c told =
 
 pub returns-in-Mdstat-clause-written : goal.returns-in-Mdstat-clause-written
 returns-in-Mdstat-clause-written g c told =
+    let setting = setting_of g.B.Bank.tells (g.B.Bank.given c.args.bank) (g.B.Bank.tape c.args.bank) (g.B.Bank.tape c.args.bank) c.args.backup (g.B.Bank.faults_of c.args.bank) (g.B.Bank.faults_of c.args.bank) in
+    written_idle setting c.args.epochs.items c.args.epochs.items (HasWritten (g.B.Bank.given c.args.bank) c.args.backup c.args.line _) refl (omega arith)
+
+pub returns-in-Alerts-clause-written : goal.returns-in-Alerts-clause-written
+returns-in-Alerts-clause-written g c told =
     let setting = setting_of g.B.Bank.tells (g.B.Bank.given c.args.bank) (g.B.Bank.tape c.args.bank) (g.B.Bank.tape c.args.bank) c.args.backup (g.B.Bank.faults_of c.args.bank) (g.B.Bank.faults_of c.args.bank) in
     written_idle setting c.args.epochs.items c.args.epochs.items (HasWritten (g.B.Bank.given c.args.bank) c.args.backup c.args.line _) refl (omega arith)

@@ -3,6 +3,8 @@ use Rattle.run_requests.specs.bank_Given.{NeverFalls}
 use Rattle.run_requests.specs.raid_types_the_NoMemory.{NoMemory}
 use Rattle.run_requests.specs.script_the_Line.{Line}
 use Rattle.run_requests.specs.script_the_Line_TheVariants.{Read, Write, Flush, Fail, Add, ArraySize, Grow, Step, Wait, Detail, Mdstat}
+use Rattle.run_requests.specs.run_specs_the_Outside_TheVariants.{Alerts as ToldAlerts}
+use Rattle.run_requests.specs.run_specs_the_Answered_TheVariants.{Outside as IsOutside}
 use Rattle.run_requests.specs.raid_types_the_Refusal_TheVariants.{Running as RefusedRunning}
 use Rattle.run_requests.specs.run_specs_Making.{setting_of}
 use Rattle.run_requests.specs.run_specs_Replies.{IsRefusedOutside}
@@ -18,7 +20,7 @@ use Rattle.run_requests.specs.sb_specs_Reading.{list_length}
 use Rattle.run_requests.specs.run_specs_Caused.{record_of}
 use Rattle.run_requests.proofs.CausedLaws.{unjudged-asked, detail-judged, mdstat-judged}
 use Rattle.run_requests.proofs.RecordLaws.{untouched-asked, stepped-asked}
-use Rattle.run_line_answers.proofs.Turns.{turn_of_ask, turn_of_wait, turn_refused, going_read, going_write, going_flush, going_fail, going_add, going_visible, going_grow, going_steps}
+use Rattle.run_line_answers.proofs.Turns.{turn_of_ask, turn_of_wait, turn_refused, turn_alerts, going_read, going_write, going_flush, going_fail, going_add, going_visible, going_grow, going_steps}
 use Rattle.run_requests.proofs.Statuses.{going_detail, going_mdstat}
 use Rattle.run_requests.specs.run_specs_Written.{HasWritten}
 use Rattle.run_requests.proofs.Writing.{written-nothing, written_going}
@@ -211,6 +213,12 @@ returns-in-Create-clause-answered g c =
     let setting = setting_of g.B.Bank.tells (g.B.Bank.given array.parts.bank) (g.B.Bank.tape array.parts.bank) (g.B.Bank.tape array.parts.bank) c.args.backup (g.B.Bank.faults_of array.parts.bank) (g.B.Bank.faults_of array.parts.bank) in
     subst (λ (what : Answered). IsTurn setting (IsRunning array c.args.epochs) (IsRunning array c.args.epochs) c.args.line what) (sym c.refused.ensures)
     (turn_refused setting array c.args.epochs c.args.line c.requires.own (λ t. omega arith) (subst (λ (l : Line). IsRefusedOutside setting true (length (g.B.Bank.tape array.parts.bank)) l RefusedRunning) (sym c.in-Create.is) refl))
+
+pub returns-in-Alerts-clause-answered : goal.returns-in-Alerts-clause-answered
+returns-in-Alerts-clause-answered g c =
+    let array = c.args.array in
+    let setting = setting_of g.B.Bank.tells (g.B.Bank.given array.parts.bank) (g.B.Bank.tape array.parts.bank) (g.B.Bank.tape array.parts.bank) c.args.backup (g.B.Bank.faults_of array.parts.bank) (g.B.Bank.faults_of array.parts.bank) in
+    turn_alerts setting array c.args.epochs c.args.line c.args.alerts c.requires.own (λ t. omega arith) c.in-Alerts.is
 
 pub returns-in-Assemble-clause-answered : goal.returns-in-Assemble-clause-answered
 returns-in-Assemble-clause-answered g c =
@@ -426,6 +434,12 @@ returns-in-Create-clause-written g c told =
     let array = c.args.array in
     let setting = setting_of g.B.Bank.tells (g.B.Bank.given array.parts.bank) (g.B.Bank.tape array.parts.bank) (g.B.Bank.tape array.parts.bank) c.args.backup (g.B.Bank.faults_of array.parts.bank) (g.B.Bank.faults_of array.parts.bank) in
     written-nothing setting (histories_in (IsRunning array c.args.epochs)) (HasWritten (g.B.Bank.given array.parts.bank) c.args.backup c.args.line _) (omega arith)
+
+pub returns-in-Alerts-clause-written : goal.returns-in-Alerts-clause-written
+returns-in-Alerts-clause-written g c told =
+    let array = c.args.array in
+    let setting = setting_of g.B.Bank.tells (g.B.Bank.given array.parts.bank) (g.B.Bank.tape array.parts.bank) (g.B.Bank.tape array.parts.bank) c.args.backup (g.B.Bank.faults_of array.parts.bank) (g.B.Bank.faults_of array.parts.bank) in
+    written-nothing setting (histories_in (IsRunning array c.args.epochs)) (HasWritten (g.B.Bank.given array.parts.bank) c.args.backup c.args.line (IsOutside (ToldAlerts c.args.alerts))) (omega arith)
 
 pub returns-in-Assemble-clause-written : goal.returns-in-Assemble-clause-written
 returns-in-Assemble-clause-written g c told =

@@ -1,4 +1,4 @@
-use Rattle.std.proofs.Common.{sym, subst}
+use Rattle.std.proofs.Common.{[], length, sym, subst}
 use Rattle.history_reopen_laws.specs.bank_Given.{Given, NeverFalls}
 use Rattle.run_session.specs.run_specs_Ended.{AreLegal, AreRight}
 use Rattle.run_session.specs.array_members_Moving.{Grows}
@@ -10,6 +10,9 @@ use Rattle.run_session.specs.run_specs_Histories.{histories_of}
 use Rattle.run_session.specs.run_specs_States.{histories_in}
 use Rattle.run_session.specs.run_specs_Written.{IsWritten}
 use Rattle.run_scripts.proofs.Ends.{end_status, end_performed, end_losses, end_taken, end_shown}
+use Rattle.run_session.specs.history_monitor_Hooks.{wanted_by}
+use Rattle.run_session.specs.run_specs_Replies.{at_rest}
+use Rattle.run_session.proofs.Alerted.{alerts_stay}
 use Rattle.run_scripts.proofs.runs.run_lines.Goals as goal
 
 pub returns-clause-status : goal.returns-clause-status
@@ -30,6 +33,12 @@ returns-clause-performed g c =
     (subst (λ (b : g.row.B.Denot). Grows g.B.Bank.tells (g.B.Bank.tape c.args.bank) (g.B.Bank.tape b)) (sym ended.same_bank) did.grows)
     (subst (λ (known : Given). g.B.Bank.tells → IsWritten (setting_of g.B.Bank.tells known (g.B.Bank.tape c.end_run-bank.result.0) (g.B.Bank.tape c.end_run-bank.result.0) c.args.backup (g.B.Bank.faults_of c.end_run-bank.result.0) (g.B.Bank.faults_of c.end_run-bank.result.0)) (histories_in c.perform-state.result.state) (histories_of c.end_run-bank.result.1.items) (λ slot. ⊥)) c.perform-state.ensures.given c.end_run-bank.ensures.written)
     c.end_run-bank.ensures.rising
+
+pub returns-clause-alerts : goal.returns-clause-alerts
+returns-clause-alerts g c =
+    let did = c.perform-state.ensures in
+    (alerts_stay (goal.G-post g (wanted_by c.args.hook.now)) _ (histories_in c.perform-state.result.state) (histories_of c.end_run-bank.result.1.items) (at_rest 0) [] (length c.perform-state.result.replies.items) c.args.lines.now c.perform-state.result.replies.items
+    c.end_run-bank.ensures.ended.grown did.performed.replies did.alerts).0
 
 pub returns-clause-taken : goal.returns-clause-taken
 returns-clause-taken g c =

@@ -1,4 +1,4 @@
-use Rattle.std.proofs.Common.{◌≡◌, ℕ, take, ◌++◌, ◌||◌, ◌+◌, Bool, List, length, refl, sym, ◌∙◌, ap, subst}
+use Rattle.std.proofs.Common.{◌≡◌, ℕ, take, ◌++◌, ◌||◌, ◌+◌, Bool, List, length, refl, sym, ◌∙◌, ap, subst, arith, vec_capacity}
 use Rattle.run_blocks.specs.script_the_Numbered.{Numbered}
 use Rattle.run_blocks.specs.run_specs_the_Answered.{Answered}
 use Rattle.run_blocks.specs.run_specs_the_LineReply.{LineReply}
@@ -7,6 +7,7 @@ use Rattle.run_blocks.specs.run_specs_Replies.{IsEnd}
 use Rattle.run_blocks.specs.run_specs_States.{histories_in, bank_in, IsNamed}
 use Rattle.run_blocks.specs.Shown.{reply_text, IsAnswerShort}
 use Rattle.run_session.specs.Sessions.{counted, IsEndNow, IsMadeOf}
+use Rattle.run_blocks.proofs.Shortness.{short_wider}
 use Rattle.run_session.proofs.blocks.show.Goals as goal
 
 -- the reply that was made
@@ -25,7 +26,8 @@ put_text-requires g c =
     let made = c.reply_of-reply.ensures in
     record {
       named = subst (λ (w : Answered). IsNamed (histories_in c.args.session.state) w) (sym made.what) c.requires.named;
-      short = subst (λ (w : Answered). IsAnswerShort (histories_in c.args.session.state) w) (sym made.what) c.requires.short;
+      short = subst (λ (w : Answered). IsAnswerShort (vec_capacity c.args.session.buffer) (histories_in c.args.session.state) w) (sym made.what)
+          (short_wider (histories_in c.args.session.state) c.args.what 0 (vec_capacity c.args.session.buffer) (omega arith) c.requires.short);
       room = c.requires.room;
     }
 

@@ -31,7 +31,7 @@ loop-what-init g c =
       spare = omega (arith, c.requires.spare);
       shown = none-shown g.K.Sink.tells g.B.Bank.tells (length (g.B.Bank.tape (bank_in c.args.session.state))) hs c.args.session c.args.session c.args.lines.now c.args.whats.items (g.K.Sink.taken c.args.out.now) None refl (λ told. sym (append-nil (g.K.Sink.taken c.args.out.now))) refl refl refl;
       named = All-same (λ what. IsNamed hs what) _ _ items c.requires.named;
-      short = All-same (λ what. IsAnswerShort hs what) _ _ items c.requires.short;
+      short = All-same (λ what. IsAnswerShort 0 hs what) _ _ items c.requires.short;
       falls = omega arith;
     }
 
@@ -57,7 +57,7 @@ loop-what-preserved g c =
       spare = (let count = ap (λ (l : List LineReply). length l) one.more ∙ length-append c.loop-what.session.replies.items (one.reply ∷ []) in omega (arith, count, was.spare, c.show-session.ensures.spare));
       shown = subst (λ (o : Option Stop). (shown : AreShownOf g.K.Sink.tells g.B.Bank.tells mark hs c.args.session new c.args.lines.now c.args.whats.items o (g.K.Sink.taken c.args.out.now) (g.K.Sink.taken c.show-session.new.out)) × (length shown.made ≡ c.loop-what.i + 1)) going next;
       named = All-tail (λ what. IsNamed hs what) c.in-Some.what (into_iter_items c.next.new.self) (subst (λ (l : List Answered). All (λ what. IsNamed hs what) l) steps was.named);
-      short = All-tail (λ what. IsAnswerShort hs what) c.in-Some.what (into_iter_items c.next.new.self) (subst (λ (l : List Answered). All (λ what. IsAnswerShort hs what) l) steps was.short);
+      short = All-tail (λ what. IsAnswerShort 0 hs what) c.in-Some.what (into_iter_items c.next.new.self) (subst (λ (l : List Answered). All (λ what. IsAnswerShort 0 hs what) l) steps was.short);
       falls = omega (arith, was.falls, c.show-session.ensures.sink_never_falls);
     }
 

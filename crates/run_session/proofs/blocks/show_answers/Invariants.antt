@@ -17,6 +17,6 @@ invariant-loop-what g l = record {
   spare : length l.session.replies.items + length l.lines ≤ vec_capacity l.session.replies + l.i;
   shown : (shown : AreShownOf g.K.Sink.tells g.B.Bank.tells (length (g.B.Bank.tape (bank_in l.fn.session.state))) (histories_in l.fn.session.state) l.fn.session l.session l.lines l.fn.whats.items None (g.K.Sink.taken l.fn.out) (g.K.Sink.taken l.out)) × (length shown.made ≡ l.i);
   named : All (λ what. IsNamed (histories_in l.fn.session.state) what) (into_iter_items l.what-iterator);
-  short : All (λ what. IsAnswerShort (histories_in l.fn.session.state) what) (into_iter_items l.what-iterator);
+  short : All (λ what. IsAnswerShort 0 (histories_in l.fn.session.state) what) (into_iter_items l.what-iterator);
   falls : g.K.Sink.faults_of l.fn.out ≤ g.K.Sink.faults_of l.out;
 }

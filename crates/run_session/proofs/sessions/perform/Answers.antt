@@ -1,4 +1,4 @@
-use Rattle.std.proofs.Common.{◌≡◌, ℕ, ◌+◌, ◌-◌, ◌≤◌, false, List, length, take, drop, None, refl, sym, ◌∙◌, ap, subst, arith, length-drop}
+use Rattle.std.proofs.Common.{◌≡◌, ℕ, ◌+◌, ◌-◌, ◌≤◌, false, Option, List, [], length, take, drop, None, refl, sym, ◌∙◌, ap, subst, arith, length-drop}
 use Rattle.std.specs.Prelude.{IfSome, IsTrue}
 use Rattle.std.proofs.Math.Seq.{drop-drop}
 use Rattle.std.proofs.lemmas.List.{take_all}
@@ -9,8 +9,14 @@ use Rattle.run_blocks.specs.script_the_Lane_TheVariants.{Script as InScript}
 use Rattle.run_blocks.specs.run_specs_Ended.{IsRunKept}
 use Rattle.run_blocks.specs.run_specs_Making.{setting_of}
 use Rattle.run_blocks.specs.run_specs_Records.{IsRecordStored}
-use Rattle.run_blocks.specs.run_specs_States.{bank_in, record_in}
-use Rattle.run_session.specs.Sessions.{IsTurnStep}
+use Rattle.run_blocks.specs.run_specs_States.{histories_in, bank_in, entries_in, course_in, record_in}
+use Rattle.run_blocks.specs.history_monitor_Hooks.{wanted_by}
+use Rattle.run_blocks.specs.history_monitor_the_Past.{Past}
+use Rattle.run_blocks.specs.run_specs_Replies.{at_rest, course_of}
+use Rattle.run_session.specs.declared.sessions.Stop.{Stop}
+use Rattle.run_session.specs.Sessions.{IsCourse, IsTurnStep}
+use Rattle.run_session.specs.Alerting.{AreAlertsTold, IsWatching, IsTurnScanned}
+use Rattle.run_session.proofs.Alerted.{told_of, watching-none, turn_so}
 use Rattle.run_blocks.specs.run_specs_the_LineReply.{LineReply}
 use Rattle.run_session.specs.declared.sessions.Session.{Session}
 use Rattle.run_blocks.specs.run_specs_the_State_TheVariants.{Idle}
@@ -54,6 +60,23 @@ returns-then-is_some-clause-shown g c =
     (subst (λ (given : Given). IsTurnStep g.K.Sink.tells (setting_of g.B.Bank.tells given (g.B.Bank.tape (bank_in c.loop-next.session.state)) (g.B.Bank.tape (bank_in after.state)) c.args.backup (g.B.Bank.faults_of (bank_in c.loop-next.session.state)) (g.B.Bank.faults_of (bank_in after.state))) c.loop-next.session after (take count (take (length c.args.lines.now - c.loop-next.next) (drop c.loop-next.next c.args.lines.now))) (g.K.Sink.taken c.loop-next.out) (g.K.Sink.taken c.perform_turn-after.new.out)) was.given did.step) in
     (turn_step after was.never_falls did.never_falls was.grows did.grows was.going was.performed stored count did.some fits (g.K.Sink.faults_of c.perform_turn-after.new.out) was.shown step did.cause did.sink_never_falls).1
 
+pub returns-then-is_some-clause-alerts : goal.returns-then-is_some-clause-alerts
+returns-then-is_some-clause-alerts g c =
+    let was = c.loop-next.invariant in
+    let did = c.perform_turn-after.ensures in
+    let after = c.perform_turn-after.result.0 in
+    let count = c.perform_turn-after.result.1 in
+    let whole = rest-whole c.args.lines.now c.loop-next.next in
+    let long = ap (λ (l : List Numbered). length l) whole ∙ length-drop c.loop-next.next c.args.lines.now in
+    let fits : length c.loop-next.session.replies.items + count ≤ length c.args.lines.now = omega (arith, was.count, did.within, long, c.loop-next-test.true) in
+    let step = subst (λ (l : List Numbered). IsTurnStep g.K.Sink.tells (setting_of g.B.Bank.tells (g.B.Bank.given (bank_in c.loop-next.session.state)) (g.B.Bank.tape (bank_in c.loop-next.session.state)) (g.B.Bank.tape (bank_in after.state)) c.args.backup (g.B.Bank.faults_of (bank_in c.loop-next.session.state)) (g.B.Bank.faults_of (bank_in after.state))) c.loop-next.session after (take count l) (g.K.Sink.taken c.loop-next.out) (g.K.Sink.taken c.perform_turn-after.new.out)) (whole ∙ ap (λ (n : ℕ). drop n c.args.lines.now) (sym was.count)) did.step in
+    let scan = subst (λ (l : List Numbered). IsTurnScanned (goal.G-post g (wanted_by c.args.hook.now)) (entries_in c.loop-next.session.state) c.loop-next.monitor c.perform_turn-after.new.monitor (drop (length c.loop-next.session.replies.items) after.replies.items) (take count l)) (whole ∙ ap (λ (n : ℕ). drop n c.args.lines.now) (sym was.count)) did.alerts in
+    let course = subst (λ (o : Option Stop). IsCourse o (histories_in c.loop-next.session.state) (drop (length c.loop-next.session.replies.items) c.args.lines.now) (course_of (histories_in c.loop-next.session.state) (at_rest 0) (take (length c.loop-next.session.replies.items) c.args.lines.now) c.loop-next.session.replies.items) (course_in c.loop-next.session.state)) was.going was.performed.course in
+    (turn_so (goal.G-post g (wanted_by c.args.hook.now)) _ _ c.args.lines.now c.loop-next.session after c.loop-next.monitor c.perform_turn-after.new.monitor was.performed.replies course was.alerts was.watching count did.some fits scan step).0
+
+pub perform_turn-after-requires-clause-begins : goal.perform_turn-after-requires-clause-begins
+perform_turn-after-requires-clause-begins g c κs lives = c.loop-next.invariant.watching.scanned
+
 pub loop-next-init : goal.loop-next-init
 loop-next-init g c =
     let session : Session g.row.B.Denot = record { state = Idle c.args.bank c.new-2.result; replies = c.new-3.result; buffer = c.in-Ok.buffer; shown = 0; refused = false; stopped = None } in
@@ -68,6 +91,9 @@ loop-next-init g c =
       former = λ t. former_none (g.B.Bank.given c.args.bank) (g.B.Bank.tape c.args.bank) c.args.backup (length (g.B.Bank.tape c.args.bank)) c.new-2.result.items c.new-2.ensures.items;
       never_falls = λ s. omega arith;
       grows = grows-none (g.B.Bank.tape c.args.bank);
+      alerts = subst (λ (rs : List LineReply). AreAlertsTold (goal.G-post g (wanted_by c.args.hook.now)) (histories_in session.state) (at_rest 0) [] c.args.lines.now rs) (sym c.new-3.ensures.items) tt;
+      watching = subst (λ (rs : List LineReply). IsWatching (goal.G-post g (wanted_by c.args.hook.now)) c.new-monitor.result [] (told_of (histories_in session.state) (at_rest 0) [] c.args.lines.now rs)) (sym c.new-3.ensures.items)
+          (subst (λ (p : Past). IsWatching (goal.G-post g (wanted_by c.args.hook.now)) p [] []) (sym c.new-monitor.ensures) (watching-none (goal.G-post g (wanted_by c.args.hook.now))));
       given = refl;
     }
 
@@ -85,6 +111,10 @@ loop-next-preserved g c =
     (subst (λ (given : Given). IsTurnStep g.K.Sink.tells (setting_of g.B.Bank.tells given (g.B.Bank.tape (bank_in c.loop-next.session.state)) (g.B.Bank.tape (bank_in after.state)) c.args.backup (g.B.Bank.faults_of (bank_in c.loop-next.session.state)) (g.B.Bank.faults_of (bank_in after.state))) c.loop-next.session after (take count (take (length c.args.lines.now - c.loop-next.next) (drop c.loop-next.next c.args.lines.now))) (g.K.Sink.taken c.loop-next.out) (g.K.Sink.taken c.perform_turn-after.new.out)) was.given did.step) in
     let now = turn_step after was.never_falls did.never_falls was.grows did.grows was.going was.performed stored count did.some fits (g.K.Sink.faults_of c.perform_turn-after.new.out) was.shown step did.cause did.sink_never_falls in
     let going : after.stopped ≡ None = none-stopped after.stopped (sym c.is_some.ensures ∙ c.if-is_some.false) in
+    let raw = subst (λ (l : List Numbered). IsTurnStep g.K.Sink.tells (setting_of g.B.Bank.tells (g.B.Bank.given (bank_in c.loop-next.session.state)) (g.B.Bank.tape (bank_in c.loop-next.session.state)) (g.B.Bank.tape (bank_in after.state)) c.args.backup (g.B.Bank.faults_of (bank_in c.loop-next.session.state)) (g.B.Bank.faults_of (bank_in after.state))) c.loop-next.session after (take count l) (g.K.Sink.taken c.loop-next.out) (g.K.Sink.taken c.perform_turn-after.new.out)) (whole ∙ ap (λ (n : ℕ). drop n c.args.lines.now) (sym was.count)) did.step in
+    let scan = subst (λ (l : List Numbered). IsTurnScanned (goal.G-post g (wanted_by c.args.hook.now)) (entries_in c.loop-next.session.state) c.loop-next.monitor c.perform_turn-after.new.monitor (drop (length c.loop-next.session.replies.items) after.replies.items) (take count l)) (whole ∙ ap (λ (n : ℕ). drop n c.args.lines.now) (sym was.count)) did.alerts in
+    let course = subst (λ (o : Option Stop). IsCourse o (histories_in c.loop-next.session.state) (drop (length c.loop-next.session.replies.items) c.args.lines.now) (course_of (histories_in c.loop-next.session.state) (at_rest 0) (take (length c.loop-next.session.replies.items) c.args.lines.now) c.loop-next.session.replies.items) (course_in c.loop-next.session.state)) was.going was.performed.course in
+    let so = turn_so (goal.G-post g (wanted_by c.args.hook.now)) _ _ c.args.lines.now c.loop-next.session after c.loop-next.monitor c.perform_turn-after.new.monitor was.performed.replies course was.alerts was.watching count did.some fits scan raw in
     record {
       going = going;
       within = omega (arith, was.count, fits);
@@ -96,6 +126,8 @@ loop-next-preserved g c =
       former = subst (λ (given : Given). IsRunKept g.B.Bank.tells given (g.B.Bank.tape (bank_in after.state)) c.args.backup after.state) was.given did.former;
       never_falls = λ s. omega (arith, was.never_falls s, did.never_falls s);
       grows = grows-then was.grows did.grows;
+      alerts = so.0;
+      watching = subst (λ (p : Past). IsWatching (goal.G-post g (wanted_by c.args.hook.now)) p (entries_in after.state) (told_of (histories_in after.state) (at_rest 0) [] c.args.lines.now after.replies.items)) (sym c.watch.ensures) (so.1 going);
       given = did.given ∙ was.given;
     }
 

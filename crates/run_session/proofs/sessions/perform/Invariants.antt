@@ -1,5 +1,5 @@
--- The lines so far were performed, and each reply was shown; the others are in turn.
-use Rattle.std.proofs.Common.{◌≡◌, ◌-◌, ◌≤◌, length, drop, vec_capacity, None}
+-- The lines so far were performed, and each reply was shown; the others are in turn. What the monitor has scanned is told.
+use Rattle.std.proofs.Common.{◌≡◌, ◌-◌, ◌≤◌, [], length, drop, vec_capacity, None}
 use Rattle.std.specs.Prelude.{IsTrue}
 use Rattle.run_blocks.specs.bank_Given.{NeverFalls}
 use Rattle.run_blocks.specs.script_Script.{are_in_turn}
@@ -8,7 +8,11 @@ use Rattle.run_blocks.specs.array_members_Moving.{Grows}
 use Rattle.run_blocks.specs.run_specs_Ended.{IsRunKept}
 use Rattle.run_blocks.specs.run_specs_Making.{setting_of}
 use Rattle.run_blocks.specs.Shown.{longest_reply}
-use Rattle.run_blocks.specs.run_specs_States.{bank_in}
+use Rattle.run_blocks.specs.history_monitor_Hooks.{wanted_by}
+use Rattle.run_blocks.specs.run_specs_Replies.{at_rest}
+use Rattle.run_blocks.specs.run_specs_States.{histories_in, bank_in, entries_in}
+use Rattle.run_session.specs.Alerting.{AreAlertsTold, IsWatching}
+use Rattle.run_session.proofs.Alerted.{told_of}
 use Rattle.run_session.specs.Sessions.{IsPerformed, IsShownTo}
 use Rattle.run_session.proofs.sessions.perform.Given as goal
 
@@ -24,6 +28,8 @@ invariant-loop-next g l = record {
   former : IsRunKept g.B.Bank.tells (g.B.Bank.given l.fn.bank) (g.B.Bank.tape (bank_in l.session.state)) l.backup l.session.state;
   never_falls : NeverFalls (g.B.Bank.faults_of l.fn.bank) (g.B.Bank.faults_of (bank_in l.session.state));
   grows : Grows g.B.Bank.tells (g.B.Bank.tape l.fn.bank) (g.B.Bank.tape (bank_in l.session.state));
+  alerts : AreAlertsTold (goal.G-post g (wanted_by l.hook)) (histories_in l.session.state) (at_rest 0) [] l.lines l.session.replies.items;
+  watching : IsWatching (goal.G-post g (wanted_by l.hook)) l.monitor (entries_in l.session.state) (told_of (histories_in l.session.state) (at_rest 0) [] l.lines l.session.replies.items);
   given : g.B.Bank.given (bank_in l.session.state) ≡ g.B.Bank.given l.fn.bank;
 }
 

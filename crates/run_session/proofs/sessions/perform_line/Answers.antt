@@ -4,13 +4,17 @@ use Rattle.run_blocks.specs.run_specs_the_LineReply.{LineReply}
 use Rattle.run_session.specs.declared.sessions.Made.{Made}
 use Rattle.run_blocks.specs.Shown.{reply_text}
 use Rattle.run_blocks.specs.run_specs_Making.{setting_of}
-use Rattle.run_blocks.specs.run_specs_States.{histories_in, bank_in, course_in}
+use Rattle.run_blocks.specs.run_specs_States.{histories_in, bank_in, entries_in, course_in}
 use Rattle.run_session.specs.Sessions.{counted, IsRepliedOrNot}
 use Rattle.run_blocks.proofs.run_specs_Causes.{grows-none}
 use Rattle.run_blocks.proofs.run_specs_Losses.{losses-kept}
 use Rattle.run_blocks.proofs.run_line_answers_Turns.{grown_kept}
 use Rattle.run_blocks.specs.run_specs_Written.{MayWrite}
 use Rattle.run_blocks.proofs.run_requests_Writing.{written-nothing}
+use Rattle.std.specs.Prelude.{IfOk}
+use Rattle.run_blocks.specs.history_monitor_Hooks.{wanted_by}
+use Rattle.run_session.specs.Alerting.{IsScanned}
+use Rattle.run_session.proofs.Alerted.{first-scanned, nothing-scanned}
 use Rattle.run_session.proofs.sessions.perform_line.Goals as goal
 
 pub returns-then-is_err-clause-step : goal.returns-then-is_err-clause-step
@@ -55,3 +59,25 @@ returns-in-Err-clause-step g c =
 
 pub returns-then-is_err-clause-grows : goal.returns-then-is_err-clause-grows
 returns-then-is_err-clause-grows g c = grows-none (g.B.Bank.tape (bank_in c.args.session.state))
+
+pub returns-then-is_err-clause-alerts : goal.returns-then-is_err-clause-alerts
+returns-then-is_err-clause-alerts g c = nothing-scanned (goal.G-post g (wanted_by c.args.hook.now)) (entries_in c.args.session.state) c.args.monitor.now c.args.monitor.now c.args.session.replies.items c.reserve.new.self.items c.reserve.ensures.items
+
+pub returns-in_default-clause-alerts : goal.returns-in_default-clause-alerts
+returns-in_default-clause-alerts g c = nothing-scanned (goal.G-post g (wanted_by c.args.hook.now)) (entries_in c.args.session.state) c.args.monitor.now c.reply_to-state.new.monitor c.args.session.replies.items c.reserve.new.self.items c.reserve.ensures.items
+
+pub returns-in-Ok-push-clause-alerts : goal.returns-in-Ok-push-clause-alerts
+returns-in-Ok-push-clause-alerts g c =
+    let made : Made = c.in-Ok.made in
+    let items : c.push_reserved.new.self.items ≡ c.args.session.replies.items ++ made.reply ∷ [] =
+    c.push_reserved.ensures.items ∙ ap (λ (l : List LineReply). l ++ made.reply ∷ []) c.reserve.ensures.items in
+    first-scanned (goal.G-post g (wanted_by c.args.hook.now)) (entries_in c.args.session.state) c.args.monitor.now c.reply_to-state.new.monitor c.args.session.replies.items c.push_reserved.new.self.items made.reply items
+    (subst (λ (r : Result Made NoMemory). IfOk r (λ made. IsScanned (goal.G-post g (wanted_by c.args.hook.now)) (entries_in c.args.session.state) c.args.monitor.now c.reply_to-state.new.monitor made.reply.what)) c.in-Ok.is c.reply_to-state.ensures.alerts)
+
+pub returns-in-Err-clause-alerts : goal.returns-in-Err-clause-alerts
+returns-in-Err-clause-alerts g c =
+    let made : Made = c.in-Ok.made in
+    let items : c.push_reserved.new.self.items ≡ c.args.session.replies.items ++ made.reply ∷ [] =
+    c.push_reserved.ensures.items ∙ ap (λ (l : List LineReply). l ++ made.reply ∷ []) c.reserve.ensures.items in
+    first-scanned (goal.G-post g (wanted_by c.args.hook.now)) (entries_in c.args.session.state) c.args.monitor.now c.reply_to-state.new.monitor c.args.session.replies.items c.push_reserved.new.self.items made.reply items
+    (subst (λ (r : Result Made NoMemory). IfOk r (λ made. IsScanned (goal.G-post g (wanted_by c.args.hook.now)) (entries_in c.args.session.state) c.args.monitor.now c.reply_to-state.new.monitor made.reply.what)) c.in-Ok.is c.reply_to-state.ensures.alerts)
