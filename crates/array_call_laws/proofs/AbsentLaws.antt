@@ -24,7 +24,6 @@ use Rattle.array_call_specs.specs.history_Plain.{loses_role, entries_of}
 use Rattle.array_call_specs.specs.history_OneShape.{ShapeOpening, is_lost, is_gone_now, IsOneShapeLegal, KeepShape, is_spare_now}
 use Rattle.array_call_specs.proofs.history_OneShapeGone.{gone-lost}
 use Rattle.array_call_specs.proofs.history_laws_OneShapeGrowing.{AreMissing, loss_events, found-legal, call-ends, entries-both}
-use Rattle.array_call_specs.specs.array_members_Rebuilding.{HasNoRebuilt}
 use Rattle.array_call_specs.specs.Adopting.{opener, found_loss, absent_loss, absent_losses}
 use Rattle.array_call_specs.proofs.history_append_CallLaws.{GivesNone}
 use Rattle.array_call_specs.proofs.NowLaws.{now-quiet}
@@ -136,13 +135,6 @@ absents-left who end [] are = refl
 absents-left who end (Lost role Absent ∷ xs) are = absents-left who end xs are
 absents-left who end (Lost role ByRecovering ∷ xs) are = absents-left who end xs are
 absents-left who end (event ∷ xs) are = absurd are
-
--- they tell no role rebuilt
-pub absents-rebuilt : (who : Who) (end : ℕ) (xs : List Event) → AreAbsent xs → HasNoRebuilt (entries_of who end xs)
-absents-rebuilt who end [] are = refl
-absents-rebuilt who end (Lost role Absent ∷ xs) are = absents-rebuilt who end xs are
-absents-rebuilt who end (Lost role ByRecovering ∷ xs) are = absents-rebuilt who end xs are
-absents-rebuilt who end (event ∷ xs) are = absurd are
 
 pub absents-values : (who : Who) (end x : ℕ) (values : List Sector) (xs : List Event) → AreAbsent xs → fold (λ values e. values_after x values e.event) values (entries_of who end xs) ≡ values
 absents-values who end x values [] are = refl

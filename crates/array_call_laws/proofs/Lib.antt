@@ -9,16 +9,12 @@ pub mod AddedKept
 pub mod AddedNumbers
 pub mod AddedLosses
 pub mod AdoptingLaws
-pub mod SteppedLaws
-pub mod AnswerLaws
 pub mod MendLaws
 pub mod EndLaws
 pub mod RebuildLaws
 pub mod RebuildFilled
 pub mod RebuildGiven
-pub mod RebuildTaken
 pub mod RebuildEnded
-pub mod RebuildWhole
 pub use Rattle.array_call_specs.proofs.FoundLaws as array_call_specs_FoundLaws
 pub use Rattle.array_call_specs.proofs.ReplyLaws as array_call_specs_ReplyLaws
 pub use Rattle.array_call_specs.proofs.StepsLeft as array_call_specs_StepsLeft
@@ -28,3 +24,4 @@ pub use Rattle.array_call_specs.proofs.history_append_PlainLaws
 pub use Rattle.array_call_specs.proofs.raid_types_Least
 pub use Rattle.array_call_specs.proofs.raid_types_SectorLaws
 pub use Rattle.array_call_specs.proofs.raid_types_Tabulated
+pub use Rattle.array_call_specs.proofs.crash_safety_laws_Since

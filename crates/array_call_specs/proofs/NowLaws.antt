@@ -1,17 +1,16 @@
 -- What the flat list holds after one more call.
-use Rattle.std.proofs.Common.{◌≡◌, ℕ, zero, suc, ◌+◌, ◌-◌, ◌*◌, ◌/◌, ◌<◌, ◌≤◌, ◌⊎◌, inl, inr, Bool, true, false, cond, Option, None, List, [], ◌∷◌, ◌++◌, length, take, drop, refl, sym, ◌∙◌, ap, arith}
+use Rattle.std.proofs.Common.{◌≡◌, ℕ, zero, suc, ◌+◌, ◌-◌, ◌*◌, ◌/◌, ◌<◌, ◌≤◌, ◌⊎◌, inl, inr, Bool, true, false, cond, List, [], ◌∷◌, ◌++◌, length, take, drop, refl, sym, ◌∙◌, ap, arith}
 use Rattle.std.proofs.lemmas.Bool.Decides.{nat_tests}
 use Rattle.std.proofs.lemmas.List.{drop-drop}
 use Rattle.std.proofs.lemmas.List.Sums.{fold-append}
-use Rattle.std.specs.Prelude.{fold, slice_index_or, min}
-use Rattle.std.specs.Option.{option_map_or}
+use Rattle.std.specs.Prelude.{fold, slice_index_or}
 use Rattle.raid_types.specs.Sectors.{Sector, sectors_of, first_sectors}
 use Rattle.raid_types.specs.declared.answers.Who.{Who}
 use Rattle.raid_types.proofs.SectorLaws.{length-sectors_of}
 use Rattle.history_append.specs.history_the_Entry.{Entry}
 use Rattle.history_append.specs.history_the_Event.{Event}
 use Rattle.history_append.specs.history_the_Event_TheVariants.{Wrote}
-use Rattle.history_append.specs.history_Flat.{values_after, values_of, first_values, now, covers, sector_at, length_of, length_after, limit_of, limit_after, visible_of}
+use Rattle.history_append.specs.history_Flat.{values_after, values_of, first_values, now, covers, sector_at, length_of, length_after}
 use Rattle.history_append.specs.history_Plain.{entries_of}
 use Rattle.history_append.specs.array_members_Rows.{row_sector, IsWritten}
 use Rattle.history_append.proofs.PlainLaws.{one}
@@ -94,14 +93,6 @@ wrote-is list entries who end losses first from are = record {
 
 -- ---- the length
 
--- where no entry changed the length and none limited it, all of the list is visible
-pub visible-is : (n : ℕ) (entries : List Entry) → length_of n entries ≡ n → limit_of entries ≡ None → visible_of n entries ≡ n
-visible-is n entries sized unlimited = ap (λ (limit : Option ℕ). option_map_or (λ limit. min limit (length_of n entries)) limit (length_of n entries)) unlimited ∙ sized
-
 pub length-more : (n : ℕ) (entries added : List Entry) → length_of n entries ≡ n → fold (λ m e. length_after m e.event) n added ≡ n → length_of n (entries ++ added) ≡ n
 length-more n entries added sized quiet =
     fold-append (λ m e. length_after m e.event) n entries added ∙ ap (λ (m : ℕ). fold (λ m e. length_after m e.event) m added) sized ∙ quiet
-
-pub limit-more : (entries added : List Entry) → limit_of entries ≡ None → fold (λ (limit : Option ℕ) e. limit_after limit e.event) None added ≡ None → limit_of (entries ++ added) ≡ None
-limit-more entries added unlimited quiet =
-    fold-append (λ (limit : Option ℕ) e. limit_after limit e.event) None entries added ∙ ap (λ (limit : Option ℕ). fold (λ limit e. limit_after limit e.event) limit added) unlimited ∙ quiet

@@ -1,21 +1,18 @@
--- What is kept of the history after a call, by what the call entered.
-use Rattle.std.proofs.Common.{◌≡◌, ℕ, ◌≤◌, ◌||◌, Bool, true, false, Option, None, List, [], ◌∷◌, ◌++◌, refl, sym, ◌∙◌, ap, arith}
+-- What the entries of a call leave of the history.
+use Rattle.std.proofs.Common.{◌≡◌, ℕ, ◌≤◌, ◌||◌, Bool, true, Option, None, List, [], ◌∷◌, ◌++◌, ◌∙◌, ap, arith}
 use Rattle.std.proofs.lemmas.Bool.Decides.{nat_tests}
 use Rattle.std.specs.Prelude.{fold, IsTrue}
 use Rattle.raid_types.specs.declared.answers.Who.{Who}
 use Rattle.history_append.specs.sb_specs_the_Members.{Members}
-use Rattle.history_append.specs.stripe_row_Rows.{reading_of, is_missing}
 use Rattle.history_append.specs.history_the_Entry.{Entry}
 use Rattle.history_append.specs.history_the_Event.{Event}
 use Rattle.history_append.specs.history_Flat.{length_after, limit_after}
 use Rattle.history_append.specs.history_Growing.{EndBy}
 use Rattle.history_append.specs.history_Plain.{entries_of}
 use Rattle.history_append.specs.history_OneShape.{is_lost, is_gone_now}
-use Rattle.history_append.proofs.history_OneShapeGone.{never-gone, gone-or_lost}
+use Rattle.history_append.proofs.history_OneShapeGone.{gone-or_lost}
 use Rattle.history_append.proofs.history_laws_OneShapeGrowing.{gone-more}
-use Rattle.history_append.specs.array_members_Placed.{AreWhole}
 use Rattle.array_call_specs.specs.Kept.{AreTold}
-use Rattle.history_append.specs.history_Sound.{LosesNoRole}
 use Rattle.history_append.proofs.CallLaws.{GivesNone}
 
 -- these events change neither the length nor the limit, nor what the list holds
@@ -50,13 +47,3 @@ gone-lately role entries added none lost =
 -- what was told stays so, where no role is given back
 pub told-more : (members : Members) (entries added : List Entry) → GivesNone added → AreTold members entries → AreTold members (entries ++ added)
 told-more members entries added none told role lt missing = gone-more role entries added (none role) (told role lt missing)
-
--- ---- where no role is told lost
-
--- every role is whole
-pub whole-told : (members : Members) (entries : List Entry) → AreTold members entries → LosesNoRole entries → AreWhole members
-whole-told members entries told none role lt = by (is_missing (reading_of members) role) refl
-  where
-    by : (b : Bool) → is_missing (reading_of members) role ≡ b → b ≡ false
-    by false is = refl
-    by true is = absurd (let e = sym (told role lt is) ∙ never-gone entries role (none role) in cc)

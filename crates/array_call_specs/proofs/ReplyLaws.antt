@@ -1,11 +1,10 @@
 -- Replies that fit their requests.
-use Rattle.std.proofs.Common.{◌≡◌, inl, inr, ℕ, ◌+◌, ◌<◌, ◌≤◌, ◌==◌, ◌&&◌, Bool, true, false, cond, nat_lt, Option, Some, None, Result, Ok, Err, List, [], ◌∷◌, ◌++◌, length, unwrap_or, refl, sym, ◌∙◌, ap, subst, arith}
+use Rattle.std.proofs.Common.{◌≡◌, inl, inr, ℕ, ◌+◌, ◌<◌, ◌≤◌, ◌==◌, ◌&&◌, Bool, true, false, cond, nat_lt, Option, Some, None, Result, Ok, Err, List, [], ◌∷◌, ◌++◌, unwrap_or, refl, sym, ◌∙◌, ap, subst, arith}
 use Rattle.std.proofs.lemmas.Bool.Decides.{nat_tests}
 use Rattle.std.proofs.lemmas.List.{reverse-append}
-use Rattle.std.proofs.lemmas.List.Elements.{All-nil, All-cons, All-push}
+use Rattle.std.proofs.lemmas.List.Elements.{All-nil, All-cons}
 use Rattle.std.specs.List.{All}
-use Rattle.std.specs.Prelude.{fold, reverse, MatchBool}
-use Rattle.raid_types.specs.Sectors.{Sector}
+use Rattle.std.specs.Prelude.{reverse, MatchBool}
 use Rattle.raid_types.specs.declared.answers.Who.{Who}
 use Rattle.raid_types.specs.declared.answers.Refusal.{Refusal}
 use Rattle.raid_types.specs.declared.answers.Fault.{Fault as AnyFault}
@@ -14,25 +13,23 @@ use Rattle.raid_types.specs.declared.answers.Refusal.TheVariants.{PastEnd, NoSuc
 use Rattle.history_append.specs.sb_specs_the_Members.{Members}
 use Rattle.history_append.specs.history_the_Entry.{Entry}
 use Rattle.history_append.specs.history_the_Event.{Event}
-use Rattle.history_append.specs.history_the_Event_TheVariants.{Torn, Flushed, Lost, SpareLost, Failed, Refused}
+use Rattle.history_append.specs.history_the_Event_TheVariants.{Flushed, Lost, SpareLost, Failed, Refused}
 use Rattle.history_append.specs.history_the_LostCause_TheVariants.{Command, Fault}
 use Rattle.history_append.specs.history_the_Request.{Request}
-use Rattle.history_append.specs.history_the_Request_TheVariants.{Read as AsksRead, Write as AsksWrite, Flush as AsksFlush, Fail as AsksFail}
-use Rattle.history_append.specs.history_Flat.{is_same_call, rest_of_call, last_of, next_number, visible_of, length_of, limit_of, length_after, limit_after}
+use Rattle.history_append.specs.history_the_Request_TheVariants.{Flush as AsksFlush, Fail as AsksFail}
+use Rattle.history_append.specs.history_Flat.{is_same_call, rest_of_call, last_of, next_number}
 use Rattle.history_append.specs.history_Growing.{BeginAnother}
 use Rattle.history_append.specs.history_Transfers.{IsRefusedAt, IsPastEnd}
 use Rattle.history_append.specs.history_Fits.{AreTornOf, IsReadRefused}
 use Rattle.history_append.specs.history_Plain.{entries_of}
 use Rattle.history_append.specs.history_OneShape.{OneShapeAnswers}
-use Rattle.history_append.specs.Losing.{losses_of, failure_events}
+use Rattle.history_append.specs.Losing.{losses_of}
 use Rattle.raid_types.specs.declared.places.Shape.{Shape}
 use Rattle.history_append.specs.sb_specs_Reading.{shape_of, final_shape}
 use Rattle.history_append.specs.array_members_Lacking.{AreTooMany, LacksTooMany, IsUnread, IsUnwritten}
 use Rattle.array_call_specs.specs.Calls.{StandsInside, IsReplied, IsRefusedFor, IsSettled, IsCausedBy, IsAnswered}
 use Rattle.history_append.proofs.PlainLaws.{one, begins}
-use Rattle.history_append.proofs.LosingLaws.{entries-both}
-use Rattle.history_append.proofs.CallLaws.{AreLossEvents, losses-are, length-losses, limit-losses, torn-losses, torn-both, torn-reverse}
-use Rattle.array_call_specs.proofs.NowLaws.{visible-is, length-more, limit-more}
+use Rattle.history_append.proofs.CallLaws.{AreLossEvents, losses-are, torn-losses, torn-reverse}
 
 -- ---- what stands before a call
 
@@ -133,11 +130,6 @@ pub refused-for : (visible to : ℕ) (why : Members → Refusal → Type 0) (old
 refused-for visible to why old new (PastEnd told) of le w = absurd (of.1 tt)
 refused-for visible to why old new refusal of le w = (le, w)
 
--- a refusal that doesn't speak of a place
-pub refused-zero : (visible : ℕ) (why : Members → Refusal → Type 0) (m : Members) (refusal : Refusal) → IsRefusedFor 0 0 why m m refusal → IsRefusedFor visible 0 why m m refusal
-refused-zero visible why m (PastEnd told) w = absurd (omega (arith, w.1))
-refused-zero visible why m refusal w = (omega arith, w.1)
-
 match_true : (b : Bool) (P Q : Type 0) → b ≡ true → P → MatchBool b P Q
 match_true true P Q e p = p
 match_true false P Q e p = absurd cc
@@ -151,77 +143,6 @@ past_at visible to told lt = match_true (nat_lt visible to) (IsPastEnd (PastEnd 
 
 pub missing_at : (visible to : ℕ) (refusal : Refusal) → to ≤ visible → IsOfMissing refusal → IsRefusedAt visible to IsReadRefused refusal
 missing_at visible to refusal le of = match_false (nat_lt visible to) (IsPastEnd refusal) (IsReadRefused refusal × ¬ IsPastEnd refusal) (grind (arith, nat_tests, le)) of
-
--- what a call that transfers up to `to` may be refused with; no call but one of these is refused past the end
-pub record IsRefusable (request : Request) (to : ℕ) : Type 0 where
-  pub past : (size told : ℕ) (before : List Entry) → visible_of size before ≡ size → size < to → (call : List Entry) → OneShapeAnswers size before call request (Refused (PastEnd told))
-  pub missing : (size : ℕ) (refusal : Refusal) (before : List Entry) → visible_of size before ≡ size → to ≤ size → IsOfMissing refusal → (call : List Entry) → OneShapeAnswers size before call request (Refused refusal)
-
-pub read_kind : (at count : ℕ) → IsRefusable (AsksRead at count) (at + count)
-read_kind at count = record {
-  past = λ size told before all lt call. past_at (visible_of size before) (at + count) told (rw all lt);
-  missing = λ size refusal before all le of call. missing_at (visible_of size before) (at + count) refusal (rw all le) of;
-}
-
-pub write_kind : (at : ℕ) (body : List Sector) → IsRefusable (AsksWrite at body) (at + length body)
-write_kind at body = record {
-  past = λ size told before all lt call. past_at (visible_of size before) (at + length body) told (rw all lt);
-  missing = λ size refusal before all le of call. missing_at (visible_of size before) (at + length body) refusal (rw all le) of;
-}
-
-module _ (size : ℕ) (old : List Entry) (sized : length_of size old ≡ size) (unlimited : limit_of old ≡ None) where
-  -- all of the list is visible behind entries that leave its length
-  seen : (added : List Entry) → ((n : ℕ) → fold (λ m e. length_after m e.event) n added ≡ n)
-      → fold (λ (limit : Option ℕ) e. limit_after limit e.event) None added ≡ None → visible_of size (old ++ added) ≡ size
-  seen added quiet free = visible-is size (old ++ added) (length-more size old added sized (quiet size)) (limit-more old added unlimited free)
-
-  seen-losses : (who : Who) (end roles spares : ℕ) → visible_of size (old ++ entries_of who end (losses_of roles spares)) ≡ size
-  seen-losses who end roles spares = subst (λ (l : List Event). visible_of size (old ++ entries_of who end l) ≡ size) (no-tail (losses_of roles spares))
-      (seen (entries_of who end (losses_of roles spares ++ [])) (λ n. length-losses who end (losses_of roles spares) [] (losses-are roles spares) n)
-      (limit-losses who end (losses_of roles spares) [] (losses-are roles spares) None))
-    where
-      no-tail : (xs : List Event) → xs ++ [] ≡ xs
-      no-tail [] = refl
-      no-tail (x ∷ xs) = ap (λ (l : List Event). x ∷ l) (no-tail xs)
-
-  -- a refusal that needs no entry before it
-  pub refused_reply : (request : Request) (who : Who) (to : ℕ) (why : Members → Refusal → Type 0) (new : List Entry) (end : ℕ) (members : Members) (refusal : Refusal) → IsRefusable request to
-      → (why members refusal → IsOfMissing refusal) → IsRefusedFor size to why members members refusal → new ≡ old ++ entries_of who end (Refused refusal ∷ []) → who.number ≡ next_number who.caller old
-      → IsReplied size request who old new (Refused refusal)
-  refused_reply request who to why new end members (PastEnd told) kind of w is number =
-      replied size request who old new end [] (Refused (PastEnd told)) is number (kind.past size told (old ++ []) (seen [] (λ n. refl) refl) w.1) none-inside tt
-  refused_reply request who to why new end members refusal kind of w is number =
-      replied size request who old new end [] (Refused refusal) is number (kind.missing size refusal (old ++ []) (seen [] (λ n. refl) refl) w.0 (of w.1)) none-inside tt
-
-  -- a refusal behind losses
-  pub lost_reply : (request : Request) (who : Who) (to : ℕ) (new : List Entry) (end roles spares : ℕ) (refusal : Refusal) → IsRefusable request to → to ≤ size → IsOfMissing refusal
-      → new ≡ old ++ entries_of who end (losses_of roles spares ++ Refused refusal ∷ []) → who.number ≡ next_number who.caller old
-      → IsReplied size request who old new (Refused refusal)
-  lost_reply request who to new end roles spares refusal kind within of is number =
-      replied size request who old new end (losses_of roles spares) (Refused refusal) is number
-      (kind.missing size refusal (old ++ entries_of who end (losses_of roles spares)) (seen-losses who end roles spares) within of)
-      (inside-losses who end (losses_of roles spares) (losses-are roles spares)) (torn-losses request who end (losses_of roles spares) (losses-are roles spares))
-
-  pub torn_reply : (who : Who) (at : ℕ) (body : List Sector) (new : List Entry) (end roles spares : ℕ) (refusal : Refusal) → at + length body ≤ size → IsOfMissing refusal
-      → new ≡ old ++ entries_of who end ((losses_of roles spares ++ Torn at body ∷ []) ++ Refused refusal ∷ []) → who.number ≡ next_number who.caller old
-      → IsReplied size (AsksWrite at body) who old new (Refused refusal)
-  torn_reply who at body new end roles spares refusal within of is number =
-      replied size (AsksWrite at body) who old new end (losses_of roles spares ++ Torn at body ∷ []) (Refused refusal) is number
-      ((write_kind at body).missing size refusal (old ++ entries_of who end (losses_of roles spares ++ Torn at body ∷ []))
-      (seen (entries_of who end (losses_of roles spares ++ Torn at body ∷ [])) (λ n. length-losses who end (losses_of roles spares) (Torn at body ∷ []) (losses-are roles spares) n)
-      (limit-losses who end (losses_of roles spares) (Torn at body ∷ []) (losses-are roles spares) None)) within of)
-      (subst (λ (l : List Entry). All (λ e. StandsInside e.event) l) (sym (entries-both who end (losses_of roles spares) (Torn at body ∷ [])))
-      (All-push (λ e. StandsInside e.event) (entries_of who end (losses_of roles spares)) (one who end (Torn at body)) (inside-losses who end (losses_of roles spares) (losses-are roles spares)) tt))
-      (subst (λ (l : List Entry). AreTornOf (AsksWrite at body) l) (sym (entries-both who end (losses_of roles spares) (Torn at body ∷ [])))
-      (torn-both (AsksWrite at body) (entries_of who end (losses_of roles spares)) (one who end (Torn at body) ∷ [])
-      (torn-losses (AsksWrite at body) who end (losses_of roles spares) (losses-are roles spares)) ((refl, refl), tt)))
-
-  pub failed_reply : (torn : Bool) (who : Who) (at : ℕ) (body : List Sector) (new : List Entry) (end roles spares : ℕ) (refusal : Refusal) → at + length body ≤ size → IsOfMissing refusal
-      → new ≡ old ++ entries_of who end (failure_events roles spares torn at body refusal) → who.number ≡ next_number who.caller old
-      → IsReplied size (AsksWrite at body) who old new (Refused refusal)
-  failed_reply true who at body new end roles spares refusal within of is number = torn_reply who at body new end roles spares refusal within of is number
-  failed_reply false who at body new end roles spares refusal within of is number =
-      lost_reply (AsksWrite at body) who (at + length body) new end roles spares refusal (write_kind at body) within of is number
 
 -- ---- flushes
 

@@ -5,37 +5,36 @@ use Rattle.raid_types.specs.declared.answers.Who.{Who}
 use Rattle.raid_types.specs.declared.answers.Fault.{Fault}
 use Rattle.raid_types.specs.declared.answers.Fault.TheVariants.{Refused as IsRefusedWith, NoMemory}
 use Rattle.raid_types.specs.declared.answers.Refusal.{Refusal}
-use Rattle.raid_types.specs.declared.answers.Refusal.TheVariants.{PastEnd, TooManyMissing, NotResynced, NoSuchRole, NoSuchSlot, SlotTaken, SlotTooSmall, SlotFault, Nothing}
+use Rattle.raid_types.specs.declared.answers.Refusal.TheVariants.{PastEnd, TooManyMissing, NotResynced, NoSuchRole, NoSuchSlot, SlotTaken, SlotTooSmall, SlotFault}
 use Rattle.history_append.specs.bank_the_Operation.{Operation}
 use Rattle.history_append.specs.bank_Given.{Given, IsFaulted}
-use Rattle.history_append.specs.bank_Tape.{disk}
 use Rattle.history_append.specs.sb_codec_the_Sb.{Sb}
 use Rattle.history_append.specs.sb_specs_the_Members.{Members}
 use Rattle.raid_types.specs.declared.status.Role.TheVariants.{Whole, Recovering}
-use Rattle.history_append.specs.sb_specs_Reading.{shape_of, role_count, is_backup, role_state, holder, data_offset_of}
+use Rattle.history_append.specs.sb_specs_Reading.{shape_of, role_count, is_backup, role_state, data_offset_of}
 use Rattle.history_append.specs.sb_specs_Reads.{has_spare}
-use Rattle.history_append.specs.stripe_row_Rows.{reading_of, present, is_missing}
+use Rattle.history_append.specs.stripe_row_Rows.{reading_of, is_missing}
 use Rattle.history_append.specs.history_the_Entry.{Entry}
 use Rattle.history_append.specs.history_the_Event.{Event}
-use Rattle.history_append.specs.history_the_Event_TheVariants.{Torn, Flushed, Lost, SpareLost, Rebuilt, Step, Stepped, Stopped, Refused}
+use Rattle.history_append.specs.history_the_Event_TheVariants.{Torn, Flushed, Lost, SpareLost, Rebuilt, Step, Stopped, Refused}
 use Rattle.history_append.specs.history_the_LostCause.{LostCause}
 use Rattle.history_append.specs.history_the_LostCause_TheVariants.{Command, Fault as ByFault}
 use Rattle.history_append.specs.history_the_Request.{Request}
 use Rattle.history_append.specs.history_World.{World, opening_list}
 use Rattle.history_append.specs.history_Transfers.{last_end_from}
 use Rattle.raid_types.specs.Sectors.{Sector}
-use Rattle.history_append.specs.history_Flat.{last_of, values_of}
+use Rattle.history_append.specs.history_Flat.{values_of}
 use Rattle.history_append.specs.history_Fits.{is_lost_event}
 use Rattle.history_append.specs.history_Legal.{disturbs}
 use Rattle.history_append.specs.history_Plain.{entries_of}
-use Rattle.history_append.specs.history_OneShape.{is_gone_now, EndsIdleSteps, OneShapeFits}
+use Rattle.history_append.specs.history_OneShape.{EndsIdleSteps, OneShapeFits}
 use Rattle.history_append.specs.array_members_Placed.{is_vacant}
 use Rattle.history_append.specs.Losing.{losses_of}
 use Rattle.history_append.specs.crash_views_Regions.{DoWithout}
 use Rattle.history_append.specs.array_members_Lacking.{AreTooMany, IsNotResynced}
 use Rattle.history_append.specs.array_members_Parts.{Parts}
 use Rattle.history_append.specs.array_members_the_Work.{Work}
-use Rattle.history_append.specs.array_members_Status.{stripes_of, rebuilt_of, left_of}
+use Rattle.history_append.specs.array_members_Status.{stripes_of, rebuilt_of}
 use Rattle.history_append.specs.array_members_Numbers.{bears, free_number}
 use Rattle.history_append.specs.array_members_Rebuilding.{IfOwn, Held, MayHold}
 use Rattle.array_call_specs.specs.Kept.{scope_in, world_in}
@@ -177,13 +176,6 @@ IsAllMended resync members = resync ≡ Some (stripes_of members)
 abbrev pub one_more : Option ℕ → Option ℕ
 one_more resync = option_map (λ mended. mended + 1) resync
 
--- a reply to a request for steps: nothing was left to do; or so many steps are left, and the last entry is the refusal that ended it
-abbrev pub IsStepsReply : Work → Members → List Entry → Event → Type 0
-IsStepsReply work members entries (Refused Nothing) = left_of work members ≡ 0
-IsStepsReply work members entries (Stepped done left ended) = (left ≡ left_of work members)
-    × MatchOption ended ⊤ (λ refusal. MatchOption (last_of entries) ⊥ (λ e. e.event ≡ Refused refusal))
-IsStepsReply work members entries event = ⊥
-
 -- one value where a step was done, and another where it was refused
 abbrev pub by_answer : {T : Type 0} {A : Type 0} → Result T Fault → A → A → A
 by_answer (Ok x) done refused = done
@@ -314,11 +306,6 @@ IsAddedFor given backup slot old new before after (Err (IsRefusedWith (SlotFault
     × IsFaulted slot before after × (has_spare new.spares slot ≡ false)
 IsAddedFor given backup slot old new before after (Err (IsRefusedWith refusal)) = IsUnaddable given backup slot old refusal × (new ≡ old)
 IsAddedFor given backup slot old new before after (Err NoMemory) = new ≡ old
-
--- What a stop leaves of the slots that held a role that isn't gone: all is as it is, and nothing else, but for the superblocks.
-abbrev pub AreLeftFlushed : Members → List Entry → Given → List Operation → Type 0
-AreLeftFlushed members entries given tape = (role slot k : ℕ) → holder (role_state (reading_of members) role) ≡ Some slot → is_gone_now entries role ≡ false → (k ≡ 8 → ⊥)
-    → disk given.start tape slot k ≡ present given tape slot k ∷ []
 
 -- the new spare's superblock has the free number, and the data offset of the slot that holds the lowest role
 abbrev pub IsAddedAs : Members → Work → Members → ℕ → Type 0

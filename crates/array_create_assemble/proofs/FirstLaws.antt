@@ -62,20 +62,11 @@ module _ (n : ℕ) (before mid after : ℕ → ℕ) where
     others = λ s h. others s (λ e. absurd (omega (arith, e, h))) ∙ was.others s (omega (arith, h));
   }
 
-  pub counts-both : OnlyFirstFail n before mid → OnlyFirstFail n mid after → OnlyFirstFail n before after
-  counts-both was more = record {
-    never_falls = λ s. omega (arith, was.never_falls s, more.never_falls s);
-    others = λ s h. more.others s h ∙ was.others s h;
-  }
-
 pub counts-wider : (n m : ℕ) (before after : ℕ → ℕ) → n ≤ m → OnlyFirstFail n before after → OnlyFirstFail m before after
 counts-wider n m before after le was = record { never_falls = was.never_falls; others = λ s h. was.others s (omega (arith, le, h)) }
 
 pub fault-later : (s : ℕ) (before mid after : ℕ → ℕ) → before s ≤ mid s → mid s ≤ after s → IsFaulted s mid after → IsFaulted s before after
 fault-later s before mid after rose rises failed = faulted_longer s before mid after after rose (omega arith) rises failed
-
-pub fault-kept : (s : ℕ) (before mid after : ℕ → ℕ) → before s ≤ mid s → mid s ≤ after s → IsFaulted s before mid → IsFaulted s before after
-fault-kept s before mid after rose rises failed = faulted_longer s before before mid after (omega arith) rises rose failed
 
 -- ---- the superblocks
 

@@ -1,5 +1,5 @@
 -- What is known of the slots of a bank, after they were read and then flushed.
-use Rattle.std.proofs.Common.{◌≡◌, ◌<◌, ◌≤◌, ℕ, IsTrue, ◌+◌, ◌-◌, ◌^◌, Bool, true, false, cond, nat_lt, refl, sym, ap, ap₂, ◌∙◌, subst, arith, List, [], length, take, drop, get_or, Option, Some, None, inl, inr, replicate}
+use Rattle.std.proofs.Common.{◌≡◌, ◌<◌, ◌≤◌, ℕ, IsTrue, ◌+◌, ◌-◌, ◌^◌, Bool, true, false, cond, nat_lt, refl, sym, ap, ◌∙◌, subst, arith, List, [], length, take, drop, get_or, Option, Some, None, inl, inr, replicate}
 use Rattle.std.specs.Prelude.{not, ◌&&◌}
 use Rattle.std.proofs.lemmas.Bool.{cases_lt}
 use Rattle.std.proofs.lemmas.List.{get_or_past, ext_get_or, get_or-take, get_or-drop, get_or-replicate, length-take-le, length-drop, length-replicate}
@@ -10,35 +10,19 @@ use Rattle.array_found_laws.proofs.raid_types_Tabulated.{length-tabulate, get_or
 use Rattle.array_found_laws.specs.sb_codec_the_Sb.{Sb}
 use Rattle.array_found_laws.specs.sb_codec_Superblock.{superblock_in}
 use Rattle.bank.specs.declared.bank.Operation.{Operation}
-use Rattle.bank.specs.Given.{Given, sizes, IsFaulted}
+use Rattle.bank.specs.Given.{Given, sizes}
 use Rattle.bank.specs.Tape.{Contents, contents}
-use Rattle.bank.proofs.Causes.{faulted_longer}
 use Rattle.array_found_laws.specs.sb_specs_Reading.{seen_superblock, is_backup}
 use Rattle.array_found_laws.specs.sb_specs_Election.{members_scope, seen_superblocks, OnlyMembersFail, AreLost}
 use Rattle.array_found_laws.specs.sb_specs_Writing.{AreWritable}
 use Rattle.array_found_laws.specs.sb_specs_Found.{AreInSectors}
 use Rattle.sb_election.proofs.LostSlots.{has-all_but}
-use Rattle.array_create_assemble.specs.Opening.{scope_of, AreGiven, AreFlushed}
+use Rattle.array_create_assemble.specs.Opening.{scope_of}
 use Rattle.sb_add_spare.specs.array_members_Flushing.{AreTried, OnlyFlushesAdded, OnlyItsSlotsFail}
 use Rattle.sb_add_spare.proofs.array_members_Flushed.{contents-added}
 
 is_below : (s n : ℕ) → s < n → nat_lt s n ≡ true
 is_below s n h = grind (arith, nat_tests)
-
-below : (s n : ℕ) (b : Bool) → (nat_lt s n && b) ≡ true → s < n
-below s n b h = first (nat_lt s n) refl h
-  where
-    first : (a : Bool) → nat_lt s n ≡ a → (a && b) ≡ true → s < n
-    first true is h = grind (arith, nat_tests)
-    first false is h = absurd (cc)
-
-last : (a b : Bool) → (a && b) ≡ true → b ≡ true
-last true b h = h
-last false b h = absurd (cc)
-
-isn't : (b : Bool) → not b ≡ true → b ≡ false
-isn't true h = absurd (cc)
-isn't false h = refl
 
 -- the slots past the last one still have no superblock
 pub rest-none : (slots : ℕ) (found seen : List (Option Sb)) (lost : ℕ) → drop slots found ≡ replicate (32 - slots) None
@@ -114,62 +98,8 @@ module _ (tells : Type 0) (bank : Given) (old mid new : List Operation) (backup 
   pub added-since : tells → OnlyFlushesAdded old new
   added-since told = subst (λ tape. OnlyFlushesAdded tape new) (same told) (added told)
 
-  -- a slot that failed in the reads is a member
-  is_known : (s : ℕ) → has_slot failed s ≡ true → s < bank.slots
-  is_known s is = below s bank.slots (not (is_backup backup s)) (members.members s is)
-
-  -- a lost slot is the bank's
-  lost_below : (s : ℕ) → has_slot lost s ≡ true → s < bank.slots
-  lost_below s is = by_first (has_slot failed s) refl
-    where
-      by_first : (b : Bool) → has_slot failed s ≡ b → s < bank.slots
-      by_first true at_once = is_known s at_once
-      by_first false later = tried.known s is later
-
-  given_out : (s : ℕ) → has_slot given s ≡ true → has_slot lost s ≡ false
-  given_out s is = isn't (has_slot lost s) (last (nat_lt s bank.slots) (not (has_slot lost s)) (sym (bits s) ∙ is))
-
-  given_below : (s : ℕ) → has_slot given s ≡ true → s < bank.slots
-  given_below s is = below s bank.slots (not (has_slot lost s)) (sym (bits s) ∙ is)
-
   not_given : (s : ℕ) → s < bank.slots → has_slot given s ≡ not (has_slot lost s)
   not_given s h = bits s ∙ ap (λ b. b && not (has_slot lost s)) (is_below s bank.slots h)
-
-  lost_then : (s : ℕ) → s < bank.slots → has_slot given s ≡ false → has_slot lost s ≡ true
-  lost_then s h out = turned (has_slot lost s) (sym (not_given s h) ∙ out)
-    where
-      turned : (b : Bool) → not b ≡ false → b ≡ true
-      turned true e = refl
-      turned false e = absurd (cc)
-
-  has_failed : (s : ℕ) → has_slot lost s ≡ true → IsFaulted s before after
-  has_failed s is = by_first (has_slot failed s) refl
-    where
-      by_first : (b : Bool) → has_slot failed s ≡ b → IsFaulted s before after
-      by_first true at_once = faulted_longer s before before between after (omega arith) (second.never_falls s) (first.never_falls s) (members.failed s at_once)
-      by_first false later = faulted_longer s before between after after (first.never_falls s) (omega arith) (second.never_falls s) (tried.failed s is later)
-
-  pub are-given : AreGiven bank given before after
-  are-given = record {
-    known = given_below;
-    sound = λ s is. let free : between s ≡ 0 = tried.sound s (given_below s is) (given_out s is) in omega (arith, free, first.never_falls s);
-    failed = λ s h out. has_failed s (lost_then s h out);
-  }
-
-  pub lost-bits : (s : ℕ) → has_slot lost s ≡ (nat_lt s bank.slots && not (has_slot given s))
-  lost-bits s = by_lost (has_slot lost s) refl
-    where
-      by_lost : (b : Bool) → has_slot lost s ≡ b → has_slot lost s ≡ (nat_lt s bank.slots && not (has_slot given s))
-      by_lost true is =
-          is ∙ sym (ap₂ (λ a b. a && not b) (is_below s bank.slots (lost_below s is)) (not_given s (lost_below s is) ∙ ap not is))
-      by_lost false is = is ∙ sym (ap (λ b. nat_lt s bank.slots && not b) (bits s ∙ ap (λ b. nat_lt s bank.slots && not b) is) ∙ neither (nat_lt s bank.slots))
-        where
-          neither : (a : Bool) → (a && not (a && true)) ≡ false
-          neither true = refl
-          neither false = refl
-
-  pub are-flushed : tells → AreFlushed bank.start new given
-  are-flushed told s k is = tried.flushed told s k (given_below s is) (given_out s is)
 
   module _ (told : tells) where
     abbrev c : Contents

@@ -33,11 +33,11 @@ use Rattle.array_create_assemble.specs.declared.spec.CreateSpec.{CreateSpec}
 use Rattle.sb_add_spare.specs.array_members_Placed.{IsPlaced}
 use Rattle.array_create_assemble.specs.Opening.{scope_of, IsOpened, AreGiven}
 use Rattle.array_create_assemble.specs.Creating.{HasRoom, IsLastSlot, rows_end}
-use Rattle.array_create_assemble.specs.Filling.{IsMade, AreFilled, AreStored, AreBelow, OnlyBelow, AreSlotsDone, OnlyFirstFail}
+use Rattle.array_create_assemble.specs.Filling.{IsMade, AreFilled, AreStored, AreBelow, OnlyBelow, AreSlotsDone}
 use Rattle.array_create_assemble.specs.Made.{is_used, used_slot, IsNew}
 use Rattle.bank.specs.declared.bank.Operation.{Operation}
 use Rattle.bank.specs.declared.bank.Operation.TheVariants.{Write, Flush}
-use Rattle.sb_add_spare.specs.array_members_Flushing.{OnlyFlushesAdded, OnlyItsSlotsFail}
+use Rattle.sb_add_spare.specs.array_members_Flushing.{OnlyFlushesAdded}
 use Rattle.sb_add_spare.proofs.array_members_Flushed.{contents-added}
 use Rattle.sb_add_spare.proofs.array_members_Still.{count-still}
 use Rattle.array_create_assemble.proofs.FillLaws.{present-same}
@@ -113,12 +113,6 @@ all-given bank given before mid after all was = record {
 
     contrary : (b : Bool) → b ≡ true → b ≡ false → ⊥
     contrary b e e' = absurd (cc)
-
-pub counts-all : (bank : Given) (n : ℕ) (before mid after : ℕ → ℕ) → n ≤ bank.slots → OnlyItsSlotsFail bank before mid → OnlyFirstFail n mid after → OnlyItsSlotsFail bank before after
-counts-all bank n before mid after le was more = record {
-  never_falls = λ s. omega (arith, was.never_falls s, more.never_falls s);
-  others = λ s h. more.others s (omega (arith, le, h)) ∙ was.others s h;
-}
 
 -- the slots that aren't written hold what they held
 pub others-hold : (start : Contents) (n : ℕ) (old mid new : List Operation) → OnlyFlushesAdded old mid → AreSlotsDone start n mid new

@@ -1,4 +1,4 @@
-pub mod KeptStands
+pub mod Adopting
 pub mod Leaving
 pub mod Named
 pub mod Closing
@@ -53,7 +53,6 @@ pub use Rattle.array_reshaping_invariant.proofs.reshape_sb_updates_BegunPlan
 pub use Rattle.array_reshaping_invariant.proofs.reshape_sb_updates_EndedPlan
 pub use Rattle.array_reshaping_invariant.proofs.reshape_sb_updates_NewRoles
 pub use Rattle.array_reshaping_invariant.proofs.reshape_sb_updates_Taken
-pub use Rattle.history_fixed_shape_laws.proofs.Kept as history_fixed_shape_laws_Kept
 pub use Rattle.array_reshaping_invariant.proofs.history_append_CallLaws
 pub use Rattle.array_reshaping_invariant.proofs.history_append_LeftLaws
 pub use Rattle.array_reshaping_invariant.proofs.history_append_PlainLaws

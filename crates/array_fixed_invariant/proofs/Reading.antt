@@ -1,28 +1,20 @@
 -- A read of the list, from what it leaves: it was done, or refused behind what it lost.
-use Rattle.std.proofs.Common.{◌≡◌, ◌⊎◌, inl, inr, ℕ, ◌+◌, ◌*◌, ◌/◌, ◌<◌, ◌≤◌, ◌==◌, nat_le, Bool, true, cond, Option, Some, None, List, [], ◌∷◌, ◌++◌, length, fold, refl, sym, ◌∙◌, ap, subst, arith, append-nil}
-use Rattle.std.specs.Prelude.{IsFalse, IsSome, slice_index_or, min}
+use Rattle.std.proofs.Common.{◌≡◌, ◌⊎◌, inl, inr, ℕ, ◌+◌, ◌/◌, ◌<◌, ◌≤◌, ◌==◌, Option, None, List, [], ◌∷◌, ◌++◌, length, fold, refl, sym, ◌∙◌, ap, subst, arith, append-nil}
+use Rattle.std.specs.Prelude.{IsFalse, slice_index_or, min}
 use Rattle.std.specs.Option.{option_map_or}
-use Rattle.std.proofs.lemmas.Bool.Decides.{nat_tests}
 use Rattle.std.proofs.lemmas.List.Sums.{fold-append}
 use Rattle.array_reshaping_invariant.specs.raid_types_Sectors.{Sector, sectors_of}
-use Rattle.array_reshaping_invariant.specs.raid_types_Shapes.{data_disks, stripe_sectors}
-use Rattle.array_reshaping_invariant.specs.raid_types_the_Refusal.{Refusal}
-use Rattle.array_call_laws.specs.raid_types_the_Refusal_TheVariants.{NotResynced as Unsynced}
 use Rattle.array_reshaping_invariant.specs.raid_types_the_Who.{Who}
-use Rattle.array_reshaping_invariant.specs.raid_types_the_Shape.{Shape}
 use Rattle.array_call_laws.proofs.raid_types_SectorLaws.{length-sectors_of}
 use Rattle.array_reshaping_invariant.specs.bank_the_Operation.{Operation}
 use Rattle.array_reshaping_invariant.specs.bank_Given.{Given}
-use Rattle.array_reshaping_invariant.specs.raid_layout_Layout.{place}
-use Rattle.array_reshaping_invariant.proofs.raid_layout_Places.{place-role_below}
 use Rattle.array_reshaping_invariant.specs.raid_parity_Rows.{sector_of}
-use Rattle.array_reshaping_invariant.specs.sb_codec_the_Sb.{Sb}
 use Rattle.array_reshaping_invariant.specs.sb_specs_the_Members.{Members}
-use Rattle.array_reshaping_invariant.specs.sb_specs_Reading.{Scope, shape_of, list_length}
-use Rattle.array_reshaping_invariant.specs.stripe_row_Rows.{reading_of, present, is_missing}
+use Rattle.array_reshaping_invariant.specs.sb_specs_Reading.{Scope, list_length}
+use Rattle.array_reshaping_invariant.specs.stripe_row_Rows.{present}
 use Rattle.array_reshaping_invariant.specs.history_the_Entry.{Entry}
 use Rattle.array_reshaping_invariant.specs.history_the_Event.{Event}
-use Rattle.array_reshaping_invariant.specs.history_the_Event_TheVariants.{Read, Refused}
+use Rattle.array_reshaping_invariant.specs.history_the_Event_TheVariants.{Read}
 use Rattle.array_reshaping_invariant.specs.history_Flat.{now, length_of, limit_of, limit_after, visible_of, values_of, values_after}
 use Rattle.array_reshaping_invariant.specs.history_Legal.{visible_at}
 use Rattle.array_reshaping_invariant.specs.history_Plain.{entries_of}
@@ -30,28 +22,21 @@ use Rattle.array_reshaping_invariant.specs.history_Sound.{OpensFit}
 use Rattle.array_reshaping_invariant.specs.history_Transfers.{IsReadOver}
 use Rattle.array_reshaping_invariant.specs.history_World.{opening_list}
 use Rattle.array_reshaping_invariant.specs.crash_views_Regions.{DoWithout}
-use Rattle.array_reshaping_invariant.proofs.crash_views_Stands.{for-still, list-still}
 use Rattle.array_reshaping_invariant.specs.array_members_the_Work.{Work}
-use Rattle.array_reshaping_invariant.specs.array_members_Lacking.{LacksTooMany, ListStands, RowsStandBelow, mended_rows}
-use Rattle.array_reshaping_invariant.specs.array_members_Moving.{IsMoved}
+use Rattle.array_reshaping_invariant.specs.array_members_Lacking.{ListStands, RowsStandBelow, mended_rows}
 use Rattle.array_reshaping_invariant.specs.array_members_Placed.{AreWhole}
-use Rattle.array_reshaping_invariant.proofs.array_members_Fit.{valid}
 use Rattle.array_reshaping_invariant.proofs.array_members_LackingLists.{row-sector}
 use Rattle.array_reshaping_invariant.proofs.array_members_LiveLeft.{without-left}
 use Rattle.array_reshaping_invariant.specs.history_append_Losing.{losses_of}
 use Rattle.array_reshaping_invariant.proofs.history_append_CallLaws.{losses-are, length-losses, limit-losses, values-losses}
 use Rattle.array_reshaping_invariant.proofs.array_call_specs_NowLaws.{sectors_of-at}
-use Rattle.array_reshaping_invariant.specs.stripe_region_read_Stretches.{relied_rows, IsListUnread}
 use Rattle.array_reshaping_invariant.specs.history_invariant_Recorded.{IsCallGoing}
 use Rattle.array_reshaping_invariant.specs.history_invariant_Safe.{world_in}
 use Rattle.array_reshaping_invariant.proofs.history_invariant_Entered.{values-more, length-more}
 use Rattle.array_reshaping_invariant.specs.history_invariant_laws_Reliable.{IsReliable, AreToldGone}
-use Rattle.array_reshaping_invariant.proofs.array_call_specs_DegradedLaws.{within-count}
-use Rattle.array_fixed_invariant.specs.Still.{AreAtRest, relied_list, HasListStood, IsStill}
-use Rattle.array_fixed_invariant.proofs.Leaving.{list-later, fit-earlier, rest-moved}
-use Rattle.array_fixed_invariant.proofs.Refusals.{IsRefusedStill, too-many-refused}
-use Rattle.array_fixed_invariant.proofs.Staying.{IsNamedStill, stays-stands, refused-stands}
-use Rattle.array_fixed_invariant.proofs.Stood.{mended-moved, row-inside}
+use Rattle.array_fixed_invariant.specs.Still.{HasListStood, IsStill}
+use Rattle.array_fixed_invariant.proofs.Leaving.{list-later, fit-earlier}
+use Rattle.array_fixed_invariant.proofs.Staying.{IsNamedStill, stays-stands}
 use Rattle.array_fixed_invariant.proofs.Whole.{whole-told, takes-first}
 
 -- ---- behind losses
@@ -81,54 +66,10 @@ module _ (entries : List Entry) (who : Who) (end roles spares : ℕ) where
 
 -- ---- a read that isn't done
 
--- where no resync is pending, all rows are relied on
-relied-all : (newest : Sb) (relied : ℕ) (shape : Shape) → list_length newest ≤ relied → relied_rows newest relied shape ≡ newest.size
-relied-all newest relied shape le = ap (λ (b : Bool). cond b newest.size (relied / stripe_sectors shape * shape.chunk)) (within (list_length newest) relied le)
-  where
-    within : (a b : ℕ) → a ≤ b → nat_le a b ≡ true
-    within a b le = grind (arith, nat_tests, le)
-
--- a sector in a row that isn't tells that one is
-pub pending-of : (given : Given) (m : Members) (rest : AreAtRest given m) (resync : Option ℕ) (x : ℕ) → x < list_length m.newest
-    → relied_rows m.newest (relied_list resync m) (shape_of m.newest) ≤ (place (shape_of m.newest) x).row → IsSome resync
-pending-of given m rest (Some mended) x lt beyond = refl
-pending-of given m rest None x lt beyond =
-    let all : list_length m.newest ≤ relied_list None m = (let long = list-still m.newest rest.still in omega (arith, long)) in
-    let same = relied-all m.newest (relied_list None m) (shape_of m.newest) all in
-    let inside = row-inside given m rest x lt in
-    absurd (omega (arith, beyond, same, inside))
-
-pub unread-refused : (given : Given) (m : Members) (rest : AreAtRest given m) (resync : Option ℕ) (from to : ℕ) (refusal : Refusal) → to ≤ list_length m.newest
-    → IsListUnread (relied_list resync m) from to m refusal → IsRefusedStill resync m refusal
-unread-refused given m rest resync from to refusal within why = elim why.3 [
-  | inl many ↦ too-many-refused resync m refusal (inl (subst (λ (s : Shape). LacksTooMany s m refusal) (for-still m.newest rest.still why.0) many))
-  | inr lacked ↦
-      let x = why.0 in
-      let shape = shape_of m.newest in
-      let below : x < list_length m.newest = (let lt = why.2 in omega (arith, lt, within)) in
-      let miss : is_missing (reading_of m) (place shape x).role ≡ true = subst (λ (s : Shape). is_missing (reading_of m) (place s x).role ≡ true) (for-still m.newest rest.still x) lacked.1.0 in
-      let beyond : relied_rows m.newest (relied_list resync m) shape ≤ (place shape x).row =
-      subst (λ (s : Shape). relied_rows m.newest (relied_list resync m) s ≤ (place s x).row) (for-still m.newest rest.still x) lacked.1.1 in
-      subst (IsRefusedStill resync m) (sym (lacked.0 ∙ ap (λ (s : Shape). Unsynced (place s x).role) (for-still m.newest rest.still x)))
-      (pending-of given m rest resync x below beyond, within-count given m rest.placed (place shape x).role (place-role_below shape (valid given m rest.placed) x), miss)
-]
-
--- as many sectors are relied on
-pub relied-moved : {given : Given} {old new : Members} → IsMoved given old new → (resync : Option ℕ) → relied_list resync new ≡ relied_list resync old
-relied-moved moved resync = λ i. data_disks (moved.shape i) * mended-moved moved resync i
-
 module _ (tells : Type 0) (given : Given) (tape tape' : List Operation) (scope : Scope) (first : ℕ) (entries : List Entry) (old new : Members) (work : Work) (left left' : ℕ)
     (who : Who) (end roles spares : ℕ) (before after : ℕ → ℕ)
     (was : IsStill tells given tape scope first entries old work left) (does : DoWithout old) (goes : IsCallGoing entries who) (caller : IsFalse (who.caller == 254)) (at_end : tells → end ≡ length tape')
     (named : IsNamedStill tells given tape tape' old new roles spares before after) (alike : losses_of roles spares ≡ [] → left' ≡ left) where
-  pub unread-stands : (from to : ℕ) (refusal : Refusal) → to ≤ list_length new.newest → IsListUnread (relied_list work.resync old) from to new refusal
-      → IsStill tells given tape' scope first (entries ++ entries_of who end (losses_of roles spares ++ Refused refusal ∷ [])) new work left'
-  unread-stands from to refusal within why =
-      refused-stands tells given tape tape' scope first entries old new work left left' who end roles spares before after refusal was
-      (without-left given old was.members_are.placed was.members_are.unlost does) goes caller at_end named alike
-      (unread-refused given new (rest-moved given old new named.moved was.members_are) work.resync from to refusal within
-      (subst (λ (n : ℕ). IsListUnread n from to new refusal) (sym (relied-moved named.moved work.resync)) why))
-
   -- ---- one that is done
 
   pub read-stands : (at : ℕ) (bytes : List ℕ) → at + length bytes / 512 ≤ list_length old.newest → (tells → at + length bytes / 512 ≤ visible_at (world_in given tape scope first) entries)

@@ -128,9 +128,6 @@ module _ (tells : Type 0) (given : Given) (tape tape' : List Operation) (scope :
   abbrev c : Contents
   c = present given tape
 
-  abbrev c' : Contents
-  c' = present given tape'
-
   pends : IsSome work.resync
   pends = subst IsSome (sym waits) refl
 

@@ -97,9 +97,6 @@ module _ (tells : Type 0) (given : Given) (tape mid_tape tape' : List Operation)
   below : slot < 32
   below = let few = did.slots in let lt = did.there in omega (arith, few, lt)
 
-  abbrev work' : Work
-  work' = bearing false slot sb.dev_number work
-
   grows : Grows tells tape tape'
   grows = grows-then (record { more = λ t. ((looked t).0, (looked t).2) }) did.grows
 

@@ -1,21 +1,16 @@
 -- How the list stands on members without an active reshape: in the words of one shape and in those of regions, and on fewer members.
-use Rattle.std.proofs.Common.{◌≡◌, ℕ, ◌*◌, ◌/◌, ◌%◌, ◌<◌, Option, Some, None, [], refl, sym, ◌∙◌, ap, subst, arith}
-use Rattle.std.proofs.lemmas.Nat.{mod_below}
-use Rattle.std.proofs.Math.Nat.{div-add-mod'}
+use Rattle.std.proofs.Common.{◌≡◌, ℕ, ◌*◌, ◌<◌, Option, Some, None, [], sym, ap, subst, arith}
 use Rattle.array_reshaping_invariant.specs.raid_types_Sectors.{Sector}
-use Rattle.array_call_laws.specs.raid_types_the_Place.{Place}
 use Rattle.array_reshaping_invariant.specs.raid_types_the_Shape.{Shape}
 use Rattle.array_reshaping_invariant.specs.bank_Given.{Given, sizes}
 use Rattle.array_reshaping_invariant.specs.bank_Tape.{Contents}
 use Rattle.array_reshaping_invariant.specs.raid_layout_Layout.{place}
-use Rattle.array_reshaping_invariant.proofs.raid_layout_Places.{chunk_some, data_some, place-sector, place-sector_below, place-row_below, sector_at}
+use Rattle.array_reshaping_invariant.proofs.raid_layout_Places.{place-sector_below}
 use Rattle.array_reshaping_invariant.specs.sb_specs_the_Members.{Members}
 use Rattle.array_reshaping_invariant.specs.sb_specs_Reading.{Scope, shape_of, list_length}
-use Rattle.array_reshaping_invariant.specs.stripe_row_Rows.{reading_of}
-use Rattle.array_reshaping_invariant.specs.stripe_list_Full.{RowStands}
 use Rattle.array_reshaping_invariant.specs.crash_views_Regions.{ArePlaced}
 use Rattle.array_reshaping_invariant.specs.crash_views_Windows.{ListStands as ListIsShown, RowsStand as RowsAreShown}
-use Rattle.array_reshaping_invariant.proofs.crash_views_Stands.{for-still, list-still, still-stands}
+use Rattle.array_reshaping_invariant.proofs.crash_views_Stands.{list-still, still-stands}
 use Rattle.array_reshaping_invariant.specs.crash_safety_laws_Marking.{AreOthersPresent}
 use Rattle.array_reshaping_invariant.specs.array_members_the_Work.{Work}
 use Rattle.array_reshaping_invariant.specs.array_members_Lacking.{ListStands, RowsStand, RowsStandAmong, RowsStandBelow, mended_rows}
@@ -25,9 +20,7 @@ use Rattle.array_reshaping_invariant.proofs.array_members_Fit.{valid, multiple, 
 use Rattle.array_reshaping_invariant.proofs.array_members_LackingLists.{list-moved, among-moved}
 use Rattle.array_reshaping_invariant.proofs.array_members_Still.{placed-two, backup-still}
 use Rattle.array_reshaping_invariant.proofs.array_call_specs_DegradedLaws.{rebuilt-moved}
-use Rattle.array_reshaping_invariant.specs.stripe_region_read_Stretches.{RowsStandTo}
-use Rattle.array_call_laws.proofs.WriteLaws.{mended-multiple}
-use Rattle.array_fixed_invariant.specs.Still.{AreAtRest, HasListStood, relied_list}
+use Rattle.array_fixed_invariant.specs.Still.{AreAtRest, HasListStood}
 
 -- ---- on fewer members
 
@@ -76,31 +69,3 @@ module _ (given : Given) (m : Members) (rest : AreAtRest given m) where
       let below = place-sector_below (shape_of m.newest) (valid given m rest.placed) x m.newest.size (multiple given m rest.placed) lt in
       let long = list-still m.newest rest.still in
       omega (arith, below, long)
-
-  -- and the other way
-  pub row-inside : (x : ℕ) → x < list_length m.newest → (place (shape_of m.newest) x).row < m.newest.size
-  row-inside x lt =
-      let long = list-still m.newest rest.still in
-      place-row_below (shape_of m.newest) (valid given m rest.placed) x m.newest.size (multiple given m rest.placed) (omega (arith, lt, long))
-
-  module _ (resync : Option ℕ) (c : Contents) (list : ℕ → Sector) where
-    -- the rows that are mended are those of the sectors that are relied on
-    pub rows-relied : RowsStandBelow (mended_rows resync m) m c list → RowsStandTo None (relied_list resync m) m c list
-    rows-relied below x lt shown =
-        subst (λ (s : Shape). RowStands (reading_of m) c s list (place s x).row) (sym (for-still m.newest rest.still x))
-        (below (place (shape_of m.newest) x).row
-        (place-row_below (shape_of m.newest) (valid given m rest.placed) x (mended_rows resync m) (mended-multiple given m rest.placed resync) lt)
-        (row-inside x shown.within))
-
-    pub relied-rows : RowsStandTo None (relied_list resync m) m c list → RowsStandBelow (mended_rows resync m) m c list
-    relied-rows stands row lt low =
-        let shape = shape_of m.newest in
-        let fit = valid given m rest.placed in
-        let x : ℕ = sector_at shape (row / shape.chunk) 0 (row % shape.chunk) in
-        let at : (place shape x).row ≡ row =
-        ap (λ (p : Place). p.row) (place-sector shape (row / shape.chunk) 0 (row % shape.chunk) (data_some shape fit) (mod_below row shape.chunk (chunk_some shape fit)))
-        ∙ div-add-mod' row shape.chunk in
-        let below = place-sector_below shape fit x (mended_rows resync m) (mended-multiple given m rest.placed resync) (omega (arith, at, lt)) in
-        subst (RowStands (reading_of m) c shape list) at
-        (subst (λ (s : Shape). RowStands (reading_of m) c s list (place s x).row) (for-still m.newest rest.still x)
-        (stands x below (record { within = sector-inside x (omega (arith, at, low)); outside = refl })))

@@ -117,9 +117,6 @@ module _ (tells : Type 0) (given : Given) (tape tape' : List Operation) (scope :
   abbrev world : World
   world = world_in given tape scope first
 
-  abbrev later : World
-  later = world_in given tape' scope first
-
   abbrev current : ℕ → Sector
   current = now (opening_list (world_in given tape scope first)) entries
 

@@ -71,6 +71,7 @@ pub use Rattle.array_call_laws.specs.raid_types_the_Phase_TheVariants
 pub use Rattle.array_call_laws.specs.raid_types_the_Refusal_TheVariants
 pub use Rattle.array_reshaping_invariant.specs.bank_Given
 pub use Rattle.array_reshaping_invariant.specs.bank_Tape
+pub use Rattle.array_reshaping_invariant.specs.bank_Whole
 pub use Rattle.array_reshaping_invariant.specs.bank_the_Operation
 pub use Rattle.array_reshaping_invariant.specs.reshape_plan_Plans
 pub use Rattle.array_reshaping_invariant.specs.raid_types_Search

@@ -1,7 +1,7 @@
 -- What an array keeps without an active reshape, also behind one that ended, over plain data.
-use Rattle.std.specs.Prelude.{◌≡◌, ◌⊎◌, ℕ, ◌*◌, ◌<◌, ◌≤◌, ◌||◌, Bool, true, false, List, length, Option, IfSome, IsSome, is_some, ⊤}
+use Rattle.std.specs.Prelude.{◌≡◌, ◌⊎◌, ℕ, ◌<◌, ◌≤◌, ◌||◌, Bool, true, false, List, length, IfSome, IsSome, is_some, ⊤}
 use Rattle.array_reshaping_invariant.specs.raid_types_Sectors.{Sector}
-use Rattle.array_reshaping_invariant.specs.raid_types_Shapes.{data_disks, tolerance, tolerance_of}
+use Rattle.array_reshaping_invariant.specs.raid_types_Shapes.{tolerance, tolerance_of}
 use Rattle.array_reshaping_invariant.specs.bank_the_Operation.{Operation}
 use Rattle.array_reshaping_invariant.specs.bank_Given.{Given, sizes}
 use Rattle.array_reshaping_invariant.specs.bank_Tape.{Contents}
@@ -46,10 +46,6 @@ pub record HasListStood (sound : Type 0) (work : Work) (members : Members) (c : 
   pub whole : sound → AreSectorsWhole (list_length members.newest) list
   pub rows : sound → RowsStandBelow (mended_rows work.resync members) members c list
   pub rebuilt : sound → AreRebuilt work members c list
-
--- the sectors of the list whose parity is to be relied on: those of the stripes that a pending resync has mended, or else all
-abbrev pub relied_list : Option ℕ → Members → ℕ
-relied_list resync members = data_disks (shape_of members.newest) * mended_rows resync members
 
 -- no role is missing
 abbrev pub AreNoneMissing : Members → Type 0

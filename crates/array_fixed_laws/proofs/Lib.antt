@@ -1,4 +1,5 @@
 pub mod Adopting
+pub mod KeptShape
 pub mod Asking
 pub mod Plain
 pub mod Kept

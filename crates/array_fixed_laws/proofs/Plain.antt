@@ -34,7 +34,7 @@ use Rattle.array_fixed_invariant.specs.history_invariant_Recorded.{IsCallGoing, 
 use Rattle.array_fixed_invariant.specs.history_invariant_Safe.{world_in, IsReshapeFit, OpensOnCourse, IsFilledRight}
 use Rattle.array_fixed_invariant.proofs.history_invariant_Growing.{reading-grown}
 use Rattle.array_fixed_invariant.proofs.history_invariant_Tests.{neither, none-before, or-left, or-right}
-use Rattle.array_fixed_invariant.proofs.history_fixed_shape_laws_Kept.{filled-alike}
+use Rattle.array_fixed_laws.proofs.KeptShape.{filled-alike}
 use Rattle.array_fixed_invariant.specs.Still.{IsStill}
 use Rattle.array_fixed_invariant.proofs.Leaving.{fit-earlier}
 use Rattle.array_specs.specs.Plans.{turns_shape, KeepsShape}

@@ -40,7 +40,7 @@ use Rattle.array_fixed_invariant.proofs.history_invariant_Tests.{neither}
 use Rattle.array_fixed_invariant.specs.history_invariant_laws_Reliable.{IsReliable}
 use Rattle.array_fixed_invariant.proofs.history_invariant_laws_Plans.{planned-grown}
 use Rattle.array_specs.specs.Parts.{RunningParts}
-use Rattle.array_specs.specs.Calls.{moving_world, IsSameReshape, IsStepTaken}
+use Rattle.array_specs.specs.Calls.{moving_world, IsStepTaken}
 use Rattle.array_specs.specs.Plans.{GoTo, aim_of, ArePlansKept}
 
 -- ---- what isn't a plan
@@ -228,16 +228,6 @@ plans-kept given {tape = tape} {tape' = tape'} {old = old} {new = new} grows sam
 pub plans-closed : {B : Type 0} (tells : Type 0) (world : World) (array : RunningParts B) → open_plans array.parts.entries ≡ [] → ArePlansKept tells world array
 plans-closed tells world array none t right =
     subst (λ (l : List Entry). All (λ plan. planned_shape world plan.end plan.event ≡ Some (aim_of array)) l) (sym none) (All-nil (λ plan. planned_shape world plan.end plan.event ≡ Some (aim_of array)))
-
--- the same reshape, or none as before
-pub same-aim : {B : Type 0} {tells : Type 0} {old new : RunningParts B} {before after : World} → IsSameReshape tells old new before after → is_reshaping new.parts.members.newest ≡ is_reshaping old.parts.members.newest → IsSameAim old new
-same-aim same active = record {
-  uuid = same.array.uuid;
-  given = same.array.given;
-  first = same.array.first;
-  backup = same.array.backup;
-  aim = λ i. last_shape (if active i then same.final i else same.array.shape i) (phases_of (same.ahead i));
-}
 
 -- a reshape begins: it goes to its shape, and the phases behind it are ahead
 pub aim-begun : {B : Type 0} (old new : RunningParts B) (to : Shape) (behind : List Phase) → is_reshaping old.parts.members.newest ≡ false → is_reshaping new.parts.members.newest ≡ true → final_shape new.parts.members.newest ≡ to

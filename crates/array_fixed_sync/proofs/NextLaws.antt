@@ -140,13 +140,6 @@ rebuild-end Fact work members synced fact end = at (first_recovering members) fa
 
 -- ---- why a step isn't done
 
-pub undone-rebuild : (work : Work) (old members : Members) (refusal : Refusal) → work.resync ≡ None → IsUndone work old members refusal → AreTooMany members refusal
-undone-rebuild work old members refusal synced why = by work.resync synced why
-  where
-    by : (o : Option ℕ) → o ≡ None → MatchOption o (AreTooMany members refusal) (λ mended. IsUnmended (is_at_end o old) members refusal) → AreTooMany members refusal
-    by None is why = why
-    by (Some mended) is why = absurd (cc)
-
 pub undone-caused : {T : Type 0} (visible : ℕ) (work : Work) (old new : Members) (result : Result T Fault) → work.resync ≡ None → IsCausedBy visible 0 AreTooMany old new result → IsCausedBy visible 0 (IsUndone work old) old new result
 undone-caused visible work old new result synced was =
     subst (λ (o : Option ℕ). IsCausedBy visible 0 (λ m refusal. MatchOption o (AreTooMany m refusal) (λ mended. IsUnmended (is_at_end work.resync old) m refusal)) old new result) (sym synced) was

@@ -1,10 +1,9 @@
 -- A request to an array in a reshape is refused for that.
-use Rattle.std.proofs.Common.{◌≡◌, ◌≢◌, ℕ, Bool, true, Option, Some, List, [], ◌∷◌, ◌++◌, length, ◌∙◌, arith}
+use Rattle.std.proofs.Common.{◌≡◌, ◌≢◌, ℕ, Bool, true, Option, List, [], ◌∷◌, ◌++◌, length, ◌∙◌}
 use Rattle.std.specs.Prelude.{IsTrue}
 use Rattle.array_reply_specs.specs.raid_types_the_Refusal_TheVariants.{Busy}
 use Rattle.array_reply_specs.specs.raid_types_the_BusyKind_TheVariants.{Reshape}
 use Rattle.array_reply_specs.specs.raid_types_the_Who.{Who}
-use Rattle.array_reply_specs.specs.raid_types_the_Wish.{Wish}
 use Rattle.array_reply_specs.specs.bank_the_Operation.{Operation}
 use Rattle.array_reply_specs.specs.bank_Given.{Given}
 use Rattle.array_transition.specs.sb_specs_the_Members.{Members}
@@ -18,9 +17,7 @@ use Rattle.array_reply_specs.specs.history_Flat.{next_number}
 use Rattle.array_transition.specs.history_Plain.{entries_of}
 use Rattle.array_transition.specs.history_World.{World}
 use Rattle.array_transition.proofs.history_OneShapeReplies.{where-asked}
-use Rattle.array_transition.specs.reshape_request_Asked.{Asked, grow_refusal}
 use Rattle.array_transition.specs.reshape_request_Fitting.{IsReadLike}
-use Rattle.array_transition.proofs.reshape_request_FirstLaws.{judged, exactly}
 use Rattle.array_transition.specs.history_invariant_Recorded.{entry_of}
 use Rattle.array_transition.proofs.history_invariant_Records.{begins-going}
 use Rattle.array_transition.specs.reshape_progress_the_Course.{Course}
@@ -30,11 +27,6 @@ use Rattle.array_transition.proofs.array_reshaping_invariant_Resting.{resting-mo
 use Rattle.array_transition.proofs.array_specs_Called.{not_254}
 use Rattle.array_grow.specs.Planned.{IsReadWhereAsked, IsRefusedInReshape}
 use Rattle.array_grow.proofs.Fitting.{where-is, reply-fits}
-
--- it is the first reason
-pub busy-first : (a : Asked) (wish : Wish) → is_reshaping a.members.newest ≡ true → grow_refusal a wish ≡ Some (Busy Reshape)
-busy-first a wish active =
-    (exactly a wish (grow_refusal a wish) (judged a wish) (Busy Reshape)).1 (record { holds = active; first = λ other lt is. absurd (omega (arith, lt)) })
 
 -- and it fits each request that a reshape refuses
 pub busy-fits : (world : World) (before : List Entry) (who : Who) (end : ℕ) (request : Request) (m : Members) → IsRefusedInReshape request → who.number ≡ next_number who.caller before → end ≡ length world.tape

@@ -4,7 +4,6 @@ pub mod Fitting
 pub mod Kept
 pub mod Busy
 pub mod PlanLaws
-pub mod Unbroken
 pub mod Aside
 pub mod Replied
 pub mod Stored

@@ -1,5 +1,5 @@
 -- What an opening found runs, with or without a reshape.
-use Rattle.std.proofs.Common.{◌≡◌, ◌⊎◌, inl, inr, ℕ, ◌<◌, ◌≤◌, Bool, true, false, MatchBool, List, [], length, Option, Some, None, IfSome, Result, Ok, Err, IfOk, IfErr, sym, ◌∙◌, ap, subst, arith}
+use Rattle.std.proofs.Common.{◌≡◌, inl, inr, ℕ, ◌<◌, ◌≤◌, Bool, true, false, MatchBool, List, [], length, Option, Some, None, IfSome, Result, Ok, Err, IfOk, IfErr, sym, ◌∙◌, ap, subst, arith}
 use Rattle.array_create_assemble.specs.raid_types_the_Fault.{Fault}
 use Rattle.array_create_assemble.specs.raid_types_the_Fault_TheVariants.{Refused, NoMemory}
 use Rattle.array_create_assemble.specs.raid_types_the_Refusal_TheVariants.{BackupAbsent}
@@ -48,16 +48,6 @@ as-told : {B : Type 0} (tells : Type 0) (bank : Given) (tape : List Operation) (
     → MatchBool b (IsMovingFound tells bank tape backup asked before after run) (IsStillFound tells bank tape backup asked before after run) → IsRunningFound tells bank tape backup asked before after run
 as-told tells bank tape backup asked before after run b is found =
     subst (λ (b : Bool). MatchBool b (IsMovingFound tells bank tape backup asked before after run) (IsStillFound tells bank tape backup asked before after run)) (sym is) found
-
--- it is one of the two
-pub either-found : {B : Type 0} (tells : Type 0) (bank : Given) (tape : List Operation) (backup : Option ℕ) (asked : Option (List ℕ)) (before after : ℕ → ℕ) (run : RunningParts B) → IsRunningFound tells bank tape backup asked before after run
-    → IsStillFound tells bank tape backup asked before after run ⊎ IsMovingFound tells bank tape backup asked before after run
-either-found tells bank tape backup asked before after run = by (is_reshaping run.parts.members.newest)
-  where
-    by : (b : Bool) → MatchBool b (IsMovingFound tells bank tape backup asked before after run) (IsStillFound tells bank tape backup asked before after run)
-        → IsStillFound tells bank tape backup asked before after run ⊎ IsMovingFound tells bank tape backup asked before after run
-    by true found = inr found
-    by false found = inl found
 
 -- ---- without a reshape
 

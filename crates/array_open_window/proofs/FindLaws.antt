@@ -1,57 +1,12 @@
--- What is found in the backup, by the header that is there.
-use Rattle.std.proofs.Common.{◌≡◌, ◌⊎◌, inl, inr, ℕ, ◌+◌, ◌-◌, ◌*◌, ◌/◌, ◌<◌, ◌≤◌, nat_lt, Bool, true, cond, if◌then◌else◌, List, length, take, drop, Option, Some, None, Result, Ok, Err, IfOk, refl, sym, ◌∙◌, ap, subst, arith}
-use Rattle.std.proofs.lemmas.Bool.Decides.{nat_tests}
+-- The sectors of the section that is found in the backup.
+use Rattle.std.proofs.Common.{◌≡◌, ◌⊎◌, inl, inr, ℕ, ◌+◌, ◌-◌, ◌*◌, ◌/◌, ◌≤◌, true, List, length, take, drop, Result, Ok, Err, IfOk, sym, ◌∙◌, ap, subst, arith}
 use Rattle.std.proofs.lemmas.List.{length-take-le}
 use Rattle.array_reshaping_state.specs.raid_types_the_Span.{Span}
 use Rattle.array_reshaping_state.specs.raid_types_Sectors.{Sector}
-use Rattle.array_reshaping_state.specs.sb_codec_the_Sb.{Sb}
-use Rattle.array_reshaping_state.specs.bank_Given.{Given, Sizes}
-use Rattle.array_reshaping_state.specs.bank_Tape.{Contents, AreSectors}
-use Rattle.array_reshaping_state.specs.bank_backup_Section.{has_section}
-use Rattle.array_reshaping_state.specs.sb_specs_Reading.{Scope, next_window}
-use Rattle.array_reshaping_state.specs.history_ActiveSection.{section_for}
-use Rattle.array_reshaping_state.specs.crash_views_Regions.{header_in, open_by}
-use Rattle.array_reshaping_state.proofs.crash_views_BackupLaws.{found-open}
+use Rattle.array_reshaping_state.specs.bank_Tape.{AreSectors}
 use Rattle.array_reshaping_state.specs.reshape_request_the_Window.{Window}
 use Rattle.array_reshaping_state.specs.reshape_request_the_Window_TheVariants.{Closed, Entered}
-use Rattle.array_reshaping_state.specs.reshape_progress_Course.{IsWindowOf}
-use Rattle.array_open_window.specs.Finding.{IsLookedFor, window_for, bytes_for, AreOfSection, IsFoundIn}
-
--- ---- the window
-
--- without a next window no section is active
-none-open : (scope : Scope) (newest : Sb) (c : Contents) → next_window newest ≡ None → open_by scope newest (header_in scope c) ≡ None
-none-open scope newest c none = ap (section_for scope (λ s k. header_in scope c) scope.backup) none ∙ of scope.backup
-  where
-    of : (backup : Option ℕ) → section_for scope (λ s k. header_in scope c) backup None ≡ None
-    of (Some b) = refl
-    of None = refl
-
-pub none-found : (bank : Given) (newest : Sb) (backup : ℕ) (c : Contents) → next_window newest ≡ None → (scope : Scope) → IsLookedFor bank newest backup scope → Closed ≡ window_for (open_by scope newest (header_in scope c))
-none-found bank newest backup c none scope at = sym (ap window_for (none-open scope newest c none))
-
--- what is found of the next window is by the header
-module _ (bank : Given) (newest : Sb) (backup : ℕ) (span : Span) (c : Contents) (known : backup < bank.slots) (next : next_window newest ≡ Some span) where
-  pub window-found : (window : Window) → window ≡ window_for (if has_section newest.set_uuid (bank.sectors backup) (c backup) span then Some span else None)
-      → (scope : Scope) → IsLookedFor bank newest backup scope → window ≡ window_for (open_by scope newest (header_in scope c))
-  window-found window is scope at =
-      is ∙ ap window_for (sym (found-open scope newest backup span c (has_section newest.set_uuid (bank.sectors backup) (c backup) span) at.backup_is at.given next same))
-    where
-      below : (a b : ℕ) → a < b → nat_lt a b ≡ true
-      below a b lt = grind (arith, nat_tests, lt)
-
-      long : scope.sizes.sectors backup ≡ bank.sectors backup
-      long = ap (λ (z : Sizes). z.sectors backup) at.sizes_are ∙ ap (λ (b : Bool). cond b (bank.sectors backup) 0) (below backup bank.slots known)
-
-      same : has_section newest.set_uuid (bank.sectors backup) (c backup) span ≡ has_section scope.uuid (scope.sizes.sectors backup) (c backup) span
-      same = λ i. has_section (sym at.uuid i) (sym long i) (c backup) span
-
--- it is the next one, of which nothing is copied
-pub window-right : (newest : Sb) (span : Span) → next_window newest ≡ Some span → (window : Window) → (window ≡ Closed) ⊎ (window ≡ Entered span 0 true) → IsWindowOf newest window
-window-right newest span next window (inl closed) = subst (IsWindowOf newest) (sym closed) tt
-window-right newest span next window (inr entered) = subst (IsWindowOf newest) (sym entered) (next, omega arith, λ critical. refl)
-
--- ---- its sectors
+use Rattle.array_open_window.specs.Finding.{bytes_for, AreOfSection, IsFoundIn}
 
 module _ (slot : ℕ → Sector) (span : Span) (buffer : List ℕ) (room : 512 * (span.hi - span.lo) ≤ length buffer) where
   taken : length (take (512 * (span.hi - span.lo)) buffer) ≡ 512 * (span.hi - span.lo)

@@ -1,5 +1,4 @@
 pub mod Ending
-pub mod LastStep
 pub mod EndedRows
 pub mod Consistent
 pub mod Ended

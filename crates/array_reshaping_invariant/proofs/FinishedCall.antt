@@ -33,12 +33,11 @@ use Rattle.reshape_progress_resync_laws.specs.array_members_Lacking.{AreTooMany,
 use Rattle.reshape_progress_resync_laws.specs.reshape_window_rows_Copies.{tail_of, IsCopied}
 use Rattle.reshape_window_io.specs.Finishing.{IsOfRest, AreStripesCopied, IsOpenWindow}
 use Rattle.history_invariant_laws.specs.history_append_Losing.{losses_of}
-use Rattle.history_invariant_laws.specs.history_invariant_Recorded.{IsCallGoing, MayGoOn}
+use Rattle.history_invariant_laws.specs.history_invariant_Recorded.{IsCallGoing}
 use Rattle.reshape_progress_resync_laws.specs.reshape_progress_the_Course.{Course}
 use Rattle.reshape_progress_resync_laws.specs.reshape_progress_Laws.{closed, entered}
 use Rattle.array_reshaping_invariant.specs.Moving.{IsMoving}
 use Rattle.array_reshaping_invariant.proofs.Steps.{AreMissingSince}
-use Rattle.array_reshaping_invariant.proofs.Going.{going-on}
 use Rattle.array_reshaping_invariant.proofs.Finishing.{IsRestWritten, finished-moves, unfinished-moves}
 
 -- ---- by the answer
@@ -105,11 +104,3 @@ module _ (tells : Type 0) (given : Given) (tape tape' : List Operation) (scope :
       (λ t headers. did.plain refl t scope was.members_are.backed headers)
   finish-moves (Some refusal) former left was some did =
       unfinished-moves tells given tape tape' scope first entries old new carried resync span copied sectioned buffer who end roles spares goes caller at_end grows (rest (Some refusal) did.moved.placed did) former refusal was did.moved did.refused
-
-  -- And it goes on behind these entries.
-  pub finish-goes : (refusal : Option Refusal) (left : ℕ) → IsCallGoing (entries ++ entries_of who end (losses_of roles spares ++ finish_event refusal left ∷ [])) who
-  finish-goes refusal left = going-on entries who end roles spares (finish_event refusal left) goes (may refusal)
-    where
-      may : (refusal : Option Refusal) → MayGoOn (finish_event refusal left)
-      may None = tt
-      may (Some refusal) = tt

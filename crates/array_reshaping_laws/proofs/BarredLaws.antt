@@ -61,10 +61,6 @@ alone-taken who old new kind left (Ok x) alone = absurd alone
 alone-taken who old new kind left (Err (IsRefusedWith refusal)) alone = behind-alone who alone.0 (Refused refusal) refl alone.1
 alone-taken who old new kind left (Err NoMemory) alone = absurd alone
 
-pub alone-err : {T : Type 0} (who : Who) (old new : List Entry) (result : Result T AnyFault) → IsRefusedAlone who old new result → IsErr result
-alone-err who old new (Ok x) alone = absurd alone
-alone-err who old new (Err fault) alone = (cc)
-
 pub err-ok : {T E : Type 0} (P : Type 0) (result : Result T E) → IsErr result → OnOk result P
 err-ok P (Ok x) is = absurd (cc)
 err-ok P (Err e) is = tt

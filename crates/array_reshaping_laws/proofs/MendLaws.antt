@@ -48,7 +48,7 @@ use Rattle.array_reshaping_resync_laws.specs.reshape_request_Left.{phases_of, gr
 use Rattle.array_reshaping_resync_laws.specs.stripe_region_read_Stretches.{ListStandsIn, RowsStandIn}
 use Rattle.array_reshaping_resync_laws.proofs.stripe_region_write_Sides.{low-some, low-fits, list-few}
 use Rattle.array_reshaping_resync_laws.specs.stripe_region_resync_Mends.{low_end, low_shape, low_stripes, high_shape, high_stripe, mend_stripes, mend_shape, relied_sector, IsMendRow, AreEndsStanding, mend_refusal, IsNotMended}
-use Rattle.array_reshaping_resync_laws.specs.stripe_region_resync_Left.{position_behind, resync_left}
+use Rattle.array_reshaping_resync_laws.specs.stripe_region_resync_Left.{resync_left}
 use Rattle.array_reshaping_resync_laws.proofs.stripe_region_resync_LeftLaws.{mending-takes-one, resync-ends-last}
 use Rattle.array_reshaping_resync_laws.proofs.stripe_region_resync_RefusalLaws.{none-found}
 use Rattle.array_reshaping_resync_laws.specs.history_invariant_Recorded.{IsCallGoing}
@@ -64,10 +64,9 @@ use Rattle.array_reshaping_resync_laws.proofs.array_reshaping_invariant_Staying.
 use Rattle.array_reshaping_resync_laws.proofs.array_reshaping_invariant_Steps.{missing-since}
 use Rattle.array_reshaping_resync_laws.proofs.Resync.{IsMendingMoving, AreRowsMended, mended-moves, unmended-moves, resynced-moves, unresynced-moves}
 use Rattle.array_specs.specs.Parts.{RunningParts, left_in}
-use Rattle.array_specs.specs.Calls.{IsCalled}
 use Rattle.array_specs.proofs.Called.{not_254, risen-told}
 use Rattle.array_reshaping_laws.specs.Ready.{IsReady}
-use Rattle.array_reshaping_laws.specs.Mending.{IsMendDue, IsResyncEndDue, IsMendCalled, AreRowsGood}
+use Rattle.array_reshaping_laws.specs.Mending.{IsMendDue, IsResyncEndDue, AreRowsGood}
 use Rattle.array_reshaping_laws.proofs.Kept.{left-moved}
 
 -- ---- when a step is due
@@ -99,11 +98,6 @@ pub aside-right : (newest : Sb) (window : Window) → IsAside window → IsWindo
 aside-right newest Closed aside = tt
 aside-right newest (Entered span copied sectioned) aside = absurd aside
 aside-right newest (Unsure span) aside = tt
-
-pub aside-within : (newest : Sb) (window : Window) → IsAside window → AreShapesFit newest → is_reshaping newest ≡ true → position_behind newest window ≤ list_length newest
-aside-within newest Closed aside fit active = fit.position active
-aside-within newest (Entered span copied sectioned) aside fit active = absurd aside
-aside-within newest (Unsure span) aside fit active = fit.position active
 
 pub mend-due : {B : Type 0} (array : RunningParts B) → (mended : ℕ) × (array.parts.work.resync ≡ Some mended) × (mended < mend_stripes array.parts.members.newest) × (open_in array.course.window ≡ None) → IsMendDue array
 mend-due array due = record { mended = due.0; is = due.1; more = due.2; aside = aside-of array.course.window due.3 }
@@ -218,34 +212,6 @@ with-buffers rows_fit buffer_fits was = record {
   buffer_fits = buffer_fits;
   far_rows_fit = was.far_rows_fit;
   far_buffer_fits = was.far_buffer_fits;
-}
-
--- one that leaves the work leaves all that a step of the resync does
-pub kept-work : {B : Type 0} {tells : Type 0} {given : Given} {tape tape' : List Operation} {before after : ℕ → ℕ} (old new : RunningParts B) → IsCalled tells given tape tape' before after old new
-    → IsMendCalled tells given tape tape' before after old new
-kept-work old new called = record {
-  grows = called.grows;
-  ended = called.ended;
-  held = called.held;
-  spares = called.spares;
-  losses = called.losses;
-  never_falls = called.never_falls;
-  work = refl;
-  same = record {
-    array = record {
-      uuid = called.same.array.uuid;
-      given = called.same.array.given;
-      first = called.same.array.first;
-      backup = called.same.array.backup;
-      shape = called.same.array.shape;
-      size = called.same.array.size;
-      list = called.same.array.list;
-    };
-    final = called.same.final;
-    backward = called.same.backward;
-    ahead = called.same.ahead;
-    limit = called.same.limit;
-  };
 }
 
 pub one-more : (work : Work) (stripes : ℕ) → work.resync ≡ Some stripes → mended_work work (Some (stripes + 1)) ≡ mended_work work (one_more work.resync)

@@ -412,11 +412,6 @@ hidden-fits newest fit (Entered span copied true) is most wide = let reach = win
 hidden-fits newest fit (Entered span copied false) is most wide = tt
 hidden-fits newest fit (Unsure span) is most wide = tt
 
--- so many of its bytes are the window's
-pub hidden-room : (hidden : Option Span) (wide : ℕ) (slice : List ℕ) → IfSome hidden (λ span. wide ≡ 512 * (span.hi - span.lo)) → length slice ≡ wide → IfSome hidden (λ span. IsRoomFor span slice)
-hidden-room None wide slice is long = tt
-hidden-room (Some span) wide slice is long = long ∙ is
-
 pub hidden-slice : (window : Window) (buffer slice : List ℕ) (wide : ℕ) (list : ℕ → Sector) → slice ≡ take wide buffer → IfSome (hidden_in window) (λ span. wide ≡ 512 * (span.hi - span.lo))
     → IfSome (hidden_in window) (λ span. HasWindow span (bytes_in window buffer) list) → IfSome (hidden_in window) (λ span. HasWindow span slice list)
 hidden-slice Closed buffer slice wide list same is has = tt

@@ -12,7 +12,6 @@ use Rattle.array_specs.specs.raid_types_the_Who.{Who}
 use Rattle.array_specs.specs.raid_types_the_Span.{Span}
 use Rattle.reshape_window_backup.specs.bank_the_Operation.{Operation}
 use Rattle.reshape_window_backup.specs.bank_Given.{Given, NeverFalls}
-use Rattle.reshape_window_backup.specs.bank_Tape.{Contents}
 use Rattle.reshape_window_backup.proofs.bank_Causes.{faulted_longer}
 use Rattle.array_reshaping_resync_laws.specs.sb_specs_the_Members.{Members}
 use Rattle.array_reshaping_resync_laws.proofs.sb_specs_ValidFields.{few-roles}
@@ -28,7 +27,7 @@ use Rattle.array_reshaping_resync_laws.specs.history_Flat.{limit_of, visible_of}
 use Rattle.array_reshaping_resync_laws.specs.history_Legal.{visible_at, IsRefusedRight}
 use Rattle.array_reshaping_resync_laws.specs.history_Plain.{entries_of}
 use Rattle.array_reshaping_resync_laws.specs.history_Stands.{covers, shape_for}
-use Rattle.array_reshaping_resync_laws.specs.history_World.{World, opening_list}
+use Rattle.array_reshaping_resync_laws.specs.history_World.{opening_list}
 use Rattle.array_reshaping_resync_laws.specs.crash_views_Regions.{DoWithout}
 use Rattle.array_reshaping_resync_laws.specs.crash_views_Windows.{moved_past}
 use Rattle.array_reshaping_resync_laws.specs.crash_safety_laws_Safety.{HasLiveSlot}
@@ -274,10 +273,6 @@ finish-relied given old new (Some mended) span placed moved (inr none) =
 finish-relied given old new (Some mended) span placed moved (inl none) = absurd none
 
 -- ---- a window that was recorded
-
--- where there is none, nothing is asked
-pub none-recorded : (world : World) (entries : List Entry) (m : Members) (c : Contents) → IsWindowStanding None world entries m c
-none-recorded world entries m c fills list is zeros x inside = absurd (let none : ◌≡◌ {A = Bool} false true = inside in cc)
 
 -- its rows stand by the array's own world
 pub recorded-as : (window : Option Span) (tape : List Operation) (m : Members) {given given' : Given} {scope scope' : Scope} {first first' : ℕ} {entries entries' : List Entry}

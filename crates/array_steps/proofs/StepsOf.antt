@@ -74,10 +74,6 @@ module _ (p : Event → Bool) (old mid new more rest : List Entry) (early : mid 
       right true b is = refl
       right false b is = is
 
-  -- so it isn't so that none is
-  pub none-late : {Fact : Type 0} → list_any (λ e. p e.event) rest ≡ true → list_any (λ e. p e.event) (drop (length old) new) ≡ false → Fact
-  none-late is none = absurd (let told = any-late is in let both : true ≡ false = sym told ∙ none in cc)
-
   quiet-parts : IsTrue (not (list_any (λ e. p e.event) (drop (length old) new))) → IsTrue (not (list_any (λ e. p e.event) more)) × IsTrue (not (list_any (λ e. p e.event) rest))
   quiet-parts none = by (list_any (λ e. p e.event) more) (list_any (λ e. p e.event) rest)
       (sym (ap not (ap (list_any (λ e. p e.event)) behind-is ∙ list_any-append (λ e. p e.event) more rest)) ∙ none)

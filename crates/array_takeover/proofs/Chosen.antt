@@ -33,11 +33,6 @@ sound-next now to size all behind sound (inr down) =
     let s = subst (λ (l : List Phase). AreSound now size l) down sound in
     record { valid = s.0.new_valid; way = inr s.1; rest = s.2 }
 
--- a takeover up makes a level 6
-pub way-level : (now to : Shape) → IsWay now to → (to.level ≡ 6) ⊎ (to.level ≡ 5)
-way-level now to (inl up) = inl (ap (λ (s : Shape). s.level) up.1)
-way-level now to (inr down) = inr down.0
-
 five-six : (n : ℕ) → n ≡ 5 → n ≡ 6 → ⊥
 five-six n five six = omega (arith, five, six)
 

@@ -135,12 +135,6 @@ module _ {tells : Type 0} {given : Given} {tape tape' : List Operation} {scope :
     (lead : LeadTo tells (world_in given tape scope first) entries old ahead) (whole : AreNoneMissing old) (chosen : IsTakenSlot old to slot) (did : IsUpdated tells given tape tape' to slot old new spares before after)
     (at_end : tells → end ≡ length tape') (long : to.level ≡ 6 → to.disks ≤ length work.rebuilt)
     (lost : (role : ℕ) → has_slot roles role ≡ (nat_lt role (length new.roles) && is_vacant (reading_of new) role)) where
-  abbrev work' : Work
-  work' = work_then to work
-
-  abbrev left : ℕ
-  left = still_left (work_then to work) new behind
-
   abbrev added : List Entry
   added = entries_of who end (Step TakenOver (still_left (work_then to work) new behind) ∷ losses_of roles spares)
 

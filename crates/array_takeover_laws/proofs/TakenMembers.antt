@@ -1,7 +1,6 @@
 -- The members behind a takeover, from those that its update plans: the list stands on them as before, and is as long.
-use Rattle.std.proofs.Common.{◌≡◌, ◌⊎◌, inl, inr, ℕ, ◌+◌, ◌*◌, ◌<◌, false, sym, ◌∙◌, ap, refl, arith, None}
+use Rattle.std.proofs.Common.{◌≡◌, ◌⊎◌, inl, inr, ℕ, ◌*◌, false, sym, ◌∙◌, ap, refl, arith, None}
 use Rattle.std.specs.Prelude.{IsTrue}
-use Rattle.std.proofs.lemmas.Bool.{cases_lt}
 use Rattle.array_fixed_invariant.specs.raid_types_Sectors.{Sector}
 use Rattle.array_fixed_invariant.specs.raid_types_Shapes.{data_disks, is_valid_shape}
 use Rattle.array_fixed_invariant.specs.raid_types_the_Shape.{Shape}
@@ -9,7 +8,7 @@ use Rattle.array_fixed_invariant.specs.bank_Given.{Given}
 use Rattle.array_fixed_invariant.specs.bank_Tape.{Contents}
 use Rattle.array_fixed_invariant.specs.reshape_plan_Plans.{taken_up}
 use Rattle.array_fixed_invariant.specs.sb_specs_the_Members.{Members}
-use Rattle.array_fixed_invariant.specs.sb_specs_Reading.{Scope, is_reshaping, shape_of, list_length, role_count}
+use Rattle.array_fixed_invariant.specs.sb_specs_Reading.{Scope, is_reshaping, shape_of, list_length}
 use Rattle.array_fixed_invariant.specs.crash_views_Regions.{ArePlaced}
 use Rattle.array_fixed_invariant.specs.crash_views_Windows.{ListStands, RowsStand}
 use Rattle.array_fixed_invariant.proofs.crash_views_Stands.{list-still}
@@ -25,7 +24,6 @@ use Rattle.array_fixed_invariant.specs.array_members_Moving.{IsMoved}
 use Rattle.array_fixed_invariant.specs.array_members_Placed.{IsPlaced}
 use Rattle.array_fixed_invariant.proofs.array_members_HeldRows.{held-moved, missing-moved}
 use Rattle.array_fixed_invariant.proofs.array_members_MovedLaws.{moved-same}
-use Rattle.array_fixed_invariant.proofs.array_members_Still.{count-still}
 use Rattle.array_reshaping_end_laws.proofs.EndedRows.{alone_of, alone-placed}
 
 -- it goes one way or the other
@@ -74,22 +72,6 @@ taken-long old new (inl up) valid valid' =
 taken-long old new (inr down) valid valid' = sym (
     list-still old.newest down.still ∙ (λ i. data_disks (down.shape i) * sym down.size i) ∙ ap (λ (n : ℕ). n * new.newest.size) (taken-over (shape_of new.newest) valid' down.five).deep
     ∙ sym (list-still new.newest down.still_too))
-
--- a role that stays was one before, and may have been missing
-pub taken-missing : (old new : Members) → IsTaken old new → (role : ℕ) → role < role_count new.newest → (role < role_count old.newest) ⊎ ((role ≡ role_count old.newest) × (role_count new.newest ≡ role_count old.newest + 1))
-taken-missing old new (inl up) role lt =
-    let before = count-still old.newest up.still in
-    let then = count-still new.newest up.still_too in
-    let more : (shape_of new.newest).disks ≡ (shape_of old.newest).disks + 1 = ap (λ (s : Shape). s.disks) up.shape in
-    of (omega (arith, before, then, more)) lt
-  where
-    of : role_count new.newest ≡ role_count old.newest + 1 → role < role_count new.newest → (role < role_count old.newest) ⊎ ((role ≡ role_count old.newest) × (role_count new.newest ≡ role_count old.newest + 1))
-    of is lt = elim (cases_lt role (role_count old.newest)) [ inl below ↦ inl below | inr past ↦ inr (omega (arith, is, lt, past), is) ]
-taken-missing old new (inr down) role lt =
-    let before = count-still old.newest down.still in
-    let then = count-still new.newest down.still_too in
-    let more : (shape_of old.newest).disks ≡ (shape_of new.newest).disks + 1 = ap (λ (s : Shape). s.disks) down.shape in
-    inl (omega (arith, before, then, more, lt))
 
 -- ---- the list
 

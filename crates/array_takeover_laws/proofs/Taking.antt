@@ -17,7 +17,6 @@ use Rattle.array_fixed_invariant.specs.bank_Tape.{IsIn, disk}
 use Rattle.array_fixed_invariant.specs.sb_codec_the_Sb.{Sb}
 use Rattle.array_fixed_invariant.specs.sb_specs_the_Members.{Members}
 use Rattle.array_fixed_invariant.specs.sb_specs_Reading.{Scope, Reading, reading, is_reshaping, shape_of, final_shape, list_length, role_count}
-use Rattle.array_fixed_invariant.proofs.sb_specs_ValidFields.{few-roles}
 use Rattle.array_fixed_invariant.specs.stripe_row_Rows.{reading_of, present, is_missing}
 use Rattle.array_fixed_invariant.specs.history_the_Entry.{Entry}
 use Rattle.array_fixed_invariant.specs.history_the_Event.{Event}
@@ -155,9 +154,6 @@ module _ (given : Given) (tape : List Operation) (scope : Scope) (first : ℕ) (
 
   pub taken-still : is_reshaping new.newest ≡ false
   taken-still = still-then old new taken
-
-  few : role_count new.newest ≤ 16
-  few = few-roles new.newest call.moved.placed.fit.valid
 
   long : list_length new.newest ≡ list_length old.newest
   long = taken-long old new taken (valid given old was.placed) (valid given new call.moved.placed)

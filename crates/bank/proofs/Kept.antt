@@ -8,7 +8,6 @@ use Rattle.raid_types.specs.Sectors.{Sector}
 use Rattle.bank.specs.declared.bank.Operation.{Operation}
 use Rattle.bank.specs.declared.bank.Operation.TheVariants.{Write, Flush}
 use Rattle.bank.specs.declared.image.Pick.{Pick}
-use Rattle.bank.specs.declared.image.Pick.TheVariants.{Flushed, Latest}
 use Rattle.bank.specs.Tape.{Contents, contents, after_one, value_after, IsImage}
 use Rattle.bank.specs.Memory.{sector_of}
 use Rattle.bank.specs.Picks.{IsLastFlush, keeps, kept, IsPicked, is_taken}
@@ -34,10 +33,6 @@ kept-all keep place [] every = refl
 kept-all keep place (x ∷ xs) every =
     ap (λ (b : Bool). if b then x ∷ kept keep (place + 1) xs else kept keep (place + 1) xs) (every place (omega arith) (omega arith))
     ∙ ap (λ (l : List Operation). x ∷ l) (kept-all keep (place + 1) xs (λ i low high. every i (omega arith) (omega arith)))
-
-kept-none : (place : ℕ) (xs : List Operation) → kept (keeps Flushed) place xs ≡ []
-kept-none place [] = refl
-kept-none place (x ∷ xs) = kept-none (place + 1) xs
 
 kept-same : (keep other : ℕ → Bool) (place : ℕ) (xs : List Operation) → ((i : ℕ) → place ≤ i → keep i ≡ other i) → kept keep place xs ≡ kept other place xs
 kept-same keep other place [] same = refl
@@ -203,20 +198,3 @@ image_made pick start copied made tape read m marks le same same' flushes replay
     let picked = made_is_picked pick (sector_of start) (sector_of made) tape m marks le flushes'
     (λ s k. replayed s k ∙ (λ j. value_after s k (sector_of (same' j) s k) (kept (is_taken pick (marks s)) 0 (take m (same j))))) in
     (picked-image pick (sector_of start) (sector_of made) tape m marks (λ s. last_flush-take tape m s (marks s) le (flushes' s)) picked, picked)
-
--- ---- what the picks are
-
--- `Flushed` is each sector's value at its slot's last flush
-pub picked-flushed : (start c : Contents) (tape : List Operation) (m : ℕ) → IsPicked Flushed start tape m c → (s k f : ℕ) → IsLastFlush tape m s f → c s k ≡ contents start tape f s k
-picked-flushed start c tape m picked s k f last =
-    picked s k f last ∙ ap (λ (l : List Operation). value_after s k (contents start tape f s k) l) (kept-none f (slice_range tape f m))
-
--- `Latest` is the contents at the mark
-pub picked-latest : (start c : Contents) (tape : List Operation) (m : ℕ) → IsPicked Latest start tape m c → (s k f : ℕ) → IsLastFlush tape m s f → c s k ≡ contents start tape m s k
-picked-latest start c tape m picked s k f last =
-    picked s k f last ∙ ap (λ (l : List Operation). value_after s k (contents start tape f s k) l) (kept-all (keeps Latest) f (slice_range tape f m) (λ i low high. refl))
-    ∙ sym (value_after-append s k (start s k) (take f tape) (slice_range tape f m)) ∙ ap (λ (l : List Operation). value_after s k (start s k) l) (joined last.in_time)
-  where
-    joined : f ≤ m → take f tape ++ slice_range tape f m ≡ take m tape
-    joined le =
-        (λ j. sym (take-take f m tape le) j ++ sym (range-take tape m f le) j) ∙ take-append-drop f (take m tape)

@@ -1,7 +1,7 @@
 -- What a bank stores and writes is whole sectors, at every mark.
 use Rattle.std.proofs.Common.{◌≡◌, ◌≢◌, ◌⊎◌, inl, inr, ℕ, zero, suc, ◌+◌, ◌<◌, ◌≤◌, ◌==◌, ◌&&◌, Bool, true, false, cond, List, [], ◌∷◌, ◌++◌, length, take, get_or, replicate, All, Some, refl, sym, ◌∙◌, ap, subst, arith}
 use Rattle.std.specs.Prelude.{slice_get, slice_index}
-use Rattle.std.proofs.lemmas.Bool.{cases_eq, cases_lt}
+use Rattle.std.proofs.lemmas.Bool.{cases_lt}
 use Rattle.std.proofs.lemmas.List.{get_or-replicate, get_or_past, get_or-map, length-map, length-replicate}
 use Rattle.raid_types.specs.Sectors.{Sector, IsSector, zero_sector}
 use Rattle.bank.specs.declared.bank.Operation.{Operation}
@@ -9,9 +9,9 @@ use Rattle.bank.specs.declared.bank.Operation.TheVariants.{Write, Flush}
 use Rattle.bank.specs.Given.{Given, sizes}
 use Rattle.bank.specs.Tape.{Contents, contents, after_one, value_after, IsImage}
 use Rattle.bank.specs.Whole.{WritesSector, HasWholeSectors, WholeSectorsStay}
-use Rattle.bank.specs.Memory.{sector_of, sectors_of, zeros_of, with_sector, given_of, HoldSectors}
+use Rattle.bank.specs.Memory.{zeros_of, given_of, HoldSectors}
 use Rattle.bank.proofs.Sizes.{sizes-known, sizes-unknown}
-use Rattle.bank.proofs.Slots.{put_sectors, put_here, put_others, slot-known, length-zeros}
+use Rattle.bank.proofs.Slots.{slot-known, length-zeros}
 
 -- ---- after operations
 
@@ -81,14 +81,3 @@ zeros-whole lengths s k within =
     let slot : get_or (zeros_of lengths) s [] ≡ replicate (get_or lengths s 0) (replicate 512 0) = get_or-map (λ (n : ℕ). replicate n (replicate 512 0)) lengths s 0 [] known in
     let short : k < get_or lengths s 0 = subst (λ (n : ℕ). k < n) (ap (λ (l : List Sector). length l) slot ∙ length-replicate (get_or lengths s 0) (replicate 512 0)) within in
     subst IsSector (sym (ap (λ (l : List Sector). get_or l k []) slot ∙ get_or-replicate (get_or lengths s 0) k (replicate 512 0) [] short)) zero-whole
-
-pub put-whole : (slots : List (List Sector)) (s k : ℕ) (w : Sector) → k < sectors_of slots s → HoldSectors slots → IsSector w → HoldSectors (with_sector slots s k w)
-put-whole slots s k w there hold whole t j within =
-    let inside : j < sectors_of slots t = omega (arith, within, put_sectors slots s k w there t) in
-    elim (cases_eq t s) [
-      | inl same ↦ elim (cases_eq j k) [
-        | inl same' ↦ subst IsSector (sym ((λ i. sector_of (with_sector slots s k w) (same i) (same' i)) ∙ put_here slots s k w there)) whole
-        | inr other ↦ subst IsSector (sym (put_others slots s k w there t j (inr other))) (hold t j inside)
-      ]
-      | inr other ↦ subst IsSector (sym (put_others slots s k w there t j (inl other))) (hold t j inside)
-    ]

@@ -3,7 +3,7 @@ use Rattle.std.specs.Prelude.{ℕ, List, [], ◌∷◌}
 use Rattle.raid_types.specs.Sectors.{Sector}
 use Rattle.bank.specs.declared.bank.Operation.{Operation}
 use Rattle.bank.specs.declared.bank.Operation.TheVariants.{Write, Flush}
-use Rattle.bank.specs.Tape.{IsIn, run}
+use Rattle.bank.specs.Tape.{IsIn}
 
 -- all values that each sector may hold are among these
 abbrev pub IsBoundedBy : (ℕ → ℕ → List Sector) → (ℕ → ℕ → List Sector) → Type 0
@@ -14,13 +14,3 @@ abbrev pub AreWritesWithin : (ℕ → ℕ → List Sector) → List Operation �
 AreWritesWithin bound [] = Unit {0}
 AreWritesWithin bound (Write t j w ∷ ops) = IsIn (bound t j) w × AreWritesWithin bound ops
 AreWritesWithin bound (Flush t ∷ ops) = AreWritesWithin bound ops
-
--- these operations without the flushes
-abbrev pub only_writes : List Operation → List Operation
-only_writes [] = []
-only_writes (Write t j w ∷ ops) = Write t j w ∷ only_writes ops
-only_writes (Flush t ∷ ops) = only_writes ops
-
--- the values from before, with all that these operations write
-abbrev pub widest : (ℕ → ℕ → List Sector) → List Operation → ℕ → ℕ → List Sector
-widest d ops = run d (only_writes ops)

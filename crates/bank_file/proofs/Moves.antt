@@ -32,10 +32,6 @@ put_same {offset = offset} first same = record {
   outside = λ i away. same i ∙ first.outside i away;
 }
 
--- nothing at all
-pub put_none : {before after : ℕ → ℕ} {offset : ℕ} {buffer : List ℕ} → AreSame before after → IsPut before after offset 0 buffer
-put_none same = record { inside = λ i lt. absurd (omega (arith, lt)); outside = λ i away. same i }
-
 -- the same bytes, numbered otherwise
 pub put_at : {before after : ℕ → ℕ} {offset offset' count count' : ℕ} {buffer : List ℕ} → offset ≡ offset' → count ≡ count' → IsPut before after offset count buffer → IsPut before after offset' count' buffer
 put_at {before} {after} {offset} {offset'} {count} {count'} {buffer} same same' put = subst (λ (n : ℕ). IsPut before after n count' buffer) same (subst (λ (n : ℕ). IsPut before after offset n buffer) same' put)
@@ -78,6 +74,3 @@ logged_same {number = number} first same = record {
   inside = λ i lt. same (number + i) ∙ first.inside i lt;
   outside = λ i away. same i ∙ first.outside i away;
 }
-
-pub logged_none : {before after : Log} {number at : ℕ} {buffer : List ℕ} → AreKept before after → IsLogged before after number at 0 buffer
-logged_none same = record { inside = λ i lt. absurd (omega (arith, lt)); outside = λ i away. same i }

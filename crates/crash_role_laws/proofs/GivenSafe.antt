@@ -172,13 +172,6 @@ module _ (scope : Scope) (given : Given) (old : Members) (role slot : ℕ) (to :
 
     -- ---- it places the list as before
 
-    state-same : (r t : ℕ) → holder (role_state (reading_of Plan) r) ≡ Some t → t ≢ slot → role_state (reading_of Plan) r ≡ role_state (reading_of old) r
-    state-same r t held apart = elim (state-or r) [
-      | inl is ↦ is
-      | inr (inl gone) ↦ absurd (let clash = sym held ∙ ap holder gone in cc)
-      | inr (inr is) ↦ absurd (apart (let both : ◌≡◌ {A = Option ℕ} (Some slot) (Some t) = sym (ap holder is) ∙ held in (let e : slot ≡ t = cc in sym e)))
-    ]
-
     held-plan : (r row t : ℕ) → held_slot (reading_of Plan) r row ≡ Some t → held_slot (reading_of old) r row ≡ Some t
     held-plan r row t is =
         let held = holder-of (reading_of Plan) r row t is in

@@ -1,7 +1,7 @@
 -- In a history without a reshape the entries alone say what is gone and what is unclean.
-use Rattle.std.proofs.Common.{◌≡◌, ℕ, zero, suc, ◌-◌, ◌≤◌, Bool, true, false, not, ◌&&◌, ◌||◌, List, [], ◌∷◌, ◌++◌, take, drop, slice_range, fold, refl, sym, ap, ap₂, ◌∙◌, arith, Option}
+use Rattle.std.proofs.Common.{◌≡◌, ℕ, zero, suc, ◌-◌, Bool, true, false, not, ◌&&◌, ◌||◌, List, [], ◌∷◌, ◌++◌, take, drop, slice_range, fold, refl, sym, ap, ap₂, ◌∙◌, Option}
 use Rattle.std.specs.List.{list_any, list_all}
-use Rattle.std.proofs.lemmas.List.Folds.{list_any-append, list_all-append}
+use Rattle.std.proofs.lemmas.List.Folds.{list_all-append}
 use Rattle.std.proofs.lemmas.List.Sums.{fold-append}
 use Rattle.raid_types.specs.Search.{count_below}
 use Rattle.raid_types.proofs.Counted.{count_below-same}
@@ -70,26 +70,7 @@ keep-drop (suc k) (x ∷ xs) keep = keep-drop k xs (keep-parts x xs keep).1
 pub keep-both : (xs ys : List Entry) → KeepShape xs → KeepShape ys → KeepShape (xs ++ ys)
 keep-both xs ys keep more = list_all-append (λ e. keeps_shape_event e.event) xs ys ∙ ap₂ (λ a b. a && b) keep more
 
--- the first k, and those from there up to the first j
-first-parts : (k j : ℕ) (xs : List Entry) → k ≤ j → take k xs ++ slice_range xs k j ≡ take j xs
-first-parts zero j xs le = ap (λ n. take n xs) (same j)
-  where
-    same : (j : ℕ) → j - 0 ≡ j
-    same j = omega arith
-first-parts (suc k) zero xs le = absurd (omega (arith, le))
-first-parts (suc k) (suc j) [] le = none (suc j - suc k)
-  where
-    none : (n : ℕ) → take {A = Entry} n [] ≡ []
-    none zero = refl
-    none (suc n) = refl
-first-parts (suc k) (suc j) (x ∷ xs) le =
-    let same : suc j - suc k ≡ j - k = omega (arith, le) in
-    ap (λ l. x ∷ l) (ap (λ n. take k xs ++ take n (drop k xs)) same ∙ first-parts k j xs (omega (arith, le)))
-
 -- ---- what is gone by the entries alone
-
-pub is_lost-both : (xs ys : List Entry) (role : ℕ) → is_lost (xs ++ ys) role ≡ (is_lost xs role || is_lost ys role)
-is_lost-both xs ys role = list_any-append (λ e. loses_role role e.event) xs ys
 
 -- a role that isn't told lost isn't gone
 pub never-gone : (xs : List Entry) (role : ℕ) → is_lost xs role ≡ false → is_gone_now xs role ≡ false
@@ -97,12 +78,6 @@ never-gone [] role none = refl
 never-gone (x ∷ xs) role none =
     let parts : (loses_role role x.event ≡ false) × (is_lost xs role ≡ false) = neither (loses_role role x.event) (is_lost xs role) none in
     ap (λ b. fold (is_gone_with role) b xs) parts.0 ∙ never-gone xs role parts.1
-
-pub never-gone_by : (xs : List Entry) (k j role : ℕ) → k ≤ j → is_lost (take j xs) role ≡ false → is_gone_by xs k j role ≡ false
-never-gone_by xs k j role le none =
-    let parts : (is_lost (take k xs) role ≡ false) × (is_lost (slice_range xs k j) role ≡ false) = neither (is_lost (take k xs) role) (is_lost (slice_range xs k j) role)
-    (sym (is_lost-both (take k xs) (slice_range xs k j) role) ∙ ap (λ l. is_lost l role) (first-parts k j xs le) ∙ none) in
-    ap₂ (λ a b. a || b) (never-gone (take k xs) role parts.0) parts.1
 
 -- behind entries that don't give a role back, it is gone where it was gone, or they lose it
 stays-gone : (gone : Bool) (xs : List Entry) (role : ℕ) → list_any (λ e. gives_role role e.event) xs ≡ false → fold (is_gone_with role) gone xs ≡ (gone || is_lost xs role)
@@ -117,10 +92,6 @@ stays-gone gone (x ∷ xs) role none =
 
 pub gone-or_lost : (xs ys : List Entry) (role : ℕ) → list_any (λ e. gives_role role e.event) ys ≡ false → is_gone_now (xs ++ ys) role ≡ (is_gone_now xs role || is_lost ys role)
 gone-or_lost xs ys role none = fold-append (is_gone_with role) false xs ys ∙ stays-gone (is_gone_now xs role) ys role none
-
--- whether such entries are made makes no difference
-pub gone_by-now : (xs : List Entry) (k j role : ℕ) → k ≤ j → list_any (λ e. gives_role role e.event) (slice_range xs k j) ≡ false → is_gone_by xs k j role ≡ is_gone_now (take j xs) role
-gone_by-now xs k j role le none = sym (gone-or_lost (take k xs) (slice_range xs k j) role none) ∙ ap (λ l. is_gone_now l role) (first-parts k j xs le)
 
 -- where no entry gives a role back, it is gone where it was lost
 pub gone-lost : (xs : List Entry) (role : ℕ) → list_any (λ e. gives_role role e.event) xs ≡ false → is_gone_now xs role ≡ is_lost xs role

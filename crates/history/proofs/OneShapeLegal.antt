@@ -1,7 +1,7 @@
 -- A history of an array that keeps its shape is legal over a bank that was found so.
 use Rattle.std.proofs.Common.{◌≡◌, ℕ, ◌+◌, ◌<◌, ◌≤◌, Bool, true, false, ◌&&◌, cond, nat_lt, List, [], ◌∷◌, ◌++◌, length, take, refl, sym, ap, ap₂, ◌∙◌, subst, arith, Option, Some, None, unwrap_or, MatchOption}
-use Rattle.std.specs.Prelude.{fold, min, not, IfSome, IsFalse}
-use Rattle.std.specs.List.{list_any, list_all}
+use Rattle.std.specs.Prelude.{fold, not, IfSome, IsFalse}
+use Rattle.std.specs.List.{list_any}
 use Rattle.std.proofs.lemmas.List.{length-take-le, take-take}
 use Rattle.std.proofs.lemmas.Bool.{ltb-true}
 use Rattle.std.specs.Bool.{OnTrue}
@@ -23,13 +23,13 @@ use Rattle.history.specs.declared.events.StepKind.{StepKind}
 use Rattle.history.specs.declared.events.StepKind.TheVariants.{ResyncStripe, ResyncEnded, RebuildTaken, RebuildStripe, RebuildEnded}
 use Rattle.history.specs.World.{World, until, contents_at, reading_at, opening_list}
 use Rattle.history.specs.Stands.{stands}
-use Rattle.history.specs.Flat.{is_same_call, rest_of_call, last_of, length_after, length_of, limit_after, limit_of, visible_of}
+use Rattle.history.specs.Flat.{is_same_call, rest_of_call, last_of, visible_of}
 use Rattle.history.specs.Transfers.{last_end_from, IsReadOver, EndsWithinOver, IsTornOver}
 use Rattle.history.specs.Legal.{call_end, known_left, IsLost, IsStep, IsRefusedRight, IsLegalEvent, AreLegal}
 use Rattle.history.specs.Losses.{is_resync_end, is_unsynced}
 use Rattle.history.specs.Reshaped.{AreReshaped, is_done, is_planned, behind, comes_with_finish, comes_with_step, plans_after, IsFinishedRight, ArePlansDone, open_plans}
 use Rattle.history.specs.Growing.{grown}
-use Rattle.history.specs.OneShape.{ShapeOpening, IsFoundAs, opening_in, is_resyncing, IsIdleStep, keeps_shape, keeps_shape_event, KeepShape, IsOneShapeLost, IsOneShapeRefusal, IsOneShapeEvent, AreOneShape, IsOneShapeLegal, OneShapeHistoriesAreLegal, is_used_in}
+use Rattle.history.specs.OneShape.{ShapeOpening, IsFoundAs, opening_in, is_resyncing, IsIdleStep, keeps_shape, keeps_shape_event, KeepShape, IsOneShapeLost, IsOneShapeRefusal, IsOneShapeEvent, AreOneShape, OneShapeHistoriesAreLegal, is_used_in}
 use Rattle.history.proofs.OneShapeGone.{keep-both, after-gone, after-count, same-level}
 
 -- ---- where the entries of a call end
@@ -109,9 +109,6 @@ module _ (world : World) (more : List Operation) (within : world.first ≤ lengt
   contents-grown : contents_at (grown world more) world.first ≡ contents_at world world.first
   contents-grown = λ i slot at. contents-earlier world.start world.tape more world.first slot at within i
 
-  pub found-grown : (opening : ShapeOpening) → IsFoundAs world opening → IsFoundAs (grown world more) opening
-  found-grown = found-other world world.start (world.tape ++ more) contents-grown
-
   pub opening-grown : opening_in (grown world more) ≡ opening_in world
   opening-grown = opening-other world world.start (world.tape ++ more) contents-grown
 
@@ -167,12 +164,6 @@ event-keeps opening before e rest Stopped is = refl
 event-keeps opening before e rest Halted is = refl
 event-keeps opening before e rest (Refused refusal) is = refl
 event-keeps opening before e rest event is = absurd is
-
-pub entries-keep : (opening : ShapeOpening) (ops : ℕ) (before xs : List Entry) → AreOneShape opening ops before xs → KeepShape xs
-entries-keep opening ops before [] are = refl
-entries-keep opening ops before (x ∷ xs) are =
-    ap (λ b. b && list_all (λ e. keeps_shape_event e.event) xs) (event-keeps opening before x (rest_of_call x xs) x.event are.0.event)
-    ∙ entries-keep opening ops (before ++ x ∷ []) xs are.1
 
 -- the opening says what is unsynced
 pub unsynced-resyncing : (world : World) (opening : ShapeOpening) (before : List Entry) → IsFoundAs world opening → is_unsynced world before ≡ is_resyncing opening before
@@ -248,63 +239,6 @@ legal_entries world opening before (e ∷ xs) found low keep are =
       legal_entries world opening (before ++ e ∷ []) xs found (rw (end-snoc opening.first before e) (omega (arith, low, rises)))
           (keep-both before (e ∷ []) keep (ap (λ b. b && true) keeps)) are.1,
     )
-
--- ---- the length and the limit stay
-
-length-stays : (opening : ShapeOpening) (before : List Entry) (e : Entry) (rest : List Entry) (n : ℕ) (event : Event)
-    → IsOneShapeEvent opening before e rest event → length_after n event ≡ n
-length-stays opening before e rest n (Read at body) is = refl
-length-stays opening before e rest n (Wrote at body) is = refl
-length-stays opening before e rest n (Torn at body) is = refl
-length-stays opening before e rest n Flushed is = refl
-length-stays opening before e rest n (Lost role cause) is = refl
-length-stays opening before e rest n (SpareLost slot) is = refl
-length-stays opening before e rest n (Rebuilt role) is = refl
-length-stays opening before e rest n (Added slot) is = refl
-length-stays opening before e rest n (Failed role) is = refl
-length-stays opening before e rest n (Step kind left) is = refl
-length-stays opening before e rest n (Stepped done left ended) is = refl
-length-stays opening before e rest n (Shown status) is = refl
-length-stays opening before e rest n Stopped is = refl
-length-stays opening before e rest n Halted is = refl
-length-stays opening before e rest n (Refused refusal) is = refl
-length-stays opening before e rest n event is = absurd is
-
-limit-stays : (opening : ShapeOpening) (before : List Entry) (e : Entry) (rest : List Entry) (limit : Option ℕ) (event : Event)
-    → IsOneShapeEvent opening before e rest event → limit_after limit event ≡ limit
-limit-stays opening before e rest limit (Read at body) is = refl
-limit-stays opening before e rest limit (Wrote at body) is = refl
-limit-stays opening before e rest limit (Torn at body) is = refl
-limit-stays opening before e rest limit Flushed is = refl
-limit-stays opening before e rest limit (Lost role cause) is = refl
-limit-stays opening before e rest limit (SpareLost slot) is = refl
-limit-stays opening before e rest limit (Rebuilt role) is = refl
-limit-stays opening before e rest limit (Added slot) is = refl
-limit-stays opening before e rest limit (Failed role) is = refl
-limit-stays opening before e rest limit (Step kind left) is = refl
-limit-stays opening before e rest limit (Stepped done left ended) is = refl
-limit-stays opening before e rest limit (Shown status) is = refl
-limit-stays opening before e rest limit Stopped is = refl
-limit-stays opening before e rest limit Halted is = refl
-limit-stays opening before e rest limit (Refused refusal) is = refl
-limit-stays opening before e rest limit event is = absurd is
-
-pub length-kept : (opening : ShapeOpening) (ops n : ℕ) (before xs : List Entry) → AreOneShape opening ops before xs → length_of n xs ≡ n
-length-kept opening ops n before [] are = refl
-length-kept opening ops n before (x ∷ xs) are =
-    ap (λ m. length_of m xs) (length-stays opening before x (rest_of_call x xs) n x.event are.0.event) ∙ length-kept opening ops n (before ++ x ∷ []) xs are.1
-
-pub limit-kept : (opening : ShapeOpening) (ops : ℕ) (before xs : List Entry) → AreOneShape opening ops before xs → limit_of xs ≡ None
-limit-kept opening ops before [] are = refl
-limit-kept opening ops before (x ∷ xs) are =
-    ap (λ (limit : Option ℕ). fold (λ limit e. limit_after limit e.event) limit xs) (limit-stays opening before x (rest_of_call x xs) None x.event are.0.event)
-    ∙ limit-kept opening ops (before ++ x ∷ []) xs are.1
-
--- all of the list is visible
-pub visible-all : (opening : ShapeOpening) (ops n : ℕ) (xs : List Entry) → IsOneShapeLegal opening ops xs → visible_of n xs ≡ n
-visible-all opening ops n xs are =
-    ap (λ (limit : Option ℕ). option_map_or (λ limit. min limit (length_of n xs)) limit (length_of n xs)) (limit-kept opening ops [] xs are)
-    ∙ length-kept opening ops n [] xs are
 
 -- ---- no reshape
 

@@ -1,29 +1,22 @@
 -- Replies of an array that keeps its shape fit their requests.
-use Rattle.std.proofs.Common.{◌≡◌, ℕ, ◌+◌, inl, inr, arith, Bool, true, false, nat_lt, List, [], ◌∷◌, ◌++◌, length, refl, sym, ap, ◌∙◌, subst, subst₂, MatchBool, Option, Some, None, nat_le}
-use Rattle.std.specs.Prelude.{◌||◌, fold, IfSome, IsFalse, ⊤}
+use Rattle.std.proofs.Common.{◌≡◌, ℕ, ◌+◌, inl, inr, Bool, true, false, nat_lt, List, [], ◌∷◌, length, refl, sym, ap, ◌∙◌, subst, subst₂, MatchBool, Option, Some, None}
+use Rattle.std.specs.Prelude.{◌||◌, IfSome, ⊤}
 use Rattle.std.specs.List.{list_any}
-use Rattle.raid_types.specs.declared.places.Shape.{Shape}
 use Rattle.raid_types.specs.Shapes.{tolerance}
-use Rattle.raid_types.specs.Search.{count_below}
-use Rattle.raid_types.proofs.Counted.{count_below-same}
-use Rattle.sb_read_laws.specs.sb_specs_Reading.{Reading, is_reshaping}
-use Rattle.history.specs.Losses.{is_gone_after, is_unsynced}
+use Rattle.sb_read_laws.specs.sb_specs_Reading.{Reading}
 use Rattle.raid_types.specs.declared.answers.Refusal.{Refusal}
 use Rattle.raid_types.specs.declared.answers.Refusal.TheVariants.{TooManyMissing, NotResynced, BackupFault, NoSuchRole, NoSuchSlot, SlotTaken, SlotTooSmall, SlotFault, Nothing}
 use Rattle.history.specs.declared.events.Entry.{Entry}
 use Rattle.history.specs.declared.events.Event.{Event}
-use Rattle.history.specs.declared.events.Event.TheVariants.{Read, Wrote, Torn, Flushed, Lost, SpareLost, Rebuilt, Added, Failed, Step, Stepped, Shown, Stopped, Halted, Refused}
-use Rattle.history.specs.declared.events.StepKind.TheVariants.{ResyncStripe, ResyncEnded, RebuildTaken, RebuildStripe, RebuildEnded}
-use Rattle.raid_types.specs.declared.answers.BusyKind.TheVariants.{Reshape, Resync, Rebuild, Plan}
+use Rattle.history.specs.declared.events.Event.TheVariants.{Read, Wrote, Flushed, Lost, Added, Failed, Stepped, Refused}
 use Rattle.history.specs.declared.events.Request.{Request}
 use Rattle.history.specs.declared.events.Request.TheVariants.{Read as AsksRead, Write as AsksWrite, Flush as AsksFlush, Fail as AsksFail, Add as AsksAdd, Steps as AsksSteps}
 use Rattle.history.specs.World.{World, until, reading_at, opening_list}
-use Rattle.history.specs.Flat.{rest_of_call, visible_of}
+use Rattle.history.specs.Flat.{visible_of}
 use Rattle.history.specs.Transfers.{IsRefusedAt, IsPastEnd}
 use Rattle.history.specs.Legal.{call_before}
-use Rattle.history.specs.Fits.{is_tolerable, is_asked, WhereAsked, phases_after, phases_left, is_rebuildable, IsIdle, IsNoRole, IsAddRefused, is_lost_event, may_cut_short, DidSteps, EndsSteps, IsReadRefused, IsWriteRefused, Answers}
-use Rattle.history.specs.OneShape.{ShapeOpening, IsOneShapeEvent, AreOneShape, IsOneShapeLegal, is_gone_now, KeepShape, DidOneShapeSteps, EndsIdleSteps, OneShapeAnswers, IsAddRight, OneShapeRepliesFit}
-use Rattle.history.proofs.OneShapeGone.{after-gone}
+use Rattle.history.specs.Fits.{is_asked, WhereAsked, IsIdle, IsNoRole, IsAddRefused, is_lost_event, may_cut_short, DidSteps, EndsSteps, IsReadRefused, IsWriteRefused, Answers}
+use Rattle.history.specs.OneShape.{DidOneShapeSteps, EndsIdleSteps, OneShapeAnswers, IsAddRight, OneShapeRepliesFit}
 use Rattle.history.proofs.OneShapeLegal.{list-until}
 
 -- what a read may be refused with, a write may
@@ -128,58 +121,3 @@ where-asked world before end Fact each = by (reading_at world end) refl
     by : (found : Option Reading) → reading_at world end ≡ found → IfSome found (λ r. MatchBool (is_asked world before r) (Fact r) ⊤)
     by None is = tt
     by (Some r) is = asked r (is_asked world before r) refl (each r is)
-
--- what is gone is tolerated by the entries alone
-pub tolerable-gone : (world : World) (before : List Entry) (shape : Shape) → KeepShape before
-    → is_tolerable world before shape ≡ nat_le (count_below shape.disks (is_gone_now before)) (tolerance shape)
-tolerable-gone world before shape keep =
-    ap (λ n. nat_le n (tolerance shape)) (count_below-same shape.disks (is_gone_after world before) (is_gone_now before) (λ role. after-gone world role before keep))
-
--- ---- what is pending
-
--- no event of such a history plans a phase, or ends one
-phases-stay : (world : World) (opening : ShapeOpening) (before : List Entry) (e : Entry) (rest : List Entry) (n : ℕ) (event : Event)
-    → IsOneShapeEvent opening before e rest event → phases_after world n e event ≡ n
-phases-stay world opening before e rest n (Read at body) is = refl
-phases-stay world opening before e rest n (Wrote at body) is = refl
-phases-stay world opening before e rest n (Torn at body) is = refl
-phases-stay world opening before e rest n Flushed is = refl
-phases-stay world opening before e rest n (Lost role cause) is = refl
-phases-stay world opening before e rest n (SpareLost slot) is = refl
-phases-stay world opening before e rest n (Rebuilt role) is = refl
-phases-stay world opening before e rest n (Added slot) is = refl
-phases-stay world opening before e rest n (Failed role) is = refl
-phases-stay world opening before e rest n (Step ResyncStripe left) is = refl
-phases-stay world opening before e rest n (Step ResyncEnded left) is = refl
-phases-stay world opening before e rest n (Step RebuildTaken left) is = refl
-phases-stay world opening before e rest n (Step RebuildStripe left) is = refl
-phases-stay world opening before e rest n (Step RebuildEnded left) is = refl
-phases-stay world opening before e rest n (Step kind left) is = absurd is.0
-phases-stay world opening before e rest n (Stepped done left ended) is = refl
-phases-stay world opening before e rest n (Shown status) is = refl
-phases-stay world opening before e rest n Stopped is = refl
-phases-stay world opening before e rest n Halted is = refl
-phases-stay world opening before e rest n (Refused refusal) is = refl
-phases-stay world opening before e rest n event is = absurd is
-
-phases-from : (world : World) (opening : ShapeOpening) (ops n : ℕ) (before xs : List Entry) → AreOneShape opening ops before xs
-    → fold (λ n e. phases_after world n e e.event) n xs ≡ n
-phases-from world opening ops n before [] are = refl
-phases-from world opening ops n before (x ∷ xs) are =
-    ap (λ m. fold (λ n e. phases_after world n e e.event) m xs) (phases-stay world opening before x (rest_of_call x xs) n x.event are.0.event)
-    ∙ phases-from world opening ops n (before ++ x ∷ []) xs are.1
-
--- nothing is pending in what is synced, where the superblocks tell of no reshape and of no role to rebuild
-pub idle-right : (world : World) (opening : ShapeOpening) (ops end : ℕ) (before : List Entry) → IsOneShapeLegal opening ops before → IsFalse (is_unsynced world before)
-    → ((r : Reading) → reading_at world end ≡ Some r → is_asked world before r ≡ true → IsFalse (is_reshaping r.newest) × IsFalse (is_rebuildable r))
-    → WhereAsked world before end (IsIdle world before)
-idle-right world opening ops end before are synced none = where-asked world before end (IsIdle world before) (λ r is asked. idle r (none r is asked))
-  where
-    clash : (b : Bool) → b ≡ false → b ≡ true → ⊥
-    clash b off on = absurd (cc)
-
-    idle : (r : Reading) → IsFalse (is_reshaping r.newest) × IsFalse (is_rebuildable r) → IsIdle world before r
-    idle r none Reshape is = clash (is_reshaping r.newest) none.0 is
-    idle r none Resync is = clash (is_unsynced world before) synced is
-    idle r none Rebuild is = clash (is_rebuildable r) none.1 is
-    idle r none Plan is = let phases : phases_left world before ≡ 0 = phases-from world opening ops 0 [] before are in absurd (omega (arith, phases, is))

@@ -1,18 +1,16 @@
 -- The background steps that are left at an opening, and what the opening tells: its losses and its status.
-use Rattle.std.specs.Prelude.{◌≡◌, ℕ, ◌+◌, ◌-◌, ◌*◌, ◌/◌, Bool, true, false, if◌then◌else◌, min, List, [], ◌∷◌, length, map, fold, count_by, is_some, IsTrue}
+use Rattle.std.specs.Prelude.{ℕ, ◌+◌, ◌-◌, ◌*◌, ◌/◌, Bool, true, false, if◌then◌else◌, min, List, [], ◌∷◌, length, map, fold, count_by, is_some}
 use Rattle.std.specs.Option.{option_map_or}
 use Rattle.raid_types.specs.declared.places.Shape.{Shape}
 use Rattle.raid_types.specs.declared.status.Role.{Role}
 use Rattle.raid_types.specs.declared.status.Role.TheVariants.{Whole, Recovering, Missing}
-use Rattle.raid_types.specs.declared.status.Status.{Status}
 use Rattle.raid_types.specs.Shapes.{stripe_sectors}
 use Rattle.history.specs.declared.events.LostCause.{LostCause}
 use Rattle.history.specs.declared.events.LostCause.TheVariants.{Absent, Recovering as WasRecovering}
 use Rattle.bank.specs.Tape.{Contents}
 use Rattle.reshape_plan.specs.reshape_geometry_Geometry.{ceiling, steps_of, beyond}
-use Rattle.sb_read_laws.specs.sb_specs_Reading.{Scope, Reading, is_reshaping, is_backward, is_clean, shape_of, target_of, final_shape, own_of}
+use Rattle.sb_read_laws.specs.sb_specs_Reading.{Scope, Reading, is_reshaping, is_backward, is_clean, shape_of, final_shape, own_of}
 use Rattle.history.specs.ActiveSection.{active_section}
-use Rattle.history.specs.Stands.{stands}
 
 -- ---- steps
 
@@ -87,20 +85,3 @@ found_losses role [] = []
 found_losses role (Whole slot ∷ roles) = found_losses (role + 1) roles
 found_losses role (Recovering slot ∷ roles) = (role, WasRecovering) ∷ found_losses (role + 1) roles
 found_losses role (Missing ∷ roles) = (role, Absent) ∷ found_losses (role + 1) roles
-
-abbrev pub opening_losses : Reading → List (ℕ × LostCause)
-opening_losses r = found_losses 0 (opened_roles r)
-
--- what an opening tells of its array; outside a reshape the position tells nothing
-pub record IsOpeningStatus (scope : Scope) (c : Contents) (r : Reading) (status : Status) : Type 0 where
-  pub shape : status.shape ≡ shape_of r.newest
-  pub target : status.target ≡ target_of r.newest
-  pub position : IsTrue (is_reshaping r.newest) → status.position ≡ r.newest.reshape_position
-  pub size : status.size ≡ r.newest.size
-  pub length : status.length ≡ length (stands scope c)
-  pub visible : status.visible ≡ status.length
-  pub clean : status.clean ≡ is_clean r.newest
-  pub events : status.events ≡ r.newest.events
-  pub left : status.left ≡ left_at_opening scope c r
-  pub roles : status.roles ≡ opened_roles r
-  pub spares : status.spares ≡ r.spares

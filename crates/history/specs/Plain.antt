@@ -10,14 +10,11 @@ use Rattle.history.specs.declared.events.Event.{Event}
 use Rattle.history.specs.declared.events.Event.TheVariants.{Read, Wrote, Torn, Flushed, Lost, SpareLost, Shown, Stopped, Halted, Refused}
 use Rattle.history.specs.declared.events.LostCause.TheVariants.{Fault}
 use Rattle.history.specs.declared.events.Entry.{Entry}
-use Rattle.history.specs.declared.events.Request.{Request}
-use Rattle.history.specs.declared.events.Request.TheVariants.{Read as AsksRead, Write as AsksWrite, Flush as AsksFlush}
 use Rattle.history.specs.Flat.{rest_of_call, visible_of}
-use Rattle.history.specs.Transfers.{IsTimedBetween, IsReadOver, EndsWithinOver, IsTornOver, IsRefusedAt}
+use Rattle.history.specs.Transfers.{IsTimedBetween, IsReadOver, EndsWithinOver, IsTornOver}
 use Rattle.history.specs.World.{World, opening_list}
-use Rattle.history.specs.Legal.{IsNumbered, IsInnerOrLast, call_before, KeepsLeft, is_loss, IsLegal}
+use Rattle.history.specs.Legal.{IsNumbered, IsInnerOrLast, KeepsLeft, is_loss, IsLegal}
 use Rattle.history.specs.Reshaped.{IsReshaped}
-use Rattle.history.specs.Fits.{AreTornOf, IsReadRefused, IsWriteRefused}
 
 -- the flat list at the opening, and the mark there
 pub record Opening : Type 0 where
@@ -74,28 +71,6 @@ ArePlain opening ops before (e ∷ entries) =
 -- the history is legal
 abbrev pub IsPlainLegal : Opening → ℕ → List Entry → Type 0
 IsPlainLegal opening ops entries = ArePlain opening ops [] entries
-
--- the reply's event answers the request, over a list of so many sectors
-abbrev pub PlainAnswersIn : ℕ → List Entry → Request → Event → Type 0
-PlainAnswersIn size before (AsksRead at count) (Read a body) = (a ≡ at) × (length body ≡ count)
-PlainAnswersIn size before (AsksRead at count) (Refused refusal) = IsRefusedAt (visible_of size before) (at + count) IsReadRefused refusal
-PlainAnswersIn size before (AsksWrite at body) (Wrote a b) = (a ≡ at) × (b ≡ body)
-PlainAnswersIn size before (AsksWrite at body) (Refused refusal) = IsRefusedAt (visible_of size before) (at + length body) IsWriteRefused refusal
-PlainAnswersIn size before AsksFlush Flushed = ⊤
-PlainAnswersIn size before AsksFlush (Refused (TooManyMissing count tolerance)) = ⊤
-PlainAnswersIn size before request event = ⊥
-
-abbrev pub PlainAnswers : Opening → List Entry → Request → Event → Type 0
-PlainAnswers opening = PlainAnswersIn (length opening.list)
-
--- the reply fits its request, by the entries before it
-pub record PlainFitsIn (size : ℕ) (before : List Entry) (e : Entry) (request : Request) : Type 0 where
-  pub answers : PlainAnswersIn size before request e.event
-  pub torn : AreTornOf request (call_before before e)
-
-pub record PlainFits (opening : Opening) (before : List Entry) (e : Entry) (request : Request) : Type 0 where
-  pub answers : PlainAnswers opening before request e.event
-  pub torn : AreTornOf request (call_before before e)
 
 -- the entries of one call that ends at one moment
 abbrev pub entries_of : Who → ℕ → List Event → List Entry

@@ -1,5 +1,5 @@
 -- What a caller has seen of an epoch, and which of its requests the history answers.
-use Rattle.std.specs.Prelude.{◌≡◌, ℕ, ◌+◌, Bool, true, not, ◌&&◌, ◌==◌, if◌then◌else◌, List, [], ◌∷◌, ◌++◌, length, map, take, drop, slice_get, MatchOption, ⊤}
+use Rattle.std.specs.Prelude.{◌≡◌, ℕ, ◌+◌, Bool, true, not, ◌&&◌, ◌==◌, if◌then◌else◌, List, [], ◌∷◌, ◌++◌, length, take, slice_get, MatchOption, ⊤}
 use Rattle.bank.specs.declared.bank.Operation.{Operation}
 use Rattle.history.specs.declared.events.Entry.{Entry}
 use Rattle.history.specs.declared.events.Request.{Request}
@@ -44,11 +44,6 @@ abbrev pub AreAnswered : World → List Entry → List (Request × ℕ) → Type
 AreAnswered world entries [] = ⊤
 AreAnswered world entries (request ∷ more) =
     MatchOption (slice_get entries request.1) ⊥ (λ e. Fits world (take request.1 entries) e request.0) × AreAnswered world entries more
-
--- The caller's calls since this place are these requests, each once and in this order, and each is answered.
-pub record HasMade (seen : Seen) (caller since : ℕ) (requests : List (Request × ℕ)) : Type 0 where
-  pub places : map (λ request. request.1) requests ≡ reply_places caller since (drop since seen.entries)
-  pub answered : AreAnswered seen.world seen.entries requests
 
 -- What is answered stays so, whatever more is seen.
 abbrev pub AnswersStay : Type 0

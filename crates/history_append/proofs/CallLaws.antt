@@ -22,7 +22,6 @@ use Rattle.array_members.specs.history_Losses.{is_resync_end}
 use Rattle.array_members.specs.history_Fits.{IsTornOf, AreTornOf}
 use Rattle.array_members.specs.history_Plain.{loses_role, entries_of}
 use Rattle.array_members.specs.history_OneShape.{gives_role, is_lost}
-use Rattle.array_members.specs.Rebuilding.{HasNoRebuilt}
 use Rattle.history_laws.proofs.OneShapeGrowing.{call-ends}
 use Rattle.history_append.specs.Losing.{role_loss, role_losses, spare_loss, spare_losses, losses_of}
 use Rattle.history_append.proofs.PlainLaws.{one}
@@ -91,13 +90,6 @@ ends-losses who end [] tail are = refl
 ends-losses who end (Lost role Fault ∷ xs) tail are = ends-losses who end xs tail are
 ends-losses who end (SpareLost slot ∷ xs) tail are = ends-losses who end xs tail are
 ends-losses who end (event ∷ xs) tail are = absurd are
-
--- nor do they rebuild a role
-pub builds-losses : (who : Who) (end : ℕ) (xs tail : List Event) → AreLossEvents xs → HasNoRebuilt (entries_of who end tail) → HasNoRebuilt (entries_of who end (xs ++ tail))
-builds-losses who end [] tail are none = none
-builds-losses who end (Lost role Fault ∷ xs) tail are none = builds-losses who end xs tail are none
-builds-losses who end (SpareLost slot ∷ xs) tail are none = builds-losses who end xs tail are none
-builds-losses who end (event ∷ xs) tail are none = absurd are
 
 -- none of these entries gives a role back
 abbrev pub GivesNone : List Entry → Type 0

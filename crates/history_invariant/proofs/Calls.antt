@@ -1,7 +1,6 @@
 -- A call whose marks are seen right by one ledger leaves the history safe.
-use Rattle.std.proofs.Common.{◌≡◌, inl, inr, ℕ, ◌+◌, ◌<◌, ◌≤◌, Bool, true, None, List, ◌++◌, length, take, sym, ◌∙◌, ap, subst, arith, length-append}
+use Rattle.std.proofs.Common.{◌≡◌, inl, inr, ℕ, ◌+◌, ◌<◌, ◌≤◌, Bool, true, List, ◌++◌, length, take, sym, ◌∙◌, ap, subst, arith, length-append}
 use Rattle.std.specs.Prelude.{⊤}
-use Rattle.std.proofs.Math.Seq.{take-length}
 use Rattle.array_call_specs.specs.raid_types_the_Who.{Who}
 use Rattle.array_call_specs.specs.bank_the_Operation.{Operation}
 use Rattle.array_call_specs.specs.bank_Given.{Given, sizes}
@@ -10,7 +9,6 @@ use Rattle.array_call_specs.specs.sb_specs_the_Members.{Members}
 use Rattle.array_call_specs.specs.sb_specs_Reading.{Scope}
 use Rattle.array_call_specs.specs.history_the_Entry.{Entry}
 use Rattle.array_call_specs.specs.history_the_Event.{Event}
-use Rattle.array_call_specs.specs.history_CrashSafe.{last_resized}
 use Rattle.array_call_specs.specs.history_Growing.{grown, EndBy}
 use Rattle.array_call_specs.specs.history_Plain.{entries_of}
 use Rattle.array_call_specs.specs.history_Sound.{OpensFit, LeavesSound, LeavesSoundThroughout}
@@ -37,13 +35,6 @@ pub now-live : {given : Given} {members : Members} {carried : ℕ → ℕ → Bo
     → IsSafeOver world given (told_now world carried reshaping entries) members world.tape
 now-live world live (inl safe) = safe
 now-live world live (inr unkept) = absurd (unkept.spent.none live)
-
--- and where no entry changes the length
-pub now-still : {given : Given} {members : Members} {carried : ℕ → ℕ → Bool} {reshaping : Bool} (world : World) (entries : List Entry) → last_resized entries ≡ None
-    → IsNowRight world given members carried reshaping entries → IsSafeOver world given (told_now world carried reshaping entries) members world.tape
-now-still world entries none (inl safe) = safe
-now-still world entries none (inr unkept) =
-    absurd (let is = unkept.left_out.last in let same : last_resized (take (length entries) entries) ≡ last_resized entries = ap last_resized (take-length entries) in let found = sym is ∙ same ∙ none in cc)
 
 -- ---- the event count
 

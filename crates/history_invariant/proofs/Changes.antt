@@ -20,7 +20,7 @@ use Rattle.array_call_specs.specs.history_Plain.{entries_of}
 use Rattle.array_call_specs.specs.history_Sound.{OpensFit}
 use Rattle.array_call_specs.specs.history_World.{World}
 use Rattle.array_call_specs.proofs.history_laws_OneShapeGrowing.{one, entries-both}
-use Rattle.array_call_specs.specs.crash_views_Views.{Disk, Ledger, IsSeenRight}
+use Rattle.array_call_specs.specs.crash_views_Views.{Ledger, IsSeenRight}
 use Rattle.array_call_specs.specs.crash_safety_laws_Changing.{IsSpentByEither, IsSafeChange}
 use Rattle.array_call_specs.specs.crash_safety_laws_Safety.{HasLiveSlot, IsRisen}
 use Rattle.array_call_specs.specs.crash_safety_laws_Steady.{IsMoreTold, IsSafeNow, IsSafeOver, IsSafeStretch}
@@ -93,9 +93,6 @@ module _ (claims : Type 0) (given : Given) (tape : List Operation) (scope : Scop
 
   abbrev place : ℕ
   place = length (entries ++ entries_of who (length (tape ++ ops)) early)
-
-  d-is : Disk
-  d-is = disk given.start (tape ++ ops)
 
   regroup : (xs : List Event) (x : Event) (ys zs : List Event) → (xs ++ x ∷ ys) ++ zs ≡ xs ++ x ∷ (ys ++ zs)
   regroup xs x ys zs = append_assoc xs (x ∷ ys) zs

@@ -14,7 +14,7 @@ use Rattle.array_call_specs.specs.history_the_Event_TheVariants.{Wrote, Torn, Fl
 use Rattle.array_call_specs.specs.history_the_LostCause_TheVariants.{Fault}
 use Rattle.array_call_specs.specs.history_the_StepKind_TheVariants.{ResyncEnded}
 use Rattle.array_call_specs.specs.history_Flat.{length_after, length_of, covers, sector_at, behind, values_after, first_values, values_of, now}
-use Rattle.array_call_specs.specs.history_Losses.{takes, loses, settles, is_unsynced, is_gone_after, unsettles}
+use Rattle.array_call_specs.specs.history_Losses.{takes, loses, settles, is_unsynced, is_gone_after}
 use Rattle.array_call_specs.specs.history_OneShape.{is_lost, is_unsettled}
 use Rattle.array_call_specs.specs.history_Plain.{loses_role, entries_of}
 use Rattle.array_call_specs.specs.history_World.{World, reading_at, opening_list}
@@ -24,7 +24,7 @@ use Rattle.array_call_specs.proofs.history_LegalLaws.{both}
 use Rattle.history_invariant.specs.Recorded.{gives_some}
 use Rattle.history_invariant.specs.Told.{told_now, told_by}
 use Rattle.history_invariant.proofs.Tests.{or-left, or-right}
-use Rattle.history_invariant.proofs.Ledgers.{any-gone, told-more, told-now, unclean-now}
+use Rattle.history_invariant.proofs.Ledgers.{any-gone, told-more, told-now}
 use Rattle.history_invariant.proofs.Longer.{regains-none}
 
 -- ---- roles that are gone
@@ -135,24 +135,6 @@ told-adding world old new was is_now entries more adds carries turns =
 pub told-added : (world : World) (carried : ℕ → ℕ → Bool) (reshaping : Bool) (entries more : List Entry) → AreAdding more → list_any (λ e. gives_some e.event) more ≡ false
     → IsMoreTold (told_by world carried reshaping entries more) (told_now world carried reshaping (entries ++ more))
 told-added world carried reshaping entries more adds none = told-now world carried reshaping entries more (λ role. regains-none world role more none) (settle-none more adds)
-
--- The history with them tells what it told before, where the roles that were gone are gone still.
-pub now-given : (world : World) (old new : ℕ → ℕ → Bool) (was is_now : Bool) (entries added : List Entry) → AreAdding added
-    → ((role : ℕ) → is_gone_after world entries role ≡ true → is_gone_after world (entries ++ added) role ≡ true) → ((slot number : ℕ) → old slot number ≡ true → new slot number ≡ true) → (was ≡ true → is_now ≡ true)
-    → IsMoreTold (told_now world old was entries) (told_now world new is_now (entries ++ added))
-now-given world old new was is_now entries added adds gone carries turns = record {
-  size = sym (length-adding (length (opening_list world)) entries added adds);
-  values = λ x lt v may. values-adding (opening_list world) entries added adds x v may;
-  gone = gone;
-  unclean = λ is. unclean-now world entries added (settle-none added adds) (more (is_unsynced world entries) (is_unsettled entries) (list_any (λ e. unsettles e.event) added) is);
-  reshaping = turns;
-  carried = carries;
-}
-  where
-    more : (a b c : Bool) → (a || b) ≡ true → (a || (b || c)) ≡ true
-    more true b c is = refl
-    more false true c is = refl
-    more false false c is = absurd (cc)
 
 -- ---- losses
 

@@ -1,5 +1,5 @@
 -- What is told of a history stays so as the tape grows.
-use Rattle.std.proofs.Common.{◌≡◌, ℕ, ◌+◌, ◌-◌, ◌<◌, ◌≤◌, ◌&&◌, ◌||◌, Bool, true, false, not, Option, List, [], ◌∷◌, ◌++◌, length, fold, refl, sym, ◌∙◌, ap, ap₂, subst, arith}
+use Rattle.std.proofs.Common.{◌≡◌, ℕ, ◌+◌, ◌-◌, ◌<◌, ◌≤◌, ◌&&◌, ◌||◌, Bool, true, false, not, Option, List, [], ◌∷◌, ◌++◌, length, fold, refl, ◌∙◌, ap, ap₂, subst, arith}
 use Rattle.std.specs.Prelude.{◌^◌, IfSome, IsTrue}
 use Rattle.std.specs.Option.{option_map_or}
 use Rattle.std.specs.List.{list_any, list_all}
@@ -9,13 +9,13 @@ use Rattle.array_call_specs.specs.sb_specs_the_Members.{Members}
 use Rattle.array_call_specs.specs.sb_specs_Reading.{Reading, reading, is_clean, is_reshaping}
 use Rattle.array_call_specs.specs.history_the_Entry.{Entry}
 use Rattle.array_call_specs.specs.history_the_Event.{Event}
-use Rattle.array_call_specs.specs.history_the_Event_TheVariants.{Lost, Rebuilt, Step}
-use Rattle.array_call_specs.specs.history_the_StepKind_TheVariants.{Begun, TakenOver}
+use Rattle.array_call_specs.specs.history_the_Event_TheVariants.{Lost, Step}
+use Rattle.array_call_specs.specs.history_the_StepKind_TheVariants.{TakenOver}
 use Rattle.array_call_specs.specs.history_Epochs.{HasRoomForEvents}
 use Rattle.array_call_specs.specs.history_Flat.{length_of, values_of}
 use Rattle.array_call_specs.specs.history_Growing.{grown, EndBy}
-use Rattle.array_call_specs.specs.history_Losses.{takes, gives_back, loses, regains, gone_surely, is_gone_after, is_resync_end, is_unsynced, unsettles}
-use Rattle.array_call_specs.specs.history_OneShape.{gives_role, is_unsettled, keeps_shape_event, KeepShape}
+use Rattle.array_call_specs.specs.history_Losses.{takes, gives_back, loses, regains, gone_surely, is_gone_after, is_resync_end, is_unsynced}
+use Rattle.array_call_specs.specs.history_OneShape.{is_unsettled, keeps_shape_event, KeepShape}
 use Rattle.array_call_specs.specs.history_Opened.{IsSound}
 use Rattle.array_call_specs.specs.history_Plain.{loses_role}
 use Rattle.array_call_specs.specs.history_Sound.{OpensFit}
@@ -25,7 +25,7 @@ use Rattle.array_call_specs.specs.crash_safety_laws_Safety.{HasLiveSlot, HasRoom
 use Rattle.array_call_specs.proofs.SafeLaws.{room-at, room-less, longer-by}
 use Rattle.array_call_specs.proofs.history_LegalLaws.{both}
 use Rattle.history_invariant.specs.Safe.{IsCounted, IsReshapeFit, OpensOnCourse}
-use Rattle.history_invariant.specs.Told.{told_now, told_by}
+use Rattle.history_invariant.specs.Told.{told_now}
 
 -- ---- the bank
 
@@ -86,11 +86,6 @@ takes-plain found role (Lost lost cause) keeps = refl
 takes-plain found role (Step TakenOver left) keeps = absurd (cc)
 takes-plain found role event keeps = refl
 
-gives-plain : (found : Option Reading) (role : ℕ) (event : Event) → keeps_shape_event event ≡ true → gives_back found role event ≡ gives_role role event
-gives-plain found role (Rebuilt rebuilt) keeps = refl
-gives-plain found role (Step Begun left) keeps = absurd (cc)
-gives-plain found role event keeps = refl
-
 module _ (world : World) (role : ℕ) where
   -- what they take is what they tell lost
   pub takes-lost : (xs : List Entry) → KeepShape xs → list_any (loses world role) xs ≡ list_any (λ e. loses_role role e.event) xs
@@ -98,13 +93,6 @@ module _ (world : World) (role : ℕ) where
   takes-lost (x ∷ xs) keep =
       let parts = both (keeps_shape_event x.event) (list_all (λ e. keeps_shape_event e.event) xs) keep in
       ap₂ (λ (a b : Bool). a || b) (takes-plain (reading_at world x.end) role x.event parts.0) (takes-lost xs parts.1)
-
-  -- and what they give back is what they tell rebuilt
-  pub gives-rebuilt : (xs : List Entry) → KeepShape xs → list_any (regains world role) xs ≡ list_any (λ e. gives_role role e.event) xs
-  gives-rebuilt [] keep = refl
-  gives-rebuilt (x ∷ xs) keep =
-      let parts = both (keeps_shape_event x.event) (list_all (λ e. keeps_shape_event e.event) xs) keep in
-      ap₂ (λ (a b : Bool). a || b) (gives-plain (reading_at world x.end) role x.event parts.0) (gives-rebuilt xs parts.1)
 
 -- ---- what is told
 
@@ -122,28 +110,6 @@ module _ (world : World) (ops : List Operation) (within : world.first ≤ length
     reshaping = reshaping;
     carried = carried;
   }
-
-  told-alike : (carried : ℕ → ℕ → Bool) (reshaping : Bool) (entries more : List Entry) → EndBy (length world.tape) entries
-      → ((role : ℕ) → list_any (loses (grown world ops) role) more ≡ list_any (loses world role) more)
-      → told_by (grown world ops) carried reshaping entries more ≡ told_by world carried reshaping entries more
-  told-alike carried reshaping entries more ends takes = λ i. record {
-    size = length_of (length (opening-grown world ops within i)) (entries ++ more);
-    values = values_of (opening-grown world ops within i) (entries ++ more);
-    gone = λ role. gone-grown world ops entries role ends i || takes role i;
-    unclean = unsynced-grown entries i || (is_unsettled entries || list_any (λ e. unsettles e.event) more);
-    reshaping = reshaping;
-    carried = carried;
-  }
-
-  -- so it is with entries of a call
-  pub told-grown : (carried : ℕ → ℕ → Bool) (reshaping : Bool) (entries more : List Entry) → EndBy (length world.tape) entries → EndBy (length world.tape) more
-      → told_by (grown world ops) carried reshaping entries more ≡ told_by world carried reshaping entries more
-  told-grown carried reshaping entries more ends made = told-alike carried reshaping entries more ends (λ role. takes-grown world ops more role made)
-
-  -- and with entries that turn no shape, wherever they end
-  pub told-plain : (carried : ℕ → ℕ → Bool) (reshaping : Bool) (entries more : List Entry) → EndBy (length world.tape) entries → KeepShape more
-      → told_by (grown world ops) carried reshaping entries more ≡ told_by world carried reshaping entries more
-  told-plain carried reshaping entries more ends keep = told-alike carried reshaping entries more ends (λ role. takes-lost (grown world ops) role more keep ∙ sym (takes-lost world role more keep))
 
 -- ---- room for events
 

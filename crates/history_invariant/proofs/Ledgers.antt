@@ -14,13 +14,9 @@ use Rattle.array_call_specs.specs.history_World.{World, opening_list}
 use Rattle.array_call_specs.specs.crash_views_Views.{Ledger}
 use Rattle.array_call_specs.specs.crash_safety_laws_Steady.{IsMoreTold}
 use Rattle.array_call_specs.proofs.LedgerLaws.{judged_by, none-ends, unsynced-more}
-use Rattle.array_call_specs.proofs.array_members_Still.{told-same}
 use Rattle.history_invariant.specs.Safe.{TakesNone}
 use Rattle.history_invariant.specs.Told.{told_now, told_by}
 use Rattle.history_invariant.proofs.Tests.{neither, or-none, or-left, or-right, or-assoc, weaken, none-take, none-drop}
-
-pub more-equal : (told more : Ledger) → told ≡ more → IsMoreTold told more
-more-equal told more same = subst (IsMoreTold told) same (told-same told)
 
 pub more-then : (told mid more : Ledger) → IsMoreTold told mid → IsMoreTold mid more → IsMoreTold told more
 more-then told mid more first second = record {

@@ -2,7 +2,7 @@
 use Rattle.std.proofs.Common.{◌≡◌, inl, ℕ, zero, suc, ◌+◌, ◌<◌, ◌≤◌, Bool, true, false, cond, nat_lt, Option, Some, None, List, [], ◌∷◌, ◌++◌, length, take, drop, fold, min, refl, sym, ◌∙◌, ap, subst, arith, append_assoc, append-nil}
 use Rattle.std.specs.Option.{option_map_or}
 use Rattle.std.proofs.lemmas.Bool.Decides.{nat_tests}
-use Rattle.array_call_specs.specs.raid_types_Sectors.{Sector, zero_sector}
+use Rattle.array_call_specs.specs.raid_types_Sectors.{Sector}
 use Rattle.array_call_specs.specs.bank_Tape.{IsIn}
 use Rattle.array_call_specs.specs.history_the_Entry.{Entry}
 use Rattle.array_call_specs.specs.history_the_Event.{Event}
@@ -77,12 +77,6 @@ module _ (entries : List Entry) (e : Entry) (n : ℕ) (added : List Entry) (is :
   pub resized-values : (list : List Sector) (x : ℕ) (v : Sector) → x < n → IsIn (values_of list entries x) v → IsIn (values_of list (entries ++ e ∷ added) x) v
   resized-values list x v lt may =
       subst (λ (l : List Sector). IsIn l v) (sym (values-resized list x lt)) (all-stay x added (resized true (values_of list entries x)) v adds (resized-keeps (values_of list entries x) v may))
-
-  -- and one that the list gets is zero
-  pub resized-zero : (list : List Sector) (x : ℕ) → x < n → values_of list entries x ≡ [] → IsIn (values_of list (entries ++ e ∷ added) x) zero_sector
-  resized-zero list x lt none =
-      subst (λ (l : List Sector). IsIn l zero_sector) (sym (values-resized list x lt ∙ ap (λ (l : List Sector). fold (λ values e. values_after x values e.event) (resized true l) added) none))
-      (all-stay x added (zero_sector ∷ []) zero_sector adds (inl refl))
 
 -- ---- past the end
 

@@ -17,14 +17,14 @@ use Rattle.array_call_specs.specs.history_the_LostCause_TheVariants.{Fault}
 use Rattle.array_call_specs.specs.history_Flat.{is_same_call, rest_of_call, last_of, next_number, number_after}
 use Rattle.array_call_specs.specs.history_Growing.{grown, EndBy, BeginAnother}
 use Rattle.array_call_specs.specs.history_Legal.{GoesOn, IsNumbered, IsInnerOrLast, IsOfOpening, IsLegalEvent, IsLegalEntry, call_end, AreLegal, IsLegal}
-use Rattle.array_call_specs.specs.history_OneShape.{GoesOnBehind, IsOfCall, IsCallOpen}
+use Rattle.array_call_specs.specs.history_OneShape.{IsOfCall}
 use Rattle.array_call_specs.specs.history_Plain.{entries_of}
 use Rattle.array_call_specs.specs.history_Stands.{stands}
 use Rattle.array_call_specs.specs.history_Transfers.{last_end_from}
 use Rattle.array_call_specs.specs.history_World.{World, until, contents_at}
 use Rattle.array_call_specs.proofs.history_LegalLaws.{histories-stay-legal, rest-apart, another-behind}
 use Rattle.array_call_specs.proofs.history_OneShapeLegal.{last-snoc}
-use Rattle.array_call_specs.proofs.history_laws_OneShapeGrowing.{AreFaults, next-begins, none-another}
+use Rattle.array_call_specs.proofs.history_laws_OneShapeGrowing.{next-begins, none-another}
 use Rattle.array_call_specs.proofs.MadeLaws.{ends-by}
 use Rattle.array_call_specs.proofs.RecordLaws.{ends-call}
 use Rattle.array_call_specs.proofs.history_append_StepLaws.{of-call}
@@ -41,14 +41,6 @@ GoesOnIn who e = IsOfCall who e × MayGoOn e.event
 -- a call begins with its caller's next number
 pub begins-going : (entries : List Entry) (who : Who) → who.number ≡ next_number who.caller entries → IsCallGoing entries who
 begins-going entries who number = record { before = entries; call = []; is = sym (append-nil entries); own = All-nil (GoesOnIn who); number = number }
-
-open-goes : (event : Event) → GoesOnBehind event → MayGoOn event
-open-goes (Resized n) goes = absurd goes
-open-goes event goes = goes
-
--- so does one that is open in an array of one shape
-pub going-open : (entries : List Entry) (who : Who) → IsCallOpen entries who → IsCallGoing entries who
-going-open entries who goes = record { before = goes.before; call = goes.call; is = goes.is; own = λ k d lt. (let of = goes.own k d lt in (of.0, open-goes _ of.1)); number = goes.number }
 
 -- and goes on behind entries that may stand before others
 pub going-more : (entries added : List Entry) (who : Who) → IsCallGoing entries who → All (λ e. IsOfCall who e × MayGoOn e.event) added → IsCallGoing (entries ++ added) who
@@ -314,23 +306,6 @@ legal-later world ops entries who events goes other fixed ends ended are call =
     (ends-call (length world.tape) entries who (length (world.tape ++ ops)) events longer ends)
     (histories-stay-legal world entries ops ends are)
     (call-legal (grown world ops) entries who events other (λ event. going-numbered entries who (entry_of who (length (world.tape ++ ops)) event) goes (refl, refl)) (omega (arith, longer, ended)) call)
-
--- losses may stand before whatever else a call enters
-pub legal-losses : (world : World) (before : List Entry) (who : Who) (end : ℕ) (xs tail : List Event) → AreFaults xs → IsLegalCall world (before ++ entries_of who end xs) who end tail → IsLegalCall world before who end (xs ++ tail)
-legal-losses world before who end [] tail are call = subst (λ (l : List Entry). IsLegalCall world l who end tail) (append-nil before) call
-legal-losses world before who end (Lost role Fault ∷ xs) tail are call = (
-  tt,
-  inner-longer (Lost role Fault) (entries_of who end (xs ++ tail)) tt,
-  legal-losses world (before ++ entry_of who end (Lost role Fault) ∷ []) who end xs tail are
-      (subst (λ (l : List Entry). IsLegalCall world l who end tail) (sym (append_assoc before (entry_of who end (Lost role Fault) ∷ []) (entries_of who end xs))) call),
-)
-legal-losses world before who end (SpareLost slot ∷ xs) tail are call = (
-  tt,
-  inner-longer (SpareLost slot) (entries_of who end (xs ++ tail)) tt,
-  legal-losses world (before ++ entry_of who end (SpareLost slot) ∷ []) who end xs tail are
-      (subst (λ (l : List Entry). IsLegalCall world l who end tail) (sym (append_assoc before (entry_of who end (SpareLost slot) ∷ []) (entries_of who end xs))) call),
-)
-legal-losses world before who end (event ∷ xs) tail are call = absurd are
 
 -- ---- the number of a call that goes on
 

@@ -4,25 +4,20 @@ use Rattle.std.specs.Prelude.{IfSome, IsTrue}
 use Rattle.std.specs.List.{list_any}
 use Rattle.std.proofs.lemmas.Bool.Decides.{nat_tests}
 use Rattle.std.proofs.lemmas.List.Folds.{list_any-append}
-use Rattle.array_call_specs.specs.raid_types_Search.{count_below}
-use Rattle.array_call_specs.specs.raid_types_Shapes.{tolerance_of}
 use Rattle.array_call_specs.specs.bank_the_Operation.{Operation}
 use Rattle.array_call_specs.specs.bank_Tape.{IsIn}
 use Rattle.array_call_specs.specs.sb_specs_Reading.{Reading, reading, is_reshaping, shape_of}
 use Rattle.array_call_specs.specs.history_the_Entry.{Entry}
 use Rattle.array_call_specs.specs.history_the_Event.{Event}
-use Rattle.array_call_specs.specs.history_the_Event_TheVariants.{Lost, Rebuilt, Step}
-use Rattle.array_call_specs.specs.history_the_StepKind_TheVariants.{Begun, TakenOver}
+use Rattle.array_call_specs.specs.history_the_Event_TheVariants.{Rebuilt, Step}
+use Rattle.array_call_specs.specs.history_the_StepKind_TheVariants.{Begun}
 use Rattle.array_call_specs.specs.history_Growing.{grown, EndBy}
-use Rattle.array_call_specs.specs.history_Legal.{level_at, IsTooManyMissing}
 use Rattle.array_call_specs.specs.history_Flat.{length_of, values_of}
 use Rattle.array_call_specs.specs.history_Losses.{takes, gives_back, loses, settles, unsettles, is_gone_after, is_unsynced}
-use Rattle.array_call_specs.specs.history_OneShape.{is_lost, is_unsettled}
+use Rattle.array_call_specs.specs.history_OneShape.{is_unsettled}
 use Rattle.array_call_specs.specs.history_Opened.{IsSound}
-use Rattle.array_call_specs.specs.history_Plain.{loses_role}
-use Rattle.array_call_specs.specs.history_Sound.{FillsRight, OpensFit}
+use Rattle.array_call_specs.specs.history_Sound.{OpensFit}
 use Rattle.array_call_specs.specs.history_World.{World, contents_at, reading_at, opening_list}
-use Rattle.array_call_specs.proofs.history_GoneCounts.{few_missing}
 use Rattle.array_call_specs.proofs.history_SoundLaws.{fit-before}
 use Rattle.array_call_specs.specs.crash_safety_laws_Steady.{IsMoreTold, given_back}
 use Rattle.history_invariant.specs.Recorded.{gives_some}
@@ -32,7 +27,7 @@ use Rattle.history_invariant.proofs.Entered.{adds_only, AreAdding, length-adding
 use Rattle.history_invariant.proofs.Longer.{regains-none}
 use Rattle.history_invariant.proofs.Growing.{course-before, takes-grown}
 use Rattle.history_invariant.proofs.Ledgers.{any-gone, gone-behind, unclean-now}
-use Rattle.history_invariant.proofs.Tests.{neither, none-before}
+use Rattle.history_invariant.proofs.Tests.{none-before}
 
 -- ---- a reshape begins
 
@@ -46,24 +41,13 @@ module _ (world : World) (entries : List Entry) (e : Entry) (left : ℕ) (r : Re
   below-old : (old role : ℕ) → role < old → nat_le old role ≡ false
   below-old old role lt = grind (arith, nat_tests, lt)
 
-  from-old : (old role : ℕ) → old ≤ role → nat_le old role ≡ true
-  from-old old role le = grind (arith, nat_tests, le)
-
   kept : (b : Bool) → (b && true || false) ≡ b
   kept true = refl
   kept false = refl
 
-  given : (b : Bool) → (b && false || false) ≡ false
-  given true = refl
-  given false = refl
-
   -- a role of the old shape is gone as before
   pub begun-old : (role : ℕ) → role < (shape_of r.newest).disks → is_gone_after world (entries ++ e ∷ []) role ≡ is_gone_after world entries role
   begun-old role lt = turned role ∙ ap (λ (b : Bool). is_gone_after world entries role && not b || false) (below-old (shape_of r.newest).disks role lt) ∙ kept (is_gone_after world entries role)
-
-  -- and one that the reshape takes anew isn't
-  pub begun-new : (role : ℕ) → (shape_of r.newest).disks ≤ role → is_gone_after world (entries ++ e ∷ []) role ≡ false
-  begun-new role le = turned role ∙ ap (λ (b : Bool). is_gone_after world entries role && not b || false) (from-old (shape_of r.newest).disks role le) ∙ given (is_gone_after world entries role)
 
 -- ---- a role is rebuilt
 
@@ -134,26 +118,3 @@ pub filled-before : (world : World) (ops : List Operation) (entries added : List
 filled-before world ops entries added within ends (inl none) =
     inl (λ role. sym (takes-grown world ops entries role ends) ∙ none-before (loses (grown world ops) role) entries added (none.0 role), course-before world ops within none.1, none-before (λ e. is_taken_over e.event) entries added none.2)
 filled-before world ops entries added within ends (inr fit) = inr (fit-before world ops within fit)
-
-takes-told : (found : Option Reading) (role : ℕ) (event : Event) → is_taken_over event ≡ false → takes found role event ≡ loses_role role event
-takes-told found role (Lost lost cause) none = refl
-takes-told found role (Step TakenOver left) none = absurd (cc)
-takes-told found role event none = refl
-
-told-only : (world : World) (role : ℕ) (xs : List Entry) → list_any (λ e. is_taken_over e.event) xs ≡ false → list_any (loses world role) xs ≡ is_lost xs role
-told-only world role [] none = refl
-told-only world role (x ∷ xs) none =
-    let parts = neither (is_taken_over x.event) (list_any (λ e. is_taken_over e.event) xs) none in
-    ap₂ (λ (a b : Bool). a || b) (takes-told (reading_at world x.end) role x.event parts.0) (told-only world role xs parts.1)
-
--- where no level is taken over it is so where no role is told lost and a reshape is found on its course, or the epoch opened fit
-pub filled-told : (world : World) (entries : List Entry) → list_any (λ e. is_taken_over e.event) entries ≡ false → OpensOnCourse world → FillsRight world entries → IsFilledRight world entries
-filled-told world entries none on (inl whole) = inl (λ role. told-only world role entries none ∙ whole role, on, none)
-filled-told world entries none on (inr fit) = inr fit
-
--- ---- a refusal
-
--- too many roles are missing, and each is gone
-pub too-many : (world : World) (entries : List Entry) (disks tolerance : ℕ) (missing : ℕ → Bool) → disks ≤ 32 → ((role : ℕ) → role < disks → missing role ≡ true → is_gone_after world entries role ≡ true)
-    → tolerance < count_below disks missing → tolerance ≡ tolerance_of (level_at world entries) → IsTooManyMissing world entries (count_below disks missing) tolerance
-too-many world entries disks tolerance missing few told above level = record { above = above; gone = few_missing (is_gone_after world entries) disks missing few told; tolerated = level }

@@ -2,7 +2,7 @@
 use Rattle.std.proofs.Common.{◌≡◌, ℕ, ◌<◌, ◌≤◌, Bool, true, false, List, [], ◌∷◌, ◌++◌, length, refl, sym, ◌∙◌, ap, subst, append_assoc, append-nil}
 use Rattle.std.specs.Prelude.{⊤, IsTrue}
 use Rattle.std.specs.List.{list_any}
-use Rattle.array_call_specs.specs.raid_types_Sectors.{Sector, zero_sector}
+use Rattle.array_call_specs.specs.raid_types_Sectors.{Sector}
 use Rattle.array_call_specs.specs.raid_types_the_Who.{Who}
 use Rattle.array_call_specs.specs.bank_the_Operation.{Operation}
 use Rattle.array_call_specs.specs.bank_Given.{Given, sizes}
@@ -33,7 +33,7 @@ use Rattle.history_invariant.proofs.Calls.{LeavesSoundFrom, safe-call}
 use Rattle.history_invariant.proofs.Changes.{safe-change, either-stretch, either-last}
 use Rattle.history_invariant.proofs.Entered.{AreAdding, adding-losses}
 use Rattle.history_invariant.proofs.Ledgers.{more-then, told-any, now-told}
-use Rattle.history_invariant.proofs.Lists.{resized-length, resized-values, resized-zero}
+use Rattle.history_invariant.proofs.Lists.{resized-length, resized-values}
 use Rattle.history_invariant.proofs.Unkept.{unkept-told, up_to-losses}
 
 -- ---- a change of length with losses behind it
@@ -59,11 +59,6 @@ module _ (world : World) (entries : List Entry) (who : Who) (end : ℕ) (early :
   pub turned-values : (list : List Sector) (x : ℕ) (v : Sector) → x < n → IsIn (values_of list (entries ++ entries_of who end early) x) v → IsIn (values_of list (entries ++ entries_of who end (early ++ Resized n ∷ losses)) x) v
   turned-values list x v lt may = subst (λ (l : List Entry). IsIn (values_of list l x) v) (sym parts-of)
       (resized-values (entries ++ entries_of who end early) (one who end (Resized n)) n (entries_of who end losses) refl (losses-add who end losses are) list x v lt may)
-
-  -- and one that the list gets is zero
-  pub turned-zero : (list : List Sector) (x : ℕ) → x < n → values_of list (entries ++ entries_of who end early) x ≡ [] → IsIn (values_of list (entries ++ entries_of who end (early ++ Resized n ∷ losses)) x) zero_sector
-  turned-zero list x lt none = subst (λ (l : List Entry). IsIn (values_of list l x) zero_sector) (sym parts-of)
-      (resized-zero (entries ++ entries_of who end early) (one who end (Resized n)) n (entries_of who end losses) refl (losses-add who end losses are) list x lt none)
 
   -- where no slot kept it, the history without it tells what was told before it
   turned-unkept : (told : Ledger) → AreAdding (entries_of who end early) → IsMoreTold told (told_by world (λ slot number. true) true entries (entries_of who end early))

@@ -25,7 +25,7 @@ use Rattle.history_invariant.specs.crash_safety_laws_Safety.{HasRoomLeft, IsRise
 use Rattle.history_invariant.specs.crash_safety_laws_Steady.{IsMoreTold, IsSafeOver, KeepsSafe, AreGoneTold, IsUncleanTold}
 use Rattle.history_invariant.proofs.array_members_SoundViews.{throughout-kept}
 use Rattle.history_invariant.specs.history_append_Losing.{losses_of}
-use Rattle.history_invariant.proofs.history_append_CallLaws.{losses-are, last_end-behind}
+use Rattle.history_invariant.proofs.history_append_CallLaws.{last_end-behind}
 use Rattle.history_invariant.proofs.history_append_LosingLaws.{entries-both}
 use Rattle.history_invariant.specs.Recorded.{IsHistoryKept, IsLegalCall, IsCallGoing, entry_of, ends_reshape, gives_some}
 use Rattle.history_invariant.specs.Safe.{world_in, IsFilledRight, IsSafeHistory}
@@ -38,8 +38,8 @@ use Rattle.history_invariant.proofs.KeptCalls.{kept-call}
 use Rattle.history_invariant.proofs.Entered.{adds_only, AreAdding, told-adding, told-added, values-more, length-adding}
 use Rattle.history_invariant.proofs.Reshapes.{call-ends_none}
 use Rattle.history_invariant_laws.specs.Reliable.{IsReliable, AreToldGone, IsNonePast}
-use Rattle.history_invariant_laws.proofs.LastStep.{IsWithin, AreWithin, losses-within, none-past}
-use Rattle.history_invariant_laws.proofs.Behind.{telling-of, AreFirst, first-of, AreLostOrMissing, IsAmong, IsBehind, early-losses, is-behind, legal-losses, or-false, and-true}
+use Rattle.history_invariant_laws.proofs.LastStep.{IsWithin, AreWithin, none-past}
+use Rattle.history_invariant_laws.proofs.Behind.{telling-of, AreFirst, first-of, AreLostOrMissing, IsAmong, IsBehind, early-losses, is-behind, or-false, and-true}
 use Rattle.history_invariant_laws.proofs.Quiet.{IsLeftBehind}
 
 -- An event that only adds to what is told: it settles nothing, keeps the length and the level, neither ends a reshape nor gives a role, and is no loss.
@@ -254,19 +254,3 @@ module _ (given : Given) (tape : List Operation) (scope : Scope) (first : ℕ) (
       → IsIn (values_of (opening_list (world_in given tape scope first)) (entries ++ entries_of who (length (tape ++ ops)) events) x) (now (opening_list (world_in given tape scope first)) (entries ++ entries_of who (length (tape ++ ops)) events) x)
   newest x lt = newest-in (opening_list (world_in given tape scope first)) (entries ++ entries_of who (length (tape ++ ops)) events) x
       (let size = length-adding (length (opening_list (world_in given tape scope first))) entries (entries_of who (length (tape ++ ops)) events) adds-losses ∙ recorded.sized in omega (arith, lt, size))
-
-  pub adding-leaves : IsLeftBehind given tape scope first entries (entries ++ entries_of who (length (tape ++ ops)) (losses_of roles spares ++ event ∷ [])) new carried reshaping (tape ++ ops)
-  adding-leaves = changing-leaves given tape scope first entries old new carried reshaping who (losses_of roles spares) (IsAmong roles) event ops first-losses goes caller adding few missing sized
-      (λ dirty. elim (clean dirty) [
-        | inl before ↦ inl (unclean before)
-        | inr wrote ↦ inr (unsettled-last who (length (tape ++ ops)) (losses_of roles spares) event wrote)
-      ]) sizes_are gone unclean recorded safe now_safe
-      (record {
-        within = losses-within (list_length old.newest) (losses_of roles spares) (event ∷ []) (losses-are roles spares) (call.within, tt);
-        rise = call.rise;
-        keeps = λ told all all_gone fills more allowed room told_gone told_unclean unsettled before.
-            call.keeps told all all_gone fills more (λ x lt. allowed x (now (opening_list (world_in given tape scope first)) (entries ++ entries_of who (length (tape ++ ops)) (losses_of roles spares ++ event ∷ [])) x) (newest x lt)) room told_gone told_unclean
-            (λ is. unsettled (unsettled-last who (length (tape ++ ops)) (losses_of roles spares) event is)) before;
-        legal = λ fills told_gone level.
-            legal-losses (world_in given (tape ++ ops) scope first) entries who (length (tape ++ ops)) (losses_of roles spares) (event ∷ []) (losses-are roles spares) (call.legal fills told_gone level, tt, tt);
-      })

@@ -143,9 +143,6 @@ module _ (given : Given) (tape : List Operation) (scope : Scope) (first : ℕ) (
   right-before : IsReliable later all → IsReliable (world_in given tape scope first) entries
   right-before right = behind.right (right-early right)
 
-  adds-last : AreAdding (entries_of who (length (tape ++ ops)) (Rebuilt role ∷ []))
-  adds-last = refl
-
   adds-all : AreAdding added
   adds-all = are.adds who end (Rebuilt role ∷ []) refl
 

@@ -5,7 +5,6 @@ pub mod SeenLaws
 pub mod PlainLegal
 pub mod OneShapeGrowing
 pub mod OneShapeGoing
-pub mod OneShapeOpening
 pub use Rattle.history.proofs.bank_Images
 pub use Rattle.history.proofs.bank_Laws
 pub use Rattle.history.proofs.bank_Marks

@@ -1,7 +1,7 @@
 -- How a legal history of an array that keeps its shape grows by more entries of a call that goes on.
 use Rattle.std.proofs.Common.{◌≡◌, ℕ, ◌+◌, ◌==◌, ◌&&◌, ◌||◌, inl, inr, Bool, true, false, cond, Option, Some, None, List, [], ◌∷◌, ◌++◌, refl, sym, ◌∙◌, ap, subst, subst₂, arith, append_assoc, append-nil, unwrap_or}
 use Rattle.std.proofs.lemmas.Bool.Decides.{nat_tests}
-use Rattle.std.proofs.lemmas.List.Elements.{All-nil, All-append, All-head, All-tail}
+use Rattle.std.proofs.lemmas.List.Elements.{All-append, All-head, All-tail}
 use Rattle.std.proofs.lemmas.List.Folds.{list_any-append}
 use Rattle.std.specs.Prelude.{IfSome, IsTrue}
 use Rattle.std.specs.List.{list_any, All}
@@ -13,7 +13,7 @@ use Rattle.history.specs.declared.events.LostCause.TheVariants.{Fault}
 use Rattle.history.specs.Flat.{is_same_call, rest_of_call, last_of, next_number}
 use Rattle.history.specs.Legal.{GoesOn, IsNumbered, IsInnerOrLast, call_before, told_left, known_left, disturbs}
 use Rattle.history.specs.Growing.{BeginAnother}
-use Rattle.history.specs.OneShape.{ShapeOpening, IsOneShapeEvent, IsOneShapeEntry, AreOneShape, GoesOnBehind, IsOfCall, IsCallOpen}
+use Rattle.history.specs.OneShape.{ShapeOpening, IsOneShapeEvent, IsOneShapeEntry, AreOneShape, GoesOnBehind, IsOfCall}
 use Rattle.history_laws.specs.OneShapeGrowth.{OpenCallsAreNumbered, OneShapeHistoriesGoOn}
 use Rattle.history.proofs.LegalLaws.{rest-apart, another-behind}
 use Rattle.history_laws.proofs.OneShapeGrowing.{one_shape-later, next-begins, none-another}
@@ -23,20 +23,6 @@ use Rattle.history_laws.proofs.OneShapeGrowing.{one_shape-later, next-begins, no
 -- the entry is of the call, and may stand in it before others
 abbrev GoesOnIn : Who → Entry → Type 0
 GoesOnIn who e = IsOfCall who e × GoesOnBehind e.event
-
--- a call begins with its caller's next number
-pub begins-open : (entries : List Entry) (who : Who) → who.number ≡ next_number who.caller entries → IsCallOpen entries who
-begins-open entries who number = record { before = entries; call = []; is = sym (append-nil entries); own = All-nil (GoesOnIn who); number = number }
-
--- and goes on behind entries that may stand before others
-pub open-more : (entries added : List Entry) (who : Who) → IsCallOpen entries who → All (λ e. IsOfCall who e × GoesOnBehind e.event) added → IsCallOpen (entries ++ added) who
-open-more entries added who goes more = record {
-  before = goes.before;
-  call = goes.call ++ added;
-  is = ap (λ (l : List Entry). l ++ added) goes.is ∙ append_assoc goes.before goes.call added;
-  own = All-append (GoesOnIn who) goes.call added goes.own more;
-  number = goes.number;
-}
 
 -- ---- numbers
 

@@ -1,7 +1,7 @@
 -- How a legal history of an array that keeps its shape grows by a call.
-use Rattle.std.proofs.Common.{◌≡◌, ℕ, ◌+◌, ◌<◌, ◌≤◌, ◌==◌, ◌&&◌, ◌||◌, inl, inr, Bool, true, false, cond, Option, Some, List, [], ◌∷◌, ◌++◌, refl, sym, ◌∙◌, ap, ap₂, subst, arith, append_assoc, append-nil, MatchBool, MatchOption, length}
+use Rattle.std.proofs.Common.{◌≡◌, ℕ, ◌+◌, ◌<◌, ◌≤◌, ◌==◌, ◌&&◌, ◌||◌, inl, inr, Bool, true, false, cond, Option, Some, List, [], ◌∷◌, ◌++◌, refl, sym, ◌∙◌, ap, ap₂, subst, arith, append_assoc, append-nil, MatchBool, MatchOption}
 use Rattle.std.proofs.lemmas.Bool.Decides.{nat_tests}
-use Rattle.std.proofs.lemmas.List.{length-append, reverse-append}
+use Rattle.std.proofs.lemmas.List.{reverse-append}
 use Rattle.std.proofs.lemmas.List.Folds.{list_any-append, list_all-append}
 use Rattle.std.specs.Prelude.{fold, map, reverse, not, IsTrue, IsFalse, ⊤}
 use Rattle.std.specs.Option.{option_map_or}
@@ -13,19 +13,17 @@ use Rattle.history.specs.declared.events.Event.{Event}
 use Rattle.history.specs.declared.events.Event.TheVariants.{Lost, SpareLost, Failed}
 use Rattle.history.specs.declared.events.LostCause.{LostCause}
 use Rattle.history.specs.declared.events.LostCause.TheVariants.{Absent, Recovering, Command, Fault}
-use Rattle.history.specs.bank_the_Operation.{Operation}
-use Rattle.history.specs.World.{World}
 use Rattle.history.specs.Flat.{is_same_call, rest_of_call, last_of, next_number, number_after}
 use Rattle.history.specs.Transfers.{last_end_from}
 use Rattle.history.specs.Legal.{IsNumbered, GoesOn, MayBeInner, IsInnerOrLast, IsOfOpening, is_lost_by_command, IsFailed, IsFailedByCall, call_before}
-use Rattle.history.specs.Growing.{grown, EndBy, BeginAnother}
+use Rattle.history.specs.Growing.{BeginAnother}
 use Rattle.history.specs.Plain.{entries_of}
-use Rattle.history.specs.OneShape.{ShapeOpening, opening_in, gives_role, is_gone_now, AreTooManyLost, IsOneShapeEvent, IsOneShapeEntry, AreOneShape, IsOneShapeLegal}
+use Rattle.history.specs.OneShape.{ShapeOpening, gives_role, is_gone_now, AreTooManyLost, IsOneShapeEvent, IsOneShapeEntry, AreOneShape, IsOneShapeLegal}
 use Rattle.history_laws.specs.OneShapeGrowth.{OneShapeHistoriesGrow}
 use Rattle.history.proofs.LegalLaws.{rest-apart, another-behind}
 use Rattle.history.proofs.GoneCounts.{few_missing}
 use Rattle.history.proofs.OneShapeGone.{is_gone-both}
-use Rattle.history.proofs.OneShapeLegal.{last-snoc, opening-grown}
+use Rattle.history.proofs.OneShapeLegal.{last-snoc}
 
 -- ---- more operations, and another call
 
@@ -54,11 +52,6 @@ one_shape-add_up opening ops before (e ∷ xs) added begin are behind = (
 pub one_shape-grow : OneShapeHistoriesGrow
 one_shape-grow opening ops more entries added le begin are behind =
     one_shape-add_up opening more [] entries added begin (one_shape-later opening ops more [] entries le are) behind
-
--- each entry ends within the tape
-pub one_shape-ends : (opening : ShapeOpening) (ops : ℕ) (before entries : List Entry) → AreOneShape opening ops before entries → EndBy ops entries
-one_shape-ends opening ops before [] are = tt
-one_shape-ends opening ops before (e ∷ entries) are = (are.0.timed.within, one_shape-ends opening ops (before ++ e ∷ []) entries are.1)
 
 -- ---- one call
 
@@ -138,35 +131,12 @@ pub none-another : (last : Option Entry) → BeginAnother last []
 none-another (Some last) = tt
 none-another last = tt
 
-pub call-begins : (entries : List Entry) (who : Who) (end : ℕ) (events : List Event) → who.number ≡ next_number who.caller entries
-    → BeginAnother (last_of entries) (entries_of who end events)
-call-begins entries who end [] number = none-another (last_of entries)
-call-begins entries who end (event ∷ events) number = next-begins entries (one who end event) (entries_of who end events) number
-
 -- where a call ended, the history ended
 pub call-ends : (first : ℕ) (entries : List Entry) (who : Who) (end : ℕ) (event : Event) (events : List Event) → last_end_from first (entries ++ entries_of who end (event ∷ events)) ≡ end
 call-ends first entries who end event [] = ap (λ (o : Option Entry). option_map_or (λ e. e.end) o first) (last-snoc entries (one who end event))
 call-ends first entries who end event (next ∷ events) =
     ap (λ (l : List Entry). last_end_from first l) (sym (append_assoc entries (one who end event ∷ []) (entries_of who end (next ∷ events))))
     ∙ call-ends first (entries ++ one who end event ∷ []) who end next events
-
--- A history stays legal with a call behind it that has the caller's next number and whose events are legal.
-pub call-grows : (opening : ShapeOpening) (ops end : ℕ) (entries : List Entry) (who : Who) (events : List Event) → IsOneShapeLegal opening ops entries → ops ≤ end
-    → last_end_from opening.first entries ≤ end → who.number ≡ next_number who.caller entries → IsFalse (who.caller == 254)
-    → IsOneShapeCall opening entries who end events → IsOneShapeLegal opening end (entries ++ entries_of who end events)
-call-grows opening ops end entries who events are le rises number other call =
-    one_shape-grow opening ops end entries (entries_of who end events) le (call-begins entries who end events number) are
-    (call-one_shape opening end entries who end events (others-enter who.caller events other) (λ event. inr number) rises (omega arith) call)
-
--- the same over a bank that a call has gone on with, with the opening that is found in it
-pub record-grows : (world : World) (more : List Operation) (entries : List Entry) (who : Who) (events : List Event) → world.first ≤ length world.tape
-    → IsOneShapeLegal (opening_in world) (length world.tape) entries → last_end_from world.first entries ≤ length world.tape
-    → who.number ≡ next_number who.caller entries → IsFalse (who.caller == 254) → IsOneShapeCall (opening_in world) entries who (length (world.tape ++ more)) events
-    → IsOneShapeLegal (opening_in (grown world more)) (length (world.tape ++ more)) (entries ++ entries_of who (length (world.tape ++ more)) events)
-record-grows world more entries who events begun are ended number other call =
-    let longer : length (world.tape ++ more) ≡ length world.tape + length more = length-append world.tape more in
-    subst (λ (opening : ShapeOpening). IsOneShapeLegal opening (length (world.tape ++ more)) (entries ++ entries_of who (length (world.tape ++ more)) events)) (sym (opening-grown world more begun))
-    (call-grows (opening_in world) (length world.tape) (length (world.tape ++ more)) entries who events are (omega (arith, longer)) (omega (arith, longer, ended)) number other call)
 
 -- ---- losses
 
@@ -311,17 +281,6 @@ module _ (opening : ShapeOpening) (who : Who) (end : ℕ) (caller : who.caller �
 pub gone-more : (role : ℕ) (entries added : List Entry) → IsFalse (list_any (λ e. gives_role role e.event) added) → IsTrue (is_gone_now entries role)
     → IsTrue (is_gone_now (entries ++ added) role)
 gone-more role entries added none gone = is_gone-both entries added role ∙ ap₂ (λ a b. a && not b || is_gone_now added role) gone none
-
-pub gone-behind : (role : ℕ) (entries added : List Entry) → IsTrue (is_gone_now added role) → IsTrue (is_gone_now (entries ++ added) role)
-gone-behind role entries added gone =
-    is_gone-both entries added role ∙ ap (λ b. still || b) gone ∙ last still
-  where
-    still : Bool
-    still = is_gone_now entries role && not (list_any (λ e. gives_role role e.event) added)
-
-    last : (b : Bool) → (b || true) ≡ true
-    last true = refl
-    last false = refl
 
 pub too_many_missing : (opening : ShapeOpening) (entries : List Entry) (disks : ℕ) (missing : ℕ → Bool) → disks ≤ 32
     → ((role : ℕ) → role < disks → missing role ≡ true → IsTrue (is_gone_now entries role)) → opening.tolerance < count_below disks missing

@@ -15,7 +15,7 @@ use Rattle.lane_lock.specs.declared.view.Known.{Known}
 use Rattle.lane_lock.specs.declared.view.Hand.{Hand}
 use Rattle.lane_lock.specs.declared.view.View.{View}
 use Rattle.lane_lock.specs.Ways.{Ways, IsLawful, call_to}
-use Rattle.lane_lock.specs.Turns.{Board, Sat, Each, AllHands, Apart, fresh, known_as, hands_of, newcomer, spent, calm, copied, later_hands, first_hand, cut_left, cut_right, OnKnown, holding, resting, with_call, joined_known, joined, IsKnown, IsView, Home, Out, Opening, KeptBy, Kept, Took, Takes, Turned, hands_after, Releases, Starts, Learns, DiffersFrom, AreDistinct, callers_of, HasCaller, mine_by, StandsAt, mine_of, Called, Met, Gathered, Closed}
+use Rattle.lane_lock.specs.Turns.{Board, Sat, Each, AllHands, Apart, fresh, known_as, hands_of, newcomer, spent, calm, copied, later_hands, first_hand, cut_left, cut_right, OnKnown, holding, resting, with_call, joined_known, joined, IsKnown, IsView, Home, Out, Opening, KeptBy, Kept, Took, Takes, Turned, hands_after, Releases, Starts, Learns, DiffersFrom, AreDistinct, callers_of, HasCaller, mine_by, StandsAt, mine_of, Called, Closed}
 
 -- ---- lists
 
@@ -46,11 +46,6 @@ within [] i v e = absurd (some-ne-none v (sym e))
 within (x ∷ xs) zero v e = omega arith
 within (x ∷ xs) (suc i) v e = let r = within xs i v e in omega arith
 
-set_length : {V : Type 0} (l : List V) (i : ℕ) (v : V) → length (set l i v) ≡ length l
-set_length [] i v = refl
-set_length (x ∷ xs) zero v = refl
-set_length (x ∷ xs) (suc i) v = ap suc (set_length xs i v)
-
 same_words : (ws : List ℕ) (n : ℕ) → length ws ≡ 1 → n ≡ get_or ws 0 0 → set ws 0 n ≡ ws
 same_words [] n one is = absurd (omega arith)
 same_words (x ∷ xs) n one is = ap (λ (y : ℕ). y ∷ xs) is
@@ -68,10 +63,6 @@ hands_map P R (h ∷ hs) f all = (f h all.0, hands_map P R hs f all.1)
 hands_both : {Q : Type 0} (P R S : Hand Q → Type 0) (hs : List (Hand Q)) → ((h : Hand Q) → P h → R h → S h) → AllHands P hs → AllHands R hs → AllHands S hs
 hands_both P R S [] f p r = tt
 hands_both P R S (h ∷ hs) f p r = (f h p.0 r.0, hands_both P R S hs f p.1 r.1)
-
-hands_all : {Q : Type 0} (P : Hand Q → Type 0) (hs : List (Hand Q)) → ((h : Hand Q) → P h) → AllHands P hs
-hands_all P [] f = tt
-hands_all P (h ∷ hs) f = (f h, hands_all P hs f)
 
 hands_join : {Q : Type 0} (P : Hand Q → Type 0) (gs hs : List (Hand Q)) → AllHands P gs → AllHands P hs → AllHands P (gs ++ hs)
 hands_join P [] hs a b = b
@@ -1024,42 +1015,6 @@ module _ {T Q A : Type 0} (w : Ways T Q A) where
             subst (λ (z : List (Hand Q)). w.Made t.start y c (mine_of z)) (sym e) (subst (λ (d : ℕ). w.Made t.start y d h.mine) is made'),
             ap (λ (z : List (Hand Q)). callers_of z) e ∙ ap (λ (d : ℕ). d ∷ []) is,
           )
-
-  -- ---- what a meeting tells
-
-  seen_same : (a b : T) (t : Bool) → nat_lt (w.size a) (w.size b) ≡ t → (if t then b else a) ≡ (if nat_lt (w.size (if t then b else a)) (w.size b) then b else (if t then b else a))
-  seen_same a b true e = elim (nat_lt (w.size b) (w.size b)) as (λ (t : Bool). b ≡ (if t then b else b)) [ true ↦ refl | false ↦ refl ]
-  seen_same a b false e = sym (ap (λ (t : Bool). if t then b else a) e)
-
-  abbrev MetBy : (v u x z : Option (Known T)) → Type 0
-  MetBy v u x z =
-      MatchOption x ⊥ (λ k. MatchOption z ⊥ (λ j. k.seen ≡ j.seen))
-      × MatchOption v ⊥ (λ a. MatchOption x ⊥ (λ k. w.Begins a.seen k.seen))
-      × MatchOption u ⊥ (λ a. MatchOption x ⊥ (λ k. w.Begins a.seen k.seen))
-      × MatchOption v ⊥ (λ a. MatchOption x ⊥ (λ k. k.start ≡ a.start))
-      × IsSome x × IsSome z
-
-  met_by : (v u : Option (Known T)) → IsSome v → IsSome u → MatchOption (joined_known w v u) ⊤ (λ k. w.Begins k.one k.seen × w.Begins k.two k.seen)
-      → MetBy v u (joined_known w v u) (joined_known w (joined_known w v u) u)
-  met_by (Some a) (Some b) p q told = (seen_same a.seen b.seen (nat_lt (w.size a.seen) (w.size b.seen)) refl, told.0, told.1, refl, refl, refl)
-  met_by (Some a) None p q told = absurd (cc)
-  met_by None (Some b) p q told = absurd (cc)
-  met_by None None p q told = absurd (cc)
-
-  pub meets : (v u x z : View T Q) → x.known ≡ joined_known w v.known u.known → z.known ≡ joined_known w x.known u.known → IsSome v.known → IsSome u.known
-      → MatchOption x.known ⊤ (λ k. w.Begins k.one k.seen × w.Begins k.two k.seen) → Met w v u x z × IsSome x.known × IsSome z.known
-  meets v u x z e f p q told =
-      let told' : MatchOption (joined_known w v.known u.known) ⊤ (λ k. w.Begins k.one k.seen × w.Begins k.two k.seen) =
-      subst (λ (o : Option (Known T)). MatchOption o ⊤ (λ k. w.Begins k.one k.seen × w.Begins k.two k.seen)) e told in
-      let f' : z.known ≡ joined_known w (joined_known w v.known u.known) u.known = f ∙ ap (λ (o : Option (Known T)). joined_known w o u.known) e in
-      let all : MetBy v.known u.known x.known z.known = subst (λ (t : Option (Known T) × Option (Known T)). MetBy v.known u.known t.0 t.1) (λ i. (sym e i, sym f' i)) (met_by v.known u.known p q told') in
-      (record { seen = all.0; first = all.1; second = all.2; starts = all.3 }, all.4, all.5)
-
-  pub gathers : (v u x : View T Q) → x.known ≡ joined_known w v.known u.known → IsSome v.known → IsSome u.known
-      → MatchOption x.known ⊤ (λ k. w.Begins k.one k.seen × w.Begins k.two k.seen) → Gathered w v u x × IsSome x.known
-  gathers v u x e p q told =
-      let met = meets v u x (joined w x u) e refl p q told in
-      (record { first = met.0.first; second = met.0.second; starts = met.0.starts }, met.1)
 
   -- ---- the start and the end
 

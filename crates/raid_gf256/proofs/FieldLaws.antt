@@ -390,10 +390,3 @@ product-inverse a h pos =
     let e : log_of a + (255 - log_of a) ≡ 255 = omega arith in
     ap (λ (x : ℕ). product x (power_of_two (255 - log_of a))) (sym l.value)
     ∙ product-powers (log_of a) (255 - log_of a) ∙ ap power_of_two e ∙ power-cycle
-
--- a product of two elements that are not zero is not zero
-pub product-nonzero : (a b : ℕ) → a < 256 → b < 256 → 0 < a → product a b ≡ 0 → b ≡ 0
-product-nonzero a b ha hb pos e =
-    let i = inverse-lt a in
-    sym (product-one_l b) ∙ ap (λ (x : ℕ). product x b) (sym (product_comm (inverse a) a i ha ∙ product-inverse a ha pos))
-    ∙ product_assoc (inverse a) a b i ha hb ∙ ap (product (inverse a)) e ∙ product-zero_r (inverse a)

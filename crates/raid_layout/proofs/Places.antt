@@ -1,5 +1,5 @@
 -- Sectors and their places: one place for each sector, and a sector for each place without parity.
-use Rattle.std.proofs.Common.{◌≡◌, ◌≢◌, ℕ, ◌+◌, ◌*◌, ◌^◌, ◌/◌, ◌%◌, ◌<◌, ◌≤◌, ◌⊎◌, inl, inr, true, Option, Some, None, refl, sym, ◌∙◌, ap, subst, arith}
+use Rattle.std.proofs.Common.{◌≡◌, ◌≢◌, ℕ, ◌+◌, ◌*◌, ◌^◌, ◌/◌, ◌%◌, ◌<◌, ◌≤◌, ◌⊎◌, inl, inr, true, Option, Some, None, sym, ◌∙◌, ap, subst, arith}
 use Rattle.std.proofs.lemmas.Bool.{cases_eq}
 use Rattle.std.proofs.lemmas.Bool.Decides.{nat_tests}
 use Rattle.std.proofs.Math.Nat.{div-mul-le_self, mod-le}
@@ -8,9 +8,9 @@ use Rattle.raid_types.specs.declared.places.Shape.{Shape}
 use Rattle.raid_types.specs.declared.places.Place.{Place}
 use Rattle.raid_types.specs.declared.places.RowRoles.{RowRoles}
 use Rattle.raid_types.specs.Shapes.{is_valid_shape, is_multiple, data_disks}
-use Rattle.raid_layout.specs.Layout.{stripe_p, stripe_q, stripe_data, row_roles, stripe_of, data_index, place, IsParity, StandsAt}
+use Rattle.raid_layout.specs.Layout.{stripe_p, stripe_q, stripe_data, row_roles, stripe_of, data_index, place, IsParity}
 use Rattle.raid_layout.proofs.Limits.{IsLimited, limited}
-use Rattle.raid_layout.proofs.Stripes.{ring, stripe_roles, stripe_data-below, stripe_data-only, stripe_data-not_parity, data_on, stripe_p-below, stripe_q-apart, stripe_q-some, stripe_q-none}
+use Rattle.raid_layout.proofs.Stripes.{ring, stripe_roles, stripe_data-below, stripe_data-only, stripe_data-not_parity, data_on, stripe_p-below, stripe_q-apart}
 
 pub chunk_some : (shape : Shape) → is_valid_shape shape ≡ true → 0 < shape.chunk
 chunk_some shape valid = let limits : IsLimited shape = limited shape valid in omega (arith, limits.chunk.0)
@@ -121,13 +121,6 @@ place-apart shape valid r row parity x same = place-not_parity shape valid x
       | inr q ↦ inr (ap (λ n. stripe_q shape (n / shape.chunk)) (place_row _ _ same) ∙ q ∙ ap (λ r. Some r) (sym (place_role _ _ same)))
     ])
 
--- one thing stands at a place
-pub StandsAt-only : (shape : Shape) → is_valid_shape shape ≡ true → (r row : ℕ) (found other : Option ℕ) → StandsAt shape r row found → StandsAt shape r row other → found ≡ other
-StandsAt-only shape valid r row None None h k = refl
-StandsAt-only shape valid r row None (Some y) h k = absurd (h y k)
-StandsAt-only shape valid r row (Some x) None h k = absurd (k x h)
-StandsAt-only shape valid r row (Some x) (Some y) h k = ap (λ z. Some z) (place-only shape valid x y (h ∙ sym k))
-
 -- the number of a sector fits 64 bits, where its row is below 2 ^ 53
 pub sector-fits : (row c d i : ℕ) → row < 2 ^ 53 → c ≤ 1024 → d ≤ 16 → i < d → (row / c * d + i) * c + row % c < 2 ^ 58
 sector-fits row c d i hr hc hd hi =
@@ -137,17 +130,6 @@ sector-fits row c d i hr hc hd hi =
     let rest : row % c ≤ row = mod-le row c in
     let same : (row / c * d + i) * c ≡ row / c * c * d + i * c = omega arith in
     omega (arith, whole, rows, chunks, rest, same)
-
--- two sectors on one role in one row are one
-pub place-only_in_row : (shape : Shape) → is_valid_shape shape ≡ true → (x y : ℕ) → (place shape x).role ≡ (place shape y).role → (place shape x).row ≡ (place shape y).row → x ≡ y
-place-only_in_row shape valid x y roles rows = place-only shape valid x y (same _ _ _ _ roles rows)
-  where
-    same : (a b m n : ℕ) → a ≡ b → m ≡ n → (let p : Place = record { role = a; row = m } in p) ≡ record { role = b; row = n }
-    same a b m n e f = cc
-
--- different sectors have different places
-pub place-different : (shape : Shape) → is_valid_shape shape ≡ true → (x y : ℕ) → x ≢ y → place shape x ≢ place shape y
-place-different shape valid x y different same = different (place-only shape valid x y same)
 
 -- the sectors in rows below the size are the first ones
 first_sector : (s i o c d m : ℕ) → i < d → o < c → s * c + o < m * c → (s * d + i) * c + o < d * (m * c)
@@ -191,9 +173,3 @@ row_roles-p_below shape valid row = stripe_p-below shape valid (row / shape.chun
 
 pub row_roles-q_apart : (shape : Shape) → is_valid_shape shape ≡ true → (row q : ℕ) → (row_roles shape row).q ≡ Some q → (q < shape.disks) × (q ≢ (row_roles shape row).p)
 row_roles-q_apart shape valid row q e = stripe_q-apart shape valid (row / shape.chunk) q e
-
-pub row_roles-q_some : (shape : Shape) → is_valid_shape shape ≡ true → (row : ℕ) → shape.level ≡ 6 → (q : ℕ) × ((row_roles shape row).q ≡ Some q)
-row_roles-q_some shape valid row six = stripe_q-some shape valid (row / shape.chunk) six
-
-pub row_roles-q_none : (shape : Shape) (row : ℕ) → shape.level ≡ 5 → (row_roles shape row).q ≡ None
-row_roles-q_none shape row five = stripe_q-none shape (row / shape.chunk) five

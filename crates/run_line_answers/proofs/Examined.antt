@@ -1,47 +1,27 @@
 -- A slot's superblock was looked at: nothing else has changed.
-use Rattle.std.proofs.Common.{◌≡◌, ℕ, ◌<◌, ◌≤◌, Option, List, ◌∷◌, [], ◌++◌, length, refl, sym, ◌∙◌, ap, subst, Result, Ok, Err}
+use Rattle.std.proofs.Common.{◌≡◌, ℕ, ◌<◌, ◌≤◌, Option, List, ◌∷◌, [], ◌++◌, length, refl, sym, subst, Result, Ok, Err}
 use Rattle.std.specs.Prelude.{IfOk, OnErr, IsErr}
 use Rattle.std.specs.Global.{Vec}
 use Rattle.run_requests.specs.raid_types_the_Refusal.{Refusal}
 use Rattle.run_requests.specs.raid_types_the_Refusal_TheVariants.{SlotFault}
-use Rattle.run_requests.specs.bank_Given.{Given, IsFaulted}
+use Rattle.run_requests.specs.bank_Given.{IsFaulted}
 use Rattle.run_requests.specs.bank_the_BankFault.{BankFault}
 use Rattle.run_requests.specs.bank_the_Operation.{Operation}
 use Rattle.run_requests.specs.bank_Tape.{contents}
 use Rattle.run_requests.specs.sb_codec_the_Sb.{Sb}
 use Rattle.run_requests.specs.sb_codec_Superblock.{superblock_in}
 use Rattle.run_requests.specs.history_the_Epoch.{Epoch}
-use Rattle.run_requests.specs.history_Reopened.{OpensAccepted}
 use Rattle.run_requests.specs.array_specs_Parts.{RunningParts}
-use Rattle.run_requests.specs.array_members_Parts.{Parts}
 use Rattle.run_requests.specs.script_the_Line_TheVariants.{Examine}
 use Rattle.run_requests.specs.run_specs_the_Answered_TheVariants.{Outside as IsOutside}
 use Rattle.run_requests.specs.run_specs_the_Outside_TheVariants.{Refused}
 use Rattle.run_requests.specs.run_specs_the_State_TheVariants.{Idle, Running}
-use Rattle.run_requests.specs.run_specs_Ended.{AreFormer, IsGoing}
 use Rattle.run_requests.specs.run_specs_Examining.{IsExamined, IsUnexamined, told_of}
 use Rattle.run_requests.specs.run_specs_Histories.{histories_of}
-use Rattle.run_requests.specs.run_specs_Making.{Setting, world_at, AreHeldSince}
+use Rattle.run_requests.specs.run_specs_Making.{Setting}
 use Rattle.run_requests.specs.run_specs_States.{IsTurn, RunsOwn, running_history}
 use Rattle.run_line_answers.proofs.Turns.{grown_kept}
 use Rattle.run_requests.proofs.run_specs_Losses.{losses-kept}
-
--- what is kept of the arrays that ran stays so over the same tape
-pub former_stays : {tells : Type 0} {before after : List Operation} (given : Given) (backup : Option ℕ) (epochs : List Epoch) → (tells → after ≡ before)
-    → (tells → AreFormer given before backup (length before) epochs) → tells → AreFormer given after backup (length after) epochs
-former_stays given backup epochs same was t = subst (λ (l : List Operation). AreFormer given l backup (length l) epochs) (sym (same t)) (was t)
-
--- and so of the one that runs
-pub going_stays : {B tells : Type 0} {before after : List Operation} (given : Given) (backup : Option ℕ) (array : Parts B) (bank : B) (epochs : List Epoch) → (tells → after ≡ before)
-    → IsGoing tells given before backup array epochs → IsGoing tells given after backup (record array { bank = bank }) epochs
-going_stays {after = after} given backup array bank epochs same was = record {
-  backup_is = was.backup_is;
-  former = λ t. subst (λ (l : List Operation). AreFormer given l backup array.first epochs) (sym (same t)) (was.former t);
-  begun = λ t. subst (λ (l : List Operation). array.first ≤ length l) (sym (same t)) (was.begun t);
-  accepted = λ t. subst (λ (l : List Operation). OpensAccepted (world_at given l backup (running_history array))) (sym (same t)) (was.accepted t);
-  held = λ t. subst (λ (l : List Operation). AreHeldSince (world_at given l backup (running_history array)) array.entries array.members) (sym (same t)) (was.held t);
-  ended = λ t. was.ended t ∙ sym (ap (λ (l : List Operation). length l) (same t));
-}
 
 -- what was found is what stands there
 pub looked_at : (setting : Setting) (before : List Operation) (slot : ℕ) (r : Result (Option Sb) BankFault) → slot < setting.given.slots → (setting.tells → setting.tape ≡ before)

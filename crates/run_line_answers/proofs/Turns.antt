@@ -35,7 +35,6 @@ use Rattle.run_requests.specs.history_Plain.{entries_of}
 use Rattle.run_requests.specs.history_OneShape.{OneShapeAnswers}
 use Rattle.run_requests.specs.history_Transfers.{last_end_from}
 use Rattle.run_requests.proofs.history_OneShapeLegal.{last-snoc}
-use Rattle.run_requests.proofs.history_laws_OneShapeGrowing.{call-ends}
 use Rattle.run_requests.specs.history_World.{World, opening_list}
 use Rattle.run_requests.specs.history_Opened.{OpensSound}
 use Rattle.run_requests.specs.bank_Given.{sizes}
@@ -72,11 +71,6 @@ use Rattle.run_requests.proofs.Called.{HasCalled, called_none, called_once, call
 use Rattle.run_requests.proofs.Waits.{waiting_at, waiting_called, waited_called, waited_reply}
 use Rattle.run_requests.proofs.run_specs_Losses.{losses-kept, losses-last, losses-same, losses-came, losses-found, each-absent}
 use Rattle.run_line_answers.proofs.Found.{IsFoundHere, found_world, found_history, still-length, stored_made}
-
--- its entries end where it began
-pub opening_end : (first : ℕ) (events : List Event) → last_end_from first (entries_of opener first events) ≡ first
-opening_end first [] = refl
-opening_end first (event ∷ events) = call-ends first [] opener first event events
 
 -- nor does it count as one
 -- the opening calls as nobody else

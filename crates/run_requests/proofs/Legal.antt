@@ -104,9 +104,6 @@ next_within tape (f ∷ epochs) (one, rest) = let later = next_within tape epoch
 
 -- ---- what is kept, as the tape grows
 
-longer_than : (before more : List Operation) → length before ≤ length (before ++ more)
-longer_than before more = let long = length-append before more in omega (arith, long)
-
 -- the arrays that ran before
 pub former_grown : {tells : Type 0} {before after : List Operation} (given : Given) (backup : Option ℕ) (a b : ℕ) (epochs : List Epoch) → Grows tells before after → tells → a ≤ b → AreFormer given before backup a epochs → AreFormer given after backup b epochs
 former_grown {before = before} {after = after} given backup a b epochs grows told le was =

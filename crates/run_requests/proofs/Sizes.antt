@@ -1,5 +1,5 @@
 -- How long the list is behind the entries of a call.
-use Rattle.std.proofs.Common.{◌≡◌, ◌⊎◌, inl, inr, ℕ, List, [], ◌∷◌, ◌++◌, Result, Ok, Err, refl, sym, ◌∙◌, ap, append-nil, append_assoc}
+use Rattle.std.proofs.Common.{◌≡◌, ◌⊎◌, inl, inr, ℕ, List, [], ◌∷◌, ◌++◌, Result, Ok, Err, refl, sym, ◌∙◌, ap, append-nil}
 use Rattle.std.proofs.lemmas.List.Sums.{fold-append}
 use Rattle.std.proofs.lemmas.List.Elements.{All-push, All-head, All-tail, All-weaker}
 use Rattle.std.specs.List.{All}
@@ -42,13 +42,6 @@ sized-now {a = a} {b = b} {old = old} {new = new} was sized = (before, of (tells
 
 pub sized-none : {a b : ℕ} {old new : List Entry} → b ≡ a → new ≡ old → IsSizedBy a b old new
 sized-none {old = old} same is = record { more = []; grown = is ∙ sym (append-nil old); sized = same }
-
-pub sized-then : {a b c : ℕ} {old mid new : List Entry} → IsSizedBy a b old mid → IsSizedBy b c mid new → IsSizedBy a c old new
-sized-then {a = a} {old = old} one two = record {
-  more = one.more ++ two.more;
-  grown = two.grown ∙ ap (λ (l : List Entry). l ++ two.more) one.grown ∙ append_assoc old one.more two.more;
-  sized = two.sized ∙ ap (λ (n : ℕ). length_of n two.more) one.sized ∙ sym (fold-append step a one.more two.more);
-}
 
 -- ---- a call that tells no length
 

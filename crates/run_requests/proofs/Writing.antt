@@ -30,7 +30,7 @@ use Rattle.run_specs.specs.array_create_assemble_Made.{HasCreateCause}
 use Rattle.run_specs.specs.script_the_CreateLine.{CreateLine}
 use Rattle.run_specs.specs.script_the_Line.{Line}
 use Rattle.run_specs.specs.script_the_Line_TheVariants.{Create}
-use Rattle.run_specs.specs.declared.report.Outside.TheVariants.{Created, Refused}
+use Rattle.run_specs.specs.declared.report.Outside.TheVariants.{Refused}
 use Rattle.run_specs.specs.declared.report.Answered.{Answered}
 use Rattle.run_specs.specs.declared.report.Answered.TheVariants.{Outside as IsOutside}
 use Rattle.run_specs.specs.declared.states.State.{State}
@@ -237,18 +237,3 @@ module _ (setting : Setting) (old : List Operation) (began : setting.began ≡ l
     pub create_short : HasCreateCause setting.tells setting.given c setting.backup (spec_of line) before now WantsMemory → IsWritten setting (histories_of olds) (histories_of news) (MayWrite setting.given setting.backup false (Create line))
     create_short (inl (other, is, told)) = absurd (cc)
     create_short (inr (none, late)) = idle_below (MayWrite setting.given setting.backup false (Create line)) line.shape.disks below (λ slot lt. (none, lt))
-
--- what a line has written it may write
-may-write : (given : Given) (backup : Option ℕ) (line : Line) (what : Answered) (slot : ℕ) → HasWritten given backup line what slot → MayWrite given backup false line slot
-may-write given backup line (IsOutside Created) slot is = is
-may-write given backup line (IsOutside (Refused (SlotFault failed))) slot is = is
-may-write given backup line what slot is = absurd is
-
--- an answer whose text found no memory
-pub written-untold : (setting : Setting) (olds news : List History) (line : Line) (what : Answered) → IsWritten setting olds news (HasWritten setting.given setting.backup line what)
-    → IsWritten setting olds news (MayWrite setting.given setting.backup false line)
-written-untold setting olds news line what was = record { spans = was.spans; kept = was.kept; placed = λ mark slot at body from there. by_place mark slot (was.placed mark slot at body from there) }
-  where
-    by_place : (mark slot : ℕ) → IsInEpoch news mark ⊎ HasWritten setting.given setting.backup line what slot → IsInEpoch news mark ⊎ MayWrite setting.given setting.backup false line slot
-    by_place mark slot (inl is) = inl is
-    by_place mark slot (inr is) = inr (may-write setting.given setting.backup line what slot is)

@@ -615,11 +615,3 @@ module _ {B : Type 0} (tells : Type 0) (lines : List Numbered) (session : Sessio
     cause = subst (λ (o : Option Stop). IsStopCause o faults faults) (sym going) tt;
     never_falls = omega arith;
   }
-
-  pub shown_short : session.stopped ≡ Some WantsMemory → IsShownTo tells lines session taken taken faults faults
-  shown_short short = record {
-    taken = λ t. subst (λ (o : Option Stop). IsTaken o taken taken (length (report_text (histories_in session.state) lines (taken_whole o session.replies.items))) (report_text (histories_in session.state) lines session.replies.items)) (sym short) none_taken;
-    shown = subst (λ (o : Option Stop). session.shown ≡ counted (length (report_text (histories_in session.state) lines (taken_whole o session.replies.items)))) (sym short) none_shown;
-    cause = subst (λ (o : Option Stop). IsStopCause o faults faults) (sym short) tt;
-    never_falls = omega arith;
-  }

@@ -163,20 +163,6 @@ pub get-last : (xs : List Entry) (e : Entry) → slice_get (xs ++ e ∷ []) (len
 get-last [] e = refl
 get-last (x ∷ xs) e = get-last xs e
 
--- the reply of a call tells its event
-pub replied_entry : {size : ℕ} {request : Request} {who : Who} {old new : List Entry} {event : Event} (place : ℕ) → IsReplied size request who old new event → place + 1 ≡ length new → (x : Entry) → slice_get new place ≡ Some x → x.event ≡ event
-replied_entry {who = who} {old = old} {new = new} {event = event} place was at_end x there =
-    let e = one who was.end event in
-    let before : List Entry = old ++ entries_of who was.end was.inner in
-    let whole : new ≡ before ++ e ∷ [] = last_alone old who was.end was.inner event was.is ∙ sym (append_assoc old (entries_of who was.end was.inner) (e ∷ [])) in
-    let long = ap (λ (l : List Entry). length l) whole ∙ length-append before (e ∷ []) in
-    let at : place ≡ length before = omega (arith, at_end, long) in
-    let is : slice_get new place ≡ Some e = ap (λ (l : List Entry). slice_get l place) whole ∙ ap (λ (n : ℕ). slice_get (before ++ e ∷ []) n) at ∙ get-last before e in
-    ap (λ (y : Entry). y.event) (some_same (sym there ∙ is))
-  where
-    some_same : {a b : Entry} → Some a ≡ Some b → a ≡ b
-    some_same same = cc
-
 -- the entry of the reply
 pub entry_there : {size : ℕ} {line : Line} {old new : List Entry} {place : ℕ} (asked : IsAskedAt size line old new place) → slice_get new place ≡ Some (one (script_who old) asked.end asked.event)
 entry_there {old = old} {new = new} {place = place} asked =

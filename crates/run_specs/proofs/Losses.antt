@@ -24,15 +24,14 @@ use Rattle.array_requests.specs.sb_specs_Reading.{Reading, is_whole, role_state}
 use Rattle.array_requests.specs.sb_specs_Reads.{has_spare}
 use Rattle.array_requests.specs.stripe_row_Rows.{is_missing}
 use Rattle.array_requests.specs.array_call_specs_Adopting.{opener, found_loss, absent_loss, absent_losses}
-use Rattle.array_requests.specs.array_call_specs_Calls.{IsRoleLossBy, IsLossBy, WasSpare, AreLossesBy, AreLossesOf, AreSparesFewer, IsSameArray, IsEntered}
+use Rattle.array_requests.specs.array_call_specs_Calls.{IsRoleLossBy, IsLossBy, WasSpare, AreLossesBy, AreLossesOf, AreSparesFewer, IsEntered}
 use Rattle.array_requests.specs.array_members_Rebuilding.{Held, MayHold}
 use Rattle.array_requests.specs.array_members_Placed.{AreStillHeld}
 use Rattle.array_requests.specs.array_reply_specs_Going.{may_drop, MayBeDropped, MayHoldBehind, WasSpareOrHolder, AreHeldBehind, AreLossesAlong}
 use Rattle.array_requests.specs.array_members_Moving.{Grows}
 use Rattle.run_specs.specs.Histories.{History}
 use Rattle.run_specs.specs.Making.{Setting, world_at, history_world, HeldAtFirst, MissingAtFirst, SpareAtFirst, is_added, IsSpareSince, MayHaveHeld, AreHeldSince}
-use Rattle.run_specs.specs.States.{running_history, IsRoleLossSince, IsRefusalSince, IsLossSince, with_entries, AreLossesBehind, AreLossesSince, AreLossesFrom, AreGrown}
-use Rattle.array_requests.specs.array_members_Parts.{Parts}
+use Rattle.run_specs.specs.States.{IsRoleLossSince, IsRefusalSince, IsLossSince, with_entries, AreLossesBehind, AreLossesSince, AreLossesFrom, AreGrown}
 use Rattle.run_specs.proofs.AskLaws.{one}
 use Rattle.run_specs.proofs.Causes.{faulted-wider}
 use Rattle.run_specs.proofs.Growth.{IsWider, world_stays}
@@ -56,14 +55,6 @@ pub record IsHistoryLater (old new : History) : Type 0 where
 
 opened-same : (history : History) → IsSameOpening history history
 opened-same history = record { uuid = refl; given = refl; first = refl }
-
-pub later-same : (history : History) → IsHistoryLater history history
-later-same history = record { same = opened-same history; more = []; grown = sym (append-nil history.entries) }
-
--- so it is behind a call of an array
-pub later-of : {B tells : Type 0} {before after : World} {Had : ℕ → ℕ → Type 0} {Was : ℕ → Type 0} {f g : ℕ → ℕ} {old new : Parts B} → IsSameArray tells old new before after → AreLossesBy Had Was f g old.entries new.entries
-    → IsHistoryLater (running_history old) (running_history new)
-later-of same lost = record { same = record { uuid = same.uuid; given = same.given; first = same.first }; more = lost.more; grown = lost.grown }
 
 -- what some entry tells stays told
 told-more : (passes : Entry → Bool) (entries more : List Entry) → IsTrue (list_any passes entries) → IsTrue (list_any passes (entries ++ more))
@@ -235,9 +226,6 @@ alike-before old new same before = record { same = record { uuid = same.uuid; gi
 -- the history of an array, as it stood before a call
 before-of : (old new : History) → IsSameOpening old new → IsHistoryLater old (with_entries old.entries new)
 before-of old new same = record { same = record { uuid = same.uuid; given = same.given; first = same.first }; more = []; grown = sym (append-nil old.entries) }
-
-pub opening-of : {B tells : Type 0} {before after : World} {old new : Parts B} → IsSameArray tells old new before after → IsSameOpening (running_history old) (running_history new)
-opening-of same = record { uuid = same.uuid; given = same.given; first = same.first }
 
 pub held-before : {tells : Type 0} {before after : List Operation} (given : Given) (backup : Option ℕ) (old new : History) (members : Members) → Grows tells before after → IsSameOpening old new
     → (tells → AreHeldSince (world_at given before backup old) old.entries members) → tells → AreHeldSince (world_at given after backup new) old.entries members

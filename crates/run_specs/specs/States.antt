@@ -47,11 +47,6 @@ abbrev pub bank_in : {B : Type 0} → State B → B
 bank_in (Idle bank epochs) = bank
 bank_in (Running array epochs) = array.parts.bank
 
--- the entries of the array that runs
-abbrev pub entries_in : {B : Type 0} → State B → List Entry
-entries_in (Idle bank epochs) = []
-entries_in (Running array epochs) = array.parts.entries
-
 -- where a run stands while an array runs, behind so many others
 abbrev pub course_with : {B : Type 0} → ℕ → RunningParts B → Course
 course_with before array = record { opened = before + 1; running = true; calls = λ lane. next_number (caller_of lane) array.parts.entries; size = list_length array.parts.members.newest; block = [] }

@@ -1,5 +1,5 @@
 -- Sums of words of bytes that stand one behind the other.
-use Rattle.std.proofs.Common.{◌≡◌, ℕ, zero, suc, ◌+◌, ◌-◌, ◌*◌, ◌%◌, ◌^◌, ◌<◌, ◌≤◌, List, [], ◌∷◌, ◌++◌, length, drop, refl, sym, ap, ◌∙◌, arith, length-append, drop_at}
+use Rattle.std.proofs.Common.{◌≡◌, ℕ, zero, suc, ◌+◌, ◌-◌, ◌*◌, ◌%◌, ◌^◌, ◌<◌, ◌≤◌, List, [], ◌∷◌, ◌++◌, length, drop, sym, ap, ◌∙◌, arith, length-append, drop_at}
 use Rattle.std.proofs.lemmas.List.{drop-drop}
 use Rattle.byteorder.specs.Endian.{little_number}
 use Rattle.sb_codec.specs.Superblock.{word_sum}
@@ -23,17 +23,6 @@ word_sum-word (p ∷ []) rest four = absurd (omega arith)
 word_sum-word (p ∷ q ∷ []) rest four = absurd (omega arith)
 word_sum-word (p ∷ q ∷ r ∷ []) rest four = absurd (omega arith)
 word_sum-word (p ∷ q ∷ r ∷ s ∷ t ∷ word) rest four = absurd (omega arith)
-
--- a last half
-pub word_sum-half : (half : List ℕ) → length half ≡ 2 → word_sum half ≡ little_number 2 half
-word_sum-half (p ∷ q ∷ []) two = omega arith
-word_sum-half [] two = absurd (omega arith)
-word_sum-half (p ∷ []) two = absurd (omega arith)
-word_sum-half (p ∷ q ∷ r ∷ half) two = absurd (omega arith)
-
-pub word_sum-none : (none : List ℕ) → length none ≡ 0 → word_sum none ≡ 0
-word_sum-none [] h = refl
-word_sum-none (p ∷ none) h = absurd (omega arith)
 
 -- the total of all words but those in the rest
 pub record IsSummed (bytes rest : List ℕ) (size total : ℕ) : Type 0 where

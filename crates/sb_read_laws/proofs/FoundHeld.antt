@@ -357,13 +357,7 @@ module _ (scope : Scope) (c : Contents) (d : ℕ → ℕ → List Sector) (m : M
       of (Some r) e live = role-part s r (role-holder s m.roles r e)
       of None e live = spare-part s (drop_first (list_any (is_held_by s) m.roles) (has_spare m.spares s) (sym (some_role s 0 m.roles) ∙ ap is_some e) live)
 
-  part-live : (s : ℕ) → HasPart s → has_slot (set_of 32 (is_live m.roles m.spares)) s ≡ true
-  part-live s p = ⊎_elim (λ role. role-live s role.0 p.0 role.1 p.1 role.2) (λ spare. spare-live s p.0 p.1 spare) p.2
-
   -- ---- a slot that is known
-
-  abbrev known : ℕ
-  known = set_of 32 (is_live m.roles m.spares)
 
   record IsGood (s : ℕ) (sb : Sb) : Type 0 where
     pub fresh : is_fresh m.newest sb ≡ true

@@ -81,9 +81,6 @@ module _ (scope : Scope) (known gone : ℕ) (former : Sb) (own : List (Option Sb
       (each : (s : ℕ) → s < scope.sizes.slots → s ≢ r → Old s ⊎ ((is : has_slot left s ≡ true) × By other s is))
       (still : (s : ℕ) → s ≢ r → has_slot left s ≡ true → is_recovery (give_of gives s) ≡ false)
       (top : (t : ℕ) × (is : has_slot left t ≡ true) × By newest t is) (below : (s : ℕ) (sb : Sb) → s < top.0 → own_at scope s (c s) ≡ Some sb → sb.events < newest.events) where
-    top_there : top.0 < scope.sizes.slots
-    top_there = (held.each top.0 (sub top.0 top.1)).there
-
     same_sb : (s : ℕ) (is is' : has_slot known s ≡ true) → (held.each s is).sb ≡ (held.each s is').sb
     same_sb s is is' = let k = held.each s is in let k' = held.each s is' in let both : Some k.sb ≡ Some k'.sb = sym k.own ∙ k'.own in cc
 

@@ -125,9 +125,6 @@ module _ (scope : Scope) (members : Members) (change : Change) (before live know
   there = ready.there
 
   module _ (n : ℕ) (b : Round) (at : IsAt scope members change before live Unnamed n b) (small : members.newest.events + 2 + n < 2 ^ 62) where
-    next : Sb
-    next = naming members change before b.lost b.newest
-
     left : ℕ
     left = left_set scope.sizes.slots live b.lost
 

@@ -179,9 +179,6 @@ module _ (scope : Scope) (known lost : ℕ) (former : Sb) (own : List (Option Sb
         let same : l.0 ≡ record r.0 { sb_csum = r.1.0 } = (let both : Some l.0 ≡ Some (record r.0 { sb_csum = r.1.0 }) = sym l.1 ∙ r.1.1 in cc) in
         (r.0, r.1, r.2, ap (λ (z : Sb). z.events) (sym same) ∙ l.2)
 
-    same_new : (s : ℕ) (is is' : has_slot left s ≡ true) (found : Option Sb) → New s is found → New s is' found
-    same_new s is is' found new = subst (λ (sb : Sb). IsStamped (planned newest (give_of gives s) sb) found) (same_sb s (sub s is) (sub s is')) new
-
     -- what a written slot may have is as new as the former newest, or planned
     round_read : (e : Disk) → IsTaking newest gives own left d e → (s : ℕ) (is : has_slot left s ≡ true) (found : Option Sb) → MayRead scope e s found
         → (MayRead scope d s found) ⊎ New s is found

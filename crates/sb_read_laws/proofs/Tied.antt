@@ -76,13 +76,6 @@ same_is : (role : ℕ) (found : Option ℕ) → is_same role found ≡ true → 
 same_is role None is = absurd (cc)
 same_is role (Some other) is = ap (λ (n : ℕ). Some n) (equal other role is)
 
-is_its_role : (role : ℕ) (found : Option ℕ) → found ≡ Some role → is_same role found ≡ true
-is_its_role role found is = ap (is_same role) is ∙ self role
-
-or_false : (a b : Bool) → a ≡ false → (a || b) ≡ true → b ≡ true
-or_false true b e h = absurd (cc)
-or_false false b e h = h
-
 some_if : (b : Bool) (state : Role) (found : Role) → cond b (Some state) None ≡ Some found → (b ≡ true) × (state ≡ found)
 some_if true state found is = (refl, let it : state ≡ found = cc in it)
 some_if false state found is = absurd (cc)
@@ -150,9 +143,6 @@ module _ (scope : Scope) (known lost0 before lost left : ℕ) (members : Members
 
   abbrev was : ℕ → Option Sb
   was = known_at known members.own
-
-  abbrev now : ℕ → Option Sb
-  now = known_at left own'
 
   -- ---- the slots that are left
 
@@ -286,9 +276,6 @@ module _ (scope : Scope) (known lost0 before lost left : ℕ) (members : Members
   state-is s r is Spare has = absurd (cc)
 
   -- ---- the roles
-
-  abbrev is_holder : ℕ → ℕ → Bool
-  is_holder r s = is_planned_holder members.roles change.gives lost r s
 
   planned-left : (r s : ℕ) → is_planned_holder members.roles change.gives lost r s ≡ true → (has_slot left s ≡ true) × (role s ≡ Some r)
   planned-left r s so =

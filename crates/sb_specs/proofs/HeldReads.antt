@@ -1,5 +1,5 @@
 -- Each image of the slots of a running array reads as the known superblocks say.
-use Rattle.std.proofs.Common.{◌≡◌, ◌≢◌, inl, inr, ℕ, ◌<◌, ◌≤◌, true, false, cond, List, get_or, Option, Some, None, refl, sym, ◌∙◌, ap, subst, arith}
+use Rattle.std.proofs.Common.{◌≡◌, ◌≢◌, inl, inr, ℕ, ◌<◌, ◌≤◌, true, false, cond, List, get_or, Option, Some, None, refl, sym, ◌∙◌, subst, arith}
 use Rattle.std.proofs.lemmas.Bool.{cases_lt}
 use Rattle.std.proofs.lemmas.List.{get_or_past}
 use Rattle.reshape_geometry.specs.raid_types_Shapes.{has_slot}
@@ -69,17 +69,6 @@ read-like scope lost newest Y c sound like =
 
 pub drawn-may_read : (scope : Scope) (d : ℕ → ℕ → List (List ℕ)) (c : Contents) (slot : ℕ) → AreDrawn d c → MayRead scope d slot (own_at scope slot (c slot))
 drawn-may_read scope d c slot drawn = record { at = c slot; eighth = (drawn slot).0; ninth = (drawn slot).1; is = refl }
-
--- a superblock and what is read of it, which may have another checksum
-pub stamped-part : (newest : Sb) (len lost slot csum : ℕ) (sb : Sb) → HaveSamePart newest len lost slot (Some (record sb { sb_csum = csum })) (Some sb)
-stamped-part newest len lost slot csum sb = record {
-  role = λ role h. refl;
-  spare = λ left. refl;
-  device = λ role state is. record {
-    start = λ x y ex ey. let a : record sb { sb_csum = csum } ≡ x = cc in let b : sb ≡ y = cc in sym (ap (λ (z : Sb). z.data_offset) a) ∙ ap (λ (z : Sb). z.data_offset) b;
-    recovery = λ x y ex ey recovers. let a : record sb { sb_csum = csum } ≡ x = cc in let b : sb ≡ y = cc in sym (ap (λ (z : Sb). z.recovery_offset) a) ∙ ap (λ (z : Sb). z.recovery_offset) b;
-  };
-}
 
 pub stamped-suited : (newest : Sb) (len csum : ℕ) (sb : Sb) → IsSuited newest len sb → IsSuited newest len (record sb { sb_csum = csum })
 stamped-suited newest len csum sb s = record { events = s.events; bits = s.bits; room = s.room; within = s.within; late = s.late }

@@ -18,9 +18,6 @@ use Rattle.sb_specs.specs.Reads.{SaysSame, IsNewestLike, HasNoLateRoles}
 
 -- ---- bits of the feature map
 
-kept_bit : (a b k n : ℕ) → a < 2 → b < 2 → k < 2 → n ≡ 1 - k → max (min a n) (min b k) ≡ max (min a (1 - k)) (min b k)
-kept_bit a b k n ha hb hk e = omega (arith, e)
-
 -- of the newest's bits 4 and 32
 pub shared_bit : (own shared i c k : ℕ) → bit_at (2 ^ 32 - 1 - (4 + 32)) i ≡ c → bit_at (4 + 32) i ≡ k
     → bit_at (bit_or (bit_and own (2 ^ 32 - 1 - (4 + 32))) (bit_and shared (4 + 32))) i ≡ max (min (bit_at own i) c) (min (bit_at shared i) k)

@@ -170,9 +170,6 @@ no_role entry role none h = grind (arith, nat_tests)
 no_less : (entry count : ℕ) → is_role entry ≡ false → count ≤ 16 → nat_lt entry count ≡ false
 no_less entry count none h = grind (arith, nat_tests)
 
-is_below : (a b : ℕ) → a < b → nat_lt a b ≡ true
-is_below a b h = grind (arith, nat_tests)
-
 is_past : (a b : ℕ) → b ≤ a → nat_lt a b ≡ false
 is_past a b h = grind (arith, nat_tests)
 

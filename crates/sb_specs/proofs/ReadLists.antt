@@ -219,10 +219,6 @@ spares-at N sectors i (suc k) t (x ∷ X) at =
 
 -- ---- the fresh ones
 
-fresh-step : (N : Sb) (sectors : ℕ → ℕ) (i : ℕ) (sb : Sb) (X : Own)
-    → fresh_from N sectors i (Some sb ∷ X) ≡ cond (is_fresh N sb) ((sb, sectors i) ∷ fresh_from N sectors (i + 1) X) (fresh_from N sectors (i + 1) X)
-fresh-step N sectors i sb X = refl
-
 any_step : (b : Bool) (test : Sb × ℕ → Bool) (s : Sb × ℕ) (rest : List (Sb × ℕ)) → (b ≡ true → test s ≡ false) → list_any test rest ≡ false → list_any test (cond b (s ∷ rest) rest) ≡ false
 any_step true test s rest fails none = ap₂ (λ a b. a || b) (fails refl) none
 any_step false test s rest fails none = none

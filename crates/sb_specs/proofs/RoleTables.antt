@@ -1,14 +1,9 @@
 -- Tables of role entries, one entry more.
-use Rattle.std.proofs.Common.{◌≡◌, ℕ, zero, suc, ◌+◌, ◌<◌, List, [], ◌∷◌, ◌++◌, length, take, drop, map, set, get_or, Option, Some, if◌then◌else◌, refl, ap, ◌∙◌, arith}
-use Rattle.std.proofs.lemmas.List.{drop_more}
-use Rattle.bank.specs.raid_types_the_Role.{Role}
+use Rattle.std.proofs.Common.{◌≡◌, ℕ, zero, suc, ◌+◌, ◌<◌, List, [], ◌∷◌, ◌++◌, length, take, drop, map, set, get_or, Option, refl, ap, ◌∙◌, arith}
 use Rattle.sb_codec.specs.declared.sb.Sb.{Sb}
-use Rattle.sb_specs.specs.Update.{is_held_by, role_from, with_entry, with_entries, own_in}
+use Rattle.sb_specs.specs.Update.{with_entry, with_entries, own_in}
 
 -- one role more was looked at
-pub role_from-more : (slot i : ℕ) (roles : List Role) (d : Role) → i < length roles
-    → role_from slot i (drop i roles) ≡ (if is_held_by slot (get_or roles i d) then Some i else role_from slot (i + 1) (drop (i + 1) roles))
-role_from-more slot i roles d lt = ap (role_from slot i) (drop_more roles i d lt)
 
 -- one entry more was changed
 changed-suc : (f : ℕ → ℕ) (table : List ℕ) (i d : ℕ) → i < length table

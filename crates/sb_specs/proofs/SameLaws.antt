@@ -1,10 +1,8 @@
 -- What is written elsewhere than in the superblocks doesn't change the reading.
-use Rattle.std.proofs.Common.{◌≡◌, ◌≢◌, ℕ, cond, ◌&&◌, ◌++◌, ap, ap₂, sym, Some, None, option_map, leb, arith}
-use Rattle.std.proofs.lemmas.Bool.Decides.{nat_tests}
+use Rattle.std.proofs.Common.{◌≡◌, ℕ, cond, ◌&&◌, ◌++◌, ap, ap₂, Some, None, option_map, leb}
 use Rattle.bank.specs.raid_types_Sectors.{Sector}
 use Rattle.reshape_geometry.specs.raid_types_Search.{tabulate}
-use Rattle.bank.specs.declared.bank.Operation.TheVariants.{Write}
-use Rattle.bank.specs.Tape.{Contents, with_one, after_one}
+use Rattle.bank.specs.Tape.{Contents}
 use Rattle.sb_codec.specs.Superblock.{superblock_in, is_valid, sb_of}
 use Rattle.sb_specs.specs.Reading.{Scope, reading, reading_by, superblocks, newest_of, is_seen, of_array}
 use Rattle.sb_specs.specs.Same.{HaveSameSuperblocks, ReadingIsOfSuperblocks}
@@ -22,14 +20,3 @@ pub reading-same : ReadingIsOfSuperblocks
 unfolding reading
 reading-same scope c d same =
     ap (λ own. option_map (reading_by scope.sizes.sectors own) (newest_of own)) (superblocks-same scope c d same)
-
--- a write to another sector than 8 and 9 leaves the superblocks
-pub written-elsewhere : (c : Contents) (slot at : ℕ) (bytes : Sector) → 8 ≢ at → 9 ≢ at
-    → HaveSameSuperblocks c (with_one (Write slot at bytes) c)
-written-elsewhere c slot at bytes not_eight not_nine = record {
-  eighth = λ s. sym (other s 8 (c s 8) not_eight);
-  ninth = λ s. sym (other s 9 (c s 9) not_nine);
-}
-  where
-    other : (s k : ℕ) (v : Sector) → k ≢ at → after_one s k (Write slot at bytes) v ≡ v
-    other s k v apart = grind (arith, nat_tests)

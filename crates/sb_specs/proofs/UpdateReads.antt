@@ -255,10 +255,6 @@ module _ (scope : Scope) (known lost : ℕ) (former : Sb) (own : List (Option Sb
 module _ (scope : Scope) (known lost : ℕ) (former : Sb) (own : List (Option Sb)) (d : Disk) (held : AreHeld scope known lost former own d)
     (newest : Sb) (gives : List Give) (left : ℕ) (fit : IsFitPlan scope lost former newest gives own left d) (sub : (s : ℕ) → has_slot left s ≡ true → has_slot known s ≡ true)
     (own' : List (Option Sb)) (kept : AreKept newest gives own left own') where
-  -- the superblock of a slot that is written, and what is planned for it
-  sb_of_slot : (s : ℕ) → has_slot left s ≡ true → IsKnown scope former (own_in own s) s d
-  sb_of_slot s is = held.each s (sub s is)
-
   abbrev pub ReadsNew : (s : ℕ) → has_slot left s ≡ true → Option Sb → Type 0
   ReadsNew s is found = IsStamped (planned newest (give_of gives s) (held.each s (sub s is)).sb) found
 

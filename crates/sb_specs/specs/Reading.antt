@@ -49,9 +49,6 @@ uuid_of_first [] = None
 uuid_of_first (None ∷ seen) = uuid_of_first seen
 uuid_of_first (Some sb ∷ seen) = Some sb.set_uuid
 
-abbrev pub first_uuid : Scope → Contents → Option (List ℕ)
-first_uuid scope c = uuid_of_first (tabulate scope.sizes.slots (seen_superblock scope c))
-
 -- the one with the higher event count, and the first of two equals
 abbrev pub newer : Sb → Option Sb → Sb
 newer sb None = sb

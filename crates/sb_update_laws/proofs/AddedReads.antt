@@ -117,9 +117,6 @@ not_less a b same = grind (arith, nat_tests)
 equal : (a b : ℕ) → nat_lt a b ≡ false → a ≤ b → a ≡ b
 equal a b h le = grind (arith, nat_tests)
 
-one_more : (n m : ℕ) → m < 2 ^ 62 → n ≡ m + 1 → n ≡ m + 1
-one_more n m h e = e
-
 none_of : (set s : ℕ) → (has_slot set s ≡ true → ⊥) → has_slot set s ≡ false
 none_of set s never = ⊎_elim (λ is. absurd (never is)) (λ none. none) (by_bool (has_slot set s))
 
@@ -133,9 +130,6 @@ no_recovery roles (give.Role role None) slot idle = refl
 no_recovery roles (give.Role role (Some offset)) slot idle = absurd (cc)
 
 module _ (scope : Scope) (members : Members) (change : Change) (before live known left0 lost0 slot : ℕ) (d : Disk) (ready : IsReadyToAdd scope known left0 lost0 members change live slot d) where
-  not_known : (s : ℕ) → has_slot known s ≡ true → s ≢ slot
-  not_known s is same = both_ways (subst (λ (t : ℕ). has_slot known t ≡ true) same is) ready.new.unknown
-
   there : (s : ℕ) → has_slot live s ≡ true → s < scope.sizes.slots
   there s is = elim (cases_eq s slot) [
     | inl same ↦ subst (λ (t : ℕ). t < scope.sizes.slots) (sym same) ready.new.there
@@ -155,9 +149,6 @@ module _ (scope : Scope) (members : Members) (change : Change) (before live know
   not_first = no_recovery members.roles (give_of change.gives slot) slot ready.idle
 
   -- ---- slots are brought to the newest count
-
-  narrow : ℕ
-  narrow = left_set scope.sizes.slots live (bit_or members.lost (2 ^ slot))
 
   narrow_are : AreLeft live (bit_or members.lost (2 ^ slot)) (left_set scope.sizes.slots live (bit_or members.lost (2 ^ slot)))
   narrow_are = left-are scope.sizes.slots live (bit_or members.lost (2 ^ slot)) there
@@ -380,9 +371,6 @@ module _ (scope : Scope) (members : Members) (change : Change) (before live know
       ],
       subst (λ (l : List Sector). IsIn l (c s 9)) (sym (put_ninth slot row e s)) (drawn s).1,
     )
-
-    abbrev Unnamed : Contents → ℕ → Type 0
-    Unnamed c s = (s ≡ slot) × IsIn (d slot 8) (c slot 8)
 
     rest_reads : (e : Disk) (c : Contents) → IsFirstRewriting N change.gives members.own live mid.lost mid.disk e → AreDrawn e c → IsIn (mid.disk slot 8) (c slot 8)
         → IsReadInAdding scope known members change before live mid.lost slot d (λ s. (s ≡ slot) × IsIn (d slot 8) (c slot 8)) c

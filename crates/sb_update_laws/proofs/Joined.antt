@@ -44,9 +44,6 @@ below_pow (suc n) = omega (arith, below_pow n)
 none_past : (set s : ℕ) → set ≤ s → has_slot set s ≡ false
 none_past set s past = ap (λ (n : ℕ). n == 1) (bit_at_above set set s (below_pow set) past)
 
-nothing : (b : Bool) → (false && b) ≡ false
-nothing b = refl
-
 -- the slots of a set that pass a test
 among : ℕ → (ℕ → Bool) → ℕ
 among set test = set_of set (λ s. has_slot set s && test s)

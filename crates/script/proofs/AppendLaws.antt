@@ -19,15 +19,6 @@ then {old = old} {mid = mid} {new = new} {result = Err e} {a = a} {b = b} first 
   room = omega (arith, first.room, second.room);
 }
 
--- the first part of a text has no room, so the whole has none
-pub stops : {Z T : Type 0} {E : Type 0} {old new : Vec ℕ Z} {e f : E} {a : List ℕ} (whole : List ℕ) → (b : List ℕ) → a ++ b ≡ whole
-    → Appends {Z = Z} {T = T} {E = E} old new (Err e) a → Appends {Z = Z} {T = T} {E = E} old new (Err f) whole
-stops {old = old} {a = a} whole b same first = record {
-  whole = tt;
-  full = omega (arith, first.full, length-append old.items a, length-append old.items whole, length-append a b, ap length same);
-  room = first.room;
-}
-
 -- the same text, said otherwise
 pub retold : {Z T E : Type 0} {old new : Vec ℕ Z} {result : Result T E} {a b : List ℕ} → a ≡ b → Appends {Z = Z} {T = T} {E = E} old new result a → Appends {Z = Z} {T = T} {E = E} old new result b
 retold {old = old} {new = new} {result = result} same told = subst (λ text. Appends old new result text) same told

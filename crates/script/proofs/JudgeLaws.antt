@@ -102,13 +102,6 @@ pub some_ok : {A E : Type 0} (r : Result A E) → is_ok r ≡ is_some (result_ok
 some_ok (Ok x) = refl
 some_ok (Err e) = refl
 
-none_of : {A : Type 0} (o : Option A) → is_some o ≡ false → o ≡ None
-none_of None e = refl
-none_of (Some x) e = absurd (true≢false e)
-
-none_some : {A : Type 0} (o : Option A) → o ≡ None → is_some o ≡ false
-none_some o e = ap is_some e
-
 pub or_mistake_err : {A : Type 0} (mistake refused : Mistake) (o : Option A) → or_mistake mistake o ≡ Err refused → (o ≡ None) × (mistake ≡ refused)
 or_mistake_err mistake refused None e = (refl, err_injective e)
 or_mistake_err mistake refused (Some x) e = absurd (cc)

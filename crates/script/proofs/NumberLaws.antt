@@ -123,10 +123,6 @@ none_enough a b past = grind (arith, nat_tests)
 small_count : (a b : ℕ) → is_span (a, b) ≡ true → ltb b (2 ^ 32) ≡ true
 small_count a b span = grind (arith, nat_tests)
 
-none_of : {A B : Type 0} (o : Option A) → option_and_then (λ x. let none : Option B = None in none) o ≡ None
-none_of None = refl
-none_of (Some x) = refl
-
 module _ {A : Type 0} (make : ℕ → ℕ → Option A) (x count : List ℕ) where
   by_count : (a : ℕ) → a < 2 ^ 63 - 1 → NoNumber count ⊎ Writes count (digits_value 10 count)
       → option_and_then (make a) (result_ok (judge_number 1 (most_behind a) count))

@@ -92,9 +92,6 @@ module _ (text line found : List ℕ) (more left skip width kept : ℕ) (end_is 
     (words : words_of line ≡ drop (length (words_of text) - more) (words_of text)) (few : length (words_of text) - more ≤ length (words_of text) - left) (ended : more ≤ left)
     (found_is : found ≡ found_in line) (found_tail : found ≡ drop (length line - length found) line) (shorter : length found ≤ length line)
     (width_is : width ≡ word_len found) (inside : width ≤ length found) (kept_is : kept ≡ min skip width) where
-  before : ℕ
-  before = length (words_of text) - left
-
   same_count : length (words_of text) - more ≡ length (words_of text) - left
   same_count = omega (arith, few, ended)
 

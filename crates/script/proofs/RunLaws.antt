@@ -77,11 +77,6 @@ kinds-at x i sectors d less =
 pub record IsRow (x i : ℕ) (kind : Kind) (sectors : List Sector) : Type 0 where
   pub row : kinds x sectors ≡ replicate i kind ++ kinds (x + i) (drop i sectors)
 
-pub row_begins : (x : ℕ) (kind : Kind) (sectors : List Sector) (d : Sector) → 0 < length sectors
-    → kind ≡ kind_of x (get_or sectors 0 d) → IsRow x 1 kind sectors
-row_begins x kind [] d some e = absurd (omega (arith, some))
-row_begins x kind (sector ∷ sectors) d some e = record { row = ap (λ k. k ∷ kinds (x + 1) sectors) (sym e) }
-
 -- the next sector, seen at a place with the same low bits
 next_kind : (x i : ℕ) (kind next : Kind) (sectors : List Sector) (d : Sector) → i < length sectors → IsRow x i kind sectors
     → next ≡ kind_of ((x + i) % 2 ^ 64) (get_or sectors i d)

@@ -1,11 +1,11 @@
 -- A sector that is written byte by byte, and sectors one after the other.
-use Rattle.std.proofs.Common.{◌≡◌, ℕ, zero, suc, ◌+◌, ◌*◌, ◌/◌, ◌^◌, ◌%◌, ◌<◌, ◌≤◌, List, [], ◌∷◌, ◌++◌, length, take, drop, get_or, set, refl, sym, ap, ap₂, ◌∙◌, arith, ◌⊎◌, inl, inr}
+use Rattle.std.proofs.Common.{◌≡◌, ℕ, zero, suc, ◌+◌, ◌*◌, ◌^◌, ◌%◌, ◌<◌, ◌≤◌, List, [], ◌∷◌, ◌++◌, length, take, drop, get_or, set, refl, sym, ap, ap₂, ◌∙◌, arith, ◌⊎◌, inl, inr}
 use Rattle.std.proofs.lemmas.Bool.{cases_lt}
 use Rattle.std.proofs.lemmas.List.{ext_get_or, get_or-drop, length-drop, take-append-drop, get_or-set_other, length-append, take_all, take-append-le, drop-append-le}
 use Rattle.std.proofs.lemmas.Grind.{get_or-set_at}
 use Rattle.std.specs.Int.{w32, to_le_bytes}
 use Rattle.history.specs.raid_types_Search.{tabulate}
-use Rattle.history.specs.raid_types_Sectors.{first_sectors, sectors_of, IsWhole}
+use Rattle.history.specs.raid_types_Sectors.{first_sectors, IsWhole}
 use Rattle.history.proofs.raid_types_Tabulated.{length-tabulate, get_or-tabulate}
 use Rattle.script.specs.Seeds.{seed_byte, seed_sector, seeded}
 
@@ -73,9 +73,3 @@ written-more seed first k bytes written =
 
 pub written-whole : (seed first k : ℕ) (bytes : List ℕ) → Written seed first k bytes → IsWhole bytes
 written-whole seed first k bytes written = let size = written.size in omega (arith, size)
-
-pub written-all : (seed first k : ℕ) (bytes : List ℕ) → Written seed first k bytes → sectors_of bytes ≡ seeded seed first k
-written-all seed first k bytes written =
-    let size = written.size in
-    let count : length bytes / 512 ≡ k = omega (arith, size) in
-    ap (λ n. first_sectors n bytes) count ∙ written.sectors

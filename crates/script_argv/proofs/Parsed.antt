@@ -8,28 +8,12 @@ use Rattle.clap.specs.declared.error.Error.{Error}
 use Rattle.clap.specs.declared.error.kind.ErrorKind.TheVariants.{OutOfMemory}
 use Rattle.clap.specs.declared.parser.matches.ArgMatches.{ArgMatches}
 use Rattle.clap.specs.declared.parser.matches.Found.{Found}
-use Rattle.clap.proofs.OnLiterals.{clap_on_literals}
 use Rattle.clap.proofs.WalkLemmas.{first_value-rows, raw_values-rows}
 use Rattle.script_argv.specs.Words.{NamedPaths, IsParsedAs, run_app, demo_app, faults_in, rows_in, paths_from, paths_found, paths_in, size_of, size_found, size_in}
 
 -- ---- the parser's answer
 
 -- the two forms are among those that the parser's definition speaks of
-pub run_simple : is_simple run_app ≡ true
-unfolding clap_on_literals
-run_simple = refl
-
-pub run_free : is_simple_and_free run_app ≡ true
-unfolding clap_on_literals
-run_free = refl
-
-pub demo_simple : is_simple demo_app ≡ true
-unfolding clap_on_literals
-demo_simple = refl
-
-pub demo_free : is_simple_and_free demo_app ≡ true
-unfolding clap_on_literals
-demo_free = refl
 
 -- the form's matches, where the parser gave some
 pub parsed : (a : App) (words : List Text) (m : ArgMatches) → is_simple a ≡ true → is_simple_and_free a ≡ true → HasMatchesOf a words m

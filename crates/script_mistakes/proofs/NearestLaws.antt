@@ -1,18 +1,15 @@
 -- The nearest name so far.
-use Rattle.std.proofs.Common.{◌≡◌, ℕ, ◌+◌, ◌<◌, ◌≤◌, Bool, true, false, ◌&&◌, ◌||◌, not, ltb, eqb, ap₂, true≢false, List, [], length, get_or, Option, Some, None, refl, sym, ap, subst, ◌∙◌, arith, ◌⊎◌, inl, inr}
+use Rattle.std.proofs.Common.{◌≡◌, ℕ, ◌+◌, ◌<◌, ◌≤◌, Bool, true, false, ◌&&◌, ◌||◌, not, ltb, eqb, ap₂, true≢false, List, [], get_or, Option, Some, None, refl, sym, ap, subst, ◌∙◌, arith, ◌⊎◌, inl, inr}
 use Rattle.std.proofs.lemmas.Bool.{cases_lt}
 use Rattle.std.proofs.lemmas.Bool.Decides.{nat_tests}
 use Rattle.std.specs.Option.{is_some}
-use Rattle.script_mistakes.specs.Nearest.{letters_apart, IsNearest}
+use Rattle.script_mistakes.specs.Nearest.{letters_apart}
 
 -- of the first few names
 abbrev pub Found : List ℕ → List (List ℕ) → ℕ → ℕ → ℕ → Option ℕ → Type 0
 Found word names few most least None = (least ≡ most) × ((k : ℕ) → k < few → most < letters_apart word (get_or names k []))
 Found word names few most least (Some i) =
     (i < few) × (least ≡ letters_apart word (get_or names i [])) × (least ≤ most) × ((k : ℕ) → k < few → least ≤ letters_apart word (get_or names k []))
-
-pub found-start : (word : List ℕ) (names : List (List ℕ)) (most : ℕ) → Found word names 0 most most None
-found-start word names most = (refl, λ k h. absurd (omega (arith, h)))
 
 cases_last : (k few : ℕ) → k < few + 1 → (k < few) ⊎ (k ≡ few)
 cases_last k few h = by (cases_lt k few)
@@ -49,11 +46,6 @@ module _ (word : List ℕ) (names : List (List ℕ)) (few most least letters : �
     so_far.2,
     λ k h. elim (cases_last k few h) [ inl below ↦ so_far.3 k below | inr same ↦ (let e : letters ≡ letters_apart word (get_or names k []) = here ∙ ap (λ j. letters_apart word (get_or names j [])) (sym same) in omega (arith, e, far)) ],
   )
-
-pub found-end : (word : List ℕ) (names : List (List ℕ)) (few most least : ℕ) (found : Option ℕ) → few ≡ length names → Found word names few most least found → IsNearest word names most found
-found-end word names few most least None all so_far = λ k h. so_far.1 k (omega (arith, h, all))
-found-end word names few most least (Some i) all so_far =
-    (omega (arith, so_far.0, all), omega (arith, so_far.1, so_far.2), λ k h. (let far = so_far.3 k (omega (arith, h, all)) in omega (arith, far, so_far.1)))
 
 -- what the test of a name tells
 pub nearer : (letters least : ℕ) (found : Option ℕ) → (ltb letters least || (eqb letters least && not (is_some found))) ≡ true → letters ≤ least

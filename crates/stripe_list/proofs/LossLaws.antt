@@ -94,16 +94,6 @@ slot_lost shape old new lost slot role before after is alone lt held failed neve
   never_falls = never;
 }
 
--- nothing more is lost, and time goes on
-pub lost_since : {shape : Shape} {old new : Members} {lost : ℕ} {before after later : ℕ → ℕ} → AreLost shape old new lost before after → NeverFalls after later → AreLost shape old new lost before later
-lost_since {before = before} {after = after} {later = later} one never = record {
-  members = one.members;
-  failed = λ s gone.
-      let f = one.failed s gone in
-      (faulted_longer s before before after later (omega arith) (never s) (one.never_falls s) f.0, f.1, f.2, f.3);
-  never_falls = λ s. omega (arith, one.never_falls s, never s);
-}
-
 -- ---- what stays
 
 pub rows_kept : {given : Given} {shape : Shape} (m : Members) (lost : ℕ) → HasRows given (reading_of m) shape → HasRows given (reading_of (members_without lost m)) shape
@@ -124,22 +114,6 @@ rows_by {given = given} {shape = shape} {new = new} old lost same is has =
 
 pub row_in : {given : Given} {r : Reading} {shape : Shape} {row : ℕ} → HasRows given r shape → row < r.newest.size → IsRow given r shape row
 row_in has below = record { valid = has.valid; roles = has.roles; few = has.few; below = below; short = has.short; holders = has.holders }
-
-pub row_kept : {given : Given} {shape : Shape} {row : ℕ} (m : Members) (lost : ℕ) → IsRow given (reading_of m) shape row → IsRow given (reading_of (members_without lost m)) shape row
-row_kept {shape = shape} m lost is = record {
-  valid = is.valid;
-  roles = subst (λ (n : ℕ). shape.disks ≤ n) (sym (length-mapped (role_without lost) m.roles)) is.roles;
-  few = subst (λ (n : ℕ). n ≤ 16) (sym (length-mapped (role_without lost) m.roles)) is.few;
-  below = is.below;
-  short = is.short;
-  holders = λ role slot held.
-      let was = is.holders role slot (holder-after m lost role slot held) in
-      record { small = was.small; known = was.known; short = was.short; within = was.within };
-}
-
-pub row_by : {given given' : Given} {shape : Shape} {row : ℕ} {new : Members} (old : Members) (lost : ℕ) → given' ≡ given → new ≡ members_without lost old → IsRow given (reading_of old) shape row → IsRow given' (reading_of new) shape row
-row_by {given = given} {shape = shape} {row = row} {new = new} old lost same is has =
-    subst (λ (g : Given). IsRow g (reading_of new) shape row) (sym same) (subst (λ (m : Members). IsRow given (reading_of m) shape row) (sym is) (row_kept old lost has))
 
 -- a role that isn't held isn't held after a loss
 none_held : (b : Bool) (r : Reading) (state : Role) (row : ℕ) → nat_lt row (rows_held r state) ≡ false → nat_lt row (rows_held r (if b then Missing else state)) ≡ false

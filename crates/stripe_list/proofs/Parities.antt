@@ -20,10 +20,6 @@ use Rattle.stripe_row.proofs.NewRow.{parity_few}
 
 -- ---- sums are bytes
 
-term-lt : (b : Bool) (w x : ℕ) → w < 256 → x < 256 → cond b (product w x) 0 < 256
-term-lt true w x lw lx = product-lt w x lx
-term-lt false w x lw lx = omega arith
-
 module _ (roles : RowRoles) (f : ℕ → ℕ) (small : (r : ℕ) → r < roles.disks → is_data roles r ≡ true → f r < 256) where
   weighed-lt : (weight : ℕ → ℕ) (r : ℕ) → r < roles.disks → weighed weight roles f r < 256
   weighed-lt weight r lt = subst (λ (x : ℕ). x < 256) (sym (weighed-is weight roles f r)) (elim (bool_cases (is_data roles r)) [

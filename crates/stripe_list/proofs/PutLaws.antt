@@ -1,5 +1,5 @@
 -- A write of many rows: how what a stop may leave goes on over them, and what stands afterwards.
-use Rattle.std.proofs.Common.{◌≡◌, ◌≢◌, ◌⊎◌, inl, inr, ℕ, ◌+◌, ◌<◌, ◌≤◌, List, length, true, refl, sym, ◌∙◌, ap, ap₂, subst, arith}
+use Rattle.std.proofs.Common.{◌≡◌, ◌≢◌, ◌⊎◌, inl, inr, ℕ, ◌+◌, ◌<◌, ◌≤◌, List, length, true, sym, ◌∙◌, ap, ap₂, subst, arith}
 use Rattle.std.specs.Prelude.{slice_index}
 use Rattle.std.proofs.lemmas.Bool.{cases_eq}
 use Rattle.raid_layout.specs.raid_types_the_Shape.{Shape}
@@ -68,10 +68,6 @@ putting_among r shape list touched more d e wider one s k = at (one s k)
     at : (e s k ≡ d s k) ⊎ MayHaveFull r shape list touched s k (d s k) (e s k) → (e s k ≡ d s k) ⊎ MayHaveFull r shape list more s k (d s k) (e s k)
     at (inl same) = inl same
     at (inr has) = inr (record { row = has.row; role = has.role; among = wider has.row has.among; within = has.within; held = has.held; place = has.place; values = has.values })
-
--- nothing was written yet
-pub putting_none : (r : Reading) (shape : Shape) (list : ℕ → Sector) (touched : ℕ → Type 0) (d : ℕ → ℕ → List Sector) → IsPutting r shape list touched d d
-putting_none r shape list touched d s k = inl refl
 
 -- one row more, at each mark
 pub marks_more : {tells : Type 0} (start start' : Given) (m m' : Members) (shape : Shape) (list : ℕ → Sector) (touched one : ℕ → Type 0) (old mid new : List Operation) → AreApart (reading_of m)

@@ -1,7 +1,5 @@
 -- What is lost in a call, and what is held afterwards.
-use Rattle.std.proofs.Common.{◌≡◌, ◌⊎◌, inl, inr, ℕ, ◌+◌, ◌<◌, Bool, true, false, not, nat_lt, if◌then◌else◌, List, length, Option, Some, None, unwrap_or, option_map, refl, sym, ◌∙◌, ap, subst, arith}
-use Rattle.std.proofs.lemmas.Bool.{cases_lt}
-use Rattle.std.proofs.lemmas.List.{get_or_past}
+use Rattle.std.proofs.Common.{◌≡◌, ◌⊎◌, inl, inr, ℕ, ◌+◌, ◌<◌, Bool, true, false, not, nat_lt, if◌then◌else◌, List, Option, Some, None, unwrap_or, option_map, refl, sym, ◌∙◌, ap, subst, arith}
 use Rattle.std.proofs.lemmas.Bool.Decides.{nat_tests}
 use Rattle.sb_specs.specs.raid_types_the_Shape.{Shape}
 use Rattle.sb_specs.specs.raid_types_the_Role.{Role}
@@ -52,13 +50,6 @@ sector_moved given given' old new r row lost role bytes same is has slot held he
 -- the holder of a role that is held
 pub holder-of : (r : Reading) (role row slot : ℕ) → held_slot r role row ≡ Some slot → holder (role_state r role) ≡ Some slot
 holder-of r role row slot is = some_slot (is_held r role row) (holder (role_state r role)) slot is
-
--- a role that has a holder is one of those that there are
-pub holder-within : (r : Reading) (role slot : ℕ) → holder (role_state r role) ≡ Some slot → role < length r.roles
-holder-within r role slot is = elim (cases_lt role (length r.roles)) [
-  | inl below ↦ below
-  | inr past ↦ absurd (let none : holder (role_state r role) ≡ None = ap holder (get_or_past r.roles role Missing past) in cc)
-]
 
 -- ---- the states afterwards
 

@@ -16,25 +16,6 @@ changed-more f table i d lt =
     let next : suc i ≡ i + 1 = omega arith in
     changed-suc f table i d lt ∙ ap (λ (n : ℕ). map f (take n table) ++ drop n table) next
 
--- the next one wasn't yet
-pub get_or-next : {X : Type 0} (f : X → X) (table : List X) (i : ℕ) (d : X) → get_or (map f (take i table) ++ drop i table) i d ≡ get_or table i d
-get_or-next f [] zero d = refl
-get_or-next f [] (suc i) d = refl
-get_or-next f (x ∷ table) zero d = refl
-get_or-next f (x ∷ table) (suc i) d = get_or-next f table i d
-
-pub length-changed : {X : Type 0} (f : X → X) (table : List X) (i : ℕ) → length (map f (take i table) ++ drop i table) ≡ length table
-length-changed f [] zero = refl
-length-changed f [] (suc i) = refl
-length-changed f (x ∷ table) zero = ap suc (length-changed f table zero)
-length-changed f (x ∷ table) (suc i) = ap suc (length-changed f table i)
-
-pub changed-all : {X : Type 0} (f : X → X) (table : List X) (i : ℕ) → length table ≤ i → map f (take i table) ++ drop i table ≡ map f table
-changed-all f [] zero le = refl
-changed-all f [] (suc i) le = refl
-changed-all f (x ∷ table) zero le = absurd (omega (arith, le))
-changed-all {X = X} f (x ∷ table) (suc i) le = ap (λ (l : List X). f x ∷ l) (changed-all f table i (omega (arith, le)))
-
 -- an element of a list that was changed
 pub get_or-map : {X : Type 0} (f : X → X) (table : List X) (i : ℕ) (d : X) → f d ≡ d → get_or (map f table) i d ≡ f (get_or table i d)
 get_or-map f [] i d same = sym same

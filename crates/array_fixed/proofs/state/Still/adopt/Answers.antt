@@ -8,10 +8,8 @@ use Rattle.array_parts.specs.history_Plain.{entries_of}
 use Rattle.array_fixed_laws.specs.array_call_specs_Kept.{scope_in}
 use Rattle.array_fixed_laws.specs.array_call_specs_Adopting.{opener, absent_losses, found_losses, IsAdoptable}
 use Rattle.array_fixed_laws.proofs.array_call_specs_ReadyLaws.{scope-same}
-use Rattle.array_fixed_laws.proofs.array_call_laws_AdoptingLaws.{ready_adopted}
 use Rattle.array_parts.proofs.array_members_Fit.{valid, roles-still}
-use Rattle.array_fixed_laws.proofs.Adopting.{begins-ready, found-plainly}
-use Rattle.array_fixed_laws.specs.Plain.{AreToldPlainly}
+use Rattle.array_fixed_laws.proofs.Adopting.{begins-ready}
 use Rattle.sb_election.proofs.raid_layout_Limits.{limited}
 use Rattle.array_fixed.proofs.Asked.{known-at}
 use Rattle.array_fixed.proofs.state.Still.adopt.Goals as goal
@@ -30,8 +28,8 @@ invariant_of-result g c =
     let entries : epoch.entries.items ≡ entries_of opener epoch.first (found_losses (reading_of m)) =
     did.items ∙ ap (λ (l : List Entry). l ++ entries_of opener c.ops-first.result (absent_losses (reading_of m) c.shape_in-disks.result.disks)) room.empty
     ∙ ap (λ (s : Shape). entries_of opener c.ops-first.result (absent_losses (reading_of m) s.disks)) c.shape_in-disks.ensures ∙ ap (λ (n : ℕ). entries_of opener n (found_losses (reading_of m))) (sym did.same.first) in
-    rw c.found_work-work.ensures.work (begins-ready (ready_adopted adoptable c.ops-first.ensures.whole c.found_work-work.ensures.slots (subst (λ (slots : ℕ). (slot : ℕ) → slot < given.slots → has_slot slots slot ≡ false → 0 < g.B.Bank.faults_of c.args.bank slot) (sym did.same.given) c.requires.failed)
-    entries (λ t. did.same.first ∙ c.ops-first.ensures.count t) did.room room.rows (omega (arith, room.buffer))) far.rows (omega (arith, far.buffer)) (subst AreToldPlainly (sym entries) (found-plainly m epoch.first)))
+    rw c.found_work-work.ensures.work (begins-ready adoptable c.ops-first.ensures.whole c.found_work-work.ensures.slots (subst (λ (slots : ℕ). (slot : ℕ) → slot < given.slots → has_slot slots slot ≡ false → 0 < g.B.Bank.faults_of c.args.bank slot) (sym did.same.given) c.requires.failed)
+    entries (λ t. did.same.first ∙ c.ops-first.ensures.count t) did.room room.rows (omega (arith, room.buffer)) far.rows (omega (arith, far.buffer)))
 
 pub found_work-work-requires-clause-small : goal.found_work-work-requires-clause-small
 found_work-work-requires-clause-small g c = λ role slot is. (c.requires.adoptable.placed.holders role slot is).small
