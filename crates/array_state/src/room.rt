@@ -15,17 +15,14 @@ pub struct Room {
 }
 
 /// The memory of an array that begins: room for 17 entries and 128 rows, and 1048576 bytes. Refused only for want of it.
+///
+/// The entries, which outlive the array, are taken last: what is given back below them stays with the process for the next opening.
 pub fn room_for(alloc: Global) -> Result<Room, NoMemory>
     ensures empty { IfOk result (λ room. room.entries.items ≡ []) }
     ensures entries { IfOk result (λ room. 17 ≤ room.entries.room) }
     ensures rows { IfOk result (λ room. 128 ≤ vec_capacity room.rows) }
     ensures buffer { IfOk result (λ room. length room.buffer.items ≡ 1048576) }
 {
-    let mut entries = Entries::new(alloc);
-    match entries.make_room(17) {
-        Ok(()) => {}
-        Err(_) => return Err(NoMemory {}),
-    }
     let rows = match Vec::with_capacity(alloc, 128) {
         Ok(rows) => rows,
         Err(_) => return Err(NoMemory {}),
@@ -34,6 +31,11 @@ pub fn room_for(alloc: Global) -> Result<Room, NoMemory>
         Ok(buffer) => buffer,
         Err(_) => return Err(NoMemory {}),
     };
+    let mut entries = Entries::new(alloc);
+    match entries.make_room(17) {
+        Ok(()) => {}
+        Err(_) => return Err(NoMemory {}),
+    }
     Ok(Room {
         entries,
         rows,

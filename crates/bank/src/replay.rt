@@ -2,10 +2,11 @@
 ghost use Rattle.std.specs.Prelude.{◌≡◌, ◌<◌, ◌||◌, [], List, ℕ, All, nat_lt, length, slice_index, IfOk, if◌then◌else◌};
 ghost use Rattle.bank.specs.declared.bank.Operation.TheVariants.{Flush};
 ghost use Rattle.bank.specs.Tape.{after_one, value_after};
-ghost use Rattle.bank.specs.Memory.{sector_of, sectors_of, lists_of, IsInside};
+ghost use Rattle.bank.specs.Memory.{sector_of, sectors_of, IsInside};
 ghost use Rattle.bank.specs.Picks.{IsLastFlush, keeps, kept, is_taken, noted};
 
 use crate::image::put;
+use crate::slot_sectors::SlotSectors;
 use crate::{Operation, Pick};
 use std::alloc::{AllocError, Global};
 
@@ -35,9 +36,9 @@ fn note(marks: &mut Vec<usize>, operation: &Operation, mark: usize)
 pub fn last_flushes(
     alloc: Global,
     tape: &[Operation],
-    slots: &Vec<Vec<[u8; 512]>>,
+    slots: &Vec<SlotSectors>,
 ) -> Result<Vec<usize>, AllocError>
-    requires { All (IsInside (lists_of slots.now.items)) tape.now }
+    requires { All (IsInside slots.now.items) tape.now }
     ensures count { IfOk result (λ v. length v.items ≡ length slots.now.items) }
     ensures each { IfOk result (λ v. (s : ℕ) → IsLastFlush tape.now (length tape.now) s (slice_index v.items s)) }
 {
@@ -50,19 +51,19 @@ pub fn last_flushes(
 
 // One operation, where it is kept.
 fn take_one(
-    slots: &mut Vec<Vec<[u8; 512]>>,
+    slots: &mut Vec<SlotSectors>,
     place: usize,
     operation: &Operation,
     marks: &Vec<usize>,
     pick: Pick,
 )
-    requires inside { IsInside (lists_of slots.old.items) operation.now }
+    requires inside { IsInside slots.old.items operation.now }
     requires count { length marks.now.items ≡ length slots.old.items }
     ensures count { length slots.new.items ≡ length slots.old.items }
-    ensures sectors { (s : ℕ) → sectors_of (lists_of slots.new.items) s ≡ sectors_of (lists_of slots.old.items) s }
-    ensures each { (s k : ℕ) → sector_of (lists_of slots.new.items) s k
-        ≡ (if is_taken pick (slice_index marks.now.items s) place then after_one s k operation.now (sector_of (lists_of slots.old.items) s k)
-        else sector_of (lists_of slots.old.items) s k) }
+    ensures sectors { (s : ℕ) → sectors_of slots.new.items s ≡ sectors_of slots.old.items s }
+    ensures each { (s k : ℕ) → sector_of slots.new.items s k
+        ≡ (if is_taken pick (slice_index marks.now.items s) place then after_one s k operation.now (sector_of slots.old.items s k)
+        else sector_of slots.old.items s k) }
 {
     match operation {
         Operation::Write(slot, sector, bytes) => {
@@ -75,13 +76,13 @@ fn take_one(
 }
 
 /// The operations before each slot's last flush, and those since that are kept.
-pub fn replay(slots: &mut Vec<Vec<[u8; 512]>>, tape: &[Operation], marks: &Vec<usize>, pick: Pick)
-    requires inside { All (IsInside (lists_of slots.old.items)) tape.now }
+pub fn replay(slots: &mut Vec<SlotSectors>, tape: &[Operation], marks: &Vec<usize>, pick: Pick)
+    requires inside { All (IsInside slots.old.items) tape.now }
     requires count { length marks.now.items ≡ length slots.old.items }
     ensures count { length slots.new.items ≡ length slots.old.items }
-    ensures sectors { (s : ℕ) → sectors_of (lists_of slots.new.items) s ≡ sectors_of (lists_of slots.old.items) s }
-    ensures each { (s k : ℕ) → sector_of (lists_of slots.new.items) s k
-        ≡ value_after s k (sector_of (lists_of slots.old.items) s k) (kept (is_taken pick (slice_index marks.now.items s)) 0 tape.now) }
+    ensures sectors { (s : ℕ) → sectors_of slots.new.items s ≡ sectors_of slots.old.items s }
+    ensures each { (s k : ℕ) → sector_of slots.new.items s k
+        ≡ value_after s k (sector_of slots.old.items s k) (kept (is_taken pick (slice_index marks.now.items s)) 0 tape.now) }
 {
     for place in 0..tape.len() {
         take_one(slots, place, &tape[place], marks, pick);

@@ -1,7 +1,7 @@
 -- Where two superblocks have the same fields but for their checksums, these are the same too.
 use Rattle.std.proofs.Common.{◌≡◌, ℕ, zero, suc, ◌+◌, ◌-◌, ◌*◌, ◌^◌, ◌<◌, ◌≤◌, Bool, true, false, List, [], ◌∷◌, ◌++◌, length, take, drop, get_or, slice_range, min, if◌then◌else◌, nat_lt, refl, sym, ◌∙◌, ap, ap₂, arith, lit≤}
 use Rattle.std.specs.Prelude.{pos, negsuc}
-use Rattle.std.proofs.lemmas.List.{length-drop, length-take, take-take, take-append-drop, drop-drop}
+use Rattle.std.proofs.lemmas.List.{length-drop, get_or-drop, length-take, take-take, take-append-drop, drop-drop}
 use Rattle.std.proofs.lemmas.Slice.{between_is}
 use Rattle.bank.specs.raid_types_Bytes.{little, field}
 use Rattle.sb_specs.specs.sb_codec_the_Sb.{Sb}
@@ -161,3 +161,21 @@ module _ (a b : List ℕ) (bytes_a : AreBytes a) (bytes_b : AreBytes b) (long_a 
 
       past : (l : List ℕ) → length l ≡ 1024 → drop 1024 l ≡ []
       past l long = empty (drop 1024 l) (let d = length-drop 1024 l in omega (arith, d, long))
+
+-- the four bytes from an offset as a number
+four_of : (bytes : List ℕ) → 4 ≤ length bytes → get_or bytes 0 0 + get_or bytes 1 0 * 256 + get_or bytes 2 0 * 65536 + get_or bytes 3 0 * 16777216 ≡ little (take 4 bytes)
+four_of [] long = absurd (omega (arith, long))
+four_of (a ∷ []) long = absurd (omega (arith, long))
+four_of (a ∷ b ∷ []) long = absurd (omega (arith, long))
+four_of (a ∷ b ∷ c ∷ []) long = absurd (omega (arith, long))
+four_of (a ∷ b ∷ c ∷ d ∷ bytes) long = omega arith
+
+pub field-four : (bytes : List ℕ) (offset : ℕ) → offset + 4 ≤ length bytes
+    → get_or bytes offset 0 + get_or bytes (offset + 1) 0 * 256 + get_or bytes (offset + 2) 0 * 65536 + get_or bytes (offset + 3) 0 * 16777216 ≡ field bytes offset 4
+field-four bytes offset within =
+    let at : (i : ℕ) → get_or bytes (offset + i) 0 ≡ get_or (drop offset bytes) i 0 = λ i. sym (get_or-drop offset bytes i 0) in
+    let first : offset ≡ offset + 0 = omega arith in
+    let width : offset + 4 - offset ≡ 4 = omega arith in
+    (λ j. (ap (λ (n : ℕ). get_or bytes n 0) first ∙ at 0) j + at 1 j * 256 + at 2 j * 65536 + at 3 j * 16777216)
+    ∙ four_of (drop offset bytes) (omega (arith, within, length-drop offset bytes))
+    ∙ ap (λ (n : ℕ). little (take n (drop offset bytes))) (sym width)

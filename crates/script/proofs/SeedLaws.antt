@@ -1,22 +1,13 @@
 -- A sector that is written byte by byte, and sectors one after the other.
-use Rattle.std.proofs.Common.{◌≡◌, ℕ, zero, suc, ◌+◌, ◌*◌, ◌^◌, ◌%◌, ◌<◌, ◌≤◌, List, [], ◌∷◌, ◌++◌, length, take, drop, get_or, set, refl, sym, ap, ap₂, ◌∙◌, arith, ◌⊎◌, inl, inr}
-use Rattle.std.proofs.lemmas.Bool.{cases_lt}
-use Rattle.std.proofs.lemmas.List.{ext_get_or, get_or-drop, length-drop, take-append-drop, get_or-set_other, length-append, take_all, take-append-le, drop-append-le}
-use Rattle.std.proofs.lemmas.Grind.{get_or-set_at}
+use Rattle.std.proofs.Common.{◌≡◌, ℕ, zero, suc, ◌+◌, ◌-◌, ◌*◌, ◌/◌, ◌^◌, ◌%◌, ◌<◌, ◌≤◌, List, [], ◌∷◌, ◌++◌, length, take, drop, get_or, refl, sym, ap, ap₂, ◌∙◌, arith}
+use Rattle.std.proofs.lemmas.Slice.{take-put_mid, drop-put_mid}
+use borrow.Rule.Slice.PartMut.{put_mid}
+use Rattle.std.proofs.lemmas.List.{ext_get_or, get_or-drop, length-drop, take-append-drop, length-append, take_all, take-append-le, drop-append-le}
 use Rattle.std.specs.Int.{w32, to_le_bytes}
 use Rattle.history.specs.raid_types_Search.{tabulate}
 use Rattle.history.specs.raid_types_Sectors.{first_sectors, IsWhole}
 use Rattle.history.proofs.raid_types_Tabulated.{length-tabulate, get_or-tabulate}
 use Rattle.script.specs.Seeds.{seed_byte, seed_sector, seeded}
-
--- one byte more is written
-pub stored : (s : List ℕ) (b v : ℕ) (f : ℕ → ℕ) → b < length s → ((k : ℕ) → 8 ≤ k → k < b → get_or s k 0 ≡ f k) → v ≡ f b
-    → (k : ℕ) → 8 ≤ k → k < b + 1 → get_or (set s b v) k 0 ≡ f k
-stored s b v f within before new k low high = by_place (cases_lt k b)
-  where
-    by_place : (k < b) ⊎ (b ≤ k) → get_or (set s b v) k 0 ≡ f k
-    by_place (inl lt) = get_or-set_other s b k v 0 (omega (arith, lt)) ∙ before k low lt
-    by_place (inr ge) = let e : k ≡ b = omega (arith, ge, high) in get_or-set_at s b k v 0 e within ∙ new ∙ ap f (sym e)
 
 pub whole_sector : (s : List ℕ) (seed x : ℕ) → length s ≡ 512 → take 8 s ≡ to_le_bytes w32 seed ++ to_le_bytes w32 (x % 2 ^ 32)
     → ((k : ℕ) → 8 ≤ k → k < 512 → get_or s k 0 ≡ seed_byte seed x k) → s ≡ seed_sector seed x
@@ -29,6 +20,26 @@ whole_sector s seed x size head body =
     (ext_get_or 0 (drop 8 s) (tabulate 504 (λ k. seed_byte seed x (8 + k))) (omega (arith, rest, size, wanted))
     (λ i h. get_or-drop 8 s i 0 ∙ body (8 + i) (omega arith) (omega (arith, h, rest, size))
     ∙ sym (get_or-tabulate 504 (λ k. seed_byte seed x (8 + k)) i 0 (omega (arith, h, rest, size)))))
+
+-- a sector that counts on, from the seed's and the place's low bytes on, with the first eight bytes put in place
+pub headed_sector : (s one two : List ℕ) (seed x first : ℕ) → first % 256 ≡ (seed + x) % 256 → length s ≡ 512 → ((k : ℕ) → k < 512 → get_or s k 0 ≡ (first + k) % 256)
+    → one ≡ to_le_bytes w32 seed → two ≡ to_le_bytes w32 (x % 2 ^ 32) → put_mid 4 4 (put_mid 0 4 s one) two ≡ seed_sector seed x
+headed_sector s one two seed x first low_byte long counted is is' =
+    let four : length one ≡ 4 = ap (λ (l : List ℕ). length l) is in
+    let four' : length two ≡ 4 = ap (λ (l : List ℕ). length l) is' in
+    let t : List ℕ = put_mid 0 4 s one in
+    let room : 4 ≤ length t = omega (arith, length-append one (drop 4 s), four) in
+    let behind : drop 8 (put_mid 4 4 t two) ≡ drop 8 s = drop-put_mid 4 4 t two 8 (omega arith) room four' ∙ drop-put_mid 0 4 s one 8 (omega arith) (omega arith) four in
+    let front : take 8 (put_mid 4 4 t two) ≡ one ++ two = take-put_mid 4 4 t two 8 (omega (arith, four')) room ∙ ap (λ (l : List ℕ). l ++ two) (take-put_mid 0 4 s one 4 (omega (arith, four)) (omega arith)) in
+    let parts = length-append (take 8 (put_mid 4 4 t two)) (drop 8 (put_mid 4 4 t two)) in
+    let all : length (put_mid 4 4 t two) ≡ 512 =
+    ap (λ (l : List ℕ). length l) (sym (take-append-drop 8 (put_mid 4 4 t two))) ∙ parts
+    ∙ omega (arith, ap (λ (l : List ℕ). length l) front, length-append one two, four, four', ap (λ (l : List ℕ). length l) behind, length-drop 8 s, long) in
+    whole_sector (put_mid 4 4 t two) seed x all (front ∙ (λ j. is j ++ is' j))
+    (λ k low high.
+    let place : 8 + (k - 8) ≡ k = omega (arith, low) in
+    ap (λ (n : ℕ). get_or (put_mid 4 4 t two) n 0) (sym place) ∙ sym (get_or-drop 8 (put_mid 4 4 t two) (k - 8) 0)
+    ∙ ap (λ (l : List ℕ). get_or l (k - 8) 0) behind ∙ get_or-drop 8 s (k - 8) 0 ∙ ap (λ (n : ℕ). get_or s n 0) place ∙ counted k high ∙ omega (arith, low_byte))
 
 pub length-seed_sector : (seed x : ℕ) → length (seed_sector seed x) ≡ 512
 unfolding seed_sector

@@ -7,7 +7,7 @@ ghost use Rattle.script.specs.Texts.{assembled_text, busy_word, created_text, en
 
 use crate::seeds::seed_contents;
 use history::{BusyKind, Event, Refusal, Sectors, Shape, ShapeField, Status};
-use script_words::layout_name;
+use script_words::{are_alike, layout_name};
 use std::alloc::AllocError;
 
 /// Appends `created`.
@@ -335,11 +335,11 @@ enum Look {
 fn look_at(x: u64, sector: &[u8; 512]) -> Look
     ensures { kind_seen result sector.now ≡ kind_of x sector.now }
 {
-    if *sector == [0; 512] {
+    if are_alike(sector, &[0; 512]) {
         return Look::Zero;
     }
     let seed = u32::from_le_bytes([sector[0], sector[1], sector[2], sector[3]]);
-    if *sector == seed_contents(seed, x) {
+    if are_alike(sector, &seed_contents(seed, x)) {
         Look::Seed(seed)
     } else {
         Look::Hex
@@ -352,7 +352,7 @@ fn are_same(look: Look, sector: &[u8; 512], other: Look, next: &[u8; 512]) -> bo
     match (look, other) {
         (Look::Zero, Look::Zero) => true,
         (Look::Seed(seed), Look::Seed(another)) => seed == another,
-        (Look::Hex, Look::Hex) => *sector == *next,
+        (Look::Hex, Look::Hex) => are_alike(sector, next),
         _ => false,
     }
 }

@@ -4,19 +4,17 @@ ghost use Rattle.std.specs.Prelude.{◌≡◌, ◌+◌, ◌≤◌, ◌^◌, IfOk
 ghost use Rattle.script.specs.Seeds.{seed_sector, seeded};
 
 use history::Sectors;
+use script_words::counted_sector;
 use std::alloc::{AllocError, Global};
 
 /// The 512 bytes that `seed` writes into sector `x`.
 pub fn seed_contents(seed: u32, x: u64) -> [u8; 512]
     ensures { result ≡ seed_sector seed x }
 {
-    let mut sector = [0u8; 512];
+    let first = ((u64::from(seed) + x % 256) % 256) as u8;
+    let mut sector = counted_sector(first);
     sector[..4].copy_from_slice(&seed.to_le_bytes());
     sector[4..8].copy_from_slice(&((x % 0x1_0000_0000) as u32).to_le_bytes());
-    let sum = u64::from(seed) % 256 + x % 256;
-    for b in 8..512u64 {
-        sector[b as usize] = ((sum + b) % 256) as u8;
-    }
     sector
 }
 

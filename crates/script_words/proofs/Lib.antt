@@ -1,3 +1,4 @@
 pub mod Decimals
 pub mod LeastLaws
 pub mod WordsLaws
+pub mod SectorBlocks

@@ -35,12 +35,12 @@ impl<B: Bank> Still<B> {
         ensures unlimited { IfOk result (λ made. made.limit ≡ None) }
         ensures handed_back { IfErr result (λ e. e.0 ≡ bank) }
     {
-        let room = match room_for(alloc) {
-            Ok(room) => room,
-            Err(none) => return Err((bank, none)),
-        };
         let far = match room_for(alloc) {
             Ok(far) => far,
+            Err(none) => return Err((bank, none)),
+        };
+        let room = match room_for(alloc) {
+            Ok(room) => room,
             Err(none) => return Err((bank, none)),
         };
         let Room {

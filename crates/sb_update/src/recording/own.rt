@@ -10,14 +10,14 @@ ghost use Rattle.sb_specs.specs.Outcome.{IsStored, IsPlannedOwn, AreStored};
 
 use crate::plan::planned;
 use sb_specs::sets::contains;
-use sb_specs::{Give, Sb, SbList, fields_of, sectors_of};
+use sb_specs::{Give, Sb, SbList, sectors_of};
 
-// The fields of two sectors.
-fn decoded(sectors: &[u8; 1024]) -> Sb
-    ensures fields { result ≡ sb_of sectors.now }
+// The checksum that stands in two sectors.
+fn checksum_in(sectors: &[u8; 1024]) -> u32
+    ensures checksum { result ≡ (sb_of sectors.now).sb_csum }
     ensures bytes { (i : ℕ) → slice_index_or sectors.now i 0 < 256 }
 {
-    fields_of(sectors)
+    u32::from_le_bytes([sectors[216], sectors[217], sectors[218], sectors[219]])
 }
 
 // A superblock with its checksum.
@@ -26,7 +26,10 @@ fn stored(sb: &Sb) -> Sb
     ensures { IsStored sb.now (Some result) }
 {
     let sectors = sectors_of(sb);
-    decoded(&sectors)
+    Sb {
+        sb_csum: checksum_in(&sectors),
+        ..*sb
+    }
 }
 
 // Keeps a slot's superblock as it was stored.

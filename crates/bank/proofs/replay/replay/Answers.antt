@@ -3,7 +3,7 @@ use Rattle.std.specs.Prelude.{slice_index}
 use Rattle.raid_types.specs.Sectors.{Sector}
 use Rattle.bank.specs.declared.bank.Operation.{Operation}
 use Rattle.bank.specs.declared.bank.Operation.TheVariants.{Write}
-use Rattle.bank.specs.Memory.{sector_of, lists_of}
+use Rattle.bank.specs.Memory.{sector_of}
 use Rattle.bank.specs.Tape.{after_one}
 use Rattle.bank.specs.Picks.{is_taken}
 use Rattle.bank.proofs.Kept.{kept_step}
@@ -19,5 +19,5 @@ loop-place-preserved c =
       sectors = λ s. one.sectors s ∙ inv.sectors s;
       each = λ s k. one.each s k
           ∙ ap (λ (x : Sector). if is_taken c.args.pick (slice_index c.args.marks.now.items s) c.loop-place.place then after_one s k (get_or c.args.tape.now c.loop-place.place d) x else x) (inv.each s k)
-          ∙ sym (kept_step s k (sector_of (lists_of c.args.slots.now.items) s k) (is_taken c.args.pick (slice_index c.args.marks.now.items s)) c.args.tape.now c.loop-place.place d c.loop-place-test.true);
+          ∙ sym (kept_step s k (sector_of c.args.slots.now.items s k) (is_taken c.args.pick (slice_index c.args.marks.now.items s)) c.args.tape.now c.loop-place.place d c.loop-place-test.true);
     }

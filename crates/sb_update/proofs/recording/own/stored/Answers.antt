@@ -1,13 +1,15 @@
-use Rattle.std.proofs.Common.{Some, ap, arith}
+use Rattle.std.proofs.Common.{Some, sym, ap, ◌∙◌, arith}
 use Rattle.sb_specs.specs.sb_codec_the_Sb.{Sb}
 use Rattle.sb_update.proofs.recording.own.stored.Goals as goal
 
 pub returns : goal.returns
-returns c = record {
-  bytes = c.sectors_of-sectors.result;
-  long = omega arith;
-  small = c.decoded.ensures.bytes;
-  valid = c.sectors_of-sectors.ensures.valid;
-  fields = c.sectors_of-sectors.ensures.fields;
-  own = ap (λ (sb : Sb). Some sb) c.decoded.ensures.fields;
-}
+returns c =
+    let fields = c.sectors_of-sectors.ensures.fields in
+    record {
+      bytes = c.sectors_of-sectors.result;
+      long = omega arith;
+      small = c.checksum_in.ensures.bytes;
+      valid = c.sectors_of-sectors.ensures.valid;
+      fields = fields;
+      own = ap (λ (n : _). Some (record c.args.sb.now { sb_csum = n })) (c.checksum_in.ensures.checksum ∙ ap (λ (s : Sb). s.sb_csum) fields) ∙ sym (ap (λ (s : Sb). Some s) fields);
+    }

@@ -1,4 +1,0 @@
-use Rattle.sb_update.proofs.recording.own.decoded.Goals as goal
-
-pub returns-clause-bytes : goal.returns-clause-bytes
-returns-clause-bytes c = c.fits-sectors
