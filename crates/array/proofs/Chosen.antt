@@ -18,9 +18,9 @@ use Rattle.array_takeover.specs.history_the_Request_TheVariants.{Write as AsksWr
 use Rattle.array_takeover.specs.history_Growing.{EndBy}
 use Rattle.array_takeover.specs.history_OneShape.{IsOfCall}
 use Rattle.array_takeover.specs.history_Plain.{entries_of}
-use Rattle.array_grow.specs.array_members_Lacking.{IsUnread, IsUnwritten, are_mended, mended_rows}
+use Rattle.array_grow.specs.array_members_Lacking.{IsUnread, IsUnwritten, are_synced, synced_rows}
 use Rattle.array_grow.specs.array_call_specs_Calls.{IsRefusedFor, IsCausedBy, IsAnswered, IsEntered, IsReplied, StandsInside}
-use Rattle.array_grow.specs.stripe_region_resync_Mends.{relied_sector}
+use Rattle.array_grow.specs.stripe_region_resync_Resyncs.{relied_sector}
 use Rattle.array_grow.specs.history_invariant_Recorded.{entry_of}
 use Rattle.array_grow.specs.array_specs_Parts.{RunningParts, visible_in}
 use Rattle.array_grow.specs.reshape_progress_Course.{hidden_in}
@@ -45,29 +45,29 @@ err-so (Err e) so fact = so fact
 
 module _ {B : Type 0} (array : RunningParts B) (at count : ℕ) (old new : Members) {T : Type 0} (result : Result T Fault) where
   pub read-still : is_reshaping array.parts.members.newest ≡ false
-      → IsCausedBy (visible_in array) (at + count) (IsUnread (shape_of array.parts.members.newest) (mended_rows array.parts.work.resync array.parts.members) at count) old new result
+      → IsCausedBy (visible_in array) (at + count) (IsUnread (shape_of array.parts.members.newest) (synced_rows array.parts.work.resync array.parts.members) at count) old new result
       → IsCausedBy (visible_in array) (at + count) (IsReadLacked array at count) old new result
   read-still still caused = subst (λ (b : Bool). IsCausedBy (visible_in array) (at + count) (λ m refusal. MatchBool b (IsUnreadAround (hidden_in array.course.window) (relied_sector array.parts.members.newest array.parts.work.resync) at (at + count) m refusal)
-      (IsUnread (shape_of array.parts.members.newest) (mended_rows array.parts.work.resync array.parts.members) at count m refusal)) old new result) (sym still) caused
+      (IsUnread (shape_of array.parts.members.newest) (synced_rows array.parts.work.resync array.parts.members) at count m refusal)) old new result) (sym still) caused
 
   pub read-moving : is_reshaping array.parts.members.newest ≡ true
       → IsCausedBy (visible_in array) (at + count) (IsUnreadAround (hidden_in array.course.window) (relied_sector array.parts.members.newest array.parts.work.resync) at (at + count)) old new result
       → IsCausedBy (visible_in array) (at + count) (IsReadLacked array at count) old new result
   read-moving active caused = subst (λ (b : Bool). IsCausedBy (visible_in array) (at + count) (λ m refusal. MatchBool b (IsUnreadAround (hidden_in array.course.window) (relied_sector array.parts.members.newest array.parts.work.resync) at (at + count) m refusal)
-      (IsUnread (shape_of array.parts.members.newest) (mended_rows array.parts.work.resync array.parts.members) at count m refusal)) old new result) (sym active) caused
+      (IsUnread (shape_of array.parts.members.newest) (synced_rows array.parts.work.resync array.parts.members) at count m refusal)) old new result) (sym active) caused
 
   pub write-still : is_reshaping array.parts.members.newest ≡ false
       → IsCausedBy (visible_in array) (at + count) (IsUnwritten (shape_of array.parts.members.newest)
-      (are_mended (shape_of array.parts.members.newest) (mended_rows array.parts.work.resync array.parts.members) (at + count))) old new result
+      (are_synced (shape_of array.parts.members.newest) (synced_rows array.parts.work.resync array.parts.members) (at + count))) old new result
       → IsCausedBy (visible_in array) (at + count) (IsWriteLackedIn array at count) old new result
   write-still still caused = subst (λ (b : Bool). IsCausedBy (visible_in array) (at + count) (λ m refusal. MatchBool b (IsWriteBarred array.course.window (relied_sector array.parts.members.newest array.parts.work.resync) at (at + count) m refusal)
-      (IsUnwritten (shape_of array.parts.members.newest) (are_mended (shape_of array.parts.members.newest) (mended_rows array.parts.work.resync array.parts.members) (at + count)) m refusal)) old new result) (sym still) caused
+      (IsUnwritten (shape_of array.parts.members.newest) (are_synced (shape_of array.parts.members.newest) (synced_rows array.parts.work.resync array.parts.members) (at + count)) m refusal)) old new result) (sym still) caused
 
   pub write-moving : is_reshaping array.parts.members.newest ≡ true
       → IsCausedBy (visible_in array) (at + count) (IsWriteBarred array.course.window (relied_sector array.parts.members.newest array.parts.work.resync) at (at + count)) old new result
       → IsCausedBy (visible_in array) (at + count) (IsWriteLackedIn array at count) old new result
   write-moving active caused = subst (λ (b : Bool). IsCausedBy (visible_in array) (at + count) (λ m refusal. MatchBool b (IsWriteBarred array.course.window (relied_sector array.parts.members.newest array.parts.work.resync) at (at + count) m refusal)
-      (IsUnwritten (shape_of array.parts.members.newest) (are_mended (shape_of array.parts.members.newest) (mended_rows array.parts.work.resync array.parts.members) (at + count)) m refusal)) old new result) (sym active) caused
+      (IsUnwritten (shape_of array.parts.members.newest) (are_synced (shape_of array.parts.members.newest) (synced_rows array.parts.work.resync array.parts.members) (at + count)) m refusal)) old new result) (sym active) caused
 
 -- ---- the reply of a write
 

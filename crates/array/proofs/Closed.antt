@@ -23,7 +23,7 @@ use Rattle.array_takeover.specs.history_the_StepKind.{StepKind}
 use Rattle.array_takeover.specs.history_the_StepKind_TheVariants.{Finished, TakenOver, RebuildTaken, RebuildStripe, RebuildEnded, ResyncStripe, ResyncEnded}
 use Rattle.array_takeover.specs.history_Plain.{entries_of}
 use Rattle.array_takeover.specs.history_Reshaped.{is_done, open_plans}
-use Rattle.array_grow.specs.array_members_Placed.{is_vacant, AreWhole, IsPlaced}
+use Rattle.array_grow.specs.array_members_Placed.{is_unassigned, AreWhole, IsPlaced}
 use Rattle.array_grow.specs.array_members_Lacking.{AreTooMany}
 use Rattle.array_grow.specs.array_members_Status.{left_of, rebuilt_of, stripes_of}
 use Rattle.array_grow.specs.array_members_the_Work.{Work}
@@ -36,9 +36,9 @@ use Rattle.array_grow.specs.history_invariant_Recorded.{entry_of}
 use Rattle.array_takeover.specs.reshape_request_Left.{phases_of}
 use Rattle.array_grow.specs.array_specs_Parts.{RunningParts, still_left}
 use Rattle.array_grow.specs.array_specs_Calls.{IsStepTaken}
-use Rattle.array_grow.specs.array_fixed_sync_Resyncing.{is_at_end, IsUnmended}
+use Rattle.array_grow.specs.array_fixed_sync_Resyncing.{is_at_end, IsUnsynced}
 use Rattle.array_grow.specs.array_fixed_sync_Resyncing as resync
-use Rattle.array_grow.specs.array_fixed_sync_Rebuilding.{recovers, first_recovering, first_vacant, IsRebuildNext, rebuilt_role, rebuild_kind, rebuild_events}
+use Rattle.array_grow.specs.array_fixed_sync_Rebuilding.{recovers, first_recovering, first_unassigned, IsRebuildNext, rebuilt_role, rebuild_kind, rebuild_events}
 use Rattle.array_grow.specs.array_fixed_sync_Stepping.{IsUndone, IsStepEntered, next_kind}
 use Rattle.array_grow.proofs.array_fixed_sync_Lowest.{lowest-found}
 use Rattle.array_grow.proofs.array_fixed_sync_NextLaws.{next-rebuild}
@@ -66,7 +66,7 @@ vacant-missing (Recovering slot) is = refl
 vacant-missing Missing is = refl
 
 -- a role that no slot holds isn't whole
-pub vacant-never : {P : Type 0} (m : Members) (role : ℕ) → role < role_count m.newest → is_vacant (reading_of m) role ≡ true → AreWhole m → P
+pub vacant-never : {P : Type 0} (m : Members) (role : ℕ) → role < role_count m.newest → is_unassigned (reading_of m) role ≡ true → AreWhole m → P
 vacant-never m role lt vacant whole = absurd (let both : true ≡ false = sym (vacant-missing (role_state (reading_of m) role) vacant) ∙ whole role lt in cc)
 
 -- nor is one that may fail by command
@@ -121,20 +121,20 @@ rebuild-closes who kind roles spares end role left old new is none = closes-behi
 
 -- the role of a rebuild that is next is one of the shape's
 rebuilt-below : (m : Members) → IsRebuildNext m → rebuilt_role m < (shape_of m.newest).disks
-rebuilt-below m next = by (first_recovering m) refl (first_vacant m) refl next
+rebuilt-below m next = by (first_recovering m) refl (first_unassigned m) refl next
   where
-    by : (a : Option ℕ) → first_recovering m ≡ a → (b : Option ℕ) → first_vacant m ≡ b → IsRebuildNext m → rebuilt_role m < (shape_of m.newest).disks
+    by : (a : Option ℕ) → first_recovering m ≡ a → (b : Option ℕ) → first_unassigned m ≡ b → IsRebuildNext m → rebuilt_role m < (shape_of m.newest).disks
     by (Some role) is b there some =
-        subst (λ (o : Option ℕ). unwrap_or o (unwrap_or (first_vacant m) 0) < (shape_of m.newest).disks) (sym is)
+        subst (λ (o : Option ℕ). unwrap_or o (unwrap_or (first_unassigned m) 0) < (shape_of m.newest).disks) (sym is)
         (lowest-found (shape_of m.newest).disks (λ r. recovers (role_state (reading_of m) r)) role is).0
     by None is (Some role) there some =
-        subst (λ (o : Option ℕ). unwrap_or o (unwrap_or (first_vacant m) 0) < (shape_of m.newest).disks) (sym is)
-        (subst (λ (o : Option ℕ). unwrap_or o 0 < (shape_of m.newest).disks) (sym there) (lowest-found (shape_of m.newest).disks (is_vacant (reading_of m)) role there).0)
+        subst (λ (o : Option ℕ). unwrap_or o (unwrap_or (first_unassigned m) 0) < (shape_of m.newest).disks) (sym is)
+        (subst (λ (o : Option ℕ). unwrap_or o 0 < (shape_of m.newest).disks) (sym there) (lowest-found (shape_of m.newest).disks (is_unassigned (reading_of m)) role there).0)
     by None is None there (inl some) = absurd (let none : false ≡ true = sym (ap (λ (o : Option ℕ). is_some o) is) ∙ some in cc)
     by None is None there (inr some) = absurd (let none : false ≡ true = sym (ap (λ (o : Option ℕ). is_some o) there) ∙ some.0 in cc)
 
 -- the role that a step gives to a spare has no slot
-pub given-vacant : (work : Work) (m : Members) → 0 < left_of work m → next_kind work m ≡ RebuildTaken → is_vacant (reading_of m) (rebuilt_role m) ≡ true
+pub given-vacant : (work : Work) (m : Members) → 0 < left_of work m → next_kind work m ≡ RebuildTaken → is_unassigned (reading_of m) (rebuilt_role m) ≡ true
 given-vacant work m some kind = by work.resync refl kind
   where
     mends : (b : Bool) → (if b then ResyncEnded else ResyncStripe) ≡ RebuildTaken → ⊥
@@ -145,18 +145,18 @@ given-vacant work m some kind = by work.resync refl kind
     builds true e = absurd (cc)
     builds false e = absurd (cc)
 
-    at : (a : Option ℕ) → first_recovering m ≡ a → (b : Option ℕ) → first_vacant m ≡ b → IsRebuildNext m → option_map_or (λ role. if nat_lt (rebuilt_of work role) (stripes_of m) then RebuildStripe else RebuildEnded) a RebuildTaken ≡ RebuildTaken
-        → is_vacant (reading_of m) (rebuilt_role m) ≡ true
+    at : (a : Option ℕ) → first_recovering m ≡ a → (b : Option ℕ) → first_unassigned m ≡ b → IsRebuildNext m → option_map_or (λ role. if nat_lt (rebuilt_of work role) (stripes_of m) then RebuildStripe else RebuildEnded) a RebuildTaken ≡ RebuildTaken
+        → is_unassigned (reading_of m) (rebuilt_role m) ≡ true
     at (Some role) is b there next e = absurd (builds (nat_lt (rebuilt_of work role) (stripes_of m)) e)
     at None is (Some role) there next e =
-        subst (λ (o : Option ℕ). is_vacant (reading_of m) (unwrap_or o (unwrap_or (first_vacant m) 0)) ≡ true) (sym is)
-        (subst (λ (o : Option ℕ). is_vacant (reading_of m) (unwrap_or o 0) ≡ true) (sym there) (lowest-found (shape_of m.newest).disks (is_vacant (reading_of m)) role there).1)
+        subst (λ (o : Option ℕ). is_unassigned (reading_of m) (unwrap_or o (unwrap_or (first_unassigned m) 0)) ≡ true) (sym is)
+        (subst (λ (o : Option ℕ). is_unassigned (reading_of m) (unwrap_or o 0) ≡ true) (sym there) (lowest-found (shape_of m.newest).disks (is_unassigned (reading_of m)) role there).1)
     at None is None there (inl found) e = absurd (let none : false ≡ true = sym (ap (λ (o : Option ℕ). is_some o) is) ∙ found in cc)
     at None is None there (inr found) e = absurd (let none : false ≡ true = sym (ap (λ (o : Option ℕ). is_some o) there) ∙ found.0 in cc)
 
-    by : (o : Option ℕ) → work.resync ≡ o → option_map_or (λ mended. resync.next_kind work.resync m) o (rebuild_kind work m) ≡ RebuildTaken → is_vacant (reading_of m) (rebuilt_role m) ≡ true
+    by : (o : Option ℕ) → work.resync ≡ o → option_map_or (λ mended. resync.next_kind work.resync m) o (rebuild_kind work m) ≡ RebuildTaken → is_unassigned (reading_of m) (rebuilt_role m) ≡ true
     by (Some mended) waits e = absurd (mends (is_at_end work.resync m) e)
-    by None synced e = at (first_recovering m) refl (first_vacant m) refl (next-rebuild work m synced some) e
+    by None synced e = at (first_recovering m) refl (first_unassigned m) refl (next-rebuild work m synced some) e
 
 pub why-of : (visible : ℕ) (why : Members → Refusal → Type 0) (old new : Members) (refusal : Refusal) → IsRefusedFor visible 0 why old new refusal → why new refusal
 why-of visible why old new (PastEnd told) is = absurd (let lt = is.1 in omega (arith, lt))
@@ -167,11 +167,11 @@ module _ {B : Type 0} (given : Given) (who : Who) (old new : RunningParts B) (pl
   undone-never : {P : Type 0} (refusal : Refusal) → IsUndone old.parts.work old.parts.members new.parts.members refusal → AreWhole new.parts.members → P
   undone-never {P = P} refusal why whole = by old.parts.work.resync why
     where
-      ended : (b : Bool) → IsUnmended b new.parts.members refusal → P
+      ended : (b : Bool) → IsUnsynced b new.parts.members refusal → P
       ended true many = never-too-many given new.parts.members refusal placed whole many
       ended false lacked = never-unmendable given new.parts.members refusal placed whole lacked
 
-      by : (o : Option ℕ) → MatchOption o (AreTooMany new.parts.members refusal) (λ mended. IsUnmended (is_at_end old.parts.work.resync old.parts.members) new.parts.members refusal) → P
+      by : (o : Option ℕ) → MatchOption o (AreTooMany new.parts.members refusal) (λ mended. IsUnsynced (is_at_end old.parts.work.resync old.parts.members) new.parts.members refusal) → P
       by None many = never-too-many given new.parts.members refusal placed whole many
       by (Some mended) lacked = ended (is_at_end old.parts.work.resync old.parts.members) lacked
 

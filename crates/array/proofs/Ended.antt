@@ -21,7 +21,7 @@ use Rattle.array_grow.proofs.crash_views_Alike.{for-both}
 use Rattle.array_grow.specs.array_members_Placed.{IsInForce}
 use Rattle.array_grow.specs.array_members_Lacking.{AreTooMany, IsNotResynced}
 use Rattle.array_grow.specs.stripe_region_resync_the_Stripe.{Stripe}
-use Rattle.array_grow.specs.stripe_region_resync_Mends.{low_end, low_shape, high_shape, low_stripes, high_stripe, mend_shape, IsNotMended}
+use Rattle.array_grow.specs.stripe_region_resync_Resyncs.{low_end, low_shape, high_shape, low_stripes, high_stripe, resync_shape, IsNotSynced}
 use Rattle.array_grow.specs.array_call_specs_Calls.{by_answer, IsCausedBy}
 use Rattle.array_takeover.specs.reshape_request_the_PhasesLeft.{PhasesLeft}
 use Rattle.array_grow.specs.reshape_request_Asked.{lowest_missing}
@@ -35,7 +35,7 @@ use Rattle.array_grow.specs.array_specs_Parts.{RunningParts, still_left}
 use Rattle.array_grow.specs.array_specs_Calls.{IsStepTaken}
 use Rattle.array_grow.specs.array_reshaping_laws_Steps.{resync_behind, IsStepCaused}
 use Rattle.array_grow.specs.array_fixed_laws_Steps.{IsEndedRight, IsClosable}
-use Rattle.array_grow.specs.array_fixed_sync_Resyncing.{is_at_end, IsUnmended}
+use Rattle.array_grow.specs.array_fixed_sync_Resyncing.{is_at_end, IsUnsynced}
 use Rattle.array_grow.specs.array_fixed_sync_Stepping.{IsUndone, after_step}
 use Rattle.array_grow.specs.array_reshaping_steps_Replies.{IsEndedInReshape}
 use Rattle.array_grow.specs.array_transition_Begun.{IsUnbegun, IsBeginRefused}
@@ -63,11 +63,11 @@ undone-ends old new before after ahead refusal same why = inl (by old.resync ref
     pending : {P : Type 0} (mended : ℕ) → old.resync ≡ Some mended → new.resync ≡ None → P
     pending mended is none = absurd (let both : ◌≡◌ {A = Option ℕ} (Some mended) None = sym is ∙ (sym (ap (λ (w : Work). w.resync) same) ∙ none) in cc)
 
-    ended : (mended : ℕ) → old.resync ≡ Some mended → (b : Bool) → IsUnmended b after refusal → IsEndedRight new after refusal
+    ended : (mended : ℕ) → old.resync ≡ Some mended → (b : Bool) → IsUnsynced b after refusal → IsEndedRight new after refusal
     ended mended is true many = (inl many, λ none. many)
     ended mended is false lacked = (lacked, λ none. pending mended is none)
 
-    by : (o : Option ℕ) → old.resync ≡ o → MatchOption o (AreTooMany after refusal) (λ mended. IsUnmended (is_at_end old.resync before) after refusal) → IsEndedRight new after refusal
+    by : (o : Option ℕ) → old.resync ≡ o → MatchOption o (AreTooMany after refusal) (λ mended. IsUnsynced (is_at_end old.resync before) after refusal) → IsEndedRight new after refusal
     by None is many = (inl many, λ none. many)
     by (Some mended) is lacked = ended mended is (is_at_end old.resync before) lacked
 
@@ -103,7 +103,7 @@ mend-pending newest window cleared None is = absurd (never window is)
     never (Unsure span) e = between (is_some (next_window newest)) (nat_lt cleared (zeroed_by newest)) e
 
 -- its shape is one in force
-mend-force : (newest : Sb) (mended : ℕ) → IsInForce newest (mend_shape newest mended)
+mend-force : (newest : Sb) (mended : ℕ) → IsInForce newest (resync_shape newest mended)
 mend-force newest mended = by (nat_lt mended (low_stripes newest))
   where
     by : (b : Bool) → let stripe : Stripe = if b then record { shape = low_shape newest; at = mended } else record { shape = high_shape newest; at = high_stripe newest + (mended - low_stripes newest) } in IsInForce newest stripe.shape
@@ -122,15 +122,15 @@ module _ {B : Type 0} (T : Type 0) (old new : RunningParts B) (shape : shape_of 
   due-ends Enter is (inr fault) = inr (inr fault.0)
   due-ends Mend is caused =
       let pending = mend-pending old.parts.members.newest old.course.window old.course.zeroed old.parts.work.resync is in
-      of pending.0 pending.1 (why-of (list_length old.parts.members.newest) (IsNotMended (mend_shape old.parts.members.newest pending.0)) old.parts.members new.parts.members refusal (caused pending.0 pending.1))
+      of pending.0 pending.1 (why-of (list_length old.parts.members.newest) (IsNotSynced (resync_shape old.parts.members.newest pending.0)) old.parts.members new.parts.members refusal (caused pending.0 pending.1))
     where
-      of : (mended : ℕ) → old.parts.work.resync ≡ Some mended → IsNotMended (mend_shape old.parts.members.newest mended) new.parts.members refusal → IsEndedInReshape new.parts.work new.parts.members refusal
+      of : (mended : ℕ) → old.parts.work.resync ≡ Some mended → IsNotSynced (resync_shape old.parts.members.newest mended) new.parts.members refusal → IsEndedInReshape new.parts.work new.parts.members refusal
       of mended waits (inl many) = inl many
       of mended waits (inr (able, lacked)) =
           inr (inl (
             ap (λ (o : Option ℕ). is_some o) (resync ∙ waits),
-            mend_shape old.parts.members.newest mended,
-            force-on old.parts.members.newest new.parts.members.newest (mend_shape old.parts.members.newest mended) shape final (mend-force old.parts.members.newest mended),
+            resync_shape old.parts.members.newest mended,
+            force-on old.parts.members.newest new.parts.members.newest (resync_shape old.parts.members.newest mended) shape final (mend-force old.parts.members.newest mended),
             lacked,
           ))
   due-ends Copy is caused = inl (why-of (list_length old.parts.members.newest) AreTooMany old.parts.members new.parts.members refusal caused)

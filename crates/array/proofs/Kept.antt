@@ -43,7 +43,7 @@ use Rattle.array_grow.specs.array_specs_Parts.{RunningParts}
 use Rattle.array_grow.specs.array_specs_Calls.{moving_world, IsCalled, IsSameReshape}
 use Rattle.array_grow.specs.array_specs_Plans.{aim_of, ArePlansKept, turns_shape, KeepsShape}
 use Rattle.array_grow.specs.array_fixed_laws_Steps.{IsStepped}
-use Rattle.array_grow.specs.array_reshaping_laws_Mending.{IsMendCalled}
+use Rattle.array_grow.specs.array_reshaping_laws_Resyncing.{IsResyncCalled}
 use Rattle.array_grow.specs.array_transition_Begun.{IsBackupAt, IsReshapeBegun, IsGivenBack}
 use Rattle.array_grow.specs.array_transition_Ended.{IsReshapeEnded}
 use Rattle.array_grow.proofs.array_fixed_laws_PlansKept.{AddNoPlan, add-nothing, plans-kept, plans-closed, aim-begun, aim-ended}
@@ -255,7 +255,7 @@ module _ {B : Type 0} {tells : Type 0} (given : B → Given) (tape : B → List 
   rest-stepped did held = rest-kept given tape window old new (goes-same did.grows did.same) (leaves-same did.same held.roles (λ slot backup is. held.spares slot is))
 
   -- by which the work may be another
-  pub reshape-stepped : {f g : ℕ → ℕ} → IsMendCalled tells (given old.parts.bank) (tape old.parts.bank) (tape new.parts.bank) f g old new → is_reshaping new.parts.members.newest ≡ true → IsWithin tells (given new.parts.bank) (tape new.parts.bank) new
+  pub reshape-stepped : {f g : ℕ → ℕ} → IsResyncCalled tells (given old.parts.bank) (tape old.parts.bank) (tape new.parts.bank) f g old new → is_reshaping new.parts.members.newest ≡ true → IsWithin tells (given new.parts.bank) (tape new.parts.bank) new
       → IsInReshape tells (given old.parts.bank) (tape old.parts.bank) old → IsInReshape tells (given new.parts.bank) (tape new.parts.bank) new
   reshape-stepped did = reshape-kept given tape old new (record {
     given_is = given_is;

@@ -13,8 +13,8 @@ use Rattle.array_takeover.specs.history_World.{World}
 use Rattle.array_takeover.specs.history_the_Entry.{Entry}
 use Rattle.array_takeover.specs.history_the_Event.{Event}
 use Rattle.array_takeover.specs.history_the_Event_TheVariants.{Refused, Stepped}
-use Rattle.array_grow.specs.array_members_Lacking.{IsUnread, IsUnwritten, are_mended, mended_rows}
-use Rattle.array_grow.specs.stripe_region_resync_Mends.{relied_sector}
+use Rattle.array_grow.specs.array_members_Lacking.{IsUnread, IsUnwritten, are_synced, synced_rows}
+use Rattle.array_grow.specs.stripe_region_resync_Resyncs.{relied_sector}
 use Rattle.array_grow.specs.array_members_Status.{left_of}
 use Rattle.array_grow.specs.array_members_the_Work.{Work}
 use Rattle.array_takeover.specs.reshape_request_Left.{phases_of}
@@ -53,14 +53,14 @@ IsReadRight array before after entries = MatchBool (is_reshaping array.parts.mem
 abbrev pub IsReadLacked : {B : Type 0} → RunningParts B → ℕ → ℕ → Members → Refusal → Type 0
 IsReadLacked array at count m refusal =
     MatchBool (is_reshaping array.parts.members.newest) (IsUnreadAround (hidden_in array.course.window) (relied_sector array.parts.members.newest array.parts.work.resync) at (at + count) m refusal)
-    (IsUnread (shape_of array.parts.members.newest) (mended_rows array.parts.work.resync array.parts.members) at count m refusal)
+    (IsUnread (shape_of array.parts.members.newest) (synced_rows array.parts.work.resync array.parts.members) at count m refusal)
 
 -- why a write of them isn't done; in a reshape also because the open window can't be finished, or for a window whose entering failed
 abbrev pub IsWriteLackedIn : {B : Type 0} → RunningParts B → ℕ → ℕ → Members → Refusal → Type 0
 IsWriteLackedIn array at count m refusal =
     MatchBool (is_reshaping array.parts.members.newest) (IsWriteBarred array.course.window (relied_sector array.parts.members.newest array.parts.work.resync) at (at + count) m refusal)
     (IsUnwritten (shape_of array.parts.members.newest)
-    (are_mended (shape_of array.parts.members.newest) (mended_rows array.parts.work.resync array.parts.members) (at + count)) m refusal)
+    (are_synced (shape_of array.parts.members.newest) (synced_rows array.parts.work.resync array.parts.members) (at + count)) m refusal)
 
 -- ---- steps
 

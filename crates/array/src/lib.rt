@@ -5,7 +5,7 @@ mod state;
 
 pub use array_grow::{
     Bank, Course, Fault, Moving, NoMemory, Opened, PlannedGrow, Refusal, Room, Shape, Still, Who,
-    enter_all_absent, final_in, found_numbers, list_sectors, plan_grow, refuse_grow, refuse_limit,
+    append_absent, final_in, found_numbers, list_sectors, plan_grow, refuse_grow, refuse_limit,
     room_for, shape_in, zeros,
 };
 pub use array_reshaping_io::{add as add_moving, read as read_moving, write as write_moving};

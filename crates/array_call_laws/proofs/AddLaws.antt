@@ -21,7 +21,7 @@ use Rattle.array_call_specs.specs.stripe_row_Rows.{reading_of}
 use Rattle.array_call_specs.specs.Calls.{IsTaken, IsFirstOffset, IsUnaddable, IsAddedAs, IsReplied, IsRefusedFor}
 use Rattle.array_call_specs.specs.array_members_Rebuilding.{Held}
 use Rattle.array_call_specs.specs.array_members_Lacking.{AreTooMany}
-use Rattle.array_call_specs.specs.array_members_Placed.{is_vacant, IsPlaced}
+use Rattle.array_call_specs.specs.array_members_Placed.{is_unassigned, IsPlaced}
 use Rattle.array_call_specs.specs.array_members_Numbers.{bears, is_carried, free_number, spare_sb, IsSpareSb, IsOfScope, AreSecondEntries}
 use Rattle.array_call_specs.specs.Kept.{scope_in}
 use Rattle.array_call_specs.specs.array_members_the_Work.{Work}
@@ -49,21 +49,21 @@ pub record IsLowest (m : Members) : Type 0 where
   pub role : ℕ
   pub slot : ℕ
   pub held : Held m role slot
-  pub none : (lower : ℕ) → lower < role → is_vacant (reading_of m) lower ≡ true
+  pub none : (lower : ℕ) → lower < role → is_unassigned (reading_of m) lower ≡ true
 
-lowest-below : (m : Members) (n : ℕ) → ((role : ℕ) → role < n → is_vacant (reading_of m) role ≡ true) ⊎ IsLowest m
+lowest-below : (m : Members) (n : ℕ) → ((role : ℕ) → role < n → is_unassigned (reading_of m) role ≡ true) ⊎ IsLowest m
 lowest-below m zero = inl (λ role lt. absurd (omega (arith, lt)))
 lowest-below m (suc n) = by (lowest-below m n)
   where
-    at : ((role : ℕ) → role < n → is_vacant (reading_of m) role ≡ true) → (o : Option ℕ) → holder (role_state (reading_of m) n) ≡ o
-        → ((role : ℕ) → role < suc n → is_vacant (reading_of m) role ≡ true) ⊎ IsLowest m
+    at : ((role : ℕ) → role < n → is_unassigned (reading_of m) role ≡ true) → (o : Option ℕ) → holder (role_state (reading_of m) n) ≡ o
+        → ((role : ℕ) → role < suc n → is_unassigned (reading_of m) role ≡ true) ⊎ IsLowest m
     at none (Some slot) is = inr (record { role = n; slot = slot; held = is; none = none })
     at none None is = inl (λ role lt. elim (cases_lt role n) [
       | inl below ↦ none role below
-      | inr past ↦ let same : role ≡ n = omega (arith, lt, past) in ap (λ (r : ℕ). is_vacant (reading_of m) r) same ∙ ap (λ (o : Option ℕ). not (is_some o)) is
+      | inr past ↦ let same : role ≡ n = omega (arith, lt, past) in ap (λ (r : ℕ). is_unassigned (reading_of m) r) same ∙ ap (λ (o : Option ℕ). not (is_some o)) is
     ])
 
-    by : ((role : ℕ) → role < n → is_vacant (reading_of m) role ≡ true) ⊎ IsLowest m → ((role : ℕ) → role < suc n → is_vacant (reading_of m) role ≡ true) ⊎ IsLowest m
+    by : ((role : ℕ) → role < n → is_unassigned (reading_of m) role ≡ true) ⊎ IsLowest m → ((role : ℕ) → role < suc n → is_unassigned (reading_of m) role ≡ true) ⊎ IsLowest m
     by (inr found) = inr found
     by (inl none) = at none (holder (role_state (reading_of m) n)) refl
 
@@ -106,7 +106,7 @@ module _ (given : Given) (backup : Option ℕ) (slot : ℕ) (m : Members) (place
   pub offset-there : DoWithout m → (offset : ℕ) × IsFirstOffset m offset
   offset-there does = of (lowest m (valid given m placed) does)
     where
-      vacant-none : (role s : ℕ) → Held m role s → is_vacant (reading_of m) role ≡ true → ⊥
+      vacant-none : (role s : ℕ) → Held m role s → is_unassigned (reading_of m) role ≡ true → ⊥
       vacant-none role s held vacant = let e = sym (ap (λ (o : Option ℕ). not (is_some o)) held) ∙ vacant in cc
 
       of : IsLowest m → (offset : ℕ) × IsFirstOffset m offset

@@ -11,7 +11,7 @@ use Rattle.array_call_specs.specs.sb_specs_the_Members.{Members}
 use Rattle.array_call_specs.specs.sb_specs_Reading.{is_clean, role_state, holder}
 use Rattle.array_call_specs.specs.stripe_row_Rows.{reading_of, role_without, members_without}
 use Rattle.array_call_specs.proofs.stripe_row_Losses.{state_after}
-use Rattle.array_call_specs.specs.array_members_Placed.{is_vacant, IsPlaced}
+use Rattle.array_call_specs.specs.array_members_Placed.{is_unassigned, IsPlaced}
 use Rattle.array_call_specs.specs.crash_safety_laws_Steady.{AreUnlost, IsSafeOver}
 use Rattle.array_call_specs.specs.array_members_Moving.{IsMoved}
 use Rattle.array_call_specs.proofs.array_members_MemberLaws.{placed-without, unlost-without}
@@ -43,8 +43,8 @@ module _ (given : Given) (m mid : Members) (lost slot role : ℕ) (was : IsPlace
   itself n = grind (arith, nat_tests)
 
   -- no slot holds its role
-  pub out-vacant : is_vacant (reading_of mid) role ≡ true
-  out-vacant = subst (λ (x : Members). is_vacant (reading_of x) role ≡ true) (sym is)
+  pub out-vacant : is_unassigned (reading_of mid) role ≡ true
+  out-vacant = subst (λ (x : Members). is_unassigned (reading_of x) role ≡ true) (sym is)
       (ap (λ (s : Role). not (is_some (holder s))) (state_after m lost role ∙ ap (λ (h : Option ℕ). cond (option_map_or (has_slot lost) h false) Missing (role_state (reading_of m) role)) held
       ∙ ap (λ (b : Bool). cond b Missing (role_state (reading_of m) role)) (alone slot ∙ itself slot)))
 
@@ -53,17 +53,17 @@ module _ (given : Given) (m mid : Members) (lost slot role : ℕ) (was : IsPlace
   out-spares s has = subst (λ (x : Members). has_spare x.spares s ≡ true) (sym is) has
 
   -- and of the others those alone that had none before
-  pub out-only : (other : ℕ) → is_vacant (reading_of mid) other ≡ true → (is_vacant (reading_of m) other ≡ true) ⊎ (other ≡ role)
+  pub out-only : (other : ℕ) → is_unassigned (reading_of mid) other ≡ true → (is_unassigned (reading_of m) other ≡ true) ⊎ (other ≡ role)
   out-only other none = by (holder (role_state (reading_of m) other)) refl
     where
       now : not (is_some (holder (role_without lost (role_state (reading_of m) other)))) ≡ true
-      now = ap (λ (s : Role). not (is_some (holder s))) (sym (state_after m lost other)) ∙ subst (λ (x : Members). is_vacant (reading_of x) other ≡ true) is none
+      now = ap (λ (s : Role). not (is_some (holder s))) (sym (state_after m lost other)) ∙ subst (λ (x : Members). is_unassigned (reading_of x) other ≡ true) is none
 
-      by : (found : Option ℕ) → holder (role_state (reading_of m) other) ≡ found → (is_vacant (reading_of m) other ≡ true) ⊎ (other ≡ role)
+      by : (found : Option ℕ) → holder (role_state (reading_of m) other) ≡ found → (is_unassigned (reading_of m) other ≡ true) ⊎ (other ≡ role)
       by None state = inl (ap (λ (h : Option ℕ). not (is_some h)) state)
       by (Some s) state = of (has_slot lost s) refl
         where
-          of : (b : Bool) → has_slot lost s ≡ b → (is_vacant (reading_of m) other ≡ true) ⊎ (other ≡ role)
+          of : (b : Bool) → has_slot lost s ≡ b → (is_unassigned (reading_of m) other ≡ true) ⊎ (other ≡ role)
           of true gone =
               let same : slot ≡ s = eqb-true slot s (sym (alone s) ∙ gone) in
               inr (was.apart other role slot (state ∙ ap (λ (n : ℕ). Some n) (sym same)) held)

@@ -9,7 +9,7 @@ pub mod AddedKept
 pub mod AddedNumbers
 pub mod AddedLosses
 pub mod AdoptingLaws
-pub mod MendLaws
+pub mod ResyncLaws
 pub mod EndLaws
 pub mod RebuildLaws
 pub mod RebuildFilled

@@ -21,7 +21,7 @@ use Rattle.array_call_specs.specs.history_OneShape.{is_lost, is_gone_with, is_go
 use Rattle.array_call_specs.specs.history_Plain.{loses_role}
 use Rattle.array_call_specs.specs.history_Sound.{LosesNoRole}
 use Rattle.array_call_specs.specs.array_members_the_Work.{Work}
-use Rattle.array_call_specs.specs.array_members_Placed.{is_vacant, AreWhole, IsPlaced}
+use Rattle.array_call_specs.specs.array_members_Placed.{is_unassigned, AreWhole, IsPlaced}
 use Rattle.array_call_specs.specs.array_members_Moving.{IsMoved}
 use Rattle.array_call_specs.specs.array_members_Status.{stripes_of, rebuilt_of}
 use Rattle.array_call_specs.specs.array_members_Rebuilding.{AreSparesFree, AreRebuilt, AreRowsFull, with_whole}
@@ -135,7 +135,7 @@ module _ (given : Given) (m new : Members) (placed : IsPlaced given m) (role slo
   }
 
   -- the members only moved, where no slot holds the role
-  module _ (vacant : is_vacant (reading_of new) role ≡ true) where
+  module _ (vacant : is_unassigned (reading_of new) role ≡ true) where
     apart-of : (r s : ℕ) → holder (role_state (reading_of new) r) ≡ Some s → (r ≢ role) × (s ≢ slot)
     apart-of r s held =
         let other : r ≢ role = (λ same. absurd (let clash : false ≡ true = sym (ap (λ (o : Option ℕ). not (is_some o)) (ap (λ (k : ℕ). holder (role_state (reading_of new) k)) (sym same) ∙ held)) ∙ vacant in cc)) in
@@ -168,14 +168,14 @@ module _ (given : Given) (m new : Members) (placed : IsPlaced given m) (role slo
         never whole = let clash : true ≡ false = sym (vacant-missing (reading_of new) role vacant) ∙ whole role (subst (λ (n : ℕ). role < n) (sym (count-moved moved)) (let n = placed.roles in let at = to.below in omega (arith, at, n))) in cc
 
   -- the same roles have no slot
-  pub whole-vacant : (disks r : ℕ) → (nat_lt r disks && is_vacant (reading_of m) r) ≡ (nat_lt r disks && is_vacant (reading_of V) r)
+  pub whole-vacant : (disks r : ℕ) → (nat_lt r disks && is_unassigned (reading_of m) r) ≡ (nat_lt r disks && is_unassigned (reading_of V) r)
   whole-vacant disks r = ap (λ (o : Option ℕ). nat_lt r disks && not (is_some o)) (elim (cases_eq r role) [
     | inl same ↦ ap (λ (k : ℕ). holder (role_state (reading_of m) k)) same ∙ ap holder recovers ∙ sym (ap holder (state-here given m placed None role slot to)) ∙ ap (λ (k : ℕ). holder (role_state (reading_of V) k)) (sym same)
     | inr apart ↦ sym (ap holder (state-other given m placed None role slot to r apart))
   ])
 
   -- where a slot holds the role, it is whole there
-  pub whole-after : is_vacant (reading_of new) role ≡ false → role_state (reading_of new) role ≡ Whole slot
+  pub whole-after : is_unassigned (reading_of new) role ≡ false → role_state (reading_of new) role ≡ Whole slot
   whole-after held = by (holder (role_state (reading_of new) role)) refl
     where
       by : (o : Option ℕ) → holder (role_state (reading_of new) role) ≡ o → role_state (reading_of new) role ≡ Whole slot

@@ -14,7 +14,7 @@ use Rattle.array_call_specs.specs.sb_specs_Reading.{shape_of, role_state, rows_h
 use Rattle.array_call_specs.specs.stripe_row_Rows.{reading_of}
 use Rattle.array_call_specs.specs.stripe_list_Writing.{HasFull}
 use Rattle.array_call_specs.specs.array_members_the_Work.{Work}
-use Rattle.array_call_specs.specs.array_members_Placed.{is_vacant, IsPlaced}
+use Rattle.array_call_specs.specs.array_members_Placed.{is_unassigned, IsPlaced}
 use Rattle.array_call_specs.specs.array_members_Moving.{IsMoved}
 use Rattle.array_call_specs.specs.array_members_Status.{rebuilt_of}
 use Rattle.array_call_specs.specs.array_members_Rebuilding.{AreRebuilt, IsFilledAmong}
@@ -82,5 +82,5 @@ module _ {given : Given} {old new : Members} (work : Work) (moved : IsMoved give
           (subst (λ (k : ℕ). row < k) moved.size within)))
 
 -- a role that a slot recovers isn't vacant
-pub not-vacant : {P : Type 0} (m : Members) (role slot : ℕ) → role_state (reading_of m) role ≡ Recovering slot → is_vacant (reading_of m) role ≡ true → P
+pub not-vacant : {P : Type 0} (m : Members) (role slot : ℕ) → role_state (reading_of m) role ≡ Recovering slot → is_unassigned (reading_of m) role ≡ true → P
 not-vacant m role slot recovers vacant = absurd (let e : false ≡ true = sym (ap (λ (s : Role). not (is_some (holder s))) recovers) ∙ vacant in cc)

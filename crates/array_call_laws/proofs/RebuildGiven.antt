@@ -16,7 +16,7 @@ use Rattle.array_call_specs.specs.stripe_row_Rows.{reading_of, held_slot, is_mis
 use Rattle.array_call_specs.proofs.stripe_row_Losses.{holder-of}
 use Rattle.array_call_specs.specs.stripe_list_Full.{full_sector}
 use Rattle.array_call_specs.specs.array_members_the_Work.{Work}
-use Rattle.array_call_specs.specs.array_members_Placed.{is_vacant, IsPlaced}
+use Rattle.array_call_specs.specs.array_members_Placed.{is_unassigned, IsPlaced}
 use Rattle.array_call_specs.specs.crash_safety_laws_Steady.{AreUnlost}
 use Rattle.array_call_specs.specs.array_members_Status.{rebuilt_of}
 use Rattle.array_call_specs.specs.array_members_Rebuilding.{AreSparesFree, AreRebuilt, AreRowsFull, MayHold}
@@ -34,7 +34,7 @@ use Rattle.array_call_specs.proofs.array_members_Fit.{disks-within}
 -- ---- slots that may get the role
 
 -- a spare, where no slot holds the role
-pub receiver-spare : (given : Given) (m : Members) → IsPlaced given m → AreSparesFree given m → (role slot : ℕ) → role < (shape_of m.newest).disks → is_vacant (reading_of m) role ≡ true → has_spare m.spares slot ≡ true
+pub receiver-spare : (given : Given) (m : Members) → IsPlaced given m → AreSparesFree given m → (role slot : ℕ) → role < (shape_of m.newest).disks → is_unassigned (reading_of m) role ≡ true → has_spare m.spares slot ≡ true
     → IsReceiver given m role slot
 receiver-spare given m placed all role slot lt vacant spare =
     let free = all slot spare in
@@ -195,11 +195,11 @@ module _ (given : Given) (m : Members) (placed : IsPlaced given m) (role slot : 
   T = W given m placed (Some 0) role slot to
 
   -- no other role has a slot then
-  pub taken-vacant : (disks vacant one set : ℕ) → disks ≤ 32 → set < 2 ^ 32 → ((r : ℕ) → has_slot vacant r ≡ (nat_lt r disks && is_vacant (reading_of m) r)) → ((r : ℕ) → has_slot one r ≡ (has_slot 0 r || (role == r)))
-      → ((r : ℕ) → r < 32 → has_slot set r ≡ (has_slot vacant r && not (has_slot one r))) → (r : ℕ) → has_slot set r ≡ (nat_lt r disks && is_vacant (reading_of T) r)
+  pub taken-vacant : (disks vacant one set : ℕ) → disks ≤ 32 → set < 2 ^ 32 → ((r : ℕ) → has_slot vacant r ≡ (nat_lt r disks && is_unassigned (reading_of m) r)) → ((r : ℕ) → has_slot one r ≡ (has_slot 0 r || (role == r)))
+      → ((r : ℕ) → r < 32 → has_slot set r ≡ (has_slot vacant r && not (has_slot one r))) → (r : ℕ) → has_slot set r ≡ (nat_lt r disks && is_unassigned (reading_of T) r)
   taken-vacant disks vacant one set few small are is without r = elim (cases_lt r 32) [
     | inl low ↦ without r low ∙ taken r
-    | inr high ↦ none_above set r small high ∙ sym (ap (λ (b : Bool). b && is_vacant (reading_of T) r) (past r high))
+    | inr high ↦ none_above set r small high ∙ sym (ap (λ (b : Bool). b && is_unassigned (reading_of T) r) (past r high))
   ]
     where
       past : (r : ℕ) → 32 ≤ r → nat_lt r disks ≡ false
@@ -220,10 +220,10 @@ module _ (given : Given) (m : Members) (placed : IsPlaced given m) (role slot : 
       differ : (a b : ℕ) → a ≢ b → (a == b) ≡ false
       differ a b apart = grind (arith, nat_tests, apart)
 
-      taken : (r : ℕ) → (has_slot vacant r && not (has_slot one r)) ≡ (nat_lt r disks && is_vacant (reading_of T) r)
+      taken : (r : ℕ) → (has_slot vacant r && not (has_slot one r)) ≡ (nat_lt r disks && is_unassigned (reading_of T) r)
       taken r = elim (cases_eq r role) [
         | inl same ↦
-            let here : is_vacant (reading_of T) r ≡ false = ap (is_vacant (reading_of T)) same ∙ ap (λ (s : Role). not (is_some (holder s))) (state-here given m placed (Some 0) role slot to) in
+            let here : is_unassigned (reading_of T) r ≡ false = ap (is_unassigned (reading_of T)) same ∙ ap (λ (s : Role). not (is_some (holder s))) (state-here given m placed (Some 0) role slot to) in
             let has : has_slot one r ≡ true = is r ∙ ap (λ (b : Bool). has_slot 0 r || b) (eq-eqb role r (sym same)) ∙ or_true (has_slot 0 r) in
             ap (λ (b : Bool). has_slot vacant r && not b) has ∙ and_false (has_slot vacant r) ∙ sym (ap (λ (b : Bool). nat_lt r disks && b) here ∙ and_false (nat_lt r disks))
         | inr apart ↦

@@ -28,7 +28,7 @@ use Rattle.history_append.proofs.history_laws_OneShapeGrowing.{too_many_missing}
 use Rattle.history_append.specs.array_members_the_Work.{Work}
 use Rattle.history_append.specs.array_members_Rebuilding.{AreRebuilt}
 use Rattle.history_append.specs.array_members_Whole.{list_size}
-use Rattle.history_append.specs.array_members_Placed.{places_of, is_vacant, IsPlaced}
+use Rattle.history_append.specs.array_members_Placed.{places_of, is_unassigned, IsPlaced}
 use Rattle.history_append.proofs.array_members_HeldRows.{vacant-missing}
 use Rattle.history_append.proofs.array_members_LackingLaws.{since-missing, too-many-still}
 use Rattle.history_append.specs.Losing.{losses_of}
@@ -36,7 +36,7 @@ use Rattle.history_append.specs.array_members_Moving.{IsMoved}
 use Rattle.history_append.specs.crash_safety_laws_Marking.{AreOthersPresent}
 use Rattle.array_call_specs.specs.Kept.{AreTold, AreSectorsWhole}
 use Rattle.history_append.specs.array_members_Status.{rebuilt_of}
-use Rattle.history_append.specs.array_members_Lacking.{AreLostSince, AreTooMany, IsUnread, IsUnwritten, lacking, mended_rows, are_mended}
+use Rattle.history_append.specs.array_members_Lacking.{AreLostSince, AreTooMany, IsUnread, IsUnwritten, lacking, synced_rows, are_synced}
 use Rattle.history_append.proofs.array_members_Fit.{valid, multiple, force-disks, count-alike}
 use Rattle.history_append.proofs.array_members_Still.{count-still}
 use Rattle.array_call_specs.specs.Calls.{IsRefusedHere, IsRefusedFor, HasRole}
@@ -64,11 +64,11 @@ told-since given old new entries who end roles spares tail before after few move
 -- where no slot holds a role, there is no such role, or it is gone
 no-role-right : (world : World) (m : Members) (before : List Entry) (role : ℕ) → is_reshaping m.newest ≡ false → (opening_in world).disks ≡ (shape_of m.newest).disks → AreTold m before → (HasRole m role → ⊥) → IsNoRoleNow (opening_in world) before role
 no-role-right world m before role still disks told none = elim (cases_lt role (role_count m.newest)) [
-  | inl below ↦ inr (told role below (vacant-missing (reading_of m) role (by (is_vacant (reading_of m) role) refl below)))
+  | inl below ↦ inr (told role below (vacant-missing (reading_of m) role (by (is_unassigned (reading_of m) role) refl below)))
   | inr above ↦ inl (let same = count-still m.newest still in omega (arith, disks, same, above))
 ]
   where
-    by : (b : Bool) → is_vacant (reading_of m) role ≡ b → role < role_count m.newest → is_vacant (reading_of m) role ≡ true
+    by : (b : Bool) → is_unassigned (reading_of m) role ≡ b → role < role_count m.newest → is_unassigned (reading_of m) role ≡ true
     by true is below = is
     by false is below = absurd (none (below, is))
 
@@ -152,7 +152,7 @@ unread-here given visible at count mended resync m refusal placed within all (in
         let behind = found.3.4 in let same = all refl in omega (arith, below, behind, same))
 
 -- where the sectors of a call don't all lie in mended rows, a resync is pending
-pub pending-of : (m : Members) (resync : Option ℕ) (to : ℕ) → to ≤ list_size (places_of m) → are_mended (shape_of m.newest) (mended_rows resync m) to ≡ false → IsSome resync
+pub pending-of : (m : Members) (resync : Option ℕ) (to : ℕ) → to ≤ list_size (places_of m) → are_synced (shape_of m.newest) (synced_rows resync m) to ≡ false → IsSome resync
 pending-of m (Some n) to within none = refl
 pending-of m None to within none = absurd (above to (list_size (places_of m)) within none)
   where

@@ -30,7 +30,7 @@ use Rattle.history_append.specs.history_Plain.{entries_of}
 use Rattle.history_append.specs.history_the_Event_TheVariants.{Lost, SpareLost}
 use Rattle.history_append.specs.history_the_LostCause_TheVariants.{Fault}
 use Rattle.history_append.specs.array_members_the_Work.{Work}
-use Rattle.history_append.specs.array_members_Placed.{is_vacant}
+use Rattle.history_append.specs.array_members_Placed.{is_unassigned}
 use Rattle.history_append.specs.array_members_Moving.{IsMoved}
 use Rattle.history_append.specs.Losing.{role_loss, role_losses, spare_loss, spare_losses, losses_of}
 use Rattle.history_append.specs.array_members_Lacking.{AreLostSince}
@@ -107,7 +107,7 @@ count-less (suc n) f g at lt passes fails same = elim (cases_lt at n) [
 
 -- each role that no slot holds now had none before
 abbrev pub AreNoneVacated : Members → Members → Type 0
-AreNoneVacated old new = (role : ℕ) → role < (shape_of new.newest).disks → is_vacant (reading_of new) role ≡ true → is_vacant (reading_of old) role ≡ true
+AreNoneVacated old new = (role : ℕ) → role < (shape_of new.newest).disks → is_unassigned (reading_of new) role ≡ true → is_unassigned (reading_of old) role ≡ true
 
 -- each spare is one still
 abbrev pub AreSparesKept : Members → Members → Type 0
@@ -151,8 +151,8 @@ roles-same {old = old} {new = new} work moved none =
     ∙ ap (recovery_left work old) disks in
     record {
       steps = ap₂ (λ (a b : ℕ). a + b) (resyncs work.resync stripes) recovery;
-      vacant = count-agrees (shape_of new.newest).disks (is_vacant (reading_of new)) (is_vacant (reading_of old)) (λ role lt. ap (λ (s : Role). not (is_some (holder s))) (states role lt))
-          ∙ ap (λ (n : ℕ). count_below n (is_vacant (reading_of old))) disks;
+      vacant = count-agrees (shape_of new.newest).disks (is_unassigned (reading_of new)) (is_unassigned (reading_of old)) (λ role lt. ap (λ (s : Role). not (is_some (holder s))) (states role lt))
+          ∙ ap (λ (n : ℕ). count_below n (is_unassigned (reading_of old))) disks;
       stripes = stripes;
     }
   where
@@ -348,7 +348,7 @@ both-either a slot other none = by (slot == other) a (λ is. none (eqb-true slot
 
 -- a role that no slot holds is given to a spare
 pub left-taken : (work : Work) (members : Members) (role slot : ℕ) → role < (shape_of members.newest).disks → role < length members.roles → role < length work.rebuilt
-    → is_vacant (reading_of members) role ≡ true → has_spare members.spares slot ≡ true → slot < 32
+    → is_unassigned (reading_of members) role ≡ true → has_spare members.spares slot ≡ true → slot < 32
     → left_of (with_rebuilt role 0 work) (with_recovering role slot members) + 1 ≡ left_of work members
 left-taken work members role slot lt within inside vacant spare few =
     let next : Work = with_rebuilt role 0 work in
@@ -363,7 +363,7 @@ left-taken work members role slot lt within inside vacant spare few =
     let rest : role_left stripes (rebuilt_of next role) (role_state (reading_of then) role) ≡ stripes - 0 + 1 = ap₂ (role_left stripes) (get_or-set_same work.rebuilt role 0 0 inside) set in
     let recovery = recovery-less disks next work then members role 0 (stripes + 1) lt (omega (arith, now, rest))
     (λ other o apart. ap₂ (role_left stripes) (get_or-set_other work.rebuilt role other 0 0 apart) (keeps other apart)) in
-    let fewer = count-less disks (is_vacant (reading_of members)) (is_vacant (reading_of then)) role lt vacant (ap (λ (s : Role). not (is_some (holder s))) set)
+    let fewer = count-less disks (is_unassigned (reading_of members)) (is_unassigned (reading_of then)) role lt vacant (ap (λ (s : Role). not (is_some (holder s))) set)
     (λ other o apart. ap (λ (s : Role). not (is_some (holder s))) (keeps other apart)) in
     let taken = count-less 32 (has_spare members.spares) (has_spare then.spares) slot few spare (spares slot few ∙ both-fails (has_spare members.spares slot) slot)
     (λ other o apart. spares other o ∙ both-passes (has_spare members.spares other) slot other apart) in
@@ -390,8 +390,8 @@ left-whole work members role slot lt within is all none =
     let rest : role_left stripes (rebuilt_of work role) (role_state (reading_of then) role) ≡ 0 = ap (role_left stripes (rebuilt_of work role)) set in
     let recovery = recovery-less disks work work then members role 1 0 lt (omega (arith, all, now, rest))
     (λ other o apart. ap (role_left stripes (rebuilt_of work other)) (keeps other apart)) in
-    let vacant : vacant_count then ≡ vacant_count members = count-agrees disks (is_vacant (reading_of then)) (is_vacant (reading_of members)) (λ other o. elim (cases_eq other role) [
-      | inl same ↦ subst (λ (r : ℕ). is_vacant (reading_of then) r ≡ is_vacant (reading_of members) r) (sym same) (ap (λ (s : Role). not (is_some (holder s))) set ∙ sym (ap (λ (s : Role). not (is_some (holder s))) is))
+    let vacant : vacant_count then ≡ vacant_count members = count-agrees disks (is_unassigned (reading_of then)) (is_unassigned (reading_of members)) (λ other o. elim (cases_eq other role) [
+      | inl same ↦ subst (λ (r : ℕ). is_unassigned (reading_of then) r ≡ is_unassigned (reading_of members) r) (sym same) (ap (λ (s : Role). not (is_some (holder s))) set ∙ sym (ap (λ (s : Role). not (is_some (holder s))) is))
       | inr apart ↦ ap (λ (s : Role). not (is_some (holder s))) (keeps other apart)
     ]) in
     let counted : spare_count then ≡ spare_count members = count-agrees 32 (has_spare then.spares) (has_spare members.spares)

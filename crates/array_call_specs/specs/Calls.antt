@@ -28,7 +28,7 @@ use Rattle.history_append.specs.history_Fits.{is_lost_event}
 use Rattle.history_append.specs.history_Legal.{disturbs}
 use Rattle.history_append.specs.history_Plain.{entries_of}
 use Rattle.history_append.specs.history_OneShape.{EndsIdleSteps, OneShapeFits}
-use Rattle.history_append.specs.array_members_Placed.{is_vacant}
+use Rattle.history_append.specs.array_members_Placed.{is_unassigned}
 use Rattle.history_append.specs.Losing.{losses_of}
 use Rattle.history_append.specs.crash_views_Regions.{DoWithout}
 use Rattle.history_append.specs.array_members_Lacking.{AreTooMany, IsNotResynced}
@@ -112,7 +112,7 @@ IsEndOf tells first entries tape = tells → last_end_from first entries ≡ len
 
 -- a slot holds this role of the array, whole or in part
 abbrev pub HasRole : Members → ℕ → Type 0
-HasRole members role = (role < role_count members.newest) × (is_vacant (reading_of members) role ≡ false)
+HasRole members role = (role < role_count members.newest) × (is_unassigned (reading_of members) role ≡ false)
 
 -- what stands behind a refusal
 abbrev pub IsRefusedHere : ℕ → Option ℕ → Members → Refusal → Type 0
@@ -149,7 +149,7 @@ IsRefusalOf visible to why members (Some refusal) = IsRefusedFor visible to why 
 
 -- a fail is answered Ok exactly where a slot holds the role, which it loses, and refused, with nothing changed, exactly where none does
 abbrev pub IsFailedFor : {T : Type 0} → ℕ → Members → Members → Result T Fault → Type 0
-IsFailedFor role old new (Ok x) = HasRole old role × (is_vacant (reading_of new) role ≡ true)
+IsFailedFor role old new (Ok x) = HasRole old role × (is_unassigned (reading_of new) role ≡ true)
 IsFailedFor role old new (Err (IsRefusedWith refusal)) = (refusal ≡ NoSuchRole role) × (new ≡ old) × (HasRole old role → ⊥)
 IsFailedFor role old new (Err NoMemory) = new ≡ old
 
@@ -169,8 +169,8 @@ abbrev pub HasStripeLeft : Option ℕ → Members → Type 0
 HasStripeLeft resync members = MatchOption resync ⊥ (λ mended. mended < stripes_of members)
 
 -- a resync is pending, and has mended every stripe
-abbrev pub IsAllMended : Option ℕ → Members → Type 0
-IsAllMended resync members = resync ≡ Some (stripes_of members)
+abbrev pub IsAllSynced : Option ℕ → Members → Type 0
+IsAllSynced resync members = resync ≡ Some (stripes_of members)
 
 -- the resync after the step that mends its next stripe
 abbrev pub one_more : Option ℕ → Option ℕ
@@ -191,12 +191,12 @@ AreStripesRebuilt work members role = IsRecovered members role × (stripes_of me
 
 -- the slot recovers the role, or no slot holds it
 abbrev pub IsRecoveredOrLost : Members → ℕ → ℕ → Type 0
-IsRecoveredOrLost members role slot = (role_state (reading_of members) role ≡ Recovering slot) ⊎ (is_vacant (reading_of members) role ≡ true)
+IsRecoveredOrLost members role slot = (role_state (reading_of members) role ≡ Recovering slot) ⊎ (is_unassigned (reading_of members) role ≡ true)
 
 -- the role is whole on the slot that recovered it, or no slot holds it
 abbrev pub IsWholeOrLost : Members → Members → ℕ → Type 0
 IsWholeOrLost old new role = ((slot : ℕ) × (role_state (reading_of old) role ≡ Recovering slot) × (role_state (reading_of new) role ≡ Whole slot))
-    ⊎ (is_vacant (reading_of new) role ≡ true)
+    ⊎ (is_unassigned (reading_of new) role ≡ true)
 
 -- so many stripes of the role are rebuilt
 abbrev pub with_rebuilt : ℕ → ℕ → Work → Work
@@ -234,7 +234,7 @@ pub record IsRoleLost (who : Who) (old new : List Entry) (role : ℕ) : Type 0 w
 
 -- a step of a rebuild ended with its own entries, or with the loss of the slot that was rebuilt, or it was refused
 abbrev pub IsRebuildStepped : {T : Type 0} → Who → List Entry → List Entry → Members → ℕ → List Event → Result T Fault → Type 0
-IsRebuildStepped who old new members role events (Ok x) = IsBehindAll who old new events ⊎ (IsRoleLost who old new role × (is_vacant (reading_of members) role ≡ true))
+IsRebuildStepped who old new members role events (Ok x) = IsBehindAll who old new events ⊎ (IsRoleLost who old new role × (is_unassigned (reading_of members) role ≡ true))
 IsRebuildStepped who old new members role events (Err (IsRefusedWith refusal)) = IsBehind who old new (Refused refusal)
 IsRebuildStepped who old new members role events (Err NoMemory) = new ≡ old
 
@@ -287,7 +287,7 @@ IsTaken backup members slot = IsTrue (is_backup backup slot) ⊎ ((role : ℕ) �
 
 -- the sector at which the rows begin on the slot of the lowest role that one holds
 abbrev pub IsFirstOffset : Members → ℕ → Type 0
-IsFirstOffset members offset = ((role slot : ℕ) → Held members role slot → ((lower : ℕ) → lower < role → is_vacant (reading_of members) lower ≡ true)
+IsFirstOffset members offset = ((role slot : ℕ) → Held members role slot → ((lower : ℕ) → lower < role → is_unassigned (reading_of members) lower ≡ true)
     → offset ≡ data_offset_of (reading_of members) slot)
 
 -- why a slot isn't made a spare, before it is touched

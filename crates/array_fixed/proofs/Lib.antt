@@ -30,11 +30,11 @@ pub mod Asked
 pub use Rattle.array_fixed_laws.proofs.array_call_specs_LossLaws
 pub use Rattle.array_fixed_laws.proofs.array_call_specs_ReplyLaws
 pub use Rattle.array_fixed_laws.proofs.array_fixed_invariant_Flushing
-pub use Rattle.array_fixed_laws.proofs.MendLaws as array_fixed_laws_MendLaws
+pub use Rattle.array_fixed_laws.proofs.ResyncLaws as array_fixed_laws_ResyncLaws
 pub use Rattle.array_fixed_laws.proofs.array_call_specs_DegradedLaws
 pub use Rattle.array_fixed_laws.proofs.PlainSteps as array_fixed_laws_PlainSteps
 pub use Rattle.array_state.proofs.UnmendableLaws as array_state_UnmendableLaws
-pub use Rattle.array_fixed_laws.proofs.array_call_laws_MendLaws
+pub use Rattle.array_fixed_laws.proofs.array_call_laws_ResyncLaws
 pub use Rattle.array_fixed_laws.proofs.array_fixed_invariant_Resync
 pub use Rattle.sb_election.proofs.raid_layout_Limits
 pub use Rattle.array_fixed_laws.proofs.array_call_laws_RebuildGiven

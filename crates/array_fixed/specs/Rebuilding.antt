@@ -13,7 +13,7 @@ use Rattle.array_parts.specs.history_the_Event_TheVariants.{Step, Rebuilt}
 use Rattle.array_parts.specs.history_the_StepKind.{StepKind}
 use Rattle.array_parts.specs.history_the_StepKind_TheVariants.{RebuildTaken, RebuildStripe, RebuildEnded}
 use Rattle.array_parts.specs.array_members_the_Work.{Work}
-use Rattle.array_parts.specs.array_members_Placed.{is_vacant}
+use Rattle.array_parts.specs.array_members_Placed.{is_unassigned}
 use Rattle.array_parts.specs.array_members_Status.{stripes_of, rebuilt_of}
 use Rattle.array_fixed_laws.specs.array_call_specs_Calls.{IsRecoveredOrLost, with_rebuilt}
 use Rattle.array_parts.specs.array_members_Rebuilding.{Held}
@@ -27,19 +27,19 @@ recovers state = false
 abbrev pub first_recovering : Members → Option ℕ
 first_recovering members = least_below (shape_of members.newest).disks (λ role. recovers (role_state (reading_of members) role))
 
-abbrev pub first_vacant : Members → Option ℕ
-first_vacant members = least_below (shape_of members.newest).disks (is_vacant (reading_of members))
+abbrev pub first_unassigned : Members → Option ℕ
+first_unassigned members = least_below (shape_of members.newest).disks (is_unassigned (reading_of members))
 
 abbrev pub first_spare : Members → Option ℕ
 first_spare members = least_below 32 (has_spare members.spares)
 
 -- a slot recovers a role, or there is a spare for one that no slot holds
 abbrev pub IsRebuildNext : Members → Type 0
-IsRebuildNext members = IsSome (first_recovering members) ⊎ (IsSome (first_vacant members) × IsSome (first_spare members))
+IsRebuildNext members = IsSome (first_recovering members) ⊎ (IsSome (first_unassigned members) × IsSome (first_spare members))
 
 -- the role that is rebuilt
 abbrev pub rebuilt_role : Members → ℕ
-rebuilt_role members = unwrap_or (first_recovering members) (unwrap_or (first_vacant members) 0)
+rebuilt_role members = unwrap_or (first_recovering members) (unwrap_or (first_unassigned members) 0)
 
 -- the step gave the role that is rebuilt to the lowest spare, which recovers it then, or no slot holds it
 abbrev pub IsGivenToSpare : Members → Members → Type 0

@@ -34,7 +34,7 @@ use Rattle.array_reshaping_invariant.specs.crash_safety_laws_Safety.{HasLiveSlot
 use Rattle.array_reshaping_invariant.specs.crash_safety_laws_Steady.{IsSafeOver}
 use Rattle.array_call_laws.proofs.crash_safety_laws_Since.{since-none}
 use Rattle.array_reshaping_invariant.specs.array_members_the_Work.{Work}
-use Rattle.array_reshaping_invariant.specs.array_members_Lacking.{RowsStand, RowsStandBelow, mended_rows}
+use Rattle.array_reshaping_invariant.specs.array_members_Lacking.{RowsStand, RowsStandBelow, synced_rows}
 use Rattle.array_reshaping_invariant.specs.array_members_Numbers.{bears}
 use Rattle.array_reshaping_invariant.specs.array_members_Placed.{places_of}
 use Rattle.array_reshaping_invariant.specs.array_members_Status.{stripes_of, left_of}
@@ -77,7 +77,7 @@ dirty-at true is = absurd (cc)
 dirty-at false is = refl
 
 -- the mended rows stand, if those of a clean array do
-good-at : (clean : Bool) (m : Members) (c : Contents) (list : ℕ → Sector) → (clean ≡ true → RowsStand m c list) → RowsStandBelow (mended_rows (resync_of clean) m) m c list
+good-at : (clean : Bool) (m : Members) (c : Contents) (list : ℕ → Sector) → (clean ≡ true → RowsStand m c list) → RowsStandBelow (synced_rows (resync_of clean) m) m c list
 good-at true m c list stands row mended below = stands refl row below
 good-at false m c list stands row mended below = absurd (none (shape_of m.newest).chunk row mended)
   where

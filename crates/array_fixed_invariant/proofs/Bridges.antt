@@ -21,7 +21,7 @@ use Rattle.array_reshaping_invariant.specs.crash_safety_laws_Steady.{AreUnlost}
 use Rattle.array_reshaping_invariant.specs.crash_reshape_laws_Plans.{HasNoneRecovering}
 use Rattle.array_reshaping_invariant.proofs.crash_reshape_laws_GrownLaws.{row-list}
 use Rattle.array_reshaping_invariant.specs.array_members_the_Work.{Work}
-use Rattle.array_reshaping_invariant.specs.array_members_Lacking.{mended_rows}
+use Rattle.array_reshaping_invariant.specs.array_members_Lacking.{synced_rows}
 use Rattle.array_reshaping_invariant.specs.array_members_Numbers.{bears}
 use Rattle.array_reshaping_invariant.specs.array_members_Rebuilding.{AreSparesFree}
 use Rattle.array_reshaping_invariant.specs.array_members_Status.{stripes_of}
@@ -66,7 +66,7 @@ module _ (tells : Type 0) (given : Given) (tape : List Operation) (scope : Scope
         stands = λ x slot shown held. list-shown given m was.members_are (present given tape) current l.stands x slot shown held ∙ sym (list-is x shown.within);
         rows = λ fit. rows-shown given m was.members_are (present given tape) list (λ row lt.
             row-list m (present given tape) (shape_of m.newest) current list row (valid given m was.members_are.placed) (λ y at. list-is y (sector-inside given m was.members_are y (omega (arith, at, lt))))
-            (l.rows fit row (subst (λ (o : Option ℕ). row < mended_rows o m) (sym synced) lt) lt));
+            (l.rows fit row (subst (λ (o : Option ℕ). row < synced_rows o m) (sym synced) lt) lt));
       }
 
   pub stands-kept : IsStillKept tells given tape scope first entries m (bears work)

@@ -38,10 +38,10 @@ use Rattle.array_reshaping_invariant.specs.crash_safety_laws_Safety.{HasLiveSlot
 use Rattle.array_reshaping_invariant.specs.crash_safety_laws_Steady.{IsSafeOver, KeepsSafe, AreGoneTold, IsUncleanTold}
 use Rattle.array_reshaping_invariant.specs.array_members_the_Work.{Work}
 use Rattle.array_reshaping_invariant.specs.sb_safe_updates_Named.{AreNamedMissing}
-use Rattle.array_reshaping_invariant.specs.array_members_Lacking.{AreLostSince, RowsStandBelow, mended_rows}
+use Rattle.array_reshaping_invariant.specs.array_members_Lacking.{AreLostSince, RowsStandBelow, synced_rows}
 use Rattle.array_reshaping_invariant.specs.array_members_Moving.{Grows, IsMoved}
 use Rattle.array_reshaping_invariant.specs.array_members_Numbers.{bears}
-use Rattle.array_reshaping_invariant.specs.array_members_Placed.{IsPlaced, is_vacant}
+use Rattle.array_reshaping_invariant.specs.array_members_Placed.{IsPlaced, is_unassigned}
 use Rattle.array_reshaping_invariant.specs.array_members_Status.{stripes_of, rebuilt_of}
 use Rattle.array_reshaping_invariant.proofs.array_members_Fit.{list-alike}
 use Rattle.array_reshaping_invariant.proofs.array_members_GivenMembers.{IsReceiver, state-here, placed-given}
@@ -166,7 +166,7 @@ module _ (tells : Type 0) (given : Given) (tape tape' : List Operation) (scope :
 
   -- all rows stand, and the slot has each of the role
   rows : tells → IsFilledRight (world_in given tape scope first) entries → RowsStand old (present given tape) (now (opening_list (world_in given tape scope first)) entries)
-  rows t fills row lt = (was.listed t does fills).rows (fit t fills) row (subst (λ (o : Option ℕ). row < mended_rows o old) (sym synced) lt) lt
+  rows t fills row lt = (was.listed t does fills).rows (fit t fills) row (subst (λ (o : Option ℕ). row < synced_rows o old) (sym synced) lt) lt
 
   full : tells → IsFilledRight (world_in given tape scope first) entries → AreRowsFull old role slot (now (opening_list (world_in given tape scope first)) entries) (present given tape)
   full t fills = rows-full given old work role slot (present given tape) current placed did.below did.recovers all (rows t fills) ((was.listed t does fills).rebuilt (fit t fills))
@@ -195,7 +195,7 @@ module _ (tells : Type 0) (given : Given) (tape tape' : List Operation) (scope :
     split : (losses_of roles spares ++ Step RebuildEnded left' ∷ []) ++ Rebuilt role ∷ [] ≡ losses_of roles spares ++ Step RebuildEnded left' ∷ Rebuilt role ∷ []
     split = append_assoc (losses_of roles spares) (Step RebuildEnded left' ∷ []) (Rebuilt role ∷ [])
 
-    mended-V : (o : Option ℕ) → mended_rows o (with_whole role slot old) ≡ mended_rows o old
+    mended-V : (o : Option ℕ) → synced_rows o (with_whole role slot old) ≡ synced_rows o old
     mended-V None = refl
     mended-V (Some mended) = refl
 
@@ -209,7 +209,7 @@ module _ (tells : Type 0) (given : Given) (tape tape' : List Operation) (scope :
           whole = l.whole;
           rows = λ so. subst (λ (n : ℕ). RowsStandBelow n V (present given tape) current) (sym (mended-V work.resync))
               (among-given given old placed None role slot to (present given tape) current (whole-here given old placed role slot to (present given tape) current (full t fills))
-              (λ row. row < mended_rows work.resync old) (l.rows so));
+              (λ row. row < synced_rows work.resync old) (l.rows so));
           rebuilt = λ so. rebuilt-given given old placed None role slot to work work (present given tape) current (λ other apart. refl)
               (λ s row is under. absurd (let clash : Whole slot ≡ Recovering s = sym (state-here given old placed None role slot to) ∙ is in cc)) (l.rebuilt so);
         })
@@ -292,7 +292,7 @@ module _ (tells : Type 0) (given : Given) (tape tape' : List Operation) (scope :
 
   -- ---- where its slot was lost
 
-  module _ (vacant : is_vacant (reading_of new) role ≡ true) where
+  module _ (vacant : is_unassigned (reading_of new) role ≡ true) where
     moved-lost : IsMoved given old new
     moved-lost = moved-vacant given old new placed role slot to was.members_are.free did.recovers did.moved vacant
 

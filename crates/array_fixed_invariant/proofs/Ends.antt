@@ -22,7 +22,7 @@ use Rattle.array_reshaping_invariant.specs.history_World.{World}
 use Rattle.array_reshaping_invariant.proofs.history_SoundLaws.{fit-before}
 use Rattle.array_reshaping_invariant.specs.crash_views_Regions.{DoWithout}
 use Rattle.array_reshaping_invariant.specs.array_members_the_Work.{Work}
-use Rattle.array_reshaping_invariant.specs.array_members_Lacking.{RowsStandBelow, mended_rows}
+use Rattle.array_reshaping_invariant.specs.array_members_Lacking.{RowsStandBelow, synced_rows}
 use Rattle.array_reshaping_invariant.specs.array_members_Moving.{Grows}
 use Rattle.array_reshaping_invariant.proofs.history_append_CallLaws.{AreLossEvents}
 use Rattle.array_reshaping_invariant.proofs.history_append_LosingLaws.{entries-both}
@@ -65,7 +65,7 @@ module _ (tells : Type 0) (given : Given) (tape : List Operation) (scope : Scope
   world = world_in given tape scope first
 
   module _ (ops : List Operation) (t : tells)
-      (stand : DoWithout new → IsReliable (world_in given tape scope first) entries → OpensFit (world_in given tape scope first) → RowsStandBelow (mended_rows work.resync new) new (present given (tape ++ ops)) list)
+      (stand : DoWithout new → IsReliable (world_in given tape scope first) entries → OpensFit (world_in given tape scope first) → RowsStandBelow (synced_rows work.resync new) new (present given (tape ++ ops)) list)
       (right : IsReliable (world_in given (tape ++ ops) scope first) (entries ++ entries_of who (length (tape ++ ops)) (xs ++ event ∷ tail)))
       (told : AreToldGone (world_in given (tape ++ ops) scope first) (entries ++ entries_of who (length (tape ++ ops)) (xs ++ event ∷ tail)) new)
       (safe : IsSafeHistory ⊤ (world_in given (tape ++ ops) scope first) given new carried reshaping (entries ++ entries_of who (length (tape ++ ops)) (xs ++ event ∷ tail)))
@@ -98,7 +98,7 @@ module _ (tells : Type 0) (given : Given) (tape : List Operation) (scope : Scope
       consistent : IsConsistentAt later ((entries ++ entries_of who (length (tape ++ ops)) xs) ++ entry_of who (length (tape ++ ops)) event ∷ entries_of who (length (tape ++ ops)) tail) (length (tape ++ ops)) (shape_of new.newest)
       consistent = subst (λ (l : List Entry). IsConsistentAt later l end (shape_of new.newest)) path
           (closing-consistent given (tape ++ ops) scope first (entries ++ entries_of who end (xs ++ event ∷ tail)) new carried reshaping list rest told safe closes.named fit
-          (λ does. subst (λ (o : Option ℕ). RowsStandBelow (mended_rows o new) new (present given (tape ++ ops)) list) closes.synced (stand does reliable (fit-before world ops (begun t) fit))))
+          (λ does. subst (λ (o : Option ℕ). RowsStandBelow (synced_rows o new) new (present given (tape ++ ops)) list) closes.synced (stand does reliable (fit-before world ops (begun t) fit))))
 
       done : (b : Bool) → OnTrue b (ArePlansDone later before e (behind comes_with_step e behind_it) (open_plans before))
       done false = tt
@@ -122,11 +122,11 @@ module _ (tells : Type 0) (given : Given) (tape : List Operation) (scope : Scope
 
   -- over the tape that the call leaves, and at its end
   Then : List Operation → ℕ → Type 0
-  Then l n = (DoWithout new → IsReliable (world_in given tape scope first) entries → OpensFit (world_in given tape scope first) → RowsStandBelow (mended_rows work.resync new) new (present given l) list)
+  Then l n = (DoWithout new → IsReliable (world_in given tape scope first) entries → OpensFit (world_in given tape scope first) → RowsStandBelow (synced_rows work.resync new) new (present given l) list)
       → EndsRight given l scope first entries new carried reshaping who n (xs ++ event ∷ tail)
 
   pub ends-right : {tape' : List Operation} (end : ℕ) → Grows tells tape tape' → (tells → end ≡ length tape')
-      → (tells → DoWithout new → IsReliable (world_in given tape scope first) entries → OpensFit (world_in given tape scope first) → RowsStandBelow (mended_rows work.resync new) new (present given tape') list)
+      → (tells → DoWithout new → IsReliable (world_in given tape scope first) entries → OpensFit (world_in given tape scope first) → RowsStandBelow (synced_rows work.resync new) new (present given tape') list)
       → tells → EndsRight given tape' scope first entries new carried reshaping who end (xs ++ event ∷ tail)
   unfolding Then
   ends-right end grows at_end stand t =

@@ -28,7 +28,7 @@ use Rattle.array_reshaping_invariant.specs.crash_safety_laws_Marking.{AreOthersP
 use Rattle.array_reshaping_invariant.specs.crash_safety_laws_Safety.{HasLiveSlot, HasRoomLeft, IsRisen}
 use Rattle.array_reshaping_invariant.specs.crash_safety_laws_Steady.{IsSafeOver, KeepsSafe, AreGoneTold, IsUncleanTold, AreWritesAllowed, settled_ledger}
 use Rattle.array_reshaping_invariant.specs.array_members_the_Work.{Work}
-use Rattle.array_reshaping_invariant.specs.array_members_Lacking.{AreLostSince, AreTooMany, mended_rows}
+use Rattle.array_reshaping_invariant.specs.array_members_Lacking.{AreLostSince, AreTooMany, synced_rows}
 use Rattle.array_reshaping_invariant.specs.array_members_Moving.{Grows, IsMoved}
 use Rattle.array_reshaping_invariant.specs.array_members_Numbers.{bears}
 use Rattle.array_reshaping_invariant.specs.array_members_Status.{stripes_of}
@@ -90,7 +90,7 @@ stop-is = takes-newest Stopped refl (λ n. refl) (λ n. refl) (λ x values. refl
 module _ (tells : Type 0) (given : Given) (tape tape' : List Operation) (scope : Scope) (first : ℕ) (entries : List Entry) (old new : Members) (work : Work) (left : ℕ)
     (who : Who) (end roles spares : ℕ) (before after : ℕ → ℕ) (unsynced : Bool)
     (was : IsStill tells given tape scope first entries old work left) (live : HasLiveSlot old) (goes : IsCallGoing entries who) (caller : IsFalse (who.caller == 254)) (at_end : tells → end ≡ length tape')
-    (all : unsynced ≡ false → old.newest.size ≤ mended_rows work.resync old)
+    (all : unsynced ≡ false → old.newest.size ≤ synced_rows work.resync old)
     (did : IsFlushedStill tells given tape tape' old new roles spares before after unsynced) where
   abbrev world : World
   world = world_in given tape scope first

@@ -27,7 +27,7 @@ pub use Rattle.array_call_laws.proofs.AddedLosses as array_call_laws_AddedLosses
 pub use Rattle.array_call_laws.proofs.AdoptingLaws as array_call_laws_AdoptingLaws
 pub use Rattle.array_call_laws.proofs.EndLaws as array_call_laws_EndLaws
 pub use Rattle.array_call_laws.proofs.FailedLaws as array_call_laws_FailedLaws
-pub use Rattle.array_call_laws.proofs.MendLaws as array_call_laws_MendLaws
+pub use Rattle.array_call_laws.proofs.ResyncLaws as array_call_laws_ResyncLaws
 pub use Rattle.array_call_laws.proofs.ReadLaws as array_call_laws_ReadLaws
 pub use Rattle.array_call_laws.proofs.RebuildEnded as array_call_laws_RebuildEnded
 pub use Rattle.array_call_laws.proofs.RebuildGiven as array_call_laws_RebuildGiven

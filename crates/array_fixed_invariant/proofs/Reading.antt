@@ -23,7 +23,7 @@ use Rattle.array_reshaping_invariant.specs.history_Transfers.{IsReadOver}
 use Rattle.array_reshaping_invariant.specs.history_World.{opening_list}
 use Rattle.array_reshaping_invariant.specs.crash_views_Regions.{DoWithout}
 use Rattle.array_reshaping_invariant.specs.array_members_the_Work.{Work}
-use Rattle.array_reshaping_invariant.specs.array_members_Lacking.{ListStands, RowsStandBelow, mended_rows}
+use Rattle.array_reshaping_invariant.specs.array_members_Lacking.{ListStands, RowsStandBelow, synced_rows}
 use Rattle.array_reshaping_invariant.specs.array_members_Placed.{AreWhole}
 use Rattle.array_reshaping_invariant.proofs.array_members_LackingLists.{row-sector}
 use Rattle.array_reshaping_invariant.proofs.array_members_LiveLeft.{without-left}
@@ -73,7 +73,7 @@ module _ (tells : Type 0) (given : Given) (tape tape' : List Operation) (scope :
   -- ---- one that is done
 
   pub read-stands : (at : ℕ) (bytes : List ℕ) → at + length bytes / 512 ≤ list_length old.newest → (tells → at + length bytes / 512 ≤ visible_at (world_in given tape scope first) entries)
-      → (tells → (list : ℕ → Sector) → ListStands old (present given tape) list → AreWhole new ⊎ RowsStandBelow (mended_rows work.resync old) old (present given tape) list
+      → (tells → (list : ℕ → Sector) → ListStands old (present given tape) list → AreWhole new ⊎ RowsStandBelow (synced_rows work.resync old) old (present given tape) list
       → (i : ℕ) → i < length bytes / 512 → sector_of bytes i ≡ list (at + i))
       → IsStill tells given tape' scope first (entries ++ entries_of who end (losses_of roles spares ++ Read at (sectors_of bytes) ∷ [])) new work left'
   read-stands at bytes inside seen holds =
@@ -92,7 +92,7 @@ module _ (tells : Type 0) (given : Given) (tape tape' : List Operation) (scope :
       filled : (t : tells) → IsReliable (world_in given tape' scope first) (entries ++ entries_of who end (losses_of roles spares ++ Read at (sectors_of bytes) ∷ []))
           → AreToldGone (world_in given tape' scope first) (entries ++ entries_of who end (losses_of roles spares)) new
           → HasListStood (OpensFit (world_in given tape scope first)) work old (present given tape) (now (opening_list (world_in given tape scope first)) entries)
-          → AreWhole new ⊎ RowsStandBelow (mended_rows work.resync old) old (present given tape) (now (opening_list (world_in given tape scope first)) entries)
+          → AreWhole new ⊎ RowsStandBelow (synced_rows work.resync old) old (present given tape) (now (opening_list (world_in given tape scope first)) entries)
       filled t all gone l = elim all.fills [
         | inl none ↦ inl (whole-told (world_in given tape' scope first) (entries ++ entries_of who end (losses_of roles spares)) new
             (takes-first (world_in given tape' scope first) entries who end (losses_of roles spares) (Read at (sectors_of bytes) ∷ []) none.0) gone)

@@ -51,10 +51,10 @@ use Rattle.array_reshaping_invariant.specs.crash_safety_laws_Safety.{HasLiveSlot
 use Rattle.array_reshaping_invariant.specs.crash_safety_laws_Steady.{IsSafeOver, KeepsSafe, AreGoneTold, IsUncleanTold}
 use Rattle.array_reshaping_invariant.specs.array_members_the_Work.{Work}
 use Rattle.array_reshaping_invariant.specs.sb_safe_updates_Named.{AreNamedMissing}
-use Rattle.array_reshaping_invariant.specs.array_members_Lacking.{AreLostSince, LacksTooMany, AreTooMany, RowsStandBelow, RowsStandAmong, DataStandsAmong, IsOfStripe, mended_rows}
+use Rattle.array_reshaping_invariant.specs.array_members_Lacking.{AreLostSince, LacksTooMany, AreTooMany, RowsStandBelow, RowsStandAmong, DataStandsAmong, IsOfStripe, synced_rows}
 use Rattle.array_reshaping_invariant.specs.array_members_Moving.{Grows, IsMoved}
 use Rattle.array_reshaping_invariant.specs.array_members_Numbers.{bears}
-use Rattle.array_reshaping_invariant.specs.array_members_Placed.{IsPlaced, is_vacant}
+use Rattle.array_reshaping_invariant.specs.array_members_Placed.{IsPlaced, is_unassigned}
 use Rattle.array_reshaping_invariant.specs.array_members_Rebuilding.{with_recovering, IsFilledAmong}
 use Rattle.array_reshaping_invariant.specs.array_members_Status.{stripes_of, rebuilt_of}
 use Rattle.array_reshaping_invariant.proofs.array_members_Fit.{list-alike}
@@ -86,7 +86,7 @@ use Rattle.array_fixed_invariant.proofs.Stood.{mended-moved}
 -- What `give_role` leaves: the slot recovers the role from its first row on, and what is missing is named.
 pub record IsTaken (tells : Type 0) (given : Given) (tape tape' : List Operation) (old new : Members) (role slot roles spares : ℕ) (before after : ℕ → ℕ) : Type 0 where
   pub below : role < (shape_of old.newest).disks
-  pub vacant : is_vacant (reading_of old) role ≡ true
+  pub vacant : is_unassigned (reading_of old) role ≡ true
   pub spare : has_spare old.spares slot ≡ true
   pub moved : IsMoved given (with_recovering role slot old) new
   pub since : AreLostSince (with_recovering role slot old) new roles spares before after
@@ -157,17 +157,17 @@ module _ (tells : Type 0) (given : Given) (tape tape' : List Operation) (scope :
             (list-given given old placed (Some 0) role slot to (present given tape) current (λ s row lt held. absurd (none-recovered given old placed role slot to s row held)) l.stands);
         whole = λ fit x lt. l.whole fit x (subst (λ (n : ℕ). x < n) (list-alike V.newest new.newest did.moved.reshape did.moved.shape did.moved.size) lt);
         rows = λ fit. subst (λ (n : ℕ). RowsStandBelow n new (present given tape') current) (sym (mended-taken work.resync))
-            (subst (λ (s : Shape). RowsStandAmong s (λ row. row < mended_rows work.resync old) new (present given tape') current) (sym did.moved.shape)
-            (among-moved (shape_of old.newest) (λ row. row < mended_rows work.resync old) given V new (present given tape) (present given tape') current did.moved V-placed (did.others t)
+            (subst (λ (s : Shape). RowsStandAmong s (λ row. row < synced_rows work.resync old) new (present given tape') current) (sym did.moved.shape)
+            (among-moved (shape_of old.newest) (λ row. row < synced_rows work.resync old) given V new (present given tape) (present given tape') current did.moved V-placed (did.others t)
             (among-given given old placed (Some 0) role slot to (present given tape) current (λ s row lt held. absurd (none-recovered given old placed role slot to s row held))
-            (λ row. row < mended_rows work.resync old) (l.rows fit))));
+            (λ row. row < synced_rows work.resync old) (l.rows fit))));
         rebuilt = λ fit. rebuilt-moved next given V new (present given tape) (present given tape') current did.moved V-placed (did.others t)
             (rebuilt-given given old placed (Some 0) role slot to work next (present given tape) current (λ other apart. rebuilt-other work role 0 other apart)
             (λ s row is under. nothing-held s row (subst (λ (n : ℕ). row < n * (shape_of old.newest).chunk) (rebuilt-here work role 0 known) under))
             (l.rebuilt fit));
       }
     where
-      mended-taken : (o : Option ℕ) → mended_rows o new ≡ mended_rows o old
+      mended-taken : (o : Option ℕ) → synced_rows o new ≡ synced_rows o old
       mended-taken None = did.moved.size
       mended-taken (Some mended) = ap (λ (s : Shape). mended * s.chunk) did.moved.shape
 
@@ -224,10 +224,10 @@ module _ (tells : Type 0) (given : Given) (tape tape' : List Operation) (scope :
     stands = list-filled work did.moved was.members_are.placed role slot did.recovers shape same_shape (present given tape) (present given tape') held (did.others t) l.stands;
     whole = λ fit x lt. l.whole fit x (subst (λ (n : ℕ). x < n) (list-alike old.newest new.newest did.moved.reshape did.moved.shape did.moved.size) lt);
     rows = λ fit. subst (λ (n : ℕ). RowsStandBelow n new (present given tape') held) (sym (mended-moved did.moved work.resync))
-        (good-filled work did.moved was.members_are.placed role slot did.recovers shape same_shape (present given tape) (present given tape') held (did.others t) (mended_rows work.resync old) (l.rows fit));
+        (good-filled work did.moved was.members_are.placed role slot did.recovers shape same_shape (present given tape) (present given tape') held (did.others t) (synced_rows work.resync old) (l.rows fit));
     rebuilt = λ fit. rebuilt-filled work did.moved was.members_are.placed role slot did.recovers shape same_shape (present given tape) (present given tape') held (did.others t) few
         (λ recovers. full-filled given old new did.moved was.members_are.placed shape same_shape (rebuilt_of work role) tape tape' role slot (filled recovers) t held l.stands
-        (λ row low. l.rows fit row (subst (λ (o : Option ℕ). row < mended_rows o old) (sym synced) low) low))
+        (λ row low. l.rows fit row (subst (λ (o : Option ℕ). row < synced_rows o old) (sym synced) low) low))
         (l.rebuilt fit);
   }
 
@@ -259,7 +259,7 @@ module _ (tells : Type 0) (given : Given) (tape tape' : List Operation) (scope :
       (λ t. (step-behind (world_in given tape' scope first) entries who end roles spares RebuildStripe left left' was.left_told less, tt, tt)) few synced
 
   -- where its slot was lost in this, only the losses are entered
-  pub gone-stands : work.resync ≡ None → role < length work.rebuilt → role < (shape_of old.newest).disks → is_vacant (reading_of new) role ≡ true
+  pub gone-stands : work.resync ≡ None → role < length work.rebuilt → role < (shape_of old.newest).disks → is_unassigned (reading_of new) role ≡ true
       → IsStill tells given tape' scope first (entries ++ entries_of who end (losses_of roles spares)) new (with_rebuilt role (rebuilt_of work role + 1) work) left'
   gone-stands synced few below vacant =
       subst (λ (l : List Event). IsStill tells given tape' scope first (entries ++ entries_of who end l) new (with_rebuilt role (rebuilt_of work role + 1) work) left') (append-nil (losses_of roles spares))

@@ -35,7 +35,7 @@ use Rattle.array_reshaping_invariant.specs.crash_views_Windows.{IsOfRegion}
 use Rattle.array_reshaping_invariant.specs.crash_safety_laws_Safety.{HasRoomLeft, IsRisen}
 use Rattle.array_reshaping_invariant.specs.crash_safety_laws_Steady.{IsMoreTold, IsSafeOver, KeepsSafe, AreGoneTold, IsUncleanTold, AreWritesAllowed}
 use Rattle.array_reshaping_invariant.specs.array_members_the_Work.{Work}
-use Rattle.array_reshaping_invariant.specs.array_members_Lacking.{AreLostSince, DoesWithout, IsUnwritten, DataStandsAmong, AreOtherRowsKept, IsOfStripe, ListStands, mended_rows}
+use Rattle.array_reshaping_invariant.specs.array_members_Lacking.{AreLostSince, DoesWithout, IsUnwritten, DataStandsAmong, AreOtherRowsKept, IsOfStripe, ListStands, synced_rows}
 use Rattle.array_reshaping_invariant.specs.array_members_Moving.{Grows, IsMoved}
 use Rattle.array_reshaping_invariant.specs.array_members_Numbers.{bears}
 use Rattle.array_reshaping_invariant.specs.array_members_Rebuilding.{AreRebuilt}
@@ -101,7 +101,7 @@ told-step entries who end roles spares kind left' = subst (λ (o : Option ℕ). 
 -- ---- a stripe
 
 -- What `mend` leaves of a stripe, whether it was mended or not: the list stands, and each row that stood.
-pub record IsMendingStill (tells : Type 0) (given : Given) (tape tape' : List Operation) (old new : Members) (roles spares : ℕ) (before after : ℕ → ℕ) (shape : Shape) (stripe : ℕ) : Type 0 where
+pub record IsResyncingStill (tells : Type 0) (given : Given) (tape tape' : List Operation) (old new : Members) (roles spares : ℕ) (before after : ℕ → ℕ) (shape : Shape) (stripe : ℕ) : Type 0 where
   pub moved : IsMoved given old new
   pub since : AreLostSince old new roles spares before after
   pub grows : Grows tells tape tape'
@@ -121,7 +121,7 @@ module _ (tells : Type 0) (given : Given) (tape tape' : List Operation) (scope :
     (who : Who) (end roles spares : ℕ) (before after : ℕ → ℕ) (shape : Shape) (mended : ℕ)
     (was : IsStill tells given tape scope first entries old work left) (does : DoWithout old) (goes : IsCallGoing entries who) (caller : IsFalse (who.caller == 254)) (at_end : tells → end ≡ length tape')
     (same_shape : shape ≡ shape_of old.newest) (waits : work.resync ≡ Some mended)
-    (did : IsMendingStill tells given tape tape' old new roles spares before after shape mended) where
+    (did : IsResyncingStill tells given tape tape' old new roles spares before after shape mended) where
   abbrev current : ℕ → Sector
   current = now (opening_list (world_in given tape scope first)) entries
 
@@ -139,7 +139,7 @@ module _ (tells : Type 0) (given : Given) (tape tape' : List Operation) (scope :
 
   -- each row that stood stands
   row-stays : (t : tells) → DoWithout new → HasListStood (OpensFit (world_in given tape scope first)) work old (present given tape) (now (opening_list (world_in given tape scope first)) entries) → OpensFit (world_in given tape scope first)
-      → (row : ℕ) → row < mended_rows work.resync old → row < old.newest.size → RowStands (reading_of new) (present given tape') (shape_of new.newest) (now (opening_list (world_in given tape scope first)) entries) row
+      → (row : ℕ) → row < synced_rows work.resync old → row < old.newest.size → RowStands (reading_of new) (present given tape') (shape_of new.newest) (now (opening_list (world_in given tape scope first)) entries) row
   row-stays t can l fit row below low =
       subst (λ (s : Shape). RowStands (reading_of new) (present given tape') s current row) (same_shape ∙ sym did.moved.shape)
       (rows-stay given old new did.moved was.members_are.placed shape same_shape mended tape tape' did.others did.kept can t current l.stands row low
@@ -198,7 +198,7 @@ module _ (tells : Type 0) (given : Given) (tape tape' : List Operation) (scope :
       row-more : (t : tells) → DoWithout new → HasListStood (OpensFit (world_in given tape scope first)) work old (present given tape) (now (opening_list (world_in given tape scope first)) entries) → OpensFit (world_in given tape scope first)
           → (row : ℕ) → row < (mended + 1) * (shape_of old.newest).chunk → row < old.newest.size → RowStands (reading_of new) (present given tape') (shape_of new.newest) (now (opening_list (world_in given tape scope first)) entries) row
       row-more t can l fit row high low = elim (cases_lt row (mended * (shape_of old.newest).chunk)) [
-        | inl near ↦ row-stays t can l fit row (subst (λ (o : Option ℕ). row < mended_rows o old) (sym waits) near) low
+        | inl near ↦ row-stays t can l fit row (subst (λ (o : Option ℕ). row < synced_rows o old) (sym waits) near) low
         | inr far ↦ subst (λ (s : Shape). RowStands (reading_of new) (present given tape') s current row) (same_shape ∙ sym did.moved.shape)
             (rows-mended given old new did.moved was.members_are.placed shape same_shape mended tape tape' mends t current l.stands row
             (subst (λ (s : Shape). IsOfStripe s mended row) (sym same_shape) (far, high))
@@ -253,8 +253,8 @@ module _ (tells : Type 0) (given : Given) (tape tape' : List Operation) (scope :
 -- ---- its end
 
 -- the rows of all stripes are all rows
-all-rows : (given : Given) (m : Members) (rest : AreAtRest given m) (resync : Option ℕ) → resync ≡ Some (stripes_of m) → mended_rows resync m ≡ m.newest.size
-all-rows given m rest resync all = ap (λ (o : Option ℕ). mended_rows o m) all ∙ stripes-whole m.newest.size (shape_of m.newest).chunk (multiple given m rest.placed)
+all-rows : (given : Given) (m : Members) (rest : AreAtRest given m) (resync : Option ℕ) → resync ≡ Some (stripes_of m) → synced_rows resync m ≡ m.newest.size
+all-rows given m rest resync all = ap (λ (o : Option ℕ). synced_rows o m) all ∙ stripes-whole m.newest.size (shape_of m.newest).chunk (multiple given m rest.placed)
 
 pub resynced-stands : (tells : Type 0) (given : Given) (tape tape' : List Operation) (scope : Scope) (first : ℕ) (entries : List Entry) (old new : Members) (work : Work) (left left' : ℕ)
     (who : Who) (end roles spares : ℕ) (before after : ℕ → ℕ)

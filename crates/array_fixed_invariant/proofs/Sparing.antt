@@ -28,7 +28,7 @@ use Rattle.array_reshaping_invariant.specs.crash_safety_laws_Safety.{HasLiveSlot
 use Rattle.array_reshaping_invariant.specs.crash_safety_laws_Steady.{IsMoreTold, IsSafeOver, KeepsSafe, AreGoneTold, IsUncleanTold, with_number}
 use Rattle.array_reshaping_invariant.specs.array_members_the_Work.{Work}
 use Rattle.array_reshaping_invariant.specs.array_members_Flushing.{OnlyFlushesAdded}
-use Rattle.array_reshaping_invariant.specs.array_members_Lacking.{AreLostSince, RowsStandBelow, mended_rows}
+use Rattle.array_reshaping_invariant.specs.array_members_Lacking.{AreLostSince, RowsStandBelow, synced_rows}
 use Rattle.array_reshaping_invariant.specs.array_members_Moving.{Grows}
 use Rattle.array_reshaping_invariant.specs.array_members_Numbers.{bears, bearing, IsOfScope}
 use Rattle.array_reshaping_invariant.specs.array_members_Rebuilding.{with_spare}
@@ -72,7 +72,7 @@ with-told slot number work was told below less knows = record {
 -- ---- the list
 
 -- as many rows are mended
-mended-with : (m : Members) (slot : ℕ) (sb : Sb) (resync : Option ℕ) → mended_rows resync (with_spare slot sb m) ≡ mended_rows resync m
+mended-with : (m : Members) (slot : ℕ) (sb : Sb) (resync : Option ℕ) → synced_rows resync (with_spare slot sb m) ≡ synced_rows resync m
 mended-with m slot sb None = refl
 mended-with m slot sb (Some mended) = refl
 
@@ -82,7 +82,7 @@ stood-with sound work m slot sb c list unheld l = record {
   stands = list-with m slot sb unheld c list l.stands;
   whole = l.whole;
   rows = λ so. subst (λ (n : ℕ). RowsStandBelow n (with_spare slot sb m) c list) (sym (mended-with m slot sb work.resync))
-      (among-with m slot sb unheld (shape_of m.newest) (λ row. row < mended_rows work.resync m) c list (l.rows so));
+      (among-with m slot sb unheld (shape_of m.newest) (λ row. row < synced_rows work.resync m) c list (l.rows so));
   rebuilt = λ so. rebuilt-with m slot sb unheld work c list (l.rebuilt so);
 }
 

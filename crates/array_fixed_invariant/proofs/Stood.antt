@@ -13,7 +13,7 @@ use Rattle.array_reshaping_invariant.specs.crash_views_Windows.{ListStands as Li
 use Rattle.array_reshaping_invariant.proofs.crash_views_Stands.{list-still, still-stands}
 use Rattle.array_reshaping_invariant.specs.crash_safety_laws_Marking.{AreOthersPresent}
 use Rattle.array_reshaping_invariant.specs.array_members_the_Work.{Work}
-use Rattle.array_reshaping_invariant.specs.array_members_Lacking.{ListStands, RowsStand, RowsStandAmong, RowsStandBelow, mended_rows}
+use Rattle.array_reshaping_invariant.specs.array_members_Lacking.{ListStands, RowsStand, RowsStandAmong, RowsStandBelow, synced_rows}
 use Rattle.array_reshaping_invariant.specs.array_members_Moving.{IsMoved}
 use Rattle.array_reshaping_invariant.specs.array_members_Placed.{IsPlaced}
 use Rattle.array_reshaping_invariant.proofs.array_members_Fit.{valid, multiple, list-alike}
@@ -25,7 +25,7 @@ use Rattle.array_fixed_invariant.specs.Still.{AreAtRest, HasListStood}
 -- ---- on fewer members
 
 -- as many rows are mended
-pub mended-moved : {given : Given} {old new : Members} → IsMoved given old new → (resync : Option ℕ) → mended_rows resync new ≡ mended_rows resync old
+pub mended-moved : {given : Given} {old new : Members} → IsMoved given old new → (resync : Option ℕ) → synced_rows resync new ≡ synced_rows resync old
 mended-moved moved None = moved.size
 mended-moved moved (Some mended) = ap (λ (s : Shape). mended * s.chunk) moved.shape
 
@@ -36,8 +36,8 @@ stood-moved sound work given old new before after list moved was others l = reco
   stands = list-moved given old new before after list moved was others l.stands;
   whole = λ so x lt. l.whole so x (subst (λ (n : ℕ). x < n) (list-alike old.newest new.newest moved.reshape moved.shape moved.size) lt);
   rows = λ so. subst (λ (n : ℕ). RowsStandBelow n new after list) (sym (mended-moved moved work.resync))
-      (among-moved (shape_of new.newest) (λ row. row < mended_rows work.resync old) given old new before after list moved was others
-      (subst (λ (s : Shape). RowsStandAmong s (λ row. row < mended_rows work.resync old) old before list) (sym moved.shape) (l.rows so)));
+      (among-moved (shape_of new.newest) (λ row. row < synced_rows work.resync old) given old new before after list moved was others
+      (subst (λ (s : Shape). RowsStandAmong s (λ row. row < synced_rows work.resync old) old before list) (sym moved.shape) (l.rows so)));
   rebuilt = λ so. rebuilt-moved work given old new before after list moved was others (l.rebuilt so);
 }
 

@@ -34,7 +34,7 @@ use Rattle.array_reshaping_invariant.specs.crash_safety_laws_Marking.{AreOthersP
 use Rattle.array_reshaping_invariant.specs.crash_safety_laws_Safety.{HasRoomLeft, IsRisen}
 use Rattle.array_reshaping_invariant.specs.crash_safety_laws_Steady.{IsSafeOver, KeepsSafe, AreGoneTold, AreWritesAllowed}
 use Rattle.array_reshaping_invariant.specs.array_members_the_Work.{Work}
-use Rattle.array_reshaping_invariant.specs.array_members_Lacking.{AreLostSince, AreTooMany, AreBytes, ListStands, RowsStandBelow, mended_rows}
+use Rattle.array_reshaping_invariant.specs.array_members_Lacking.{AreLostSince, AreTooMany, AreBytes, ListStands, RowsStandBelow, synced_rows}
 use Rattle.array_reshaping_invariant.specs.array_members_Moving.{Grows, IsMoved}
 use Rattle.array_reshaping_invariant.specs.array_members_Placed.{AreWhole}
 use Rattle.array_reshaping_invariant.specs.array_members_Status.{rebuilt_of}
@@ -113,7 +113,7 @@ module _ (tells : Type 0) (given : Given) (tape tape' : List Operation) (scope :
     (was : IsStill tells given tape scope first entries old work left) (does : DoWithout old) (goes : IsCallGoing entries who) (caller : IsFalse (who.caller == 254)) (at_end : tells → end ≡ length tape')
     (alike : losses_of roles spares ≡ [] → left' ≡ left) (inside : at + length from / 512 ≤ list_length old.newest)
     (seen : tells → at + length from / 512 ≤ visible_at (world_in given tape scope first) entries)
-    (did : IsPutStill tells given tape tape' old new roles spares before after (mended_rows work.resync old) at from begun) where
+    (did : IsPutStill tells given tape tape' old new roles spares before after (synced_rows work.resync old) at from begun) where
   abbrev world : World
   world = world_in given tape scope first
 
@@ -132,7 +132,7 @@ module _ (tells : Type 0) (given : Given) (tape tape' : List Operation) (scope :
   -- what it fills in is right, where that is so by all of its entries
   filled : (t : tells) (all : List Entry) → IsReliable (world_in given tape' scope first) all → AreToldGone (world_in given tape' scope first) all new
       → HasListStood (OpensFit (world_in given tape scope first)) work old (present given tape) (now (opening_list (world_in given tape scope first)) entries)
-      → AreWhole new ⊎ RowsStandBelow (mended_rows work.resync old) old (present given tape) (now (opening_list (world_in given tape scope first)) entries)
+      → AreWhole new ⊎ RowsStandBelow (synced_rows work.resync old) old (present given tape) (now (opening_list (world_in given tape scope first)) entries)
   filled t all right gone l = elim right.fills [
     | inl none ↦ inl (whole-told (world_in given tape' scope first) all new none.0 gone)
     | inr fit ↦ inr (l.rows (fit-earlier given scope first did.grows begins t fit))
@@ -162,7 +162,7 @@ module _ (tells : Type 0) (given : Given) (tape tape' : List Operation) (scope :
 
   -- ---- one that was done
 
-  module _ (done : IsWrittenStill tells given tape tape' old new (mended_rows work.resync old) at from) (whole : IsWhole from) (bytes : AreBytes from) where
+  module _ (done : IsWrittenStill tells given tape tape' old new (synced_rows work.resync old) at from) (whole : IsWhole from) (bytes : AreBytes from) where
     abbrev wrote : List Event
     wrote = losses_of roles spares ++ Wrote at (sectors_of from) ∷ []
 

@@ -20,7 +20,7 @@ use Rattle.array_reshaping_invariant.specs.crash_views_Regions.{DoWithout}
 use Rattle.array_reshaping_invariant.specs.crash_safety_laws_Safety.{HasLiveSlot}
 use Rattle.array_reshaping_invariant.specs.crash_safety_laws_Steady.{AreUnlost}
 use Rattle.array_reshaping_invariant.specs.array_members_the_Work.{Work}
-use Rattle.array_reshaping_invariant.specs.array_members_Lacking.{ListStands, RowsStandBelow, mended_rows}
+use Rattle.array_reshaping_invariant.specs.array_members_Lacking.{ListStands, RowsStandBelow, synced_rows}
 use Rattle.array_reshaping_invariant.specs.array_members_Numbers.{bears}
 use Rattle.array_reshaping_invariant.specs.array_members_Placed.{IsPlaced}
 use Rattle.array_reshaping_invariant.specs.array_members_Rebuilding.{AreSparesFree, AreRebuilt}
@@ -44,7 +44,7 @@ pub record AreAtRest (given : Given) (members : Members) : Type 0 where
 pub record HasListStood (sound : Type 0) (work : Work) (members : Members) (c : Contents) (list : ℕ → Sector) : Type 0 where
   pub stands : ListStands members c list
   pub whole : sound → AreSectorsWhole (list_length members.newest) list
-  pub rows : sound → RowsStandBelow (mended_rows work.resync members) members c list
+  pub rows : sound → RowsStandBelow (synced_rows work.resync members) members c list
   pub rebuilt : sound → AreRebuilt work members c list
 
 -- no role is missing

@@ -18,9 +18,9 @@ ghost use Rattle.array_fixed.specs.array_call_specs_Calls.{IsUnaddable, IsAddedF
 ghost use Rattle.array_fixed.specs.array_fixed_laws_Steps.{IsStepped};
 
 use array_fixed::{
-    Bank, Event, Fault, Refusal, Still, Who, add_member, bear, check_number, contains, enter,
-    enter_behind, free_number, has_unnamed, look_at, newly_vacant, shape_in, spare_for, unaddable,
-    vacant_roles, with, without,
+    Bank, Event, Fault, Refusal, Still, Who, add_member, append_after_losses, append_entry, bear,
+    check_number, contains, free_number, has_unnamed, look_at, newly_unassigned, shape_in,
+    spare_for, unaddable, unassigned_roles, with, without,
 };
 
 // Whether the slot was lost without a failure of its own, and the superblocks still name a role that no slot holds.
@@ -63,26 +63,26 @@ fn make_spare<B: Bank>(still: &mut Still<B>, who: Who, slot: u32, number: u32) -
     let refusal = Refusal::SlotFault(slot);
     let Some(second) = look_at(&mut still.bank, slot) else {
         let end = still.bank.ops();
-        enter(&mut still.epoch, who, end, Event::Refused { refusal });
+        append_entry(&mut still.epoch, who, end, Event::Refused { refusal });
         return Err(Fault::Refused(refusal));
     };
     let uuid = &still.epoch.uuid;
     let sb = spare_for(&still.members, &still.bank, uuid, slot, number, &second);
     let disks = shape_in(&still.members).disks;
-    let before = vacant_roles(&still.members, disks);
+    let before = unassigned_roles(&still.members, disks);
     let lost = add_member(&mut still.members, &mut still.bank, slot, &sb);
-    let roles = newly_vacant(&still.members, disks, before);
+    let roles = newly_unassigned(&still.members, disks, before);
     let spares = without(lost, with(0, slot));
     let end = still.bank.ops();
     if contains(lost, slot) {
         bear(&mut still.work, slot, number, false);
         let event = Event::Refused { refusal };
-        enter_behind(&mut still.epoch, who, end, roles, spares, event);
+        append_after_losses(&mut still.epoch, who, end, roles, spares, event);
         return Err(Fault::Refused(refusal));
     }
     bear(&mut still.work, slot, number, true);
     let event = Event::Added { slot };
-    enter_behind(&mut still.epoch, who, end, roles, spares, event);
+    append_after_losses(&mut still.epoch, who, end, roles, spares, event);
     Ok(())
 }
 
@@ -124,6 +124,6 @@ pub fn add<B: Bank>(still: &mut Still<B>, who: Who, slot: u32) -> Result<(), Fau
     still.steps = 0;
     check_number(&still.epoch.entries, who);
     let end = still.bank.ops();
-    enter(&mut still.epoch, who, end, Event::Refused { refusal });
+    append_entry(&mut still.epoch, who, end, Event::Refused { refusal });
     Err(Fault::Refused(refusal))
 }

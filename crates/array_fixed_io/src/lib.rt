@@ -8,7 +8,7 @@ mod writing;
 pub use adding::add;
 pub use array_fixed::{
     Bank, Entries, Epoch, Event, Members, PhasesLeft, Pieces, StepKind, Still, Work, first_spare,
-    is_missing, planned_left, set_rebuilt, steps_left, vacant_roles,
+    is_missing, planned_left, set_rebuilt, steps_left, unassigned_roles,
 };
 pub use reading::read;
 pub use writing::write;

@@ -9,7 +9,7 @@ ghost use Rattle.array_fixed.specs.history_Flat.{next_number};
 ghost use Rattle.array_fixed.specs.history_the_Event_TheVariants.{Wrote};
 ghost use Rattle.array_fixed.specs.history_the_Request_TheVariants.{Write as AsksWrite};
 ghost use Rattle.array_fixed.specs.crash_safety_laws_Marking.{AreOthersPresent};
-ghost use Rattle.array_fixed.specs.array_members_Lacking.{HaveRolesFailed, IsUnwritten, are_mended, mended_rows};
+ghost use Rattle.array_fixed.specs.array_members_Lacking.{HaveRolesFailed, IsUnwritten, are_synced, synced_rows};
 ghost use Rattle.array_fixed.specs.array_members_Placed.{AreWhole};
 ghost use Rattle.array_fixed.specs.array_members_Status.{stripes_of};
 ghost use Rattle.array_fixed.specs.sb_safe_updates_First.{write_refusal, call_refusal, IsFirstRefused};
@@ -18,9 +18,9 @@ ghost use Rattle.array_fixed.specs.array_specs_Calls.{IsCalled};
 ghost use Rattle.array_fixed.specs.array_specs_Parts.{visible_size, visible_in};
 
 use array_fixed::{
-    Bank, Event, Fault, Members, Refusal, Sectors, Still, Who, are_mended, check_number, enter,
-    enter_behind, enter_failure, newly_vacant, put, shape_in, unwritten, vacant_roles, visible,
-    visible_of,
+    Bank, Event, Fault, Members, Refusal, Sectors, Still, Who, append_after_losses, append_entry,
+    append_failure, are_synced, check_number, first_write_refusal, newly_unassigned, shape_in,
+    unassigned_roles, visible, visible_of, write_listed,
 };
 
 // Why so many sectors from one on aren't written, before any row is read: the first of `PastEnd`, `TooManyMissing` and `NotResynced`.
@@ -38,8 +38,8 @@ fn unwritten_here(
     requires size { members.now.newest.size ≤ 2 ^ 48 }
     requires progress { IfSome resync (λ mended. mended ≤ stripes_of members.now) }
     requires short { at + count < 2 ^ 63 }
-    ensures first { result ≡ call_refusal (visible_size members.now limit) (at + count) (write_refusal (shape_of members.now.newest) (are_mended (shape_of members.now.newest) (mended_rows resync members.now) (at + count)) members.now) }
-    ensures why { IsRefusalOf (visible_size members.now limit) (at + count) (IsUnwritten (shape_of members.now.newest) (are_mended (shape_of members.now.newest) (mended_rows resync members.now) (at + count))) members.now result }
+    ensures first { result ≡ call_refusal (visible_size members.now limit) (at + count) (write_refusal (shape_of members.now.newest) (are_synced (shape_of members.now.newest) (synced_rows resync members.now) (at + count)) members.now) }
+    ensures why { IsRefusalOf (visible_size members.now limit) (at + count) (IsUnwritten (shape_of members.now.newest) (are_synced (shape_of members.now.newest) (synced_rows resync members.now) (at + count))) members.now result }
 {
     let size = visible(members);
     let sectors = visible_of(size, limit);
@@ -47,10 +47,10 @@ fn unwritten_here(
         return Some(Refusal::PastEnd(sectors));
     }
     let shape = shape_in(members);
-    unwritten(
+    first_write_refusal(
         members,
         &shape,
-        are_mended(members, resync, &shape, at + count),
+        are_synced(members, resync, &shape, at + count),
     )
 }
 
@@ -70,9 +70,9 @@ pub fn write<B: Bank>(still: &mut Still<B>, who: Who, at: u64, from: &[u8]) -> R
     ensures untouched { OnErr result (IsFalse (has_torn still.old.parts.entries still.new.parts.entries) → B.tells
         → AreOthersPresent (present (B.given still.old.parts.bank) (B.tape still.old.parts.bank)) (present (B.given still.old.parts.bank) (B.tape still.new.parts.bank))) }
     ensures caused { IsCausedBy (visible_in still.old) (at + length from.now / 512) (IsUnwritten (shape_of still.old.parts.members.newest)
-        (are_mended (shape_of still.old.parts.members.newest) (mended_rows still.old.parts.work.resync still.old.parts.members) (at + length from.now / 512))) still.old.parts.members still.new.parts.members result }
+        (are_synced (shape_of still.old.parts.members.newest) (synced_rows still.old.parts.work.resync still.old.parts.members) (at + length from.now / 512))) still.old.parts.members still.new.parts.members result }
     ensures first { IsFirstRefused (λ members. call_refusal (visible_in still.old) (at + length from.now / 512)
-        (write_refusal (shape_of still.old.parts.members.newest) (are_mended (shape_of still.old.parts.members.newest) (mended_rows still.old.parts.work.resync still.old.parts.members) (at + length from.now / 512)) members)) still.old.parts.members still.new.parts.members result }
+        (write_refusal (shape_of still.old.parts.members.newest) (are_synced (shape_of still.old.parts.members.newest) (synced_rows still.old.parts.work.resync still.old.parts.members) (at + length from.now / 512)) members)) still.old.parts.members still.new.parts.members result }
     ensures failed { HaveRolesFailed still.old.parts.members still.new.parts.members (B.faults_of still.old.parts.bank) (B.faults_of still.new.parts.bank) }
     ensures given { B.given still.new.parts.bank ≡ B.given still.old.parts.bank }
 {
@@ -95,13 +95,13 @@ pub fn write<B: Bank>(still: &mut Still<B>, who: Who, at: u64, from: &[u8]) -> R
         count,
     ) {
         let end = still.bank.ops();
-        enter(&mut still.epoch, who, end, Event::Refused { refusal });
+        append_entry(&mut still.epoch, who, end, Event::Refused { refusal });
         return Err(Fault::Refused(refusal));
     }
     let shape = shape_in(&still.members);
-    let before = vacant_roles(&still.members, shape.disks);
-    let synced = are_mended(&still.members, still.work.resync, &shape, at + count);
-    let done = put(
+    let before = unassigned_roles(&still.members, shape.disks);
+    let synced = are_synced(&still.members, still.work.resync, &shape, at + count);
+    let done = write_listed(
         &mut still.members,
         &mut still.bank,
         &shape,
@@ -112,10 +112,10 @@ pub fn write<B: Bank>(still: &mut Still<B>, who: Who, at: u64, from: &[u8]) -> R
         &mut still.buffer,
         synced,
     );
-    let roles = newly_vacant(&still.members, shape.disks, before);
+    let roles = newly_unassigned(&still.members, shape.disks, before);
     let end = still.bank.ops();
     if let Some(refusal) = done.refusal {
-        enter_failure(
+        append_failure(
             &mut still.epoch,
             who,
             end,
@@ -129,6 +129,6 @@ pub fn write<B: Bank>(still: &mut Still<B>, who: Who, at: u64, from: &[u8]) -> R
         return Err(Fault::Refused(refusal));
     }
     let event = Event::Wrote { at, body };
-    enter_behind(&mut still.epoch, who, end, roles, done.spares, event);
+    append_after_losses(&mut still.epoch, who, end, roles, done.spares, event);
     Ok(())
 }

@@ -15,7 +15,7 @@ use Rattle.array_fixed_invariant.proofs.stripe_row_Tables.{count_below-le}
 use Rattle.array_fixed_invariant.specs.array_members_the_Work.{Work}
 use Rattle.array_fixed_invariant.specs.array_members_Lacking.{AreLostSince}
 use Rattle.array_fixed_invariant.specs.array_members_Moving.{IsMoved}
-use Rattle.array_fixed_invariant.specs.array_members_Placed.{is_vacant}
+use Rattle.array_fixed_invariant.specs.array_members_Placed.{is_unassigned}
 use Rattle.array_fixed_invariant.specs.array_members_Status.{stripes_of, rebuilt_of, vacant_count, spare_count, resync_left, role_left, recovery_left, left_of}
 use Rattle.array_fixed_invariant.specs.history_append_Losing.{losses_of}
 use Rattle.array_fixed_invariant.proofs.array_call_specs_StepsLeft.{left-moved}
@@ -47,7 +47,7 @@ left-few work members valid short =
     let recovery = recovery-most work members (shape_of members.newest).disks in
     let roles : (shape_of members.newest).disks * (stripes_of members + 1) ≤ 16 * (stripes_of members + 1) = mul-le-mul_right (stripes_of members + 1) disks in
     let waiting : min (vacant_count members) (spare_count members) ≤ 16 =
-    le_trans (min-le_left (vacant_count members) (spare_count members)) (le_trans (count_below-le (shape_of members.newest).disks (is_vacant (reading_of members))) disks) in
+    le_trans (min-le_left (vacant_count members) (spare_count members)) (le_trans (count_below-le (shape_of members.newest).disks (is_unassigned (reading_of members))) disks) in
     let given : min (vacant_count members) (spare_count members) * (stripes_of members + 2) ≤ 16 * (stripes_of members + 2) = mul-le-mul_right (stripes_of members + 2) waiting in
     omega (arith, few, short, resync, recovery, roles, given)
   where

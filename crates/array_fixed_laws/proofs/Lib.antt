@@ -11,7 +11,7 @@ pub mod Writing
 pub mod Going
 pub mod StepLaws
 pub mod Closing
-pub mod MendLaws
+pub mod ResyncLaws
 pub mod RebuildLaws
 pub mod AddLaws
 pub mod AnswerLaws
@@ -49,7 +49,7 @@ pub use Rattle.array_fixed_invariant.proofs.array_call_laws_AddedNumbers
 pub use Rattle.array_fixed_invariant.proofs.array_call_laws_AddedLosses
 pub use Rattle.array_fixed_invariant.proofs.array_call_laws_AdoptingLaws
 pub use Rattle.array_fixed_invariant.proofs.array_call_laws_FailedLaws
-pub use Rattle.array_fixed_invariant.proofs.array_call_laws_MendLaws
+pub use Rattle.array_fixed_invariant.proofs.array_call_laws_ResyncLaws
 pub use Rattle.array_fixed_invariant.proofs.array_call_laws_ReadLaws
 pub use Rattle.array_fixed_invariant.proofs.array_call_laws_RebuildEnded
 pub use Rattle.array_fixed_invariant.proofs.array_call_laws_RebuildGiven

@@ -29,7 +29,7 @@ use Rattle.array_fixed_invariant.specs.array_members_the_Work.{Work}
 use Rattle.array_fixed_invariant.specs.array_members_Flushing.{OnlyFlushesAdded}
 use Rattle.array_fixed_invariant.specs.array_members_Lacking.{AreLostSince}
 use Rattle.array_fixed_invariant.specs.array_members_Moving.{Grows, IsMoved}
-use Rattle.array_fixed_invariant.specs.array_members_Placed.{is_vacant}
+use Rattle.array_fixed_invariant.specs.array_members_Placed.{is_unassigned}
 use Rattle.array_fixed_invariant.specs.array_members_Rebuilding.{MayHold}
 use Rattle.array_fixed_invariant.proofs.array_members_Fit.{valid}
 use Rattle.array_fixed_invariant.proofs.array_members_HeldRows.{missing-before, missing-moved, vacant-missing}
@@ -60,8 +60,8 @@ use Rattle.array_fixed_laws.proofs.PlainBehind.{refused-plain, here-plain}
 module _ {tells : Type 0} {given : Given} {tape tape' : List Operation} {scope : Scope} {first : ℕ} {entries : List Entry} {old mid new : Members} {work : Work} {ahead : PhasesLeft} {limit : Option ℕ} {faults : ℕ → ℕ}
     {steps room rows buffer far_rows far_buffer roles spares : ℕ} {before after : ℕ → ℕ} (was : IsReady tells given tape scope first entries old work ahead limit faults steps room rows buffer far_rows far_buffer)
     (who : Who) (end : ℕ) (goes : IsCallGoing entries who) (caller : who.caller ≢ 254) (at_end : tells → end ≡ length tape') (grows : Grows tells tape tape')
-    (moved : IsMoved given old new) (role : ℕ) (out : (other : ℕ) → is_vacant (reading_of mid) other ≡ true → (is_vacant (reading_of old) other ≡ true) ⊎ (other ≡ role))
-    (since : AreLostSince mid new roles spares before after) (vacant : is_vacant (reading_of new) role ≡ true) (left : (slot : ℕ) → has_spare old.spares slot ≡ true → has_spare mid.spares slot ≡ true) where
+    (moved : IsMoved given old new) (role : ℕ) (out : (other : ℕ) → is_unassigned (reading_of mid) other ≡ true → (is_unassigned (reading_of old) other ≡ true) ⊎ (other ≡ role))
+    (since : AreLostSince mid new roles spares before after) (vacant : is_unassigned (reading_of new) role ≡ true) (left : (slot : ℕ) → has_spare old.spares slot ≡ true → has_spare mid.spares slot ≡ true) where
   abbrev losses : List Event
   losses = losses_of roles spares
 
@@ -87,7 +87,7 @@ module _ {tells : Type 0} {given : Given} {tape tape' : List Operation} {scope :
       told-members : (other : ℕ) → other < role_count new.newest → is_missing (reading_of old) other ≡ true → IsTrue (is_gone_now (entries ++ entries_of who end (Lost role Command ∷ (losses_of roles spares ++ Failed role ∷ []))) other)
       told-members other lt former = told-more old entries added gives p.told other (subst (λ (n : ℕ). other < n) (count-moved moved) lt) former
 
-      told-vacant : (other : ℕ) → other < role_count new.newest → (is_vacant (reading_of mid) other ≡ true) ⊎ (has_slot roles other ≡ true)
+      told-vacant : (other : ℕ) → other < role_count new.newest → (is_unassigned (reading_of mid) other ≡ true) ⊎ (has_slot roles other ≡ true)
           → IsTrue (is_gone_now (entries ++ entries_of who end (Lost role Command ∷ (losses_of roles spares ++ Failed role ∷ []))) other)
       told-vacant other lt (inr has) = gone-lately other entries added gives
           (behind (loses_role other (Lost role Command)) (list_any (λ e. loses_role other e.event) (entries_of who end (losses ++ Failed role ∷ [])))

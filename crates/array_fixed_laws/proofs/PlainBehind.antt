@@ -37,9 +37,9 @@ use Rattle.array_fixed_invariant.specs.history_World.{World, opening_list}
 use Rattle.array_fixed_invariant.proofs.history_laws_OneShapeGrowing.{IsOneShapeCall, call-faults}
 use Rattle.array_fixed_invariant.specs.crash_views_Regions.{DoWithout}
 use Rattle.array_fixed_invariant.specs.array_members_the_Work.{Work}
-use Rattle.array_fixed_invariant.specs.array_members_Lacking.{lacking, AreLostSince, AreTooMany, LacksTooMany, IsUnread, IsUnwritten, ListStands, RowsStandBelow, are_mended, mended_rows}
+use Rattle.array_fixed_invariant.specs.array_members_Lacking.{lacking, AreLostSince, AreTooMany, LacksTooMany, IsUnread, IsUnwritten, ListStands, RowsStandBelow, are_synced, synced_rows}
 use Rattle.array_fixed_invariant.specs.array_members_Moving.{Grows, IsMoved}
-use Rattle.array_fixed_invariant.specs.array_members_Placed.{AreWhole, IsPlaced, is_vacant, places_of}
+use Rattle.array_fixed_invariant.specs.array_members_Placed.{AreWhole, IsPlaced, is_unassigned, places_of}
 use Rattle.array_fixed_invariant.specs.array_members_Status.{stripes_of, vacant_count, spare_count, resync_left, recovery_left, left_of}
 use Rattle.array_fixed_invariant.specs.array_members_Whole.{list_size}
 use Rattle.array_fixed_invariant.proofs.array_members_Fit.{valid}
@@ -104,18 +104,18 @@ module _ (given : Given) (m : Members) (rest : AreAtRest given m) (resync : Opti
   long = list-still m.newest rest.still
 
   -- why sectors aren't read
-  pub unread-plain : (at count : ℕ) (refusal : Refusal) → at + count ≤ list_length m.newest → IsUnread (shape_of m.newest) (mended_rows resync m) at count m refusal → IsRefusedHere visible resync m refusal
+  pub unread-plain : (at count : ℕ) (refusal : Refusal) → at + count ≤ list_length m.newest → IsUnread (shape_of m.newest) (synced_rows resync m) at count m refusal → IsRefusedHere visible resync m refusal
   unread-plain at count refusal within why =
-      unread-here given visible at count (mended_rows resync m) resync m refusal rest.placed (subst (λ (n : ℕ). at + count ≤ n) long within) (λ none. ap (λ (o : Option ℕ). mended_rows o m) none) why
+      unread-here given visible at count (synced_rows resync m) resync m refusal rest.placed (subst (λ (n : ℕ). at + count ≤ n) long within) (λ none. ap (λ (o : Option ℕ). synced_rows o m) none) why
 
   -- and why they aren't written
-  pub unwritten-plain : (to : ℕ) (refusal : Refusal) → to ≤ list_length m.newest → IsUnwritten (shape_of m.newest) (are_mended (shape_of m.newest) (mended_rows resync m) to) m refusal → IsRefusedHere visible resync m refusal
+  pub unwritten-plain : (to : ℕ) (refusal : Refusal) → to ≤ list_length m.newest → IsUnwritten (shape_of m.newest) (are_synced (shape_of m.newest) (synced_rows resync m) to) m refusal → IsRefusedHere visible resync m refusal
   unwritten-plain to refusal within why =
-      unwritten-here given visible resync (are_mended (shape_of m.newest) (mended_rows resync m) to) m refusal rest.placed (pending-of m resync to (subst (λ (n : ℕ). to ≤ n) long within)) why
+      unwritten-here given visible resync (are_synced (shape_of m.newest) (synced_rows resync m) to) m refusal rest.placed (pending-of m resync to (subst (λ (n : ℕ). to ≤ n) long within)) why
 
 -- why a write isn't done, by the members that it leaves
 pub put-plain : (given : Given) (old new : Members) → AreAtRest given old → IsMoved given old new → (resync : Option ℕ) (visible to : ℕ) (shape : Shape) (synced : Bool) (refusal : Refusal) → shape ≡ shape_of old.newest
-    → synced ≡ are_mended (shape_of old.newest) (mended_rows resync old) to → to ≤ list_length old.newest → IsUnwritten shape synced new refusal → IsRefusedHere visible resync new refusal
+    → synced ≡ are_synced (shape_of old.newest) (synced_rows resync old) to → to ≤ list_length old.newest → IsUnwritten shape synced new refusal → IsRefusedHere visible resync new refusal
 put-plain given old new rest moved resync visible to shape synced refusal same asked within why =
     unwritten-here given visible resync synced new refusal moved.placed (λ none. pending-of old resync to (subst (λ (n : ℕ). to ≤ n) (list-still old.newest rest.still) within) (sym asked ∙ none))
     (subst (λ (s : Shape). IsUnwritten s synced new refusal) (same ∙ sym moved.shape) why)
@@ -261,7 +261,7 @@ module _ {tells : Type 0} {given : Given} {tape tape' : List Operation} {scope :
 
   -- a read
   pub plain-read : (at : ℕ) (bytes : List ℕ) → DoWithout old → at + length bytes / 512 ≤ visible_size old limit
-      → (tells → (list : ℕ → Sector) → ListStands old (present given tape) list → AreWhole new ⊎ RowsStandBelow (mended_rows work.resync old) old (present given tape) list
+      → (tells → (list : ℕ → Sector) → ListStands old (present given tape) list → AreWhole new ⊎ RowsStandBelow (synced_rows work.resync old) old (present given tape) list
       → (i : ℕ) → i < length bytes / 512 → sector_of bytes i ≡ list (at + i))
       → IsLeftPlain tells given tape' scope first entries (entries_of who end (losses_of roles spares ++ Read at (sectors_of bytes) ∷ [])) new
   plain-read at bytes does within holds =
@@ -301,7 +301,7 @@ module _ {given : Given} {members : Members} {entries : List Entry} (world : Wor
       by : (state : Role) → role_state (reading_of members) role ≡ state → ⊥
       by (Whole slot) is = let clash : false ≡ true = sym (ap (λ (s : Role). not (is_whole s)) is) ∙ kept.only.gone role gone in absurd (cc)
       by (Recovering slot) is = recovered-none work members (shape_of members.newest).disks none-recovery role slot lt is
-      by Missing is = counted-none (shape_of members.newest).disks (is_vacant (reading_of members)) vacant role lt (ap (λ (s : Role). not (is_some (holder s))) is)
+      by Missing is = counted-none (shape_of members.newest).disks (is_unassigned (reading_of members)) vacant role lt (ap (λ (s : Role). not (is_some (holder s))) is)
 
   none-spare : spare_count members ≡ 0 → (slot : ℕ) → is_spare_now entries slot ≡ true → ⊥
   none-spare spares slot is = let has = kept.only.spares slot is in counted-none 32 (has_spare members.spares) spares slot (rest.free slot has).room.small has

@@ -28,7 +28,7 @@ use Rattle.array_fixed_invariant.specs.crash_views_Regions.{DoWithout}
 use Rattle.array_fixed_invariant.specs.array_members_the_Work.{Work}
 use Rattle.array_fixed_invariant.specs.array_members_Lacking.{AreLostSince}
 use Rattle.array_fixed_invariant.specs.array_members_Moving.{Grows, IsMoved}
-use Rattle.array_fixed_invariant.specs.array_members_Placed.{is_vacant}
+use Rattle.array_fixed_invariant.specs.array_members_Placed.{is_unassigned}
 use Rattle.array_fixed_invariant.specs.array_members_Rebuilding.{with_recovering, with_whole, MayHold}
 use Rattle.array_fixed_invariant.specs.array_members_Status.{stripes_of, rebuilt_of, left_of}
 use Rattle.array_fixed_invariant.proofs.array_members_GivenMembers.{IsReceiver, state-here, state-other, spare-before}
@@ -178,7 +178,7 @@ module _ {tells : Type 0} {given : Given} {tape tape' : List Operation} {scope :
   missing = ap (λ (s : Role). not (is_whole s)) did.recovers
 
   -- the slot was lost in it
-  module _ (vacant : is_vacant (reading_of new) role ≡ true) where
+  module _ (vacant : is_unassigned (reading_of new) role ≡ true) where
     moved-lost : IsMoved given old new
     moved-lost = moved-vacant given old new was.kept.members_are.placed role slot keeper was.kept.members_are.free did.recovers did.moved vacant
 
@@ -195,7 +195,7 @@ module _ {tells : Type 0} {given : Given} {tape tape' : List Operation} {scope :
       told = λ s has. did.since.told s (spare-still given old new was.kept.members_are.placed role slot keeper was.kept.members_are.free did.recovers did.moved s has);
     }
       where
-        by : (r : ℕ) (o : Option ℕ) → holder (role_state (reading_of old) r) ≡ o → is_vacant (reading_of (with_whole role slot old)) r ≡ true → is_vacant (reading_of old) r ≡ true
+        by : (r : ℕ) (o : Option ℕ) → holder (role_state (reading_of old) r) ≡ o → is_unassigned (reading_of (with_whole role slot old)) r ≡ true → is_unassigned (reading_of old) r ≡ true
         by r None is in_V = ap (λ (o : Option ℕ). not (is_some o)) is
         by r (Some s) is in_V = absurd (
             let clash : false ≡ true =

@@ -24,7 +24,7 @@ use Rattle.array_fixed_invariant.specs.history_World.{opening_list}
 use Rattle.array_fixed_invariant.specs.crash_views_Regions.{DoWithout}
 use Rattle.array_fixed_invariant.proofs.crash_views_Stands.{list-still}
 use Rattle.array_fixed_invariant.specs.array_members_the_Work.{Work}
-use Rattle.array_fixed_invariant.specs.array_members_Lacking.{AreLostSince, IsUnread, IsUnwritten, ListStands, RowsStandBelow, DataStandsAmong, RowsStandAmong, are_mended, mended_rows}
+use Rattle.array_fixed_invariant.specs.array_members_Lacking.{AreLostSince, IsUnread, IsUnwritten, ListStands, RowsStandBelow, DataStandsAmong, RowsStandAmong, are_synced, synced_rows}
 use Rattle.array_fixed_invariant.specs.array_members_Moving.{IsMoved}
 use Rattle.array_fixed_invariant.specs.array_members_Placed.{AreWhole, places_of}
 use Rattle.array_fixed_invariant.specs.array_members_Whole.{list_size}
@@ -61,17 +61,17 @@ module _ (given : Given) (m : Members) (rest : AreAtRest given m) (resync : Opti
   long : list_length m.newest ≡ list_size (places_of m)
   long = list-still m.newest rest.still
 
-  pub unread-still : (at count : ℕ) (refusal : Refusal) → at + count ≤ list_length m.newest → IsUnread (shape_of m.newest) (mended_rows resync m) at count m refusal → IsRefusedStill resync m refusal
+  pub unread-still : (at count : ℕ) (refusal : Refusal) → at + count ≤ list_length m.newest → IsUnread (shape_of m.newest) (synced_rows resync m) at count m refusal → IsRefusedStill resync m refusal
   unread-still at count refusal within (inl many) = too-many-refused resync m refusal (inl many)
   unread-still at count refusal within (inr found) = subst (IsRefusedStill resync m) (sym found.1)
       (subst (IsRefusedHere (list_size (places_of m)) resync m) found.1
-      (unread-here given (list_size (places_of m)) at count (mended_rows resync m) resync m refusal rest.placed (subst (λ (n : ℕ). at + count ≤ n) long within) (λ none. ap (λ (o : Option ℕ). mended_rows o m) none) (inr found)))
+      (unread-here given (list_size (places_of m)) at count (synced_rows resync m) resync m refusal rest.placed (subst (λ (n : ℕ). at + count ≤ n) long within) (λ none. ap (λ (o : Option ℕ). synced_rows o m) none) (inr found)))
 
-  pub unwritten-still : (to : ℕ) (refusal : Refusal) → to ≤ list_length m.newest → IsUnwritten (shape_of m.newest) (are_mended (shape_of m.newest) (mended_rows resync m) to) m refusal → IsRefusedStill resync m refusal
+  pub unwritten-still : (to : ℕ) (refusal : Refusal) → to ≤ list_length m.newest → IsUnwritten (shape_of m.newest) (are_synced (shape_of m.newest) (synced_rows resync m) to) m refusal → IsRefusedStill resync m refusal
   unwritten-still to refusal within (inl many) = too-many-refused resync m refusal (inl many)
   unwritten-still to refusal within (inr found) = subst (IsRefusedStill resync m) (sym found.1)
       (subst (IsRefusedHere (list_size (places_of m)) resync m) found.1
-      (unwritten-here given (list_size (places_of m)) resync (are_mended (shape_of m.newest) (mended_rows resync m) to) m refusal rest.placed (pending-of m resync to (subst (λ (n : ℕ). to ≤ n) long within)) (inr found)))
+      (unwritten-here given (list_size (places_of m)) resync (are_synced (shape_of m.newest) (synced_rows resync m) to) m refusal rest.placed (pending-of m resync to (subst (λ (n : ℕ). to ≤ n) long within)) (inr found)))
 
 -- a call that is refused before anything is done
 pub refused-first : {tells : Type 0} {given : Given} {tape : List Operation} {scope : Scope} {first : ℕ} {entries : List Entry} {members : Members} {work : Work} {limit : Option ℕ} {left : ℕ}
@@ -87,10 +87,10 @@ refused-first {given = given} {tape = tape} {scope = scope} {first = first} {ent
 
 -- by the whole list
 pub fetched-holds : {tells : Type 0} (given : Given) (tape : List Operation) (old new : Members) (resync : Option ℕ) (shape : Shape) (at asked mended : ℕ) (bytes : List ℕ)
-    → shape ≡ shape_of old.newest → mended ≡ mended_rows resync old → length bytes / 512 ≡ asked
+    → shape ≡ shape_of old.newest → mended ≡ synced_rows resync old → length bytes / 512 ≡ asked
     → (tells → (list : ℕ → Sector) → DataStandsAmong shape (IsTouched shape at asked) old (present given tape) list
     → AreWhole new ⊎ RowsStandAmong shape (λ row. IsTouched shape at asked row × (row < mended)) old (present given tape) list → (i : ℕ) → i < asked → sector_of bytes i ≡ list (at + i))
-    → tells → (list : ℕ → Sector) → ListStands old (present given tape) list → AreWhole new ⊎ RowsStandBelow (mended_rows resync old) old (present given tape) list
+    → tells → (list : ℕ → Sector) → ListStands old (present given tape) list → AreWhole new ⊎ RowsStandBelow (synced_rows resync old) old (present given tape) list
     → (i : ℕ) → i < length bytes / 512 → sector_of bytes i ≡ list (at + i)
 fetched-holds given tape old new resync shape at asked mended bytes is rows count holds t list stands filled =
     holds-fetched shape old new is (present given tape) (IsTouched shape at asked) mended (λ (list : ℕ → Sector). (k : ℕ) → k < length bytes / 512 → sector_of bytes k ≡ list (at + k))
@@ -101,7 +101,7 @@ fetched-holds given tape old new resync shape at asked mended bytes is rows coun
 module _ {tells : Type 0} {given : Given} {tape : List Operation} {scope : Scope} {first : ℕ} {entries : List Entry} {old new : Members} {work : Work} {left roles spares : ℕ} {before after : ℕ → ℕ}
     (was : IsStill tells given tape scope first entries old work left) (does : DoWithout old) (who : Who) (end : ℕ) (event : Event) (moved : IsMoved given old new) (since : AreLostSince old new roles spares before after)
     (at : ℕ) (bytes : List ℕ)
-    (holds : tells → (list : ℕ → Sector) → ListStands old (present given tape) list → AreWhole new ⊎ RowsStandBelow (mended_rows work.resync old) old (present given tape) list
+    (holds : tells → (list : ℕ → Sector) → ListStands old (present given tape) list → AreWhole new ⊎ RowsStandBelow (synced_rows work.resync old) old (present given tape) list
     → (i : ℕ) → i < length bytes / 512 → sector_of bytes i ≡ list (at + i)) where
   pub read-holds : tells → IsFilledRight (world_in given tape scope first) (entries ++ entries_of who end (losses_of roles spares ++ event ∷ []))
       → (i : ℕ) → i < length bytes / 512 → sector_of bytes i ≡ now (opening_list (world_in given tape scope first)) entries (at + i)

@@ -28,7 +28,7 @@ use Rattle.array_fixed_invariant.specs.crash_views_Regions.{DoWithout}
 use Rattle.array_fixed_invariant.specs.array_members_the_Work.{Work}
 use Rattle.array_fixed_invariant.specs.array_members_Lacking.{AreLostSince, LacksTooMany, IsOfStripe, DataStandsAmong, RowsStandAmong}
 use Rattle.array_fixed_invariant.specs.array_members_Moving.{Grows, IsMoved}
-use Rattle.array_fixed_invariant.specs.array_members_Placed.{IsPlaced, is_vacant}
+use Rattle.array_fixed_invariant.specs.array_members_Placed.{IsPlaced, is_unassigned}
 use Rattle.array_fixed_invariant.specs.array_members_Rebuilding.{with_recovering, with_whole}
 use Rattle.array_fixed_invariant.specs.array_members_Status.{stripes_of, rebuilt_of, vacant_count, spare_count, resync_left, role_left, recovery_left, left_of}
 use Rattle.array_fixed_invariant.proofs.array_members_GivenMembers.{IsReceiver, state-here}
@@ -84,29 +84,29 @@ recovers-some work m ahead role slot left below is told =
     (recovery-some work m role slot is (shape_of m.newest).disks below) told
 
 -- where a slot holds it yet, it recovers it
-still-recovers : {given : Given} {old new : Members} → IsMoved given old new → (role slot : ℕ) → role_state (reading_of old) role ≡ Recovering slot → is_vacant (reading_of new) role ≡ false → role_state (reading_of new) role ≡ Recovering slot
+still-recovers : {given : Given} {old new : Members} → IsMoved given old new → (role slot : ℕ) → role_state (reading_of old) role ≡ Recovering slot → is_unassigned (reading_of new) role ≡ false → role_state (reading_of new) role ≡ Recovering slot
 still-recovers {old = old} {new = new} moved role slot recovers held = by (holder (role_state (reading_of new) role)) refl
   where
     by : (o : Option ℕ) → holder (role_state (reading_of new) role) ≡ o → role_state (reading_of new) role ≡ Recovering slot
     by None is = absurd (let clash : true ≡ false = sym (ap (λ (o : Option ℕ). not (is_some o)) is) ∙ held in cc)
     by (Some s) is = moved.states role s is ∙ recovers
 
-pub recovering-held : (m : Members) (role slot : ℕ) → role_state (reading_of m) role ≡ Recovering slot → is_vacant (reading_of m) role ≡ false
+pub recovering-held : (m : Members) (role slot : ℕ) → role_state (reading_of m) role ≡ Recovering slot → is_unassigned (reading_of m) role ≡ false
 recovering-held m role slot recovers = ap (λ (s : Role). not (is_some (holder s))) recovers
 
 -- so a step is left of it
 pub held-some : {given : Given} {old new : Members} → IsMoved given old new → (next : Work) (ahead : PhasesLeft) (role slot : ℕ) → role < (shape_of old.newest).disks → role_state (reading_of old) role ≡ Recovering slot
-    → is_vacant (reading_of new) role ≡ false → still_left next new ahead ≢ 0
+    → is_unassigned (reading_of new) role ≡ false → still_left next new ahead ≢ 0
 held-some {new = new} moved next ahead role slot below recovers held =
     recovers-some next new ahead role slot (still_left next new ahead) (subst (λ (s : Shape). role < s.disks) (sym moved.shape) below) (still-recovers moved role slot recovers held) refl
 
 -- nor is one that is made whole
-pub whole-held : (given : Given) (m : Members) (placed : IsPlaced given m) (role slot : ℕ) → IsReceiver given m role slot → is_vacant (reading_of (with_whole role slot m)) role ≡ false
+pub whole-held : (given : Given) (m : Members) (placed : IsPlaced given m) (role slot : ℕ) → IsReceiver given m role slot → is_unassigned (reading_of (with_whole role slot m)) role ≡ false
 whole-held given m placed role slot to = ap (λ (s : Role). not (is_some (holder s))) (state-here given m placed None role slot to)
 
 -- where none holds it any more, its loss is told
 pub among-vacant : {given : Given} {old new : Members} {roles spares : ℕ} {before after : ℕ → ℕ} → IsMoved given old new → AreLostSince old new roles spares before after → (role : ℕ) → role < role_count old.newest
-    → is_vacant (reading_of old) role ≡ false → is_vacant (reading_of new) role ≡ true → Contains (losses_of roles spares) (Lost role Fault)
+    → is_unassigned (reading_of old) role ≡ false → is_unassigned (reading_of new) role ≡ true → Contains (losses_of roles spares) (Lost role Fault)
 among-vacant {old = old} {new = new} {roles = roles} {spares = spares} moved since role counted held vacant = elim (since.vacant role (subst (λ (n : ℕ). role < n) (sym (count-moved moved)) counted) vacant) [
   | inl former ↦ absurd (let clash : false ≡ true = sym held ∙ former in cc)
   | inr has ↦ role-told roles spares role (let few = few-roles new.newest moved.placed.fit.valid in let same = count-moved moved in omega (arith, counted, few, same)) has
@@ -150,7 +150,7 @@ module _ {tells : Type 0} {given : Given} {tape tape' : List Operation} {scope :
     (who : Who) (end role slot roles spares : ℕ) {before after : ℕ → ℕ} (shape : Shape) (was : IsStill tells given tape scope first entries old work (still_left work old ahead)) (does : DoWithout old)
     (goes : IsCallGoing entries who) (caller : who.caller ≢ 254) (at_end : tells → end ≡ length tape') (same_shape : shape ≡ shape_of old.newest) (below : role < (shape_of old.newest).disks)
     (did : IsFillingStill tells given tape tape' old new role slot roles spares before after shape (rebuilt_of work role)) where
-  pub fill-done : (left : ℕ) → work.resync ≡ None → role < length work.rebuilt → rebuilt_of work role < stripes_of old → is_vacant (reading_of new) role ≡ false
+  pub fill-done : (left : ℕ) → work.resync ≡ None → role < length work.rebuilt → rebuilt_of work role < stripes_of old → is_unassigned (reading_of new) role ≡ false
       → left ≡ still_left (with_rebuilt role (rebuilt_of work role + 1) work) new ahead
       → (role_state (reading_of new) role ≡ Recovering slot → tells → (list : ℕ → Sector) → DataStandsAmong shape (IsOfStripe shape (rebuilt_of work role)) old (present given tape) list
       → RowsStandAmong shape (IsOfStripe shape (rebuilt_of work role)) old (present given tape) list
@@ -166,7 +166,7 @@ module _ {tells : Type 0} {given : Given} {tape tape' : List Operation} {scope :
       some : left ≢ 0
       some = recovers-some (with_rebuilt role (rebuilt_of work role + 1) work) new ahead role slot left (subst (λ (s : Shape). role < s.disks) (sym did.moved.shape) below) (still-recovers did.moved role slot did.recovers held) told
 
-  pub fill-gone : work.resync ≡ None → role < length work.rebuilt → is_vacant (reading_of new) role ≡ true
+  pub fill-gone : work.resync ≡ None → role < length work.rebuilt → is_unassigned (reading_of new) role ≡ true
       → IsStill tells given tape' scope first (entries ++ entries_of who end (losses_of roles spares)) new (with_rebuilt role (rebuilt_of work role + 1) work)
       (still_left (with_rebuilt role (rebuilt_of work role + 1) work) new ahead)
   fill-gone synced few vacant =
@@ -223,7 +223,7 @@ module _ {tells : Type 0} {given : Given} {tape tape' : List Operation} {scope :
       (leaves-or-closes old new ahead (Step RebuildEnded left) left plans was.members_are.still did.moved.shape told refl refl (λ zero can. inl did.missing))
       (open-later tells given tape tape' scope first entries who (entries_of who end ((losses_of roles spares ++ Step RebuildEnded left ∷ []) ++ Rebuilt role ∷ [])) did.grows (λ t. (was.recorded t).begun) (λ t. (was.recorded t).ends) goes kept))
 
-  pub end-lost : is_vacant (reading_of new) role ≡ true → IsStill tells given tape' scope first (entries ++ entries_of who end (losses_of roles spares)) new work (still_left work new ahead)
+  pub end-lost : is_unassigned (reading_of new) role ≡ true → IsStill tells given tape' scope first (entries ++ entries_of who end (losses_of roles spares)) new work (still_left work new ahead)
   end-lost vacant =
       ended-stands tells given tape tape' scope first entries old new work (still_left work old ahead) (still_left work new ahead) who end role slot roles spares before after was does goes (not_254 who.caller caller) at_end
       all synced did vacant

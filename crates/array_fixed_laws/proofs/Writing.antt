@@ -33,7 +33,7 @@ use Rattle.array_fixed_invariant.specs.crash_safety_laws_Marking.{AreOthersPrese
 use Rattle.array_fixed_invariant.specs.crash_safety_laws_Safety.{HasRoomLeft, IsRisen}
 use Rattle.array_fixed_invariant.specs.crash_safety_laws_Steady.{IsSafeOver, KeepsSafe, AreGoneTold, AreWritesAllowed}
 use Rattle.array_fixed_invariant.specs.array_members_the_Work.{Work}
-use Rattle.array_fixed_invariant.specs.array_members_Lacking.{AreLostSince, LacksTooMany, IsUnwritten, RowsStandBelow, DataStandsAmong, RowsStandAmong, AreOtherRowsKept, are_mended, mended_rows}
+use Rattle.array_fixed_invariant.specs.array_members_Lacking.{AreLostSince, LacksTooMany, IsUnwritten, RowsStandBelow, DataStandsAmong, RowsStandAmong, AreOtherRowsKept, are_synced, synced_rows}
 use Rattle.array_fixed_invariant.specs.array_members_Moving.{Grows, IsMoved}
 use Rattle.array_fixed_invariant.specs.array_members_Placed.{AreWhole}
 use Rattle.array_fixed_invariant.proofs.array_members_Fit.{valid, list-alike}
@@ -54,17 +54,17 @@ use Rattle.array_fixed_laws.proofs.Reading.{unwritten-still}
 
 module _ (given : Given) (m : Members) (rest : AreAtRest given m) (resync : Option ℕ) (shape : Shape) (same : shape ≡ shape_of m.newest) (at count : ℕ) where
   -- sectors that end within those of the mended rows touch no other row
-  touched-mended : (row : ℕ) → are_mended (shape_of m.newest) (mended_rows resync m) (at + count) ≡ true → IsTouched shape at count row → row < mended_rows resync m
+  touched-mended : (row : ℕ) → are_synced (shape_of m.newest) (synced_rows resync m) (at + count) ≡ true → IsTouched shape at count row → row < synced_rows resync m
   touched-mended row mended touched =
       let here = subst (λ (s : Shape). IsTouched s at count row) same touched in
-      let all : at + count ≤ data_disks (shape_of m.newest) * mended_rows resync m = grind (arith, nat_tests, mended) in
-      let below : here.0 < data_disks (shape_of m.newest) * mended_rows resync m = let last = here.2 in omega (arith, all, last) in
-      subst (λ (r : ℕ). r < mended_rows resync m) here.3
-      (place-row_below (shape_of m.newest) (valid given m rest.placed) here.0 (mended_rows resync m) (mended-multiple given m rest.placed resync) below)
+      let all : at + count ≤ data_disks (shape_of m.newest) * synced_rows resync m = grind (arith, nat_tests, mended) in
+      let below : here.0 < data_disks (shape_of m.newest) * synced_rows resync m = let last = here.2 in omega (arith, all, last) in
+      subst (λ (r : ℕ). r < synced_rows resync m) here.3
+      (place-row_below (shape_of m.newest) (valid given m rest.placed) here.0 (synced_rows resync m) (mended-multiple given m rest.placed resync) below)
 
   -- those that it touches stand, where they are synced
-  pub synced-rows : (new : Members) (synced : Bool) → synced ≡ are_mended (shape_of m.newest) (mended_rows resync m) (at + count) → (c : Contents) (list : ℕ → Sector)
-      → AreWhole new ⊎ RowsStandBelow (mended_rows resync m) m c list → synced ≡ true → AreWhole new ⊎ RowsStandAmong shape (IsTouched shape at count) m c list
+  pub synced-rows : (new : Members) (synced : Bool) → synced ≡ are_synced (shape_of m.newest) (synced_rows resync m) (at + count) → (c : Contents) (list : ℕ → Sector)
+      → AreWhole new ⊎ RowsStandBelow (synced_rows resync m) m c list → synced ≡ true → AreWhole new ⊎ RowsStandAmong shape (IsTouched shape at count) m c list
   synced-rows new synced asked c list (inl whole) is = inl whole
   synced-rows new synced asked c list (inr below) is = inr (λ row touched low.
       subst (λ (s : Shape). RowStands (reading_of m) c s list row) (sym same) (below row (touched-mended row (sym asked ∙ is) touched) low))
@@ -72,7 +72,7 @@ module _ (given : Given) (m : Members) (rest : AreAtRest given m) (resync : Opti
 -- ---- what it leaves
 
 module _ (given : Given) (tape tape' : List Operation) (old new : Members) (rest : AreAtRest given old) (moved : IsMoved given old new) (resync : Option ℕ)
-    (shape : Shape) (same : shape ≡ shape_of old.newest) (at : ℕ) (from : List ℕ) (synced : Bool) (asked : synced ≡ are_mended (shape_of old.newest) (mended_rows resync old) (at + length from / 512)) where
+    (shape : Shape) (same : shape ≡ shape_of old.newest) (at : ℕ) (from : List ℕ) (synced : Bool) (asked : synced ≡ are_synced (shape_of old.newest) (synced_rows resync old) (at + length from / 512)) where
   abbrev AreSynced : (ℕ → Sector) → Type 0
   AreSynced list = synced ≡ true → AreWhole new ⊎ RowsStandAmong shape (IsTouched shape at (length from / 512)) old (present given tape) list
 
@@ -80,7 +80,7 @@ module _ (given : Given) (tape tape' : List Operation) (old new : Members) (rest
       → (tells → (world : World) → (told : Ledger) → HasRoomLeft old tape tape' → AreGoneTold told new → told.unclean ≡ true → (list list' : ℕ → Sector) → IsWritten list list' at from
       → DataStandsAmong shape (IsTouched shape at (length from / 512)) old (present given tape) list → AreSynced list → IsOfRegion old shape (IsTouched shape at (length from / 512))
       → (begun ≡ true → AreWritesAllowed old told.values list') → (OpensFit world → IsTailZero old.newest list') → IsSafeOver world given told old tape → KeepsSafe world given told new tape tape')
-      → IsPutStill tells given tape tape' old new roles spares before after (mended_rows resync old) at from begun
+      → IsPutStill tells given tape tape' old new roles spares before after (synced_rows resync old) at from begun
   put-still since grows stays rise safe = record {
     moved = moved;
     since = since;
@@ -100,7 +100,7 @@ module _ (given : Given) (tape tape' : List Operation) (old new : Members) (rest
       → (tells → (list list' : ℕ → Sector) → IsWritten list list' at from → DataStandsAmong shape (IsTouched shape at (length from / 512)) old (present given tape) list → AreSynced list
       → (role slot row : ℕ) → role < shape.disks → role_state (reading_of new) role ≡ Recovering slot → IsTouched shape at (length from / 512) row → row < old.newest.size
       → HasFull (reading_of old) (present given tape) shape list row role slot → HasFull (reading_of new) (present given tape') shape list' row role slot)
-      → IsWrittenStill tells given tape tape' old new (mended_rows resync old) at from
+      → IsWrittenStill tells given tape tape' old new (synced_rows resync old) at from
   written-still dirty others put good rebuilt = record {
     dirty = dirty;
     put = list-written given old new moved rest.placed shape same at (length from / 512) from synced tape tape' (omega arith) others put;
@@ -122,8 +122,8 @@ module _ (given : Given) (tape tape' : List Operation) (old new : Members) (rest
 pub failed-stands : {tells : Type 0} {given : Given} {tape tape' : List Operation} {scope : Scope} {first : ℕ} {entries : List Entry} {old new : Members} {work : Work} {left roles spares : ℕ} {before after : ℕ → ℕ}
     (left' : ℕ) (who : Who) (end : ℕ) (shape : Shape) (at : ℕ) (from : List ℕ) (synced begun : Bool) (refusal : Refusal)
     → IsStill tells given tape scope first entries old work left → DoWithout old → IsCallGoing entries who → IsFalse (who.caller == 254) → (tells → end ≡ length tape') → (losses_of roles spares ≡ [] → left' ≡ left)
-    → shape ≡ shape_of old.newest → synced ≡ are_mended (shape_of old.newest) (mended_rows work.resync old) (at + length from / 512) → at + length from / 512 ≤ list_length old.newest
-    → (tells → at + length from / 512 ≤ visible_at (world_in given tape scope first) entries) → IsPutStill tells given tape tape' old new roles spares before after (mended_rows work.resync old) at from begun
+    → shape ≡ shape_of old.newest → synced ≡ are_synced (shape_of old.newest) (synced_rows work.resync old) (at + length from / 512) → at + length from / 512 ≤ list_length old.newest
+    → (tells → at + length from / 512 ≤ visible_at (world_in given tape scope first) entries) → IsPutStill tells given tape tape' old new roles spares before after (synced_rows work.resync old) at from begun
     → IsUnwritten shape synced new refusal → (begun ≡ true → LacksTooMany shape new refusal) → (begun ≡ false → tells → AreOthersPresent (present given tape) (present given tape'))
     → IsStill tells given tape' scope first (entries ++ entries_of who end (failure_events roles spares begun at (sectors_of from) refusal)) new work left'
 failed-stands {tells = tells} {given = given} {tape = tape} {tape' = tape'} {scope = scope} {first = first} {entries = entries} {old = old} {new = new} {work = work} {left = left} {roles = roles} {spares = spares} {before = before} {after = after}
@@ -132,9 +132,9 @@ failed-stands {tells = tells} {given = given} {tape = tape} {tape' = tape'} {sco
     in_new : shape ≡ shape_of new.newest
     in_new = same ∙ sym did.moved.shape
 
-    why-new : IsUnwritten (shape_of new.newest) (are_mended (shape_of new.newest) (mended_rows work.resync new) (at + length from / 512)) new refusal
+    why-new : IsUnwritten (shape_of new.newest) (are_synced (shape_of new.newest) (synced_rows work.resync new) (at + length from / 512)) new refusal
     why-new = subst (λ (b : Bool). IsUnwritten (shape_of new.newest) b new refusal)
-        (asked ∙ ap₂ (λ (s : Shape) (n : ℕ). are_mended s n (at + length from / 512)) (sym did.moved.shape) (sym (mended-moved did.moved work.resync)))
+        (asked ∙ ap₂ (λ (s : Shape) (n : ℕ). are_synced s n (at + length from / 512)) (sym did.moved.shape) (sym (mended-moved did.moved work.resync)))
         (subst (λ (s : Shape). IsUnwritten s synced new refusal) in_new why)
 
     dirty : IsUnwritten shape synced new refusal → (is_clean old.newest ≡ false) ⊎ (unsettles (Refused refusal) ≡ true)

@@ -16,16 +16,16 @@ use Rattle.array_fixed.specs.stripe_row_Rows.{reading_of}
 use Rattle.array_fixed.specs.history_the_StepKind.{StepKind}
 use Rattle.array_fixed.specs.history_the_StepKind_TheVariants.{RebuildTaken, RebuildStripe, RebuildEnded, ResyncStripe, ResyncEnded}
 use Rattle.array_fixed.specs.array_members_the_Work.{Work}
-use Rattle.array_fixed.specs.array_members_Placed.{is_vacant}
+use Rattle.array_fixed.specs.array_members_Placed.{is_unassigned}
 use Rattle.array_fixed.specs.array_members_Status.{stripes_of, rebuilt_of, vacant_count, spare_count, resync_left, role_left, recovery_left, left_of}
 use Rattle.array_fixed.specs.array_members_Lacking.{AreTooMany}
 use Rattle.array_fixed.specs.array_call_specs_Calls.{WasSpare, IsCausedBy, IsUnmendable}
 use Rattle.array_fixed.specs.array_members_Rebuilding.{MayHold}
 use Rattle.array_fixed.specs.array_specs_Parts.{RunningParts}
 use Rattle.array_fixed.specs.array_fixed_laws_Steps.{IsStepped}
-use Rattle.array_fixed_sync.specs.Resyncing.{is_at_end, IsUnmended}
+use Rattle.array_fixed_sync.specs.Resyncing.{is_at_end, IsUnsynced}
 use Rattle.array_fixed_sync.specs.Resyncing as resync
-use Rattle.array_fixed.specs.Rebuilding.{recovers, first_recovering, first_vacant, first_spare, IsRebuildNext, rebuild_kind, IsHeldOrNext}
+use Rattle.array_fixed.specs.Rebuilding.{recovers, first_recovering, first_unassigned, first_spare, IsRebuildNext, rebuild_kind, IsHeldOrNext}
 use Rattle.array_fixed_sync.proofs.RebuildLaws.{losses-wider}
 use Rattle.array_fixed.proofs.Lowest.{lowest-found, lowest-fails, none-counted}
 use Rattle.array_fixed_sync.specs.Stepping.{IsUndone, next_kind, IsEnd, IsHeldOrDue}
@@ -50,7 +50,7 @@ none-times m n is = let none : 0 * n ≡ 0 = omega arith in ap (λ (k : ℕ). k 
 
 -- With no resync pending and a step left, a rebuild is next.
 pub next-rebuild : (work : Work) (members : Members) → work.resync ≡ None → 0 < left_of work members → IsRebuildNext members
-next-rebuild work members synced left = by (first_recovering members) refl (first_vacant members) refl (first_spare members) refl
+next-rebuild work members synced left = by (first_recovering members) refl (first_unassigned members) refl (first_spare members) refl
   where
     resyncs : resync_left work.resync members ≡ 0
     resyncs = ap (λ (o : Option ℕ). resync_left o members) synced
@@ -62,11 +62,11 @@ next-rebuild work members synced left = by (first_recovering members) refl (firs
         let pairs = none-times (min (vacant_count members) (spare_count members)) (stripes_of members + 2) no_pair in
         omega (arith, left, resyncs, roles, pairs)
 
-    by : (a : Option ℕ) → first_recovering members ≡ a → (b : Option ℕ) → first_vacant members ≡ b → (c : Option ℕ) → first_spare members ≡ c → IsRebuildNext members
+    by : (a : Option ℕ) → first_recovering members ≡ a → (b : Option ℕ) → first_unassigned members ≡ b → (c : Option ℕ) → first_spare members ≡ c → IsRebuildNext members
     by (Some role) is b there c spare = inl (subst IsSome (sym is) refl)
     by None is (Some role) there (Some slot) spare = inr (subst IsSome (sym there) refl, subst IsSome (sym spare) refl)
     by None is None there c spare = absurd (
-        let none = none-counted (shape_of members.newest).disks (is_vacant (reading_of members)) there in
+        let none = none-counted (shape_of members.newest).disks (is_unassigned (reading_of members)) there in
         let least = min-le_left (vacant_count members) (spare_count members) in
         idle is (omega (arith, none, least)))
     by None is (Some role) there None spare = absurd (
@@ -142,17 +142,17 @@ rebuild-end Fact work members synced fact end = at (first_recovering members) fa
 
 pub undone-caused : {T : Type 0} (visible : ℕ) (work : Work) (old new : Members) (result : Result T Fault) → work.resync ≡ None → IsCausedBy visible 0 AreTooMany old new result → IsCausedBy visible 0 (IsUndone work old) old new result
 undone-caused visible work old new result synced was =
-    subst (λ (o : Option ℕ). IsCausedBy visible 0 (λ m refusal. MatchOption o (AreTooMany m refusal) (λ mended. IsUnmended (is_at_end work.resync old) m refusal)) old new result) (sym synced) was
+    subst (λ (o : Option ℕ). IsCausedBy visible 0 (λ m refusal. MatchOption o (AreTooMany m refusal) (λ mended. IsUnsynced (is_at_end work.resync old) m refusal)) old new result) (sym synced) was
 
 -- of either
 pub undone-unwritten : (work : Work) (old members : Members) (refusal : Refusal) → IsUndone work old members refusal → IsUnmendable members refusal
 undone-unwritten work old members refusal why = by work.resync why
   where
-    mending : (b : Bool) → IsUnmended b members refusal → IsUnmendable members refusal
+    mending : (b : Bool) → IsUnsynced b members refusal → IsUnmendable members refusal
     mending true many = inl many
     mending false unwritten = unwritten
 
-    by : (o : Option ℕ) → MatchOption o (AreTooMany members refusal) (λ mended. IsUnmended (is_at_end o old) members refusal) → IsUnmendable members refusal
+    by : (o : Option ℕ) → MatchOption o (AreTooMany members refusal) (λ mended. IsUnsynced (is_at_end o old) members refusal) → IsUnmendable members refusal
     by None why = inl why
     by (Some mended) why = mending (is_at_end (Some mended) old) why
 

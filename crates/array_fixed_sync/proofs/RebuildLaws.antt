@@ -26,12 +26,12 @@ use Rattle.array_fixed.specs.history_Flat.{values_after, values_of}
 use Rattle.array_fixed.specs.history_Plain.{entries_of}
 use Rattle.array_fixed.specs.array_members_the_Work.{Work}
 use Rattle.array_fixed.specs.history_append_Losing.{losses_of}
-use Rattle.array_fixed.specs.array_members_Placed.{is_vacant}
+use Rattle.array_fixed.specs.array_members_Placed.{is_unassigned}
 use Rattle.array_fixed.specs.array_members_Status.{stripes_of, rebuilt_of}
 use Rattle.array_fixed.specs.array_call_specs_Calls.{IsRecovered, IsRecoveredOrLost, IsRebuildStepped, AreValuesKept, IsRoleLossBy, IsLossBy, AreLossesBy}
 use Rattle.array_fixed.proofs.history_append_CallLaws.{losses-are, values-losses}
 use Rattle.array_fixed.proofs.array_call_specs_NowLaws.{values-more}
-use Rattle.array_fixed.specs.Rebuilding.{recovers, first_recovering, first_vacant, first_spare, IsRebuildNext, rebuilt_role, rebuild_kind, rebuild_events, IsGivenToSpare}
+use Rattle.array_fixed.specs.Rebuilding.{recovers, first_recovering, first_unassigned, first_spare, IsRebuildNext, rebuilt_role, rebuild_kind, rebuild_events, IsGivenToSpare}
 use Rattle.array_fixed.proofs.Lowest.{lowest-found}
 
 -- ---- what is next
@@ -56,7 +56,7 @@ found-recovered members role is =
 
 module _ (work : Work) (members : Members) where
   pub role-recovered : (role : ℕ) → first_recovering members ≡ Some role → rebuilt_role members ≡ role
-  role-recovered role is = ap (λ (o : Option ℕ). unwrap_or o (unwrap_or (first_vacant members) 0)) is
+  role-recovered role is = ap (λ (o : Option ℕ). unwrap_or o (unwrap_or (first_unassigned members) 0)) is
 
   kind-recovered : (role : ℕ) (test : Bool) → first_recovering members ≡ Some role → nat_lt (rebuilt_of work role) (stripes_of members) ≡ test
       → rebuild_kind work members ≡ cond test RebuildStripe RebuildEnded
@@ -83,27 +83,27 @@ module _ (work : Work) (members : Members) where
 pub record IsTaking (members : Members) (role slot : ℕ) : Type 0 where
   pub role_is : rebuilt_role members ≡ role
   pub below : role < (shape_of members.newest).disks
-  pub vacant : is_vacant (reading_of members) role ≡ true
+  pub vacant : is_unassigned (reading_of members) role ≡ true
   pub spare : has_spare members.spares slot ≡ true
   pub lowest : first_spare members ≡ Some slot
 
-taken : (members : Members) (vacant spare : Option ℕ) → first_recovering members ≡ None → first_vacant members ≡ vacant → first_spare members ≡ spare → IsSome vacant → IsSome spare
+taken : (members : Members) (vacant spare : Option ℕ) → first_recovering members ≡ None → first_unassigned members ≡ vacant → first_spare members ≡ spare → IsSome vacant → IsSome spare
     → IsTaking members (unwrap_or vacant 0) (unwrap_or spare 0)
 taken members None spare none lowest some has there = absurd (cc)
 taken members (Some role) None none lowest some has there = absurd (cc)
 taken members (Some role) (Some slot) none lowest some has there =
-    let found = lowest-found (shape_of members.newest).disks (is_vacant (reading_of members)) role lowest in
+    let found = lowest-found (shape_of members.newest).disks (is_unassigned (reading_of members)) role lowest in
     record {
-      role_is = ap (λ (o : Option ℕ). unwrap_or o (unwrap_or (first_vacant members) 0)) none ∙ ap (λ (o : Option ℕ). unwrap_or o 0) lowest;
+      role_is = ap (λ (o : Option ℕ). unwrap_or o (unwrap_or (first_unassigned members) 0)) none ∙ ap (λ (o : Option ℕ). unwrap_or o 0) lowest;
       below = found.0;
       vacant = found.1;
       spare = (lowest-found 32 (has_spare members.spares) slot some).1;
       lowest = some;
     }
 
-pub takes-next : (members : Members) → IsRebuildNext members → first_recovering members ≡ None → IsTaking members (unwrap_or (first_vacant members) 0) (unwrap_or (first_spare members) 0)
+pub takes-next : (members : Members) → IsRebuildNext members → first_recovering members ≡ None → IsTaking members (unwrap_or (first_unassigned members) 0) (unwrap_or (first_spare members) 0)
 takes-next members (inl recovers_one) none = absurd (let some = subst IsSome none recovers_one in cc)
-takes-next members (inr there) none = taken members (first_vacant members) (first_spare members) none refl refl there.0 there.1
+takes-next members (inr there) none = taken members (first_unassigned members) (first_spare members) none refl refl there.0 there.1
 
 -- ---- what a step entered
 

@@ -18,7 +18,7 @@ use Rattle.array_fixed.specs.array_call_specs_Calls.{IsBehind, IsCausedBy, AreVa
 use Rattle.array_fixed.proofs.history_append_CallLaws.{losses-are, values-losses}
 use Rattle.array_fixed.proofs.array_call_specs_NowLaws.{values-more}
 use Rattle.array_fixed.specs.array_specs_Calls.{IsStepTaken}
-use Rattle.array_fixed_sync.specs.Resyncing.{is_at_end, IsUnmended}
+use Rattle.array_fixed_sync.specs.Resyncing.{is_at_end, IsUnsynced}
 
 -- ---- the list
 
@@ -48,8 +48,8 @@ at_end-is found resync stripes members b same count is =
     by (Some mended) = refl
 
 -- a cause, by the kind of the step
-pub caused-as : {T : Type 0} (visible : ℕ) (at last : Bool) (old new : Members) (result : Result T Fault) → at ≡ last → IsCausedBy visible 0 (IsUnmended last) old new result → IsCausedBy visible 0 (IsUnmended at) old new result
-caused-as visible at last old new result is was = subst (λ (b : Bool). IsCausedBy visible 0 (IsUnmended b) old new result) (sym is) was
+pub caused-as : {T : Type 0} (visible : ℕ) (at last : Bool) (old new : Members) (result : Result T Fault) → at ≡ last → IsCausedBy visible 0 (IsUnsynced last) old new result → IsCausedBy visible 0 (IsUnsynced at) old new result
+caused-as visible at last old new result is was = subst (λ (b : Bool). IsCausedBy visible 0 (IsUnsynced b) old new result) (sym is) was
 
 pub ok-so : {T E : Type 0} (r : Result T E) {F G : Type 0} → (F → G) → OnOk r F → OnOk r G
 ok-so (Ok x) so fact = so fact

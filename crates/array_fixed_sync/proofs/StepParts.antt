@@ -13,7 +13,7 @@ use Rattle.array_fixed.specs.array_members_the_Work.{Work}
 use Rattle.array_fixed.specs.array_members_Lacking.{AreTooMany}
 use Rattle.array_fixed.specs.array_call_specs_Calls.{IsCausedBy, IsRebuildStepped, by_answer}
 use Rattle.array_fixed.specs.array_specs_Calls.{IsStepTaken}
-use Rattle.array_fixed_sync.specs.Resyncing.{is_at_end, IsUnmended}
+use Rattle.array_fixed_sync.specs.Resyncing.{is_at_end, IsUnsynced}
 use Rattle.array_fixed_sync.specs.Resyncing as resync
 use Rattle.array_fixed.specs.Rebuilding.{rebuilt_role, rebuild_kind, rebuild_events, after_rebuild}
 use Rattle.array_fixed_sync.specs.Stepping.{IsUndone, IsStepEntered, next_kind, after_step}
@@ -45,12 +45,12 @@ resync-work {T} work work' members (Ok x) some was = was ∙ by work.resync some
     by (Some mended) some = refl
 resync-work work work' members (Err fault) some was = was
 
-pub resync-caused : {T : Type 0} (visible : ℕ) (work : Work) (old new : Members) (result : Result T Fault) → IsSome work.resync → IsCausedBy visible 0 (IsUnmended (is_at_end work.resync old)) old new result
+pub resync-caused : {T : Type 0} (visible : ℕ) (work : Work) (old new : Members) (result : Result T Fault) → IsSome work.resync → IsCausedBy visible 0 (IsUnsynced (is_at_end work.resync old)) old new result
     → IsCausedBy visible 0 (IsUndone work old) old new result
 resync-caused {T} visible work old new result = by work.resync
   where
-    by : (o : Option ℕ) → IsSome o → IsCausedBy visible 0 (IsUnmended (is_at_end work.resync old)) old new result
-        → IsCausedBy visible 0 (λ m refusal. MatchOption o (AreTooMany m refusal) (λ mended. IsUnmended (is_at_end work.resync old) m refusal)) old new result
+    by : (o : Option ℕ) → IsSome o → IsCausedBy visible 0 (IsUnsynced (is_at_end work.resync old)) old new result
+        → IsCausedBy visible 0 (λ m refusal. MatchOption o (AreTooMany m refusal) (λ mended. IsUnsynced (is_at_end work.resync old) m refusal)) old new result
     by None some was = absurd (cc)
     by (Some mended) some was = was
 

@@ -22,6 +22,6 @@ abbrev pub after_step : Option ℕ → Members → Option ℕ
 after_step resync members = if is_at_end resync members then None else one_more resync
 
 -- why the next step isn't done, by whether it is the last
-abbrev pub IsUnmended : Bool → Members → Refusal → Type 0
-IsUnmended true members refusal = AreTooMany members refusal
-IsUnmended false members refusal = IsUnmendable members refusal
+abbrev pub IsUnsynced : Bool → Members → Refusal → Type 0
+IsUnsynced true members refusal = AreTooMany members refusal
+IsUnsynced false members refusal = IsUnmendable members refusal

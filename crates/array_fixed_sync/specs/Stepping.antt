@@ -13,13 +13,13 @@ use Rattle.array_fixed.specs.array_members_Lacking.{AreTooMany}
 use Rattle.array_fixed.specs.array_members_Rebuilding.{Held}
 use Rattle.array_fixed.specs.array_call_specs_Calls.{IsRebuildStepped}
 use Rattle.array_fixed.specs.array_specs_Calls.{IsStepTaken}
-use Rattle.array_fixed_sync.specs.Resyncing.{is_at_end, IsUnmended}
+use Rattle.array_fixed_sync.specs.Resyncing.{is_at_end, IsUnsynced}
 use Rattle.array_fixed_sync.specs.Resyncing as resync
 use Rattle.array_fixed.specs.Rebuilding.{first_spare, rebuilt_role, rebuild_kind, rebuild_events, after_rebuild}
 
 -- why the next step isn't done, by what was under way in the old members
 abbrev pub IsUndone : Work → Members → Members → Refusal → Type 0
-IsUndone work old members refusal = MatchOption work.resync (AreTooMany members refusal) (λ mended. IsUnmended (is_at_end work.resync old) members refusal)
+IsUndone work old members refusal = MatchOption work.resync (AreTooMany members refusal) (λ mended. IsUnsynced (is_at_end work.resync old) members refusal)
 
 -- the kind of the next step: the resync's, where one is pending, or else a rebuild's
 abbrev pub next_kind : Work → Members → StepKind

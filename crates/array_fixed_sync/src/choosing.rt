@@ -2,7 +2,7 @@
 
 ghost use Rattle.std.specs.Prelude.{◌≡◌, ◌≤◌, length};
 ghost use Rattle.array_fixed.specs.sb_specs_Reading.{shape_of};
-ghost use Rattle.array_fixed.specs.Rebuilding.{first_recovering, first_vacant};
+ghost use Rattle.array_fixed.specs.Rebuilding.{first_recovering, first_unassigned};
 
 use array_fixed::{Members, Role};
 
@@ -21,10 +21,10 @@ pub fn first_recovering(members: &Members, disks: u32) -> Option<u32>
 }
 
 /// The lowest role that no slot holds, of so many.
-pub fn first_vacant(members: &Members, disks: u32) -> Option<u32>
+pub fn first_unassigned(members: &Members, disks: u32) -> Option<u32>
     requires disks { disks ≡ (shape_of members.now.newest).disks }
     requires roles { disks ≤ length members.now.roles }
-    ensures { result ≡ first_vacant members.now }
+    ensures { result ≡ first_unassigned members.now }
 {
     for role in 0..disks {
         if let Role::Missing = members.roles.get(role) {

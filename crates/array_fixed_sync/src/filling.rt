@@ -12,7 +12,7 @@ ghost use Rattle.array_fixed.specs.history_the_Event_TheVariants.{Step, Rebuilt 
 ghost use Rattle.array_fixed.specs.history_the_StepKind_TheVariants.{RebuildTaken as TakesRole, RebuildStripe as FillsStripe, RebuildEnded as EndsRebuild};
 ghost use Rattle.array_fixed.specs.crash_views_Regions.{DoWithout};
 ghost use Rattle.array_fixed.specs.array_members_Lacking.{AreTooMany, RowsStand};
-ghost use Rattle.array_fixed.specs.array_members_Placed.{is_vacant, AreStillHeld};
+ghost use Rattle.array_fixed.specs.array_members_Placed.{is_unassigned, AreStillHeld};
 ghost use Rattle.array_fixed.specs.array_members_Rebuilding.{Held};
 ghost use Rattle.array_fixed.specs.array_members_Status.{rebuilt_of};
 ghost use Rattle.array_fixed.specs.array_call_specs_Calls.{AreSparesFewer, IsHeldOrGiven, AreHeldOrSpare, HasStripeUnbuilt, AreStripesRebuilt, IsWholeOrLost, IsRecoveredOrLost, with_rebuilt, by_answer, AreStepsFewer, AreStepsKept, IsRebuildStepped, IsCausedBy};
@@ -25,9 +25,9 @@ ghost use Rattle.array_fixed.specs.array_fixed_laws_Steps.{IsStepped, IsClosable
 use crate::naming::{fill_and_name, give_and_name, record_and_name};
 use crate::refusing::refuse_step;
 use array_fixed::{
-    Bank, Event, Fault, StepKind, Still, Who, all_left, check_going, enter, enter_behind,
-    enter_lost, is_vacant, newly_vacant, recovering_slot, set_rebuilt, shape_in, too_many,
-    vacant_roles, with, without,
+    Bank, Event, Fault, StepKind, Still, Who, all_left, append_after_losses, append_entry,
+    append_lost, check_going, is_unassigned, newly_unassigned, recovering_slot, set_rebuilt,
+    shape_in, too_many, unassigned_roles, with, without,
 };
 
 /// The first step of a rebuild: gives a role that no slot holds to a spare, which recovers it from the first row on.
@@ -36,7 +36,7 @@ pub fn take_role<B: Bank>(still: &mut Still<B>, who: Who, role: u32, slot: u32) 
     requires open { IsCallGoing still.old.parts.entries who }
     requires caller { who.caller ≢ 254 }
     requires role { role < (shape_of still.old.parts.members.newest).disks }
-    requires vacant { is_vacant (reading_of still.old.parts.members) role ≡ true }
+    requires vacant { is_unassigned (reading_of still.old.parts.members) role ≡ true }
     requires spare { has_spare still.old.parts.members.spares slot ≡ true }
     requires plans { ArePlansKept B.tells (moving_world (B.given still.old.parts.bank) (B.tape still.old.parts.bank) still.old) still.old }
     requires room { 1 ≤ still.old.parts.steps }
@@ -62,21 +62,21 @@ pub fn take_role<B: Bank>(still: &mut Still<B>, who: Who, role: u32, slot: u32) 
     still.steps -= 1;
     check_going(&still.epoch.entries, who);
     let disks = shape_in(&still.members).disks;
-    let before = without(vacant_roles(&still.members, disks), with(0, role));
+    let before = without(unassigned_roles(&still.members, disks), with(0, role));
     let spares = give_and_name(&mut still.members, &mut still.bank, role, slot);
-    let roles = newly_vacant(&still.members, disks, before);
+    let roles = newly_unassigned(&still.members, disks, before);
     set_rebuilt(&mut still.work, role, 0);
     let end = still.bank.ops();
     let kind = StepKind::RebuildTaken;
     let left = all_left(&still.members, &still.work, &still.ahead);
     let event = Event::Step { kind, left };
-    enter_behind(&mut still.epoch, who, end, roles, spares, event);
+    append_after_losses(&mut still.epoch, who, end, roles, spares, event);
     Ok(())
 }
 
 /// A step of a rebuild: rebuilds the next stripe of the role on the slot that recovers it. Where that slot is lost, this ends
 /// the rebuild, and only the loss is entered. Refusals: `TooManyMissing`. It takes no memory.
-pub fn fill_stripe<B: Bank>(still: &mut Still<B>, who: Who, role: u32) -> Result<(), Fault>
+pub fn rebuild_stripe<B: Bank>(still: &mut Still<B>, who: Who, role: u32) -> Result<(), Fault>
     requires open { IsCallGoing still.old.parts.entries who }
     requires caller { who.caller ≢ 254 }
     requires pending { HasStripeUnbuilt still.old.parts.work still.old.parts.members role }
@@ -104,7 +104,7 @@ pub fn fill_stripe<B: Bank>(still: &mut Still<B>, who: Who, role: u32) -> Result
     still.steps -= 1;
     check_going(&still.epoch.entries, who);
     let shape = shape_in(&still.members);
-    let before = vacant_roles(&still.members, shape.disks);
+    let before = unassigned_roles(&still.members, shape.disks);
     let stripe = still.work.rebuilt[role as usize];
     let Some(slot) = recovering_slot(&still.members, role) else {
         unreachable!()
@@ -119,22 +119,22 @@ pub fn fill_stripe<B: Bank>(still: &mut Still<B>, who: Who, role: u32) -> Result
         &mut still.rows,
         &mut still.buffer,
     );
-    let roles = newly_vacant(&still.members, shape.disks, before);
+    let roles = newly_unassigned(&still.members, shape.disks, before);
     let end = still.bank.ops();
     if let Some(refusal) = filled.refusal {
         let event = Event::Refused { refusal };
-        enter_behind(&mut still.epoch, who, end, roles, filled.spares, event);
+        append_after_losses(&mut still.epoch, who, end, roles, filled.spares, event);
         return Err(Fault::Refused(refusal));
     }
     set_rebuilt(&mut still.work, role, stripe + 1);
-    if is_vacant(&still.members, role) {
-        enter_lost(&mut still.epoch, who, end, roles, filled.spares);
+    if is_unassigned(&still.members, role) {
+        append_lost(&mut still.epoch, who, end, roles, filled.spares);
         return Ok(());
     }
     let kind = StepKind::RebuildStripe;
     let left = all_left(&still.members, &still.work, &still.ahead);
     let event = Event::Step { kind, left };
-    enter_behind(&mut still.epoch, who, end, roles, filled.spares, event);
+    append_after_losses(&mut still.epoch, who, end, roles, filled.spares, event);
     Ok(())
 }
 
@@ -174,21 +174,21 @@ pub fn end_rebuild<B: Bank>(still: &mut Still<B>, who: Who, role: u32) -> Result
     still.steps -= 1;
     check_going(&still.epoch.entries, who);
     let disks = shape_in(&still.members).disks;
-    let before = vacant_roles(&still.members, disks);
+    let before = unassigned_roles(&still.members, disks);
     let Some(slot) = recovering_slot(&still.members, role) else {
         unreachable!()
     };
     let spares = record_and_name(&mut still.members, &mut still.bank, role, slot);
-    let roles = newly_vacant(&still.members, disks, before);
+    let roles = newly_unassigned(&still.members, disks, before);
     let end = still.bank.ops();
-    if is_vacant(&still.members, role) {
-        enter_lost(&mut still.epoch, who, end, roles, spares);
+    if is_unassigned(&still.members, role) {
+        append_lost(&mut still.epoch, who, end, roles, spares);
         return Ok(());
     }
     let kind = StepKind::RebuildEnded;
     let left = all_left(&still.members, &still.work, &still.ahead);
     let event = Event::Step { kind, left };
-    enter_behind(&mut still.epoch, who, end, roles, spares, event);
-    enter(&mut still.epoch, who, end, Event::Rebuilt { role });
+    append_after_losses(&mut still.epoch, who, end, roles, spares, event);
+    append_entry(&mut still.epoch, who, end, Event::Rebuilt { role });
     Ok(())
 }

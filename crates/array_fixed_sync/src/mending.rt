@@ -6,13 +6,13 @@ ghost use Rattle.array_fixed.specs.stripe_row_Rows.{reading_of, present};
 ghost use Rattle.array_fixed.specs.history_Flat.{now};
 ghost use Rattle.array_fixed.specs.history_Sound.{OpensFit};
 ghost use Rattle.array_fixed.specs.history_World.{opening_list};
-ghost use Rattle.array_fixed.specs.history_the_StepKind_TheVariants.{ResyncStripe as MendsStripe, ResyncEnded as EndsResync};
+ghost use Rattle.array_fixed.specs.history_the_StepKind_TheVariants.{ResyncStripe as ResyncsStripe, ResyncEnded as EndsResync};
 ghost use Rattle.array_fixed.specs.array_members_Lacking.{AreHoldersFlushed, AreTooMany, RowsStand};
 ghost use Rattle.array_fixed.specs.crash_views_Regions.{DoWithout};
 ghost use Rattle.array_fixed.specs.array_members_Placed.{AreStillHeld};
 ghost use Rattle.array_fixed.specs.array_members_Rebuilding.{Held};
 ghost use Rattle.array_fixed.specs.sb_safe_updates_First.{write_refusal, IsFirstRefused};
-ghost use Rattle.array_fixed.specs.array_call_specs_Calls.{AreSparesFewer, HasStripeLeft, IsAllMended, one_more, AreStepsFewer, AreStepsKept, by_answer, IsCausedBy, IsUnmendable};
+ghost use Rattle.array_fixed.specs.array_call_specs_Calls.{AreSparesFewer, HasStripeLeft, IsAllSynced, one_more, AreStepsFewer, AreStepsKept, by_answer, IsCausedBy, IsUnmendable};
 ghost use Rattle.array_fixed.specs.history_invariant_Recorded.{IsCallGoing};
 ghost use Rattle.array_fixed.specs.array_specs_Parts.{still_left};
 ghost use Rattle.array_fixed.specs.array_specs_Calls.{moving_world, IsStepTaken};
@@ -21,18 +21,19 @@ ghost use Rattle.array_fixed.specs.array_fixed_laws_Steps.{IsStepped, IsClosable
 
 use crate::refusing::refuse_step;
 use array_fixed::{
-    Bank, Event, Fault, StepKind, Still, Who, all_left, check_going, enter_behind, mend,
-    newly_vacant, settle, shape_in, too_many, unmended, vacant_roles,
+    Bank, Event, Fault, StepKind, Still, Who, all_left, append_after_losses, check_going,
+    first_resync_refusal, flush_and_mark, newly_unassigned, resync_rows, shape_in, too_many,
+    unassigned_roles,
 };
 
 /// A step of the pending resync: makes the parity of its next stripe fit the data. Every role that has data must be there.
 /// Refusals: `TooManyMissing` and `NotResynced`. It takes no memory.
-pub fn mend_stripe<B: Bank>(still: &mut Still<B>, who: Who) -> Result<(), Fault>
+pub fn resync_stripe<B: Bank>(still: &mut Still<B>, who: Who) -> Result<(), Fault>
     requires open { IsCallGoing still.old.parts.entries who }
     requires caller { who.caller ≢ 254 }
     requires pending { HasStripeLeft still.old.parts.work.resync still.old.parts.members }
     requires room { 1 ≤ still.old.parts.steps }
-    ensures entered { IsStepTaken who still.old.parts.entries still.new.parts.entries MendsStripe (still_left still.new.parts.work still.new.parts.members still.new.ahead) result }
+    ensures entered { IsStepTaken who still.old.parts.entries still.new.parts.entries ResyncsStripe (still_left still.new.parts.work still.new.parts.members still.new.ahead) result }
     ensures stepped { IsStepped B.tells (B.given still.old.parts.bank) (B.tape still.old.parts.bank) (B.tape still.new.parts.bank) (Held still.old.parts.members) (B.faults_of still.old.parts.bank) (B.faults_of still.new.parts.bank) still.old still.new }
     ensures held { AreStillHeld still.old.parts.members still.new.parts.members }
     ensures spares { AreSparesFewer still.old.parts.members still.new.parts.members }
@@ -47,16 +48,16 @@ pub fn mend_stripe<B: Bank>(still: &mut Still<B>, who: Who) -> Result<(), Fault>
     ensures room { still.new.parts.steps + 1 ≡ still.old.parts.steps }
     ensures given { B.given still.new.parts.bank ≡ B.given still.old.parts.bank }
 {
-    if let Some(refusal) = unmended(&still.members) {
+    if let Some(refusal) = first_resync_refusal(&still.members) {
         refuse_step(still, who, refusal);
         return Err(Fault::Refused(refusal));
     }
     still.steps -= 1;
     check_going(&still.epoch.entries, who);
     let shape = shape_in(&still.members);
-    let before = vacant_roles(&still.members, shape.disks);
+    let before = unassigned_roles(&still.members, shape.disks);
     let stripe = still.work.resync.unwrap_or(0);
-    let mended = mend(
+    let mended = resync_rows(
         &mut still.members,
         &mut still.bank,
         &shape,
@@ -64,18 +65,18 @@ pub fn mend_stripe<B: Bank>(still: &mut Still<B>, who: Who) -> Result<(), Fault>
         &mut still.rows,
         &mut still.buffer,
     );
-    let roles = newly_vacant(&still.members, shape.disks, before);
+    let roles = newly_unassigned(&still.members, shape.disks, before);
     let end = still.bank.ops();
     if let Some(refusal) = mended.refusal {
         let event = Event::Refused { refusal };
-        enter_behind(&mut still.epoch, who, end, roles, mended.spares, event);
+        append_after_losses(&mut still.epoch, who, end, roles, mended.spares, event);
         return Err(Fault::Refused(refusal));
     }
     still.work.resync = Some(stripe + 1);
     let kind = StepKind::ResyncStripe;
     let left = all_left(&still.members, &still.work, &still.ahead);
     let event = Event::Step { kind, left };
-    enter_behind(&mut still.epoch, who, end, roles, mended.spares, event);
+    append_after_losses(&mut still.epoch, who, end, roles, mended.spares, event);
     Ok(())
 }
 
@@ -84,7 +85,7 @@ pub fn mend_stripe<B: Bank>(still: &mut Still<B>, who: Who) -> Result<(), Fault>
 pub fn end_resync<B: Bank>(still: &mut Still<B>, who: Who) -> Result<(), Fault>
     requires open { IsCallGoing still.old.parts.entries who }
     requires caller { who.caller ≢ 254 }
-    requires pending { IsAllMended still.old.parts.work.resync still.old.parts.members }
+    requires pending { IsAllSynced still.old.parts.work.resync still.old.parts.members }
     requires plans { ArePlansKept B.tells (moving_world (B.given still.old.parts.bank) (B.tape still.old.parts.bank) still.old) still.old }
     requires room { 1 ≤ still.old.parts.steps }
     ensures entered { IsStepTaken who still.old.parts.entries still.new.parts.entries EndsResync (still_left still.new.parts.work still.new.parts.members still.new.ahead) result }
@@ -112,19 +113,19 @@ pub fn end_resync<B: Bank>(still: &mut Still<B>, who: Who) -> Result<(), Fault>
     still.steps -= 1;
     check_going(&still.epoch.entries, who);
     let disks = shape_in(&still.members).disks;
-    let before = vacant_roles(&still.members, disks);
-    let settled = settle(&mut still.members, &mut still.bank, false);
-    let roles = newly_vacant(&still.members, disks, before);
+    let before = unassigned_roles(&still.members, disks);
+    let settled = flush_and_mark(&mut still.members, &mut still.bank, false);
+    let roles = newly_unassigned(&still.members, disks, before);
     let end = still.bank.ops();
     if let Some(refusal) = settled.refusal {
         let event = Event::Refused { refusal };
-        enter_behind(&mut still.epoch, who, end, roles, settled.spares, event);
+        append_after_losses(&mut still.epoch, who, end, roles, settled.spares, event);
         return Err(Fault::Refused(refusal));
     }
     still.work.resync = None;
     let kind = StepKind::ResyncEnded;
     let left = all_left(&still.members, &still.work, &still.ahead);
     let event = Event::Step { kind, left };
-    enter_behind(&mut still.epoch, who, end, roles, settled.spares, event);
+    append_after_losses(&mut still.epoch, who, end, roles, settled.spares, event);
     Ok(())
 }

@@ -17,13 +17,13 @@ ghost use Rattle.array_fixed.specs.crash_safety_laws_Safety.{HasLiveSlot, HasRoo
 ghost use Rattle.array_fixed.specs.crash_safety_laws_Steady.{AreUnlost, IsSafeOver, KeepsSafe, AreGoneTold, IsUncleanTold, AreWritesAllowed, given_back};
 ghost use Rattle.array_fixed.specs.array_members_Lacking.{HaveFailedSince, RowsStand, LacksTooMany, DataStandsAmong, RowsStandAmong, IsOfStripe};
 ghost use Rattle.array_fixed.specs.array_members_Moving.{Grows, IsMoved};
-ghost use Rattle.array_fixed.specs.array_members_Placed.{is_vacant, IsPlaced};
+ghost use Rattle.array_fixed.specs.array_members_Placed.{is_unassigned, IsPlaced};
 ghost use Rattle.array_fixed.specs.array_members_Rebuilding.{AreSparesFree, with_recovering, with_whole, AreRowsFull, IsFilledAmong};
 ghost use Rattle.array_fixed.specs.array_members_Status.{stripes_of};
 ghost use Rattle.array_fixed.specs.sb_safe_updates_Named.{AreNamedMissing};
 
 use array_fixed::{
-    Bank, Filled, Members, Shape, fill, flush_and_record, give_role, is_vacant, name_missing,
+    Bank, Filled, Members, Shape, fill, flush_and_record, give_role, is_unassigned, record_missing,
 };
 
 // Gives a role that no slot holds to a spare, which has nothing of it yet, and names the roles that no slot holds. The other spares
@@ -40,7 +40,7 @@ pub(crate) fn give_and_name<B: Bank>(
     requires free { AreSparesFree (B.given bank.old) members.old }
     requires still { is_reshaping members.old.newest ≡ false }
     requires role { role < (shape_of members.old.newest).disks }
-    requires vacant { is_vacant (reading_of members.old) role ≡ true }
+    requires vacant { is_unassigned (reading_of members.old) role ≡ true }
     requires spare { has_spare members.old.spares slot ≡ true }
     ensures moved { IsMoved (B.given bank.old) (with_recovering role slot members.old) members.new }
     ensures failed { HaveFailedSince (with_recovering role slot members.old) members.new result (B.faults_of bank.old) (B.faults_of bank.new) }
@@ -56,7 +56,7 @@ pub(crate) fn give_and_name<B: Bank>(
     ensures counts { NeverFalls (B.faults_of bank.old) (B.faults_of bank.new) }
 {
     let spares = give_role(members, bank, role, slot);
-    let others = name_missing(members, bank);
+    let others = record_missing(members, bank);
     spares | others
 }
 
@@ -97,7 +97,7 @@ pub(crate) fn record_and_name<B: Bank>(
     ensures counts { NeverFalls (B.faults_of bank.old) (B.faults_of bank.new) }
 {
     let spares = flush_and_record(members, bank, role, slot);
-    let others = name_missing(members, bank);
+    let others = record_missing(members, bank);
     spares | others
 }
 
@@ -129,7 +129,7 @@ pub(crate) fn fill_and_name<B: Bank>(
     ensures refused { MatchOption result.refusal ⊤ (LacksTooMany shape.now members.new) }
     ensures grows { Grows B.tells (B.tape bank.old) (B.tape bank.new) }
     ensures clean { is_clean members.new.newest ≡ is_clean members.old.newest }
-    ensures missing { result.refusal ≡ None → is_vacant (reading_of members.new) role ≡ true → HasLiveSlot members.new → AreNamedMissing members.new }
+    ensures missing { result.refusal ≡ None → is_unassigned (reading_of members.new) role ≡ true → HasLiveSlot members.new → AreNamedMissing members.new }
     ensures filled { result.refusal ≡ None → role_state (reading_of members.new) role ≡ IsRecovering slot → B.tells → (list : ℕ → Sector)
         → DataStandsAmong shape.now (IsOfStripe shape.now stripe) members.old (present (B.given bank.old) (B.tape bank.old)) list → RowsStandAmong shape.now (IsOfStripe shape.now stripe) members.old (present (B.given bank.old) (B.tape bank.old)) list
         → (row : ℕ) → IsOfStripe shape.now stripe row → rows_held (reading_of members.old) (IsRecovering slot) ≤ row
@@ -145,10 +145,10 @@ pub(crate) fn fill_and_name<B: Bank>(
     ensures buffer { length buffer.new.items ≡ length buffer.old.items }
 {
     let filled = fill(members, bank, shape, role, slot, stripe, rows, buffer);
-    if filled.refusal.is_some() | !is_vacant(members, role) {
+    if filled.refusal.is_some() | !is_unassigned(members, role) {
         return filled;
     }
-    let others = name_missing(members, bank);
+    let others = record_missing(members, bank);
     Filled {
         spares: filled.spares | others,
         refusal: None,

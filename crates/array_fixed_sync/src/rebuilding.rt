@@ -18,8 +18,8 @@ ghost use Rattle.array_fixed.specs.array_specs_Plans.{ArePlansKept};
 ghost use Rattle.array_fixed.specs.array_fixed_laws_Steps.{IsStepped, IsClosable, IsCallUnbroken};
 ghost use Rattle.array_fixed.specs.Rebuilding.{rebuilt_role, rebuild_kind, rebuild_events, after_rebuild, IsRebuildNext, IsGivenToSpare, IsHeldOrNext};
 
-use crate::choosing::{first_recovering, first_vacant};
-use crate::filling::{end_rebuild, fill_stripe, take_role};
+use crate::choosing::{first_recovering, first_unassigned};
+use crate::filling::{end_rebuild, rebuild_stripe, take_role};
 use array_fixed::{Bank, Fault, Still, Who, first_spare};
 
 // Does the next step of a rebuild: of the lowest role that a slot recovers, its next stripe, or, where all are rebuilt, its
@@ -56,11 +56,11 @@ pub(crate) fn rebuild_step<B: Bank>(still: &mut Still<B>, who: Who) -> Result<()
     let disks = still.disks();
     if let Some(role) = first_recovering(still.members(), disks) {
         if still.rebuilt(role) < still.stripes() {
-            return fill_stripe(still, who, role);
+            return rebuild_stripe(still, who, role);
         }
         return end_rebuild(still, who, role);
     }
-    let role = first_vacant(still.members(), disks).unwrap_or(0);
+    let role = first_unassigned(still.members(), disks).unwrap_or(0);
     let slot = first_spare(still.members()).unwrap_or(0);
     take_role(still, who, role, slot)
 }

@@ -10,7 +10,7 @@ ghost use Rattle.array_fixed.specs.history_invariant_Recorded.{IsCallGoing};
 ghost use Rattle.array_fixed.specs.array_specs_Parts.{still_left};
 ghost use Rattle.array_fixed.specs.array_fixed_laws_Steps.{IsStepped};
 
-use array_fixed::{Bank, Event, Refusal, Still, Who, check_going, enter};
+use array_fixed::{Bank, Event, Refusal, Still, Who, append_entry, check_going};
 
 // Enters that a step is refused, before anything was done.
 pub(crate) fn refuse_step<B: Bank>(still: &mut Still<B>, who: Who, refusal: Refusal)
@@ -34,5 +34,5 @@ pub(crate) fn refuse_step<B: Bank>(still: &mut Still<B>, who: Who, refusal: Refu
     still.steps -= 1;
     check_going(&still.epoch.entries, who);
     let end = still.bank.ops();
-    enter(&mut still.epoch, who, end, Event::Refused { refusal });
+    append_entry(&mut still.epoch, who, end, Event::Refused { refusal });
 }

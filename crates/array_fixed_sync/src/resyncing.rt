@@ -16,9 +16,9 @@ ghost use Rattle.array_fixed.specs.array_specs_Parts.{still_left};
 ghost use Rattle.array_fixed.specs.array_specs_Calls.{moving_world, IsStepTaken};
 ghost use Rattle.array_fixed.specs.array_specs_Plans.{ArePlansKept};
 ghost use Rattle.array_fixed.specs.array_fixed_laws_Steps.{IsStepped, IsClosable};
-ghost use Rattle.array_fixed_sync.specs.Resyncing.{is_at_end, next_kind, after_step, IsUnmended};
+ghost use Rattle.array_fixed_sync.specs.Resyncing.{is_at_end, next_kind, after_step, IsUnsynced};
 
-use crate::mending::{end_resync, mend_stripe};
+use crate::mending::{end_resync, resync_stripe};
 use array_fixed::{Bank, Fault, Still, Who};
 
 // Does the next step of the pending resync: mends its next stripe, or, where every stripe is mended, flushes the members and marks
@@ -37,7 +37,7 @@ pub(crate) fn resync_step<B: Bank>(still: &mut Still<B>, who: Who) -> Result<(),
     ensures stays { OnErr result (AreStepsKept still.old.parts.entries still.new.parts.entries (still_left still.old.parts.work still.old.parts.members still.old.ahead) (still_left still.new.parts.work still.new.parts.members still.new.ahead)) }
     ensures closable { OnOk result (IsClosable still.new) }
     ensures list { AreValuesKept still.old.parts.entries still.new.parts.entries }
-    ensures caused { IsCausedBy (list_length still.old.parts.members.newest) 0 (IsUnmended (is_at_end still.old.parts.work.resync still.old.parts.members)) still.old.parts.members still.new.parts.members result }
+    ensures caused { IsCausedBy (list_length still.old.parts.members.newest) 0 (IsUnsynced (is_at_end still.old.parts.work.resync still.old.parts.members)) still.old.parts.members still.new.parts.members result }
     ensures clean { OnOk result (is_clean still.new.parts.members.newest ≡ is_at_end still.old.parts.work.resync still.old.parts.members) }
     ensures flushed { OnOk result (IsTrue (is_at_end still.old.parts.work.resync still.old.parts.members) → B.tells → AreHoldersFlushed (reading_of still.new.parts.members) (B.given still.old.parts.bank) (B.tape still.new.parts.bank)) }
     ensures good { OnOk result (IsTrue (is_at_end still.old.parts.work.resync still.old.parts.members) → B.tells → DoWithout still.new.parts.members → OpensFit (moving_world (B.given still.new.parts.bank) (B.tape still.new.parts.bank) still.new)
@@ -50,6 +50,6 @@ pub(crate) fn resync_step<B: Bank>(still: &mut Still<B>, who: Who) -> Result<(),
     if still.resync() == Some(still.stripes()) {
         end_resync(still, who)
     } else {
-        mend_stripe(still, who)
+        resync_stripe(still, who)
     }
 }

@@ -30,13 +30,13 @@ pub fn stored_superblocks_are_held()
 {}
 
 /// `PositionNotOnUnit` tells a position that is neither a multiple of the unit nor the list's length.
-pub fn off_unit_is_told()
+pub fn off_unit_is_recorded()
     ensures told { OffUnitIsTold }
     ensures none { AcceptedIsOnUnit }
 {}
 
 /// `BackupAbsent` tells that a reshape has no backup with room for a window.
-pub fn a_lacking_backup_is_told()
+pub fn a_missing_backup_is_recorded()
     ensures told { LackingBackupIsTold }
     ensures refused { LackingBackupIsRefused }
 {}

@@ -19,7 +19,7 @@ use Rattle.array_reply_specs.specs.history_the_Entry.{Entry}
 use Rattle.array_reply_specs.specs.history_the_Event_TheVariants.{Refused}
 use Rattle.array_reply_specs.specs.history_OneShape.{ShapeOpening, IsOneShapeRefusal}
 use Rattle.array_transition.specs.array_members_the_Work.{Work}
-use Rattle.array_transition.specs.array_members_Placed.{is_vacant}
+use Rattle.array_transition.specs.array_members_Placed.{is_unassigned}
 use Rattle.array_transition.specs.array_members_Status.{stripes_of, rebuilt_of, vacant_count, spare_count, resync_left, role_left, recovery_left, left_of}
 use Rattle.array_transition.specs.reshape_request_Asked.{Asked, lowest_missing, IsUngrowable, grow_refusal}
 use Rattle.array_transition.proofs.reshape_request_FirstLaws.{judged, none-exactly}
@@ -96,7 +96,7 @@ module _ (work : Work) (m : Members) (whole : (role : ℕ) → role < (shape_of 
       omega (arith, before, last)
 
   none-vacant : vacant_count m ≡ 0
-  none-vacant = count-zero (shape_of m.newest).disks (is_vacant (reading_of m)) (λ role lt. whole-held (role_state (reading_of m) role) (whole role lt))
+  none-vacant = count-zero (shape_of m.newest).disks (is_unassigned (reading_of m)) (λ role lt. whole-held (role_state (reading_of m) role) (whole role lt))
 
   pub none-left : work.resync ≡ None → left_of work m ≡ 0
   none-left synced =

@@ -12,7 +12,7 @@ mod Told
 pub use Rattle.array_reply_specs.proofs.Fitting as array_reply_specs_Fitting
 pub use Rattle.array_reply_specs.proofs.GoneOn as array_reply_specs_GoneOn
 pub use Rattle.array_transition.proofs.Begun as array_transition_Begun
-pub use Rattle.array_transition.proofs.array_reshaping_laws_MendLaws
+pub use Rattle.array_transition.proofs.array_reshaping_laws_ResyncLaws
 pub use Rattle.array_transition.proofs.array_fixed_invariant_Whole
 pub use Rattle.array_transition.proofs.array_fixed_laws_PlansKept
 pub use Rattle.array_transition.proofs.array_fixed_sync_Lowest

@@ -15,7 +15,7 @@ ghost use Rattle.array_grow.specs.Planned.{asked_in, IsGrowJudged, IsGrowReply, 
 ghost use Rattle.array_grow.specs.Plans.{GoesTo};
 
 use crate::judging::judge;
-use array_reply_specs::{Bank, Fault, Refusal, Who, Wish, check_number, enter};
+use array_reply_specs::{Bank, Fault, Refusal, Who, Wish, append_entry, check_number};
 use array_transition::{Event, Still, all_left, plan_of, zeros};
 
 /// What a plan answers: how many steps are left, and a buffer for each of its windows.
@@ -54,7 +54,7 @@ fn enter_refusal<B: Bank>(still: Still<B>, who: Who, wish: &Wish, refusal: Refus
     pieces.steps -= 1;
     check_number(&pieces.epoch.entries, who);
     let end = pieces.bank.ops();
-    enter(&mut pieces.epoch, who, end, Event::Refused { refusal });
+    append_entry(&mut pieces.epoch, who, end, Event::Refused { refusal });
     Still::of_pieces(pieces)
 }
 
@@ -79,7 +79,7 @@ fn enter_plan<B: Bank>(still: Still<B>, who: Who, wish: Wish) -> (Still<B>, u64)
     check_number(&pieces.epoch.entries, who);
     let end = pieces.bank.ops();
     let left = plan.steps;
-    enter(&mut pieces.epoch, who, end, Event::Planned { left, wish });
+    append_entry(&mut pieces.epoch, who, end, Event::Planned { left, wish });
     (Still::of_pieces(pieces), left)
 }
 

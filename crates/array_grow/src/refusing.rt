@@ -16,7 +16,9 @@ ghost use Rattle.array_reply_specs.specs.array_specs_Visible.{IsLimitedAs};
 ghost use Rattle.array_grow.specs.Planned.{asked_in, IsJudged, IsGrowJudged, IsReplyTo, IsReplied, IsRefusedInReshape, IsGrowAnswered, IsAsBefore};
 
 use crate::planning::PlannedGrow;
-use array_reply_specs::{Bank, BusyKind, Fault, NoMemory, Refusal, Who, Wish, check_number, enter};
+use array_reply_specs::{
+    Bank, BusyKind, Fault, NoMemory, Refusal, Who, Wish, append_entry, check_number,
+};
 use array_transition::{Event, Moving};
 
 // Enters that a request is refused for the reshape. Want of memory changes nothing.
@@ -46,7 +48,7 @@ fn enter_busy<B: Bank>(moving: Moving<B>, who: Who) -> (Moving<B>, Result<(), No
     check_number(&pieces.epoch.entries, who);
     let end = pieces.bank.ops();
     let refusal = Refusal::Busy(BusyKind::Reshape);
-    enter(&mut pieces.epoch, who, end, Event::Refused { refusal });
+    append_entry(&mut pieces.epoch, who, end, Event::Refused { refusal });
     let moving = Moving::of_pieces(pieces, backup, course, window);
     (moving, Ok(()))
 }

@@ -28,7 +28,7 @@ use Rattle.crash_role_laws.specs.crash_views_Views.{Ledger}
 use Rattle.crash_role_laws.proofs.crash_safety_laws_Steady.{safe-is-seen}
 use Rattle.crash_role_laws.proofs.crash_safety_laws_FillingSafe.{filling-stays-safe}
 use Rattle.array_members.proofs.LackingWrites.{recovering-before}
-use Rattle.array_members.proofs.MendedParts.{IsInParts}
+use Rattle.array_members.proofs.SyncedParts.{IsInParts}
 use Rattle.array_members.proofs.HeldRows.{held-moved}
 use Rattle.array_members.proofs.Stripes.{touched-of_stripe}
 

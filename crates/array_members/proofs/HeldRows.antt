@@ -13,7 +13,7 @@ use Rattle.crash_role_laws.specs.sb_specs_Reading.{Reading, shape_of, is_reshapi
 use Rattle.crash_role_laws.specs.stripe_row_Rows.{reading_of, is_held, is_missing, held_slot, held_sector, role_without, missing_count}
 use Rattle.crash_role_laws.proofs.stripe_row_Losses.{holder-of, state_kept}
 use Rattle.crash_role_laws.proofs.stripe_row_Tables.{get_or-map}
-use Rattle.array_members.specs.Placed.{is_vacant, AreLess}
+use Rattle.array_members.specs.Placed.{is_unassigned, AreLess}
 use Rattle.array_members.specs.Moving.{IsMoved}
 use Rattle.array_members.specs.Lacking.{DoesWithout}
 use Rattle.array_members.proofs.Counts.{count-implied}
@@ -112,17 +112,17 @@ missing-moved {old = old} {new = new} moved role gone = by (role_state (reading_
 
 -- one that is missing was so, unless no slot holds it
 pub missing-before : {given : Given} {old new : Members} → IsMoved given old new → (role : ℕ) → is_missing (reading_of new) role ≡ true
-    → (is_missing (reading_of old) role ≡ true) ⊎ (is_vacant (reading_of new) role ≡ true)
+    → (is_missing (reading_of old) role ≡ true) ⊎ (is_unassigned (reading_of new) role ≡ true)
 missing-before {old = old} {new = new} moved role gone = by (role_state (reading_of new) role) refl
   where
-    by : (state : Role) → role_state (reading_of new) role ≡ state → (is_missing (reading_of old) role ≡ true) ⊎ (is_vacant (reading_of new) role ≡ true)
+    by : (state : Role) → role_state (reading_of new) role ≡ state → (is_missing (reading_of old) role ≡ true) ⊎ (is_unassigned (reading_of new) role ≡ true)
     by (Whole slot) is = absurd (let e = sym (ap (λ (s : Role). not (is_whole s)) is) ∙ gone in cc)
     by (Recovering slot) is = inl (ap (λ (s : Role). not (is_whole s)) (sym (moved.states role slot (ap holder is))) ∙ gone)
     by Missing is = inr (ap (λ (s : Role). not (is_some (holder s))) is)
 
 -- ---- roles that no slot holds
 
-pub vacant-missing : (r : Reading) (role : ℕ) → is_vacant r role ≡ true → is_missing r role ≡ true
+pub vacant-missing : (r : Reading) (role : ℕ) → is_unassigned r role ≡ true → is_missing r role ≡ true
 vacant-missing r role none = of (role_state r role) none
   where
     of : (state : Role) → not (is_some (holder state)) ≡ true → not (is_whole state) ≡ true
@@ -131,10 +131,10 @@ vacant-missing r role none = of (role_state r role) none
     of Missing e = refl
 
 -- one that had no slot has none
-pub vacant-moved : {given : Given} {old new : Members} → IsMoved given old new → (role : ℕ) → is_vacant (reading_of old) role ≡ true → is_vacant (reading_of new) role ≡ true
+pub vacant-moved : {given : Given} {old new : Members} → IsMoved given old new → (role : ℕ) → is_unassigned (reading_of old) role ≡ true → is_unassigned (reading_of new) role ≡ true
 vacant-moved {old = old} {new = new} moved role none = by (holder (role_state (reading_of new) role)) refl
   where
-    by : (held : Option ℕ) → holder (role_state (reading_of new) role) ≡ held → is_vacant (reading_of new) role ≡ true
+    by : (held : Option ℕ) → holder (role_state (reading_of new) role) ≡ held → is_unassigned (reading_of new) role ≡ true
     by (Some slot) is = absurd (let e = sym (ap (λ (h : Option ℕ). not (is_some h)) (moved.held role slot is)) ∙ none in cc)
     by None is = ap (λ (h : Option ℕ). not (is_some h)) is
 

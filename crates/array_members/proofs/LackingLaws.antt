@@ -18,7 +18,7 @@ use Rattle.crash_role_laws.specs.sb_specs_Reading.{Reading, shape_of, role_state
 use Rattle.crash_role_laws.specs.sb_specs_Reads.{has_spare}
 use Rattle.crash_role_laws.proofs.sb_specs_SlotSets.{none_there}
 use Rattle.crash_role_laws.specs.stripe_row_Rows.{reading_of, present, is_missing, role_without}
-use Rattle.array_members.specs.Placed.{is_vacant, AreStillHeld, AreWhole, IsPlaced, AreLost, AreLess, IsInForce}
+use Rattle.array_members.specs.Placed.{is_unassigned, AreStillHeld, AreWhole, IsPlaced, AreLost, AreLess, IsInForce}
 use Rattle.array_members.specs.Flushing.{AreMembersFlushed}
 use Rattle.array_members.specs.Moving.{IsMoved, AreFailed}
 use Rattle.crash_role_laws.proofs.stripe_row_Losses.{state_kept}
@@ -121,18 +121,18 @@ since-then a b c s t u f g h early late one two either = record {
 
 -- exactly the vacant roles are in the set
 abbrev pub AreVacant : Members → ℕ → ℕ → Type 0
-AreVacant m disks roles = (role : ℕ) → has_slot roles role ≡ (nat_lt role disks && is_vacant (reading_of m) role)
+AreVacant m disks roles = (role : ℕ) → has_slot roles role ≡ (nat_lt role disks && is_unassigned (reading_of m) role)
 
 -- these roles are vacant, and weren't before
 abbrev pub AreNewlyVacant : Members → ℕ → ℕ → ℕ → Type 0
-AreNewlyVacant m disks before roles = (role : ℕ) → has_slot roles role ≡ ((nat_lt role disks && is_vacant (reading_of m) role) && not (has_slot before role))
+AreNewlyVacant m disks before roles = (role : ℕ) → has_slot roles role ≡ ((nat_lt role disks && is_unassigned (reading_of m) role) && not (has_slot before role))
 
 pub lost-since : (given : Given) (old new : Members) (disks was roles spares : ℕ) (before after : ℕ → ℕ) → IsPlaced given old → IsMoved given old new → HaveFailedSince old new spares before after
     → disks ≡ role_count old.newest → AreVacant old disks was → AreNewlyVacant new disks was roles → AreLostSince old new roles spares before after
 lost-since given old new disks was roles spares before after placed moved failed same vacant newly = record {
-  vacant = λ role lt is. old-or role (is_vacant (reading_of old) role) refl (subst (λ (n : ℕ). role < n) (sym same) (subst (λ (n : ℕ). role < n) (count-alike old.newest new.newest moved.reshape moved.shape moved.size) lt)) is;
-  gone = λ role has. (parts (nat_lt role disks) (is_vacant (reading_of new) role) (has_slot was role) (sym (newly role) ∙ has)).1;
-  held = λ role has. at role (parts (nat_lt role disks) (is_vacant (reading_of new) role) (has_slot was role) (sym (newly role) ∙ has)) (holder (role_state (reading_of old) role)) refl;
+  vacant = λ role lt is. old-or role (is_unassigned (reading_of old) role) refl (subst (λ (n : ℕ). role < n) (sym same) (subst (λ (n : ℕ). role < n) (count-alike old.newest new.newest moved.reshape moved.shape moved.size) lt)) is;
+  gone = λ role has. (parts (nat_lt role disks) (is_unassigned (reading_of new) role) (has_slot was role) (sym (newly role) ∙ has)).1;
+  held = λ role has. at role (parts (nat_lt role disks) (is_unassigned (reading_of new) role) (has_slot was role) (sym (newly role) ∙ has)) (holder (role_state (reading_of old) role)) refl;
   failed = failed.spares_are;
   were = failed.were;
   told = failed.told;
@@ -148,30 +148,30 @@ lost-since given old new disks was roles spares before after placed moved failed
     parts false b c e = absurd (cc)
 
     -- a role that had a slot before isn't in the set of those that were vacant
-    old-or : (role : ℕ) (b : Bool) → is_vacant (reading_of old) role ≡ b → role < disks → is_vacant (reading_of new) role ≡ true
-        → (is_vacant (reading_of old) role ≡ true) ⊎ (has_slot roles role ≡ true)
+    old-or : (role : ℕ) (b : Bool) → is_unassigned (reading_of old) role ≡ b → role < disks → is_unassigned (reading_of new) role ≡ true
+        → (is_unassigned (reading_of old) role ≡ true) ⊎ (has_slot roles role ≡ true)
     old-or role true is lt now = inl is
     old-or role false is lt now =
         let out : has_slot was role ≡ false = vacant role ∙ ap (λ (b : Bool). nat_lt role disks && b) is ∙ none (nat_lt role disks) in
-        inr (newly role ∙ ap (λ (b : Bool). (nat_lt role disks && is_vacant (reading_of new) role) && not b) out
+        inr (newly role ∙ ap (λ (b : Bool). (nat_lt role disks && is_unassigned (reading_of new) role) && not b) out
         ∙ ap₂ (λ (a b : Bool). (a && b) && not false) (lt-is role disks lt) now)
       where
         none : (b : Bool) → (b && false) ≡ false
         none true = refl
         none false = refl
 
-    not-vacant : (role : ℕ) → nat_lt role disks ≡ true → has_slot was role ≡ false → is_vacant (reading_of old) role ≡ false
-    not-vacant role lt out = by (is_vacant (reading_of old) role) (ap (λ (b : Bool). b && is_vacant (reading_of old) role) (sym lt) ∙ sym (vacant role) ∙ out)
+    not-vacant : (role : ℕ) → nat_lt role disks ≡ true → has_slot was role ≡ false → is_unassigned (reading_of old) role ≡ false
+    not-vacant role lt out = by (is_unassigned (reading_of old) role) (ap (λ (b : Bool). b && is_unassigned (reading_of old) role) (sym lt) ∙ sym (vacant role) ∙ out)
       where
         by : (b : Bool) → (true && b) ≡ false → b ≡ false
         by true e = absurd (cc)
         by false e = refl
 
-    gone : (role slot : ℕ) → is_vacant (reading_of new) role ≡ true → (holder (role_state (reading_of new) role) ≡ Some slot) ⊎ IsFaulted slot before after → IsFaulted slot before after
+    gone : (role slot : ℕ) → is_unassigned (reading_of new) role ≡ true → (holder (role_state (reading_of new) role) ≡ Some slot) ⊎ IsFaulted slot before after → IsFaulted slot before after
     gone role slot is (inr did) = did
     gone role slot is (inl held) = absurd (let e = sym (ap (λ (h : Option ℕ). not (is_some h)) held) ∙ is in cc)
 
-    at : (role : ℕ) → (nat_lt role disks ≡ true) × (is_vacant (reading_of new) role ≡ true) × (has_slot was role ≡ false) → (held : Option ℕ) → holder (role_state (reading_of old) role) ≡ held
+    at : (role : ℕ) → (nat_lt role disks ≡ true) × (is_unassigned (reading_of new) role ≡ true) × (has_slot was role ≡ false) → (held : Option ℕ) → holder (role_state (reading_of old) role) ≡ held
         → (slot : ℕ) × (holder (role_state (reading_of old) role) ≡ Some slot) × IsFaulted slot before after
     at role are (Some slot) is = (slot, is, gone role slot are.1 (failed.roles role slot is))
     at role are None is = absurd (let e = sym (ap (λ (h : Option ℕ). not (is_some h)) is) ∙ not-vacant role are.0 are.2 in cc)

@@ -21,7 +21,7 @@ pub mod LiveLeft
 pub mod MarkedSafe
 pub mod SoundViews
 pub mod SafeStretch
-pub mod MendedParts
+pub mod SyncedParts
 pub mod FilledParts
 pub mod Gives
 pub mod GivenMembers

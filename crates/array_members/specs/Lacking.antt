@@ -14,7 +14,7 @@ use Rattle.crash_role_laws.specs.sb_codec_the_Sb.{Sb}
 use Rattle.crash_role_laws.specs.sb_specs_Reading.{Reading, shape_of, final_shape, role_count, role_state, holder, data_offset_of, entry_of}
 use Rattle.crash_role_laws.specs.sb_specs_Reads.{has_spare}
 use Rattle.crash_role_laws.specs.stripe_row_Rows.{reading_of, present, is_missing, missing_count, IsTolerated}
-use Rattle.array_members.specs.Placed.{is_vacant}
+use Rattle.array_members.specs.Placed.{is_unassigned}
 use Rattle.crash_role_laws.specs.stripe_list_the_Unavailable.{Unavailable}
 use Rattle.crash_role_laws.specs.stripe_list_the_Unavailable_TheVariants.{TooManyMissing, NotResynced}
 use Rattle.crash_role_laws.specs.stripe_list_Full.{DataStands, RowStands}
@@ -58,17 +58,17 @@ refused_by shape members (Err cause) = Some (refusal_for shape members cause)
 -- ---- a resync
 
 -- the rows whose parity is to be relied on: those of the stripes that a pending resync has mended, or else all
-abbrev pub mended_rows : Option ℕ → Members → ℕ
-mended_rows None members = members.newest.size
-mended_rows (Some mended) members = mended * (shape_of members.newest).chunk
+abbrev pub synced_rows : Option ℕ → Members → ℕ
+synced_rows None members = members.newest.size
+synced_rows (Some mended) members = mended * (shape_of members.newest).chunk
 
 -- the row is of this stripe
 abbrev pub IsOfStripe : Shape → ℕ → ℕ → Type 0
 IsOfStripe shape stripe row = (stripe * shape.chunk ≤ row) × (row < (stripe + 1) * shape.chunk)
 
 -- the sectors of the list below this one have their places in the first so many rows
-abbrev pub are_mended : Shape → ℕ → ℕ → Bool
-are_mended shape mended to = nat_le to (data_disks shape * mended)
+abbrev pub are_synced : Shape → ℕ → ℕ → Bool
+are_synced shape mended to = nat_le to (data_disks shape * mended)
 
 -- one of so many sectors from this one on has its place on the role, behind these rows
 abbrev pub IsAskedBeyond : Shape → ℕ → ℕ → ℕ → ℕ → Type 0
@@ -104,8 +104,8 @@ pub record HaveFailedSince (old new : Members) (spares : ℕ) (before after : �
 -- Each role that no slot holds now had none before, or is one of these; no slot holds these now, and the slot of each has failed since, as have
 -- these, which were spares; each other spare is one still.
 pub record AreLostSince (old new : Members) (roles spares : ℕ) (before after : ℕ → ℕ) : Type 0 where
-  pub vacant : (role : ℕ) → role < role_count new.newest → is_vacant (reading_of new) role ≡ true → (is_vacant (reading_of old) role ≡ true) ⊎ (has_slot roles role ≡ true)
-  pub gone : (role : ℕ) → has_slot roles role ≡ true → is_vacant (reading_of new) role ≡ true
+  pub vacant : (role : ℕ) → role < role_count new.newest → is_unassigned (reading_of new) role ≡ true → (is_unassigned (reading_of old) role ≡ true) ⊎ (has_slot roles role ≡ true)
+  pub gone : (role : ℕ) → has_slot roles role ≡ true → is_unassigned (reading_of new) role ≡ true
   pub held : (role : ℕ) → has_slot roles role ≡ true → (slot : ℕ) × (holder (role_state (reading_of old) role) ≡ Some slot) × IsFaulted slot before after
   pub failed : (slot : ℕ) → has_slot spares slot ≡ true → IsFaulted slot before after
   pub were : (slot : ℕ) → has_slot spares slot ≡ true → has_spare old.spares slot ≡ true
@@ -147,7 +147,7 @@ IsNamed newest role = (device : ℕ) × (device < 384) × (entry_of newest devic
 
 -- it gives no device a role that no slot holds
 abbrev pub AreUnnamed : Members → Type 0
-AreUnnamed m = (role : ℕ) → role < role_count m.newest → is_vacant (reading_of m) role ≡ true → IsNamed m.newest role → ⊥
+AreUnnamed m = (role : ℕ) → role < role_count m.newest → is_unassigned (reading_of m) role ≡ true → IsNamed m.newest role → ⊥
 
 -- ---- a write
 

@@ -26,8 +26,8 @@ abbrev pub places_of : Members → Places
 places_of members = places_by (reading_of members)
 
 -- no slot holds the role, whole or in part
-abbrev pub is_vacant : Reading → ℕ → Bool
-is_vacant r role = not (is_some (holder (role_state r role)))
+abbrev pub is_unassigned : Reading → ℕ → Bool
+is_unassigned r role = not (is_some (holder (role_state r role)))
 
 -- every role is whole
 abbrev pub AreWhole : Members → Type 0

@@ -10,7 +10,7 @@ use Rattle.crash_role_laws.specs.sb_specs_Reads.{has_spare}
 use Rattle.crash_role_laws.specs.stripe_row_Rows.{reading_of}
 use Rattle.array_members.specs.declared.work.Work.{Work}
 use Rattle.array_members.specs.Whole.{list_size}
-use Rattle.array_members.specs.Placed.{places_of, is_vacant}
+use Rattle.array_members.specs.Placed.{places_of, is_unassigned}
 use Rattle.array_members.specs.Parts.{Parts}
 
 -- the stripes of the array
@@ -23,7 +23,7 @@ rebuilt_of work role = slice_index_or work.rebuilt role 0
 
 -- the roles that no slot holds, and the spares
 abbrev pub vacant_count : Members → ℕ
-vacant_count members = count_below (shape_of members.newest).disks (is_vacant (reading_of members))
+vacant_count members = count_below (shape_of members.newest).disks (is_unassigned (reading_of members))
 
 abbrev pub spare_count : Members → ℕ
 spare_count members = count_below 32 (has_spare members.spares)

@@ -16,8 +16,8 @@ ghost use Rattle.array_open.specs.Adopted.{moving_work, IsMovingAdopted, IsNotAd
 use array_create_assemble::{Bank, Epoch, Fault, Members, Refusal, Work, is_clean, unit};
 use array_reshaping_open_laws::{PhasesLeft, Window, find_window, lose_recovering};
 use array_steps::{
-    Course, Moving, Pieces, Room, enter_all_absent, final_in, found_numbers, list_sectors,
-    room_for, shape_in, zeros,
+    Course, Moving, Pieces, Room, append_absent, final_in, found_numbers, list_sectors, room_for,
+    shape_in, zeros,
 };
 use std::alloc::Global;
 
@@ -85,7 +85,7 @@ fn begin_moving<B: Bank>(
         entries: near.entries,
     };
     let count = members.roles.len() as u32;
-    enter_all_absent(&mut epoch, &members, first, count);
+    append_absent(&mut epoch, &members, first, count);
     let work = moving_work(&members);
     let ahead = PhasesLeft {
         next: None,
@@ -120,7 +120,7 @@ fn begin_moving<B: Bank>(
 ///
 /// Refused, the bank is handed back: `NoMemory` before any device call, and `BackupAbsent` where a read of the backup failed, which then
 /// counts as absent.
-pub fn adopt_moving<B: Bank>(
+pub fn adopt_reshaping<B: Bank>(
     alloc: Global,
     bank: B,
     backup: u32,

@@ -16,7 +16,7 @@ ghost use Rattle.array_reshaping_open_laws.specs.Opening.{AreOpenedMoving};
 ghost use Rattle.array_open.specs.Adopted.{IsMovingAdopted, IsNotAdopted};
 ghost use Rattle.array_open.specs.Found.{IsRunningFound};
 
-use crate::adopting::adopt_moving;
+use crate::adopting::adopt_reshaping;
 use array_create_assemble::{Bank, Fault, Opened, find, is_reshaping};
 use array_steps::{Opened as OpenedStill, Running, Still};
 use std::alloc::Global;
@@ -69,7 +69,7 @@ fn run_moving<B: Bank>(
     ensures left_counts { IfErr result (λ e. OnlyItsSlotsFail (B.given bank) (B.faults_of bank) (B.faults_of e.0)) }
 {
     let Opened { members, given } = found;
-    match adopt_moving(alloc, bank, backup, members, given) {
+    match adopt_reshaping(alloc, bank, backup, members, given) {
         Ok(moving) => Ok(Running::of_moving(alloc, moving)),
         Err(refused) => Err(refused),
     }

@@ -7,7 +7,7 @@ mod ending;
 mod examining;
 mod finding;
 
-pub use adopting::adopt_moving;
+pub use adopting::adopt_reshaping;
 pub use array_create_assemble::{CreateSpec, read_superblock};
 pub use array_steps::{
     Moving, PlannedGrow, Running, State, Still, add_moving, add_still, check_moving, check_still,

@@ -10,7 +10,7 @@ ghost use Rattle.history_append.specs.history_World.{opening_list};
 ghost use Rattle.history_append.specs.history_the_Event_TheVariants.{Read};
 ghost use Rattle.history_append.specs.history_the_Request_TheVariants.{Read as AsksRead};
 ghost use Rattle.array_open.specs.crash_safety_laws_Marking.{AreOthersPresent};
-ghost use Rattle.array_open.specs.array_members_Lacking.{HaveRolesFailed, mended_rows};
+ghost use Rattle.array_open.specs.array_members_Lacking.{HaveRolesFailed, synced_rows};
 ghost use Rattle.array_open.specs.array_members_Placed.{AreWhole};
 ghost use Rattle.array_open.specs.sb_safe_updates_First.{read_refusal, call_refusal, IsFirstRefused};
 ghost use Rattle.array_open.specs.array_call_specs_Calls.{IsAnswered, IsCausedBy, OnNoMemory};
@@ -38,7 +38,7 @@ pub fn read<B: Bank>(
     ensures answered { IsAnswered (list_length array.old.parts.members.newest) (AsksRead at (length into.old / 512)) who array.old.parts.entries array.new.parts.entries (Read at (sectors_of into.new)) result }
     ensures holds { OnOk result (B.tells → IsReadRight array.old (moving_world (B.given array.old.parts.bank) (B.tape array.old.parts.bank) array.old) (moving_world (B.given array.new.parts.bank) (B.tape array.new.parts.bank) array.new) array.new.parts.entries
         → AreSectors (now (opening_list (moving_world (B.given array.old.parts.bank) (B.tape array.old.parts.bank) array.old)) array.old.parts.entries) at into.new) }
-    ensures unread { OnErr result (into.new ≡ into.old) }
+    ensures first_read_refusal { OnErr result (into.new ≡ into.old) }
     ensures unchanged { OnNoMemory result (array.new ≡ array.old) }
     ensures called { IsCalled B.tells (B.given array.old.parts.bank) (B.tape array.old.parts.bank) (B.tape array.new.parts.bank) (B.faults_of array.old.parts.bank) (B.faults_of array.new.parts.bank) array.old array.new }
     ensures tape { is_reshaping array.old.parts.members.newest ≡ false → AreWhole array.new.parts.members → B.tells → B.tape array.new.parts.bank ≡ B.tape array.old.parts.bank }
@@ -46,7 +46,7 @@ pub fn read<B: Bank>(
     ensures clean { is_clean array.new.parts.members.newest ≡ is_clean array.old.parts.members.newest }
     ensures caused { IsCausedBy (visible_in array.old) (at + length into.old / 512) (IsReadLacked array.old at (length into.old / 512)) array.old.parts.members array.new.parts.members result }
     ensures first { is_reshaping array.old.parts.members.newest ≡ false → IsFirstRefused (λ members. call_refusal (visible_in array.old) (at + length into.old / 512)
-        (read_refusal (shape_of array.old.parts.members.newest) (mended_rows array.old.parts.work.resync array.old.parts.members) at (length into.old / 512) members)) array.old.parts.members array.new.parts.members result }
+        (read_refusal (shape_of array.old.parts.members.newest) (synced_rows array.old.parts.work.resync array.old.parts.members) at (length into.old / 512) members)) array.old.parts.members array.new.parts.members result }
     ensures failed { HaveRolesFailed array.old.parts.members array.new.parts.members (B.faults_of array.old.parts.bank) (B.faults_of array.new.parts.bank) }
     ensures active { is_reshaping array.new.parts.members.newest ≡ is_reshaping array.old.parts.members.newest }
     ensures course { array.new.course ≡ array.old.course }

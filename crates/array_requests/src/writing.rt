@@ -11,7 +11,7 @@ ghost use Rattle.history_append.specs.history_Flat.{next_number};
 ghost use Rattle.history_append.specs.history_the_Event_TheVariants.{Wrote};
 ghost use Rattle.history_append.specs.history_the_Request_TheVariants.{Write as AsksWrite};
 ghost use Rattle.array_open.specs.crash_safety_laws_Marking.{AreOthersPresent};
-ghost use Rattle.array_open.specs.array_members_Lacking.{HaveRolesFailed, are_mended, mended_rows};
+ghost use Rattle.array_open.specs.array_members_Lacking.{HaveRolesFailed, are_synced, synced_rows};
 ghost use Rattle.array_open.specs.sb_safe_updates_First.{write_refusal, call_refusal, IsFirstRefused};
 ghost use Rattle.array_open.specs.array_call_specs_Calls.{IsAnswered, IsCausedBy, OnNoMemory, has_torn};
 ghost use Rattle.array_open.specs.reshape_progress_Laws.{closed};
@@ -47,7 +47,7 @@ pub fn write<B: Bank>(array: &mut Running<B>, who: Who, at: u64, from: &[u8]) ->
         → AreOthersPresent (present (B.given array.old.parts.bank) (B.tape array.old.parts.bank)) (present (B.given array.old.parts.bank) (B.tape array.new.parts.bank))) }
     ensures caused { IsCausedBy (visible_in array.old) (at + length from.now / 512) (IsWriteLackedIn array.old at (length from.now / 512)) array.old.parts.members array.new.parts.members result }
     ensures first { is_reshaping array.old.parts.members.newest ≡ false → IsFirstRefused (λ members. call_refusal (visible_in array.old) (at + length from.now / 512)
-        (write_refusal (shape_of array.old.parts.members.newest) (are_mended (shape_of array.old.parts.members.newest) (mended_rows array.old.parts.work.resync array.old.parts.members) (at + length from.now / 512)) members))
+        (write_refusal (shape_of array.old.parts.members.newest) (are_synced (shape_of array.old.parts.members.newest) (synced_rows array.old.parts.work.resync array.old.parts.members) (at + length from.now / 512)) members))
         array.old.parts.members array.new.parts.members result }
     ensures backed { is_reshaping array.old.parts.members.newest ≡ true → IsSome array.old.parts.backup }
     ensures backup { result ≡ Err (IsRefusedWith BackupFault) → IfSome array.old.parts.backup (λ slot. IsFaulted slot (B.faults_of array.old.parts.bank) (B.faults_of array.new.parts.bank)) }

@@ -38,7 +38,7 @@ use Rattle.array_reshaping_laws.specs.array_specs_Parts.{RunningParts}
 use Rattle.array_reshaping_laws.specs.array_specs_Calls.{IsCalled, IsCopyDue, IsRecordDue, IsZeroDue}
 use Rattle.array_reshaping_laws.specs.array_reshaping_state_Due.{IsDue}
 use Rattle.array_reshaping_laws.specs.array_reshaping_state_the_Due_TheVariants.{Copy, Record, Zero}
-use Rattle.array_reshaping_laws.specs.Mending.{IsMendCalled}
+use Rattle.array_reshaping_laws.specs.Mending.{IsResyncCalled}
 use Rattle.array_reshaping_laws.proofs.array_specs_Called.{called}
 use Rattle.array_reshaping_laws.proofs.Kept.{AreSameShapes}
 
@@ -83,7 +83,7 @@ work-same (Ok x) old behind same = λ i. record old { resync = same i }
 work-same (Err fault) old behind same = refl
 
 -- and what it leaves of the rest is as with each call
-pub step-called : {B tells : Type 0} {given : Given} {tape tape' : List Operation} {before after : ℕ → ℕ} {old new : RunningParts B} → IsCalled tells given tape tape' before after old new → IsMendCalled tells given tape tape' before after old new
+pub step-called : {B tells : Type 0} {given : Given} {tape tape' : List Operation} {before after : ℕ → ℕ} {old new : RunningParts B} → IsCalled tells given tape tape' before after old new → IsResyncCalled tells given tape tape' before after old new
 step-called did = record {
   grows = did.grows;
   ended = did.ended;

@@ -1,7 +1,7 @@
 pub use Rattle.array_reshaping_laws.proofs.Kept as array_reshaping_laws_Kept
 pub use Rattle.array_reshaping_laws.proofs.Copied as array_reshaping_laws_Copied
-pub use Rattle.array_reshaping_laws.proofs.MendLaws as array_reshaping_laws_MendLaws
-pub use Rattle.array_reshaping_laws.proofs.reshape_progress_resync_laws_Mended
+pub use Rattle.array_reshaping_laws.proofs.ResyncLaws as array_reshaping_laws_ResyncLaws
+pub use Rattle.array_reshaping_laws.proofs.reshape_progress_resync_laws_Synced
 pub use Rattle.array_reshaping_laws.proofs.array_reshaping_invariant_BegunCall
 pub use Rattle.array_reshaping_laws.proofs.array_reshaping_invariant_BegunMembers
 pub use Rattle.array_reshaping_laws.proofs.array_reshaping_invariant_Refusals

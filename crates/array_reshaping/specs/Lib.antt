@@ -1,6 +1,6 @@
 pub use Rattle.array_reshaping_laws.specs.Ready as array_reshaping_laws_Ready
 pub use Rattle.array_reshaping_laws.specs.array_specs_Parts
-pub use Rattle.array_reshaping_laws.specs.Mending as array_reshaping_laws_Mending
+pub use Rattle.array_reshaping_laws.specs.Mending as array_reshaping_laws_Resyncing
 pub use Rattle.array_reshaping_laws.specs.Steps as array_reshaping_laws_Steps
 pub use Rattle.array_reshaping_laws.specs.Writing as array_reshaping_laws_Writing
 pub use Rattle.array_reshaping_laws.specs.reshape_progress_Course
@@ -12,7 +12,7 @@ pub use Rattle.array_reshaping_laws.specs.array_reshaping_state_First
 pub use Rattle.array_reshaping_laws.specs.array_reshaping_state_the_Due
 pub use Rattle.array_reshaping_laws.specs.array_reshaping_state_the_Due_TheVariants
 pub use Rattle.array_reshaping_laws.specs.stripe_region_resync_Left
-pub use Rattle.array_reshaping_laws.specs.stripe_region_resync_Mends
+pub use Rattle.array_reshaping_laws.specs.stripe_region_resync_Resyncs
 pub use Rattle.array_reshaping_laws.specs.stripe_region_resync_the_Stripe
 pub use Rattle.array_reshaping_laws.specs.array_specs_Adding
 pub use Rattle.array_reshaping_laws.specs.array_specs_Calls
@@ -48,7 +48,7 @@ pub use Rattle.array_reshaping_laws.specs.reshape_window_io_Finishing
 pub use Rattle.array_reshaping_laws.specs.stripe_region_write_Runs
 pub use Rattle.array_reshaping_laws.specs.sb_safe_updates_First
 pub use Rattle.array_reshaping_laws.specs.array_call_specs_Kept
-pub use Rattle.array_reshaping_laws.specs.reshape_progress_resync_laws_Mended
+pub use Rattle.array_reshaping_laws.specs.reshape_progress_resync_laws_Synced
 pub use Rattle.array_reshaping_laws.specs.array_reshaping_state_Left
 pub use Rattle.sb_election.specs.reshape_geometry_Geometry
 pub use Rattle.sb_election.specs.sb_specs_Outcome

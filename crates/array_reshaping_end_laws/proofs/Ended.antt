@@ -76,7 +76,7 @@ use Rattle.array_reshaping_invariant.specs.reshape_begin_end_Finished.{IsFinisha
 use Rattle.array_reshaping_invariant.specs.reshape_progress_Course.{AnyShape, StandsInCourse}
 use Rattle.array_reshaping_invariant.specs.reshape_progress_Laws.{closed}
 use Rattle.array_reshaping_invariant.proofs.reshape_progress_Frames.{stands-whole, list-whole, rows-whole}
-use Rattle.array_reshaping_invariant.proofs.reshape_progress_resync_laws_Mended.{none-pending}
+use Rattle.array_reshaping_invariant.proofs.reshape_progress_resync_laws_Synced.{none-pending}
 use Rattle.array_reshaping_invariant.proofs.reshape_progress_Courses.{zeroes-are-all}
 use Rattle.array_reshaping_invariant.specs.history_invariant_laws_Reliable.{IsReliable, AreToldGone, IsNonePast}
 use Rattle.array_reshaping_invariant.proofs.history_invariant_laws_LastStep.{last-behind, last-step}

@@ -35,7 +35,7 @@ use Rattle.array_reshaping_invariant.proofs.crash_safety_laws_Risen.{room-first,
 use Rattle.array_reshaping_invariant.specs.crash_reshape_laws_Plans.{HasNoneRecovering}
 use Rattle.array_reshaping_invariant.specs.reshape_sb_updates_Ending.{ending}
 use Rattle.array_reshaping_invariant.proofs.reshape_sb_updates_EndedPlan.{dropping, planned-fits-is}
-use Rattle.array_reshaping_invariant.specs.array_members_Placed.{is_vacant, IsPlaced}
+use Rattle.array_reshaping_invariant.specs.array_members_Placed.{is_unassigned, IsPlaced}
 use Rattle.array_reshaping_invariant.proofs.array_members_HeldRows.{vacant-missing, without-before}
 use Rattle.array_reshaping_invariant.proofs.array_members_LiveLeft.{left-steady, without-left}
 use Rattle.array_reshaping_invariant.proofs.array_members_Still.{count-still}
@@ -70,12 +70,12 @@ pub record IsEndedBy (tells : Type 0) (given : Given) (tape tape' : List Operati
 -- in the flush.
 module _ (old new : Members) (first roles late : ℕ) (still : is_reshaping new.newest ≡ false) (whole : HasNoneRecovering old)
     (states : (role slot : ℕ) → holder (role_state (reading_of new) role) ≡ Some slot → role_state (reading_of new) role ≡ role_state (reading_of old) role)
-    (first-is : (role : ℕ) → has_slot first role ≡ true → is_vacant (reading_of old) role ≡ true)
-    (late-is : (role : ℕ) → has_slot late role ≡ ((nat_lt role (shape_of new.newest).disks && is_vacant (reading_of new) role) && not (has_slot first role || has_slot roles role))) where
-  vacant-then : (role : ℕ) → is_missing (reading_of new) role ≡ true → is_vacant (reading_of new) role ≡ true
+    (first-is : (role : ℕ) → has_slot first role ≡ true → is_unassigned (reading_of old) role ≡ true)
+    (late-is : (role : ℕ) → has_slot late role ≡ ((nat_lt role (shape_of new.newest).disks && is_unassigned (reading_of new) role) && not (has_slot first role || has_slot roles role))) where
+  vacant-then : (role : ℕ) → is_missing (reading_of new) role ≡ true → is_unassigned (reading_of new) role ≡ true
   vacant-then role miss = of (role_state (reading_of new) role) refl
     where
-      of : (state : Role) → role_state (reading_of new) role ≡ state → is_vacant (reading_of new) role ≡ true
+      of : (state : Role) → role_state (reading_of new) role ≡ state → is_unassigned (reading_of new) role ≡ true
       of (Whole slot) is = absurd (let clash = sym (ap (λ (s : Role). not (is_whole s)) is) ∙ miss in cc)
       of (Recovering slot) is = absurd (whole role slot (sym (states role slot (ap holder is)) ∙ is))
       of Missing is = ap (λ (s : Role). not (is_some (holder s))) is

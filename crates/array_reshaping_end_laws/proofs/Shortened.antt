@@ -57,8 +57,8 @@ use Rattle.array_reshaping_invariant.proofs.history_invariant_Turned.{filled-bef
 use Rattle.array_reshaping_invariant.specs.reshape_progress_Laws.{closed}
 use Rattle.array_reshaping_invariant.proofs.reshape_progress_Frames.{does-or}
 use Rattle.array_reshaping_invariant.proofs.reshape_progress_Courses.{begins-stand}
-use Rattle.array_reshaping_invariant.specs.reshape_progress_resync_laws_Mended.{StandsMended}
-use Rattle.array_reshaping_invariant.proofs.reshape_progress_resync_laws_Mended.{none-pending}
+use Rattle.array_reshaping_invariant.specs.reshape_progress_resync_laws_Synced.{StandsSynced}
+use Rattle.array_reshaping_invariant.proofs.reshape_progress_resync_laws_Synced.{none-pending}
 use Rattle.array_reshaping_invariant.specs.history_invariant_laws_Reliable.{IsReliable, HasLastStep}
 use Rattle.array_reshaping_invariant.proofs.history_invariant_laws_Behind.{early-losses}
 use Rattle.array_reshaping_invariant.proofs.history_invariant_laws_LastStep.{keeps-last}
@@ -113,7 +113,7 @@ module _ (given : Given) (tape : List Operation) (scope : Scope) (first : ℕ) (
         is = λ x lt. let below : x < n = (let sized = call.sized in omega (arith, lt, sized)) in
             l.is x (let shorter = call.shorter in omega (arith, below, shorter))
             ∙ sym (shortened-values given tape scope first entries old plan new carried carried' who left n roles spares ops was.sizes_are recorded.begun recorded.ends recorded.sized (was.gone t) call x below);
-        stands = subst (λ (sound : Type 0). StandsMended sound (λ shape. DoesWithout shape new) None new (closed 0) buffer (present given (tape ++ ops)) l.list) (sym (fit-grown world ops recorded.begun))
+        stands = subst (λ (sound : Type 0). StandsSynced sound (λ shape. DoesWithout shape new) None new (closed 0) buffer (present given (tape ++ ops)) l.list) (sym (fit-grown world ops recorded.begun))
             ((none-pending (OpensFit world) (λ shape. DoesWithout shape new) new (closed 0) buffer (present given (tape ++ ops)) l.list).0 (begins-stand (OpensFit world) (λ shape. DoesWithout shape new) scope given old plan new buffer (present given tape) (present given (tape ++ ops)) l.list are.begun are.backed are.moved rows
             (λ forth. absurd (let both = sym forth ∙ back in cc)) (λ own. l.stands) (λ own. l.rows)));
       }

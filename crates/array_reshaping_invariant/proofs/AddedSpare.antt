@@ -67,7 +67,7 @@ use Rattle.reshape_progress_resync_laws.specs.reshape_request_the_Window_TheVari
 use Rattle.reshape_progress_resync_laws.specs.reshape_progress_Course.{IsStored, IsSectionKept, IsBackupKept}
 use Rattle.reshape_progress_resync_laws.proofs.reshape_progress_Courses.{stored-moves}
 use Rattle.reshape_progress_resync_laws.proofs.reshape_progress_Spares.{spares-without, spares-stored, differ-with}
-use Rattle.reshape_progress_resync_laws.specs.Mended.{StandsMended}
+use Rattle.reshape_progress_resync_laws.specs.Mended.{StandsSynced}
 use Rattle.reshape_progress_resync_laws.proofs.Mended.{mended-courses-move}
 use Rattle.reshape_progress_resync_laws.proofs.Spares.{spares-leave-mended}
 use Rattle.history_invariant_laws.specs.Reliable.{AreToldGone}
@@ -230,8 +230,8 @@ module _ (tells : Type 0) (given : Given) (tape mid tape' : List Operation) (sco
   without-all : (shape : Shape) → DoesWithout shape new → DoesWithout shape old
   without-all shape does = spares-without old with_it (differ-with old slot sb unheld-it) shape (shape-without-before given with_it new did.moved shape does)
 
-  stands-all : tells → (sound : Type 0) (list : ℕ → Sector) → StandsMended sound (λ shape. DoesWithout shape old) resync old course buffer (present given tape) list
-      → StandsMended sound (λ shape. DoesWithout shape new) resync new course buffer (present given tape') list
+  stands-all : tells → (sound : Type 0) (list : ℕ → Sector) → StandsSynced sound (λ shape. DoesWithout shape old) resync old course buffer (present given tape) list
+      → StandsSynced sound (λ shape. DoesWithout shape new) resync new course buffer (present given tape') list
   stands-all t sound list stands = mended-courses-move sound (λ shape. DoesWithout shape new) given with_it new resync course buffer (present given tape) (present given tape') list reshaping.placed did.moved (others-all t)
       (spares-leave-mended sound (λ shape. DoesWithout shape new) old with_it resync course buffer (present given tape) list (differ-with old slot sb unheld-it)
       (mended-less sound (λ shape. DoesWithout shape new) (λ shape. DoesWithout shape old) resync old course buffer (present given tape) list without-all stands))

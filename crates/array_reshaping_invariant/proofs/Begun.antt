@@ -41,7 +41,7 @@ use Rattle.history_invariant_laws.proofs.history_invariant_Turned.{filled-before
 use Rattle.reshape_progress_resync_laws.specs.reshape_progress_Laws.{closed}
 use Rattle.reshape_progress_resync_laws.proofs.reshape_progress_Frames.{does-or}
 use Rattle.reshape_progress_resync_laws.proofs.reshape_progress_Courses.{begins-stand}
-use Rattle.reshape_progress_resync_laws.specs.Mended.{StandsMended}
+use Rattle.reshape_progress_resync_laws.specs.Mended.{StandsSynced}
 use Rattle.reshape_progress_resync_laws.proofs.Mended.{none-pending}
 use Rattle.history_invariant_laws.specs.Reliable.{IsReliable, HasLastStep}
 use Rattle.history_invariant_laws.proofs.Behind.{early-losses}
@@ -96,7 +96,7 @@ module _ (given : Given) (tape : List Operation) (scope : Scope) (first : ℕ) (
         list = l.list;
         is = λ x lt. l.is x (let n = call.sized in omega (arith, lt, n))
             ∙ sym (begun-values given tape scope first entries old plan new carried carried' who left roles spares ops was.sizes_are recorded.begun recorded.ends recorded.sized (was.gone t) call x);
-        stands = subst (λ (sound : Type 0). StandsMended sound (λ shape. DoesWithout shape new) None new (closed 0) buffer (present given (tape ++ ops)) l.list) (sym (fit-grown world ops recorded.begun))
+        stands = subst (λ (sound : Type 0). StandsSynced sound (λ shape. DoesWithout shape new) None new (closed 0) buffer (present given (tape ++ ops)) l.list) (sym (fit-grown world ops recorded.begun))
             ((none-pending (OpensFit world) (λ shape. DoesWithout shape new) new (closed 0) buffer (present given (tape ++ ops)) l.list).0 (begins-stand (OpensFit world) (λ shape. DoesWithout shape new) scope given old plan new buffer (present given tape) (present given (tape ++ ops)) l.list are.begun are.backed are.moved rows
             (λ forth x past. l.zeros x (let n = call.planned in omega (arith, past, n))) (λ own. l.stands) (λ own. l.rows)));
       }

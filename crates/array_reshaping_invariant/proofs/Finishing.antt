@@ -41,7 +41,7 @@ use Rattle.history_invariant_laws.proofs.history_invariant_Lists.{newest-in}
 use Rattle.reshape_progress_resync_laws.specs.reshape_progress_Course.{AnyShape}
 use Rattle.reshape_progress_resync_laws.specs.reshape_progress_Laws.{closed, entered}
 use Rattle.reshape_progress_resync_laws.proofs.reshape_progress_Courses.{courses-copied, list-beside, rows-beside}
-use Rattle.reshape_progress_resync_laws.specs.Mended.{StandsMended}
+use Rattle.reshape_progress_resync_laws.specs.Mended.{StandsSynced}
 use Rattle.reshape_progress_resync_laws.proofs.Windows.{mended-rests-go-on, mended-finishes-close}
 use Rattle.array_reshaping_invariant.specs.Moving.{HasListInCourse, IsMoving}
 use Rattle.array_reshaping_invariant.proofs.MembersMove.{reshaping-past}
@@ -72,7 +72,7 @@ window-open tells given tape scope first entries old carried resync span copied 
   zeros = λ so x tail. l.stands.in_course.zeros tail.forth x tail.past;
 }
   where
-    whole : StandsMended (OpensFit (world_in given tape scope first)) AnyShape resync old (entered span copied sectioned) buffer (present given tape) l.list
+    whole : StandsSynced (OpensFit (world_in given tape scope first)) AnyShape resync old (entered span copied sectioned) buffer (present given tape) l.list
     whole = mended-whole (OpensFit (world_in given tape scope first)) resync old (entered span copied sectioned) buffer (present given tape) l.list enough l.stands
 
     within : (x : ℕ) → x < list_length old.newest → x < length_of (length (opening_list (world_in given tape scope first))) entries

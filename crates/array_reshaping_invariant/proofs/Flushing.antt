@@ -42,8 +42,8 @@ use Rattle.history_invariant_laws.proofs.history_invariant_Entered.{values-more}
 use Rattle.reshape_progress_resync_laws.specs.reshape_progress_the_Course.{Course}
 use Rattle.reshape_progress_resync_laws.specs.reshape_progress_Course.{AnyShape}
 use Rattle.reshape_progress_resync_laws.proofs.reshape_progress_Under.{courses-stand-under}
-use Rattle.reshape_progress_resync_laws.specs.stripe_region_resync_Mends.{mend_stripes}
-use Rattle.reshape_progress_resync_laws.specs.Mended.{StandsMended}
+use Rattle.reshape_progress_resync_laws.specs.stripe_region_resync_Resyncs.{resync_stripes}
+use Rattle.reshape_progress_resync_laws.specs.Mended.{StandsSynced}
 use Rattle.reshape_progress_resync_laws.proofs.Mended.{none-pending, mended-courses-move}
 use Rattle.history_invariant_laws.proofs.Settling.{IsSettlement}
 use Rattle.array_reshaping_invariant.specs.Moving.{HasListInCourse, IsMoving}
@@ -111,7 +111,7 @@ module _ (tells : Type 0) (given : Given) (tape tape' : List Operation) (scope :
       }
 
   -- where the array is synced behind it, none is pending before it or all stripes are mended; and where it isn't, one is pending
-  module _ (waits : unsynced ≡ true → IsSome resync) (synced : unsynced ≡ false → (resync ≡ None) ⊎ (resync ≡ Some (mend_stripes old.newest))) where
+  module _ (waits : unsynced ≡ true → IsSome resync) (synced : unsynced ≡ false → (resync ≡ None) ⊎ (resync ≡ Some (resync_stripes old.newest))) where
     flushable : tells → IsFilledRight (world_in given tape scope first) entries → IsFlushable given tape scope first entries old unsynced
     flushable t fills =
         let l = was.listed t fills in
@@ -125,7 +125,7 @@ module _ (tells : Type 0) (given : Given) (tape tape' : List Operation) (scope :
         }
       where
         whole : (l : HasListInCourse (OpensFit (world_in given tape scope first)) old resync course buffer (present given tape) (now (opening_list (world_in given tape scope first)) entries)) → DoWithout old
-            → StandsMended (OpensFit (world_in given tape scope first)) AnyShape resync old course buffer (present given tape) l.list
+            → StandsSynced (OpensFit (world_in given tape scope first)) AnyShape resync old course buffer (present given tape) l.list
         whole l does = mended-whole (OpensFit (world_in given tape scope first)) resync old course buffer (present given tape) l.list does l.stands
 
     -- each mark of it is safe
@@ -139,7 +139,7 @@ module _ (tells : Type 0) (given : Given) (tape tape' : List Operation) (scope :
     pub settled-moves : (resync' : Option ℕ) (left' : ℕ) (event : Event) → AreSettled tells given tape tape' old new unsynced → IsSettlement event → is_loss event ≡ false → ends_reshape event ≡ false
         → HasResync new resync' course → unsynced ≡ is_some resync' → (tells → (is_unsynced (world_in given tape scope first) entries && not (is_resync_end event)) ≡ unsynced)
         → IfSome (told_left (entries ++ entries_of who end (losses_of roles spares ++ event ∷ []))) (λ n. n ≡ left')
-        → ((sound : Type 0) (c : Contents) (list : ℕ → Sector) → StandsMended sound (λ shape. DoesWithout shape new) resync new course buffer c list → StandsMended sound (λ shape. DoesWithout shape new) resync' new course buffer c list)
+        → ((sound : Type 0) (c : Contents) (list : ℕ → Sector) → StandsSynced sound (λ shape. DoesWithout shape new) resync new course buffer c list → StandsSynced sound (λ shape. DoesWithout shape new) resync' new course buffer c list)
         → (tells → IsLegalEvent (world_in given tape' scope first) (entries ++ entries_of who end (losses_of roles spares)) (entry_of who end event) [] event)
         → IsMoving tells given tape' scope first (entries ++ entries_of who end (losses_of roles spares ++ event ∷ [])) new carried resync' course buffer left'
     settled-moves resync' left' event done settling other ends has pends unsynced_is told again legal =

@@ -25,7 +25,7 @@ pub mod Begun
 pub mod BegunCall
 pub mod BegunMembers
 pub use Rattle.reshape_progress_resync_laws.proofs.Ends as reshape_progress_resync_laws_Ends
-pub use Rattle.reshape_progress_resync_laws.proofs.Mended as reshape_progress_resync_laws_Mended
+pub use Rattle.reshape_progress_resync_laws.proofs.Mended as reshape_progress_resync_laws_Synced
 pub use Rattle.reshape_progress_resync_laws.proofs.Windows as reshape_progress_resync_laws_Windows
 pub use Rattle.reshape_progress_resync_laws.proofs.reshape_progress_Courses
 pub use Rattle.reshape_progress_resync_laws.proofs.reshape_progress_Frames

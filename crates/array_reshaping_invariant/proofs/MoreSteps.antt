@@ -45,7 +45,7 @@ use Rattle.reshape_progress_resync_laws.specs.reshape_request_the_Window_TheVari
 use Rattle.reshape_progress_resync_laws.specs.reshape_progress_Course.{AnyShape, IsCourseOf, past_stripe}
 use Rattle.reshape_progress_resync_laws.specs.reshape_progress_Laws.{closed, entered, IsWindowCopied}
 use Rattle.reshape_progress_resync_laws.proofs.reshape_progress_Courses.{zeroes-go-on, windows-copied}
-use Rattle.reshape_progress_resync_laws.specs.Mended.{StandsMended}
+use Rattle.reshape_progress_resync_laws.specs.Mended.{StandsSynced}
 use Rattle.reshape_progress_resync_laws.proofs.Windows.{mended-records-close}
 use Rattle.array_reshaping_invariant.specs.Moving.{HasListInCourse, IsMoving}
 use Rattle.array_reshaping_invariant.proofs.BackupKept.{stored-kept}
@@ -150,7 +150,7 @@ recorded-moves tells given tape tape' scope first entries old new carried resync
       zeros = λ so x tail. l.stands.in_course.zeros tail.forth x tail.past;
     }
       where
-        whole : StandsMended (OpensFit (world_in given tape scope first)) AnyShape resync old (entered span (stripes (final_shape old.newest) span.lo span.hi) sectioned) buffer (present given tape) l.list
+        whole : StandsSynced (OpensFit (world_in given tape scope first)) AnyShape resync old (entered span (stripes (final_shape old.newest) span.lo span.hi) sectioned) buffer (present given tape) l.list
         whole = mended-whole (OpensFit (world_in given tape scope first)) resync old (entered span (stripes (final_shape old.newest) span.lo span.hi) sectioned) buffer (present given tape) l.list does l.stands
 
         done : IsWindowCopied ⊥ old span (present given tape) l.list

@@ -32,7 +32,7 @@ use Rattle.history_invariant_laws.specs.history_invariant_Safe.{world_in, IsFill
 use Rattle.history_invariant_laws.specs.history_invariant_Told.{told_now}
 use Rattle.reshape_progress_resync_laws.specs.reshape_progress_the_Course.{Course}
 use Rattle.reshape_progress_resync_laws.specs.reshape_progress_Course.{IsCourseOf, IsStored}
-use Rattle.reshape_progress_resync_laws.specs.Mended.{StandsMended}
+use Rattle.reshape_progress_resync_laws.specs.Mended.{StandsSynced}
 use Rattle.history_invariant_laws.proofs.history_invariant_Calls.{now-live}
 use Rattle.history_invariant_laws.proofs.history_invariant_Entered.{adds_only}
 use Rattle.history_invariant_laws.proofs.history_invariant_Reshapes.{call-ends_none}
@@ -119,7 +119,7 @@ listed-later given tape scope first entries all new carried resync course' buffe
     record {
       list = l.list;
       is = λ x lt. l.is x lt ∙ sym (same x) ∙ sym (ap (λ (o : List Sector). now o all x) left.opened);
-      stands = subst (λ (sound : Type 0). StandsMended sound (λ shape. DoesWithout shape new) resync new course' buffer' (present given tape') l.list) (sym (fit-later left)) l.stands;
+      stands = subst (λ (sound : Type 0). StandsSynced sound (λ shape. DoesWithout shape new) resync new course' buffer' (present given tape') l.list) (sym (fit-later left)) l.stands;
     }
 
 -- what the opening found of a reshape it found before more was done

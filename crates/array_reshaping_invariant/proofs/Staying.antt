@@ -41,7 +41,7 @@ use Rattle.reshape_progress_resync_laws.specs.reshape_progress_the_Course.{Cours
 use Rattle.reshape_progress_resync_laws.specs.reshape_request_the_Window.{Window}
 use Rattle.reshape_progress_resync_laws.specs.reshape_request_the_Window_TheVariants.{Closed, Entered, Unsure}
 use Rattle.reshape_progress_resync_laws.specs.reshape_progress_Course.{IsWindowOf, IsCourseOf}
-use Rattle.reshape_progress_resync_laws.specs.Mended.{StandsMended}
+use Rattle.reshape_progress_resync_laws.specs.Mended.{StandsSynced}
 use Rattle.history_invariant_laws.specs.Reliable.{IsReliable, AreToldGone}
 use Rattle.array_reshaping_invariant.specs.Moving.{IsMoving}
 use Rattle.array_reshaping_invariant.proofs.BackupKept.{stored-kept}
@@ -77,7 +77,7 @@ pub stays-moves : (tells : Type 0) (given : Given) (tape tape' : List Operation)
     → IsMoving tells given tape scope first entries old carried resync course buffer left → HasLiveSlot old → IsCallGoing entries who → IsFalse (who.caller == 254) → (tells → end ≡ length tape') → Grows tells tape tape'
     → IsQuiet event → TellLeft left who end (event ∷ []) → IsMoved given old new → role_count new.newest ≤ 16 → AreMissingSince old new roles → is_clean new.newest ≡ is_clean old.newest
     → (tells → IsRisen ⊤ old new tape tape') → (tells → IsUnusedKept old (disk given.start tape) (disk given.start tape'))
-    → (tells → (sound : Type 0) (among : Shape → Type 0) (list : ℕ → Sector) → StandsMended sound among resync old course buffer (present given tape) list → StandsMended sound among resync new course buffer (present given tape') list)
+    → (tells → (sound : Type 0) (among : Shape → Type 0) (list : ℕ → Sector) → StandsSynced sound among resync old course buffer (present given tape) list → StandsSynced sound among resync new course buffer (present given tape') list)
     → (tells → (told : Ledger) → IsFilledRight (world_in given tape scope first) entries → IsMoreTold (told_now (world_in given tape scope first) carried true entries) told
     → HasRoomLeft old tape tape' → AreGoneTold told new → IsUncleanTold told old → IsSafeOver (world_in given tape scope first) given told old tape → KeepsSafe (world_in given tape scope first) given told new tape tape')
     → (tells → IsReliable (world_in given tape scope first) entries
@@ -112,7 +112,7 @@ pub refused-moves : (tells : Type 0) (given : Given) (tape tape' : List Operatio
     → IsMoving tells given tape scope first entries old carried resync course buffer left → HasLiveSlot old → IsCallGoing entries who → IsFalse (who.caller == 254) → (tells → end ≡ length tape') → Grows tells tape tape'
     → IsMoved given old new → role_count new.newest ≤ 16 → AreMissingSince old new roles → is_clean new.newest ≡ is_clean old.newest → (refusal ≡ BackupFault) ⊎ AreTooMany new refusal
     → (tells → IsRisen ⊤ old new tape tape') → (tells → IsUnusedKept old (disk given.start tape) (disk given.start tape'))
-    → (tells → (sound : Type 0) (among : Shape → Type 0) (list : ℕ → Sector) → StandsMended sound among resync old course buffer (present given tape) list → StandsMended sound among resync new course buffer (present given tape') list)
+    → (tells → (sound : Type 0) (among : Shape → Type 0) (list : ℕ → Sector) → StandsSynced sound among resync old course buffer (present given tape) list → StandsSynced sound among resync new course buffer (present given tape') list)
     → (tells → (told : Ledger) → IsFilledRight (world_in given tape scope first) entries → IsMoreTold (told_now (world_in given tape scope first) carried true entries) told
     → HasRoomLeft old tape tape' → AreGoneTold told new → IsUncleanTold told old → IsSafeOver (world_in given tape scope first) given told old tape → KeepsSafe (world_in given tape scope first) given told new tape tape')
     → IsMoving tells given tape' scope first (entries ++ entries_of who end (losses_of roles spares ++ Refused refusal ∷ [])) new carried resync course buffer left

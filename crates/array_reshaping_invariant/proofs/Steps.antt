@@ -33,7 +33,7 @@ use Rattle.reshape_progress_resync_laws.specs.crash_views_Windows.{IsCopyable}
 use Rattle.reshape_progress_resync_laws.specs.crash_safety_laws_Safety.{HasLiveSlot, HasRoomLeft, IsRisen}
 use Rattle.reshape_progress_resync_laws.specs.crash_safety_laws_Steady.{IsSafeOver, KeepsSafe, AreGoneTold, IsUncleanTold}
 use Rattle.reshape_progress_resync_laws.specs.array_members_Moving.{Grows, IsMoved}
-use Rattle.reshape_progress_resync_laws.specs.array_members_Placed.{is_vacant}
+use Rattle.reshape_progress_resync_laws.specs.array_members_Placed.{is_unassigned}
 use Rattle.reshape_progress_resync_laws.specs.array_members_Lacking.{DoesWithout, IsOfStripe, AreOtherRowsKept}
 use Rattle.reshape_progress_resync_laws.specs.sb_safe_updates_Unused.{IsUnusedKept}
 use Rattle.reshape_progress_resync_laws.proofs.array_members_Fit.{list-alike, count-alike}
@@ -130,7 +130,7 @@ missing-moved {old = old} {new = new} roles moved since role lt gone = elim (sin
 
 -- so it is where those that no slot holds now had none before, or were lost
 pub missing-since : {given : Given} {old new : Members} (roles : ℕ) → IsMoved given old new
-    → ((role : ℕ) → role < role_count new.newest → is_vacant (reading_of new) role ≡ true → (is_vacant (reading_of old) role ≡ true) ⊎ (has_slot roles role ≡ true)) → AreMissingSince old new roles
+    → ((role : ℕ) → role < role_count new.newest → is_unassigned (reading_of new) role ≡ true → (is_unassigned (reading_of old) role ≡ true) ⊎ (has_slot roles role ≡ true)) → AreMissingSince old new roles
 missing-since {old = old} roles moved vacant role lt gone = elim (missing-before moved role gone) [
   | inl was ↦ inl was
   | inr none ↦ elim (vacant role lt none) [

@@ -1,4 +1,4 @@
--- A write beside the window of a reshape, from what `put_list` of region_writes leaves: it is done, or refused before its first row, or behind it.
+-- A write beside the window of a reshape, from what `write_list` of region_writes leaves: it is done, or refused before its first row, or behind it.
 use Rattle.std.proofs.Common.{◌≡◌, ◌⊎◌, inl, inr, ℕ, ◌+◌, ◌-◌, ◌*◌, ◌/◌, ◌<◌, ◌≤◌, ◌==◌, ◌||◌, nat_le, Bool, true, false, if◌then◌else◌, Option, Some, None, List, [], ◌∷◌, ◌++◌, length, refl, sym, ◌∙◌, ap, subst, arith, append_assoc, append-nil}
 use Rattle.std.specs.Prelude.{IsFalse, fold, is_some, min, slice_index_or, ⊤}
 use Rattle.std.specs.Option.{option_map_or}
@@ -66,9 +66,9 @@ use Rattle.reshape_progress_resync_laws.specs.reshape_request_the_Window.{Window
 use Rattle.reshape_progress_resync_laws.specs.reshape_request_the_Window_TheVariants.{Closed, Entered, Unsure}
 use Rattle.reshape_progress_resync_laws.specs.reshape_progress_Course.{IsWindowOf, hidden_in, span_in}
 use Rattle.reshape_progress_resync_laws.specs.reshape_progress_Laws.{IsOtherTouched}
-use Rattle.reshape_progress_resync_laws.specs.stripe_region_resync_Mends.{relied_sector, AreEndsStanding}
+use Rattle.reshape_progress_resync_laws.specs.stripe_region_resync_Resyncs.{relied_sector, AreEndsStanding}
 use Rattle.reshape_progress_resync_laws.proofs.stripe_region_resync_Alike.{low-alike, relied-alike}
-use Rattle.reshape_progress_resync_laws.specs.Mended.{StandsMended}
+use Rattle.reshape_progress_resync_laws.specs.Mended.{StandsSynced}
 use Rattle.reshape_progress_resync_laws.proofs.Mended.{whole-on, mended-writes-go-on}
 use Rattle.reshape_progress_resync_laws.proofs.Torn.{mended-torn-writes-go-on}
 use Rattle.history_invariant_laws.specs.Reliable.{IsReliable, AreToldGone}
@@ -267,8 +267,8 @@ module _ (tells : Type 0) (given : Given) (tape tape' : List Operation) (scope :
   -- ---- the list
 
   -- it stands by the shapes that do without what is missing behind the call too
-  later-stands : (list : ℕ → Sector) → StandsMended (OpensFit (world_in given tape scope first)) (λ shape. DoesWithout shape old) resync old course buffer (present given tape) list
-      → StandsMended (OpensFit (world_in given tape scope first)) (λ shape. DoesWithout shape new) resync old course buffer (present given tape) list
+  later-stands : (list : ℕ → Sector) → StandsSynced (OpensFit (world_in given tape scope first)) (λ shape. DoesWithout shape old) resync old course buffer (present given tape) list
+      → StandsSynced (OpensFit (world_in given tape scope first)) (λ shape. DoesWithout shape new) resync old course buffer (present given tape) list
   later-stands list stands = mended-later (OpensFit (world_in given tape scope first)) given old new resync course buffer (present given tape) list did.moved stands
 
   -- each sector of the list may have its newest value
@@ -363,8 +363,8 @@ module _ (tells : Type 0) (given : Given) (tape tape' : List Operation) (scope :
           }
         where
           stand : (t : tells) (list list' : ℕ → Sector) → IsWritten list list' at from → WindowRowsStand past old (present given tape) list
-              → StandsMended (OpensFit (world_in given tape scope first)) (λ shape. DoesWithout shape new) resync old course buffer (present given tape) list
-              → StandsMended (OpensFit (world_in given tape scope first)) (λ shape. DoesWithout shape new) resync new course buffer (present given tape') list'
+              → StandsSynced (OpensFit (world_in given tape scope first)) (λ shape. DoesWithout shape new) resync old course buffer (present given tape) list
+              → StandsSynced (OpensFit (world_in given tape scope first)) (λ shape. DoesWithout shape new) resync new course buffer (present given tape') list'
           stand t list list' w rows before =
               mended-writes-go-on (OpensFit (world_in given tape scope first)) (λ shape. DoesWithout shape new) given old new resync course buffer (present given tape) (present given tape') list list' at from
               was.members_are.placed did.moved was.course_is w did.within did.beside (done.others t)

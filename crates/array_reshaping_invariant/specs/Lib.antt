@@ -1,10 +1,10 @@
 pub mod Moving
-pub use Rattle.reshape_progress_resync_laws.specs.Mended as reshape_progress_resync_laws_Mended
+pub use Rattle.reshape_progress_resync_laws.specs.Mended as reshape_progress_resync_laws_Synced
 pub use Rattle.reshape_progress_resync_laws.specs.reshape_progress_Course
 pub use Rattle.reshape_progress_resync_laws.specs.reshape_progress_Laws
 pub use Rattle.reshape_progress_resync_laws.specs.reshape_progress_the_Course
 pub use Rattle.reshape_progress_resync_laws.specs.stripe_region_resync_Left
-pub use Rattle.reshape_progress_resync_laws.specs.stripe_region_resync_Mends
+pub use Rattle.reshape_progress_resync_laws.specs.stripe_region_resync_Resyncs
 pub use Rattle.reshape_progress_resync_laws.specs.stripe_region_read_Stretches
 pub use Rattle.reshape_progress_resync_laws.specs.stripe_region_write_Runs
 pub use Rattle.reshape_progress_resync_laws.specs.reshape_window_steps_Recording

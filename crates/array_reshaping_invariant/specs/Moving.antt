@@ -32,9 +32,9 @@ use Rattle.history_invariant_laws.specs.history_invariant_Safe.{world_in, OpensO
 use Rattle.history_invariant_laws.specs.Reliable.{IsReliable, AreToldGone, IsNonePast, HasLastStep}
 use Rattle.reshape_progress_resync_laws.specs.reshape_progress_the_Course.{Course}
 use Rattle.reshape_progress_resync_laws.specs.reshape_progress_Course.{IsCourseOf, IsStored}
-use Rattle.reshape_progress_resync_laws.specs.stripe_region_resync_Mends.{mend_stripes}
+use Rattle.reshape_progress_resync_laws.specs.stripe_region_resync_Resyncs.{resync_stripes}
 use Rattle.reshape_progress_resync_laws.specs.stripe_region_write_Runs.{WindowRowsStand}
-use Rattle.reshape_progress_resync_laws.specs.Mended.{IsAside, IsUnmended, StandsMended}
+use Rattle.reshape_progress_resync_laws.specs.Mended.{IsAside, IsUnsynced, StandsSynced}
 
 -- The members of an array in a reshape: each has its place, the backup has room for the sections, holds no role and is no spare, and no slot recovers a role.
 pub record AreReshaping (scope : Scope) (given : Given) (members : Members) : Type 0 where
@@ -51,7 +51,7 @@ pub record AreReshaping (scope : Scope) (given : Given) (members : Members) : Ty
 pub record HasListInCourse (sound : Type 0) (members : Members) (resync : Option ℕ) (course : Course) (buffer : List ℕ) (c : Contents) (current : ℕ → Sector) : Type 0 where
   pub list : ℕ → Sector
   pub is : (x : ℕ) → x < list_length members.newest → list x ≡ current x
-  pub stands : StandsMended sound (λ shape. DoesWithout shape members) resync members course buffer c list
+  pub stands : StandsSynced sound (λ shape. DoesWithout shape members) resync members course buffer c list
 
 -- The rows of a window that was just recorded, if there is one, stand as the list of the history, which is zero behind its end in a forward reshape.
 abbrev pub IsWindowStanding : Option Span → World → List Entry → Members → Contents → Type 0
@@ -98,8 +98,8 @@ pub record IsMoving (tells : Type 0) (given : Given) (tape : List Operation) (sc
   pub course_is : IsCourseOf members.newest course
   pub sizes_are : scope.sizes ≡ sizes given
   pub left_told : IfSome (told_left entries) (λ n. n ≡ left)
-  pub progress : IfSome resync (λ mended. mended ≤ mend_stripes members.newest)
-  pub beside : IsAside course.window ⊎ IsUnmended resync
+  pub progress : IfSome resync (λ mended. mended ≤ resync_stripes members.newest)
+  pub beside : IsAside course.window ⊎ IsUnsynced resync
   pub pending : tells → is_unsynced (world_in given tape scope first) entries ≡ is_some resync
   pub dirty : DoWithout members → IsSome resync → is_clean members.newest ≡ false
   pub levelled : tells → IsReliable (world_in given tape scope first) entries → tolerance_of (level_at (world_in given tape scope first) entries) ≡ tolerance (shape_of members.newest)

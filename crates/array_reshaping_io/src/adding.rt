@@ -15,9 +15,9 @@ ghost use Rattle.array_reshaping_steps.specs.array_call_specs_Calls.{IsUnaddable
 ghost use Rattle.array_reshaping_steps.specs.array_specs_Adding.{IsAddCalled};
 
 use array_reshaping_steps::{
-    Bank, Event, Fault, Moving, Refusal, Who, add_member, bear, check_number, contains, enter,
-    enter_behind, free_number, has_unnamed, look_at, newly_vacant, spare_for, unaddable,
-    vacant_roles, with, without,
+    Bank, Event, Fault, Moving, Refusal, Who, add_member, append_after_losses, append_entry, bear,
+    check_number, contains, free_number, has_unnamed, look_at, newly_unassigned, spare_for,
+    unaddable, unassigned_roles, with, without,
 };
 
 // Whether the slot was lost without a failure of its own, and the superblocks still name a role that no slot holds.
@@ -63,26 +63,26 @@ fn make_spare<B: Bank>(
     let refusal = Refusal::SlotFault(slot);
     let Some(second) = look_at(&mut moving.bank, slot) else {
         let end = moving.bank.ops();
-        enter(&mut moving.epoch, who, end, Event::Refused { refusal });
+        append_entry(&mut moving.epoch, who, end, Event::Refused { refusal });
         return Err(Fault::Refused(refusal));
     };
     let uuid = &moving.epoch.uuid;
     let sb = spare_for(&moving.members, &moving.bank, uuid, slot, number, &second);
     let count = moving.members.roles.len() as u32;
-    let before = vacant_roles(&moving.members, count);
+    let before = unassigned_roles(&moving.members, count);
     let lost = add_member(&mut moving.members, &mut moving.bank, slot, &sb);
-    let roles = newly_vacant(&moving.members, count, before);
+    let roles = newly_unassigned(&moving.members, count, before);
     let spares = without(lost, with(0, slot));
     let end = moving.bank.ops();
     if contains(lost, slot) {
         bear(&mut moving.work, slot, number, false);
         let event = Event::Refused { refusal };
-        enter_behind(&mut moving.epoch, who, end, roles, spares, event);
+        append_after_losses(&mut moving.epoch, who, end, roles, spares, event);
         return Err(Fault::Refused(refusal));
     }
     bear(&mut moving.work, slot, number, true);
     let event = Event::Added { slot };
-    enter_behind(&mut moving.epoch, who, end, roles, spares, event);
+    append_after_losses(&mut moving.epoch, who, end, roles, spares, event);
     Ok(())
 }
 
@@ -123,6 +123,6 @@ pub fn add<B: Bank>(moving: &mut Moving<B>, who: Who, slot: u32) -> Result<(), F
     moving.steps = 0;
     check_number(&moving.epoch.entries, who);
     let end = moving.bank.ops();
-    enter(&mut moving.epoch, who, end, Event::Refused { refusal });
+    append_entry(&mut moving.epoch, who, end, Event::Refused { refusal });
     Err(Fault::Refused(refusal))
 }

@@ -10,7 +10,7 @@ ghost use Rattle.array_reshaping_steps.specs.history_Flat.{next_number};
 ghost use Rattle.array_reshaping_steps.specs.array_members_Lacking.{HaveRolesFailed};
 ghost use Rattle.array_reshaping_steps.specs.array_call_specs_Calls.{IsCausedBy, OnNoMemory};
 ghost use Rattle.array_reshaping_steps.specs.history_invariant_Recorded.{IsCallGoing};
-ghost use Rattle.array_reshaping_steps.specs.stripe_region_resync_Mends.{relied_sector};
+ghost use Rattle.array_reshaping_steps.specs.stripe_region_resync_Resyncs.{relied_sector};
 ghost use Rattle.array_reshaping_steps.specs.array_specs_Calls.{IsCalled};
 ghost use Rattle.array_reshaping_steps.specs.array_specs_Parts.{visible_in, left_in};
 ghost use Rattle.array_reshaping_steps.specs.array_reshaping_laws_Refusing.{first_refusal, IsFirstFor};
@@ -18,7 +18,7 @@ ghost use Rattle.array_reshaping_steps.specs.array_reshaping_laws_Writing.{Touch
 
 use crate::writing::unwritten_here;
 use array_reshaping_steps::{
-    Bank, Event, Fault, Moving, Who, check_going, clear, enter, open_span, relied_sector,
+    Bank, Event, Fault, Moving, Who, append_entry, check_going, clear, open_span, relied_sector,
 };
 
 // Refuses a write of so many sectors, of which some lie in an unsure window: for what speaks against a write beside it, or for the backup.
@@ -52,7 +52,7 @@ fn refuse_write<B: Bank>(moving: &mut Moving<B>, who: Who, at: u64, count: u64) 
         moving.steps -= 1;
         check_going(&moving.epoch.entries, who);
         let end = moving.bank.ops();
-        enter(&mut moving.epoch, who, end, Event::Refused { refusal });
+        append_entry(&mut moving.epoch, who, end, Event::Refused { refusal });
         return Err(Fault::Refused(refusal));
     }
     clear(moving, who)

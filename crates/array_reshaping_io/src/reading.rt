@@ -12,7 +12,7 @@ ghost use Rattle.array_reshaping_steps.specs.history_the_Request_TheVariants.{Re
 ghost use Rattle.array_reshaping_steps.specs.crash_safety_laws_Marking.{AreOthersPresent};
 ghost use Rattle.array_reshaping_steps.specs.array_members_Lacking.{HaveRolesFailed};
 ghost use Rattle.array_reshaping_steps.specs.array_call_specs_Calls.{IsAnswered, IsCausedBy, IsRefusalOf, OnNoMemory};
-ghost use Rattle.array_reshaping_steps.specs.stripe_region_resync_Mends.{relied_sector};
+ghost use Rattle.array_reshaping_steps.specs.stripe_region_resync_Resyncs.{relied_sector};
 ghost use Rattle.array_reshaping_steps.specs.reshape_progress_Course.{hidden_in};
 ghost use Rattle.array_reshaping_steps.specs.array_reshaping_state_First.{IsUnreadAround};
 ghost use Rattle.array_reshaping_steps.specs.history_invariant_laws_Reliable.{IsReliable};
@@ -21,9 +21,9 @@ ghost use Rattle.array_reshaping_steps.specs.array_specs_Parts.{visible_in};
 ghost use Rattle.array_reshaping_steps.specs.array_reshaping_laws_Refusing.{first_refusal, IsFirstFor};
 
 use array_reshaping_steps::{
-    Bank, Event, Fault, Moving, Sectors, Span, Who, check_number, enter, enter_behind,
-    fetch_beside, hidden_span, newly_vacant, relied_sector, unread_from, vacant_roles, visible,
-    zeros,
+    Bank, Event, Fault, Moving, Sectors, Span, Who, append_after_losses, append_entry,
+    backed_up_span, check_number, first_read_refusal_from, newly_unassigned, read_around_window,
+    relied_sector, unassigned_roles, visible, zeros,
 };
 
 // How many bytes the sectors of this window have; none where there is none.
@@ -57,7 +57,7 @@ fn read_some<B: Bank>(
     ensures answered { IsAnswered (list_length moving.old.parts.members.newest) (AsksRead at (length into.old / 512)) who moving.old.parts.entries moving.new.parts.entries (Read at (sectors_of into.new)) result }
     ensures holds { OnOk result (B.tells → IsReliable (moving_world (B.given moving.new.parts.bank) (B.tape moving.new.parts.bank) moving.new) moving.new.parts.entries
         → AreSectors (now (opening_list (moving_world (B.given moving.old.parts.bank) (B.tape moving.old.parts.bank) moving.old)) moving.old.parts.entries) at into.new) }
-    ensures unread { OnErr result (into.new ≡ into.old) }
+    ensures first_read_refusal { OnErr result (into.new ≡ into.old) }
     ensures memory { OnNoMemory result ⊥ }
     ensures called { IsCalled B.tells (B.given moving.old.parts.bank) (B.tape moving.old.parts.bank) (B.tape moving.new.parts.bank) (B.faults_of moving.old.parts.bank) (B.faults_of moving.new.parts.bank) moving.old moving.new }
     ensures others { B.tells → AreOthersPresent (present (B.given moving.old.parts.bank) (B.tape moving.old.parts.bank)) (present (B.given moving.old.parts.bank) (B.tape moving.new.parts.bank)) }
@@ -70,12 +70,12 @@ fn read_some<B: Bank>(
 {
     moving.steps -= 1;
     check_number(&moving.epoch.entries, who);
-    let hidden = hidden_span(&moving.course);
+    let hidden = backed_up_span(&moving.course);
     let relied = relied_sector(&moving.members, moving.work.resync);
     let count = moving.members.roles.len() as u32;
-    let before = vacant_roles(&moving.members, count);
+    let before = unassigned_roles(&moving.members, count);
     let wide = bytes_of(hidden, moving.window.len());
-    let fetched = fetch_beside(
+    let fetched = read_around_window(
         &mut moving.members,
         &mut moving.bank,
         hidden,
@@ -85,17 +85,17 @@ fn read_some<B: Bank>(
         moving.buffer.as_mut_slice(),
         relied,
     );
-    let roles = newly_vacant(&moving.members, count, before);
+    let roles = newly_unassigned(&moving.members, count, before);
     let end = moving.bank.ops();
     if let Some(refusal) = fetched.refusal {
         let event = Event::Refused { refusal };
-        enter_behind(&mut moving.epoch, who, end, roles, fetched.spares, event);
+        append_after_losses(&mut moving.epoch, who, end, roles, fetched.spares, event);
         return Err(Fault::Refused(refusal));
     }
     into.copy_from_slice(bytes.as_slice());
     let body = Sectors::from_bytes(bytes);
     let event = Event::Read { at, body };
-    enter_behind(&mut moving.epoch, who, end, roles, fetched.spares, event);
+    append_after_losses(&mut moving.epoch, who, end, roles, fetched.spares, event);
     Ok(())
 }
 
@@ -116,7 +116,7 @@ pub fn read<B: Bank>(
     ensures answered { IsAnswered (list_length moving.old.parts.members.newest) (AsksRead at (length into.old / 512)) who moving.old.parts.entries moving.new.parts.entries (Read at (sectors_of into.new)) result }
     ensures holds { OnOk result (B.tells → IsReliable (moving_world (B.given moving.new.parts.bank) (B.tape moving.new.parts.bank) moving.new) moving.new.parts.entries
         → AreSectors (now (opening_list (moving_world (B.given moving.old.parts.bank) (B.tape moving.old.parts.bank) moving.old)) moving.old.parts.entries) at into.new) }
-    ensures unread { OnErr result (into.new ≡ into.old) }
+    ensures first_read_refusal { OnErr result (into.new ≡ into.old) }
     ensures unchanged { OnNoMemory result (moving.new ≡ moving.old) }
     ensures called { IsCalled B.tells (B.given moving.old.parts.bank) (B.tape moving.old.parts.bank) (B.tape moving.new.parts.bank) (B.faults_of moving.old.parts.bank) (B.faults_of moving.new.parts.bank) moving.old moving.new }
     ensures others { B.tells → AreOthersPresent (present (B.given moving.old.parts.bank) (B.tape moving.old.parts.bank)) (present (B.given moving.old.parts.bank) (B.tape moving.new.parts.bank)) }
@@ -139,18 +139,25 @@ pub fn read<B: Bank>(
     moving.steps = 0;
     check_number(&moving.epoch.entries, who);
     let asked = (into.len() / 512) as u64;
-    let hidden = hidden_span(&moving.course);
+    let hidden = backed_up_span(&moving.course);
     let sectors = visible(&moving.members, moving.limit);
     let relied = relied_sector(&moving.members, moving.work.resync);
-    if let Some(refusal) = unread_from(&moving.members, hidden, sectors, relied, at, asked) {
+    if let Some(refusal) = first_read_refusal_from(
+        &moving.members,
+        hidden,
+        sectors,
+        relied,
+        at,
+        asked,
+    ) {
         let end = moving.bank.ops();
-        enter(&mut moving.epoch, who, end, Event::Refused { refusal });
+        append_entry(&mut moving.epoch, who, end, Event::Refused { refusal });
         return Err(Fault::Refused(refusal));
     }
     if asked == 0 {
         let body = Sectors::from_bytes(bytes);
         let end = moving.bank.ops();
-        enter(&mut moving.epoch, who, end, Event::Read { at, body });
+        append_entry(&mut moving.epoch, who, end, Event::Read { at, body });
         return Ok(());
     }
     moving.steps = 1;

@@ -14,7 +14,7 @@ ghost use Rattle.array_reshaping_steps.specs.array_members_Lacking.{HaveRolesFai
 ghost use Rattle.array_reshaping_steps.specs.crash_views_Regions.{AreShapesFit};
 ghost use Rattle.array_reshaping_steps.specs.array_call_specs_Calls.{IsCausedBy, IsRefusalOf, OnNoMemory};
 ghost use Rattle.array_reshaping_steps.specs.stripe_region_write_Runs.{IsListUnwritten};
-ghost use Rattle.array_reshaping_steps.specs.stripe_region_resync_Mends.{relied_sector};
+ghost use Rattle.array_reshaping_steps.specs.stripe_region_resync_Resyncs.{relied_sector};
 ghost use Rattle.array_reshaping_steps.specs.history_invariant_Recorded.{IsCallGoing};
 ghost use Rattle.array_reshaping_steps.specs.reshape_progress_Course.{span_in};
 ghost use Rattle.array_reshaping_steps.specs.reshape_progress_Laws.{closed};
@@ -29,9 +29,10 @@ ghost use Rattle.array_reshaping_steps.specs.array_reshaping_laws_Writing.{IsWin
 
 use crate::barring::bar_write;
 use array_reshaping_steps::{
-    Bank, Event, Fault, Members, Moving, Refusal, Sectors, Span, Who, check_going, enter,
-    enter_behind, enter_failure, finish_open, meets, newly_vacant, open_span, put_list,
-    relied_sector, unsure_span, unwritten_from, vacant_roles, visible,
+    Bank, Event, Fault, Members, Moving, Refusal, Sectors, Span, Who, append_after_losses,
+    append_entry, append_failure, check_going, finish_open, first_write_refusal_from, meets,
+    newly_unassigned, open_span, relied_sector, unassigned_roles, uncertain_span, visible,
+    write_list,
 };
 
 // Why so many sectors from one on aren't written, before any row is read, where those below the limit are visible and parity is to be relied
@@ -52,7 +53,7 @@ pub(crate) fn unwritten_here(
     ensures why { IsRefusalOf (visible_size members.now limit) (at + count) (IsListUnwritten window relied at (at + count)) members.now result }
 {
     let sectors = visible(members, limit);
-    unwritten_from(members, window, sectors, relied, at, count)
+    first_write_refusal_from(members, window, sectors, relied, at, count)
 }
 
 // Puts the sectors of `from`, 1 to 128, into the list from `at` on, none of them in the window under way; `body` has the same. They
@@ -92,12 +93,12 @@ fn write_beside<B: Bank>(
     let relied = relied_sector(&moving.members, moving.work.resync);
     if let Some(refusal) = unwritten_here(&moving.members, past, moving.limit, relied, at, asked) {
         let end = moving.bank.ops();
-        enter(&mut moving.epoch, who, end, Event::Refused { refusal });
+        append_entry(&mut moving.epoch, who, end, Event::Refused { refusal });
         return Err(Fault::Refused(refusal));
     }
     let count = moving.members.roles.len() as u32;
-    let before = vacant_roles(&moving.members, count);
-    let done = put_list(
+    let before = unassigned_roles(&moving.members, count);
+    let done = write_list(
         &mut moving.members,
         &mut moving.bank,
         at,
@@ -109,10 +110,10 @@ fn write_beside<B: Bank>(
         past,
         relied,
     );
-    let roles = newly_vacant(&moving.members, count, before);
+    let roles = newly_unassigned(&moving.members, count, before);
     let end = moving.bank.ops();
     if let Some(refusal) = done.refusal {
-        enter_failure(
+        append_failure(
             &mut moving.epoch,
             who,
             end,
@@ -126,7 +127,7 @@ fn write_beside<B: Bank>(
         return Err(Fault::Refused(refusal));
     }
     let event = Event::Wrote { at, body };
-    enter_behind(&mut moving.epoch, who, end, roles, done.spares, event);
+    append_after_losses(&mut moving.epoch, who, end, roles, done.spares, event);
     Ok(())
 }
 
@@ -164,7 +165,7 @@ fn finish_for<B: Bank>(moving: &mut Moving<B>, who: Who, at: u64, count: u64) ->
         moving.steps -= 1;
         check_going(&moving.epoch.entries, who);
         let end = moving.bank.ops();
-        enter(&mut moving.epoch, who, end, Event::Refused { refusal });
+        append_entry(&mut moving.epoch, who, end, Event::Refused { refusal });
         return Err(Fault::Refused(refusal));
     }
     finish_open(moving, who)
@@ -239,7 +240,7 @@ pub fn write<B: Bank>(moving: &mut Moving<B>, who: Who, at: u64, from: &[u8]) ->
     ensures given { B.given moving.new.parts.bank ≡ B.given moving.old.parts.bank }
 {
     let count = (from.len() / 512) as u64;
-    if meets(unsure_span(&moving.course), at, at + count) {
+    if meets(uncertain_span(&moving.course), at, at + count) {
         return bar_write(moving, who, at, from);
     }
     write_sure(moving, who, at, from)

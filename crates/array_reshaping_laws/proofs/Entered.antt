@@ -61,7 +61,7 @@ use Rattle.array_reshaping_resync_laws.specs.reshape_progress_Course.{HasWindowI
 use Rattle.array_reshaping_resync_laws.specs.reshape_progress_Laws.{closed}
 use Rattle.array_reshaping_resync_laws.proofs.reshape_progress_Courses.{enters-stand}
 use Rattle.array_reshaping_resync_laws.proofs.reshape_progress_Frames.{stands-on, stands-whole}
-use Rattle.array_reshaping_resync_laws.specs.reshape_progress_resync_laws_Mended.{IsUnmended, StandsMended}
+use Rattle.array_reshaping_resync_laws.specs.reshape_progress_resync_laws_Synced.{IsUnsynced, StandsSynced}
 use Rattle.array_specs.proofs.array_reshaping_state_LeftLaws.{plans-counted, some-left}
 use Rattle.array_specs.proofs.array_reshaping_state_ReshapeLaws.{under-way-of}
 use Rattle.array_reshaping_resync_laws.specs.array_reshaping_invariant_Moving.{HasListInCourse, IsMoving}
@@ -172,7 +172,7 @@ module _ {tells : Type 0} {given : Given} {tape tape' : List Operation} {scope :
     rows-of list (inr fit) stands = inr (λ x shown. (stands-whole (OpensFit (world_in given tape scope first)) old (closed 0) former (present given tape) list does stands).rows fit x tt shown)
 
     -- no resync is pending, so it stands in its course
-    plain : (t : tells) (list : ℕ → Sector) → StandsMended (OpensFit (world_in given tape scope first)) (λ shape. DoesWithout shape old) resync old (closed 0) former (present given tape) list
+    plain : (t : tells) (list : ℕ → Sector) → StandsSynced (OpensFit (world_in given tape scope first)) (λ shape. DoesWithout shape old) resync old (closed 0) former (present given tape) list
         → StandsInCourse (OpensFit (world_in given tape scope first)) (λ shape. DoesWithout shape old) old (closed 0) former (present given tape) list
     plain t list stands = none-stands (OpensFit (world_in given tape scope first)) (λ shape. DoesWithout shape old) resync old (closed 0) former (present given tape) list synced stands
 
@@ -228,7 +228,7 @@ module _ {tells : Type 0} {given : Given} {tape tape' : List Operation} {scope :
             is = λ x lt. l.is x (subst (λ (n : ℕ). x < n) long-same lt)
                 ∙ sym (quiet-now (opening_list (world_in given tape scope first)) entries who end (losses_of roles spares) (IsAmong roles) event (early-losses roles spares) quiet x)
                 ∙ sym (ap (λ (o : List Sector). now o all x) behind.opened);
-            stands = subst (λ (sound : Type 0). StandsMended sound (λ shape. DoesWithout shape new) resync new (course_in window) bytes (present given tape') l.list) (sym (fit-later behind))
+            stands = subst (λ (sound : Type 0). StandsSynced sound (λ shape. DoesWithout shape new) resync new (course_in window) bytes (present given tape') l.list) (sym (fit-later behind))
                 (none-on (OpensFit (world_in given tape scope first)) (λ shape. DoesWithout shape new) resync old new (closed 0) (course_in window) former bytes (present given tape) (present given tape') l.list synced
                 (λ before. next-stands (OpensFit (world_in given tape scope first)) (λ shape. DoesWithout shape new) given old new former bytes (present given tape) (present given tape') l.list did.moved (did.kept t) window next
                 (did.has t l.list (list-of l.list (plain t l.list l.stands)) (rows-of l.list (filled t fills) (plain t l.list l.stands))) before)
@@ -236,7 +236,7 @@ module _ {tells : Type 0} {given : Given} {tape tape' : List Operation} {scope :
           }
 
       resynced : HasResync new resync (course_in window)
-      resynced = resync-moved did.moved (λ some dirty. did.clean ∙ dirty) (inr (subst IsUnmended (sym synced) tt)) (resync-of was)
+      resynced = resync-moved did.moved (λ some dirty. did.clean ∙ dirty) (inr (subst IsUnsynced (sym synced) tt)) (resync-of was)
 
       pub next-moves : (left' : ℕ) → IfSome (told_left all) (λ n. n ≡ left') → IsMoving tells given tape' scope first all new carried resync (course_in window) bytes left'
       next-moves left' told = record {

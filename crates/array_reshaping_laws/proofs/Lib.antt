@@ -17,7 +17,7 @@ pub mod EnterLaws
 pub mod Entered
 pub mod Reading
 pub mod DueSteps
-pub mod MendLaws
+pub mod ResyncLaws
 pub use Rattle.array_reshaping_resync_laws.proofs.Resync as array_reshaping_resync_laws_Resync
 pub use Rattle.array_reshaping_resync_laws.proofs.array_reshaping_invariant_AddedSpare
 pub use Rattle.array_reshaping_resync_laws.proofs.array_reshaping_invariant_Failing
@@ -29,7 +29,7 @@ pub use Rattle.array_reshaping_resync_laws.proofs.array_reshaping_invariant_Rest
 pub use Rattle.array_reshaping_resync_laws.proofs.array_reshaping_invariant_Steps
 pub use Rattle.array_reshaping_resync_laws.proofs.array_reshaping_invariant_Writing
 pub use Rattle.array_specs.proofs.Called as array_specs_Called
-pub use Rattle.array_reshaping_resync_laws.proofs.reshape_progress_resync_laws_Mended
+pub use Rattle.array_reshaping_resync_laws.proofs.reshape_progress_resync_laws_Synced
 pub use Rattle.array_reshaping_resync_laws.proofs.array_reshaping_invariant_BegunCall
 pub use Rattle.array_reshaping_resync_laws.proofs.array_reshaping_invariant_BegunMembers
 pub use Rattle.array_reshaping_resync_laws.proofs.array_reshaping_invariant_Staying

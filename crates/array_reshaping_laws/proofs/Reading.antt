@@ -1,4 +1,4 @@
--- A read of the list of an array in a reshape, from what `fetch_beside` leaves: it is done, or refused behind what it lost.
+-- A read of the list of an array in a reshape, from what `read_around_window` leaves: it is done, or refused behind what it lost.
 use Rattle.std.proofs.Common.{◌≡◌, ◌⊎◌, inl, inr, ℕ, ◌+◌, ◌-◌, ◌*◌, ◌/◌, ◌<◌, ◌≤◌, ◌==◌, Bool, true, false, Option, Some, None, List, [], ◌∷◌, ◌++◌, length, take, refl, sym, ◌∙◌, ap, subst, arith, append_assoc, append-nil}
 use Rattle.std.specs.Prelude.{IsFalse, IfSome, fold, min, slice_index_or, ⊤}
 use Rattle.std.specs.Option.{option_map_or}
@@ -70,9 +70,9 @@ use Rattle.array_reshaping_resync_laws.specs.reshape_progress_the_Course.{Course
 use Rattle.array_reshaping_resync_laws.specs.reshape_request_the_Window.{Window}
 use Rattle.array_reshaping_resync_laws.specs.reshape_request_the_Window_TheVariants.{Closed, Entered, Unsure}
 use Rattle.array_reshaping_resync_laws.specs.reshape_progress_Course.{HasWindowIn, IsWindowOf, hidden_in}
-use Rattle.array_reshaping_resync_laws.specs.stripe_region_resync_Mends.{relied_sector}
-use Rattle.array_reshaping_resync_laws.specs.reshape_progress_resync_laws_Mended.{StandsMended}
-use Rattle.array_reshaping_resync_laws.proofs.reshape_progress_resync_laws_Mended.{mended-courses-move}
+use Rattle.array_reshaping_resync_laws.specs.stripe_region_resync_Resyncs.{relied_sector}
+use Rattle.array_reshaping_resync_laws.specs.reshape_progress_resync_laws_Synced.{StandsSynced}
+use Rattle.array_reshaping_resync_laws.proofs.reshape_progress_resync_laws_Synced.{mended-courses-move}
 use Rattle.array_reshaping_resync_laws.specs.array_reshaping_invariant_Moving.{IsMoving}
 use Rattle.array_reshaping_resync_laws.proofs.array_reshaping_invariant_BackupKept.{stored-kept}
 use Rattle.array_reshaping_resync_laws.proofs.array_reshaping_invariant_MembersMove.{reshaping-moved}
@@ -233,8 +233,8 @@ module _ {tells : Type 0} {given : Given} {tape : List Operation} {scope : Scope
     long-same : list_length new.newest ≡ list_length old.newest
     long-same = list-alike old.newest new.newest did.moved.reshape did.moved.shape did.moved.size
 
-    moves : tells → (sound : Type 0) (among : Shape → Type 0) (list : ℕ → Sector) → StandsMended sound among resync old course buffer (present given tape) list
-        → StandsMended sound among resync new course buffer (present given tape') list
+    moves : tells → (sound : Type 0) (among : Shape → Type 0) (list : ℕ → Sector) → StandsSynced sound among resync old course buffer (present given tape) list
+        → StandsSynced sound among resync new course buffer (present given tape') list
     moves t sound among list stands = mended-courses-move sound among given old new resync course buffer (present given tape) (present given tape') list was.members_are.placed did.moved (did.others t) stands
 
     -- ---- one that is refused behind what it lost

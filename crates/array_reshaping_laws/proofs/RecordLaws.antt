@@ -46,7 +46,7 @@ use Rattle.array_reshaping_resync_laws.specs.reshape_progress_Course.{IsCourseOf
 use Rattle.array_reshaping_resync_laws.specs.reshape_progress_Laws.{closed, entered}
 use Rattle.array_reshaping_resync_laws.specs.stripe_region_resync_Left.{resync_left}
 use Rattle.array_reshaping_resync_laws.proofs.stripe_region_resync_LeftLaws.{records-leave}
-use Rattle.array_reshaping_resync_laws.proofs.reshape_progress_resync_laws_Mended.{mended-courses-move}
+use Rattle.array_reshaping_resync_laws.proofs.reshape_progress_resync_laws_Synced.{mended-courses-move}
 use Rattle.array_specs.proofs.array_reshaping_state_LeftLaws.{plans-counted, some-left}
 use Rattle.array_reshaping_resync_laws.specs.array_reshaping_invariant_Moving.{IsMoving}
 use Rattle.array_reshaping_resync_laws.proofs.array_reshaping_invariant_MoreSteps.{recorded-moves}

@@ -28,7 +28,7 @@ use Rattle.array_reshaping_resync_laws.proofs.history_invariant_Growing.{unsynce
 use Rattle.array_specs.specs.history_invariant_laws_Reliable.{AreToldGone}
 use Rattle.array_reshaping_resync_laws.specs.stripe_region_read_Stretches.{relied_rows}
 use Rattle.array_reshaping_resync_laws.proofs.stripe_region_write_Together.{shape-force}
-use Rattle.array_reshaping_resync_laws.specs.stripe_region_resync_Mends.{relied_sector}
+use Rattle.array_reshaping_resync_laws.specs.stripe_region_resync_Resyncs.{relied_sector}
 use Rattle.array_reshaping_resync_laws.specs.reshape_progress_the_Course.{Course}
 use Rattle.array_reshaping_resync_laws.specs.array_reshaping_invariant_Moving.{IsMoving}
 use Rattle.array_reshaping_resync_laws.proofs.array_reshaping_invariant_Writing.{unrelied-short, short-pending}

@@ -58,10 +58,10 @@ use Rattle.array_reshaping_resync_laws.specs.reshape_progress_the_Course.{Course
 use Rattle.array_reshaping_resync_laws.specs.reshape_progress_Course.{IsWindowOf, IsCourseOf, span_in}
 use Rattle.array_reshaping_resync_laws.specs.reshape_progress_Laws.{closed, entered}
 use Rattle.array_reshaping_resync_laws.specs.stripe_region_resync_Left.{resync_left}
-use Rattle.array_reshaping_resync_laws.specs.stripe_region_resync_Mends.{relied_sector}
+use Rattle.array_reshaping_resync_laws.specs.stripe_region_resync_Resyncs.{relied_sector}
 use Rattle.array_reshaping_resync_laws.proofs.stripe_region_resync_LeftLaws.{records-leave}
 use Rattle.array_reshaping_resync_laws.proofs.stripe_region_resync_ReliedLaws.{relied-reaches}
-use Rattle.array_reshaping_resync_laws.specs.reshape_progress_resync_laws_Mended.{IsUnmended}
+use Rattle.array_reshaping_resync_laws.specs.reshape_progress_resync_laws_Synced.{IsUnsynced}
 use Rattle.array_specs.specs.array_reshaping_state_Due.{open_in, unsure_in}
 use Rattle.array_reshaping_resync_laws.specs.array_reshaping_invariant_Moving.{IsWindowStanding, IsMoving}
 use Rattle.array_reshaping_resync_laws.proofs.array_reshaping_invariant_CopiedWindow.{window-stands}
@@ -265,7 +265,7 @@ finish-left given old new resync course ahead span copied sectioned is moved act
     both x y m n k taken same = omega (arith, taken, same)
 
 -- and parity is relied on as far as before: nothing is mended while the window is open
-pub finish-relied : (given : Given) (old new : Members) (resync : Option ℕ) (span : Span) → IsPlaced given old → IsMoved given (moved_past span old) new → ⊥ ⊎ IsUnmended resync → relied_sector new.newest resync ≡ relied_sector old.newest resync
+pub finish-relied : (given : Given) (old new : Members) (resync : Option ℕ) (span : Span) → IsPlaced given old → IsMoved given (moved_past span old) new → ⊥ ⊎ IsUnsynced resync → relied_sector new.newest resync ≡ relied_sector old.newest resync
 finish-relied given old new None span placed moved beside = long-same old.newest new.newest (shapes-past given old new span moved)
 finish-relied given old new (Some mended) span placed moved (inr none) =
     ap (λ (n : ℕ). relied_sector new.newest (Some n)) none ∙ (relied-reaches new.newest moved.placed.fit).0

@@ -38,7 +38,7 @@ use Rattle.array_reshaping_resync_laws.specs.reshape_progress_Course.{past_strip
 use Rattle.array_reshaping_resync_laws.specs.reshape_progress_Laws.{closed}
 use Rattle.array_reshaping_resync_laws.proofs.reshape_progress_Courses.{zeroes-go-on}
 use Rattle.array_reshaping_resync_laws.specs.stripe_region_resync_Left.{resync_left}
-use Rattle.array_reshaping_resync_laws.specs.reshape_progress_resync_laws_Mended.{StandsMended}
+use Rattle.array_reshaping_resync_laws.specs.reshape_progress_resync_laws_Synced.{StandsSynced}
 use Rattle.array_specs.proofs.array_reshaping_state_LeftLaws.{plans-counted, some-left}
 use Rattle.array_specs.proofs.array_reshaping_state_ReshapeLaws.{through-of}
 use Rattle.array_reshaping_resync_laws.specs.array_reshaping_invariant_Moving.{IsMoving}
@@ -139,11 +139,11 @@ module _ {tells : Type 0} {given : Given} {tape tape' : List Operation} {scope :
       subst (λ (n : ℕ). IsMoving tells given tape' scope first (entries ++ entries_of who end (losses_of roles spares ++ Refused refusal ∷ [])) new carried resync course buffer n) (sym (left-moved given old new resync course ahead did.moved))
       (refused-moves tells given tape tape' scope first entries old new carried resync course buffer (left_by resync old course ahead) who end roles spares refusal was live goes (not_254 who.caller caller) at_end did.grows
       did.moved (few-roles new.newest did.moved.placed.fit.valid) did.since did.clean (inr many) did.rise did.unused
-      (λ t sound among list stands. subst (λ (k : Course). StandsMended sound among resync new k buffer (present given tape') list) (sym is)
+      (λ t sound among list stands. subst (λ (k : Course). StandsSynced sound among resync new k buffer (present given tape') list) (sym is)
       (none-on sound among resync old new (closed course.zeroed) (closed course.zeroed) buffer buffer (present given tape) (present given tape') list synced
       (λ before. (zeroes-go-on sound among given old new course.zeroed buffer (present given tape) (present given tape') list was.members_are.placed did.moved (through-of old.newest was.members_are.placed.fit was.members_are.active none) (did.others t)
       before).0)
-      (subst (λ (k : Course). StandsMended sound among resync old k buffer (present given tape) list) is stands)))
+      (subst (λ (k : Course). StandsSynced sound among resync old k buffer (present given tape) list) is stands)))
       (λ t told filled more room gone unclean. did.safe t (world_in given tape scope first) told room gone unclean))
 
   -- it is done

@@ -3,7 +3,7 @@ pub mod Writing
 pub mod Steps
 pub mod Mending
 pub mod Refusing
-pub use Rattle.array_reshaping_resync_laws.specs.reshape_progress_resync_laws_Mended
+pub use Rattle.array_reshaping_resync_laws.specs.reshape_progress_resync_laws_Synced
 pub use Rattle.array_reshaping_resync_laws.specs.array_reshaping_invariant_Moving
 pub use Rattle.array_specs.specs.Adding as array_specs_Adding
 pub use Rattle.array_specs.specs.Calls as array_specs_Calls
@@ -21,7 +21,7 @@ pub use Rattle.array_specs.specs.reshape_progress_Course
 pub use Rattle.array_specs.specs.reshape_progress_Laws
 pub use Rattle.array_specs.specs.reshape_progress_the_Course
 pub use Rattle.array_specs.specs.stripe_region_resync_Left
-pub use Rattle.array_specs.specs.stripe_region_resync_Mends
+pub use Rattle.array_specs.specs.stripe_region_resync_Resyncs
 pub use Rattle.array_specs.specs.stripe_region_resync_the_Stripe
 pub use Rattle.array_specs.specs.array_call_specs_Calls
 pub use Rattle.array_specs.specs.array_call_specs_Kept

@@ -6,7 +6,7 @@ use Rattle.array_reshaping_resync_laws.specs.sb_specs_Reading.{is_clean, list_le
 use Rattle.array_reshaping_resync_laws.specs.history_the_StepKind.{StepKind}
 use Rattle.array_reshaping_resync_laws.specs.history_the_StepKind_TheVariants.{Entered, Copied, Checkpointed, Zeroed, Finished, ResyncStripe, ResyncEnded}
 use Rattle.array_reshaping_resync_laws.specs.array_members_Lacking.{AreTooMany}
-use Rattle.array_reshaping_resync_laws.specs.stripe_region_resync_Mends.{mend_shape, IsNotMended}
+use Rattle.array_reshaping_resync_laws.specs.stripe_region_resync_Resyncs.{resync_shape, IsNotSynced}
 use Rattle.array_specs.specs.array_call_specs_Calls.{one_more, IsCausedBy}
 use Rattle.array_specs.specs.array_reshaping_state_the_Due.{Due}
 use Rattle.array_specs.specs.array_reshaping_state_the_Due_TheVariants.{Copy, Record, Mend, EndResync, Enter, Zero, Finish}
@@ -37,5 +37,5 @@ IsMarkedBehind due old new result = is_clean new.newest ≡ is_clean old.newest
 -- has data by its shape; nor is a window entered where the backup failed.
 abbrev pub IsStepCaused : {T : Type 0} → Due → Option ℕ → Option ℕ → Members → Members → (ℕ → ℕ) → (ℕ → ℕ) → Result T Fault → Type 0
 IsStepCaused Enter resync backup old new before after result = IsEnterCaused backup old new before after result
-IsStepCaused Mend resync backup old new before after result = (mended : ℕ) → resync ≡ Some mended → IsCausedBy (list_length old.newest) 0 (IsNotMended (mend_shape old.newest mended)) old new result
+IsStepCaused Mend resync backup old new before after result = (mended : ℕ) → resync ≡ Some mended → IsCausedBy (list_length old.newest) 0 (IsNotSynced (resync_shape old.newest mended)) old new result
 IsStepCaused due resync backup old new before after result = IsCausedBy (list_length old.newest) 0 AreTooMany old new result

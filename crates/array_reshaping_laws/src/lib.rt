@@ -2,12 +2,14 @@
 #![tactic(auto)]
 
 pub use array_reshaping_resync_laws::{
-    Course, Finished, begin, copy, fetch_beside, final_in, finish, finish_window, has_unnamed,
-    is_spare, list_length, mend_list, name_missing, newly_vacant, put_list, record, relied_sector,
-    resync_left, settle, shape_in, too_many, unmended, vacant_roles, zero,
+    Course, Finished, begin, copy, final_in, finish, finish_window, first_resync_refusal,
+    flush_and_mark, has_unnamed, is_spare, list_length, newly_unassigned, read_around_window,
+    record, record_missing, relied_sector, resync_left, resync_list, shape_in, too_many,
+    unassigned_roles, write_list, zero,
 };
 pub use array_specs::{
-    Due, due_step, hidden_span, is_window_critical, list_sectors, meets, next_window_of, open_span,
-    stripe_to_copy, stripe_to_zero, unread_from, unsure_span, unwritten_from, visible,
+    Due, backed_up_span, due_step, first_read_refusal_from, first_write_refusal_from,
+    is_window_critical, list_sectors, meets, next_window_of, open_span, stripe_to_copy,
+    stripe_to_zero, uncertain_span, visible,
 };
 pub use reshape_window_backup::{clear_window, enter_next};

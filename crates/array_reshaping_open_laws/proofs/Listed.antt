@@ -37,11 +37,11 @@ use Rattle.array_reshaping_invariant.proofs.crash_views_UnderWay.{shape-on, side
 use Rattle.array_reshaping_invariant.proofs.crash_views_WindowLaws.{open-window}
 use Rattle.array_reshaping_invariant.specs.reshape_request_the_Window.{Window}
 use Rattle.array_reshaping_invariant.specs.array_members_Placed.{IsPlaced}
-use Rattle.array_reshaping_invariant.specs.stripe_region_resync_Mends.{low_shape, low_stripes, AreEndsStanding}
+use Rattle.array_reshaping_invariant.specs.stripe_region_resync_Resyncs.{low_shape, low_stripes, AreEndsStanding}
 use Rattle.array_reshaping_invariant.proofs.stripe_region_write_Sides.{low-valid, low-is, low-before, low-few}
 use Rattle.array_reshaping_invariant.specs.reshape_progress_Course.{hidden_in, HasWindowIn, IsCopiedRow, past_stripe, AnyShape, StandsInCourse}
 use Rattle.array_reshaping_invariant.proofs.reshape_progress_Courses.{none-of-none}
-use Rattle.array_reshaping_invariant.specs.reshape_progress_resync_laws_Mended.{IsMendSector}
+use Rattle.array_reshaping_invariant.specs.reshape_progress_resync_laws_Synced.{IsResyncSector}
 use Rattle.array_reshaping_invariant.proofs.reshape_progress_resync_laws_Ends.{tails-are-ends}
 use Rattle.array_open_window.specs.Finding.{window_for, IsFoundIn}
 use Rattle.array_reshaping_open_laws.specs.Opening.{found_course}
@@ -280,7 +280,7 @@ module _ (bank : Given) (scope : Scope) (sizes_are : scope.sizes ≡ sizes bank)
             (subst (λ (s : Shape). (place s x).row < m.newest.size) old (low-row placed x past-it under)) (place (shape_of m.newest) x).role
             (place-role_below (shape_of m.newest) placed.fit.valid.old x))
 
-    pub mend-whole : (x : ℕ) → IsMendSector m.newest x → IsSector (list x)
+    pub mend-whole : (x : ℕ) → IsResyncSector m.newest x → IsSector (list x)
     mend-whole x (inl lt) = whole-in x lt
     mend-whole x (inr under) = elim (cases_lt x (list_length m.newest)) [
       | inl lt ↦ whole-in x lt

@@ -58,9 +58,9 @@ use Rattle.array_reshaping_invariant.specs.reshape_progress_Course.{IsStoredAs, 
 use Rattle.array_reshaping_invariant.proofs.reshape_progress_Frames.{stands-without}
 use Rattle.array_reshaping_invariant.proofs.reshape_progress_Courses.{courses-move}
 use Rattle.array_reshaping_invariant.proofs.reshape_progress_Under.{courses-stand-under}
-use Rattle.array_reshaping_invariant.specs.stripe_region_resync_Mends.{mend_stripes}
-use Rattle.array_reshaping_invariant.specs.reshape_progress_resync_laws_Mended.{IsUnmended, StandsMended}
-use Rattle.array_reshaping_invariant.proofs.reshape_progress_resync_laws_Mended.{none-pending, mended-courses-move}
+use Rattle.array_reshaping_invariant.specs.stripe_region_resync_Resyncs.{resync_stripes}
+use Rattle.array_reshaping_invariant.specs.reshape_progress_resync_laws_Synced.{IsUnsynced, StandsSynced}
+use Rattle.array_reshaping_invariant.proofs.reshape_progress_resync_laws_Synced.{none-pending, mended-courses-move}
 use Rattle.array_reshaping_invariant.proofs.reshape_progress_resync_laws_Windows.{resyncs-begin}
 use Rattle.array_open_window.proofs.array_reshaping_state_ReshapeLaws.{window-reach}
 use Rattle.array_reshaping_invariant.specs.Moving.{HasListInCourse}
@@ -307,7 +307,7 @@ module _ {tells : Type 0} {bank : Given} {tape : List Operation} {given backup :
       stands-here = courses-move (IsCleanAndFit world former) AnyShape bank former m (found_course window) buffer c c list placed moved (λ slot k other. refl) stands-former
 
       -- of a dirty array no row is asked yet, and what its resync reads is whole
-      begins : StandsMended (OpensFit world) AnyShape (Some 0) former (found_course window) buffer c list
+      begins : StandsSynced (OpensFit world) AnyShape (Some 0) former (found_course window) buffer c list
       begins =
           resyncs-begin (OpensFit world) AnyShape former (found_course window) buffer c list fit (no-rows stands-former)
           (λ aside any. ends-stand bank scope refl former backed opened.members_are.active does c read stored.says placed reshape.tail)
@@ -318,7 +318,7 @@ module _ {tells : Type 0} {bank : Given} {tape : List Operation} {given backup :
           no-rows was = record { stands = was.stands; window = was.window; zeros = was.zeros; copied = was.copied; tail = was.tail; zeroed = was.zeroed; rows = λ so. absurd so }
 
       stands-mended : (clean : Bool) → is_clean former.newest ≡ clean
-          → StandsMended (OpensFit world) (λ shape. DoesWithout shape m) (if clean then None else Some 0) m (found_course window) buffer c list
+          → StandsSynced (OpensFit world) (λ shape. DoesWithout shape m) (if clean then None else Some 0) m (found_course window) buffer c list
       stands-mended true is =
           (none-pending (OpensFit world) (λ shape. DoesWithout shape m) m (found_course window) buffer c list).0
           (stands-without (OpensFit world) m (found_course window) buffer c list (of-clean stands-here))
@@ -336,7 +336,7 @@ module _ {tells : Type 0} {bank : Given} {tape : List Operation} {given backup :
       stands-mended false is =
           fewer (mended-courses-move (OpensFit world) AnyShape bank former m (Some 0) (found_course window) buffer c c list placed moved (λ slot k other. refl) begins)
         where
-          fewer : StandsMended (OpensFit world) AnyShape (Some 0) m (found_course window) buffer c list → StandsMended (OpensFit world) (λ shape. DoesWithout shape m) (Some 0) m (found_course window) buffer c list
+          fewer : StandsSynced (OpensFit world) AnyShape (Some 0) m (found_course window) buffer c list → StandsSynced (OpensFit world) (λ shape. DoesWithout shape m) (Some 0) m (found_course window) buffer c list
           fewer was = record {
             in_course = stands-without ⊥ m (found_course window) buffer c list was.in_course;
             ends = λ some aside own. was.ends some aside tt;
@@ -403,7 +403,7 @@ none-mended : (clean : Bool) (most : ℕ) → IfSome {T = ℕ} (if clean then No
 none-mended true most = tt
 none-mended false most = omega arith
 
-unmended : (clean : Bool) → IsUnmended (if clean then None else Some 0)
+unmended : (clean : Bool) → IsUnsynced (if clean then None else Some 0)
 unmended true = tt
 unmended false = refl
 
@@ -418,7 +418,7 @@ openings-move tells bank tape given backup lost first left former window buffer 
   course_is = record { window = opened.window_is; through = λ some. absurd (omega (arith, some)); few = omega arith };
   sizes_are = refl;
   left_told = subst (λ (o : Option ℕ). IfSome o (λ k. k ≡ left)) (sym (no-left opener first (reading_of (members_without lost former)) (role_count former.newest))) tt;
-  progress = none-mended (is_clean former.newest) (mend_stripes former.newest);
+  progress = none-mended (is_clean former.newest) (resync_stripes former.newest);
   beside = inr (unmended (is_clean former.newest));
   pending = λ t. at t (λ (k : ℕ). is_unsynced (Opening bank tape given backup former k) (opening_entries k (members_without lost former)) ≡ is_some (found_resync former)) (pending opened lost recovering t);
   dirty = λ does. owed (is_clean former.newest);

@@ -19,7 +19,7 @@ pub use Rattle.array_reshaping_invariant.proofs.Steps as array_reshaping_invaria
 pub use Rattle.array_reshaping_invariant.proofs.Writing as array_reshaping_invariant_Writing
 pub use Rattle.array_reshaping_invariant.proofs.reshape_progress_Courses
 pub use Rattle.array_reshaping_invariant.proofs.reshape_progress_Frames
-pub use Rattle.array_reshaping_invariant.proofs.reshape_progress_resync_laws_Mended
+pub use Rattle.array_reshaping_invariant.proofs.reshape_progress_resync_laws_Synced
 pub use Rattle.array_reshaping_invariant.proofs.reshape_progress_resync_laws_Windows
 pub use Rattle.array_reshaping_invariant.proofs.stripe_region_resync_LeftLaws
 pub use Rattle.array_reshaping_invariant.proofs.stripe_region_resync_RefusalLaws

@@ -1,4 +1,4 @@
--- Steps of the resync of an array in a reshape: a stripe is mended, from what `mend_list` leaves, or isn't; and the resync ends, from what `settle` leaves, or is refused.
+-- Steps of the resync of an array in a reshape: a stripe is mended, from what `resync_list` leaves, or isn't; and the resync ends, from what `settle` leaves, or is refused.
 use Rattle.std.proofs.Common.{◌≡◌, ◌≢◌, inl, inr, ℕ, ◌+◌, ◌<◌, ◌≤◌, ◌==◌, ◌&&◌, nat_le, Bool, true, false, Option, Some, None, List, [], ◌∷◌, ◌++◌, length, refl, sym, ◌∙◌, ap, subst, arith, append-nil}
 use Rattle.std.specs.Prelude.{IsFalse, IfSome, is_some, ⊤}
 use Rattle.std.specs.List.{list_any}
@@ -43,7 +43,7 @@ use Rattle.array_reshaping_invariant.specs.history_append_Losing.{losses_of}
 use Rattle.array_reshaping_invariant.proofs.history_append_CallLaws.{losses-are, ends-losses}
 use Rattle.array_reshaping_invariant.proofs.history_append_LeftLaws.{left-behind, left-more}
 use Rattle.array_reshaping_invariant.specs.stripe_region_read_Stretches.{ListStandsIn, RowsStandIn}
-use Rattle.array_reshaping_invariant.specs.stripe_region_resync_Mends.{low_shape, mend_stripes, mend_shape, relied_sector, IsMendRow, IsNotMended, AreEndsStanding}
+use Rattle.array_reshaping_invariant.specs.stripe_region_resync_Resyncs.{low_shape, resync_stripes, resync_shape, relied_sector, IsResyncRow, IsNotSynced, AreEndsStanding}
 use Rattle.array_reshaping_invariant.proofs.stripe_region_resync_Alike.{low-alike, mends-alike}
 use Rattle.array_reshaping_invariant.proofs.stripe_region_resync_ReliedLaws.{relied-within}
 use Rattle.array_reshaping_invariant.proofs.stripe_region_resync_StripeLaws.{is-next}
@@ -58,8 +58,8 @@ use Rattle.array_reshaping_invariant.specs.reshape_request_the_Window_TheVariant
 use Rattle.array_reshaping_invariant.specs.reshape_progress_the_Course.{Course}
 use Rattle.array_reshaping_invariant.specs.reshape_progress_Course.{hidden_in}
 use Rattle.array_reshaping_invariant.proofs.reshape_progress_Frames.{does-for}
-use Rattle.array_reshaping_invariant.specs.reshape_progress_resync_laws_Mended.{IsAside, IsMending, IsMended, StandsMended}
-use Rattle.array_reshaping_invariant.proofs.reshape_progress_resync_laws_Mended.{mends-go-on}
+use Rattle.array_reshaping_invariant.specs.reshape_progress_resync_laws_Synced.{IsAside, IsResyncing, IsSynced, StandsSynced}
+use Rattle.array_reshaping_invariant.proofs.reshape_progress_resync_laws_Synced.{mends-go-on}
 use Rattle.array_reshaping_invariant.specs.Moving.{HasListInCourse, IsMoving}
 use Rattle.array_reshaping_invariant.proofs.BackupKept.{stored-kept}
 use Rattle.array_reshaping_invariant.proofs.Flushing.{AreFlushed, AreSettled, settled-moves, unsettled-moves}
@@ -74,15 +74,15 @@ use Rattle.array_reshaping_invariant.proofs.array_call_specs_LedgerLaws.{unsynce
 
 -- ---- a stripe
 
--- What `mend_list` leaves of the stripe behind so many, whether it was mended or not: the list stands, and each row that stood.
-pub record IsMendingMoving (tells : Type 0) (given : Given) (tape tape' : List Operation) (old new : Members) (mended roles : ℕ) : Type 0 where
+-- What `resync_list` leaves of the stripe behind so many, whether it was mended or not: the list stands, and each row that stood.
+pub record IsResyncingMoving (tells : Type 0) (given : Given) (tape tape' : List Operation) (old new : Members) (mended roles : ℕ) : Type 0 where
   pub moved : IsMoved given old new
   pub since : AreMissingSince old new roles
   pub grows : Grows tells tape tape'
   pub dirty : is_clean new.newest ≡ false
   pub rise : tells → IsRisen ⊤ old new tape tape'
   pub unused : tells → IsUnusedKept old (disk given.start tape) (disk given.start tape')
-  pub others : tells → AreOtherRowsKept (IsMendRow old.newest mended) (reading_of new) (present given tape) (present given tape')
+  pub others : tells → AreOtherRowsKept (IsResyncRow old.newest mended) (reading_of new) (present given tape) (present given tape')
   pub stands : tells → (among : Shape → Bool) → ((s : Shape) → among s ≡ true → DoesWithout s new) → (hidden : Option Span) → (list : ℕ → Sector)
       → ListStandsIn (λ s. among s ≡ true) hidden old (present given tape) list → ListStandsIn (λ s. among s ≡ true) hidden new (present given tape') list
   pub tail : DoesWithout (final_shape old.newest) new → tells → (list : ℕ → Sector) → AreTailsStanding old (present given tape) list → AreTailsStanding new (present given tape') list
@@ -92,16 +92,16 @@ pub record IsMendingMoving (tells : Type 0) (given : Given) (tape tape' : List O
       → RowsStandIn (λ s. among s ≡ true) hidden (relied_sector old.newest (Some mended)) new (present given tape') list
   pub safe : tells → (world : World) → (told : Ledger) → HasRoomLeft old tape tape' → AreGoneTold told new → told.unclean ≡ true → (hidden : Option Span) → (list : ℕ → Sector)
       → ((x : ℕ) → relied_sector old.newest (Some mended) ≤ x → x < relied_sector old.newest (Some (mended + 1)) → IsShown hidden old.newest x)
-      → ListStandsIn (λ s. s ≡ mend_shape old.newest mended) hidden old (present given tape) list
-      → (mend_shape old.newest mended ≡ final_shape old.newest → AreTailsStanding old (present given tape) list)
+      → ListStandsIn (λ s. s ≡ resync_shape old.newest mended) hidden old (present given tape) list
+      → (resync_shape old.newest mended ≡ final_shape old.newest → AreTailsStanding old (present given tape) list)
       → AreWritesAllowed old told.values list → (OpensFit world → IsTailZero old.newest list)
       → IsSafeOver world given told old tape → KeepsSafe world given told new tape tape'
 
 -- And where it was: its rows stand too, by the list that stood in its data.
-abbrev pub AreRowsMended : Type 0 → Given → List Operation → List Operation → Members → Members → ℕ → Type 0
-AreRowsMended tells given tape tape' old new mended = tells → (among : Shape → Bool) → (hidden : Option Span) → (list : ℕ → Sector)
+abbrev pub AreRowsSynced : Type 0 → Given → List Operation → List Operation → Members → Members → ℕ → Type 0
+AreRowsSynced tells given tape tape' old new mended = tells → (among : Shape → Bool) → (hidden : Option Span) → (list : ℕ → Sector)
     → ((x : ℕ) → relied_sector old.newest (Some mended) ≤ x → x < relied_sector old.newest (Some (mended + 1)) → IsShown hidden old.newest x)
-    → ((row : ℕ) → IsMendRow old.newest mended row → AreWholeIn (mend_shape old.newest mended) list row)
+    → ((row : ℕ) → IsResyncRow old.newest mended row → AreWholeIn (resync_shape old.newest mended) list row)
     → ListStandsIn (λ s. among s ≡ true) hidden old (present given tape) list → AreEndsStanding old (present given tape) list
     → RowsStandIn (λ s. among s ≡ true) hidden (relied_sector old.newest (Some mended)) old (present given tape) list
     → RowsStandIn (λ s. among s ≡ true) hidden (relied_sector old.newest (Some (mended + 1))) new (present given tape') list
@@ -110,7 +110,7 @@ AreRowsMended tells given tape tape' old new mended = tells → (among : Shape �
 
 -- What is told is right by a history by which a resync is pending, and what is missing gone.
 not-mended-right : (world : World) (before : List Entry) (given : Given) (m : Members) (shape : Shape) → IsPlaced given m → IsInForce m.newest shape → AreToldGone world before m
-    → tolerance_of (level_at world before) ≡ tolerance (shape_of m.newest) → is_unsynced world before ≡ true → (refusal : Refusal) → IsNotMended shape m refusal → IsRefusedRight world before refusal
+    → tolerance_of (level_at world before) ≡ tolerance (shape_of m.newest) → is_unsynced world before ≡ true → (refusal : Refusal) → IsNotSynced shape m refusal → IsRefusedRight world before refusal
 not-mended-right world before given m shape placed force gone level pending refusal (inl many) = refused-right world before given m placed gone level refusal many
 not-mended-right world before given m shape placed force gone level pending refusal (inr (able, lacked)) =
     subst (λ (r : Refusal). IsRefusedRight world before r) (sym lacked.1)
@@ -120,11 +120,11 @@ not-mended-right world before given m shape placed force gone level pending refu
 pub untried-moves : (tells : Type 0) (given : Given) (tape : List Operation) (scope : Scope) (first : ℕ) (entries : List Entry) (m : Members) (carried : ℕ → ℕ → Bool)
     (resync : Option ℕ) (course : Course) (buffer : List ℕ) (left : ℕ) (who : Who) (end mended : ℕ) (refusal : Refusal)
     → IsMoving tells given tape scope first entries m carried resync course buffer left → IsCallGoing entries who → IsFalse (who.caller == 254) → (tells → end ≡ length tape)
-    → resync ≡ Some mended → mended < mend_stripes m.newest → IsNotMended (mend_shape m.newest mended) m refusal
+    → resync ≡ Some mended → mended < resync_stripes m.newest → IsNotSynced (resync_shape m.newest mended) m refusal
     → IsMoving tells given tape scope first (entries ++ entries_of who end (Refused refusal ∷ [])) m carried resync course buffer left
 untried-moves tells given tape scope first entries m carried resync course buffer left who end mended refusal was goes caller at_end waits below why =
     resting-moves tells given tape scope first entries m carried resync course buffer left who end (Refused refusal) was goes caller at_end (quiet-refusal refusal) (λ told is. is)
-    (λ t right. not-mended-right (world_in given tape scope first) entries given m (mend_shape m.newest mended) was.members_are.placed (is-next m.newest was.members_are.placed.fit mended below).force
+    (λ t right. not-mended-right (world_in given tape scope first) entries given m (resync_shape m.newest mended) was.members_are.placed (is-next m.newest was.members_are.placed.fit mended below).force
     (was.gone t right) (was.levelled t right) (was.pending t ∙ ap (λ (o : Option ℕ). is_some o) waits) refusal why)
 
 -- ---- a stripe that was tried
@@ -138,8 +138,8 @@ aside-shown (Unsure span) aside x = refl
 module _ (tells : Type 0) (given : Given) (tape tape' : List Operation) (scope : Scope) (first : ℕ) (entries : List Entry) (old new : Members) (carried : ℕ → ℕ → Bool)
     (resync : Option ℕ) (course : Course) (buffer : List ℕ) (left : ℕ) (who : Who) (end roles spares mended : ℕ)
     (was : IsMoving tells given tape scope first entries old carried resync course buffer left) (does : DoWithout old) (goes : IsCallGoing entries who) (caller : IsFalse (who.caller == 254))
-    (at_end : tells → end ≡ length tape') (waits : resync ≡ Some mended) (aside : IsAside course.window) (below : mended < mend_stripes old.newest)
-    (did : IsMendingMoving tells given tape tape' old new mended roles) where
+    (at_end : tells → end ≡ length tape') (waits : resync ≡ Some mended) (aside : IsAside course.window) (below : mended < resync_stripes old.newest)
+    (did : IsResyncingMoving tells given tape tape' old new mended roles) where
   live : HasLiveSlot old
   live = without-left given old was.members_are.placed was.members_are.unlost does
 
@@ -175,7 +175,7 @@ module _ (tells : Type 0) (given : Given) (tape tape' : List Operation) (scope :
   -- ---- what stands
 
   -- by these shapes the list does, and each row that stood
-  mending : tells → (list : ℕ → Sector) → IsMending (λ shape. DoesWithout shape new) old new course mended (present given tape) (present given tape') list
+  mending : tells → (list : ℕ → Sector) → IsResyncing (λ shape. DoesWithout shape new) old new course mended (present given tape) (present given tape') list
   mending t list = record {
     others = did.others t;
     stands = λ before x slot own. did.stands t tolerated tolerated-is (hidden_in course.window) list (λ y slot own. before y slot (tolerated-is (shape_for old.newest y) own)) x slot (is-tolerated (shape_for new.newest x) own);
@@ -186,8 +186,8 @@ module _ (tells : Type 0) (given : Given) (tape tape' : List Operation) (scope :
 
   -- before it, by these shapes
   stood : tells → (l : HasListInCourse (OpensFit (world_in given tape scope first)) old resync course buffer (present given tape) (now (opening_list (world_in given tape scope first)) entries))
-      → StandsMended (OpensFit (world_in given tape scope first)) (λ shape. DoesWithout shape new) (Some mended) old course buffer (present given tape) l.list
-  stood t l = subst (λ (o : Option ℕ). StandsMended (OpensFit (world_in given tape scope first)) (λ shape. DoesWithout shape new) o old course buffer (present given tape) l.list) waits
+      → StandsSynced (OpensFit (world_in given tape scope first)) (λ shape. DoesWithout shape new) (Some mended) old course buffer (present given tape) l.list
+  stood t l = subst (λ (o : Option ℕ). StandsSynced (OpensFit (world_in given tape scope first)) (λ shape. DoesWithout shape new) o old course buffer (present given tape) l.list) waits
       (mended-later (OpensFit (world_in given tape scope first)) given old new resync course buffer (present given tape) l.list did.moved l.stands)
 
   keeps : (t : tells) (told : Ledger) → IsFilledRight (world_in given tape scope first) entries → IsMoreTold (told_now (world_in given tape scope first) carried true entries) told
@@ -208,7 +208,7 @@ module _ (tells : Type 0) (given : Given) (tape tape' : List Operation) (scope :
 
   -- ---- it is mended
 
-  pub mended-moves : (steps : ℕ) → left ≡ steps + 1 → steps ≢ 0 → DoWithout new → AreRowsMended tells given tape tape' old new mended
+  pub mended-moves : (steps : ℕ) → left ≡ steps + 1 → steps ≢ 0 → DoWithout new → AreRowsSynced tells given tape tape' old new mended
       → IsMoving tells given tape' scope first (entries ++ entries_of who end (losses_of roles spares ++ Step ResyncStripe steps ∷ [])) new carried (Some (mended + 1)) course buffer steps
   mended-moves steps one some can mends =
       quiet-moves tells given tape tape' scope first entries old new carried resync (Some (mended + 1)) course course buffer buffer left steps who end roles spares (Step ResyncStripe steps)
@@ -240,13 +240,13 @@ module _ (tells : Type 0) (given : Given) (tape tape' : List Operation) (scope :
       own : DoesWithout (low_shape old.newest) new
       own = subst (λ (s : Shape). DoesWithout s new) (low-alike old.newest new.newest did.moved.reshape did.moved.shape did.moved.size) (does-for new can 0)
 
-      done : tells → (list : ℕ → Sector) → IsMended (λ shape. DoesWithout shape new) old new course mended (present given tape) (present given tape') list
+      done : tells → (list : ℕ → Sector) → IsSynced (λ shape. DoesWithout shape new) old new course mended (present given tape) (present given tape') list
       done t list whole stands ends rows x near own = mends t tolerated (hidden_in course.window) list shown whole (λ y slot own. stands y slot (tolerated-is (shape_for old.newest y) own)) ends
           (λ y near own. rows y near (tolerated-is (shape_for old.newest y) own)) x near (is-tolerated (shape_for new.newest x) own)
 
   -- ---- it isn't
 
-  pub unmended-moves : (refusal : Refusal) → IsNotMended (mend_shape old.newest mended) new refusal
+  pub unmended-moves : (refusal : Refusal) → IsNotSynced (resync_shape old.newest mended) new refusal
       → IsMoving tells given tape' scope first (entries ++ entries_of who end (losses_of roles spares ++ Refused refusal ∷ [])) new carried resync course buffer left
   unmended-moves refusal why =
       quiet-moves tells given tape tape' scope first entries old new carried resync resync course course buffer buffer left left who end roles spares (Refused refusal)
@@ -263,12 +263,12 @@ module _ (tells : Type 0) (given : Given) (tape tape' : List Operation) (scope :
             record {
               list = l.list;
               is = λ x lt. l.is x (subst (λ (n : ℕ). x < n) list-same lt);
-              stands = subst (λ (o : Option ℕ). StandsMended (OpensFit (world_in given tape scope first)) (λ shape. DoesWithout shape new) o new course buffer (present given tape') l.list) (sym waits)
+              stands = subst (λ (o : Option ℕ). StandsSynced (OpensFit (world_in given tape scope first)) (λ shape. DoesWithout shape new) o new course buffer (present given tape') l.list) (sym waits)
                   (mends-go-on (OpensFit (world_in given tape scope first)) (λ shape. DoesWithout shape new) given old new course mended buffer (present given tape) (present given tape') l.list
                   was.members_are.placed did.moved was.course_is aside below (mending t l.list) (stood t l)).0;
             };
-        legal = λ fills gone level. not-mended-right (world_in given tape' scope first) (entries ++ entries_of who end (losses_of roles spares)) given new (mend_shape old.newest mended) did.moved.placed
-            (alike-force old.newest new.newest did.moved.reshape did.moved.shape did.moved.size (mend_shape old.newest mended) (is-next old.newest was.members_are.placed.fit mended below).force) gone
+        legal = λ fills gone level. not-mended-right (world_in given tape' scope first) (entries ++ entries_of who end (losses_of roles spares)) given new (resync_shape old.newest mended) did.moved.placed
+            (alike-force old.newest new.newest did.moved.reshape did.moved.shape did.moved.size (resync_shape old.newest mended) (is-next old.newest was.members_are.placed.fit mended below).force) gone
             (ap tolerance_of level ∙ was.levelled t fills ∙ ap tolerance (sym did.moved.shape)) (pending t) refusal why;
       })
     where
@@ -287,7 +287,7 @@ module _ (tells : Type 0) (given : Given) (tape tape' : List Operation) (scope :
 module _ (tells : Type 0) (given : Given) (tape tape' : List Operation) (scope : Scope) (first : ℕ) (entries : List Entry) (old new : Members) (carried : ℕ → ℕ → Bool)
     (resync : Option ℕ) (course : Course) (buffer : List ℕ) (left : ℕ) (who : Who) (end roles spares : ℕ)
     (was : IsMoving tells given tape scope first entries old carried resync course buffer left) (does : DoWithout old) (goes : IsCallGoing entries who) (caller : IsFalse (who.caller == 254))
-    (at_end : tells → end ≡ length tape') (grows : Grows tells tape tape') (all : resync ≡ Some (mend_stripes old.newest)) (did : AreFlushed tells given tape tape' old new roles false) where
+    (at_end : tells → end ≡ length tape') (grows : Grows tells tape tape') (all : resync ≡ Some (resync_stripes old.newest)) (did : AreFlushed tells given tape tape' old new roles false) where
   -- none is pending any more
   pub resynced-moves : (steps : ℕ) → left ≡ steps + 1 → steps ≢ 0 → AreSettled tells given tape tape' old new false
       → IsMoving tells given tape' scope first (entries ++ entries_of who end (losses_of roles spares ++ Step ResyncEnded steps ∷ [])) new carried None course buffer steps

@@ -2,9 +2,9 @@ pub use Rattle.array_reshaping_invariant.specs.Moving as array_reshaping_invaria
 pub use Rattle.array_reshaping_invariant.specs.reshape_progress_Course
 pub use Rattle.array_reshaping_invariant.specs.reshape_progress_Laws
 pub use Rattle.array_reshaping_invariant.specs.reshape_progress_the_Course
-pub use Rattle.array_reshaping_invariant.specs.reshape_progress_resync_laws_Mended
+pub use Rattle.array_reshaping_invariant.specs.reshape_progress_resync_laws_Synced
 pub use Rattle.array_reshaping_invariant.specs.stripe_region_resync_Left
-pub use Rattle.array_reshaping_invariant.specs.stripe_region_resync_Mends
+pub use Rattle.array_reshaping_invariant.specs.stripe_region_resync_Resyncs
 pub use Rattle.array_reshaping_invariant.specs.stripe_region_read_Stretches
 pub use Rattle.array_reshaping_invariant.specs.stripe_region_write_Runs
 pub use Rattle.array_reshaping_invariant.specs.reshape_window_io_Fetching

@@ -2,7 +2,8 @@
 #![tactic(auto)]
 
 pub use array_reshaping_invariant::{
-    Course, Finished, begin, copy, fetch_beside, final_in, finish, finish_window, has_unnamed,
-    is_spare, list_length, mend_list, name_missing, newly_vacant, put_list, record, relied_sector,
-    resync_left, settle, shape_in, too_many, unmended, vacant_roles, zero,
+    Course, Finished, begin, copy, final_in, finish, finish_window, first_resync_refusal,
+    flush_and_mark, has_unnamed, is_spare, list_length, newly_unassigned, read_around_window,
+    record, record_missing, relied_sector, resync_left, resync_list, shape_in, too_many,
+    unassigned_roles, write_list, zero,
 };

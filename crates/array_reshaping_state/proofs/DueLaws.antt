@@ -7,7 +7,7 @@ use Rattle.reshape_progress.specs.raid_types_the_Span.{Span}
 use Rattle.reshape_progress.specs.sb_codec_the_Sb.{Sb}
 use Rattle.reshape_progress.specs.sb_specs_Reading.{is_reshaping, next_window}
 use Rattle.reshape_progress.specs.crash_views_Regions.{AreShapesFit}
-use Rattle.stripe_region_resync.specs.Mends.{mend_stripes}
+use Rattle.stripe_region_resync.specs.Mends.{resync_stripes}
 use Rattle.reshape_progress.specs.reshape_request_the_Window.{Window}
 use Rattle.reshape_progress.specs.reshape_request_the_Window_TheVariants.{Closed, Entered, Unsure}
 use Rattle.reshape_progress.specs.reshape_request_Left.{stripes_in, zeroed_by}
@@ -74,19 +74,19 @@ module _ (newest : Sb) (fit : AreShapesFit newest) (active : is_reshaping newest
       (span, inr (ap (λ (n : ℕ). course-at (Unsure span) n) (none-zeroed newest (course-at (Unsure span) zeroed) span is next)), next, refl)
 
   -- while a resync is pending
-  mending : (window : Window) → open_in window ≡ None → (mended : ℕ) → mended ≤ mend_stripes newest → (b : Bool) → nat_lt mended (mend_stripes newest) ≡ b
+  mending : (window : Window) → open_in window ≡ None → (mended : ℕ) → mended ≤ resync_stripes newest → (b : Bool) → nat_lt mended (resync_stripes newest) ≡ b
       → IsDue newest (course-at window zeroed) (Some mended) (if b then Mend else EndResync)
-  mending window aside mended most true lt = (mended, refl, below mended (mend_stripes newest) lt, aside)
-  mending window aside mended most false ge = (ap (λ (n : ℕ). Some n) (both-ways mended (mend_stripes newest) most (above mended (mend_stripes newest) ge)), aside)
+  mending window aside mended most true lt = (mended, refl, below mended (resync_stripes newest) lt, aside)
+  mending window aside mended most false ge = (ap (λ (n : ℕ). Some n) (both-ways mended (resync_stripes newest) most (above mended (resync_stripes newest) ge)), aside)
 
-  closed-due : IsCourseOf newest (course-at Closed zeroed) → (resync : Option ℕ) → IfSome resync (λ mended. mended ≤ mend_stripes newest) → IsDue newest (course-at Closed zeroed) resync (due_aside newest zeroed resync)
+  closed-due : IsCourseOf newest (course-at Closed zeroed) → (resync : Option ℕ) → IfSome resync (λ mended. mended ≤ resync_stripes newest) → IsDue newest (course-at Closed zeroed) resync (due_aside newest zeroed resync)
   closed-due is None most = between is (next_window newest) refl
-  closed-due is (Some mended) most = mending Closed refl mended most (nat_lt mended (mend_stripes newest)) refl
+  closed-due is (Some mended) most = mending Closed refl mended most (nat_lt mended (resync_stripes newest)) refl
 
-  unsure-due : (span : Span) → IsCourseOf newest (course-at (Unsure span) zeroed) → (resync : Option ℕ) → IfSome resync (λ mended. mended ≤ mend_stripes newest)
+  unsure-due : (span : Span) → IsCourseOf newest (course-at (Unsure span) zeroed) → (resync : Option ℕ) → IfSome resync (λ mended. mended ≤ resync_stripes newest)
       → IsDue newest (course-at (Unsure span) zeroed) resync (due_aside newest zeroed resync)
   unsure-due span is None most = again span is (next_window newest) refl
-  unsure-due span is (Some mended) most = mending (Unsure span) refl mended most (nat_lt mended (mend_stripes newest)) refl
+  unsure-due span is (Some mended) most = mending (Unsure span) refl mended most (nat_lt mended (resync_stripes newest)) refl
 
   -- in an entered window
   inside : (span : Span) (copied : ℕ) (sectioned : Bool) (resync : Option ℕ) → IsCourseOf newest (course-at (Entered span copied sectioned) zeroed) → (b : Bool) → nat_lt copied (stripes_in newest span) ≡ b
@@ -111,11 +111,11 @@ module _ (newest : Sb) (fit : AreShapesFit newest) (active : is_reshaping newest
         next,
       )
 
-  window-due : (window : Window) (resync : Option ℕ) → IsCourseOf newest (course-at window zeroed) → IfSome resync (λ mended. mended ≤ mend_stripes newest) → IsDue newest (course-at window zeroed) resync (due_in newest window zeroed resync)
+  window-due : (window : Window) (resync : Option ℕ) → IsCourseOf newest (course-at window zeroed) → IfSome resync (λ mended. mended ≤ resync_stripes newest) → IsDue newest (course-at window zeroed) resync (due_in newest window zeroed resync)
   window-due Closed resync is most = closed-due is resync most
   window-due (Entered span copied sectioned) resync is most = inside span copied sectioned resync is (nat_lt copied (stripes_in newest span)) refl
   window-due (Unsure span) resync is most = unsure-due span is resync most
 
-pub due-is : (newest : Sb) (course : Course) (resync : Option ℕ) → AreShapesFit newest → is_reshaping newest ≡ true → IsCourseOf newest course → IfSome resync (λ mended. mended ≤ mend_stripes newest)
+pub due-is : (newest : Sb) (course : Course) (resync : Option ℕ) → AreShapesFit newest → is_reshaping newest ≡ true → IsCourseOf newest course → IfSome resync (λ mended. mended ≤ resync_stripes newest)
     → IsDue newest course resync (due_of newest course resync)
 due-is newest course resync fit active is most = window-due newest fit active course.zeroed course.window resync is most

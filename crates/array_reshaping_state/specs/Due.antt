@@ -7,7 +7,7 @@ use Rattle.reshape_progress.specs.reshape_request_the_Window.{Window}
 use Rattle.reshape_progress.specs.reshape_request_the_Window_TheVariants.{Closed, Entered, Unsure}
 use Rattle.reshape_progress.specs.reshape_request_Left.{stripes_in, zeroed_by}
 use Rattle.reshape_progress.specs.reshape_window_steps_Zeroing.{IsThrough}
-use Rattle.stripe_region_resync.specs.Mends.{mend_stripes}
+use Rattle.stripe_region_resync.specs.Mends.{resync_stripes}
 use Rattle.reshape_progress.specs.declared.course.Course.{Course}
 use Rattle.reshape_progress.specs.Laws.{entered, closed, unsure}
 use Rattle.array_reshaping_state.specs.declared.stepping.Due.{Due}
@@ -36,7 +36,7 @@ due_between newest zeroed = if is_some (next_window newest) then Enter else if n
 -- But while a resync is pending, each stripe that it hasn't mended is, and then it ends.
 abbrev pub due_aside : Sb → ℕ → Option ℕ → Due
 due_aside newest cleared None = due_between newest cleared
-due_aside newest cleared (Some mended) = if nat_lt mended (mend_stripes newest) then Mend else EndResync
+due_aside newest cleared (Some mended) = if nat_lt mended (resync_stripes newest) then Mend else EndResync
 
 -- In an entered window each stripe is copied, and then it is recorded, whether a resync is pending or not.
 abbrev pub due_in : Sb → Window → ℕ → Option ℕ → Due
@@ -52,8 +52,8 @@ abbrev pub IsDue : Sb → Course → Option ℕ → Due → Type 0
 IsDue newest course resync Copy = (span : Span) × (copied : ℕ) × (sectioned : Bool)
     × (course ≡ entered span copied sectioned) × (next_window newest ≡ Some span) × (copied < stripes_in newest span)
 IsDue newest course resync Record = (span : Span) × (sectioned : Bool) × (course ≡ entered span (stripes_in newest span) sectioned) × (next_window newest ≡ Some span)
-IsDue newest course resync Mend = (mended : ℕ) × (resync ≡ Some mended) × (mended < mend_stripes newest) × (open_in course.window ≡ None)
-IsDue newest course resync EndResync = (resync ≡ Some (mend_stripes newest)) × (open_in course.window ≡ None)
+IsDue newest course resync Mend = (mended : ℕ) × (resync ≡ Some mended) × (mended < resync_stripes newest) × (open_in course.window ≡ None)
+IsDue newest course resync EndResync = (resync ≡ Some (resync_stripes newest)) × (open_in course.window ≡ None)
 IsDue newest course resync Enter = (span : Span) × ((course ≡ closed 0) ⊎ (course ≡ unsure span)) × (next_window newest ≡ Some span) × (resync ≡ None)
 IsDue newest course resync Zero = (course ≡ closed course.zeroed) × (course.zeroed < zeroed_by newest) × IsThrough newest × (resync ≡ None)
 IsDue newest course resync Finish = (course ≡ closed (zeroed_by newest)) × IsThrough newest × (resync ≡ None)

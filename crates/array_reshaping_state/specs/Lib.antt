@@ -11,7 +11,7 @@ pub use Rattle.reshape_progress.specs.reshape_begin_end_Begun
 pub use Rattle.reshape_progress.specs.reshape_sb_updates_Beginning
 pub use Rattle.reshape_progress.specs.reshape_window_steps_Zeroing
 pub use Rattle.stripe_region_resync.specs.Left as stripe_region_resync_Left
-pub use Rattle.stripe_region_resync.specs.Mends as stripe_region_resync_Mends
+pub use Rattle.stripe_region_resync.specs.Mends as stripe_region_resync_Resyncs
 pub use Rattle.stripe_region_resync.specs.declared.stripes.Stripe as stripe_region_resync_the_Stripe
 pub use Rattle.stripe_region_resync.specs.stripe_region_write_Runs
 pub use Rattle.stripe_region_resync.specs.sb_safe_updates_First

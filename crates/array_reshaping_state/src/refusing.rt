@@ -14,7 +14,9 @@ ghost use Rattle.array_reshaping_state.specs.First.{list_refusal, IsUnreadAround
 use crate::windows::part_in;
 use array_call_specs::{Refusal, Span};
 use reshape_progress::Members;
-use stripe_region_resync::{runs_of, stretch_at, too_many_of, unread_list, unwritten_runs};
+use stripe_region_resync::{
+    first_list_refusal, first_runs_refusal, runs_of, stretch_at, too_many_of,
+};
 
 // The refusal of the first of so many sectors from this one on of whose shape more roles are missing than it tolerates.
 fn lacking_from(members: &Members, first: u64, count: u64) -> Option<Refusal>
@@ -53,17 +55,17 @@ fn unread_beside(
     ensures { MatchOption result ((x : ℕ) → from ≤ x → x < to → covers hidden x ≡ false → IsLacked relied members.now x → ⊥) (IsUnreadAround hidden relied from to members.now) }
 {
     let part = part_in(hidden, from, to);
-    let refusal = unread_list(members, from, part.lo, relied);
+    let refusal = first_list_refusal(members, from, part.lo, relied);
     if refusal.is_some() {
         return refusal;
     }
-    unread_list(members, part.hi, to, relied)
+    first_list_refusal(members, part.hi, to, relied)
 }
 
 /// Why so many sectors from one on aren't read, before any is: `PastEnd`, or else `TooManyMissing` of the first of them of whose shape too
 /// many roles are missing, be it in the open window or not, or else `NotResynced` of one whose role is missing, outside the window whose
 /// sectors the buffer has, and behind sector `relied`, up to which parity is to be relied on.
-pub fn unread_from(
+pub fn first_read_refusal_from(
     members: &Members,
     hidden: Option<Span>,
     visible: u64,
@@ -91,7 +93,7 @@ pub fn unread_from(
 /// Why so many sectors from one on aren't written, before any row is read: `PastEnd`, or else `TooManyMissing` of the first of them of whose
 /// shape too many roles are missing, be it in the open window or not, or else `NotResynced` of the lowest missing role that has data in the
 /// shape of one of them outside the open window, if there is one, and behind sector `relied`, up to which parity is to be relied on.
-pub fn unwritten_from(
+pub fn first_write_refusal_from(
     members: &Members,
     window: Option<Span>,
     visible: u64,
@@ -115,5 +117,5 @@ pub fn unwritten_from(
         return refusal;
     }
     let cut = runs_of(members, window, at, at + count, relied);
-    unwritten_runs(members, &cut.low, &cut.high)
+    first_runs_refusal(members, &cut.low, &cut.high)
 }

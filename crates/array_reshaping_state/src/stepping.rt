@@ -3,13 +3,13 @@
 ghost use Rattle.std.specs.Prelude.{◌≡◌, ◌≤◌, true, IfSome};
 ghost use Rattle.reshape_progress.specs.sb_specs_Reading.{is_reshaping};
 ghost use Rattle.reshape_progress.specs.crash_views_Regions.{AreShapesFit};
-ghost use Rattle.stripe_region_resync.specs.Mends.{mend_stripes};
+ghost use Rattle.stripe_region_resync.specs.Mends.{resync_stripes};
 ghost use Rattle.reshape_progress.specs.Course.{IsCourseOf};
 ghost use Rattle.array_reshaping_state.specs.Due.{due_between, due_aside, due_of, IsDue};
 
 use crate::reshape::{next_window_of, stripes_to_zero, window_stripes};
 use reshape_progress::{Course, Members, Window};
-use stripe_region_resync::stripes::mend_stripes;
+use stripe_region_resync::stripes::resync_stripes;
 
 /// A step of an array between the begin of its reshape and the end, or the end: a stripe of the entered window is copied, the window is
 /// recorded, the next stripe of a pending resync is mended, the resync ends, the next window is entered, a stripe behind the list is zeroed, or
@@ -49,7 +49,7 @@ fn due_aside(members: &Members, zeroed: u64, resync: Option<u64>) -> Due
     match resync {
         None => due_between(members, zeroed),
         Some(mended) => {
-            if mended < mend_stripes(members) {
+            if mended < resync_stripes(members) {
                 Due::Mend
             } else {
                 Due::EndResync
@@ -86,7 +86,7 @@ pub fn due_step(members: &Members, course: &Course, resync: Option<u64>) -> Due
     requires fit { AreShapesFit members.now.newest }
     requires active { is_reshaping members.now.newest ≡ true }
     requires course { IsCourseOf members.now.newest course.now }
-    requires progress { IfSome resync (λ mended. mended ≤ mend_stripes members.now.newest) }
+    requires progress { IfSome resync (λ mended. mended ≤ resync_stripes members.now.newest) }
     ensures value { result ≡ due_of members.now.newest course.now resync }
     ensures ready { IsDue members.now.newest course.now resync result }
 {

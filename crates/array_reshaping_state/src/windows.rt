@@ -24,7 +24,7 @@ pub fn open_span(course: &Course) -> Option<Span>
 }
 
 /// The span whose sectors are had from the buffer alone: that of an entered window whose section is stored.
-pub fn hidden_span(course: &Course) -> Option<Span>
+pub fn backed_up_span(course: &Course) -> Option<Span>
     ensures { result ≡ hidden_in course.now.window }
 {
     match course.window {
@@ -38,7 +38,7 @@ pub fn hidden_span(course: &Course) -> Option<Span>
 }
 
 /// The span of the next window, where the backup may name its section or not.
-pub fn unsure_span(course: &Course) -> Option<Span>
+pub fn uncertain_span(course: &Course) -> Option<Span>
     ensures { result ≡ unsure_in course.now.window }
 {
     match course.window {

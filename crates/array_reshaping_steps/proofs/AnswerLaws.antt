@@ -33,7 +33,7 @@ use Rattle.array_fixed_invariant.proofs.Resync.{not-zero}
 use Rattle.array_reshaping.specs.array_specs_Parts.{left_in}
 use Rattle.array_reshaping.proofs.array_specs_Called.{not_254}
 use Rattle.array_reshaping.specs.array_reshaping_laws_Ready.{IsReady}
-use Rattle.array_reshaping.proofs.array_reshaping_laws_MendLaws.{left-some}
+use Rattle.array_reshaping.proofs.array_reshaping_laws_ResyncLaws.{left-some}
 use Rattle.array_reshaping.proofs.array_specs_Lengths.{IsLengthKept, alone-keeps}
 use Rattle.array_reshaping_steps.specs.Replies.{IsUnmendableNow, IsEndedInReshape, IsReplyInReshape}
 

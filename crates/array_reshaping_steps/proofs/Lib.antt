@@ -1,5 +1,5 @@
 pub mod AnswerLaws
-pub use Rattle.array_reshaping.proofs.reshape_progress_resync_laws_Mended
+pub use Rattle.array_reshaping.proofs.reshape_progress_resync_laws_Synced
 pub use Rattle.array_reshaping.proofs.array_reshaping_invariant_BegunCall
 pub use Rattle.array_reshaping.proofs.array_reshaping_invariant_BegunMembers
 pub use Rattle.array_reshaping.proofs.array_reshaping_invariant_Refusals
@@ -7,7 +7,7 @@ pub use Rattle.array_reshaping.proofs.array_reshaping_invariant_Resting
 pub use Rattle.array_reshaping.proofs.array_reshaping_invariant_Staying
 pub use Rattle.array_reshaping.proofs.array_reshaping_invariant_Steps
 pub use Rattle.array_reshaping.proofs.array_reshaping_laws_Kept
-pub use Rattle.array_reshaping.proofs.array_reshaping_laws_MendLaws
+pub use Rattle.array_reshaping.proofs.array_reshaping_laws_ResyncLaws
 pub use Rattle.array_reshaping.proofs.array_reshaping_state_DueLaws
 pub use Rattle.array_reshaping.proofs.array_reshaping_state_ReshapeLaws
 pub use Rattle.array_reshaping.proofs.array_specs_Called

@@ -6,7 +6,7 @@ ghost use Rattle.array_reshaping.specs.history_invariant_Recorded.{IsCallGoing};
 ghost use Rattle.array_reshaping.specs.array_specs_Calls.{IsCalled};
 ghost use Rattle.array_reshaping_steps.specs.Replies.{IsReplyInReshape};
 
-use array_fixed_invariant::{Who, enter};
+use array_fixed_invariant::{Who, append_entry};
 use array_reshaping::{Bank, Event, Moving, check_going};
 
 /// Answers a request for steps: how many were done and what refused one. It makes no device call, and takes no memory.
@@ -29,6 +29,6 @@ pub fn answer<B: Bank>(moving: Moving<B>, who: Who, event: Event) -> Moving<B>
     pieces.steps -= 1;
     check_going(&pieces.epoch.entries, who);
     let end = pieces.bank.ops();
-    enter(&mut pieces.epoch, who, end, event);
+    append_entry(&mut pieces.epoch, who, end, event);
     Moving::of_pieces(pieces, backup, course, window)
 }

@@ -10,7 +10,7 @@ ghost use Rattle.array_reshaping.specs.history_invariant_Recorded.{IsCallGoing};
 ghost use Rattle.array_reshaping.specs.array_specs_Calls.{IsCalled};
 ghost use Rattle.array_reshaping.specs.array_reshaping_laws_Writing.{IsRefusedAlone};
 
-use array_fixed_invariant::{Fault, Refusal, Who, enter};
+use array_fixed_invariant::{Fault, Refusal, Who, append_entry};
 use array_reshaping::{Bank, Event, Moving, check_going, clear_window};
 
 /// Tries to make the header of an unsure window plain. It is refused `BackupFault`, and nothing is written: the backup failed when the
@@ -36,6 +36,6 @@ pub fn clear<B: Bank>(moving: &mut Moving<B>, who: Who) -> Result<(), Fault>
     };
     let refusal = Refusal::BackupFault;
     let end = moving.bank.ops();
-    enter(&mut moving.epoch, who, end, Event::Refused { refusal });
+    append_entry(&mut moving.epoch, who, end, Event::Refused { refusal });
     Err(Fault::Refused(refusal))
 }

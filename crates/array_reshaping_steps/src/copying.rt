@@ -27,10 +27,10 @@ ghost use Rattle.array_reshaping.specs.history_invariant_Recorded.{IsCallGoing};
 ghost use Rattle.array_reshaping.specs.array_specs_Parts.{left_in};
 ghost use Rattle.array_reshaping.specs.array_specs_Calls.{IsCalled, IsStepTaken, IsCopyDue};
 
-use array_fixed_invariant::{Fault, Refusal, Span, Who, enter, enter_behind};
+use array_fixed_invariant::{Fault, Refusal, Span, Who, append_after_losses, append_entry};
 use array_reshaping::{
     Bank, Event, Members, Moving, StepKind, Window, all_left, check_going, copy, final_in,
-    newly_vacant, stripe_to_copy, too_many, vacant_roles,
+    newly_unassigned, stripe_to_copy, too_many, unassigned_roles,
 };
 
 // The roles and the spares that were lost in a step, and why it wasn't done.
@@ -79,7 +79,7 @@ fn copy_next<B: Bank>(
     ensures counts { NeverFalls (B.faults_of bank.old) (B.faults_of bank.new) }
 {
     let count = members.roles.len() as u32;
-    let before = vacant_roles(members, count);
+    let before = unassigned_roles(members, count);
     let shape = final_in(members);
     let stripe = stripe_to_copy(members, span, copied);
     let width = 512 * (span.hi - span.lo) as usize;
@@ -93,7 +93,7 @@ fn copy_next<B: Bank>(
         scratch,
     );
     Moved {
-        roles: newly_vacant(members, count, before),
+        roles: newly_unassigned(members, count, before),
         spares: done.spares,
         refusal: done.refusal,
     }
@@ -119,7 +119,7 @@ pub fn copy_stripe<B: Bank>(moving: &mut Moving<B>, who: Who) -> Result<(), Faul
     check_going(&moving.epoch.entries, who);
     if let Some(refusal) = too_many(&moving.members) {
         let end = moving.bank.ops();
-        enter(&mut moving.epoch, who, end, Event::Refused { refusal });
+        append_entry(&mut moving.epoch, who, end, Event::Refused { refusal });
         return Err(Fault::Refused(refusal));
     }
     let Window::Entered {
@@ -141,7 +141,7 @@ pub fn copy_stripe<B: Bank>(moving: &mut Moving<B>, who: Who) -> Result<(), Faul
     let end = moving.bank.ops();
     if let Some(refusal) = moved.refusal {
         let event = Event::Refused { refusal };
-        enter_behind(
+        append_after_losses(
             &mut moving.epoch,
             who,
             end,
@@ -159,7 +159,7 @@ pub fn copy_stripe<B: Bank>(moving: &mut Moving<B>, who: Who) -> Result<(), Faul
     let kind = StepKind::Copied;
     let left = all_left(&moving.members, &moving.work, &moving.course, &moving.ahead);
     let event = Event::Step { kind, left };
-    enter_behind(
+    append_after_losses(
         &mut moving.epoch,
         who,
         end,

@@ -14,7 +14,7 @@ ghost use Rattle.array_reshaping.specs.array_specs_Parts.{left_in};
 ghost use Rattle.array_reshaping.specs.array_specs_Calls.{IsCalled, IsStepTaken, IsEnterDue, IsEnterCaused, IsNextOpen, IsNextUnsure};
 
 use crate::clearing::clear;
-use array_fixed_invariant::{Fault, Who, enter, enter_behind};
+use array_fixed_invariant::{Fault, Who, append_after_losses, append_entry};
 use array_reshaping::{
     Bank, Course, Event, Members, Moving, StepKind, Window, all_left, check_going, enter_next,
     is_window_critical, list_sectors, next_window_of, too_many,
@@ -60,7 +60,7 @@ fn enter_sure<B: Bank>(moving: &mut Moving<B>, who: Who) -> Result<(), Fault>
     check_going(&moving.epoch.entries, who);
     if let Some(refusal) = too_many(&moving.members) {
         let end = moving.bank.ops();
-        enter(&mut moving.epoch, who, end, Event::Refused { refusal });
+        append_entry(&mut moving.epoch, who, end, Event::Refused { refusal });
         return Err(Fault::Refused(refusal));
     }
     let Some(span) = next_window_of(&moving.members) else {
@@ -83,7 +83,7 @@ fn enter_sure<B: Bank>(moving: &mut Moving<B>, who: Who) -> Result<(), Fault>
     moving.course.window = tried.window;
     if let Some(refusal) = tried.refusal {
         let event = Event::Refused { refusal };
-        enter_behind(
+        append_after_losses(
             &mut moving.epoch,
             who,
             end,
@@ -96,7 +96,7 @@ fn enter_sure<B: Bank>(moving: &mut Moving<B>, who: Who) -> Result<(), Fault>
     let kind = StepKind::Entered;
     let left = all_left(&moving.members, &moving.work, &moving.course, &moving.ahead);
     let event = Event::Step { kind, left };
-    enter_behind(
+    append_after_losses(
         &mut moving.epoch,
         who,
         end,

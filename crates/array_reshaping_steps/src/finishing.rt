@@ -24,7 +24,7 @@ ghost use Rattle.array_reshaping.specs.reshape_window_rows_Copies.{tail_of, IsCo
 ghost use Rattle.array_reshaping.specs.reshape_window_io_Finishing.{IsOfRest, AreStripesCopied, IsOpenWindow};
 ghost use Rattle.array_reshaping.specs.array_call_specs_Calls.{IsCausedBy};
 ghost use Rattle.array_reshaping.specs.history_invariant_Recorded.{IsCallGoing};
-ghost use Rattle.array_reshaping.specs.stripe_region_resync_Mends.{relied_sector};
+ghost use Rattle.array_reshaping.specs.stripe_region_resync_Resyncs.{relied_sector};
 ghost use Rattle.array_reshaping.specs.reshape_progress_Laws.{closed};
 ghost use Rattle.array_reshaping.specs.array_specs_Parts.{left_in};
 ghost use Rattle.array_reshaping.specs.array_reshaping_invariant_Moving.{IsWindowStanding};
@@ -32,10 +32,10 @@ ghost use Rattle.array_reshaping.specs.array_reshaping_state_Due.{open_in};
 ghost use Rattle.array_reshaping.specs.array_specs_Calls.{moving_world, IsCalled, IsStepTaken};
 ghost use Rattle.array_reshaping.specs.array_reshaping_laws_Writing.{IsWindowOpen, steps_in};
 
-use array_fixed_invariant::{Fault, Refusal, Span, Who, enter, enter_behind};
+use array_fixed_invariant::{Fault, Refusal, Span, Who, append_after_losses, append_entry};
 use array_reshaping::{
     Bank, Course, Event, Members, Moving, StepKind, Window, all_left, check_going, final_in,
-    finish_window, newly_vacant, too_many, vacant_roles,
+    finish_window, newly_unassigned, too_many, unassigned_roles,
 };
 
 // The roles and the spares that were lost as a window was finished, how many of its stripes are copied, and why it isn't.
@@ -91,12 +91,12 @@ fn finish_rest<B: Bank>(
     ensures counts { NeverFalls (B.faults_of bank.old) (B.faults_of bank.new) }
 {
     let count = members.roles.len() as u32;
-    let before = vacant_roles(members, count);
+    let before = unassigned_roles(members, count);
     let shape = final_in(members);
     let width = 512 * (span.hi - span.lo) as usize;
     let done = finish_window(members, bank, &shape, span, from, &window[..width], scratch);
     Rest {
-        roles: newly_vacant(members, count, before),
+        roles: newly_unassigned(members, count, before),
         copied: done.copied,
         spares: done.spares,
         refusal: done.refusal,
@@ -128,7 +128,7 @@ pub fn finish_open<B: Bank>(moving: &mut Moving<B>, who: Who) -> Result<(), Faul
     check_going(&moving.epoch.entries, who);
     if let Some(refusal) = too_many(&moving.members) {
         let end = moving.bank.ops();
-        enter(&mut moving.epoch, who, end, Event::Refused { refusal });
+        append_entry(&mut moving.epoch, who, end, Event::Refused { refusal });
         return Err(Fault::Refused(refusal));
     }
     let Window::Entered {
@@ -150,7 +150,7 @@ pub fn finish_open<B: Bank>(moving: &mut Moving<B>, who: Who) -> Result<(), Faul
     let end = moving.bank.ops();
     if let Some(refusal) = rest.refusal {
         let event = Event::Refused { refusal };
-        enter_behind(&mut moving.epoch, who, end, rest.roles, rest.spares, event);
+        append_after_losses(&mut moving.epoch, who, end, rest.roles, rest.spares, event);
         return Err(Fault::Refused(refusal));
     }
     moving.course = Course {
@@ -160,6 +160,6 @@ pub fn finish_open<B: Bank>(moving: &mut Moving<B>, who: Who) -> Result<(), Faul
     let kind = StepKind::WindowFinished;
     let left = all_left(&moving.members, &moving.work, &moving.course, &moving.ahead);
     let event = Event::Step { kind, left };
-    enter_behind(&mut moving.epoch, who, end, rest.roles, rest.spares, event);
+    append_after_losses(&mut moving.epoch, who, end, rest.roles, rest.spares, event);
     Ok(())
 }

@@ -10,10 +10,10 @@ ghost use Rattle.array_reshaping.specs.reshape_progress_Laws.{closed};
 ghost use Rattle.array_reshaping.specs.array_specs_Parts.{left_in};
 ghost use Rattle.array_reshaping.specs.array_specs_Calls.{IsCalled, IsStepTaken, IsRecordDue};
 
-use array_fixed_invariant::{Fault, Who, enter, enter_behind};
+use array_fixed_invariant::{Fault, Who, append_after_losses, append_entry};
 use array_reshaping::{
-    Bank, Course, Event, Moving, StepKind, Window, all_left, check_going, newly_vacant, record,
-    too_many, vacant_roles,
+    Bank, Course, Event, Moving, StepKind, Window, all_left, check_going, newly_unassigned, record,
+    too_many, unassigned_roles,
 };
 
 /// A step of the reshape: the open window, whose stripes are all copied, is recorded. Refusals: `TooManyMissing`. It takes no
@@ -37,7 +37,7 @@ pub fn record_window<B: Bank>(moving: &mut Moving<B>, who: Who) -> Result<(), Fa
     check_going(&moving.epoch.entries, who);
     if let Some(refusal) = too_many(&moving.members) {
         let end = moving.bank.ops();
-        enter(&mut moving.epoch, who, end, Event::Refused { refusal });
+        append_entry(&mut moving.epoch, who, end, Event::Refused { refusal });
         return Err(Fault::Refused(refusal));
     }
     let Window::Entered {
@@ -49,13 +49,13 @@ pub fn record_window<B: Bank>(moving: &mut Moving<B>, who: Who) -> Result<(), Fa
         unreachable!()
     };
     let count = moving.members.roles.len() as u32;
-    let before = vacant_roles(&moving.members, count);
+    let before = unassigned_roles(&moving.members, count);
     let done = record(&mut moving.members, &mut moving.bank, &span);
-    let roles = newly_vacant(&moving.members, count, before);
+    let roles = newly_unassigned(&moving.members, count, before);
     let end = moving.bank.ops();
     if let Some(refusal) = done.refusal {
         let event = Event::Refused { refusal };
-        enter_behind(&mut moving.epoch, who, end, roles, done.spares, event);
+        append_after_losses(&mut moving.epoch, who, end, roles, done.spares, event);
         return Err(Fault::Refused(refusal));
     }
     moving.course = Course {
@@ -65,6 +65,6 @@ pub fn record_window<B: Bank>(moving: &mut Moving<B>, who: Who) -> Result<(), Fa
     let kind = StepKind::Checkpointed;
     let left = all_left(&moving.members, &moving.work, &moving.course, &moving.ahead);
     let event = Event::Step { kind, left };
-    enter_behind(&mut moving.epoch, who, end, roles, done.spares, event);
+    append_after_losses(&mut moving.epoch, who, end, roles, done.spares, event);
     Ok(())
 }

@@ -7,7 +7,7 @@ ghost use Rattle.array_reshaping.specs.array_reshaping_state_Due.{due_of};
 ghost use Rattle.array_reshaping.specs.array_reshaping_state_the_Due_TheVariants.{Finish as EndsReshape};
 ghost use Rattle.array_reshaping.specs.array_specs_Parts.{left_in};
 ghost use Rattle.array_reshaping.specs.array_specs_Calls.{IsStepTaken, IsNextUnsure};
-ghost use Rattle.array_reshaping.specs.array_reshaping_laws_Mending.{IsMendCalled};
+ghost use Rattle.array_reshaping.specs.array_reshaping_laws_Resyncing.{IsResyncCalled};
 ghost use Rattle.array_reshaping.specs.array_reshaping_laws_Steps.{kind_of, resync_behind, IsMarkedBehind, IsStepCaused};
 
 use crate::copying::copy_stripe;
@@ -26,7 +26,7 @@ pub fn step<B: Bank>(moving: &mut Moving<B>, who: Who) -> Result<(), Fault>
     requires room { 1 ≤ moving.old.parts.steps }
     requires due { due_of moving.old.parts.members.newest moving.old.course moving.old.parts.work.resync ≢ EndsReshape }
     ensures entered { IsStepTaken who moving.old.parts.entries moving.new.parts.entries (kind_of (due_of moving.old.parts.members.newest moving.old.course moving.old.parts.work.resync)) (left_in moving.new.parts.work moving.new.parts.members moving.new.course moving.new.ahead) result }
-    ensures called { IsMendCalled B.tells (B.given moving.old.parts.bank) (B.tape moving.old.parts.bank) (B.tape moving.new.parts.bank) (B.faults_of moving.old.parts.bank) (B.faults_of moving.new.parts.bank) moving.old moving.new }
+    ensures called { IsResyncCalled B.tells (B.given moving.old.parts.bank) (B.tape moving.old.parts.bank) (B.tape moving.new.parts.bank) (B.faults_of moving.old.parts.bank) (B.faults_of moving.new.parts.bank) moving.old moving.new }
     ensures work { moving.new.parts.work ≡ record moving.old.parts.work {
       resync = by_answer result (resync_behind (due_of moving.old.parts.members.newest moving.old.course moving.old.parts.work.resync) moving.old.parts.work.resync) moving.old.parts.work.resync;
     } }
@@ -40,7 +40,7 @@ pub fn step<B: Bank>(moving: &mut Moving<B>, who: Who) -> Result<(), Fault>
     match due_step(&moving.members, &moving.course, moving.work.resync) {
         Due::Copy => copy_stripe(moving, who),
         Due::Record => record_window(moving, who),
-        Due::Mend => moving.mend_stripe(who),
+        Due::Mend => moving.resync_stripe(who),
         Due::EndResync => moving.end_resync(who),
         Due::Enter => enter_window(moving, who),
         Due::Zero => zero_stripe(moving, who),

@@ -10,10 +10,10 @@ ghost use Rattle.array_reshaping.specs.reshape_progress_Laws.{closed};
 ghost use Rattle.array_reshaping.specs.array_specs_Parts.{left_in};
 ghost use Rattle.array_reshaping.specs.array_specs_Calls.{IsCalled, IsStepTaken, IsZeroDue};
 
-use array_fixed_invariant::{Fault, Who, enter, enter_behind};
+use array_fixed_invariant::{Fault, Who, append_after_losses, append_entry};
 use array_reshaping::{
-    Bank, Event, Moving, StepKind, all_left, check_going, final_in, newly_vacant, stripe_to_zero,
-    too_many, vacant_roles, zero,
+    Bank, Event, Moving, StepKind, all_left, check_going, final_in, newly_unassigned,
+    stripe_to_zero, too_many, unassigned_roles, zero,
 };
 
 /// A step of the reshape, which has gone through the list, where no resync is pending: the next stripe behind it is zeroed. Refusals: `TooManyMissing`. It
@@ -38,11 +38,11 @@ pub fn zero_stripe<B: Bank>(moving: &mut Moving<B>, who: Who) -> Result<(), Faul
     check_going(&moving.epoch.entries, who);
     if let Some(refusal) = too_many(&moving.members) {
         let end = moving.bank.ops();
-        enter(&mut moving.epoch, who, end, Event::Refused { refusal });
+        append_entry(&mut moving.epoch, who, end, Event::Refused { refusal });
         return Err(Fault::Refused(refusal));
     }
     let count = moving.members.roles.len() as u32;
-    let before = vacant_roles(&moving.members, count);
+    let before = unassigned_roles(&moving.members, count);
     let shape = final_in(&moving.members);
     let zeroed = moving.course.zeroed;
     let stripe = stripe_to_zero(&moving.members, zeroed);
@@ -53,17 +53,17 @@ pub fn zero_stripe<B: Bank>(moving: &mut Moving<B>, who: Who) -> Result<(), Faul
         stripe,
         moving.buffer.as_mut_slice(),
     );
-    let roles = newly_vacant(&moving.members, count, before);
+    let roles = newly_unassigned(&moving.members, count, before);
     let end = moving.bank.ops();
     if let Some(refusal) = done.refusal {
         let event = Event::Refused { refusal };
-        enter_behind(&mut moving.epoch, who, end, roles, done.spares, event);
+        append_after_losses(&mut moving.epoch, who, end, roles, done.spares, event);
         return Err(Fault::Refused(refusal));
     }
     moving.course.zeroed = zeroed + 1;
     let kind = StepKind::Zeroed;
     let left = all_left(&moving.members, &moving.work, &moving.course, &moving.ahead);
     let event = Event::Step { kind, left };
-    enter_behind(&mut moving.epoch, who, end, roles, done.spares, event);
+    append_after_losses(&mut moving.epoch, who, end, roles, done.spares, event);
     Ok(())
 }

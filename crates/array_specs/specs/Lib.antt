@@ -8,7 +8,7 @@ pub use Rattle.array_reshaping_state.specs.reshape_progress_Course
 pub use Rattle.array_reshaping_state.specs.reshape_progress_Laws
 pub use Rattle.array_reshaping_state.specs.reshape_progress_the_Course
 pub use Rattle.array_reshaping_state.specs.stripe_region_resync_Left
-pub use Rattle.array_reshaping_state.specs.stripe_region_resync_Mends
+pub use Rattle.array_reshaping_state.specs.stripe_region_resync_Resyncs
 pub use Rattle.array_reshaping_state.specs.stripe_region_resync_the_Stripe
 pub use Rattle.history_invariant_laws.specs.Reliable as history_invariant_laws_Reliable
 pub use Rattle.array_reshaping_state.specs.Due as array_reshaping_state_Due

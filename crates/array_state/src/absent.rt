@@ -6,7 +6,7 @@ ghost use Rattle.sb_add_spare.specs.history_Plain.{entries_of};
 ghost use Rattle.array_call_laws.specs.history_append_Losing.{IsSameEpoch};
 ghost use Rattle.array_call_laws.specs.array_call_specs_Adopting.{opener, absent_loss, absent_losses};
 
-use array_call_laws::{Epoch, Event, LostCause, Who, enter};
+use array_call_laws::{Epoch, Event, LostCause, Who, append_entry};
 use stripe_io::{Members, Role};
 
 // The loss of this role, if it isn't whole.
@@ -27,12 +27,12 @@ fn enter_absent(epoch: &mut Epoch, members: &Members, end: u64, role: u32)
         Role::Recovering(_) => LostCause::Recovering,
         Role::Missing => LostCause::Absent,
     };
-    enter(epoch, opener, end, Event::Lost { role, cause });
+    append_entry(epoch, opener, end, Event::Lost { role, cause });
 }
 
 /// Enters the losses of the roles below `disks` that aren't whole, in order, of caller 254 at the mark `end`. It takes no
 /// memory.
-pub fn enter_all_absent(epoch: &mut Epoch, members: &Members, end: u64, disks: u32)
+pub fn append_absent(epoch: &mut Epoch, members: &Members, end: u64, disks: u32)
     requires room { 17 ≤ epoch.old.entries.room }
     requires disks { disks ≤ 16 }
     requires roles { disks ≤ length members.now.roles }

@@ -6,11 +6,11 @@ ghost use Rattle.stripe_io.specs.raid_types_Search.{count_below};
 ghost use Rattle.stripe_io.specs.sb_specs_Reading.{shape_of};
 ghost use Rattle.sb_add_spare.specs.stripe_row_Rows.{reading_of};
 ghost use Rattle.sb_add_spare.specs.array_members_Whole.{list_size};
-ghost use Rattle.sb_add_spare.specs.array_members_Placed.{places_of, is_vacant};
+ghost use Rattle.sb_add_spare.specs.array_members_Placed.{places_of, is_unassigned};
 ghost use Rattle.sb_add_spare.specs.array_members_Status.{stripes_of, spare_count, recovery_left, left_of};
 
 use array_call_laws::{NoMemory, RoleList, SlotList};
-use sb_add_spare::{Work, is_spare, is_vacant, list_length, shape_in};
+use sb_add_spare::{Work, is_spare, is_unassigned, list_length, shape_in};
 use std::alloc::Global;
 use stripe_io::mending::stripes;
 use stripe_io::{Members, Role};
@@ -77,12 +77,12 @@ fn recovery_left(members: &Members, work: &Work, disks: u32) -> u64
 fn vacant_count(members: &Members, disks: u32) -> u64
     requires disks { disks ≤ 16 }
     requires roles { disks ≤ length members.now.roles }
-    ensures count { result ≡ count_below disks (is_vacant (reading_of members.now)) }
+    ensures count { result ≡ count_below disks (is_unassigned (reading_of members.now)) }
     ensures few { result ≤ 16 }
 {
     let mut count = 0;
     for role in 0..disks {
-        if is_vacant(members, role) {
+        if is_unassigned(members, role) {
             count += 1;
         }
     }

@@ -15,7 +15,7 @@ use Rattle.array.specs.array_reshaping_state_the_Due.{Due}
 use Rattle.array.specs.array_reshaping_state_the_Due_TheVariants.{Finish}
 use Rattle.array.specs.array_specs_Parts.{RunningParts, left_in}
 use Rattle.array.specs.array_specs_Calls.{IsCalled}
-use Rattle.array.specs.array_reshaping_laws_Mending.{IsMendCalled}
+use Rattle.array.specs.array_reshaping_laws_Resyncing.{IsResyncCalled}
 use Rattle.array.specs.array_reshaping_laws_Steps.{kind_of}
 use Rattle.array.specs.array_reply_specs_Replies.{IsRefusalBy}
 use Rattle.array.specs.array_reply_specs_Going.{is_finish}
@@ -30,7 +30,7 @@ use Rattle.array_steps.proofs.Own.{step-entries}
 use Rattle.array.proofs.Answered.{left-moving}
 
 pub moved-did : {B : Type 0} (tells : Type 0) (given : B → Given) (tape : B → List Operation) (faults : B → ℕ → ℕ) (old new : RunningParts B)
-    → IsMendCalled tells (given old.parts.bank) (tape old.parts.bank) (tape new.parts.bank) (faults old.parts.bank) (faults new.parts.bank) old new → given new.parts.bank ≡ given old.parts.bank
+    → IsResyncCalled tells (given old.parts.bank) (tape old.parts.bank) (tape new.parts.bank) (faults old.parts.bank) (faults new.parts.bank) old new → given new.parts.bank ≡ given old.parts.bank
     → is_reshaping old.parts.members.newest ≡ true → is_reshaping new.parts.members.newest ≡ true → IsPlainStep tells given tape faults (Held old.parts.members) old new
 moved-did tells given tape faults old new was given_is active later = record {
   long = long-same old (record new { parts = record new.parts { work = old.parts.work } }) was.same;
@@ -53,7 +53,7 @@ due-kind due left none = refl
 
 module _ {B : Type 0} (tells : Type 0) (given : B → Given) (tape : B → List Operation) (faults : B → ℕ → ℕ) (who : Who) (old new : RunningParts B) (goes : IsCallGoing old.parts.entries who)
     (active : is_reshaping old.parts.members.newest ≡ true) (later : is_reshaping new.parts.members.newest ≡ true) where
-  pub moved-done : (due : Due) → due ≢ Finish → IsMendCalled tells (given old.parts.bank) (tape old.parts.bank) (tape new.parts.bank) (faults old.parts.bank) (faults new.parts.bank) old new → given new.parts.bank ≡ given old.parts.bank
+  pub moved-done : (due : Due) → due ≢ Finish → IsResyncCalled tells (given old.parts.bank) (tape old.parts.bank) (tape new.parts.bank) (faults old.parts.bank) (faults new.parts.bank) old new → given new.parts.bank ≡ given old.parts.bank
       → IsBehind who old.parts.entries new.parts.entries (Step (kind_of due) (left_in new.parts.work new.parts.members new.course new.ahead))
       → left_in new.parts.work new.parts.members new.course new.ahead + 1 ≡ left_in old.parts.work old.parts.members old.course old.ahead → IsStepDone tells given tape faults who old new false
   moved-done due ne was given_is behind one =

@@ -18,7 +18,7 @@ use Rattle.array.specs.history_the_StepKind.{StepKind}
 use Rattle.array.specs.history_the_StepKind_TheVariants.{Finished, RebuildTaken, RebuildStripe, RebuildEnded, ResyncStripe, ResyncEnded}
 use Rattle.array.specs.array_members_the_Work.{Work}
 use Rattle.array.specs.stripe_row_Rows.{reading_of}
-use Rattle.array.specs.array_members_Placed.{is_vacant}
+use Rattle.array.specs.array_members_Placed.{is_unassigned}
 use Rattle.array.specs.array_members_Rebuilding.{Held}
 use Rattle.array.specs.array_members_Status.{stripes_of, rebuilt_of, left_of}
 use Rattle.array.specs.array_call_specs_Calls.{AreHeldOrSpare, AreStepsFewer, IsBehind, IsBehindAll, IsLossBy, IsRebuildStepped, IsRefusedFor, WasSpare}
@@ -46,7 +46,7 @@ use Rattle.array.proofs.Closed.{given-vacant}
 due-failed : (work : Work) (m : Members) (f g : ℕ → ℕ) (Was : ℕ → Type 0) → 0 < left_of work m → (event : Event) → IsLossBy (IsHeldOrDue work m) Was f g event → IsHolderFailed m f g event
 due-failed work m f g Was some (Lost role ByFault) loss = λ slot here. by slot here loss.0 loss.1 loss.2
   where
-    none-held : (slot : ℕ) → is_vacant (reading_of m) (rebuilt_role m) ≡ true → Held m (rebuilt_role m) slot → ⊥
+    none-held : (slot : ℕ) → is_unassigned (reading_of m) (rebuilt_role m) ≡ true → Held m (rebuilt_role m) slot → ⊥
     none-held slot vacant held = absurd (let clash : false ≡ true = sym (ap (λ (o : Option ℕ). not (is_some o)) held) ∙ vacant in cc)
 
     by : (slot : ℕ) → Held m role slot → (had : ℕ) → IsHeldOrDue work m role had → IsFaulted had f g → IsFaulted slot f g

@@ -18,7 +18,7 @@ use Rattle.array.specs.reshape_request_the_Window.{Window}
 use Rattle.array.specs.reshape_request_the_Window_TheVariants.{Closed, Entered, Unsure}
 use Rattle.array.specs.reshape_request_the_PhasesLeft.{PhasesLeft}
 use Rattle.array.specs.reshape_request_Left.{stripes_in, zeroed_by, phases_of}
-use Rattle.array.specs.stripe_region_resync_Mends.{mend_shape, IsNotMended}
+use Rattle.array.specs.stripe_region_resync_Resyncs.{resync_shape, IsNotSynced}
 use Rattle.array.specs.reshape_progress_the_Course.{Course}
 use Rattle.array.specs.array_reshaping_state_Due.{due_in, due_of}
 use Rattle.array.specs.array_reshaping_state_the_Due.{Due}
@@ -164,13 +164,13 @@ backup-failed T Enter resync backup old new before now pending (inl many) = no-m
 backup-failed T Enter resync backup old new before now pending (inr failed) = failed.1
 backup-failed T Mend resync backup old new before now pending was = by resync (pending refl) was
   where
-    none : (shape : Shape) → IsNotMended shape new BackupFault → IfSome backup (λ slot. IsFaulted slot before now)
+    none : (shape : Shape) → IsNotSynced shape new BackupFault → IfSome backup (λ slot. IsFaulted slot before now)
     none shape (inl many) = no-many new (IfSome backup (λ slot. IsFaulted slot before now)) many
     none shape (inr lacks) = absurd (let e = lacks.1.1 in cc)
 
     by : (o : Option ℕ) → IsSome o → IsStepCaused {T = T} Mend o backup old new before now (Err (IsRefusedWith BackupFault)) → IfSome backup (λ slot. IsFaulted slot before now)
     by None some was = absurd (cc)
-    by (Some mended) some was = none (mend_shape old.newest mended) (was mended refl).1
+    by (Some mended) some was = none (resync_shape old.newest mended) (was mended refl).1
 backup-failed T due resync backup old new before now pending was = no-many new (IfSome backup (λ slot. IsFaulted slot before now)) was.1
 
 moved-cause : (T : Type 0) (newest : Sb) (course : Course) (work : Work) (resync backup : Option ℕ) (old new : Members) (before now : ℕ → ℕ) (refusal : Refusal) → IsSome backup

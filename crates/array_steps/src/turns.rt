@@ -29,7 +29,7 @@ pub(crate) fn own_step<B: Bank>(array: &mut Running<B>, who: Who) -> Result<bool
     ensures on { result ≢ Ok true }
     ensures room { array.new.parts.steps + 1 ≡ array.old.parts.steps }
 {
-    match array.mend_or_rebuild(who) {
+    match array.resync_or_rebuild(who) {
         Ok(()) => Ok(false),
         Err(Fault::Refused(refusal)) => Err(refusal),
         Err(Fault::NoMemory) => unreachable!(),

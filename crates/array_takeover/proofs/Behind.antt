@@ -28,7 +28,7 @@ use Rattle.array_fixed_io.specs.crash_safety_laws_Steady.{AreUnlost}
 use Rattle.array_fixed_io.proofs.crash_safety_laws_PlannedRoles.{planned-held, held-planned}
 use Rattle.array_fixed_io.specs.array_members_Lacking.{AreLostSince, HaveFailedSince}
 use Rattle.array_fixed_io.specs.array_members_Moving.{IsMoved}
-use Rattle.array_fixed_io.specs.array_members_Placed.{is_vacant, IsPlaced}
+use Rattle.array_fixed_io.specs.array_members_Placed.{is_unassigned, IsPlaced}
 use Rattle.array_fixed_io.specs.array_members_Rebuilding.{AreSparesFree}
 use Rattle.array_fixed_io.proofs.array_members_Fit.{roles-still}
 use Rattle.array_fixed_io.proofs.array_members_LiveLeft.{holder-left}
@@ -156,33 +156,33 @@ module _ (given : Given) (old : Members) (to : Shape) (slot : ℕ) (placed : IsP
 
   module _ (new : Members) (roles spares : ℕ) (before after : ℕ → ℕ) (moved : IsMoved given (taken_plan old to slot) new) (failed : HaveFailedSince (taken_plan old to slot) new spares before after)
       (shape : shape_of new.newest ≡ to) (one : is_reshaping new.newest ≡ false)
-      (lost : (role : ℕ) → has_slot roles role ≡ (nat_lt role (length new.roles) && is_vacant (reading_of new) role)) where
+      (lost : (role : ℕ) → has_slot roles role ≡ (nat_lt role (length new.roles) && is_unassigned (reading_of new) role)) where
     pub count-new : role_count new.newest ≡ to.disks
     count-new = count-still new.newest one ∙ ap (λ (s : Shape). s.disks) shape
 
     -- a role that no slot holds then had one by the plan, which has failed since
     lost-held : (role : ℕ) → has_slot roles role ≡ true → (s : ℕ) × (holder (role_state (reading_of (taken_plan old to slot)) role) ≡ Some s) × IsFaulted s before after
     lost-held role has =
-        let parts = and_parts (nat_lt role (length new.roles)) (is_vacant (reading_of new) role) (sym (lost role) ∙ has) in
+        let parts = and_parts (nat_lt role (length new.roles)) (is_unassigned (reading_of new) role) (sym (lost role) ∙ has) in
         let below : role < to.disks = (let lt = lt-of role (length new.roles) parts.0 in let count = moved.placed.roles in let n = count-new in omega (arith, lt, count, n)) in
         let was = plan-holds role below in (
           was.0,
           was.1,
           elim (failed.roles role was.0 was.1) [
             | inl held ↦ absurd (
-                let there : is_vacant (reading_of new) role ≡ false = ap (λ (o : Option ℕ). not (is_some o)) held in
+                let there : is_unassigned (reading_of new) role ≡ false = ap (λ (o : Option ℕ). not (is_some o)) held in
                 let both : true ≡ false = sym parts.1 ∙ there in cc)
             | inr gone ↦ gone
           ],
         )
 
-    pub vacant-told : (role : ℕ) → role < role_count new.newest → is_vacant (reading_of new) role ≡ true → has_slot roles role ≡ true
+    pub vacant-told : (role : ℕ) → role < role_count new.newest → is_unassigned (reading_of new) role ≡ true → has_slot roles role ≡ true
     vacant-told role lt none = lost role ∙ (λ i. lt-true role (length new.roles) (let count = moved.placed.roles in omega (arith, lt, count)) i && none i)
 
     pub lost-since : AreLostSince (taken_plan old to slot) new roles spares before after
     lost-since = record {
       vacant = λ role lt none. inr (vacant-told role lt none);
-      gone = λ role has. (and_parts (nat_lt role (length new.roles)) (is_vacant (reading_of new) role) (sym (lost role) ∙ has)).1;
+      gone = λ role has. (and_parts (nat_lt role (length new.roles)) (is_unassigned (reading_of new) role) (sym (lost role) ∙ has)).1;
       held = lost-held;
       failed = failed.spares_are;
       were = failed.were;
@@ -191,7 +191,7 @@ module _ (given : Given) (old : Members) (to : Shape) (slot : ℕ) (placed : IsP
 
     pub lost-few : (role : ℕ) → IsAmong roles role → role < 16
     lost-few role has =
-        let lt = lt-of role (length new.roles) (and_parts (nat_lt role (length new.roles)) (is_vacant (reading_of new) role) (sym (lost role) ∙ has)).0 in
+        let lt = lt-of role (length new.roles) (and_parts (nat_lt role (length new.roles)) (is_unassigned (reading_of new) role) (sym (lost role) ∙ has)).0 in
         let count = moved.placed.roles in
         let few = few-roles new.newest moved.placed.fit.valid in
         omega (arith, lt, count, few)

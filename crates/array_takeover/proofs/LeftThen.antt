@@ -23,7 +23,7 @@ use Rattle.array_fixed_io.specs.history_Plain.{entries_of}
 use Rattle.array_fixed_io.specs.crash_views_Regions.{DoWithout}
 use Rattle.array_fixed_io.proofs.crash_views_Stands.{final-still}
 use Rattle.array_fixed_io.specs.array_members_the_Work.{Work}
-use Rattle.array_fixed_io.specs.array_members_Placed.{is_vacant}
+use Rattle.array_fixed_io.specs.array_members_Placed.{is_unassigned}
 use Rattle.array_fixed_io.specs.array_members_Status.{stripes_of, rebuilt_of, vacant_count, spare_count, resync_left, role_left, recovery_left, left_of}
 use Rattle.array_fixed_io.proofs.array_members_Still.{count-still}
 use Rattle.array_takeover_laws.specs.history_append_Losing.{role_loss, role_losses, spare_losses, losses_of}
@@ -64,11 +64,11 @@ no-role p roles (suc n) role tells none lt there =
     ]
 
 -- where no role's loss is told, each role that is told where no slot holds it has one
-pub quiet-held : (p : Event → Bool) (m : Members) (roles spares role : ℕ) → ((r : ℕ) → p (Lost r Fault) ≡ true) → list_any p (losses_of roles spares) ≡ false → role < 16 → (is_vacant (reading_of m) role ≡ true → has_slot roles role ≡ true)
-    → is_vacant (reading_of m) role ≡ false
-quiet-held p m roles spares role tells quiet lt told = of (is_vacant (reading_of m) role) refl
+pub quiet-held : (p : Event → Bool) (m : Members) (roles spares role : ℕ) → ((r : ℕ) → p (Lost r Fault) ≡ true) → list_any p (losses_of roles spares) ≡ false → role < 16 → (is_unassigned (reading_of m) role ≡ true → has_slot roles role ≡ true)
+    → is_unassigned (reading_of m) role ≡ false
+quiet-held p m roles spares role tells quiet lt told = of (is_unassigned (reading_of m) role) refl
   where
-    of : (b : Bool) → is_vacant (reading_of m) role ≡ b → is_vacant (reading_of m) role ≡ false
+    of : (b : Bool) → is_unassigned (reading_of m) role ≡ b → is_unassigned (reading_of m) role ≡ false
     of false is = is
     of true is = absurd (no-role p roles 16 role tells (no-both p (role_losses roles 16) (spare_losses spares 32) quiet).0 lt (told is))
 
@@ -112,16 +112,16 @@ recovery-zero work m (suc n) none =
     of (Recovering slot) is = absurd (none n slot (omega arith) is)
 
 -- no steps wait for a spare where each role has a slot
-waiting-zero : (m : Members) → ((role : ℕ) → role < (shape_of m.newest).disks → is_vacant (reading_of m) role ≡ false) → min (vacant_count m) (spare_count m) * (stripes_of m + 2) ≡ 0
+waiting-zero : (m : Members) → ((role : ℕ) → role < (shape_of m.newest).disks → is_unassigned (reading_of m) role ≡ false) → min (vacant_count m) (spare_count m) * (stripes_of m + 2) ≡ 0
 waiting-zero m full =
-    let none : vacant_count m ≡ 0 = none-counted (shape_of m.newest).disks (is_vacant (reading_of m)) (least_below-none (shape_of m.newest).disks (is_vacant (reading_of m)) full) in
+    let none : vacant_count m ≡ 0 = none-counted (shape_of m.newest).disks (is_unassigned (reading_of m)) (least_below-none (shape_of m.newest).disks (is_unassigned (reading_of m)) full) in
     ap (λ (n : ℕ). min n (spare_count m) * (stripes_of m + 2)) none ∙ of (spare_count m) (stripes_of m + 2)
   where
     of : (a b : ℕ) → min 0 a * b ≡ 0
     of a b = (let low : min 0 a ≡ 0 = omega arith in ap (λ (n : ℕ). n * b) low ∙ (omega arith))
 
 module _ (new : Members) (to : Shape) (work : Work) (shape : shape_of new.newest ≡ to) (synced : work.resync ≡ None)
-    (full : (role : ℕ) → role < to.disks → is_vacant (reading_of new) role ≡ false) where
+    (full : (role : ℕ) → role < to.disks → is_unassigned (reading_of new) role ≡ false) where
   waits : min (vacant_count new) (spare_count new) * (stripes_of new + 2) ≡ 0
   waits = waiting-zero new (λ role lt. full role (let n = ap (λ (s : Shape). s.disks) shape in omega (arith, lt, n)))
 

@@ -43,7 +43,7 @@ use Rattle.array_fixed_io.specs.array_members_the_Work.{Work}
 use Rattle.array_fixed_io.specs.array_members_Lacking.{AreLostSince, HaveFailedSince}
 use Rattle.array_fixed_io.specs.array_members_Moving.{Grows, IsMoved}
 use Rattle.array_fixed_io.specs.array_members_Numbers.{bears}
-use Rattle.array_fixed_io.specs.array_members_Placed.{is_vacant}
+use Rattle.array_fixed_io.specs.array_members_Placed.{is_unassigned}
 use Rattle.array_fixed_io.specs.array_members_Rebuilding.{AreSparesFree, Held}
 use Rattle.array_fixed_io.specs.array_members_Status.{left_of, resync_left, rebuilt_of, stripes_of}
 use Rattle.array_fixed_io.proofs.array_members_HeldRows.{missing-moved}
@@ -134,7 +134,7 @@ module _ {tells : Type 0} {given : Given} {tape tape' : List Operation} {scope :
     (goes : IsCallGoing entries who) (caller : who.caller ≢ 254) (idle : left_of work old ≡ 0) (next : IsTakeoverNext (phases_of ahead) to (phases_of behind))
     (lead : LeadTo tells (world_in given tape scope first) entries old ahead) (whole : AreNoneMissing old) (chosen : IsTakenSlot old to slot) (did : IsUpdated tells given tape tape' to slot old new spares before after)
     (at_end : tells → end ≡ length tape') (long : to.level ≡ 6 → to.disks ≤ length work.rebuilt)
-    (lost : (role : ℕ) → has_slot roles role ≡ (nat_lt role (length new.roles) && is_vacant (reading_of new) role)) where
+    (lost : (role : ℕ) → has_slot roles role ≡ (nat_lt role (length new.roles) && is_unassigned (reading_of new) role)) where
   abbrev added : List Entry
   added = entries_of who end (Step TakenOver (still_left (work_then to work) new behind) ∷ losses_of roles spares)
 
@@ -176,7 +176,7 @@ module _ {tells : Type 0} {given : Given} {tape tape' : List Operation} {scope :
 
   -- ---- the steps that are left
 
-  told : (role : ℕ) → role < to.disks → is_vacant (reading_of new) role ≡ true → has_slot roles role ≡ true
+  told : (role : ℕ) → role < to.disks → is_unassigned (reading_of new) role ≡ true → has_slot roles role ≡ true
   told role lt none =
       let n = count-new given old to slot was.kept.members_are.placed was.kept.members_are.unlost was.kept.members_are.free still sound.valid can whole new roles spares before after did.moved did.failed did.newest.shape did.newest.still lost in
       vacant-told given old to slot was.kept.members_are.placed was.kept.members_are.unlost was.kept.members_are.free still sound.valid can whole new roles spares before after did.moved did.failed did.newest.shape did.newest.still lost
@@ -184,7 +184,7 @@ module _ {tells : Type 0} {given : Given} {tape tape' : List Operation} {scope :
 
   -- each role has a slot
   abbrev AreAllHeld : Type 0
-  AreAllHeld = (role : ℕ) → role < to.disks → is_vacant (reading_of new) role ≡ false
+  AreAllHeld = (role : ℕ) → role < to.disks → is_unassigned (reading_of new) role ≡ false
 
   full : (p : Event → Bool) → ((r : ℕ) → p (Lost r Fault) ≡ true) → list_any p (losses_of roles spares) ≡ false → AreAllHeld
   full p tells quiet role lt = quiet-held p new roles spares role tells quiet (let most = (limited to sound.valid).most in omega (arith, lt, most)) (told role lt)
@@ -351,6 +351,6 @@ module _ {tells : Type 0} {given : Given} {tape tape' : List Operation} {scope :
         (all-losses (λ event. IsLossBy (Held (taken_plan old to slot)) (WasSpare (taken_plan old to slot)) before after event) who end roles spares [] since.held (λ s has. (since.were s has, since.failed s has)) (All-nil (λ e. IsLossBy (Held (taken_plan old to slot)) (WasSpare (taken_plan old to slot)) before after e.event))));
   }
 
-  pub taken-told : (role : ℕ) → role < role_count new.newest → is_vacant (reading_of new) role ≡ true → has_slot roles role ≡ true
+  pub taken-told : (role : ℕ) → role < role_count new.newest → is_unassigned (reading_of new) role ≡ true → has_slot roles role ≡ true
   taken-told role lt none = vacant-told given old to slot was.kept.members_are.placed was.kept.members_are.unlost was.kept.members_are.free still sound.valid can whole new roles spares before after did.moved did.failed did.newest.shape did.newest.still
       lost role lt none

@@ -23,7 +23,7 @@ use Rattle.reshape_sb_takeover.specs.TakingOver.{IsTakenTo, taken_plan}
 use Rattle.array_fixed_io.specs.array_members_the_Work.{Work}
 use Rattle.array_fixed_io.specs.array_members_Lacking.{HaveRolesFailed}
 use Rattle.array_fixed_io.specs.array_members_Moving.{Grows}
-use Rattle.array_fixed_io.specs.array_members_Placed.{is_vacant, AreStillHeld}
+use Rattle.array_fixed_io.specs.array_members_Placed.{is_unassigned, AreStillHeld}
 use Rattle.array_takeover_laws.specs.history_append_Losing.{losses_of}
 use Rattle.array_fixed_io.specs.array_call_specs_Calls.{AreLossesOf, AreSparesFewer, AreStepsFewer, IsEndOf, with_rebuilt}
 use Rattle.array_fixed_io.specs.reshape_request_the_PhasesLeft.{PhasesLeft}
@@ -67,7 +67,7 @@ pub record IsTakenWith (who : Who) (plan later : Members) (old new : List Entry)
   pub roles : ℕ
   pub spares : ℕ
   pub end : ℕ
-  pub roles_told : (role : ℕ) → role < role_count later.newest → is_vacant (reading_of later) role ≡ true → has_slot roles role ≡ true
+  pub roles_told : (role : ℕ) → role < role_count later.newest → is_unassigned (reading_of later) role ≡ true → has_slot roles role ≡ true
   pub spares_told : (slot : ℕ) → has_spare plan.spares slot ≡ true → (has_spare later.spares slot ≡ true) ⊎ (has_slot spares slot ≡ true)
   pub spares_were : (slot : ℕ) → has_slot spares slot ≡ true → has_spare plan.spares slot ≡ true
   pub is : new ≡ old ++ entries_of who end (Step TakenOver left ∷ losses_of roles spares)

@@ -11,7 +11,7 @@ ghost use Rattle.array_fixed_io.specs.history_the_Event_TheVariants.{Step, Refus
 ghost use Rattle.array_fixed_io.specs.history_the_StepKind_TheVariants.{TakenOver as HasTaken};
 ghost use Rattle.array_fixed_io.specs.history_Plain.{entries_of};
 ghost use Rattle.array_fixed_io.specs.crash_views_Regions.{AreShapesFit};
-ghost use Rattle.array_fixed_io.specs.array_members_Placed.{is_vacant};
+ghost use Rattle.array_fixed_io.specs.array_members_Placed.{is_unassigned};
 ghost use Rattle.array_fixed_io.specs.array_members_Status.{left_of, stripes_of};
 ghost use Rattle.array_takeover_laws.specs.history_append_Losing.{losses_of};
 ghost use Rattle.array_fixed_io.specs.array_call_specs_Kept.{scope_in};
@@ -27,9 +27,9 @@ ghost use Rattle.array_takeover.specs.TakenOver.{IsTakeoverNext, IsUntaken, IsUn
 use crate::choosing::taken_slot;
 use array_fixed_io::{
     Bank, Entries, Epoch, Event, Members, PhasesLeft, Pieces, StepKind, Still, Work, planned_left,
-    set_rebuilt, steps_left, vacant_roles,
+    set_rebuilt, steps_left, unassigned_roles,
 };
-use array_takeover_laws::{Refusal, Shape, Who, enter, enter_lost};
+use array_takeover_laws::{Refusal, Shape, Who, append_entry, append_lost};
 use reshape_sb_takeover::take_over as take_level;
 
 // The number of a call that goes on is at most the number of entries.
@@ -74,14 +74,14 @@ fn told_of(
     requires progress { IfSome work.now.resync (λ mended. mended ≤ stripes_of members.now) }
     requires sound { AreSound to.now members.now.newest.size (phases_of behind.now) }
     ensures left { result.left ≡ still_left work.now members.now behind.now }
-    ensures roles { (role : ℕ) → has_slot result.roles role ≡ (nat_lt role (length members.now.roles) && is_vacant (reading_of members.now) role) }
+    ensures roles { (role : ℕ) → has_slot result.roles role ≡ (nat_lt role (length members.now.roles) && is_unassigned (reading_of members.now) role) }
     ensures spares { result.spares ≡ spares }
 {
     let own = steps_left(members, work);
     let count = members.roles.len() as u32;
     TakenTold {
         left: own + planned_left(to, members.newest.size, behind),
-        roles: vacant_roles(members, count),
+        roles: unassigned_roles(members, count),
         spares,
     }
 }
@@ -100,8 +100,8 @@ fn enter_taken(epoch: &mut Epoch, who: Who, end: u64, told: &TakenTold)
         kind: StepKind::TakenOver,
         left: told.left,
     };
-    enter(epoch, who, end, event);
-    enter_lost(epoch, who, end, told.roles, told.spares);
+    append_entry(epoch, who, end, event);
+    append_lost(epoch, who, end, told.roles, told.spares);
 }
 
 // The array, in whose history a plan was told, goes on as it was, and the step is refused.
@@ -136,7 +136,7 @@ fn give_back<B: Bank>(pieces: Pieces<B>, who: Who, refusal: Refusal) -> Still<B>
     pieces.steps -= 1;
     check_going(&pieces.epoch.entries, who);
     let end = pieces.bank.ops();
-    enter(&mut pieces.epoch, who, end, Event::Refused { refusal });
+    append_entry(&mut pieces.epoch, who, end, Event::Refused { refusal });
     Still::of_pieces(pieces)
 }
 

@@ -49,7 +49,7 @@ use Rattle.array_reshaping_steps.specs.array_members_the_Work.{Work}
 use Rattle.array_reshaping_steps.specs.array_members_Lacking.{AreLostSince, HaveFailedSince}
 use Rattle.array_reshaping_steps.specs.array_members_Moving.{Grows, IsMoved}
 use Rattle.array_reshaping_steps.specs.array_members_Numbers.{bears}
-use Rattle.array_reshaping_steps.specs.array_members_Placed.{is_vacant, AreWhole}
+use Rattle.array_reshaping_steps.specs.array_members_Placed.{is_unassigned, AreWhole}
 use Rattle.array_reshaping_steps.specs.array_members_Rebuilding.{AreSparesFree, Held}
 use Rattle.array_reshaping_steps.specs.array_members_Status.{left_of, resync_left}
 use Rattle.array_reshaping_steps.proofs.array_members_MarkLaws.{few-planned}
@@ -213,8 +213,8 @@ begun-tells who end left roles spares n role back lt has = of back
     of false = told
 
 -- each role that no slot holds is told
-pub since-told : (new : Members) (roles : ℕ) → length new.roles ≡ role_count new.newest → ((role : ℕ) → has_slot roles role ≡ (nat_lt role (length new.roles) && is_vacant (reading_of new) role))
-    → (role : ℕ) → role < role_count new.newest → is_vacant (reading_of new) role ≡ true → has_slot roles role ≡ true
+pub since-told : (new : Members) (roles : ℕ) → length new.roles ≡ role_count new.newest → ((role : ℕ) → has_slot roles role ≡ (nat_lt role (length new.roles) && is_unassigned (reading_of new) role))
+    → (role : ℕ) → role < role_count new.newest → is_unassigned (reading_of new) role ≡ true → has_slot roles role ≡ true
 since-told new roles count is role lt vacant = is role ∙ (λ i. is-below role (length new.roles) (omega (arith, count, lt)) i && vacant i)
 
 -- each loss has its cause: the slot held the role by the plan, and has failed
@@ -257,7 +257,7 @@ module _ {tells : Type 0} {given : Given} {tape tape' : List Operation} {first :
     (was : IsReadyStill tells given tape (scope_in given uuid slots (Some backup)) first entries old work ahead limit before steps room rows buffer far_rows far_buffer)
     (turned : HasKeptLength entries who) (caller : who.caller ≢ 254) (idle : left_of work old ≡ 0) (next : phases_of ahead ≡ Reshape to ∷ phases_of behind) (back : Bool) (way : goes_back (shape_of old.newest) to ≡ back)
     (at : IsBackupAt given old to backup) (found : has_slot slots backup ≡ true) (can : CanBegin old to) (did : IsUpdated tells given tape tape' backup uuid to old new spares before after) (at_end : tells → end ≡ length tape')
-    (long : length old.own ≡ 32) (sixteen : length uuid ≡ 16) (lost : (role : ℕ) → has_slot roles role ≡ (nat_lt role (length new.roles) && is_vacant (reading_of new) role)) where
+    (long : length old.own ≡ 32) (sixteen : length uuid ≡ 16) (lost : (role : ℕ) → has_slot roles role ≡ (nat_lt role (length new.roles) && is_unassigned (reading_of new) role)) where
   abbrev scope : Scope
   scope = scope_in given uuid slots (Some backup)
 

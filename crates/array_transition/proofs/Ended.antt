@@ -25,7 +25,7 @@ use Rattle.array_reshaping_steps.specs.crash_safety_laws_Updates.{IsAtEnd}
 use Rattle.array_reshaping_steps.specs.reshape_begin_end_Finished.{AreLostInEnd}
 use Rattle.array_reshaping_steps.specs.array_members_the_Work.{Work}
 use Rattle.array_reshaping_steps.specs.array_members_Numbers.{bears}
-use Rattle.array_reshaping_steps.specs.array_members_Placed.{is_vacant}
+use Rattle.array_reshaping_steps.specs.array_members_Placed.{is_unassigned}
 use Rattle.array_reshaping_steps.specs.array_members_Rebuilding.{Held}
 use Rattle.array_reshaping_steps.specs.history_append_Losing.{losses_of}
 use Rattle.array_reshaping_steps.proofs.history_append_CallLaws.{all-losses}
@@ -96,16 +96,16 @@ module _ (old new : Members) (roles spares lost : ℕ) (before after : ℕ → �
   ]
 
   -- each late role had a slot that failed in the update
-  pub late-held : (first late : ℕ) → ((role : ℕ) → has_slot first role ≡ (nat_lt role (length old.roles) && is_vacant (reading_of old) role)) → (final_shape old.newest).disks ≤ length old.roles
-      → ((role : ℕ) → has_slot late role ≡ ((nat_lt role (final_shape old.newest).disks && is_vacant (reading_of new) role) && not (has_slot first role || has_slot roles role)))
+  pub late-held : (first late : ℕ) → ((role : ℕ) → has_slot first role ≡ (nat_lt role (length old.roles) && is_unassigned (reading_of old) role)) → (final_shape old.newest).disks ≤ length old.roles
+      → ((role : ℕ) → has_slot late role ≡ ((nat_lt role (final_shape old.newest).disks && is_unassigned (reading_of new) role) && not (has_slot first role || has_slot roles role)))
       → (role : ℕ) → has_slot late role ≡ true → (slot : ℕ) × (holder (role_state (reading_of old) role) ≡ Some slot) × IsFaulted slot before after
   late-held first late first-is long late-is role has = of (holder (role_state (reading_of old) role)) refl
     where
-      parts : (((nat_lt role (final_shape old.newest).disks && is_vacant (reading_of new) role) ≡ true)) × (not (has_slot first role || has_slot roles role) ≡ true)
-      parts = and_parts (nat_lt role (final_shape old.newest).disks && is_vacant (reading_of new) role) (not (has_slot first role || has_slot roles role)) (sym (late-is role) ∙ has)
+      parts : (((nat_lt role (final_shape old.newest).disks && is_unassigned (reading_of new) role) ≡ true)) × (not (has_slot first role || has_slot roles role) ≡ true)
+      parts = and_parts (nat_lt role (final_shape old.newest).disks && is_unassigned (reading_of new) role) (not (has_slot first role || has_slot roles role)) (sym (late-is role) ∙ has)
 
-      here : (nat_lt role (final_shape old.newest).disks ≡ true) × (is_vacant (reading_of new) role ≡ true)
-      here = and_parts (nat_lt role (final_shape old.newest).disks) (is_vacant (reading_of new) role) parts.0
+      here : (nat_lt role (final_shape old.newest).disks ≡ true) × (is_unassigned (reading_of new) role ≡ true)
+      here = and_parts (nat_lt role (final_shape old.newest).disks) (is_unassigned (reading_of new) role) parts.0
 
       below : role < (final_shape old.newest).disks
       below = lt-of role (final_shape old.newest).disks here.0
@@ -123,7 +123,7 @@ module _ (old new : Members) (roles spares lost : ℕ) (before after : ℕ → �
         slot,
         is,
         elim (failed.held role slot is) [
-          | inl there ↦ absurd (let full : is_vacant (reading_of new) role ≡ false = ap (λ (o : Option ℕ). not (is_some o)) there in let both : true ≡ false = sym here.1 ∙ full in cc)
+          | inl there ↦ absurd (let full : is_unassigned (reading_of new) role ≡ false = ap (λ (o : Option ℕ). not (is_some o)) there in let both : true ≡ false = sym here.1 ∙ full in cc)
           | inr (inl gone) ↦ gone.1
           | inr (inr (inl has)) ↦ failed.lost_are slot has
           | inr (inr (inr past)) ↦ absurd (let most = past.0 in omega (arith, below, most))
@@ -136,8 +136,8 @@ module _ {tells : Type 0} {given : Given} {tape tape' : List Operation} {scope :
     {steps room rows buffer far_rows far_buffer : ℕ} (ahead : PhasesLeft) (who : Who) (end first_roles roles spares lost late late_spares : ℕ)
     (was : IsReadyMoving tells given tape scope first entries old work course ahead limit window before steps room rows buffer far_rows far_buffer) (at : course ≡ closed (zeroed_by old.newest)) (synced : work.resync ≡ None)
     (goes : IsCallGoing entries who) (caller : who.caller ≢ 254) (last : IsAtEnd old.newest) (did : IsFinished tells given tape tape' old new roles spares lost before after) (at_end : tells → end ≡ length tape')
-    (first-is : (role : ℕ) → has_slot first_roles role ≡ (nat_lt role (length old.roles) && is_vacant (reading_of old) role))
-    (late-is : (role : ℕ) → has_slot late role ≡ ((nat_lt role (shape_of new.newest).disks && is_vacant (reading_of new) role) && not (has_slot first_roles role || has_slot roles role)))
+    (first-is : (role : ℕ) → has_slot first_roles role ≡ (nat_lt role (length old.roles) && is_unassigned (reading_of old) role))
+    (late-is : (role : ℕ) → has_slot late role ≡ ((nat_lt role (shape_of new.newest).disks && is_unassigned (reading_of new) role) && not (has_slot first_roles role || has_slot roles role)))
     (stepped : IsStepped old (left_by None old (closed (zeroed_by old.newest)) ahead) (still_left work new ahead) (losses_of roles spares ++ losses_of late late_spares))
     (lead : LeadTo tells (world_in given tape scope first) entries old ahead) where
   abbrev added : List Entry

@@ -20,7 +20,7 @@ use Rattle.array_reshaping_steps.proofs.crash_views_Stands.{final-still}
 use Rattle.array_reshaping_steps.specs.crash_reshape_laws_Plans.{HasNoneRecovering}
 use Rattle.array_reshaping_steps.specs.reshape_begin_end_Finished.{IsOver}
 use Rattle.array_reshaping_steps.specs.array_members_the_Work.{Work}
-use Rattle.array_reshaping_steps.specs.array_members_Placed.{is_vacant, AreWhole}
+use Rattle.array_reshaping_steps.specs.array_members_Placed.{is_unassigned, AreWhole}
 use Rattle.array_reshaping_steps.specs.array_members_Status.{left_of, resync_left, recovery_left, role_left, rebuilt_of, stripes_of, spare_count, vacant_count}
 use Rattle.array_reshaping_steps.proofs.array_members_Still.{count-still}
 use Rattle.array_reshaping_steps.specs.history_append_Losing.{losses_of}
@@ -61,7 +61,7 @@ held-there (Whole slot) e = (slot, refl)
 held-there (Recovering slot) e = absurd (cc)
 held-there Missing e = absurd (cc)
 
-whole-filled : (m : Members) (role : ℕ) → is_missing (reading_of m) role ≡ false → is_vacant (reading_of m) role ≡ false
+whole-filled : (m : Members) (role : ℕ) → is_missing (reading_of m) role ≡ false → is_unassigned (reading_of m) role ≡ false
 whole-filled m role is = let there = held-there (role_state (reading_of m) role) is in ap (λ (s : Role). not (is_some (holder s))) there.1
 
 none-least : (m n : ℕ) → m ≡ 0 → min m n ≡ 0
@@ -71,7 +71,7 @@ pub whole-idle : (work : Work) (m : Members) → work.resync ≡ None → is_res
 whole-idle work m synced still none whole =
     let resyncs : resync_left work.resync m ≡ 0 = ap (λ (o : Option ℕ). resync_left o m) synced in
     let roles = recovery-zero work m (shape_of m.newest).disks none in
-    let vacant : vacant_count m ≡ 0 = count-zero (shape_of m.newest).disks (is_vacant (reading_of m)) (λ k lt. whole-filled m k (whole k (let count = count-still m.newest still in omega (arith, lt, count)))) in
+    let vacant : vacant_count m ≡ 0 = count-zero (shape_of m.newest).disks (is_unassigned (reading_of m)) (λ k lt. whole-filled m k (whole k (let count = count-still m.newest still in omega (arith, lt, count)))) in
     let pairs = none-times (min (vacant_count m) (spare_count m)) (stripes_of m + 2) (none-least (vacant_count m) (spare_count m) vacant) in
     omega (arith, resyncs, roles, pairs)
 

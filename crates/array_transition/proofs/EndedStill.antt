@@ -42,7 +42,7 @@ use Rattle.array_reshaping_steps.specs.reshape_begin_end_Finished.{IsOver, IsEnd
 use Rattle.array_reshaping_steps.specs.array_members_the_Work.{Work}
 use Rattle.array_reshaping_steps.specs.array_members_Moving.{Grows}
 use Rattle.array_reshaping_steps.specs.array_members_Numbers.{bears}
-use Rattle.array_reshaping_steps.specs.array_members_Placed.{is_vacant, AreWhole, IsPlaced}
+use Rattle.array_reshaping_steps.specs.array_members_Placed.{is_unassigned, AreWhole, IsPlaced}
 use Rattle.array_reshaping_steps.specs.array_members_Rebuilding.{AreSparesFree}
 use Rattle.array_reshaping_steps.proofs.array_members_MarkLaws.{few-planned}
 use Rattle.array_reshaping_steps.proofs.array_members_Still.{count-still}
@@ -156,8 +156,8 @@ module _ {tells : Type 0} {given : Given} {tape tape' : List Operation} {scope :
     (who : Who) (end first_roles roles spares lost late late_spares : ℕ)
     (was : IsMoving tells given tape scope first entries old (bears work) None (closed (zeroed_by old.newest)) [] (left_by None old (closed (zeroed_by old.newest)) ahead))
     (goes : IsCallGoing entries who) (caller : IsFalse (who.caller == 254)) (last : IsAtEnd old.newest) (did : IsFinished tells given tape tape' old new roles spares lost before after) (at_end : tells → end ≡ length tape')
-    (first-is : (role : ℕ) → has_slot first_roles role ≡ (nat_lt role (length old.roles) && is_vacant (reading_of old) role))
-    (late-is : (role : ℕ) → has_slot late role ≡ ((nat_lt role (shape_of new.newest).disks && is_vacant (reading_of new) role) && not (has_slot first_roles role || has_slot roles role)))
+    (first-is : (role : ℕ) → has_slot first_roles role ≡ (nat_lt role (length old.roles) && is_unassigned (reading_of old) role))
+    (late-is : (role : ℕ) → has_slot late role ≡ ((nat_lt role (shape_of new.newest).disks && is_unassigned (reading_of new) role) && not (has_slot first_roles role || has_slot roles role)))
     (synced : work.resync ≡ None) (settled : tells → is_unsynced (world_in given tape scope first) entries ≡ false) (stepped : IsStepped old (left_by None old (closed (zeroed_by old.newest)) ahead) (still_left work new ahead) (losses_of roles spares ++ losses_of late late_spares))
     (planned : tells → IsPlannedTo (world_in given tape scope first) entries old (still_left work new ahead)) where
   abbrev added : List Entry
@@ -165,7 +165,7 @@ module _ {tells : Type 0} {given : Given} {tape tape' : List Operation} {scope :
 
   since : (role : ℕ) → role < role_count new.newest → is_missing (reading_of new) role ≡ true → (is_missing (reading_of old) role ≡ true) ⊎ (IsAmong roles role ⊎ IsAmong late role)
   since = ended-since old new first_roles roles late did.over.still was.members_are.whole did.states
-      (λ role has. (and_parts (nat_lt role (length old.roles)) (is_vacant (reading_of old) role) (sym (first-is role) ∙ has)).1) late-is
+      (λ role has. (and_parts (nat_lt role (length old.roles)) (is_unassigned (reading_of old) role) (sym (first-is role) ∙ has)).1) late-is
 
   pub ended-by : IsEndedBy tells given tape tape' old new roles late
   ended-by = record {

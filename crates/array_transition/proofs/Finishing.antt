@@ -47,12 +47,12 @@ use Rattle.array_reshaping_steps.proofs.reshape_begin_end_Made.{spare-planned}
 use Rattle.array_reshaping_steps.specs.array_members_the_Work.{Work}
 use Rattle.array_reshaping_steps.specs.array_members_Lacking.{AreLostSince, AreTooMany, HaveFailedSince}
 use Rattle.array_reshaping_steps.specs.array_members_Moving.{Grows, IsMoved}
-use Rattle.array_reshaping_steps.specs.array_members_Placed.{is_vacant, AreWhole, IsPlaced}
+use Rattle.array_reshaping_steps.specs.array_members_Placed.{is_unassigned, AreWhole, IsPlaced}
 use Rattle.array_reshaping_steps.specs.array_members_Rebuilding.{AreSparesFree}
 use Rattle.array_reshaping_steps.proofs.array_members_Still.{count-still}
 use Rattle.array_reshaping_steps.specs.sb_safe_updates_Unused.{IsUnusedKept}
 use Rattle.array_reshaping_steps.specs.reshape_window_steps_Zeroing.{IsThrough}
-use Rattle.array_reshaping_steps.specs.stripe_region_resync_Mends.{mend_stripes}
+use Rattle.array_reshaping_steps.specs.stripe_region_resync_Resyncs.{resync_stripes}
 use Rattle.array_reshaping_steps.specs.history_append_Losing.{losses_of}
 use Rattle.array_reshaping_steps.specs.array_call_specs_Calls.{TellNoLoss}
 use Rattle.array_reshaping_steps.specs.reshape_request_the_PhasesLeft.{PhasesLeft}
@@ -63,7 +63,7 @@ use Rattle.array_reshaping_steps.proofs.history_invariant_laws_Behind.{IsAmong}
 use Rattle.array_reshaping_steps.specs.reshape_progress_the_Course.{Course}
 use Rattle.array_reshaping_steps.specs.reshape_progress_Course.{IsCourseOf}
 use Rattle.array_reshaping_steps.specs.reshape_progress_Laws.{closed}
-use Rattle.array_reshaping_steps.proofs.reshape_progress_resync_laws_Mended.{mended-courses-move}
+use Rattle.array_reshaping_steps.proofs.reshape_progress_resync_laws_Synced.{mended-courses-move}
 use Rattle.array_reshaping_steps.specs.array_reshaping_invariant_Moving.{IsMoving}
 use Rattle.array_reshaping_steps.proofs.array_reshaping_invariant_Staying.{refused-moves}
 use Rattle.array_reshaping_steps.proofs.array_reshaping_invariant_Steps.{missing-since}
@@ -84,7 +84,7 @@ use Rattle.array_transition.proofs.EndedLeft.{whole-idle, whole-left, whole-new,
 
 -- ---- the end is due
 
-pub end-due : (newest : Sb) (course : Course) (resync : Option ℕ) → AreShapesFit newest → is_reshaping newest ≡ true → IsCourseOf newest course → IfSome resync (λ mended. mended ≤ mend_stripes newest)
+pub end-due : (newest : Sb) (course : Course) (resync : Option ℕ) → AreShapesFit newest → is_reshaping newest ≡ true → IsCourseOf newest course → IfSome resync (λ mended. mended ≤ resync_stripes newest)
     → due_of newest course resync ≡ Finish → (course ≡ closed (zeroed_by newest)) × IsThrough newest × (resync ≡ None)
 end-due newest course resync fit active is most due = subst (λ (d : Due). IsDue newest course resync d) due (due-is newest course resync fit active is most)
 
@@ -261,23 +261,23 @@ none-lost entries later who end roles spares left n late late_spares longer is n
 module _ (given : Given) (old new : Members) (work : Work) (ahead : PhasesLeft) (course : Course) (who : Who) (end first roles spares late late_spares : ℕ) (placed : IsPlaced given old) (whole : HasNoneRecovering old)
     (at : course ≡ closed (zeroed_by old.newest)) (through : IsThrough old.newest) (under : IsPlaced given new) (over : IsOver old.newest new.newest) (synced : work.resync ≡ None)
     (states : (role slot : ℕ) → holder (role_state (reading_of new) role) ≡ Some slot → role_state (reading_of new) role ≡ role_state (reading_of old) role)
-    (first-is : (role : ℕ) → has_slot first role ≡ (nat_lt role (length old.roles) && is_vacant (reading_of old) role))
-    (late-is : (role : ℕ) → has_slot late role ≡ ((nat_lt role (shape_of new.newest).disks && is_vacant (reading_of new) role) && not (has_slot first role || has_slot roles role))) where
+    (first-is : (role : ℕ) → has_slot first role ≡ (nat_lt role (length old.roles) && is_unassigned (reading_of old) role))
+    (late-is : (role : ℕ) → has_slot late role ≡ ((nat_lt role (shape_of new.newest).disks && is_unassigned (reading_of new) role) && not (has_slot first role || has_slot roles role))) where
   none-recovers : HasNoneRecovering new
   none-recovers role slot is = whole role slot (sym (states role slot (ap holder is)) ∙ is)
 
   since : (role : ℕ) → role < role_count new.newest → is_missing (reading_of new) role ≡ true → (is_missing (reading_of old) role ≡ true) ⊎ (IsAmong roles role ⊎ IsAmong late role)
-  since = ended-since old new first roles late over.still whole states (λ role has. (and_parts (nat_lt role (length old.roles)) (is_vacant (reading_of old) role) (sym (first-is role) ∙ has)).1) late-is
+  since = ended-since old new first roles late over.still whole states (λ role has. (and_parts (nat_lt role (length old.roles)) (is_unassigned (reading_of old) role) (sym (first-is role) ∙ has)).1) late-is
 
   -- each role of the new shape that no slot holds had none before, or is told
-  pub roles-told : (role : ℕ) → role < (shape_of new.newest).disks → is_vacant (reading_of new) role ≡ true → (is_vacant (reading_of old) role ≡ true) ⊎ ((has_slot roles role ≡ true) ⊎ (has_slot late role ≡ true))
+  pub roles-told : (role : ℕ) → role < (shape_of new.newest).disks → is_unassigned (reading_of new) role ≡ true → (is_unassigned (reading_of old) role ≡ true) ⊎ ((has_slot roles role ≡ true) ⊎ (has_slot late role ≡ true))
   roles-told role lt vacant = of (has_slot first role) (has_slot roles role) refl refl
     where
       is-less : (a b : ℕ) → a < b → nat_lt a b ≡ true
       is-less a b lt = grind (arith, nat_tests, lt)
 
-      of : (a b : Bool) → has_slot first role ≡ a → has_slot roles role ≡ b → (is_vacant (reading_of old) role ≡ true) ⊎ ((has_slot roles role ≡ true) ⊎ (has_slot late role ≡ true))
-      of true b none has = inl (and_parts (nat_lt role (length old.roles)) (is_vacant (reading_of old) role) (sym (first-is role) ∙ none)).1
+      of : (a b : Bool) → has_slot first role ≡ a → has_slot roles role ≡ b → (is_unassigned (reading_of old) role ≡ true) ⊎ ((has_slot roles role ≡ true) ⊎ (has_slot late role ≡ true))
+      of true b none has = inl (and_parts (nat_lt role (length old.roles)) (is_unassigned (reading_of old) role) (sym (first-is role) ∙ none)).1
       of false true none has = inr (inl has)
       of false false none has = inr (inr (late-is role ∙ (λ i. (is-less role (shape_of new.newest).disks lt i && vacant i) && not (none i || has i))))
 

@@ -9,7 +9,7 @@ pub mod Finishing
 pub use Rattle.array_reshaping_steps.proofs.array_reshaping_invariant_Refusals
 pub use Rattle.array_reshaping_steps.proofs.array_reshaping_invariant_Resting
 pub use Rattle.array_reshaping_steps.proofs.array_reshaping_laws_Kept
-pub use Rattle.array_reshaping_steps.proofs.array_reshaping_laws_MendLaws
+pub use Rattle.array_reshaping_steps.proofs.array_reshaping_laws_ResyncLaws
 pub use Rattle.array_reshaping_steps.proofs.array_specs_Called
 pub use Rattle.array_reshaping_steps.proofs.array_specs_Lengths
 pub use Rattle.array_reshaping_steps.proofs.array_specs_VisibleLaws

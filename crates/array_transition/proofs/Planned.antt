@@ -34,7 +34,7 @@ use Rattle.array_reshaping_steps.proofs.reshape_sb_updates_Taken.{taking-one}
 use Rattle.array_reshaping_steps.specs.reshape_begin_end_Begun.{begun_plan}
 use Rattle.array_reshaping_steps.specs.array_members_Lacking.{AreLostSince, HaveFailedSince}
 use Rattle.array_reshaping_steps.specs.array_members_Moving.{IsMoved}
-use Rattle.array_reshaping_steps.specs.array_members_Placed.{is_vacant, IsPlaced}
+use Rattle.array_reshaping_steps.specs.array_members_Placed.{is_unassigned, IsPlaced}
 use Rattle.array_reshaping_steps.specs.array_members_Rebuilding.{AreSparesFree}
 use Rattle.array_reshaping_steps.proofs.array_members_Fit.{count-alike, roles-still}
 use Rattle.array_reshaping_steps.proofs.array_members_LackingLaws.{since-missing}
@@ -142,7 +142,7 @@ module _ (given : Given) (old : Members) (to : Shape) (placed : IsPlaced given o
   -- ---- behind it
 
   module _ (new : Members) (roles spares : ℕ) (before after : ℕ → ℕ) (moved : IsMoved given (begun_plan old to) new) (failed : HaveFailedSince (begun_plan old to) new spares before after)
-      (lost : (role : ℕ) → has_slot roles role ≡ (nat_lt role (length new.roles) && is_vacant (reading_of new) role)) where
+      (lost : (role : ℕ) → has_slot roles role ≡ (nat_lt role (length new.roles) && is_unassigned (reading_of new) role)) where
     in-plan : (role : ℕ) → role < role_count new.newest → role < role_count ch.shared
     in-plan role lt =
         let n = count-alike (begun_plan old to).newest new.newest moved.reshape moved.shape moved.size in
@@ -158,14 +158,14 @@ module _ (given : Given) (old : Members) (to : Shape) (placed : IsPlaced given o
     -- a role that no slot holds then had one by the plan, which has failed since
     lost-held : (role : ℕ) → has_slot roles role ≡ true → (slot : ℕ) × (holder (role_state (reading_of (begun_plan old to)) role) ≡ Some slot) × IsFaulted slot before after
     lost-held role has =
-        let parts = and_parts (nat_lt role (length new.roles)) (is_vacant (reading_of new) role) (sym (lost role) ∙ has) in
+        let parts = and_parts (nat_lt role (length new.roles)) (is_unassigned (reading_of new) role) (sym (lost role) ∙ has) in
         let below : role < role_count new.newest = (let lt = lt-of role (length new.roles) parts.0 in let count = moved.placed.roles in omega (arith, lt, count)) in
         let was = plan-holds role (in-plan role below) in (
           was.0,
           was.1,
           elim (failed.roles role was.0 was.1) [
             | inl held ↦ absurd (
-                let there : is_vacant (reading_of new) role ≡ false = ap (λ (o : Option ℕ). not (is_some o)) held in
+                let there : is_unassigned (reading_of new) role ≡ false = ap (λ (o : Option ℕ). not (is_some o)) held in
                 let both : true ≡ false = sym parts.1 ∙ there in cc)
             | inr gone ↦ gone
           ],
@@ -174,7 +174,7 @@ module _ (given : Given) (old : Members) (to : Shape) (placed : IsPlaced given o
     pub lost-since : AreLostSince (begun_plan old to) new roles spares before after
     lost-since = record {
       vacant = λ role lt none. inr (lost role ∙ (λ i. lt-true role (length new.roles) (let count = moved.placed.roles in omega (arith, lt, count)) i && none i));
-      gone = λ role has. (and_parts (nat_lt role (length new.roles)) (is_vacant (reading_of new) role) (sym (lost role) ∙ has)).1;
+      gone = λ role has. (and_parts (nat_lt role (length new.roles)) (is_unassigned (reading_of new) role) (sym (lost role) ∙ has)).1;
       held = lost-held;
       failed = failed.spares_are;
       were = failed.were;

@@ -23,7 +23,7 @@ use Rattle.array_reshaping_steps.specs.history_the_StepKind_TheVariants.{Begun}
 use Rattle.array_reshaping_steps.specs.history_Plain.{entries_of}
 use Rattle.array_reshaping_steps.specs.history_Reshaped.{is_done}
 use Rattle.array_reshaping_steps.specs.history_append_Losing.{losses_of}
-use Rattle.array_reshaping_steps.specs.array_members_Placed.{is_vacant, AreStillHeld}
+use Rattle.array_reshaping_steps.specs.array_members_Placed.{is_unassigned, AreStillHeld}
 use Rattle.array_reshaping_steps.specs.array_members_Lacking.{HaveRolesFailed}
 use Rattle.array_reshaping_steps.specs.array_members_Moving.{Grows}
 use Rattle.array_reshaping_steps.specs.array_members_Status.{spare_count}
@@ -106,7 +106,7 @@ pub record IsBegunWith (who : Who) (back : Bool) (size : ℕ) (plan later : Memb
   pub roles : ℕ
   pub spares : ℕ
   pub end : ℕ
-  pub roles_told : (role : ℕ) → role < role_count later.newest → is_vacant (reading_of later) role ≡ true → has_slot roles role ≡ true
+  pub roles_told : (role : ℕ) → role < role_count later.newest → is_unassigned (reading_of later) role ≡ true → has_slot roles role ≡ true
   pub spares_told : (slot : ℕ) → has_spare plan.spares slot ≡ true → (has_spare later.spares slot ≡ true) ⊎ (has_slot spares slot ≡ true)
   pub spares_were : (slot : ℕ) → has_slot spares slot ≡ true → has_spare plan.spares slot ≡ true
   pub is : new ≡ old ++ entries_of who end (Step Begun left ∷ begun_length back size ++ losses_of roles spares)

@@ -19,7 +19,7 @@ use Rattle.array_reshaping_steps.specs.crash_safety_laws_Marking.{AreOthersPrese
 use Rattle.array_reshaping_steps.specs.reshape_begin_end_Finished.{IsOver}
 use Rattle.array_reshaping_steps.specs.array_members_Lacking.{AreTooMany}
 use Rattle.array_reshaping_steps.specs.array_members_Moving.{Grows}
-use Rattle.array_reshaping_steps.specs.array_members_Placed.{is_vacant, AreStillHeld, AreWhole}
+use Rattle.array_reshaping_steps.specs.array_members_Placed.{is_unassigned, AreStillHeld, AreWhole}
 use Rattle.array_reshaping_steps.specs.array_members_Rebuilding.{Held}
 use Rattle.array_reshaping_steps.specs.array_call_specs_Calls.{AreLossesBy, IsEndOf, TellNoLoss}
 use Rattle.array_reshaping_steps.specs.reshape_progress_Laws.{closed}
@@ -38,8 +38,8 @@ pub record IsEndedWith (who : Who) (before size : ℕ) (was later : Members) (ol
   pub late : ℕ
   pub late_spares : ℕ
   pub end : ℕ
-  pub roles_told : (role : ℕ) → role < (shape_of later.newest).disks → is_vacant (reading_of later) role ≡ true
-      → (is_vacant (reading_of was) role ≡ true) ⊎ ((has_slot roles role ≡ true) ⊎ (has_slot late role ≡ true))
+  pub roles_told : (role : ℕ) → role < (shape_of later.newest).disks → is_unassigned (reading_of later) role ≡ true
+      → (is_unassigned (reading_of was) role ≡ true) ⊎ ((has_slot roles role ≡ true) ⊎ (has_slot late role ≡ true))
   pub spares_told : (slot : ℕ) → has_spare was.spares slot ≡ true → (has_spare later.spares slot ≡ true) ⊎ ((has_slot spares slot ≡ true) ⊎ (has_slot late_spares slot ≡ true))
   pub dropped_told : (role slot : ℕ) → (final_shape was.newest).disks ≤ role → holder (role_state (reading_of was) role) ≡ Some slot
       → (has_spare later.spares slot ≡ true) ⊎ ((has_slot roles role ≡ true) ⊎ (has_slot late_spares slot ≡ true))

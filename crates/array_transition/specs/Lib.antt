@@ -5,7 +5,7 @@ pub use Rattle.array_reshaping_steps.specs.reshape_progress_Course
 pub use Rattle.array_reshaping_steps.specs.reshape_progress_Laws
 pub use Rattle.array_reshaping_steps.specs.reshape_progress_the_Course
 pub use Rattle.array_reshaping_steps.specs.array_reshaping_invariant_Moving
-pub use Rattle.array_reshaping_steps.specs.array_reshaping_laws_Mending
+pub use Rattle.array_reshaping_steps.specs.array_reshaping_laws_Resyncing
 pub use Rattle.array_reshaping_steps.specs.array_reshaping_laws_Ready
 pub use Rattle.array_reshaping_steps.specs.array_reshaping_laws_Steps
 pub use Rattle.array_reshaping_steps.specs.array_reshaping_laws_Writing
@@ -14,7 +14,7 @@ pub use Rattle.array_reshaping_steps.specs.array_reshaping_state_First
 pub use Rattle.array_reshaping_steps.specs.array_reshaping_state_the_Due
 pub use Rattle.array_reshaping_steps.specs.array_reshaping_state_the_Due_TheVariants
 pub use Rattle.array_reshaping_steps.specs.stripe_region_resync_Left
-pub use Rattle.array_reshaping_steps.specs.stripe_region_resync_Mends
+pub use Rattle.array_reshaping_steps.specs.stripe_region_resync_Resyncs
 pub use Rattle.array_reshaping_steps.specs.stripe_region_resync_the_Stripe
 pub use Rattle.array_reshaping_steps.specs.array_specs_Adding
 pub use Rattle.array_reshaping_steps.specs.array_specs_Calls

@@ -14,7 +14,7 @@ ghost use Rattle.array_reshaping_steps.specs.history_the_StepKind_TheVariants.{B
 ghost use Rattle.array_reshaping_steps.specs.history_Plain.{entries_of};
 ghost use Rattle.array_reshaping_steps.specs.crash_views_Regions.{AreShapesFit};
 ghost use Rattle.array_reshaping_steps.specs.array_members_Moving.{Grows};
-ghost use Rattle.array_reshaping_steps.specs.array_members_Placed.{is_vacant};
+ghost use Rattle.array_reshaping_steps.specs.array_members_Placed.{is_unassigned};
 ghost use Rattle.array_reshaping_steps.specs.array_members_Status.{left_of};
 ghost use Rattle.array_reshaping_steps.specs.history_append_Losing.{losses_of};
 ghost use Rattle.array_reshaping_steps.specs.array_call_specs_Kept.{scope_in};
@@ -31,8 +31,8 @@ use crate::refusing::unbegun;
 use array_fixed_sync::Still;
 use array_reshaping_steps::{
     Bank, Course, Entries, Epoch, Event, Members, Moving, PhasesLeft, Pieces, Refusal, Shape,
-    StepKind, Who, Window, begin, contains, enter, enter_lost, is_backward, list_sectors,
-    planned_left, reshape_left, vacant_roles,
+    StepKind, Who, Window, append_entry, append_lost, begin, contains, is_backward, list_sectors,
+    planned_left, reshape_left, unassigned_roles,
 };
 
 // The number of a call that goes on is at most the number of entries.
@@ -76,7 +76,7 @@ fn enter_length(epoch: &mut Epoch, who: Who, end: u64, back: bool, size: u64)
     if !back {
         return;
     }
-    enter(epoch, who, end, Event::Resized { length: size });
+    append_entry(epoch, who, end, Event::Resized { length: size });
 }
 
 // What is told of a begin: the steps that are left, whether the list gets shorter, its length, and what the update lost.
@@ -98,7 +98,7 @@ fn told_of(members: &Members, to: &Shape, behind: &PhasesLeft, spares: u32) -> B
     ensures left { result.left ≡ grow_left members.now.newest Closed 0 (phases_of behind.now) }
     ensures back { result.back ≡ is_backward members.now.newest }
     ensures size { result.size ≡ list_length members.now.newest }
-    ensures roles { (role : ℕ) → has_slot result.roles role ≡ (nat_lt role (length members.now.roles) && is_vacant (reading_of members.now) role) }
+    ensures roles { (role : ℕ) → has_slot result.roles role ≡ (nat_lt role (length members.now.roles) && is_unassigned (reading_of members.now) role) }
     ensures spares { result.spares ≡ spares }
 {
     let count = members.roles.len() as u32;
@@ -106,7 +106,7 @@ fn told_of(members: &Members, to: &Shape, behind: &PhasesLeft, spares: u32) -> B
         left: begun_left(members, to, behind),
         back: is_backward(&members.newest),
         size: list_sectors(members),
-        roles: vacant_roles(members, count),
+        roles: unassigned_roles(members, count),
         spares,
     }
 }
@@ -126,9 +126,9 @@ fn enter_begun(epoch: &mut Epoch, who: Who, end: u64, told: &BeginTold)
         kind: StepKind::Begun,
         left: told.left,
     };
-    enter(epoch, who, end, event);
+    append_entry(epoch, who, end, event);
     enter_length(epoch, who, end, told.back, told.size);
-    enter_lost(epoch, who, end, told.roles, told.spares);
+    append_lost(epoch, who, end, told.roles, told.spares);
 }
 
 // The array, in whose history a plan was told, goes on as it was, and the step is refused.
@@ -164,7 +164,7 @@ fn give_back<B: Bank>(pieces: Pieces<B>, who: Who, refusal: Refusal) -> Still<B>
     pieces.steps -= 1;
     check_going(&pieces.epoch.entries, who);
     let end = pieces.bank.ops();
-    enter(&mut pieces.epoch, who, end, Event::Refused { refusal });
+    append_entry(&mut pieces.epoch, who, end, Event::Refused { refusal });
     Still::of_pieces(pieces)
 }
 
@@ -258,7 +258,7 @@ pub fn begin_reshape<B: Bank>(
     );
     let end = pieces.bank.ops();
     if let Some(refusal) = begun.refusal {
-        enter(&mut pieces.epoch, who, end, Event::Refused { refusal });
+        append_entry(&mut pieces.epoch, who, end, Event::Refused { refusal });
         return Err((Still::of_pieces(pieces), window, refusal));
     }
     let told = told_of(&pieces.members, &to, &behind, begun.spares);

@@ -10,7 +10,7 @@ ghost use Rattle.array_reshaping_steps.specs.history_the_StepKind_TheVariants.{F
 ghost use Rattle.array_reshaping_steps.specs.history_Plain.{entries_of};
 ghost use Rattle.array_reshaping_steps.specs.crash_views_Regions.{AreShapesFit};
 ghost use Rattle.array_reshaping_steps.specs.array_members_Lacking.{AreTooMany};
-ghost use Rattle.array_reshaping_steps.specs.array_members_Placed.{is_vacant};
+ghost use Rattle.array_reshaping_steps.specs.array_members_Placed.{is_unassigned};
 ghost use Rattle.array_reshaping_steps.specs.array_members_Status.{stripes_of};
 ghost use Rattle.array_reshaping_steps.specs.history_append_Losing.{losses_of};
 ghost use Rattle.array_reshaping_steps.specs.array_call_specs_Calls.{IsBehind};
@@ -27,8 +27,9 @@ use crate::beginning::check_going;
 use array_fixed_sync::Still;
 use array_reshaping_steps::{
     Bank, Epoch, Event, Finished, Members, Moving, PhasesLeft, Refusal, Role, StepKind, Who, Work,
-    enter, enter_behind, enter_lost, final_in, finish, list_length, list_sectors, newly_vacant,
-    planned_left, shape_in, steps_left, too_many, vacant_roles, with, without,
+    append_after_losses, append_entry, append_lost, final_in, finish, list_length, list_sectors,
+    newly_unassigned, planned_left, shape_in, steps_left, too_many, unassigned_roles, with,
+    without,
 };
 
 // The slots that hold a role below this one.
@@ -52,9 +53,9 @@ fn holders_below(members: &Members, disks: u32) -> u32
 fn late_roles(members: &Members, disks: u32, first: u32, roles: u32) -> u32
     requires known { disks ≤ length members.now.roles }
     requires few { disks ≤ 32 }
-    ensures { (role : ℕ) → has_slot result role ≡ ((nat_lt role disks && is_vacant (reading_of members.now) role) && not (has_slot first role || has_slot roles role)) }
+    ensures { (role : ℕ) → has_slot result role ≡ ((nat_lt role disks && is_unassigned (reading_of members.now) role) && not (has_slot first role || has_slot roles role)) }
 {
-    without(newly_vacant(members, disks, first), roles)
+    without(newly_unassigned(members, disks, first), roles)
 }
 
 // The steps that are left without a reshape: of the roles that are to be rebuilt, and of the phases ahead.
@@ -83,7 +84,7 @@ fn enter_longer(epoch: &mut Epoch, who: Who, end: u64, before: u64, size: u64)
     if size <= before {
         return;
     }
-    enter(epoch, who, end, Event::Resized { length: size });
+    append_entry(epoch, who, end, Event::Resized { length: size });
 }
 
 // What is known of an array before its reshape ends: how many roles it has, which of them no slot holds, the slots that hold a role of the new
@@ -101,7 +102,7 @@ fn before_end(members: &Members) -> Before
     requires roles { length members.now.roles ≡ role_count members.now.newest }
     requires small { (role slot : ℕ) → holder (role_state (reading_of members.now) role) ≡ Some slot → slot < 32 }
     ensures count { result.count ≡ length members.now.roles }
-    ensures vacant { (role : ℕ) → has_slot result.vacant role ≡ (nat_lt role (length members.now.roles) && is_vacant (reading_of members.now) role) }
+    ensures vacant { (role : ℕ) → has_slot result.vacant role ≡ (nat_lt role (length members.now.roles) && is_unassigned (reading_of members.now) role) }
     ensures held { (role slot : ℕ) → role < (final_shape members.now.newest).disks → holder (role_state (reading_of members.now) role) ≡ Some slot → has_slot result.held slot ≡ true }
     ensures only { (slot : ℕ) → has_slot result.held slot ≡ true → (role : ℕ) × (role < (final_shape members.now.newest).disks) × (holder (role_state (reading_of members.now) role) ≡ Some slot) }
     ensures size { result.size ≡ list_length members.now.newest }
@@ -109,7 +110,7 @@ fn before_end(members: &Members) -> Before
     let count = members.roles.len() as u32;
     Before {
         count,
-        vacant: vacant_roles(members, count),
+        vacant: unassigned_roles(members, count),
         held: holders_below(members, final_in(members).disks),
         size: list_sectors(members),
     }
@@ -135,7 +136,7 @@ fn told_of(members: &Members, was: &Before, done: &Finished) -> EndTold
     ensures spares { result.spares ≡ done.now.spares }
     ensures before { result.before ≡ was.now.size }
     ensures size { result.size ≡ data_disks (shape_of members.now.newest) * members.now.newest.size }
-    ensures late { (role : ℕ) → has_slot result.late role ≡ ((nat_lt role (shape_of members.now.newest).disks && is_vacant (reading_of members.now) role)
+    ensures late { (role : ℕ) → has_slot result.late role ≡ ((nat_lt role (shape_of members.now.newest).disks && is_unassigned (reading_of members.now) role)
         && not (has_slot was.now.vacant role || has_slot done.now.roles role)) }
     ensures late_spares { (slot : ℕ) → has_slot result.late_spares slot ≡ (has_slot done.now.lost slot && not (has_slot was.now.held slot)) }
 {
@@ -165,9 +166,9 @@ fn enter_ended(epoch: &mut Epoch, who: Who, end: u64, left: u64, told: &EndTold)
         kind: StepKind::Finished,
         left,
     };
-    enter_behind(epoch, who, end, told.roles, told.spares, event);
+    append_after_losses(epoch, who, end, told.roles, told.spares, event);
     enter_longer(epoch, who, end, told.before, told.size);
-    enter_lost(epoch, who, end, told.late, told.late_spares);
+    append_lost(epoch, who, end, told.late, told.late_spares);
 }
 
 /// A reshape that has gone through the list ends: each slot that holds a role is flushed, and the superblocks record the new shape
@@ -202,16 +203,16 @@ pub fn finish_reshape<B: Bank>(
     check_going(&pieces.epoch.entries, who);
     if let Some(refusal) = too_many(&pieces.members) {
         let end = pieces.bank.ops();
-        enter(&mut pieces.epoch, who, end, Event::Refused { refusal });
+        append_entry(&mut pieces.epoch, who, end, Event::Refused { refusal });
         return Err((Moving::of_pieces(pieces, backup, course, window), refusal));
     }
     let was = before_end(&pieces.members);
     let done = finish(&mut pieces.members, &mut pieces.bank);
     let end = pieces.bank.ops();
     if let Some(refusal) = done.refusal {
-        let roles = newly_vacant(&pieces.members, was.count, was.vacant);
+        let roles = newly_unassigned(&pieces.members, was.count, was.vacant);
         let event = Event::Refused { refusal };
-        enter_behind(&mut pieces.epoch, who, end, roles, done.spares, event);
+        append_after_losses(&mut pieces.epoch, who, end, roles, done.spares, event);
         return Err((Moving::of_pieces(pieces, backup, course, window), refusal));
     }
     let left = ended_left(&pieces.members, &pieces.work, &pieces.ahead);

@@ -36,7 +36,7 @@ pub fn alike_places_stand()
 {}
 
 /// A change of the length leaves the values of each sector that stays.
-pub fn a_changed_length_is_told()
+pub fn a_changed_length_is_recorded()
     ensures { ResizedTells }
 {}
 
@@ -96,7 +96,7 @@ pub fn takeovers_are_seen_right()
 {}
 
 /// Behind a window no header that fitted has an active section.
-pub fn fit_headers_are_plain_behind()
+pub fn fit_headers_are_plain_after()
     ensures { FitHeadersArePlain }
 {}
 
@@ -156,7 +156,7 @@ pub fn flushed_rows_are_zeroed()
 {}
 
 /// The list stands on as the longer one, with zeros behind it.
-pub fn a_grown_list_stands()
+pub fn a_grown_list_holds()
     ensures { GrownStands }
 {}
 
@@ -166,7 +166,7 @@ pub fn a_grown_array_does_without()
 {}
 
 /// What is told with a change of the length, and without it.
-pub fn a_change_of_length_is_told()
+pub fn a_change_of_length_is_recorded()
     ensures { ResizedIsTold }
 {}
 

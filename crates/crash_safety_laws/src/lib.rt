@@ -56,12 +56,12 @@ pub fn a_change_stays_safe()
 {}
 
 /// An update in which each slot stays what it is keeps an array safe.
-pub fn a_kept_change_stays_safe()
+pub fn a_preserved_change_stays_safe()
     ensures { KeptStaysSafe ⊤ }
 {}
 
 /// So does the clean or dirty mark.
-pub fn a_mark_stays_safe()
+pub fn a_point_stays_safe()
     ensures { MarkStaysSafe ⊤ }
 {}
 
@@ -107,7 +107,7 @@ pub fn held_stays()
 
 /// An array that is safe stays so while slots are lost, over flushes, over rows that are written while it is dirty, and over rows
 /// that are rebuilt; each image is read as a view that is right.
-pub fn safety_is_kept()
+pub fn safety_is_preserved()
     ensures seen { SafeIsSeen ⊤ }
     ensures losing { LosingStaysSafe ⊤ }
     ensures flushes { FlushesStaySafe ⊤ }

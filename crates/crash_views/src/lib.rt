@@ -67,12 +67,12 @@ pub fn region_rows_are_one()
 {}
 
 /// Without a reshape the list stands as in an array of one shape.
-pub fn a_still_list_stands()
+pub fn an_idle_list_holds()
     ensures { StillStands }
 {}
 
 /// Once the position has moved past a copied window, the list stands.
-pub fn a_moved_list_stands()
+pub fn a_moved_list_holds()
     ensures { MovedStands }
 {}
 
@@ -127,7 +127,7 @@ pub fn stored_is_closed()
 {}
 
 /// Where it was and failed, the window is unsure.
-pub fn naming_is_unsure()
+pub fn naming_is_uncertain()
     ensures { NamingIsUnsure }
 {}
 

@@ -38,7 +38,7 @@ pub fn writes_elsewhere_are_unseen()
 {}
 
 /// What stands at a sector is decided by the superblocks, the section and its row alone.
-pub fn stands_by_its_row()
+pub fn holds_by_its_row()
     ensures { StandsByItsRow }
 {}
 
@@ -53,7 +53,7 @@ pub fn writes_make_their_images()
 {}
 
 /// One proof for a bound on what sectors hold over a stretch gives every mark of it.
-pub fn bounds_serve_each_mark()
+pub fn bounds_serve_each_point()
     ensures { BoundsServeEachMark }
 {}
 
@@ -78,7 +78,7 @@ pub fn sound_arrays_are_found()
 {}
 
 /// In an array of one shape what is lost is gone until it is rebuilt, and what is unclean isn't resynced, or is written.
-pub fn losses_are_gone()
+pub fn losses_are_missing()
     ensures { LossesAreGone }
 {}
 

@@ -7,7 +7,7 @@ ghost use Rattle.array_members.specs.history_Plain.{entries_of};
 ghost use Rattle.history_append.specs.Losing.{losses_of, failure_events};
 ghost use Rattle.array_members.specs.history_the_Event_TheVariants.{Refused as Refuses};
 
-use crate::losses::enter_losses;
+use crate::losses::append_losses;
 use history_laws::{Entries, Entry, Epoch, Event, Refusal, Sectors, Who};
 
 /// The caller's next number, which is at most the number of entries.
@@ -27,7 +27,7 @@ pub fn check_open(entries: &Entries, who: Who)
 }
 
 /// One entry of a call, for which there is room.
-pub fn enter(epoch: &mut Epoch, who: Who, end: u64, event: Event)
+pub fn append_entry(epoch: &mut Epoch, who: Who, end: u64, event: Event)
     requires room { 0 < epoch.old.entries.room }
     requires number { who.number ≤ length epoch.old.entries.items }
     ensures items { epoch.new.entries.items ≡ epoch.old.entries.items ++ entries_of who end (event ∷ []) }
@@ -38,7 +38,7 @@ pub fn enter(epoch: &mut Epoch, who: Who, end: u64, event: Event)
     ensures last { epoch.new.last ≡ end }
 {
     epoch.last = end;
-    epoch.entries.put(Entry {
+    epoch.entries.write_listed(Entry {
         caller: who.caller,
         number: who.number,
         end,
@@ -47,7 +47,14 @@ pub fn enter(epoch: &mut Epoch, who: Who, end: u64, event: Event)
 }
 
 /// An event behind the losses of these roles and spares.
-pub fn enter_behind(epoch: &mut Epoch, who: Who, end: u64, roles: u32, spares: u32, event: Event)
+pub fn append_after_losses(
+    epoch: &mut Epoch,
+    who: Who,
+    end: u64,
+    roles: u32,
+    spares: u32,
+    event: Event,
+)
     requires room { 49 ≤ epoch.old.entries.room }
     requires number { who.number ≤ length epoch.old.entries.items }
     ensures items { epoch.new.entries.items ≡ epoch.old.entries.items ++ entries_of who end (losses_of roles spares ++ event ∷ []) }
@@ -57,12 +64,12 @@ pub fn enter_behind(epoch: &mut Epoch, who: Who, end: u64, roles: u32, spares: u
     ensures first { epoch.new.first ≡ epoch.old.first }
     ensures last { epoch.new.last ≡ end }
 {
-    enter_losses(epoch, who, end, roles, spares);
-    enter(epoch, who, end, event);
+    append_losses(epoch, who, end, roles, spares);
+    append_entry(epoch, who, end, event);
 }
 
 /// The losses of these roles and spares alone.
-pub fn enter_lost(epoch: &mut Epoch, who: Who, end: u64, roles: u32, spares: u32)
+pub fn append_lost(epoch: &mut Epoch, who: Who, end: u64, roles: u32, spares: u32)
     requires room { 48 ≤ epoch.old.entries.room }
     requires number { who.number ≤ length epoch.old.entries.items }
     ensures items { epoch.new.entries.items ≡ epoch.old.entries.items ++ entries_of who end (losses_of roles spares) }
@@ -72,13 +79,13 @@ pub fn enter_lost(epoch: &mut Epoch, who: Who, end: u64, roles: u32, spares: u32
     ensures first { epoch.new.first ≡ epoch.old.first }
     ensures last { epoch.new.last ≡ end }
 {
-    enter_losses(epoch, who, end, roles, spares);
+    append_losses(epoch, who, end, roles, spares);
     epoch.last = end;
 }
 
 /// A write that lost these roles and spares, and is refused: what it may have left counts where its rows had begun to be
 /// written.
-pub fn enter_failure(
+pub fn append_failure(
     epoch: &mut Epoch,
     who: Who,
     end: u64,
@@ -99,9 +106,9 @@ pub fn enter_failure(
     ensures last { epoch.new.last ≡ end }
 {
     if !torn {
-        enter_behind(epoch, who, end, roles, spares, Event::Refused { refusal });
+        append_after_losses(epoch, who, end, roles, spares, Event::Refused { refusal });
         return;
     }
-    enter_behind(epoch, who, end, roles, spares, Event::Torn { at, body });
-    enter(epoch, who, end, Event::Refused { refusal });
+    append_after_losses(epoch, who, end, roles, spares, Event::Torn { at, body });
+    append_entry(epoch, who, end, Event::Refused { refusal });
 }

@@ -4,7 +4,7 @@ ghost use Rattle.std.specs.Prelude.{◌≡◌, ◌++◌, ◌+◌, ◌<◌, ◌�
 ghost use Rattle.history_append.specs.Losing.{role_loss, role_losses, spare_loss, spare_losses, losses_of, IsSameEpoch};
 ghost use Rattle.array_members.specs.history_Plain.{entries_of};
 
-use crate::calls::enter;
+use crate::calls::append_entry;
 use history_laws::{Epoch, Event, LostCause, Who, contains};
 
 // A loss of this role, if it is in the set.
@@ -18,7 +18,7 @@ fn enter_role(epoch: &mut Epoch, who: Who, end: u64, roles: u32, role: u32)
 {
     if contains(roles, role) {
         let cause = LostCause::Fault;
-        enter(epoch, who, end, Event::Lost { role, cause });
+        append_entry(epoch, who, end, Event::Lost { role, cause });
     }
 }
 
@@ -45,7 +45,7 @@ fn enter_spare(epoch: &mut Epoch, who: Who, end: u64, spares: u32, slot: u32)
     ensures same { IsSameEpoch epoch.old epoch.new }
 {
     if contains(spares, slot) {
-        enter(epoch, who, end, Event::SpareLost { slot });
+        append_entry(epoch, who, end, Event::SpareLost { slot });
     }
 }
 
@@ -63,7 +63,7 @@ fn enter_spares(epoch: &mut Epoch, who: Who, end: u64, spares: u32)
 }
 
 /// Enters a loss for each of these roles, and one for each of these spares.
-pub fn enter_losses(epoch: &mut Epoch, who: Who, end: u64, roles: u32, spares: u32)
+pub fn append_losses(epoch: &mut Epoch, who: Who, end: u64, roles: u32, spares: u32)
     requires room { 48 ≤ epoch.old.entries.room }
     requires number { who.number ≤ length epoch.old.entries.items }
     ensures items { epoch.new.entries.items ≡ epoch.old.entries.items ++ entries_of who end (losses_of roles spares) }

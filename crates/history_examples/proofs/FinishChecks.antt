@@ -19,7 +19,7 @@ use Rattle.history.specs.Reshaped.{IsReshaped, IsConsistentAt, IsConsistentBy, I
 use Rattle.history.specs.Stands.{held_row}
 use Rattle.history.specs.raid_layout_Layout.{row_roles, stripe_p}
 use Rattle.history.specs.raid_parity_Parity.{Row, lacking_in, AreEquationsMet}
-use Rattle.history.proofs.raid_parity_ParityChecks.{left_behind, zero_row}
+use Rattle.history.proofs.raid_parity_ParityChecks.{left_after, zero_row}
 use Rattle.history_examples.proofs.SmallReshape.{reshaping, three, superblock, member, scope}
 
 -- At the end of the windows. Row 0 of the new shape has a one on role 0, and nothing on role 1 and on role 2, its P.
@@ -68,7 +68,7 @@ not-good (Some r) size row consistent =
     let rows : r.newest.size ≡ 32 = same-some r.newest.size 32 size in
     let held : held_row finished r shape 0 ≡ Some (1 ∷ []) ∷ Some [] ∷ Some [] ∷ [] =
     same-some (held_row finished r shape 0) (Some (1 ∷ []) ∷ Some [] ∷ Some [] ∷ []) row in
-    left_behind (subst (λ (row : Row). AreEquationsMet (row_roles shape 0) row) held (consistent.rows 0 (omega (arith, rows))).parity)
+    left_after (subst (λ (row : Row). AreEquationsMet (row_roles shape 0) row) held (consistent.rows 0 (omega (arith, rows))).parity)
 
 none-gone : AreTooManyGone world entries shape → ⊥
 unfolding count_below is_gone_after

@@ -11,12 +11,12 @@ pub use history::{
 };
 
 /// A mark that was safe stays safe, whatever is done and entered after it.
-pub fn marks_stay_safe()
+pub fn points_stay_safe()
     ensures { MarksStaySafe }
 {}
 
 /// A call owes the marks that it adds, and the one at which it began.
-pub fn calls_owe_their_marks()
+pub fn calls_owe_their_points()
     ensures { CallsOweTheirMarks }
 {}
 

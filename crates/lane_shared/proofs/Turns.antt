@@ -9,7 +9,7 @@ use Rattle.array_requests.specs.declared.reply.Reply.TheVariants.{Done, NoMemory
 use Rattle.lane_shared.specs.declared.worker.Worked.{Worked}
 use Rattle.lane_shared.specs.Carried.{Carried, GoesOn, IsAnswered}
 use Rattle.lane_shared.specs.Lane.{AreCalls, AreDone}
-use Rattle.lane_shared.specs.Worker.{done_in, left_behind, AreTurns, HasWorked}
+use Rattle.lane_shared.specs.Worker.{done_in, left_after, AreTurns, HasWorked}
 use Rattle.lane_shared.proofs.Done.{none-done, AllEntered, calls-one, done-one}
 
 abbrev Turn : Type 0
@@ -19,7 +19,7 @@ abbrev no-turn : List Turn
 no-turn = []
 
 -- a turn behind which another follows was entered
-goes-entered : (reply : Reply) (more : ℕ) (replies : List Reply) → left_behind reply ≡ Some more → AllEntered replies → AllEntered (reply ∷ replies)
+goes-entered : (reply : Reply) (more : ℕ) (replies : List Reply) → left_after reply ≡ Some more → AllEntered replies → AllEntered (reply ∷ replies)
 goes-entered (Done at event) more replies is all = all
 goes-entered Short more replies is all = absurd cc
 
@@ -27,13 +27,13 @@ not-none : (before : List Turn) (t : Turn) → before ++ t ∷ [] ≡ [] → ⊥
 not-none [] t is = cc
 not-none (b ∷ before) t is = cc
 
-module _ (answers : ℕ → ℕ → ℕ → Type 0) (last : Turn) (more : ℕ) (goes : left_behind last.1 ≡ Some more) where
+module _ (answers : ℕ → ℕ → ℕ → Type 0) (last : Turn) (more : ℕ) (goes : left_after last.1 ≡ Some more) where
   all-entered : (before : List Turn) (turn left : ℕ) → AreTurns answers turn left (before ++ last ∷ []) → AllEntered (map (λ (t : Turn). t.1) (before ++ last ∷ []))
   all-entered [] turn left turns = goes-entered last.1 more [] goes tt
-  all-entered (b ∷ before) turn left turns = one (λ n rest. all-entered before (turn + 1) n rest) (left_behind b.1) refl turns.1
+  all-entered (b ∷ before) turn left turns = one (λ n rest. all-entered before (turn + 1) n rest) (left_after b.1) refl turns.1
     where
       one : ((n : ℕ) → AreTurns answers (turn + 1) n (before ++ last ∷ []) → AllEntered (map (λ (t : Turn). t.1) (before ++ last ∷ [])))
-          → (found : Option ℕ) → left_behind b.1 ≡ found → MatchOption found (before ++ last ∷ [] ≡ []) (λ more. AreTurns answers (turn + 1) more (before ++ last ∷ []))
+          → (found : Option ℕ) → left_after b.1 ≡ found → MatchOption found (before ++ last ∷ [] ≡ []) (λ more. AreTurns answers (turn + 1) more (before ++ last ∷ []))
           → AllEntered (map (λ (t : Turn). t.1) ((b ∷ before) ++ last ∷ []))
       one later None is none = absurd (not-none before last none)
       one later (Some n) is rest = goes-entered b.1 n (map (λ (t : Turn). t.1) (before ++ last ∷ [])) is (later n rest)
@@ -42,7 +42,7 @@ module _ (answers : ℕ → ℕ → ℕ → Type 0) (last : Turn) (more : ℕ) (
       → AreTurns answers turn left ((before ++ last ∷ []) ++ next ∷ [])
   asked-more [] turn left next turns asked = (
     turns.0,
-    subst (λ (found : Option ℕ). MatchOption found (next ∷ [] ≡ []) (λ m. AreTurns answers (turn + 1) m (next ∷ []))) (sym goes) (asked, ends (left_behind next.1)),
+    subst (λ (found : Option ℕ). MatchOption found (next ∷ [] ≡ []) (λ m. AreTurns answers (turn + 1) m (next ∷ []))) (sym goes) (asked, ends (left_after next.1)),
   )
     where
       ends : (found : Option ℕ) → MatchOption found (no-turn ≡ []) (λ m. AreTurns answers (turn + 1 + 1) m [])
@@ -50,7 +50,7 @@ module _ (answers : ℕ → ℕ → ℕ → Type 0) (last : Turn) (more : ℕ) (
       ends (Some m) = tt
   asked-more (b ∷ before) turn left next turns asked = (
     turns.0,
-    one (λ m rest. asked-more before (turn + 1) m next rest (subst (λ (n : ℕ). answers n more next.0) (omega arith) asked)) (left_behind b.1) turns.1,
+    one (λ m rest. asked-more before (turn + 1) m next rest (subst (λ (n : ℕ). answers n more next.0) (omega arith) asked)) (left_after b.1) turns.1,
   )
     where
       one : ((m : ℕ) → AreTurns answers (turn + 1) m (before ++ last ∷ []) → AreTurns answers (turn + 1) m ((before ++ last ∷ []) ++ next ∷ []))
@@ -72,7 +72,7 @@ first-turn answered carried answers left most old new reply done asked call goes
   turns = (most, reply) ∷ [];
   calls = calls-one answered old old new [] [] (AsksSteps most) reply refl tt call;
   made = done-one (carried old) (carried old) (carried new) [] [] (AsksSteps most) (none-done (carried old)) tt goes reply entered;
-  asked = (asked, ends (left_behind reply));
+  asked = (asked, ends (left_after reply));
   count = refl;
   done = omega (arith, is);
   last = ([], most, refl);
@@ -85,7 +85,7 @@ first-turn answered carried answers left most old new reply done asked call goes
 -- one more
 pub turn-more : {tells P : Type 0} (answered : P → Request → Reply → P → Type 0) (carried : P → Carried) (answers : ℕ → ℕ → ℕ → Type 0) (left more most : ℕ)
     (old mid new : P) (worked : Worked) (reply : Reply) (done : ℕ)
-    → left_behind worked.last ≡ Some more → HasWorked answered carried answers left old mid worked → answers worked.turns more most
+    → left_after worked.last ≡ Some more → HasWorked answered carried answers left old mid worked → answers worked.turns more most
     → answered mid (AsksSteps most) reply new → GoesOn tells (carried mid) (carried new) → IsAnswered tells (carried mid) (AsksSteps most) reply (carried new)
     → done ≡ done_in reply
     → HasWorked answered carried answers left old new (record { turns = worked.turns + 1; done = worked.done + done; last = reply })

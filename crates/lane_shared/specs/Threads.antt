@@ -7,7 +7,7 @@ use Rattle.lane_shared.specs.array_requests_the_Reply.{Reply}
 use Rattle.lane_shared.specs.declared.worker.Worked.{Worked}
 use Rattle.lane_shared.specs.Carried.{Carried, GoesOn}
 use Rattle.lane_shared.specs.Lane.{AreDone}
-use Rattle.lane_shared.specs.Worker.{done_in, left_behind, AreTurns}
+use Rattle.lane_shared.specs.Worker.{done_in, left_after, AreTurns}
 
 -- From one pass to the other its caller has made these requests, and they were answered so.
 pub record HasPassed (tells : Type 0) (old new : Carried) (requests : List Request) (replies : List Reply) : Type 0 where
@@ -24,6 +24,6 @@ pub record HasWorkedBy (WereMade : List Request → List Reply → Type 0) (answ
   pub count : worked.turns ≡ length turns
   pub done : worked.done ≡ sum_by (λ t. done_in t.1) turns
   pub last : (before : List (ℕ × Reply)) × (most : ℕ) × (turns ≡ before ++ (most, worked.last) ∷ [])
-  pub ended : IsNone (left_behind worked.last) ⊎ (worked.turns ≡ 2 ^ 40)
+  pub ended : IsNone (left_after worked.last) ⊎ (worked.turns ≡ 2 ^ 40)
   pub at_most : worked.turns ≤ 2 ^ 40
   pub few : worked.turns ≤ worked.done + 1

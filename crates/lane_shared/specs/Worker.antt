@@ -16,16 +16,16 @@ done_in (Done at (Stepped done left ended)) = done
 done_in reply = 0
 
 -- how many steps are left behind a reply, where more can be asked for: some are, and none was refused
-abbrev pub left_behind : Reply → Option ℕ
-left_behind (Done at (Stepped done left None)) = if left == 0 then None else Some left
-left_behind reply = None
+abbrev pub left_after : Reply → Option ℕ
+left_after (Done at (Stepped done left None)) = if left == 0 then None else Some left
+left_after reply = None
 
 -- Turns from this one on, with so many steps left. Each asks for as many steps as the pace answers, and another follows only where more can be
 -- asked for.
 abbrev pub AreTurns : (ℕ → ℕ → ℕ → Type 0) → ℕ → ℕ → List (ℕ × Reply) → Type 0
 AreTurns answers turn left [] = ⊤
 AreTurns answers turn left (now ∷ turns) =
-    answers turn left now.0 × MatchOption (left_behind now.1) (turns ≡ []) (λ more. AreTurns answers (turn + 1) more turns)
+    answers turn left now.0 × MatchOption (left_after now.1) (turns ≡ []) (λ more. AreTurns answers (turn + 1) more turns)
 
 -- A worker asked for steps, turn after turn, and for nothing else. It tells how many turns it had, how many steps were done in them, and the last
 -- reply.

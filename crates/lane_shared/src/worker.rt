@@ -3,7 +3,7 @@ ghost use Rattle.std.specs.Prelude.{◌≡◌, ◌≢◌, ◌⊎◌, ◌+◌, �
 ghost use Rattle.history_caller_laws.specs.history_the_Request_TheVariants.{Steps as AsksSteps};
 ghost use Rattle.lane_shared.specs.Pace.{AnswersSteps, Paces, asked_by};
 ghost use Rattle.lane_shared.specs.Carried.{GoesOn, IsOwn, IsAnswered};
-ghost use Rattle.lane_shared.specs.Worker.{done_in, left_behind, HasWorked};
+ghost use Rattle.lane_shared.specs.Worker.{done_in, left_after, HasWorked};
 
 use crate::pace::Pace;
 use crate::service::Service;
@@ -34,7 +34,7 @@ fn steps_done(reply: &Reply) -> u64
 
 // How many steps are left, where the worker goes on behind this reply.
 fn steps_left(reply: &Reply) -> Option<u64>
-    ensures { result ≡ left_behind reply.now }
+    ensures { result ≡ left_after reply.now }
 {
     match reply {
         Reply::Done {
@@ -67,7 +67,7 @@ fn take_turn<R: Wait, S: Service, F: Fn(u64, u64) -> u64>(
     ensures own { IsOwn (S.carried result.0) }
     ensures asked { (most : ℕ) × Paces (F.post (asked_by pace.now)) turn left most × S.answered pass (AsksSteps most) result.1 result.0 × IsAnswered S.tells (S.carried pass) (AsksSteps most) result.1 (S.carried result.0) }
     ensures most { done_in result.1 ≤ 64 }
-    ensures some { IfSome (left_behind result.1) (λ more. 1 ≤ done_in result.1) }
+    ensures some { IfSome (left_after result.1) (λ more. 1 ≤ done_in result.1) }
 {
     let most = pace.ask(turn, left);
     service.call(rt, pass, Request::Steps { most })
@@ -90,7 +90,7 @@ pub fn run_worker<R: Wait, S: Service, F: Fn(u64, u64) -> u64>(
     ensures later { GoesOn S.tells (S.carried pass) (S.carried result.0) }
     ensures own { IsOwn (S.carried result.0) }
     ensures worked { HasWorked S.answered S.carried (Paces (F.post (asked_by pace.now))) left pass result.0 result.1 }
-    ensures ended { IsNone (left_behind result.1.last) ⊎ (result.1.turns ≡ 2 ^ 40) }
+    ensures ended { IsNone (left_after result.1.last) ⊎ (result.1.turns ≡ 2 ^ 40) }
     ensures at_most { result.1.turns ≤ 2 ^ 40 }
     ensures few { result.1.turns ≤ result.1.done + 1 }
 {

@@ -63,9 +63,9 @@ pub from_one : get_or (fill three (without_one (1 ∷ [])) 1) 0 0 ≡ 3
 from_one = first-byte three (without_one (1 ∷ [])) 1 ∙ three_found
 
 -- a row whose parity was left behind isn't good
-pub left_behind : AreEquationsMet three (Some (1 ∷ []) ∷ Some [] ∷ Some [] ∷ []) → ⊥
+pub left_after : AreEquationsMet three (Some (1 ∷ []) ∷ Some [] ∷ Some [] ∷ []) → ⊥
 unfolding filled product_of_bits product
-left_behind met = wrong (met 0 (lit≤ tt))
+left_after met = wrong (met 0 (lit≤ tt))
   where
     wrong : (p_holds three (filled three [] (1 ∷ 0 ∷ 0 ∷ [])) && q_holds three (filled three [] (1 ∷ 0 ∷ 0 ∷ []))) ≡ true → ⊥
     wrong same = absurd (cc)

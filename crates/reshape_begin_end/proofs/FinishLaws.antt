@@ -57,7 +57,7 @@ use Rattle.reshape_sb_updates.proofs.crash_reshape_laws_GrownStanding.{grown-sta
 use Rattle.reshape_sb_updates.proofs.crash_reshape_laws_PlanRoles.{planned-or}
 use Rattle.reshape_sb_updates.specs.Ending.{holds_from, dropped_give, ending}
 use Rattle.reshape_sb_updates.proofs.EndedPlan.{dropped-or, dropping, dropping-one, disks-are, is-ended, plan-placed-is}
-use Rattle.sb_safe_updates.specs.array_members_Placed.{is_vacant, IsPlaced}
+use Rattle.sb_safe_updates.specs.array_members_Placed.{is_unassigned, IsPlaced}
 use Rattle.sb_safe_updates.specs.array_members_Moving.{IsMoved}
 use Rattle.sb_safe_updates.specs.array_members_Lacking.{HaveFailedSince}
 use Rattle.sb_safe_updates.specs.array_members_Rebuilding.{IsFree, AreSparesFree}
@@ -435,8 +435,8 @@ module _ (given : Given) (old m new : Members) (moved : IsMoved given old m) (ac
 
 -- the roles that lost their slots in the flush
 module _ (given : Given) (old m : Members) (moved : IsMoved given old m) (was : IsPlaced given old) (whole : HasNoneRecovering old) (count first roles : ℕ) (count-is : count ≡ length old.roles)
-    (first-is : (role : ℕ) → has_slot first role ≡ (nat_lt role count && is_vacant (reading_of old) role))
-    (roles-is : (role : ℕ) → has_slot roles role ≡ ((nat_lt role count && is_vacant (reading_of m) role) && not (has_slot first role))) where
+    (first-is : (role : ℕ) → has_slot first role ≡ (nat_lt role count && is_unassigned (reading_of old) role))
+    (roles-is : (role : ℕ) → has_slot roles role ≡ ((nat_lt role count && is_unassigned (reading_of m) role) && not (has_slot first role))) where
   is-less : (a b : ℕ) → a < b → nat_lt a b ≡ true
   is-less a b lt = grind (arith, nat_tests, lt)
 
@@ -444,7 +444,7 @@ module _ (given : Given) (old m : Members) (moved : IsMoved given old m) (was : 
   never true = refl
   never false = refl
 
-  in-roles : (role : ℕ) → role < count → is_vacant (reading_of m) role ≡ true → is_vacant (reading_of old) role ≡ false → has_slot roles role ≡ true
+  in-roles : (role : ℕ) → role < count → is_unassigned (reading_of m) role ≡ true → is_unassigned (reading_of old) role ≡ false → has_slot roles role ≡ true
   in-roles role lt vacant held = roles-is role ∙ (λ i. (is-less role count lt i && vacant i) && not ((first-is role ∙ ap (λ (b : Bool). nat_lt role count && b) held ∙ never (nat_lt role count)) i))
 
   pub roles-lost : (spares : ℕ) (f0 f1 : ℕ → ℕ) → HaveFailedSince old m spares f0 f1 → (role slot : ℕ) → holder (role_state (reading_of old) role) ≡ Some slot
@@ -471,8 +471,8 @@ module _ (given : Given) (old m : Members) (moved : IsMoved given old m) (was : 
       → (slot : ℕ) × (holder (role_state (reading_of old) role) ≡ Some slot) × IsFaulted slot f0 f1
   roles-gone spares f0 f1 since role has = of (holder (role_state (reading_of old) role)) refl
     where
-      parts : (nat_lt role count ≡ true) × (is_vacant (reading_of m) role ≡ true) × (has_slot first role ≡ false)
-      parts = both-parts (nat_lt role count) (is_vacant (reading_of m) role) (has_slot first role) (sym (roles-is role) ∙ has)
+      parts : (nat_lt role count ≡ true) × (is_unassigned (reading_of m) role ≡ true) × (has_slot first role ≡ false)
+      parts = both-parts (nat_lt role count) (is_unassigned (reading_of m) role) (has_slot first role) (sym (roles-is role) ∙ has)
 
       of : (o : Option ℕ) → holder (role_state (reading_of old) role) ≡ o → (slot : ℕ) × (holder (role_state (reading_of old) role) ≡ Some slot) × IsFaulted slot f0 f1
       of (Some slot) is = (
@@ -494,7 +494,7 @@ module _ (given : Given) (old m : Members) (moved : IsMoved given old m) (was : 
       below : role < role_count old.newest
       below = (let count = count-alike old.newest m.newest moved.reshape moved.shape moved.size in omega (arith, lt, count))
 
-      first-or : is_vacant (reading_of m) role ≡ true → (b : Bool) → is_vacant (reading_of old) role ≡ b → told.gone role ≡ true
+      first-or : is_unassigned (reading_of m) role ≡ true → (b : Bool) → is_unassigned (reading_of old) role ≡ b → told.gone role ≡ true
       first-or vacant true before = gone role below (missing-vacant (role_state (reading_of old) role) before)
         where
           missing-vacant : (state : Role) → not (is_some (holder state)) ≡ true → not (is_whole state) ≡ true
@@ -506,7 +506,7 @@ module _ (given : Given) (old m : Members) (moved : IsMoved given old m) (was : 
       of : (state : Role) → role_state (reading_of m) role ≡ state → told.gone role ≡ true
       of (Whole s) is = absurd (let clash = sym (ap (λ (state : Role). not (is_whole state)) is) ∙ missing in cc)
       of (Recovering s) is = absurd (whole role s (sym (moved.states role s (ap holder is)) ∙ is))
-      of Missing is = first-or (ap (λ (state : Role). not (is_some (holder state))) is) (is_vacant (reading_of old) role) refl
+      of Missing is = first-or (ap (λ (state : Role). not (is_some (holder state))) is) (is_unassigned (reading_of old) role) refl
 
   pub lost-in-flush : (spares : ℕ) (f0 f1 : ℕ → ℕ) → HaveFailedSince old m spares f0 f1 → AreLostInEnd old m roles spares 0 f0 f1
   lost-in-flush spares f0 f1 since = record {

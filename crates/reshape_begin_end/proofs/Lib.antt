@@ -98,7 +98,7 @@ pub use Rattle.sb_safe_updates.proofs.array_members_LiveLeft
 pub use Rattle.sb_safe_updates.proofs.array_members_MarkLaws
 pub use Rattle.sb_safe_updates.proofs.array_members_MarkedSafe
 pub use Rattle.sb_safe_updates.proofs.array_members_MemberLaws
-pub use Rattle.sb_safe_updates.proofs.array_members_MendedParts
+pub use Rattle.sb_safe_updates.proofs.array_members_SyncedParts
 pub use Rattle.sb_safe_updates.proofs.array_members_MovedLaws
 pub use Rattle.sb_safe_updates.proofs.array_members_PlacedLaws
 pub use Rattle.sb_safe_updates.proofs.array_members_SafeStretch

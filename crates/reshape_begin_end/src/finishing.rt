@@ -27,9 +27,9 @@ ghost use Rattle.reshape_begin_end.specs.Finished.{IsOver, IsEndedBehind, AreLos
 
 use crate::beginning::{check_counts, check_entries};
 use reshape_sb_updates::end_update;
-use sb_safe_updates::naming::newly_vacant;
+use sb_safe_updates::naming::newly_unassigned;
 use sb_safe_updates::refusing::too_many;
-use sb_safe_updates::roles::vacant_roles;
+use sb_safe_updates::roles::unassigned_roles;
 use sb_safe_updates::settles::flush_naming;
 use sb_safe_updates::{Bank, Lostness, Members, Refusal};
 
@@ -92,9 +92,9 @@ pub fn finish<B: Bank>(members: &mut Members, bank: &mut B) -> Finished
     ensures given { B.given bank.new ≡ B.given bank.old }
 {
     let count = count_roles(members);
-    let before = vacant_roles(members, count);
+    let before = unassigned_roles(members, count);
     let spares = flush_naming(members, bank);
-    let roles = newly_vacant(members, count, before);
+    let roles = newly_unassigned(members, count, before);
     match too_many(members) {
         Some(why) => {
             return Finished {

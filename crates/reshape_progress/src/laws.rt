@@ -4,27 +4,27 @@ ghost use Rattle.std.specs.Prelude.{⊤};
 ghost use Rattle.reshape_progress.specs.Laws.{ByShapes, CoursesStandWhole, BeginsStand, EntersStand, CoursesMove, CopiesGoOn, CoursesAreCopied, WindowsAreCopied, RecordsClose, RestsGoOn, FinishesClose, ZeroesGoOn, ZeroesAreAll, CoursesStandUnder, StoredMove, OpenHeadersFit, WritesGoOn, TornWritesGoOn, SparesLeaveCourses, SparesLeaveStored};
 
 /// Members that do without what they miss stand in it by any shape.
-pub fn a_course_stands_whole()
+pub fn progress_holds_whole()
     ensures { CoursesStandWhole ⊤ }
 {}
 
 /// A reshape begins.
-pub fn a_begun_reshape_stands()
+pub fn a_begun_reshape_holds()
     ensures { ByShapes (BeginsStand ⊤) }
 {}
 
 /// A window is entered.
-pub fn an_entered_window_stands()
+pub fn an_entered_window_holds()
     ensures { ByShapes (EntersStand ⊤) }
 {}
 
 /// Members that lost slots stand in the same course.
-pub fn a_course_moves()
+pub fn progress_moves()
     ensures { ByShapes (CoursesMove ⊤) }
 {}
 
 /// Members that differ in spares stand in the same course.
-pub fn spares_leave_a_course()
+pub fn spares_leave_progress()
     ensures { ByShapes (SparesLeaveCourses ⊤) }
 {}
 
@@ -34,7 +34,7 @@ pub fn a_copy_goes_on()
 {}
 
 /// What a copy writes is the list that stands.
-pub fn a_course_is_copied()
+pub fn progress_is_copied()
     ensures { ByShapes (CoursesAreCopied ⊤) }
 {}
 
@@ -79,7 +79,7 @@ pub fn a_torn_write_goes_on()
 {}
 
 /// The list stands whichever header a stop leaves.
-pub fn a_course_stands_under_each_header()
+pub fn progress_holds_under_each_header()
     ensures { CoursesStandUnder ⊤ }
 {}
 

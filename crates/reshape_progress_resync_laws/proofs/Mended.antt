@@ -27,7 +27,7 @@ use Rattle.reshape_progress.proofs.array_members_LackingWrites.{others-same}
 use Rattle.reshape_progress.specs.reshape_window_steps_Zeroing.{IsThrough}
 use Rattle.reshape_progress.proofs.reshape_window_steps_CopyLaws.{row-later}
 use Rattle.stripe_region_resync.specs.stripe_region_read_Stretches.{RowsStandIn}
-use Rattle.stripe_region_resync.specs.Mends.{low_shape, low_stripes, mend_stripes, stripe_behind, relied_sector, IsMendRow, AreEndsStanding}
+use Rattle.stripe_region_resync.specs.Mends.{low_shape, low_stripes, resync_stripes, stripe_after, relied_sector, IsResyncRow, AreEndsStanding}
 use Rattle.stripe_region_resync.proofs.Alike.{low-alike, low-stripes-alike, relied-alike}
 use Rattle.stripe_region_resync.proofs.ReliedLaws.{to-all}
 use Rattle.stripe_region_resync.proofs.StripeLaws.{is-next}
@@ -39,7 +39,7 @@ use Rattle.reshape_progress.specs.Course.{IsCourseOf, IsCopiedRow, IsOfStripes, 
 use Rattle.reshape_progress.proofs.Frames.{zeroed-before}
 use Rattle.reshape_progress.proofs.Courses.{courses-move}
 use Rattle.reshape_progress.proofs.Writes.{writes-go-on}
-use Rattle.reshape_progress_resync_laws.specs.Mended.{IsAside, IsMendSector, StandsMended, NoneIsPending, FewerShapesStand, MendedCoursesMove, IsMending, IsMended, MendsGoOn, ResyncsEnd, MendedWritesGoOn}
+use Rattle.reshape_progress_resync_laws.specs.Mended.{IsAside, IsResyncSector, StandsSynced, NoneIsPending, FewerShapesStand, SyncedCoursesMove, IsResyncing, IsSynced, ResyncsGoOn, ResyncsEnd, SyncedWritesGoOn}
 
 -- ---- with no resync
 
@@ -83,7 +83,7 @@ fewer-shapes sound among fewer resync m course buffer c list of was = record {
 
 module _ (given : Given) (old new : Members) (moved : IsMoved given old new) (list : ℕ → Sector) where
   -- the sectors that a resync reads are the same
-  pub whole-on : ((x : ℕ) → IsMendSector old.newest x → IsSector (list x)) → (x : ℕ) → IsMendSector new.newest x → IsSector (list x)
+  pub whole-on : ((x : ℕ) → IsResyncSector old.newest x → IsSector (list x)) → (x : ℕ) → IsResyncSector new.newest x → IsSector (list x)
   whole-on whole x (inl low) = whole x (inl (subst (λ (n : ℕ). x < n) (list-alike old.newest new.newest moved.reshape moved.shape moved.size) low))
   whole-on whole x (inr under) = whole x (inr (subst (λ (s : Shape). (place s x).row < low_stripes old.newest * s.chunk) (low-alike old.newest new.newest moved.reshape moved.shape moved.size)
       (subst (λ (n : ℕ). (place (low_shape new.newest) x).row < n * (low_shape new.newest).chunk) (low-stripes-alike old.newest new.newest moved.reshape moved.shape moved.size) under)))
@@ -116,7 +116,7 @@ module _ (given : Given) (old new : Members) (moved : IsMoved given old new) (li
         (row-later given old new moved (shape_for old.newest x) list (place_by old.newest x).row c e (kept (place_by old.newest x).row (λ none. none))
         (rows x (subst (λ (n : ℕ). x < n) (relied-alike old.newest new.newest moved.reshape moved.shape moved.size resync) below) (subst among same own) (shown-before course x shown)))
 
-pub mended-courses-move : (sound : Type 0) (among : Shape → Type 0) → MendedCoursesMove sound among
+pub mended-courses-move : (sound : Type 0) (among : Shape → Type 0) → SyncedCoursesMove sound among
 mended-courses-move sound among given old new resync course buffer c e list placed moved others was =
     let kept : AreOtherRowsKept (λ row. ⊥) (reading_of new) c e = others-same given (λ row. ⊥) old new c e moved placed others in
     record {
@@ -135,26 +135,26 @@ none-copied newest (Entered span copied sectioned) aside row at = aside
 none-copied newest (Unsure span) aside row at = at
 
 -- its rows are of whole sectors where those that a resync reads are
-whole-rows : (newest : Sb) → AreShapesFit newest → (mended : ℕ) → mended < mend_stripes newest → (list : ℕ → Sector) → ((x : ℕ) → IsMendSector newest x → IsSector (list x))
-    → (row : ℕ) → IsMendRow newest mended row → AreWholeIn (stripe_behind newest mended).shape list row
+whole-rows : (newest : Sb) → AreShapesFit newest → (mended : ℕ) → mended < resync_stripes newest → (list : ℕ → Sector) → ((x : ℕ) → IsResyncSector newest x → IsSector (list x))
+    → (row : ℕ) → IsResyncRow newest mended row → AreWholeIn (stripe_after newest mended).shape list row
 whole-rows newest fit mended lt list whole row at y here = elim (cases_lt y (list_length newest)) [
   | inl low ↦ whole y (inl low)
   | inr past ↦ (
-      let there : IsMendRow newest mended (place (stripe_behind newest mended).shape y).row = subst (λ (r : ℕ). IsMendRow newest mended r) (sym here) at in
+      let there : IsResyncRow newest mended (place (stripe_after newest mended).shape y).row = subst (λ (r : ℕ). IsResyncRow newest mended r) (sym here) at in
       let low = next-past newest fit mended lt y past there in
       let high = there.1 in
       let few = low.1 in
-      let all = mul-le ((stripe_behind newest mended).at + 1) (stripe_behind newest mended).shape.chunk (low_stripes newest) (stripe_behind newest mended).shape.chunk (omega (arith, few)) (omega arith) in
-      let under : (place (stripe_behind newest mended).shape y).row < low_stripes newest * (stripe_behind newest mended).shape.chunk = omega (arith, high, all) in
+      let all = mul-le ((stripe_after newest mended).at + 1) (stripe_after newest mended).shape.chunk (low_stripes newest) (stripe_after newest mended).shape.chunk (omega (arith, few)) (omega arith) in
+      let under : (place (stripe_after newest mended).shape y).row < low_stripes newest * (stripe_after newest mended).shape.chunk = omega (arith, high, all) in
       whole y (inr (subst (λ (s : Shape). (place s y).row < low_stripes newest * s.chunk) low.0 under)))
 ]
 
 -- no row of it is one that is zeroed
-zeroed-beside : (newest : Sb) → AreShapesFit newest → (zeroed mended row : ℕ) → (0 < zeroed → IsThrough newest) → mended < mend_stripes newest → IsZeroedRow newest zeroed row → IsMendRow newest mended row → ⊥
+zeroed-beside : (newest : Sb) → AreShapesFit newest → (zeroed mended row : ℕ) → (0 < zeroed → IsThrough newest) → mended < resync_stripes newest → IsZeroedRow newest zeroed row → IsResyncRow newest mended row → ⊥
 zeroed-beside newest fit zeroed mended row through lt at here =
     let there = through (some-of (final_shape newest) (past_stripe newest) zeroed row at) in
     let z = next-has newest fit mended lt row here in
-    let own : shape_for newest z.0 ≡ (stripe_behind newest mended).shape = (is-next newest fit mended lt).own z.0 z.1 z.2 in
+    let own : shape_for newest z.0 ≡ (stripe_after newest mended).shape = (is-next newest fit mended lt).own z.0 z.1 z.2 in
     let z-in : z.0 < list_length newest = (let to = z.2 in let within = next-within newest fit mended lt in omega (arith, to, within)) in
     let shape = (ends-place newest z.0 there.active z-in).1 there.last in
     let below = (rows_hold (final_shape newest) (record { lo = 0; hi = list_length newest }) z.0 fit.valid.final (omega arith, z-in)).1 in
@@ -176,8 +176,8 @@ zeroed-beside newest fit zeroed mended row through lt at here =
         nothing-more a b none = omega (arith, none)
 
 module _ (sound : Type 0) (among : Shape → Type 0) (given : Given) (old new : Members) (course : Course) (mended : ℕ) (buffer : List ℕ) (c e : Contents) (list : ℕ → Sector)
-    (placed : IsPlaced given old) (moved : IsMoved given old new) (course-is : IsCourseOf old.newest course) (aside : IsAside course.window) (lt : mended < mend_stripes old.newest)
-    (left : IsMending among old new course mended c e list) (was : StandsMended sound among (Some mended) old course buffer c list) where
+    (placed : IsPlaced given old) (moved : IsMoved given old new) (course-is : IsCourseOf old.newest course) (aside : IsAside course.window) (lt : mended < resync_stripes old.newest)
+    (left : IsResyncing among old new course mended c e list) (was : StandsSynced sound among (Some mended) old course buffer c list) where
   own-final : among (final_shape new.newest) → among (final_shape old.newest)
   own-final own = subst among moved.reshape.final own
 
@@ -202,7 +202,7 @@ module _ (sound : Type 0) (among : Shape → Type 0) (given : Given) (old new : 
       → RowsStandIn among (hidden_in course.window) (relied_sector new.newest resync) new e list
   rows-of resync rows x below = rows x (subst (λ (n : ℕ). x < n) (relied-alike old.newest new.newest moved.reshape moved.shape moved.size resync) below)
 
-  pub not-mended : StandsMended sound among (Some mended) new course buffer e list
+  pub not-mended : StandsSynced sound among (Some mended) new course buffer e list
   not-mended = record {
     in_course = course-on;
     ends = λ some outside own. left.ends (own-low own) (was.ends some aside (own-low own));
@@ -210,7 +210,7 @@ module _ (sound : Type 0) (among : Shape → Type 0) (given : Given) (old new : 
     rows = λ so. rows-of (Some mended) (left.kept (was.rows so));
   }
 
-  pub one-mended : among (low_shape old.newest) → IsMended among old new course mended c e list → StandsMended sound among (Some (mended + 1)) new course buffer e list
+  pub one-mended : among (low_shape old.newest) → IsSynced among old new course mended c e list → StandsSynced sound among (Some (mended + 1)) new course buffer e list
   one-mended own done = record {
     in_course = course-on;
     ends = λ some outside low. left.ends own (was.ends some aside own);
@@ -218,7 +218,7 @@ module _ (sound : Type 0) (among : Shape → Type 0) (given : Given) (old new : 
     rows = λ so. rows-of (Some (mended + 1)) (done (whole-rows old.newest placed.fit mended lt list (was.whole refl so)) was.in_course.stands (was.ends refl aside own) (was.rows so));
   }
 
-pub mends-go-on : (sound : Type 0) (among : Shape → Type 0) → MendsGoOn sound among
+pub mends-go-on : (sound : Type 0) (among : Shape → Type 0) → ResyncsGoOn sound among
 mends-go-on sound among given old new course mended buffer c e list placed moved course-is aside lt left was = (
   not-mended sound among given old new course mended buffer c e list placed moved course-is aside lt left was,
   one-mended sound among given old new course mended buffer c e list placed moved course-is aside lt left was,
@@ -236,7 +236,7 @@ resyncs-end sound among m course buffer c list fit was = record {
 
 -- ---- a write
 
-pub mended-writes-go-on : (sound : Type 0) (among : Shape → Type 0) → MendedWritesGoOn sound among
+pub mended-writes-go-on : (sound : Type 0) (among : Shape → Type 0) → SyncedWritesGoOn sound among
 mended-writes-go-on sound among given old new resync course buffer c e list list' first from placed moved course-is w within beside others stands tail ends whole rows was = record {
   in_course = writes-go-on ⊥ among given old new course buffer c e list list' first from placed moved course-is w within beside others stands tail (λ so. absurd so) was.in_course;
   ends = ends;

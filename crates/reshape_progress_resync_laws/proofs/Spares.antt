@@ -20,7 +20,7 @@ use Rattle.stripe_region_resync.specs.Mends.{low_shape}
 use Rattle.reshape_progress.specs.declared.course.Course.{Course}
 use Rattle.reshape_progress.specs.Laws.{DifferInSpares}
 use Rattle.reshape_progress.proofs.Spares.{with_others, others-stand}
-use Rattle.reshape_progress_resync_laws.specs.Mended.{StandsMended, SparesLeaveMended}
+use Rattle.reshape_progress_resync_laws.specs.Mended.{StandsSynced, SparesLeaveSynced}
 
 module _ (old : Members) (own : List (Option Sb)) (spares : List ℕ) (lost : ℕ)
     (same : (role slot : ℕ) → holder (role_state (reading_of old) role) ≡ Some slot → own_in own slot ≡ own_in old.own slot) where
@@ -52,8 +52,8 @@ module _ (old : Members) (own : List (Option Sb)) (spares : List ℕ) (lost : �
     parity = λ role slot lt part held. there c role row slot held ∙ was.parity role slot lt part (held-as role row slot held);
   }
 
-  mended-as : (sound : Type 0) (among : Shape → Type 0) (resync : Option ℕ) (course : Course) (buffer : List ℕ) (c : Contents) (list : ℕ → Sector) → StandsMended sound among resync old course buffer c list
-      → StandsMended sound among resync new course buffer c list
+  mended-as : (sound : Type 0) (among : Shape → Type 0) (resync : Option ℕ) (course : Course) (buffer : List ℕ) (c : Contents) (list : ℕ → Sector) → StandsSynced sound among resync old course buffer c list
+      → StandsSynced sound among resync new course buffer c list
   mended-as sound among resync course buffer c list was = record {
     in_course = others-stand old own spares lost same ⊥ among course buffer c list was.in_course;
     ends = λ some aside low x slot past under held.
@@ -67,7 +67,7 @@ module _ (old : Members) (own : List (Option Sb)) (spares : List ℕ) (lost : �
 others-are : (old new : Members) → DifferInSpares old new → record old { own = new.own; spares = new.spares; lost = new.lost } ≡ new
 others-are old new is = λ i. record new { newest = sym is.newest i; roles = sym is.roles i }
 
-pub spares-leave-mended : (sound : Type 0) (among : Shape → Type 0) → SparesLeaveMended sound among
+pub spares-leave-mended : (sound : Type 0) (among : Shape → Type 0) → SparesLeaveSynced sound among
 spares-leave-mended sound among old new resync course buffer c list is was =
-    subst (λ (m : Members). StandsMended sound among resync m course buffer c list) (others-are old new is)
+    subst (λ (m : Members). StandsSynced sound among resync m course buffer c list) (others-are old new is)
     (mended-as old new.own new.spares new.lost is.own sound among resync course buffer c list was)

@@ -16,10 +16,10 @@ use Rattle.stripe_region_resync.proofs.stripe_region_write_Together.{rows-togeth
 use Rattle.stripe_region_resync.specs.Mends.{low_shape, low_stripes}
 use Rattle.stripe_region_resync.proofs.Alike.{low-alike, low-stripes-alike, relied-alike}
 use Rattle.reshape_progress.proofs.Writes.{torn-writes-go-on}
-use Rattle.reshape_progress_resync_laws.specs.Mended.{MendedTornWritesGoOn}
+use Rattle.reshape_progress_resync_laws.specs.Mended.{SyncedTornWritesGoOn}
 use Rattle.reshape_progress_resync_laws.proofs.Mended.{whole-on}
 
-pub mended-torn-writes-go-on : (sound : Type 0) (among : Shape → Type 0) → MendedTornWritesGoOn sound among
+pub mended-torn-writes-go-on : (sound : Type 0) (among : Shape → Type 0) → SyncedTornWritesGoOn sound among
 mended-torn-writes-go-on sound among scope given old new resync course buffer c e list first to placed active moved course-is within beside kept was = record {
   in_course = torn-writes-go-on ⊥ among scope given old new course buffer c e list first to placed active moved course-is within beside kept was.in_course;
   ends = λ some aside new-own x slot new-past new-under held.

@@ -26,7 +26,7 @@ use Rattle.reshape_progress.specs.Course.{AnyShape, StandsInCourse}
 use Rattle.reshape_progress.specs.Laws.{entered, closed}
 use Rattle.reshape_progress.proofs.Courses.{copies-go-on, records-close}
 use Rattle.reshape_progress.proofs.Finishes.{rests-go-on, finishes-close}
-use Rattle.reshape_progress_resync_laws.specs.Mended.{IsMendSector, StandsMended, ResyncsBegin, MendedCopiesGoOn, MendedRestsGoOn, MendedRecordsClose, MendedFinishesClose}
+use Rattle.reshape_progress_resync_laws.specs.Mended.{IsResyncSector, StandsSynced, ResyncsBegin, SyncedCopiesGoOn, SyncedRestsGoOn, SyncedRecordsClose, SyncedFinishesClose}
 use Rattle.reshape_progress_resync_laws.proofs.Mended.{none-pending, whole-on}
 use Rattle.reshape_progress_resync_laws.proofs.Ends.{none-ends, tails-are-ends}
 
@@ -47,7 +47,7 @@ resyncs-begin sound among m course buffer c list fit stands ends whole = record 
 
 -- ---- copies
 
-pub mended-copies-go-on : (sound : Type 0) (among : Shape → Type 0) → MendedCopiesGoOn sound among
+pub mended-copies-go-on : (sound : Type 0) (among : Shape → Type 0) → SyncedCopiesGoOn sound among
 mended-copies-go-on sound among given old new None span copied sectioned buffer c e list placed moved none next left plain kept was =
     let done = copies-go-on sound among given old new span copied sectioned buffer c e list placed moved next left plain kept ((none-pending sound among old (entered span copied sectioned) buffer c list).1 was) in (
       (none-pending sound among new (entered span copied sectioned) buffer e list).0 done.0,
@@ -69,7 +69,7 @@ mended-copies-go-on sound among given old new (Some mended) span copied sectione
       },
     )
 
-pub mended-rests-go-on : (sound : Type 0) (among : Shape → Type 0) → MendedRestsGoOn sound among
+pub mended-rests-go-on : (sound : Type 0) (among : Shape → Type 0) → SyncedRestsGoOn sound among
 mended-rests-go-on sound among given old new None span copied sectioned buffer c e list placed moved none next plain kept was =
     let done = rests-go-on sound among given old new span copied sectioned buffer c e list placed moved next plain kept ((none-pending sound among old (entered span copied sectioned) buffer c list).1 was) in (
       (none-pending sound among new (entered span copied sectioned) buffer e list).0 done.0,
@@ -95,7 +95,7 @@ mended-rests-go-on sound among given old new (Some mended) span copied sectioned
 
 module _ (sound : Type 0) (given : Given) (old new : Members) (span : Span) (course : Course) (buffer former : List ℕ) (c e : Contents) (list : ℕ → Sector) (mended : ℕ)
     (placed : IsPlaced given old) (none : mended ≡ 0) (next : next_window old.newest ≡ Some span) (moved : IsMoved given (moved_past span old) new)
-    (was : StandsMended sound AnyShape (Some mended) old course former c list) (done : StandsInCourse ⊥ AnyShape new (closed 0) buffer e list) where
+    (was : StandsSynced sound AnyShape (Some mended) old course former c list) (done : StandsInCourse ⊥ AnyShape new (closed 0) buffer e list) where
   active : is_reshaping new.newest ≡ true
   active = moved.reshape.reshaping ∙ is-reshaping old.newest span next
 
@@ -115,7 +115,7 @@ module _ (sound : Type 0) (given : Given) (old new : Members) (span : Span) (cou
           let same = long in
           omega (arith, here, filled, inside, same))
 
-  whole-closed : sound → ((x : ℕ) → IsMendSector old.newest x → IsSector (list x)) → (x : ℕ) → IsMendSector new.newest x → IsSector (list x)
+  whole-closed : sound → ((x : ℕ) → IsResyncSector old.newest x → IsSector (list x)) → (x : ℕ) → IsResyncSector new.newest x → IsSector (list x)
   whole-closed so whole x (inl low) = whole x (inl (subst (λ (n : ℕ). x < n) long low))
   whole-closed so whole x (inr under) = elim (cases_lt x (list_length new.newest)) [
     | inl low ↦ whole x (inl (subst (λ (n : ℕ). x < n) long low))
@@ -125,7 +125,7 @@ module _ (sound : Type 0) (given : Given) (old new : Members) (span : Span) (cou
     ]
   ]
 
-  pub closed-mended : StandsMended sound AnyShape (Some mended) new (closed 0) buffer e list
+  pub closed-mended : StandsSynced sound AnyShape (Some mended) new (closed 0) buffer e list
   closed-mended = record {
     in_course = done;
     ends = λ some aside own. tails-are-ends new e list moved.placed.fit active way (done.tail tt);
@@ -133,7 +133,7 @@ module _ (sound : Type 0) (given : Given) (old new : Members) (span : Span) (cou
     rows = λ so x below. absurd (none-relied new.newest moved.placed.fit mended x none below);
   }
 
-pub mended-records-close : (sound : Type 0) → MendedRecordsClose sound
+pub mended-records-close : (sound : Type 0) → SyncedRecordsClose sound
 mended-records-close sound scope given old new None span sectioned buffer c e list backed placed none next moved others was =
     (none-pending sound AnyShape new (closed 0) buffer e list).0 (records-close sound scope given old new span sectioned buffer c e list backed placed next moved others
     ((none-pending sound AnyShape old (entered span (stripes (final_shape old.newest) span.lo span.hi) sectioned) buffer c list).1 was))
@@ -141,7 +141,7 @@ mended-records-close sound scope given old new (Some mended) span sectioned buff
     closed-mended sound given old new span (entered span (stripes (final_shape old.newest) span.lo span.hi) sectioned) buffer buffer c e list mended placed none next moved was
     (records-close ⊥ scope given old new span sectioned buffer c e list backed placed next moved others was.in_course)
 
-pub mended-finishes-close : (sound : Type 0) → MendedFinishesClose sound
+pub mended-finishes-close : (sound : Type 0) → SyncedFinishesClose sound
 mended-finishes-close sound given old new None span copied sectioned buffer c e list placed none moved next plain kept stands was =
     (none-pending sound AnyShape new (closed 0) buffer e list).0 (finishes-close sound given old new span copied sectioned buffer c e list placed moved next plain kept stands
     ((none-pending sound AnyShape old (entered span copied sectioned) buffer c list).1 was))

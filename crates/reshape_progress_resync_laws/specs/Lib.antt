@@ -5,7 +5,7 @@ pub use Rattle.reshape_progress.specs.declared.course.Course as reshape_progress
 pub use Rattle.reshape_progress.specs.reshape_window_steps_Recording
 pub use Rattle.reshape_progress.specs.reshape_window_steps_Zeroing
 pub use Rattle.stripe_region_resync.specs.Left as stripe_region_resync_Left
-pub use Rattle.stripe_region_resync.specs.Mends as stripe_region_resync_Mends
+pub use Rattle.stripe_region_resync.specs.Mends as stripe_region_resync_Resyncs
 pub use Rattle.stripe_region_resync.specs.stripe_region_read_Stretches
 pub use Rattle.stripe_region_resync.specs.stripe_region_write_Runs
 pub use Rattle.reshape_progress.specs.reshape_begin_end_Begun

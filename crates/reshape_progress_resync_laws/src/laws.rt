@@ -2,7 +2,7 @@
 
 ghost use Rattle.std.specs.Prelude.{⊤};
 ghost use Rattle.reshape_progress.specs.Laws.{ByShapes};
-ghost use Rattle.reshape_progress_resync_laws.specs.Mended.{NoneIsPending, FewerShapesStand, ResyncsBegin, TailsAreEnds, MendedCoursesMove, SparesLeaveMended, MendsGoOn, ResyncsEnd, MendedCopiesGoOn, MendedRestsGoOn, MendedRecordsClose, MendedFinishesClose, MendedWritesGoOn, MendedTornWritesGoOn};
+ghost use Rattle.reshape_progress_resync_laws.specs.Mended.{NoneIsPending, FewerShapesStand, ResyncsBegin, TailsAreEnds, SyncedCoursesMove, SparesLeaveSynced, ResyncsGoOn, ResyncsEnd, SyncedCopiesGoOn, SyncedRestsGoOn, SyncedRecordsClose, SyncedFinishesClose, SyncedWritesGoOn, SyncedTornWritesGoOn};
 
 /// Without a resync the rows of the whole list stand.
 pub fn none_is_pending()
@@ -25,18 +25,18 @@ pub fn tails_are_ends()
 {}
 
 /// Members that lost slots stand in the same course.
-pub fn mended_courses_move()
-    ensures { ByShapes (MendedCoursesMove ⊤) }
+pub fn synced_progress_moves()
+    ensures { ByShapes (SyncedCoursesMove ⊤) }
 {}
 
 /// Members that differ in spares do.
-pub fn spares_leave_mended()
-    ensures { ByShapes (SparesLeaveMended ⊤) }
+pub fn spares_leave_synced()
+    ensures { ByShapes (SparesLeaveSynced ⊤) }
 {}
 
 /// A stripe is mended, or it isn't.
-pub fn mends_go_on()
-    ensures { ByShapes (MendsGoOn ⊤) }
+pub fn resyncs_go_on()
+    ensures { ByShapes (ResyncsGoOn ⊤) }
 {}
 
 /// All stripes are mended.
@@ -46,30 +46,30 @@ pub fn resyncs_end()
 
 /// A stripe of a window is copied before any is mended.
 pub fn a_copy_goes_on()
-    ensures { ByShapes (MendedCopiesGoOn ⊤) }
+    ensures { ByShapes (SyncedCopiesGoOn ⊤) }
 {}
 
 /// The stripes that are left of it are.
 pub fn a_rest_goes_on()
-    ensures { ByShapes (MendedRestsGoOn ⊤) }
+    ensures { ByShapes (SyncedRestsGoOn ⊤) }
 {}
 
 /// It is recorded.
 pub fn a_record_closes()
-    ensures { MendedRecordsClose ⊤ }
+    ensures { SyncedRecordsClose ⊤ }
 {}
 
 /// Both in one call.
 pub fn a_finish_closes()
-    ensures { MendedFinishesClose ⊤ }
+    ensures { SyncedFinishesClose ⊤ }
 {}
 
 /// Sectors of the list are written.
 pub fn a_write_goes_on()
-    ensures { ByShapes (MendedWritesGoOn ⊤) }
+    ensures { ByShapes (SyncedWritesGoOn ⊤) }
 {}
 
 /// A write is cut.
 pub fn a_torn_write_goes_on()
-    ensures { ByShapes (MendedTornWritesGoOn ⊤) }
+    ensures { ByShapes (SyncedTornWritesGoOn ⊤) }
 {}

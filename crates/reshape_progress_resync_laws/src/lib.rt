@@ -4,13 +4,15 @@
 pub mod laws;
 
 pub use reshape_progress::{
-    Course, Finished, PhasesLeft, Window, begin, copy, finish, flush_and_record, give_role,
-    has_unnamed, is_spare, is_vacant, list_length, name_missing, newly_vacant, record, settle,
-    too_many, unread, unwritten, vacant_roles, zero,
+    Course, Finished, PhasesLeft, Window, begin, copy, finish, first_read_refusal,
+    first_write_refusal, flush_and_mark, flush_and_record, give_role, has_unnamed, is_spare,
+    is_unassigned, list_length, newly_unassigned, record, record_missing, too_many,
+    unassigned_roles, zero,
 };
 pub use stripe_region_resync::counting::resync_left;
-pub use stripe_region_resync::mending::{mend_list, unmended};
+pub use stripe_region_resync::mending::{first_resync_refusal, resync_list};
 pub use stripe_region_resync::stripes::relied_sector;
 pub use stripe_region_resync::{
-    Filled, fetch, fill, final_in, mend, mended_rows, put, put_list, recovering_slot, shape_in,
+    Filled, fill, final_in, read_listed, recovering_slot, resync_rows, shape_in, synced_rows,
+    write_list, write_listed,
 };

@@ -57,7 +57,7 @@ pub fn all_left(plan: &GrowPlan) -> PhasesLeft
 }
 
 /// The phases that are left once the next one has begun.
-pub fn left_behind(ahead: &PhasesLeft) -> PhasesLeft
+pub fn left_after(ahead: &PhasesLeft) -> PhasesLeft
     ensures { (phase : Phase) → ahead.now.next ≡ Some phase → phases_of ahead.now ≡ phase ∷ phases_of result }
 {
     PhasesLeft {

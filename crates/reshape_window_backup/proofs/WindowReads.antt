@@ -1,4 +1,4 @@
--- What a read of the next window leaves, from what `fetch_list` says of it.
+-- What a read of the next window leaves, from what `read_list` says of it.
 use Rattle.std.proofs.Common.{◌≡◌, ◌⊎◌, inl, inr, ℕ, ◌+◌, ◌-◌, ◌*◌, ◌/◌, ◌<◌, ◌≤◌, nat_le, Bool, true, if◌then◌else◌, Option, Some, None, List, length, refl, sym, ap, subst, arith}
 use Rattle.std.specs.Prelude.{MatchOption, ⊤}
 use Rattle.std.proofs.lemmas.Bool.Decides.{nat_tests}

@@ -21,8 +21,8 @@ ghost use Rattle.reshape_progress.specs.array_members_Lacking.{AreLostSince, Are
 ghost use Rattle.reshape_progress.specs.sb_safe_updates_Unused.{IsUnusedKept};
 ghost use Rattle.reshape_progress.specs.reshape_window_rows_Copies.{HasWindow, IsRoomFor};
 
-use reshape_progress::{newly_vacant, too_many, vacant_roles};
-use stripe_region_read::fetching::fetch_list;
+use reshape_progress::{newly_unassigned, too_many, unassigned_roles};
+use stripe_region_read::fetching::read_list;
 use stripe_region_read::{Bank, Members, Refusal, Span};
 
 /// The roles and the spares that were lost as a window was read, and why it can't be entered.
@@ -80,10 +80,10 @@ pub fn read_next<B: Bank>(
     ensures counts { NeverFalls (B.faults_of bank.old) (B.faults_of bank.new) }
 {
     let count = members.roles.len() as u32;
-    let before = vacant_roles(members, count);
-    let read = fetch_list(members, bank, span.lo, window, scratch, relied);
+    let before = unassigned_roles(members, count);
+    let read = read_list(members, bank, span.lo, window, scratch, relied);
     Read {
-        roles: newly_vacant(members, count, before),
+        roles: newly_unassigned(members, count, before),
         spares: read.spares,
         refusal: refusal_behind(members, read.refusal),
     }

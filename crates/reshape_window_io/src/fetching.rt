@@ -22,8 +22,8 @@ ghost use Rattle.reshape_window_steps.specs.reshape_window_rows_Copies.{HasWindo
 ghost use Rattle.stripe_region_read.specs.Stretches.{ListStandsIn, RowsStandIn};
 ghost use Rattle.reshape_window_io.specs.Fetching.{IsShapeBeside, IsUnreadBeside};
 
-use reshape_window_steps::name_missing;
-use stripe_region_read::fetching::{fetch_list, read_regions};
+use reshape_window_steps::record_missing;
+use stripe_region_read::fetching::{read_list, read_regions};
 use stripe_region_read::{Bank, Fetched, Members, Refusal, Span};
 
 // The window's part of the sectors from `first` up to `to`, which may be empty.
@@ -109,7 +109,7 @@ fn read_beside<B: Bank>(
 }
 
 // Fills `into` with sectors of the list, as `read_beside` does, and names the members that are missing.
-fn fetch_around<B: Bank>(
+fn read_around_open<B: Bank>(
     members: &mut Members,
     bank: &mut B,
     span: &Span,
@@ -151,7 +151,7 @@ fn fetch_around<B: Bank>(
     if refusal.is_some() {
         return Fetched { spares: 0, refusal };
     }
-    let spares = name_missing(members, bank);
+    let spares = record_missing(members, bank);
     Fetched {
         spares,
         refusal: None,
@@ -161,7 +161,7 @@ fn fetch_around<B: Bank>(
 /// Fills `into` with sectors of the list, from `first` on: those of the window that is hidden, where one is, from its buffer, and each
 /// other by the shape of its region, from the slot that holds it, or, up to sector `relied` of the list, filled in from its row. It names
 /// the members that are missing. A refusal tells of a sector outside the window.
-pub fn fetch_beside<B: Bank>(
+pub fn read_around_window<B: Bank>(
     members: &mut Members,
     bank: &mut B,
     hidden: Option<Span>,
@@ -200,7 +200,7 @@ pub fn fetch_beside<B: Bank>(
     ensures counts { NeverFalls (B.faults_of bank.old) (B.faults_of bank.new) }
 {
     match hidden {
-        None => fetch_list(members, bank, first, into, scratch, relied),
-        Some(span) => fetch_around(members, bank, &span, buffer, first, into, scratch, relied),
+        None => read_list(members, bank, first, into, scratch, relied),
+        Some(span) => read_around_open(members, bank, &span, buffer, first, into, scratch, relied),
     }
 }

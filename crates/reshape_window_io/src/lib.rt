@@ -4,5 +4,5 @@
 mod fetching;
 mod finishing;
 
-pub use fetching::fetch_beside;
+pub use fetching::read_around_window;
 pub use finishing::{Finished, finish_window};

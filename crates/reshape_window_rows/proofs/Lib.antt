@@ -91,7 +91,7 @@ pub use Rattle.reshape_begin_end.proofs.array_members_MarkLaws
 pub use Rattle.reshape_begin_end.proofs.array_members_MarkedLaws
 pub use Rattle.reshape_begin_end.proofs.array_members_MarkedSafe
 pub use Rattle.reshape_begin_end.proofs.array_members_MemberLaws
-pub use Rattle.reshape_begin_end.proofs.array_members_MendedParts
+pub use Rattle.reshape_begin_end.proofs.array_members_SyncedParts
 pub use Rattle.reshape_begin_end.proofs.array_members_MovedLaws
 pub use Rattle.reshape_begin_end.proofs.array_members_PlacedLaws
 pub use Rattle.reshape_begin_end.proofs.array_members_SafeStretch

@@ -27,7 +27,7 @@ pub use Rattle.reshape_window_rows.proofs.crash_views_WindowLaws
 pub use Rattle.reshape_window_rows.proofs.array_members_LackingLists
 pub use Rattle.reshape_window_rows.proofs.array_members_SafeStretch
 pub use Rattle.reshape_window_rows.proofs.array_members_LackingLaws
-pub use Rattle.reshape_window_rows.proofs.array_members_MendedParts
+pub use Rattle.reshape_window_rows.proofs.array_members_SyncedParts
 pub use Rattle.reshape_window_rows.proofs.crash_safety_laws_Risen
 pub use Rattle.reshape_window_rows.proofs.array_members_MarkedLaws
 pub use Rattle.reshape_window_rows.proofs.array_members_LiveLeft

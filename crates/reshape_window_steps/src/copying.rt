@@ -23,7 +23,7 @@ ghost use Rattle.reshape_window_rows.specs.Copies.{IsRoomFor, tail_of, IsCopied,
 ghost use Rattle.reshape_window_steps.specs.Copying.{IsOfStripeFrom, AreHeadersKept};
 
 use reshape_window_rows::{
-    Bank, Members, Refusal, Shape, Span, copy_stripe, name_missing, too_many,
+    Bank, Members, Refusal, Shape, Span, copy_stripe, record_missing, too_many,
 };
 
 /// The spares that were lost in a step, and why it wasn't done.
@@ -151,7 +151,7 @@ fn copy_part<B: Bank>(
         members, bank, shape, span, stripe, done, buffer, scratch,
     );
     let _ = refused;
-    let spares = name_missing(members, bank);
+    let spares = record_missing(members, bank);
     Part {
         done,
         spares,

@@ -31,6 +31,6 @@ pub fn a_windows_rows_are_of_its_stripes()
 {}
 
 /// And the stripes behind the list all rows there.
-pub fn rows_behind_the_list_are_of_its_stripes()
+pub fn rows_after_the_list_are_of_its_stripes()
     ensures { PastRowsAreOfStripes }
 {}

@@ -24,7 +24,7 @@ ghost use Rattle.reshape_window_steps.specs.Recording.{AreOthersFewer, IsCopiedW
 
 use crate::copying::Stepped;
 use reshape_window_rows::{
-    Bank, Members, Span, flush_naming, holders, name_missing, record_position, too_many, without,
+    Bank, Members, Span, flush_naming, holders, record_missing, record_position, too_many, without,
 };
 
 // Records the position behind the window. The spares that were lost in this.
@@ -82,9 +82,9 @@ fn move_position<B: Bank>(members: &mut Members, bank: &mut B, span: &Span) -> u
     ensures given { B.given bank.new ≡ B.given bank.old }
     ensures counts { NeverFalls (B.faults_of bank.old) (B.faults_of bank.new) }
 {
-    let put = put_position(members, bank, span);
-    let named = name_missing(members, bank);
-    put | named
+    let write_listed = put_position(members, bank, span);
+    let named = record_missing(members, bank);
+    write_listed | named
 }
 
 /// Records the next window, whose rows are copied: flushes the slots that hold roles, and moves the position behind it. What is

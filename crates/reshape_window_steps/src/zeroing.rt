@@ -23,7 +23,7 @@ ghost use Rattle.reshape_window_steps.specs.Copying.{AreHeadersKept, IsOfStripeF
 ghost use Rattle.reshape_window_steps.specs.Zeroing.{IsThrough};
 
 use crate::copying::{Part, Stepped, Stretch};
-use reshape_window_rows::{Bank, Members, Shape, name_missing, too_many, zero_stripe};
+use reshape_window_rows::{Bank, Members, Shape, record_missing, too_many, zero_stripe};
 
 // Zeroes rows of a stripe from one on, up to the first in which a slot is lost.
 fn zero_stretch<B: Bank>(
@@ -115,7 +115,7 @@ fn zero_part<B: Bank>(
 {
     let Stretch { done, refused } = zero_stretch(members, bank, shape, stripe, done, scratch);
     let _ = refused;
-    let spares = name_missing(members, bank);
+    let spares = record_missing(members, bank);
     Part {
         done,
         spares,

@@ -25,7 +25,7 @@ use Rattle.script_status.specs.script_the_Lane.{Lane}
 use Rattle.script_status.specs.script_the_Lane_TheVariants.{Script as InScript, A as InA, B as InB, Worker as InWorker}
 use Rattle.lane_shared.specs.Blocks.{HasWorkedBy}
 use Rattle.lane_shared.specs.Pace.{Paces}
-use Rattle.lane_shared.specs.Worker.{left_behind, AreTurns}
+use Rattle.lane_shared.specs.Worker.{left_after, AreTurns}
 use Rattle.lane_shared.specs.declared.worker.Worked.{Worked}
 use Rattle.lane_shared.specs.history_caller_laws_Callers.{RepliesFrom}
 use Rattle.run_line_answers.specs.array_requests_the_Reply.{Reply}
@@ -184,7 +184,7 @@ few-told size entries caller number (q ∷ qs) (Short ∷ r ∷ rs) was = absurd
 
 -- ---- the worker
 
-leaves-told : (place : ℕ) (event : Event) (more : ℕ) → left_behind (Done place event) ≡ Some more → leaves_more event ≡ true
+leaves-told : (place : ℕ) (event : Event) (more : ℕ) → left_after (Done place event) ≡ Some more → leaves_more event ≡ true
 leaves-told place (Stepped done left None) more is = by (left == 0) refl
   where
     some : left == 0 ≡ false → nat_lt 0 left ≡ true
@@ -195,7 +195,7 @@ leaves-told place (Stepped done left None) more is = by (left == 0) refl
     by false some_left = some some_left
 leaves-told place event more is = absurd (cc)
 
-rests-told : (place : ℕ) (event : Event) → IsNone (left_behind (Done place event)) → leaves_more event ≡ false
+rests-told : (place : ℕ) (event : Event) → IsNone (left_after (Done place event)) → leaves_more event ≡ false
 rests-told place (Stepped done left None) is = by (left == 0) refl
   where
     none : left == 0 ≡ true → nat_lt 0 left ≡ false
@@ -223,9 +223,9 @@ module _ (size : ℕ) (entries : List Entry) where
   worked-at asks turn left number [] most at event ((reply, told), done) turns = ([], (most, turns.0.1, turns.0.2, reply), refl, refl, leaves-at reply told)
   worked-at asks turn left number ((m, Short) ∷ before) most at event was turns = absurd (not-empty before (most, Done at event) turns.1)
   worked-at asks turn left number ((m, Done p ev) ∷ before) most at event ((reply, told), rest) turns =
-      by (left_behind (Done p ev)) refl turns.1 (λ more next. worked-at asks (turn + 1) more (number + 1) before most at event rest next)
+      by (left_after (Done p ev)) refl turns.1 (λ more next. worked-at asks (turn + 1) more (number + 1) before most at event rest next)
     where
-      by : (o : Option ℕ) → left_behind (Done p ev) ≡ o → MatchOption o (before ++ (most, Done at event) ∷ [] ≡ []) (λ more. AreTurns (Paces asks) (turn + 1) more (before ++ (most, Done at event) ∷ []))
+      by : (o : Option ℕ) → left_after (Done p ev) ≡ o → MatchOption o (before ++ (most, Done at event) ∷ [] ≡ []) (λ more. AreTurns (Paces asks) (turn + 1) more (before ++ (most, Done at event) ∷ []))
           → ((more : ℕ) → AreTurns (Paces asks) (turn + 1) more (before ++ (most, Done at event) ∷ []) → (earlier : List ℕ) × IsWorkedAt size entries earlier at (number + 1)
           × (places_told (map replied (before ++ (most, Done at event) ∷ [])) ≡ earlier ++ at ∷ []) × (length earlier ≡ length before) × (leaves_more_at entries at ≡ leaves_more event))
           → (earlier : List ℕ) × IsWorkedAt size entries earlier at number × (places_told (map replied ((m, Done p ev) ∷ before ++ (most, Done at event) ∷ [])) ≡ earlier ++ at ∷ []) × (length earlier ≡ length ((m, Done p ev) ∷ before)) × (leaves_more_at entries at ≡ leaves_more event)
@@ -246,9 +246,9 @@ module _ (size : ℕ) (entries : List Entry) where
   worked-some asks turn left number [] was turns = inl refl
   worked-some asks turn left number ((m, Short) ∷ rest) was turns = inl refl
   worked-some asks turn left number ((m, Done p ev) ∷ rest) ((reply, told), was) turns =
-      by (left_behind (Done p ev)) refl turns.1 (λ more going. worked-some asks (turn + 1) more (number + 1) rest was going)
+      by (left_after (Done p ev)) refl turns.1 (λ more going. worked-some asks (turn + 1) more (number + 1) rest was going)
     where
-      by : (o : Option ℕ) → left_behind (Done p ev) ≡ o → MatchOption o (rest ≡ []) (λ more. AreTurns (Paces asks) (turn + 1) more rest)
+      by : (o : Option ℕ) → left_after (Done p ev) ≡ o → MatchOption o (rest ≡ []) (λ more. AreTurns (Paces asks) (turn + 1) more rest)
           → ((more : ℕ) → AreTurns (Paces asks) (turn + 1) more rest → (places_told (map replied rest) ≡ []) ⊎ ((earlier : List ℕ) × (at : ℕ) × IsWorkedAt size entries earlier at (number + 1) × (places_told (map replied rest) ≡ earlier ++ at ∷ [])))
           → (places_told (map replied ((m, Done p ev) ∷ rest)) ≡ []) ⊎ ((earlier : List ℕ) × (at : ℕ) × IsWorkedAt size entries earlier at number × (places_told (map replied ((m, Done p ev) ∷ rest)) ≡ earlier ++ at ∷ []))
       by None is none later = inr ([], p, (m, turns.0.1, turns.0.2, reply), ap (λ (l : List (ℕ × Reply)). p ∷ places_told (map replied l)) none)
@@ -749,8 +749,8 @@ module _ {B : Type 0} (old new : RunningParts B) (epochs : Vec Epoch) where
           ended : IsFalse (leaves_more_at entries at) ⊎ (length earlier + 1 ≡ most_turns)
           ended = by ran.ended
             where
-              by : IsNone (left_behind worked.last) ⊎ (worked.turns ≡ most_turns) → IsFalse (leaves_more_at entries at) ⊎ (length earlier + 1 ≡ most_turns)
-              by (inl none) = inl (facts.4 ∙ rests-told at event (subst (λ (r : Reply). IsNone (left_behind r)) last none))
+              by : IsNone (left_after worked.last) ⊎ (worked.turns ≡ most_turns) → IsFalse (leaves_more_at entries at) ⊎ (length earlier + 1 ≡ most_turns)
+              by (inl none) = inl (facts.4 ∙ rests-told at event (subst (λ (r : Reply). IsNone (left_after r)) last none))
               by (inr full) =
                   let count = ran.count in
                   let long = ap (λ (l : List (ℕ × Reply)). length l) turns_are ∙ snoc-length ran.last.0 (ran.last.1, Done at event) in

@@ -30,7 +30,7 @@ use Rattle.script.specs.history_the_Event.{Event}
 use Rattle.script.specs.history_the_Event_TheVariants.{Lost, Failed, Visible, Planned, Refused}
 use Rattle.script.specs.history_the_LostCause_TheVariants.{Fault as ByFault}
 use Rattle.script.specs.history_Transfers.{last_end_from}
-use Rattle.array_requests.specs.array_members_Placed.{is_vacant}
+use Rattle.array_requests.specs.array_members_Placed.{is_unassigned}
 use Rattle.array_requests.specs.array_members_Status.{left_of}
 use Rattle.array_requests.proofs.array_members_Still.{count-still}
 use Rattle.array_requests.specs.reshape_request_Asked.{IsUngrowable, IsFirst, grow_refusal}
@@ -66,7 +66,7 @@ module _ {backup : Option ℕ} {line : CreateLine} (array : Record) (is : IsNewR
   there : (role : ℕ) → role < line.shape.disks → role_state (reading_of array.parts.members) role ≡ Whole role
   there role lt = state-is role ∙ get_or-tabulate line.shape.disks (λ role. Whole role) role Missing lt
 
-  has-role : (role : ℕ) → role < line.shape.disks → (role < role_count array.parts.members.newest) × (is_vacant (reading_of array.parts.members) role ≡ false)
+  has-role : (role : ℕ) → role < line.shape.disks → (role < role_count array.parts.members.newest) × (is_unassigned (reading_of array.parts.members) role ≡ false)
   has-role role lt = (omega (arith, lt, counted), ap (λ (state : Role). not (is_some (holder state))) (there role lt))
 
   -- and no slot behind them is used

@@ -20,7 +20,7 @@ use Rattle.script.specs.history_Flat.{length_of, limit_of}
 use Rattle.script.specs.history_Legal.{told_left}
 use Rattle.script.specs.history_Reshaped.{is_planned}
 use Rattle.array_requests.specs.array_members_Lacking.{AreTooMany, HaveRolesFailed}
-use Rattle.array_requests.specs.array_members_Placed.{AreStillHeld, is_vacant}
+use Rattle.array_requests.specs.array_members_Placed.{AreStillHeld, is_unassigned}
 use Rattle.array_requests.specs.reshape_request_Left.{phases_of}
 use Rattle.array_requests.specs.Going.{AreHeldSince, AreLossesSince, GoesItsWay}
 use Rattle.array_requests.specs.Turning.{IsTurningTold}
@@ -138,7 +138,7 @@ IsLeftBy before now old new (Read at count) event = IsLessByFaults before now ol
 IsLeftBy before now old new (Write at count seed) event = IsLessByFaults before now old new × IsDoneOrRefused (visible_in old) (at + count) (IsWriteLackedIn old at count) old new event
 IsLeftBy before now old new Flush event = IsLessByFaults before now old new × IsDoneOrRefused (list_length old.parts.members.newest) 0 AreTooMany old new event
 IsLeftBy before now old new Stop event = IsLessByFaults before now old new × IsDoneOrRefused (list_length old.parts.members.newest) 0 AreTooMany old new event
-IsLeftBy before now old new (Fail role) (Failed failed) = IsOnlyLess before now old new × (is_vacant (reading_of new.parts.members) role ≡ true)
+IsLeftBy before now old new (Fail role) (Failed failed) = IsOnlyLess before now old new × (is_unassigned (reading_of new.parts.members) role ≡ true)
 IsLeftBy before now old new (Fail role) event = IsOnlyLess before now old new × (new.parts.members ≡ old.parts.members)
 IsLeftBy before now old new (Add slot) (Added added) = IsWithSpare before now slot old new × (has_spare new.parts.members.spares slot ≡ true)
 IsLeftBy before now old new (Add slot) (Refused (SlotFault failed)) = IsWithSpare before now slot old new × (has_spare new.parts.members.spares slot ≡ false) × IsFaulted slot before now

@@ -11,7 +11,7 @@ pub fn plain_replies_fit()
 
 /// Where by the entries before it no reshape may be active, or ahead, a reply that tells no more than they allow tells nothing of a
 /// reshape.
-pub fn rest_tells_plainly()
+pub fn rest_records_plainly()
     ensures { RestTellsPlainly }
 {}
 
@@ -46,7 +46,7 @@ pub fn blocks_lead_on()
 {}
 
 /// Where the history tells that steps are left, a step isn't refused as having nothing to do.
-pub fn told_steps_are_left()
+pub fn recorded_steps_are_left()
     ensures { ToldStepsAreLeft }
 {}
 
@@ -81,7 +81,7 @@ pub fn records_are_stored()
 {}
 
 /// Steps end for a role that is missing only where by the history it is gone.
-pub fn gone_roles_end_steps()
+pub fn missing_roles_end_steps()
     ensures { GoneRolesEndSteps }
 {}
 

@@ -18,7 +18,7 @@ use Rattle.sb_update.specs.sb_specs_Update.{with_give, with_recovery, give_of, o
 use Rattle.sb_update.specs.sb_specs_Outcome.{is_in_update, AreLive, AreGivesOfLive, planned_roles}
 use Rattle.sb_update.proofs.sb_specs_ReadAlike.{shape-same}
 use Rattle.array_members.specs.stripe_row_Rows.{reading_of, role_without}
-use Rattle.array_members.specs.Placed.{is_vacant, IsPlaced, HaveSameReshape}
+use Rattle.array_members.specs.Placed.{is_unassigned, IsPlaced, HaveSameReshape}
 use Rattle.array_members.specs.Rebuilding.{AreSparesFree}
 use Rattle.array_members.specs.crash_safety_laws_Marking.{giving}
 use Rattle.array_members.specs.crash_safety_laws_Updates.{planned_view, IsLessView}
@@ -60,7 +60,7 @@ less-placed given m view less live placed = record {
 -- ---- a spare that gets a vacant role
 
 -- a spare may get a vacant role
-pub receiver-of : (given : Given) (m : Members) (role slot : ℕ) → IsPlaced given m → AreSparesFree given m → role < role_count m.newest → is_vacant (reading_of m) role ≡ true → has_spare m.spares slot ≡ true
+pub receiver-of : (given : Given) (m : Members) (role slot : ℕ) → IsPlaced given m → AreSparesFree given m → role < role_count m.newest → is_unassigned (reading_of m) role ≡ true → has_spare m.spares slot ≡ true
     → IsReceiver given m role slot
 receiver-of given m role slot placed free below vacant spare = record {
   room = (free slot spare).room;
@@ -81,7 +81,7 @@ receiver-of given m role slot placed free below vacant spare = record {
     live = ap (λ (b : Bool). list_any (is_held_by slot) m.roles || b) spare ∙ or_true (list_any (is_held_by slot) m.roles)
 
 -- as the law of such an update has it
-pub spare-receives : (given : Given) (m : Members) (role slot : ℕ) → IsPlaced given m → AreSparesFree given m → role < role_count m.newest → is_vacant (reading_of m) role ≡ true → has_spare m.spares slot ≡ true
+pub spare-receives : (given : Given) (m : Members) (role slot : ℕ) → IsPlaced given m → AreSparesFree given m → role < role_count m.newest → is_unassigned (reading_of m) role ≡ true → has_spare m.spares slot ≡ true
     → law.IsReceiver given m role slot
 spare-receives given m role slot placed free below vacant spare = record {
   spare = spare;

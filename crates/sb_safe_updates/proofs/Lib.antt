@@ -29,7 +29,7 @@ pub use Rattle.array_members.proofs.crash_safety_laws_Spent
 pub use Rattle.array_members.proofs.crash_views_Alike
 pub use Rattle.array_members.proofs.crash_views_WindowLaws
 pub use Rattle.array_members.proofs.LackingWrites as array_members_LackingWrites
-pub use Rattle.array_members.proofs.MendedParts as array_members_MendedParts
+pub use Rattle.array_members.proofs.SyncedParts as array_members_SyncedParts
 pub use Rattle.array_members.proofs.HeldRows as array_members_HeldRows
 pub use Rattle.array_members.proofs.Fit as array_members_Fit
 pub use Rattle.array_members.proofs.MovedLaws as array_members_MovedLaws

@@ -10,7 +10,7 @@ ghost use Rattle.sb_update.specs.sb_specs_Reads.{has_spare};
 ghost use Rattle.array_members.specs.stripe_row_Rows.{reading_of, present};
 ghost use Rattle.array_members.specs.history_World.{World};
 ghost use Rattle.array_members.specs.history_Sound.{OpensFit};
-ghost use Rattle.array_members.specs.Placed.{is_vacant, IsPlaced};
+ghost use Rattle.array_members.specs.Placed.{is_unassigned, IsPlaced};
 ghost use Rattle.array_members.specs.crash_safety_laws_Steady.{AreUnlost, IsSafeOver, KeepsSafe, AreGoneTold, IsUncleanTold, AreWritesAllowed, given_back};
 ghost use Rattle.array_members.specs.crash_safety_laws_Marking.{giving, AreOthersPresent};
 ghost use Rattle.array_members.specs.Moving.{Grows, IsMoved};
@@ -21,7 +21,7 @@ ghost use Rattle.array_members.specs.crash_views_Views.{Ledger};
 ghost use Rattle.array_members.specs.crash_views_Regions.{DoWithout};
 
 use crate::flushes::holders;
-use crate::naming::name_missing;
+use crate::naming::record_missing;
 use array_members::lose_slot;
 use sb_update::{Bank, Change, Give, Members, update, with, without};
 
@@ -48,7 +48,7 @@ pub fn give_role<B: Bank>(members: &mut Members, bank: &mut B, role: u32, slot: 
     requires free { AreSparesFree (B.given bank.old) members.old }
     requires still { is_reshaping members.old.newest ≡ false }
     requires role { role < (shape_of members.old.newest).disks }
-    requires vacant { is_vacant (reading_of members.old) role ≡ true }
+    requires vacant { is_unassigned (reading_of members.old) role ≡ true }
     requires spare { has_spare members.old.spares slot ≡ true }
     ensures moved { IsMoved (B.given bank.old) (with_recovering role slot members.old) members.new }
     ensures failed { HaveFailedSince (with_recovering role slot members.old) members.new result (B.faults_of bank.old) (B.faults_of bank.new) }
@@ -135,7 +135,7 @@ pub fn flush_and_record<B: Bank>(members: &mut Members, bank: &mut B, role: u32,
 {
     if bank.flush(slot).is_err() {
         let _ = lose_slot(members, slot);
-        return name_missing(members, bank);
+        return record_missing(members, bank);
     }
     make_whole(members, bank, role, slot)
 }

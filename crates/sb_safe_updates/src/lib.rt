@@ -14,7 +14,7 @@ pub use array_members::{
     read_touched, syndromes, write_touched,
 };
 pub use flushes::{flush_members, flush_slots};
-pub use marks::mark;
+pub use marks::set_clean_mark;
 pub use raid_layout::{Refusal, Role, Shape, Side, place, row_of};
 pub use roles::is_spare;
 pub use sb_update::{

@@ -30,7 +30,7 @@ fn marking(members: &Members, clean: bool) -> Change
 }
 
 /// Marks the array clean, or dirty, in the superblocks of all live slots; answers the slots that were lost in this.
-pub fn mark<B: Bank>(members: &mut Members, bank: &mut B, clean: bool) -> Lostness
+pub fn set_clean_mark<B: Bank>(members: &mut Members, bank: &mut B, clean: bool) -> Lostness
     requires placed { IsPlaced (B.given bank.old) members.old }
     requires unlost { AreUnlost members.old }
     ensures marked { IsChanged B.tells (B.given bank.old) (marking members.old clean) members.old members.new (B.tape bank.old) (B.tape bank.new) }

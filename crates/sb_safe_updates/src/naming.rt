@@ -5,7 +5,7 @@ ghost use Rattle.sb_update.specs.bank_Given.{NeverFalls};
 ghost use Rattle.raid_layout.specs.raid_types_Shapes.{has_slot};
 ghost use Rattle.sb_update.specs.sb_specs_Reading.{role_count, is_clean};
 ghost use Rattle.array_members.specs.stripe_row_Rows.{reading_of, present};
-ghost use Rattle.array_members.specs.Placed.{is_vacant, AreWhole, IsPlaced};
+ghost use Rattle.array_members.specs.Placed.{is_unassigned, AreWhole, IsPlaced};
 ghost use Rattle.array_members.specs.crash_safety_laws_Steady.{AreUnlost, IsSafeOver, IsNamedOver, KeepsSafe, AreGoneTold, IsUncleanTold};
 ghost use Rattle.array_members.specs.Rebuilding.{AreSparesFree};
 ghost use Rattle.array_members.specs.crash_safety_laws_Marking.{AreOthersPresent};
@@ -21,17 +21,17 @@ ghost use Rattle.array_members.specs.crash_views_Views.{Ledger};
 ghost use Rattle.array_members.specs.crash_safety_laws_Kinds.{IsMarkable};
 
 use crate::flushes::holders;
-use crate::marks::mark;
-use crate::roles::{is_vacant, vacant_roles};
+use crate::marks::set_clean_mark;
+use crate::roles::{is_unassigned, unassigned_roles};
 use sb_update::{Bank, Members, Sb, entry_of, is_clean, without};
 
 /// The roles that no slot holds, of so many, and that aren't among these.
-pub fn newly_vacant(members: &Members, disks: u32, before: u32) -> u32
+pub fn newly_unassigned(members: &Members, disks: u32, before: u32) -> u32
     requires known { disks ≤ length members.now.roles }
     requires few { disks ≤ 32 }
-    ensures { (role : ℕ) → has_slot result role ≡ ((nat_lt role disks && is_vacant (reading_of members.now) role) && not (has_slot before role)) }
+    ensures { (role : ℕ) → has_slot result role ≡ ((nat_lt role disks && is_unassigned (reading_of members.now) role) && not (has_slot before role)) }
 {
-    without(vacant_roles(members, disks), before)
+    without(unassigned_roles(members, disks), before)
 }
 
 // Whether some device has the role, by the newest superblock.
@@ -51,11 +51,11 @@ fn is_named(newest: &Sb, role: u32) -> bool
 pub fn has_unnamed(members: &Members) -> bool
     requires roles { length members.now.roles ≡ role_count members.now.newest }
     requires few { length members.now.roles < 2 ^ 32 }
-    ensures some { result ≡ true → (role : ℕ) × (role < role_count members.now.newest) × (is_vacant (reading_of members.now) role ≡ true) × IsNamed members.now.newest role }
+    ensures some { result ≡ true → (role : ℕ) × (role < role_count members.now.newest) × (is_unassigned (reading_of members.now) role ≡ true) × IsNamed members.now.newest role }
     ensures none { result ≡ false → AreUnnamed members.now }
 {
     for role in 0..members.roles.len() as u32 {
-        if is_vacant(members, role) && is_named(&members.newest, role) {
+        if is_unassigned(members, role) && is_named(&members.newest, role) {
             return true;
         }
     }
@@ -71,7 +71,7 @@ fn check_entries(newest: &Sb)
 }
 
 /// Marks the array clean or dirty, which names the roles that no slot holds. The spares that were lost in this.
-pub fn mark_members<B: Bank>(members: &mut Members, bank: &mut B, clean: bool) -> u32
+pub fn mark_all<B: Bank>(members: &mut Members, bank: &mut B, clean: bool) -> u32
     requires slots { (B.given bank.old).slots ≤ 32 }
     requires placed { IsPlaced (B.given bank.old) members.old }
     requires unlost { AreUnlost members.old }
@@ -98,14 +98,14 @@ pub fn mark_members<B: Bank>(members: &mut Members, bank: &mut B, clean: bool) -
     ensures counts { NeverFalls (B.faults_of bank.old) (B.faults_of bank.new) }
 {
     let held = holders(members);
-    let lost = mark(members, bank, clean);
+    let lost = set_clean_mark(members, bank, clean);
     check_entries(&members.newest);
     without(lost, held)
 }
 
 /// Names the roles that no slot holds, where they aren't yet: an update that changes nothing else. The spares that were lost
 /// in this.
-pub fn name_missing<B: Bank>(members: &mut Members, bank: &mut B) -> u32
+pub fn record_missing<B: Bank>(members: &mut Members, bank: &mut B) -> u32
     requires slots { (B.given bank.old).slots ≤ 32 }
     requires placed { IsPlaced (B.given bank.old) members.old }
     requires unlost { AreUnlost members.old }
@@ -135,11 +135,11 @@ pub fn name_missing<B: Bank>(members: &mut Members, bank: &mut B) -> u32
         return 0;
     }
     let clean = is_clean(&members.newest);
-    mark_members(members, bank, clean)
+    mark_all(members, bank, clean)
 }
 
 /// Marks a clean array dirty, and names the roles that no slot holds. The spares that were lost in this.
-pub fn raise<B: Bank>(members: &mut Members, bank: &mut B) -> u32
+pub fn mark_dirty<B: Bank>(members: &mut Members, bank: &mut B) -> u32
     requires slots { (B.given bank.old).slots ≤ 32 }
     requires placed { IsPlaced (B.given bank.old) members.old }
     requires unlost { AreUnlost members.old }
@@ -159,7 +159,7 @@ pub fn raise<B: Bank>(members: &mut Members, bank: &mut B) -> u32
     ensures counts { NeverFalls (B.faults_of bank.old) (B.faults_of bank.new) }
 {
     if is_clean(&members.newest) {
-        return mark_members(members, bank, false);
+        return mark_all(members, bank, false);
     }
-    name_missing(members, bank)
+    record_missing(members, bank)
 }

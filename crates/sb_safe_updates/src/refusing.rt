@@ -95,7 +95,7 @@ fn first_lacking(
 
 /// Why so many sectors of the list from `first` on, which are placed by this shape, can't be read, where parity is to be relied on in
 /// the mended rows alone: too many of its roles are missing, or else that of the first sector behind these rows whose role is.
-pub fn unread(
+pub fn first_read_refusal(
     members: &Members,
     shape: &Shape,
     first: u64,
@@ -138,7 +138,7 @@ fn lowest_missing(members: &Members, shape: &Shape) -> Option<u32>
 
 /// Why rows of this shape can't be written, whose parity is to be relied on where they are synced: too many of its roles are
 /// missing, or else the lowest missing one that has data.
-pub fn unwritten(members: &Members, shape: &Shape, synced: bool) -> Option<Refusal>
+pub fn first_write_refusal(members: &Members, shape: &Shape, synced: bool) -> Option<Refusal>
     requires shape { IsTrue (is_valid_shape shape.now) }
     requires roles { shape.now.disks ≤ length members.now.roles }
     ensures { result ≡ write_refusal shape.now synced members.now }

@@ -5,7 +5,7 @@ ghost use Rattle.raid_layout.specs.raid_types_Shapes.{has_slot, is_valid_shape, 
 ghost use Rattle.sb_update.specs.sb_specs_Reading.{shape_of, final_shape};
 ghost use Rattle.sb_update.specs.sb_specs_Reads.{has_spare};
 ghost use Rattle.array_members.specs.stripe_row_Rows.{reading_of};
-ghost use Rattle.array_members.specs.Placed.{is_vacant};
+ghost use Rattle.array_members.specs.Placed.{is_unassigned};
 
 use raid_layout::{Role, Shape};
 use sb_update::{Members, shape_of, target_of, with};
@@ -41,9 +41,9 @@ pub fn list_length(shape: &Shape, size: u64) -> u64
 }
 
 /// Whether no slot holds the role, whole or in part.
-pub fn is_vacant(members: &Members, role: u32) -> bool
+pub fn is_unassigned(members: &Members, role: u32) -> bool
     requires { role < length members.now.roles }
-    ensures { result ≡ is_vacant (reading_of members.now) role }
+    ensures { result ≡ is_unassigned (reading_of members.now) role }
 {
     match members.roles.get(role) {
         Role::Whole(_) | Role::Recovering(_) => false,
@@ -52,14 +52,14 @@ pub fn is_vacant(members: &Members, role: u32) -> bool
 }
 
 /// The roles that no slot holds, of so many.
-pub fn vacant_roles(members: &Members, disks: u32) -> u32
+pub fn unassigned_roles(members: &Members, disks: u32) -> u32
     requires known { disks ≤ length members.now.roles }
     requires few { disks ≤ 32 }
-    ensures { (role : ℕ) → has_slot result role ≡ (nat_lt role disks && is_vacant (reading_of members.now) role) }
+    ensures { (role : ℕ) → has_slot result role ≡ (nat_lt role disks && is_unassigned (reading_of members.now) role) }
 {
     let mut roles = 0;
     for role in 0..disks {
-        if is_vacant(members, role) {
+        if is_unassigned(members, role) {
             roles = with(roles, role);
         }
     }

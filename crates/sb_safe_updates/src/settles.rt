@@ -23,7 +23,7 @@ ghost use Rattle.array_members.specs.crash_views_Regions.{DoWithout};
 ghost use Rattle.sb_update.specs.sb_specs_Verdict.{AreValidShapes};
 
 use crate::flushes::{flush_members, holders};
-use crate::naming::{mark_members, name_missing};
+use crate::naming::{mark_all, record_missing};
 use crate::refusing::too_many;
 use array_members::lose_slots;
 use raid_layout::Refusal;
@@ -63,7 +63,7 @@ pub fn flush_naming<B: Bank>(members: &mut Members, bank: &mut B) -> u32
 {
     let failed = flush_members(members, bank);
     lose_slots(members, failed);
-    name_missing(members, bank)
+    record_missing(members, bank)
 }
 
 // The refusal where no member is left on which a mark could stand.
@@ -83,7 +83,7 @@ fn unmarked(members: &Members) -> Option<Refusal>
 /// Flushes the members, names those that are missing, and marks a dirty array clean, but for one whose resync is pending. It
 /// ends before the mark where more are missing than the array can do without, and is refused too where the mark is left on
 /// no member.
-pub fn settle<B: Bank>(members: &mut Members, bank: &mut B, unsynced: bool) -> Settled
+pub fn flush_and_mark<B: Bank>(members: &mut Members, bank: &mut B, unsynced: bool) -> Settled
     requires slots { (B.given bank.old).slots ≤ 32 }
     requires placed { IsPlaced (B.given bank.old) members.old }
     requires unlost { AreUnlost members.old }
@@ -119,7 +119,7 @@ pub fn settle<B: Bank>(members: &mut Members, bank: &mut B, unsynced: bool) -> S
             refusal,
         };
     }
-    let marked = mark_members(members, bank, true);
+    let marked = mark_all(members, bank, true);
     Settled {
         spares: named | marked,
         refusal: unmarked(members),

@@ -9,17 +9,17 @@ ghost use Rattle.sb_read_laws.specs.Following.{AddingMayFollow};
 
 /// At each mark of an update an image reads as before it, or as planned by one of its rounds, each of which names the slots
 /// that were lost before it, also where the slot that gets a recovery offset is lost in its own write.
-pub fn update_turning_reads()
+pub fn update_transition_reads()
     ensures { UpdateTurningReads }
 {}
 
 /// At the end of an update the slots are held as planned, where one is left.
-pub fn update_turning_ends()
+pub fn update_transition_ends()
     ensures { UpdateTurningEnds }
 {}
 
 /// Then the slots that are left hold what the members have for them, so that the next update may start.
-pub fn update_turning_may_follow()
+pub fn update_transition_may_follow()
     ensures { UpdateTurningMayFollow }
 {}
 

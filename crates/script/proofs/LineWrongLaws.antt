@@ -16,7 +16,7 @@ use Rattle.script_words.specs.Layouts.{layout_named}
 use Rattle.script.specs.Grammar.{create_keys}
 use Rattle.script.specs.Tables.{all_verbs, verb_in, verb_name, all_block_words, block_word_in, block_word_name, keys_of, key_name, key_in}
 use Rattle.script.specs.Mistakes.{Says, would_do, is_known, is_word_of}
-use Rattle.script.specs.Reading.{goes_on, wrong_at, wrongly, within, small, most_behind, judge_number, judge_limit, judge_uuid, at_value, end_of, read_one, has_given, read_keys, nothing_given, create_with, create_line, create_from, wish_line, grow_from, read_read, read_write, read_create, read_assemble, read_verb, is_for_lanes_verb, asked_by, misplaced, lane_by, read_lane, outside_by, read_outside, inside_by, read_inside, read_words}
+use Rattle.script.specs.Reading.{goes_on, wrong_at, wrongly, within, small, most_after, judge_number, judge_limit, judge_uuid, at_value, end_of, read_one, has_given, read_keys, nothing_given, create_with, create_line, create_from, wish_line, grow_from, read_read, read_write, read_create, read_assemble, read_verb, is_for_lanes_verb, asked_by, misplaced, lane_by, read_lane, outside_by, read_outside, inside_by, read_inside, read_words}
 use Rattle.script.specs.declared.keyed.Given.{Given}
 use Rattle.script.specs.declared.lines.Line.{Line}
 use Rattle.script.specs.declared.lines.Line.TheVariants.{Read, Write, Flush, Fail, Add, Step, Wait, ArraySize, Stop, Halt, Detail, Mdstat, Alerts, Examine, Assemble}
@@ -217,10 +217,10 @@ start_judge : IsJudge (judge_number 0 (2 ^ 63 - 2))
 start_judge = number_judge 0 (2 ^ 63 - 2) (codes "0") refl
 
 -- there is room for a sector behind a start
-room : (n : ℕ) → n ≤ 2 ^ 63 - 2 → (leb 1 1 && leb 1 (most_behind n)) ≡ true
+room : (n : ℕ) → n ≤ 2 ^ 63 - 2 → (leb 1 1 && leb 1 (most_after n)) ≡ true
 room n few = by_room (cases_lt (2 ^ 63 - 1 - n) 128)
   where
-    by_room : (2 ^ 63 - 1 - n < 128) ⊎ (128 ≤ 2 ^ 63 - 1 - n) → (leb 1 1 && leb 1 (most_behind n)) ≡ true
+    by_room : (2 ^ 63 - 1 - n < 128) ⊎ (128 ≤ 2 ^ 63 - 1 - n) → (leb 1 1 && leb 1 (most_after n)) ≡ true
     by_room (inl small_room) =
         let t : ltb (2 ^ 63 - 1 - n) 128 ≡ true = grind (arith, nat_tests) in
         ap (λ c. leb 1 1 && leb 1 (cond c (2 ^ 63 - 1 - n) 128)) t ∙ grind (arith, nat_tests)
@@ -245,19 +245,19 @@ start_below w x e = by_cases (number_cases w)
         let v = digits_value 10 w in
         in_range v x 0 (2 ^ 63 - 2) (leb 0 v && leb v (2 ^ 63 - 2)) refl (sym (writes.judged 0 (2 ^ 63 - 2)) ∙ e)
 
-count_judge : (word : List ℕ) (x : ℕ) → judge_number 0 (2 ^ 63 - 2) word ≡ Ok x → IsJudge (judge_number 1 (most_behind x))
+count_judge : (word : List ℕ) (x : ℕ) → judge_number 0 (2 ^ 63 - 2) word ≡ Ok x → IsJudge (judge_number 1 (most_after x))
 count_judge word x is =
-    number_judge 1 (most_behind x) (codes "1") (ap (λ b. is_ok {T = ℕ} (cond b (Ok 1) (Err (OutOfRange 1 (most_behind x))))) (room x (start_below word x is)))
+    number_judge 1 (most_after x) (codes "1") (ap (λ b. is_ok {T = ℕ} (cond b (Ok 1) (Err (OutOfRange 1 (most_after x))))) (room x (start_below word x is)))
 
 abbrev count_then : ℕ → List (List ℕ) → Result Line Wrong
-count_then x words = goes_on (at_value (judge_number 1 (most_behind x)) Count words) (λ n. end_of (Read x n) (drop 1 words))
+count_then x words = goes_on (at_value (judge_number 1 (most_after x)) Count words) (λ n. end_of (Read x n) (drop 1 words))
 
 read_fine : (words : List (List ℕ)) (w : Wrong) → read_read words ≡ Err w → Fine (λ ws. is_ok (read_read ws)) words w
 read_fine words w told =
     value_fine (judge_number 0 (2 ^ 63 - 2)) start_judge Start count_then
-    (λ word x is. value_reach (judge_number 1 (most_behind x)) (count_judge word x is) Count (λ n ws. end_of (Read x n) ws) (λ v n e. ([], refl)) (λ v n e ws u t. end_fine (Read x n) ws u t))
+    (λ word x is. value_reach (judge_number 1 (most_after x)) (count_judge word x is) Count (λ n ws. end_of (Read x n) ws) (λ v n e. ([], refl)) (λ v n e ws u t. end_fine (Read x n) ws u t))
     (λ word x is ws v e.
-    value_fine (judge_number 1 (most_behind x)) (count_judge word x is) Count (λ n ws. end_of (Read x n) ws) (λ v n e. ([], refl)) (λ v n e ws u t. end_fine (Read x n) ws u t) ws v e)
+    value_fine (judge_number 1 (most_after x)) (count_judge word x is) Count (λ n ws. end_of (Read x n) ws) (λ v n e. ([], refl)) (λ v n e ws u t. end_fine (Read x n) ws u t) ws v e)
     words w told
 
 abbrev seed_then : ℕ → ℕ → List (List ℕ) → Result Line Wrong
@@ -271,13 +271,13 @@ seed_fine x n words w told =
     value_fine small small_judge Seed (λ seed ws. end_of (Write x n seed) ws) (λ v s e. ([], refl)) (λ v s e ws u t. end_fine (Write x n s) ws u t) words w told
 
 abbrev count_seed_then : ℕ → List (List ℕ) → Result Line Wrong
-count_seed_then x words = goes_on (at_value (judge_number 1 (most_behind x)) Count words) (λ n. seed_then x n (drop 1 words))
+count_seed_then x words = goes_on (at_value (judge_number 1 (most_after x)) Count words) (λ n. seed_then x n (drop 1 words))
 
 write_fine : (words : List (List ℕ)) (w : Wrong) → read_write words ≡ Err w → Fine (λ ws. is_ok (read_write ws)) words w
 write_fine words w told =
     value_fine (judge_number 0 (2 ^ 63 - 2)) start_judge Start count_seed_then
-    (λ word x is. value_reach (judge_number 1 (most_behind x)) (count_judge word x is) Count (seed_then x) (λ v n e. seed_reach x n) (λ v n e ws u t. seed_fine x n ws u t))
-    (λ word x is ws v e. value_fine (judge_number 1 (most_behind x)) (count_judge word x is) Count (seed_then x) (λ v n e. seed_reach x n) (λ v n e ws u t. seed_fine x n ws u t) ws v e)
+    (λ word x is. value_reach (judge_number 1 (most_after x)) (count_judge word x is) Count (seed_then x) (λ v n e. seed_reach x n) (λ v n e ws u t. seed_fine x n ws u t))
+    (λ word x is ws v e. value_fine (judge_number 1 (most_after x)) (count_judge word x is) Count (seed_then x) (λ v n e. seed_reach x n) (λ v n e ws u t. seed_fine x n ws u t) ws v e)
     words w told
 
 create_fine : (words : List (List ℕ)) (w : Wrong) → read_create words ≡ Err w → Fine (λ ws. is_ok (read_create ws)) words w

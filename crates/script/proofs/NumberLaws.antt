@@ -9,7 +9,7 @@ use Rattle.std.specs.List.{list_all}
 use Rattle.std.specs.Str.Parse.{digits_value}
 use Rattle.script_words.specs.Numbers.{is_numeral, number_below}
 use Rattle.script.specs.Grammar.{span_of, is_span}
-use Rattle.script.specs.Reading.{goes_on, wrong_at, wrongly, are_digits, within, judge_number, most_behind}
+use Rattle.script.specs.Reading.{goes_on, wrong_at, wrongly, are_digits, within, judge_number, most_after}
 use Rattle.script.specs.declared.mistakes.Mistake.{Mistake}
 use Rattle.script.specs.declared.mistakes.Mistake.TheVariants.{NotANumber, LeadingZero, OutOfRange}
 use Rattle.script.specs.declared.mistakes.Wrong.{Wrong}
@@ -106,10 +106,10 @@ number_means_from least most limit e word = by_cases (number_cases word)
 
 -- ---- spans
 
-few_enough : (a b : ℕ) → a < 2 ^ 63 - 1 → (leb 1 b && leb b (most_behind a)) ≡ is_span (a, b)
+few_enough : (a b : ℕ) → a < 2 ^ 63 - 1 → (leb 1 b && leb b (most_after a)) ≡ is_span (a, b)
 few_enough a b room = by_room (cases_lt (2 ^ 63 - 1 - a) 128)
   where
-    by_room : (2 ^ 63 - 1 - a < 128) ⊎ (128 ≤ 2 ^ 63 - 1 - a) → (leb 1 b && leb b (most_behind a)) ≡ is_span (a, b)
+    by_room : (2 ^ 63 - 1 - a < 128) ⊎ (128 ≤ 2 ^ 63 - 1 - a) → (leb 1 b && leb b (most_after a)) ≡ is_span (a, b)
     by_room (inl few) =
         let t : ltb (2 ^ 63 - 1 - a) 128 ≡ true = grind (arith, nat_tests) in
         ap (λ c. leb 1 b && leb b (cond c (2 ^ 63 - 1 - a) 128)) t ∙ grind (arith, nat_tests)
@@ -125,20 +125,20 @@ small_count a b span = grind (arith, nat_tests)
 
 module _ {A : Type 0} (make : ℕ → ℕ → Option A) (x count : List ℕ) where
   by_count : (a : ℕ) → a < 2 ^ 63 - 1 → NoNumber count ⊎ Writes count (digits_value 10 count)
-      → option_and_then (make a) (result_ok (judge_number 1 (most_behind a) count))
+      → option_and_then (make a) (result_ok (judge_number 1 (most_after a) count))
       ≡ option_and_then (λ (span : ℕ × ℕ). make span.0 span.1) (option_and_then (λ n. cond (is_span (a, n)) (Some (a, n)) None) (number_below (2 ^ 32) count))
   by_count a room (inl none) =
-      ap (option_and_then (make a)) (none.judged 1 (most_behind a))
+      ap (option_and_then (make a)) (none.judged 1 (most_after a))
       ∙ ap (λ o. option_and_then (λ (span : ℕ × ℕ). make span.0 span.1) (option_and_then (λ n. cond (is_span (a, n)) (Some (a, n)) None) o)) (sym (none.below (2 ^ 32)))
   by_count a room (inr writes) =
       let b = digits_value 10 count in
-      ap (λ r. option_and_then (make a) (result_ok r)) (writes.judged 1 (most_behind a))
-      ∙ ap (λ t. option_and_then (make a) (result_ok (cond t (Ok b) (Err (OutOfRange 1 (most_behind a)))))) (few_enough a b room)
+      ap (λ r. option_and_then (make a) (result_ok r)) (writes.judged 1 (most_after a))
+      ∙ ap (λ t. option_and_then (make a) (result_ok (cond t (Ok b) (Err (OutOfRange 1 (most_after a)))))) (few_enough a b room)
       ∙ counted b (is_span (a, b)) (ltb b (2 ^ 32)) refl (small_count a b)
       ∙ ap (λ o. option_and_then (λ (span : ℕ × ℕ). make span.0 span.1) (option_and_then (λ n. cond (is_span (a, n)) (Some (a, n)) None) o)) (sym (writes.below (2 ^ 32)))
     where
       counted : (n : ℕ) (t l : Bool) → is_span (a, n) ≡ t → (is_span (a, n) ≡ true → l ≡ true)
-          → option_and_then (make a) (result_ok (cond t (Ok n) (Err (OutOfRange 1 (most_behind a)))))
+          → option_and_then (make a) (result_ok (cond t (Ok n) (Err (OutOfRange 1 (most_after a)))))
           ≡ option_and_then (λ (span : ℕ × ℕ). make span.0 span.1) (option_and_then (λ k. cond (is_span (a, k)) (Some (a, k)) None) (cond l (Some n) None))
       counted n true true is few = sym (ap (λ b. option_and_then (λ (span : ℕ × ℕ). make span.0 span.1) (cond b (Some (a, n)) None)) is)
       counted n true false is few = absurd (true≢false (sym (few is)))
@@ -146,7 +146,7 @@ module _ {A : Type 0} (make : ℕ → ℕ → Option A) (x count : List ℕ) whe
       counted n false false is few = refl
 
   abbrev left : Option ℕ → Option A
-  left o = option_and_then (λ a. option_and_then (make a) (result_ok (judge_number 1 (most_behind a) count))) o
+  left o = option_and_then (λ a. option_and_then (make a) (result_ok (judge_number 1 (most_after a) count))) o
 
   abbrev right : Option ℕ → Option A
   right o =
@@ -182,6 +182,6 @@ module _ {A : Type 0} (make : ℕ → ℕ → Option A) (x count : List ℕ) whe
 
   -- the sectors that two words name, and what is made of them
   pub span_means
-      : option_and_then (λ a. option_and_then (make a) (result_ok (judge_number 1 (most_behind a) count))) (result_ok (judge_number 0 (2 ^ 63 - 2) x))
+      : option_and_then (λ a. option_and_then (make a) (result_ok (judge_number 1 (most_after a) count))) (result_ok (judge_number 0 (2 ^ 63 - 2) x))
       ≡ option_and_then (λ (span : ℕ × ℕ). make span.0 span.1) (span_of x count)
   span_means = by_start (number_cases x)

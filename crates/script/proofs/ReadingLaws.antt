@@ -11,7 +11,7 @@ use Rattle.script_words.specs.Shapes.{shape_of}
 use Rattle.script_words.specs.Numbers.{number_below}
 use Rattle.script.specs.Grammar.{line_of, alone, array_from, create_of, assemble_of, read_of, write_of, fail_of, add_of, step_of, array_size_of, limit_given, grow_of, examine_of, span_of, create_keys, asks_for, for_lanes, is_for_lanes, opens, outside_of, inside_of}
 use Rattle.script.specs.Tables.{all_verbs, verb_in, verb_name, all_block_words, block_word_in, block_word_name}
-use Rattle.script.specs.Reading.{goes_on, wrong_at, wrongly, judge_number, judge_limit, judge_uuid, or_mistake, small, most_behind, at_value, end_of, read_one, read_read, read_write, read_create, read_assemble, grow_from, create_from, create_line, create_with, read_keys, nothing_given, wish_line, read_verb, are_digits, is_for_lanes_verb, asked_by, misplaced, lane_by, read_lane, outside_by, read_outside, inside_by, read_inside, read_words}
+use Rattle.script.specs.Reading.{goes_on, wrong_at, wrongly, judge_number, judge_limit, judge_uuid, or_mistake, small, most_after, at_value, end_of, read_one, read_read, read_write, read_create, read_assemble, grow_from, create_from, create_line, create_with, read_keys, nothing_given, wish_line, read_verb, are_digits, is_for_lanes_verb, asked_by, misplaced, lane_by, read_lane, outside_by, read_outside, inside_by, read_inside, read_words}
 use Rattle.script.specs.declared.lines.Line.{Line}
 use Rattle.script.specs.declared.lines.Line.TheVariants.{Create, Read, Write, Flush, Fail, Add, Step, Wait, ArraySize, Grow, Stop, Halt, Detail, Mdstat, Alerts, Examine, Assemble}
 use Rattle.script.specs.declared.grammar.Meaning.{Meaning}
@@ -134,23 +134,23 @@ assemble_means (word ∷ other ∷ words) =
 
 module _ {Y : Type 0} (x count : List ℕ) (words : List (List ℕ)) (make : ℕ → ℕ → Result Y Wrong) where
   both_then
-      : result_ok (goes_on (wrongly (x ∷ count ∷ words) 0 (judge_number 0 (2 ^ 63 - 2) x)) (λ a. goes_on (wrongly (count ∷ words) 0 (judge_number 1 (most_behind a) count)) (make a)))
+      : result_ok (goes_on (wrongly (x ∷ count ∷ words) 0 (judge_number 0 (2 ^ 63 - 2) x)) (λ a. goes_on (wrongly (count ∷ words) 0 (judge_number 1 (most_after a) count)) (make a)))
       ≡ option_and_then (λ (span : ℕ × ℕ). result_ok (make span.0 span.1)) (span_of x count)
   both_then =
-      ok_then (x ∷ count ∷ words) 0 (judge_number 0 (2 ^ 63 - 2) x) (λ a. goes_on (wrongly (count ∷ words) 0 (judge_number 1 (most_behind a) count)) (make a))
+      ok_then (x ∷ count ∷ words) 0 (judge_number 0 (2 ^ 63 - 2) x) (λ a. goes_on (wrongly (count ∷ words) 0 (judge_number 1 (most_after a) count)) (make a))
       ∙ inner (result_ok (judge_number 0 (2 ^ 63 - 2) x))
       ∙ span_means (λ a n. result_ok (make a n)) x count
     where
       inner : (o : Option ℕ)
-          → option_and_then (λ a. result_ok (goes_on (wrongly (count ∷ words) 0 (judge_number 1 (most_behind a) count)) (make a))) o
-          ≡ option_and_then (λ a. option_and_then (λ n. result_ok (make a n)) (result_ok (judge_number 1 (most_behind a) count))) o
+          → option_and_then (λ a. result_ok (goes_on (wrongly (count ∷ words) 0 (judge_number 1 (most_after a) count)) (make a))) o
+          ≡ option_and_then (λ a. option_and_then (λ n. result_ok (make a n)) (result_ok (judge_number 1 (most_after a) count))) o
       inner None = refl
-      inner (Some a) = ok_then (count ∷ words) 0 (judge_number 1 (most_behind a) count) (make a)
+      inner (Some a) = ok_then (count ∷ words) 0 (judge_number 1 (most_after a) count) (make a)
 
 read_means : (words : List (List ℕ)) → result_ok (read_read words) ≡ read_of words
 read_means [] = refl
 read_means (x ∷ []) =
-    ok_then (x ∷ []) 0 (judge_number 0 (2 ^ 63 - 2) x) (λ a. goes_on (at_value (judge_number 1 (most_behind a)) Count []) (λ n. end_of (Read a n) []))
+    ok_then (x ∷ []) 0 (judge_number 0 (2 ^ 63 - 2) x) (λ a. goes_on (at_value (judge_number 1 (most_after a)) Count []) (λ n. end_of (Read a n) []))
     ∙ none_then (result_ok (judge_number 0 (2 ^ 63 - 2) x))
 read_means (x ∷ count ∷ []) =
     both_then x count [] (λ a n. Ok (Read a n)) ∙ mapped (λ (span : ℕ × ℕ). Read span.0 span.1) (span_of x count)
@@ -161,7 +161,7 @@ write_means : (words : List (List ℕ)) → result_ok (read_write words) ≡ wri
 write_means [] = refl
 write_means (x ∷ []) =
     ok_then (x ∷ []) 0 (judge_number 0 (2 ^ 63 - 2) x)
-    (λ a. goes_on (at_value (judge_number 1 (most_behind a)) Count []) (λ n. goes_on (at_value small Seed []) (λ seed. end_of (Write a n seed) [])))
+    (λ a. goes_on (at_value (judge_number 1 (most_after a)) Count []) (λ n. goes_on (at_value small Seed []) (λ seed. end_of (Write a n seed) [])))
     ∙ none_then (result_ok (judge_number 0 (2 ^ 63 - 2) x))
 write_means (x ∷ count ∷ []) =
     both_then x count [] (λ a n. goes_on (at_value small Seed []) (λ seed. end_of (Write a n seed) [])) ∙ none_then (span_of x count)
@@ -316,13 +316,13 @@ ended_none line (word ∷ words) is_none = refl
 
 lines_of_lanes : (verb : Verb) (words : List (List ℕ)) → is_for_lanes_verb verb ≡ true → lanes_only (read_verb verb words)
 lines_of_lanes ToRead words is_one =
-    lanes_on (at_value (judge_number 0 (2 ^ 63 - 2)) Start words) (λ x. goes_on (at_value (judge_number 1 (most_behind x)) Count (drop 1 words)) (λ n. end_of (Read x n) (drop 1 (drop 1 words))))
-    (λ x. lanes_on (at_value (judge_number 1 (most_behind x)) Count (drop 1 words)) (λ n. end_of (Read x n) (drop 1 (drop 1 words)))
+    lanes_on (at_value (judge_number 0 (2 ^ 63 - 2)) Start words) (λ x. goes_on (at_value (judge_number 1 (most_after x)) Count (drop 1 words)) (λ n. end_of (Read x n) (drop 1 (drop 1 words))))
+    (λ x. lanes_on (at_value (judge_number 1 (most_after x)) Count (drop 1 words)) (λ n. end_of (Read x n) (drop 1 (drop 1 words)))
     (λ n. ended_lanes (Read x n) (drop 1 (drop 1 words)) refl))
 lines_of_lanes ToWrite words is_one =
     lanes_on (at_value (judge_number 0 (2 ^ 63 - 2)) Start words)
-    (λ x. goes_on (at_value (judge_number 1 (most_behind x)) Count (drop 1 words)) (λ n. goes_on (at_value small Seed (drop 1 (drop 1 words))) (λ seed. end_of (Write x n seed) (drop 1 (drop 1 (drop 1 words))))))
-    (λ x. lanes_on (at_value (judge_number 1 (most_behind x)) Count (drop 1 words)) (λ n. goes_on (at_value small Seed (drop 1 (drop 1 words))) (λ seed. end_of (Write x n seed) (drop 1 (drop 1 (drop 1 words)))))
+    (λ x. goes_on (at_value (judge_number 1 (most_after x)) Count (drop 1 words)) (λ n. goes_on (at_value small Seed (drop 1 (drop 1 words))) (λ seed. end_of (Write x n seed) (drop 1 (drop 1 (drop 1 words))))))
+    (λ x. lanes_on (at_value (judge_number 1 (most_after x)) Count (drop 1 words)) (λ n. goes_on (at_value small Seed (drop 1 (drop 1 words))) (λ seed. end_of (Write x n seed) (drop 1 (drop 1 (drop 1 words)))))
     (λ n. lanes_on (at_value small Seed (drop 1 (drop 1 words))) (λ seed. end_of (Write x n seed) (drop 1 (drop 1 (drop 1 words))))
     (λ seed. ended_lanes (Write x n seed) (drop 1 (drop 1 (drop 1 words))) refl)))
 lines_of_lanes ToFlush words is_one = ended_lanes Flush words refl

@@ -10,7 +10,7 @@ use Rattle.history.specs.raid_types_Search.{least_below}
 use Rattle.script.proofs.TurnLaws.{outside_lane, asked_within_limits, asked_by_lanes, asked_in_turn}
 use Rattle.script_words.proofs.LeastLaws.{least_below-reached, least_below-passed}
 use Rattle.script.specs.Grammar.{meaning_of}
-use Rattle.script.specs.Script.{most_lines, most_bytes, most_sectors, lines_of, numbered, is_inside_behind, is_inside, meanings, asked, in_turn, sectors_of, total_sectors, is_refused, is_bad, unless_bad, script_with, is_within_limits, may_ask, are_in_turn}
+use Rattle.script.specs.Script.{most_lines, most_bytes, most_sectors, lines_of, numbered, is_inside_after, is_inside, meanings, asked, in_turn, sectors_of, total_sectors, is_refused, is_bad, unless_bad, script_with, is_within_limits, may_ask, are_in_turn}
 use Rattle.script.specs.declared.lines.Line.{Line}
 use Rattle.script.specs.declared.lines.Numbered.{Numbered}
 use Rattle.script.specs.declared.grammar.Meaning.{Meaning}
@@ -39,7 +39,7 @@ cons_option-nil None = refl
 cons_option-nil (Some x) = refl
 
 abbrev next : Bool → List ℕ → Bool
-next inside line = is_inside_behind inside (meaning_of inside line)
+next inside line = is_inside_after inside (meaning_of inside line)
 
 -- the meaning of the line behind the first k
 abbrev pub meaning_at : List (List ℕ) → ℕ → Meaning
@@ -60,7 +60,7 @@ asked-more lines k within =
     ∙ ap (λ n. option_to_list (numbered n (meaning_at lines k))) number)
 
 pub inside-more : (lines : List (List ℕ)) (k : ℕ) → k < length lines
-    → is_inside (take (k + 1) lines) ≡ is_inside_behind (is_inside (take k lines)) (meaning_at lines k)
+    → is_inside (take (k + 1) lines) ≡ is_inside_after (is_inside (take k lines)) (meaning_at lines k)
 inside-more lines k within = fold_more next false lines k [] within
 
 -- what is known once the first k lines were read and none was bad
@@ -114,14 +114,14 @@ module _ {blocks : Bool} {lines : List (List ℕ)} {k : ℕ} {script waiting : L
       asked-more lines k within ∙ ap (λ m. asked (take k lines) ++ option_to_list (numbered (k + 1) m)) (sym (meaning-here meaning means))
 
   more-inside : (meaning : Meaning) → meaning ≡ meaning_of inside (get_or lines k [])
-      → is_inside_behind inside meaning ≡ is_inside (take (k + 1) lines)
-  more-inside meaning means = ap₂ is_inside_behind so_far.inside_is (meaning-here meaning means) ∙ sym (inside-more lines k within)
+      → is_inside_after inside meaning ≡ is_inside (take (k + 1) lines)
+  more-inside meaning means = ap₂ is_inside_after so_far.inside_is (meaning-here meaning means) ∙ sym (inside-more lines k within)
 
   -- a line that asks nothing and isn't refused
   pub so_far-silent : (meaning : Meaning) → meaning ≡ meaning_of inside (get_or lines k []) → k < most_lines
       → numbered (k + 1) meaning ≡ None → is_refused blocks (asked (take k lines)) meaning ≡ false
-      → (is_inside_behind inside meaning ≡ false → inside ≡ false)
-      → SoFar blocks lines (k + 1) script waiting (is_inside_behind inside meaning) sectors
+      → (is_inside_after inside meaning ≡ false → inside ≡ false)
+      → SoFar blocks lines (k + 1) script waiting (is_inside_after inside meaning) sectors
   so_far-silent meaning means few none taken stays =
       let same : asked (take (k + 1) lines) ≡ asked (take k lines) =
       more-asked meaning means ∙ ap (λ o. asked (take k lines) ++ option_to_list o) none ∙ append-nil (asked (take k lines)) in
@@ -139,8 +139,8 @@ module _ {blocks : Bool} {lines : List (List ℕ)} {k : ℕ} {script waiting : L
   pub so_far-asked : (lane : Lane) (line : Line) (new_script new_waiting : List Numbered) → Asks lane line ≡ meaning_of inside (get_or lines k []) → k < most_lines
       → sectors + sectors_of line ≤ most_sectors
       → ((more : List Numbered) → new_script ++ in_turn new_waiting more ≡ script ++ in_turn waiting (record { number = k + 1; lane = lane; line = line } ∷ more))
-      → (is_inside_behind inside (Asks lane line) ≡ false → new_waiting ≡ [])
-      → SoFar blocks lines (k + 1) new_script new_waiting (is_inside_behind inside (Asks lane line)) (sectors + sectors_of line)
+      → (is_inside_after inside (Asks lane line) ≡ false → new_waiting ≡ [])
+      → SoFar blocks lines (k + 1) new_script new_waiting (is_inside_after inside (Asks lane line)) (sectors + sectors_of line)
   so_far-asked lane line new_script new_waiting means few fits turn stays =
       let first : Numbered = record { number = k + 1; lane = lane; line = line } in
       let longer = more-asked (Asks lane line) means in
@@ -164,13 +164,13 @@ module _ {blocks : Bool} {lines : List (List ℕ)} {k : ℕ} {script waiting : L
 
   -- none of lane b waits once the text is outside a block
   pub none_left : (lane : Lane) (line : Line) (new_waiting : List Numbered) → Asks lane line ≡ meaning_of inside (get_or lines k [])
-      → (lane ≡ Worker → new_waiting ≡ []) → (lane ≡ Script → new_waiting ≡ waiting) → is_inside_behind inside (Asks lane line) ≡ false → new_waiting ≡ []
+      → (lane ≡ Worker → new_waiting ≡ []) → (lane ≡ Script → new_waiting ≡ waiting) → is_inside_after inside (Asks lane line) ≡ false → new_waiting ≡ []
   none_left lane line new_waiting means ended kept = by_lane lane ended (λ h. kept (outside h) ∙ so_far.none_waiting h)
     where
       outside : inside ≡ false → lane ≡ Script
       outside h = outside_lane (get_or lines k []) lane line (sym (means ∙ ap (λ i. meaning_of i (get_or lines k [])) h))
 
-      by_lane : (l : Lane) → (l ≡ Worker → new_waiting ≡ []) → (inside ≡ false → new_waiting ≡ []) → is_inside_behind inside (Asks l line) ≡ false → new_waiting ≡ []
+      by_lane : (l : Lane) → (l ≡ Worker → new_waiting ≡ []) → (inside ≡ false → new_waiting ≡ []) → is_inside_after inside (Asks l line) ≡ false → new_waiting ≡ []
       by_lane Worker worker others h = worker refl
       by_lane Script worker others h = others h
       by_lane A worker others h = others h

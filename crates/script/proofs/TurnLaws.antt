@@ -7,7 +7,7 @@ use Rattle.std.proofs.lemmas.List.Folds.{list_all-append}
 use lib.Chars.{codes}
 use Rattle.script_words.specs.Numbers.{words_of}
 use Rattle.script.specs.Grammar.{line_of, alone, is_printable, is_passed_over, asks_for, is_for_lanes, for_lanes, inside_of, opens, outside_of, meaning_of}
-use Rattle.script.specs.Script.{numbered, asked, is_inside_behind, is_inside, is_of_b, is_of_worker, in_turn, is_within_limits, may_ask, may_follow, are_in_turn}
+use Rattle.script.specs.Script.{numbered, asked, is_inside_after, is_inside, is_of_b, is_of_worker, in_turn, is_within_limits, may_ask, may_follow, are_in_turn}
 use Rattle.script.specs.declared.lines.Line.{Line}
 use Rattle.script.specs.declared.lines.Line.TheVariants.{Wait}
 use Rattle.script.specs.declared.lines.Numbered.{Numbered}
@@ -93,7 +93,7 @@ may_ok true text lane line e = (block_lane text lane line e).1
 may_ok false text lane line e = ap (λ l. may_ask l line) (outside_lane text lane line e)
 
 abbrev next : Bool → List ℕ → Bool
-next inside line = is_inside_behind inside (meaning_of inside line)
+next inside line = is_inside_after inside (meaning_of inside line)
 
 -- what the lines ask, from this number on, inside a block or outside
 abbrev asked_from : ℕ → Bool → List (List ℕ) → List Numbered
@@ -198,8 +198,8 @@ turns-more line lines ih n inside ws former all out behind ends =
 
     step : (m : Meaning) → ((lane : Lane) (what : Line) → m ≡ Asks lane what → inside ≡ false → lane ≡ Script)
         → ((lane : Lane) (what : Line) → m ≡ Asks lane what → inside ≡ true → is_of_block lane ≡ true)
-        → fold next (is_inside_behind inside m) lines ≡ false
-        → are_in_turn former (in_turn ws (cons_option (numbered n m) (asked_from (n + 1) (is_inside_behind inside m) lines))) ≡ true
+        → fold next (is_inside_after inside m) lines ≡ false
+        → are_in_turn former (in_turn ws (cons_option (numbered n m) (asked_from (n + 1) (is_inside_after inside m) lines))) ≡ true
     step PassedOver script block ended = ih (n + 1) inside ws former all out behind ended
     step Bad script block ended = ih (n + 1) inside ws former all out behind ended
     step Opens script block ended = ih (n + 1) true ws former all (λ e. absurd (cc)) behind ended

@@ -92,8 +92,8 @@ end_of meaning [] = Ok meaning
 end_of meaning (word ∷ words) = Err (wrong_at (word ∷ words) 0 TooMany)
 
 -- the sectors that may be asked for from this one on
-abbrev pub most_behind : ℕ → ℕ
-most_behind start = if nat_lt (2 ^ 63 - 1 - start) 128 then 2 ^ 63 - 1 - start else 128
+abbrev pub most_after : ℕ → ℕ
+most_after start = if nat_lt (2 ^ 63 - 1 - start) 128 then 2 ^ 63 - 1 - start else 128
 
 abbrev pub small : List ℕ → Result ℕ Mistake
 small word = judge_number 0 (2 ^ 32 - 1) word
@@ -173,12 +173,12 @@ read_assemble (word ∷ words) = goes_on (at_value judge_uuid Uuid (word ∷ wor
 abbrev pub read_read : List (List ℕ) → Result Line Wrong
 read_read words =
     goes_on (at_value (judge_number 0 (2 ^ 63 - 2)) Start words)
-    (λ x. goes_on (at_value (judge_number 1 (most_behind x)) Count (drop 1 words)) (λ n. end_of (Read x n) (drop 1 (drop 1 words))))
+    (λ x. goes_on (at_value (judge_number 1 (most_after x)) Count (drop 1 words)) (λ n. end_of (Read x n) (drop 1 (drop 1 words))))
 
 abbrev pub read_write : List (List ℕ) → Result Line Wrong
 read_write words =
     goes_on (at_value (judge_number 0 (2 ^ 63 - 2)) Start words)
-    (λ x. goes_on (at_value (judge_number 1 (most_behind x)) Count (drop 1 words))
+    (λ x. goes_on (at_value (judge_number 1 (most_after x)) Count (drop 1 words))
     (λ n. goes_on (at_value small Seed (drop 1 (drop 1 words))) (λ seed. end_of (Write x n seed) (drop 1 (drop 1 (drop 1 words))))))
 
 -- a line of one number

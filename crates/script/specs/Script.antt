@@ -32,14 +32,14 @@ abbrev pub lines_of : List ℕ → List (List ℕ)
 lines_of text = slice_split (λ b. b == 10) (without_end text)
 
 -- whether the text behind a line of this meaning is inside a block
-abbrev pub is_inside_behind : Bool → Meaning → Bool
-is_inside_behind inside Opens = true
-is_inside_behind inside (Asks Worker line) = false
-is_inside_behind inside meaning = inside
+abbrev pub is_inside_after : Bool → Meaning → Bool
+is_inside_after inside Opens = true
+is_inside_after inside (Asks Worker line) = false
+is_inside_after inside meaning = inside
 
 -- behind this line, and behind several from the text's beginning on: from `together` on, until `end`
 abbrev pub is_inside_next : Bool → List ℕ → Bool
-is_inside_next inside line = is_inside_behind inside (meaning_of inside line)
+is_inside_next inside line = is_inside_after inside (meaning_of inside line)
 
 abbrev pub is_inside : List (List ℕ) → Bool
 is_inside lines = fold is_inside_next false lines

@@ -12,7 +12,7 @@ use crate::keyed::{create_from, grow_from};
 use crate::lines::Line;
 use crate::mistakes::{Mistake, Place, Value, Wrong};
 use crate::reader::{
-    behind_first, end_of, limit_at, most_behind, number_at, small_at, uuid_at, wrong_at,
+    after_first, end_of, limit_at, most_after, number_at, small_at, uuid_at, wrong_at,
 };
 use crate::reply::Lane;
 use crate::tables::{BlockWord, Verb, block_word_named, verb_named};
@@ -31,27 +31,27 @@ fn read_read(words: Words<'_>) -> Result<Line, Wrong>
     ensures { result ≡ read_read (words_of words.entry.line.now) }
 {
     let at = number_at(words, Value::Start, 0, (1 << 63) - 2)?;
-    let words = behind_first(words);
-    let count = small_at(words, Value::Count, 1, most_behind(at))?;
-    end_of(behind_first(words), Line::Read { at, count })
+    let words = after_first(words);
+    let count = small_at(words, Value::Count, 1, most_after(at))?;
+    end_of(after_first(words), Line::Read { at, count })
 }
 
 fn read_write(words: Words<'_>) -> Result<Line, Wrong>
     ensures { result ≡ read_write (words_of words.entry.line.now) }
 {
     let at = number_at(words, Value::Start, 0, (1 << 63) - 2)?;
-    let words = behind_first(words);
-    let count = small_at(words, Value::Count, 1, most_behind(at))?;
-    let words = behind_first(words);
+    let words = after_first(words);
+    let count = small_at(words, Value::Count, 1, most_after(at))?;
+    let words = after_first(words);
     let seed = small_at(words, Value::Seed, 0, u32::MAX)?;
-    end_of(behind_first(words), Line::Write { at, count, seed })
+    end_of(after_first(words), Line::Write { at, count, seed })
 }
 
 fn read_create(words: Words<'_>) -> Result<Line, Wrong>
     ensures { result ≡ read_create (words_of words.entry.line.now) }
 {
     let uuid = uuid_at(words)?;
-    create_from(uuid, behind_first(words))
+    create_from(uuid, after_first(words))
 }
 
 fn read_assemble(words: Words<'_>) -> Result<Line, Wrong>
@@ -62,7 +62,7 @@ fn read_assemble(words: Words<'_>) -> Result<Line, Wrong>
         return Ok(Line::Assemble { uuid: None });
     }
     let uuid = uuid_at(words)?;
-    end_of(behind_first(words), Line::Assemble { uuid: Some(uuid) })
+    end_of(after_first(words), Line::Assemble { uuid: Some(uuid) })
 }
 
 // What a line asks by the words behind its first.
@@ -77,20 +77,20 @@ fn read_verb(verb: Verb, words: Words<'_>) -> Result<Line, Wrong>
         Verb::Flush => end_of(words, Line::Flush),
         Verb::Fail => {
             let role = small_at(words, Value::Role, 0, u32::MAX)?;
-            end_of(behind_first(words), Line::Fail { role })
+            end_of(after_first(words), Line::Fail { role })
         }
         Verb::Add => {
             let slot = small_at(words, Value::Slot, 0, u32::MAX)?;
-            end_of(behind_first(words), Line::Add { slot })
+            end_of(after_first(words), Line::Add { slot })
         }
         Verb::Step => {
             let most = small_at(words, Value::Steps, 1, u32::MAX)?;
-            end_of(behind_first(words), Line::Step { most })
+            end_of(after_first(words), Line::Step { most })
         }
         Verb::Wait => end_of(words, Line::Wait),
         Verb::ArraySize => {
             let limit = limit_at(words)?;
-            end_of(behind_first(words), Line::ArraySize { limit })
+            end_of(after_first(words), Line::ArraySize { limit })
         }
         Verb::Grow => grow_from(words),
         Verb::Stop => end_of(words, Line::Stop),
@@ -99,7 +99,7 @@ fn read_verb(verb: Verb, words: Words<'_>) -> Result<Line, Wrong>
         Verb::Mdstat => end_of(words, Line::Mdstat),
         Verb::Examine => {
             let slot = small_at(words, Value::Slot, 0, u32::MAX)?;
-            end_of(behind_first(words), Line::Examine { slot })
+            end_of(after_first(words), Line::Examine { slot })
         }
         Verb::Alerts => end_of(words, Line::Alerts),
     }

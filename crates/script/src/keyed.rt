@@ -7,7 +7,7 @@ ghost use Rattle.script.specs.Reading.{nothing_given, has_given, give, take_key,
 
 use crate::lines::{CreateLine, Line};
 use crate::mistakes::{Mistake, Value, Wrong};
-use crate::reader::{behind_first, judge_layout, judge_number, judge_small, judge_wish, wrong_at};
+use crate::reader::{after_first, judge_layout, judge_number, judge_small, judge_wish, wrong_at};
 use crate::tables::{Key, Verb, key_in};
 use history::{Shape, Wish};
 use script_words::{WishedLayout, Words};

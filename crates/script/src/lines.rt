@@ -2,7 +2,7 @@
 
 ghost use Rattle.std.specs.Prelude.{◌≡◌, List, [], ◌∷◌, ◌++◌, IfOk, IfErr, OnOk, Ok, IsTrue, true, false};
 ghost use Rattle.std.specs.List.{AllPass};
-ghost use Rattle.script.specs.Script.{script_of, script_with, is_inside_behind, in_turn, IsFaultOf, sectors_of, is_within_limits, may_ask, are_in_turn, without_end};
+ghost use Rattle.script.specs.Script.{script_of, script_with, is_inside_after, in_turn, IsFaultOf, sectors_of, is_within_limits, may_ask, are_in_turn, without_end};
 ghost use Rattle.script.specs.declared.lines.Numbered.{Numbered as Asked};
 ghost use Rattle.script.specs.declared.reply.Lane.TheVariants.{Script as OfScript, Worker as OfWorker};
 
@@ -90,8 +90,8 @@ pub fn without_last_newline(text: &[u8]) -> &[u8]
 }
 
 /// Whether the text behind a line of this meaning is inside a block.
-pub fn is_inside_behind(inside: bool, meaning: Meaning) -> bool
-    ensures { result ≡ is_inside_behind inside meaning }
+pub fn is_inside_after(inside: bool, meaning: Meaning) -> bool
+    ensures { result ≡ is_inside_after inside meaning }
 {
     match meaning {
         Meaning::Opens => true,
@@ -158,7 +158,7 @@ fn read_lines(alloc: Global, text: &[u8], blocks: bool) -> Result<Vec<Numbered>,
             return Err(ScriptFault::BadLine(number));
         }
         let meaning = meaning_of_line(inside, line);
-        inside = is_inside_behind(inside, meaning);
+        inside = is_inside_after(inside, meaning);
         match meaning {
             Meaning::PassedOver => {}
             Meaning::Opens if blocks => {}

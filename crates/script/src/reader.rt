@@ -5,7 +5,7 @@ ghost use Rattle.std.specs.List.{list_all};
 ghost use Rattle.std.specs.Char.{is_ascii_digit};
 ghost use Rattle.script_words.specs.Numbers.{words_of, is_numeral};
 ghost use Rattle.script.specs.Tables.{key_name};
-ghost use Rattle.script.specs.Reading.{wrong_at, judge_number, judge_limit, judge_uuid, judge_layout, judge_wish, at_value, end_of, are_digits, most_behind};
+ghost use Rattle.script.specs.Reading.{wrong_at, judge_number, judge_limit, judge_uuid, judge_layout, judge_wish, at_value, end_of, are_digits, most_after};
 
 use crate::mistakes::{Mistake, Value, Wrong};
 use crate::tables::Key;
@@ -35,7 +35,7 @@ pub fn wrong_at(words: Words<'_>, skip: usize, mistake: Mistake) -> Wrong
 }
 
 /// The words behind the first.
-pub fn behind_first(mut words: Words<'_>) -> Words<'_>
+pub fn after_first(mut words: Words<'_>) -> Words<'_>
     ensures { words_of result.line.now ≡ drop 1 (words_of words.entry.line.now) }
 {
     let _ = words.next();
@@ -208,9 +208,9 @@ pub fn end_of<T: Copy>(words: Words<'_>, meaning: T) -> Result<T, Wrong>
 }
 
 /// How many sectors may be asked for from this one on: at most 128, and all of them below 2^63.
-pub fn most_behind(start: u64) -> u32
+pub fn most_after(start: u64) -> u32
     requires { nat_lt start (2 ^ 63 - 1) ≡ true }
-    ensures { result ≡ most_behind start }
+    ensures { result ≡ most_after start }
 {
     let room = (1 << 63) - 1 - start;
     if room < 128 { room as u32 } else { 128 }

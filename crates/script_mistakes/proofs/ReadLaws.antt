@@ -6,7 +6,7 @@ use Rattle.std.proofs.lemmas.List.Sums.{sum_by-append}
 use Rattle.std.specs.Option.{option_to_list}
 use Rattle.std.specs.Result.{is_ok}
 use Rattle.script.specs.Grammar.{meaning_of}
-use Rattle.script.specs.Script.{lines_of, most_bytes, most_lines, most_sectors, is_inside, is_inside_behind, asked, numbered, total_sectors, sectors_of, is_refused, is_bad, unless_bad, script_with, in_turn}
+use Rattle.script.specs.Script.{lines_of, most_bytes, most_lines, most_sectors, is_inside, is_inside_after, asked, numbered, total_sectors, sectors_of, is_refused, is_bad, unless_bad, script_with, in_turn}
 use Rattle.script.specs.declared.grammar.Meaning.{Meaning}
 use Rattle.script.specs.declared.grammar.Meaning.TheVariants.{PassedOver, Opens, Asks, Bad}
 use Rattle.script.specs.declared.lines.Numbered.{Numbered}
@@ -87,11 +87,11 @@ module _ {lines : List (List ℕ)} {k : ℕ} {inside : Bool} {sectors : ℕ} (re
       least_below-reached (length lines) (is_bad true lines) k within read.none_bad (at_line few ∙ refused_over (asked (take k lines)) meaning few_before past)
 
   pub read_to-more : meaning ≢ Bad → k < most_lines → sectors + sectors_in meaning ≤ most_sectors
-      → ReadTo lines (k + 1) (is_inside_behind inside meaning) (sectors + sectors_in meaning)
+      → ReadTo lines (k + 1) (is_inside_after inside meaning) (sectors + sectors_in meaning)
   read_to-more good few fits =
       let room : total_sectors (asked (take k lines)) + sectors_in meaning ≤ most_sectors = omega (arith, total_here, fits) in
       record {
-        inside_is = ap₂ is_inside_behind read.inside_is here ∙ sym (inside-more lines k within);
+        inside_is = ap₂ is_inside_after read.inside_is here ∙ sym (inside-more lines k within);
         sectors_are = sym read_to-total;
         few_sectors = fits;
         few_lines = omega arith;

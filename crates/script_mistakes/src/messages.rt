@@ -227,7 +227,7 @@ fn near_layout(alloc: Global, word: &[u8]) -> Result<Option<&'static str>, Alloc
 }
 
 /// What is wrong with this line, by its diagnosis, and which word may have been meant.
-pub fn told(alloc: Global, line: &[u8], diagnosis: &Diagnosis) -> Result<String, AllocError> {
+pub fn message_of(alloc: Global, line: &[u8], diagnosis: &Diagnosis) -> Result<String, AllocError> {
     let wrong = match line.get(diagnosis.column..) {
         Some(rest) => match rest.get(..diagnosis.width) {
             Some(word) => word,

@@ -5,7 +5,7 @@ ghost use Rattle.script.specs.Script.{script_with};
 ghost use Rattle.script_mistakes.specs.Reasons.{IsReason, sectors_in};
 
 use script::{
-    Diagnosis, MOST_BYTES, MOST_LINES, MOST_SECTORS, Meaning, is_inside_behind, read_line,
+    Diagnosis, MOST_BYTES, MOST_LINES, MOST_SECTORS, Meaning, is_inside_after, read_line,
     without_last_newline,
 };
 
@@ -65,7 +65,7 @@ pub fn diagnose_script(text: &[u8]) -> Option<ScriptMistake>
                 return Some(ScriptMistake { number, reason });
             }
             Ok(meaning) => {
-                inside = is_inside_behind(inside, meaning);
+                inside = is_inside_after(inside, meaning);
                 sectors += sectors_in(&meaning);
                 if sectors > MOST_SECTORS {
                     let reason = Reason::TooManySectors;

@@ -22,7 +22,7 @@ ghost use Rattle.sb_safe_updates.specs.crash_views_Views.{Ledger, IsTailZero};
 ghost use Rattle.stripe_delayed_store.specs.Rows.{DifferWhereChanged};
 
 use crate::row::store_row;
-use sb_safe_updates::naming::name_missing;
+use sb_safe_updates::naming::record_missing;
 use sb_safe_updates::refusing::too_many_of;
 use sb_safe_updates::{Bank, Members, Refusal, Shape};
 
@@ -112,7 +112,7 @@ pub fn store_delayed<B: Bank>(
     if refusal.is_some() {
         return Stored { spares: 0, refusal };
     }
-    let spares = name_missing(members, bank);
+    let spares = record_missing(members, bank);
     Stored {
         spares,
         refusal: None,

@@ -1,6 +1,6 @@
 pub mod ReadParts
 pub mod FillingLaws
-pub mod MendedStripes
+pub mod SyncedStripes
 pub mod UnusedReads
 pub use Rattle.sb_safe_updates.proofs.RefusingLaws as sb_safe_updates_RefusingLaws
 pub use Rattle.sb_safe_updates.proofs.Unused as sb_safe_updates_Unused
@@ -17,7 +17,7 @@ pub use Rattle.sb_safe_updates.proofs.crash_views_Stands
 pub use Rattle.sb_safe_updates.proofs.array_members_Elements
 pub use Rattle.sb_safe_updates.proofs.crash_views_Alike
 pub use Rattle.sb_safe_updates.proofs.crash_views_UnderWay
-pub use Rattle.sb_safe_updates.proofs.array_members_MendedParts
+pub use Rattle.sb_safe_updates.proofs.array_members_SyncedParts
 pub mod CallLaws
 pub mod RefusedLaws
 pub use Rattle.sb_safe_updates.proofs.reshape_geometry_ClosedForms

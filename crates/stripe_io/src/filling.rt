@@ -24,7 +24,7 @@ ghost use Rattle.sb_safe_updates.specs.Named.{AreNamedMissing};
 ghost use Rattle.stripe_io.specs.Filled.{IsNamedFirst};
 ghost use Rattle.sb_safe_updates.specs.crash_views_Views.{Ledger};
 
-use sb_safe_updates::naming::name_missing;
+use sb_safe_updates::naming::record_missing;
 use sb_safe_updates::refusing::{refused_by, too_many_of};
 use sb_safe_updates::roles::list_length;
 use sb_safe_updates::{
@@ -196,7 +196,7 @@ fn fill_rows<B: Bank>(
         return 0;
     }
     let _ = lose_slot(members, target.slot);
-    name_missing(members, bank)
+    record_missing(members, bank)
 }
 
 // Reads rows, as many as so many sectors of the list from `first` on have their places in; names the roles that no slot
@@ -253,7 +253,7 @@ fn fill_part<B: Bank>(
     if refusal.is_some() {
         return Filled { spares: 0, refusal };
     }
-    let named = name_missing(members, bank);
+    let named = record_missing(members, bank);
     let refusal = too_many_of(members, shape);
     if refusal.is_some() {
         return Filled {

@@ -17,14 +17,14 @@ ghost use Rattle.sb_safe_updates.specs.array_members_Moving.{Grows, IsMoved};
 ghost use Rattle.sb_safe_updates.specs.crash_safety_laws_Safety.{HasRoomLeft, IsRisen};
 ghost use Rattle.sb_safe_updates.specs.array_members_Status.{stripes_of};
 ghost use Rattle.sb_safe_updates.specs.crash_views_Windows.{IsOfRegion};
-ghost use Rattle.sb_safe_updates.specs.array_members_Lacking.{HaveFailedSince, DoesWithout, IsUnwritten, DataStandsAmong, AreOtherRowsKept, IsOfStripe, mended_rows};
+ghost use Rattle.sb_safe_updates.specs.array_members_Lacking.{HaveFailedSince, DoesWithout, IsUnwritten, DataStandsAmong, AreOtherRowsKept, IsOfStripe, synced_rows};
 ghost use Rattle.sb_safe_updates.specs.First.{write_refusal};
 ghost use Rattle.sb_safe_updates.specs.Unused.{IsUnusedKept};
 ghost use Rattle.sb_safe_updates.specs.history_World.{World};
 ghost use Rattle.sb_safe_updates.specs.history_Sound.{OpensFit};
 ghost use Rattle.sb_safe_updates.specs.crash_views_Views.{Ledger, IsTailZero};
 
-use crate::putting::put;
+use crate::putting::write_listed;
 use sb_safe_updates::roles::{list_length, shape_in};
 use sb_safe_updates::{Bank, Members, Refusal, Shape};
 
@@ -40,11 +40,11 @@ pub fn stripes(members: &Members) -> u64
 }
 
 /// The rows whose parity is to be relied on: those of the stripes that a pending resync has mended, or else all.
-pub fn mended_rows(members: &Members, resync: Option<u64>) -> u64
+pub fn synced_rows(members: &Members, resync: Option<u64>) -> u64
     requires shape { IsTrue (is_valid_shape (shape_of members.now.newest)) }
     requires multiple { IsTrue (is_multiple members.now.newest.size (shape_of members.now.newest).chunk) }
     requires progress { IfSome resync (λ mended. mended ≤ stripes_of members.now) }
-    ensures rows { result ≡ mended_rows resync members.now }
+    ensures rows { result ≡ synced_rows resync members.now }
     ensures within { result ≤ members.now.newest.size }
     ensures stripes { IsTrue (is_multiple result (shape_of members.now.newest).chunk) }
 {
@@ -64,7 +64,7 @@ pub struct Mended {
 
 /// Makes the parity of a stripe of this shape fit its data: its rows are read and rewritten, a part of them at a time, and those
 /// that are missing are named. It ends where more roles of the shape are missing than it tolerates, or one that has data.
-pub fn mend<B: Bank>(
+pub fn resync_rows<B: Bank>(
     members: &mut Members,
     bank: &mut B,
     shape: &Shape,
@@ -117,7 +117,7 @@ pub fn mend<B: Bank>(
     let mut spares = 0;
     while done < chunk {
         let count = ROWS.min(chunk - done);
-        let part = put(
+        let part = write_listed(
             members,
             bank,
             shape,

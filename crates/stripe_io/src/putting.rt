@@ -25,8 +25,8 @@ ghost use Rattle.sb_safe_updates.specs.history_World.{World};
 ghost use Rattle.sb_safe_updates.specs.history_Sound.{OpensFit};
 ghost use Rattle.sb_safe_updates.specs.crash_views_Views.{Ledger, IsTailZero};
 
-use sb_safe_updates::naming::{name_missing, raise};
-use sb_safe_updates::refusing::{refused_by, too_many_of, unwritten};
+use sb_safe_updates::naming::{mark_dirty, record_missing};
+use sb_safe_updates::refusing::{first_write_refusal, refused_by, too_many_of};
 use sb_safe_updates::{Bank, Members, Refusal, Shape, read_touched, write_touched};
 
 // The first row that isn't written, and why the rows weren't all written.
@@ -159,7 +159,7 @@ fn put_stretch<B: Bank>(
             refusal,
         };
     }
-    let spares = name_missing(members, bank);
+    let spares = record_missing(members, bank);
     Stretch {
         next,
         spares,
@@ -170,7 +170,7 @@ fn put_stretch<B: Bank>(
 /// Writes rows that were read, up to 128, each whole from its part of the buffer with the sectors of `from` put in, which stand in the
 /// list from `first` on; and names the members that are lost before the next row is written. It ends where more roles of the shape
 /// are missing than it tolerates.
-pub fn put_rows<B: Bank>(
+pub fn write_list_rows<B: Bank>(
     members: &mut Members,
     bank: &mut B,
     shape: &Shape,
@@ -282,10 +282,10 @@ fn prepare<B: Bank>(
     if read.answer.is_err() {
         return Prepared {
             spares: 0,
-            refusal: unwritten(members, shape, synced),
+            refusal: first_write_refusal(members, shape, synced),
         };
     }
-    let spares = raise(members, bank);
+    let spares = mark_dirty(members, bank);
     Prepared {
         spares,
         refusal: too_many_of(members, shape),
@@ -304,7 +304,7 @@ pub struct Outcome {
 /// places in the rows that are written: these rows are read, the array is marked dirty where it is clean, those that are
 /// missing are named, and the rows are written with their parity. It ends where more roles of the shape are missing than it
 /// tolerates, or, where the parity of the rows isn't to be relied on, one that has data.
-pub fn put<B: Bank>(
+pub fn write_listed<B: Bank>(
     members: &mut Members,
     bank: &mut B,
     shape: &Shape,
@@ -333,7 +333,7 @@ pub fn put<B: Bank>(
     ensures first { MatchOption result.refusal ⊤ (λ refusal. write_refusal shape.now synced members.new ≡ Some refusal) }
     ensures torn { result.begun ≡ true → MatchOption result.refusal ⊤ (LacksTooMany shape.now members.new) }
     ensures grows { Grows B.tells (B.tape bank.old) (B.tape bank.new) }
-    ensures put { result.refusal ≡ None → B.tells → (list list' : ℕ → Sector) → IsWritten list list' first from.now
+    ensures write_listed { result.refusal ≡ None → B.tells → (list list' : ℕ → Sector) → IsWritten list list' first from.now
         → DataStandsAmong shape.now (IsTouched shape.now first count) members.old (present (B.given bank.old) (B.tape bank.old)) list → DataStandsAmong shape.now (IsTouched shape.now first count) members.new (present (B.given bank.old) (B.tape bank.new)) list' }
     ensures others { B.tells → AreOtherRowsKept (IsTouched shape.now first count) (reading_of members.new) (present (B.given bank.old) (B.tape bank.old)) (present (B.given bank.old) (B.tape bank.new)) }
     ensures good { result.refusal ≡ None → B.tells → (list list' : ℕ → Sector) → IsWritten list list' first from.now → AreBytes from.now
@@ -371,7 +371,7 @@ pub fn put<B: Bank>(
             refusal: begun.refusal,
         };
     }
-    let done = put_rows(members, bank, shape, first, from, rows.as_slice(), buffer);
+    let done = write_list_rows(members, bank, shape, first, from, rows.as_slice(), buffer);
     Outcome {
         begun: true,
         spares: begun.spares | done.spares,

@@ -13,11 +13,11 @@ pub fn standing_is_full()
 {}
 
 /// And it stands so whatever slots are lost.
-pub fn losing_keeps()
+pub fn losing_preserves()
     ensures { LosingKeeps }
 {}
 
 /// So does a row that is kept, by any list that has the same sectors there.
-pub fn kept_rows_stand()
+pub fn preserved_rows_hold()
     ensures { KeptRowsStand }
 {}

@@ -18,7 +18,7 @@ pub use Rattle.stripe_io.proofs.crash_safety_laws_Risen
 pub use Rattle.stripe_io.proofs.crash_views_Alike
 pub use Rattle.stripe_io.proofs.crash_views_Stands
 pub use Rattle.stripe_io.proofs.crash_views_UnderWay
-pub use Rattle.stripe_io.proofs.array_members_MendedParts
+pub use Rattle.stripe_io.proofs.array_members_SyncedParts
 pub use Rattle.stripe_io.proofs.stripe_row_Losses
 pub use Rattle.stripe_io.proofs.reshape_geometry_ClosedForms
 pub use Rattle.stripe_io.proofs.reshape_geometry_Divisions

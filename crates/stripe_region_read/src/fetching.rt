@@ -26,7 +26,7 @@ ghost use Rattle.stripe_region_read.specs.Stretches.{IsShapeOf, ListStandsIn, Ro
 use crate::chunks::{read_chunk, run_at};
 use crate::reading::Fetched;
 use crate::stretches::{relied_rows, stretch_at};
-use stripe_io::{Bank, Members, Refusal, name_missing, too_many_of, unread};
+use stripe_io::{Bank, Members, Refusal, first_read_refusal, record_missing, too_many_of};
 
 // The refusal where more roles are missing than a shape tolerates that places one of these sectors: the first of them.
 fn too_many_in(members: &Members, from: u64, to: u64) -> Option<Refusal>
@@ -49,7 +49,7 @@ fn too_many_in(members: &Members, from: u64, to: u64) -> Option<Refusal>
 
 /// Why these sectors of the list can't be read, where parity is to be relied on up to sector `relied`: too many roles are missing of
 /// a shape that places one of them, or else that of the first sector behind whose role is.
-pub fn unread_list(members: &Members, from: u64, to: u64, relied: u64) -> Option<Refusal>
+pub fn first_list_refusal(members: &Members, from: u64, to: u64, relied: u64) -> Option<Refusal>
     requires fit { AreShapesFit members.now.newest }
     requires roles { length members.now.roles ≡ role_count members.now.newest }
     requires within { to ≤ list_length members.now.newest }
@@ -63,7 +63,7 @@ pub fn unread_list(members: &Members, from: u64, to: u64, relied: u64) -> Option
     while at < to {
         let stretch = stretch_at(members, at, to);
         let rows = relied_rows(members, relied, &stretch.shape);
-        let refusal = unread(members, &stretch.shape, at, stretch.end - at, rows);
+        let refusal = first_read_refusal(members, &stretch.shape, at, stretch.end - at, rows);
         if refusal.is_some() {
             return refusal;
         }
@@ -92,7 +92,7 @@ fn read_stretches<B: Bank>(
     ensures kept { AreWhole members.new → members.new ≡ members.old }
     ensures from { first ≤ result }
     ensures within { result ≤ first + length into.old / 512 }
-    ensures unread { result < first + length into.old / 512 → (x : ℕ) × (result ≤ x) × (x < first + length into.old / 512) × IsLacked relied members.new x }
+    ensures first_read_refusal { result < first + length into.old / 512 → (x : ℕ) × (result ≤ x) × (x < first + length into.old / 512) × IsLacked relied members.new x }
     ensures holds { B.tells → (hidden : Option Span) → (list : ℕ → Sector) → ListStandsIn (IsShapeOf members.old.newest first (first + length into.old / 512)) hidden members.old (present (B.given bank.old) (B.tape bank.old)) list
         → AreWhole members.new ⊎ RowsStandIn (IsShapeOf members.old.newest first (first + length into.old / 512)) hidden relied members.old (present (B.given bank.old) (B.tape bank.old)) list
         → (i : ℕ) → first + i < result → IsShown hidden members.old.newest (first + i) → sector_of into.new i ≡ list (first + i) }
@@ -145,14 +145,14 @@ pub fn read_regions<B: Bank>(
     let to = first + (into.len() / 512) as u64;
     let at = read_stretches(members, bank, first, into, scratch, relied);
     if at < to {
-        return unread_list(members, at, to, relied);
+        return first_list_refusal(members, at, to, relied);
     }
     None
 }
 
 /// Fills `into` with sectors of the list, from `first` on, each by the shape of its region: from the slot that holds it, or, up to sector
 /// `relied` of the list, filled in from its row; and names the members that are missing.
-pub fn fetch_list<B: Bank>(
+pub fn read_list<B: Bank>(
     members: &mut Members,
     bank: &mut B,
     first: u64,
@@ -190,7 +190,7 @@ pub fn fetch_list<B: Bank>(
     if refusal.is_some() {
         return Fetched { spares: 0, refusal };
     }
-    let spares = name_missing(members, bank);
+    let spares = record_missing(members, bank);
     Fetched {
         spares,
         refusal: None,

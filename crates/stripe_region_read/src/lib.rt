@@ -6,11 +6,11 @@ pub mod fetching;
 pub mod reading;
 pub mod stretches;
 
-pub use reading::{Fetched, fetch};
+pub use reading::{Fetched, read_listed};
 pub use stripe_io::filling::{Filled, fill, recovering_slot};
-pub use stripe_io::mending::{Mended, mend, mended_rows};
-pub use stripe_io::putting::{Outcome, put, put_rows};
+pub use stripe_io::mending::{Mended, resync_rows, synced_rows};
+pub use stripe_io::putting::{Outcome, write_list_rows, write_listed};
 pub use stripe_io::{
-    Bank, Members, Refusal, Shape, Span, final_in, list_length, raise, read_touched, shape_in,
-    stripe_sectors, too_many, too_many_of, unwritten,
+    Bank, Members, Refusal, Shape, Span, final_in, first_write_refusal, list_length, mark_dirty,
+    read_touched, shape_in, stripe_sectors, too_many, too_many_of,
 };

@@ -20,7 +20,7 @@ ghost use Rattle.stripe_io.specs.crash_safety_laws_Safety.{HasRoomLeft, IsRisen}
 ghost use Rattle.stripe_io.specs.crash_views_Views.{Ledger};
 
 use stripe_io::fetching::read_parts;
-use stripe_io::{Bank, Members, Refusal, Shape, name_missing, unread};
+use stripe_io::{Bank, Members, Refusal, Shape, first_read_refusal, record_missing};
 
 /// The spares that were lost in a read, and why it wasn't done.
 #[derive(Clone, Copy)]
@@ -31,7 +31,7 @@ pub struct Fetched {
 
 /// Fills `into` with sectors of the list, from `first` on, which are placed by this shape: each from the slot that holds it, or,
 /// in one of the mended rows, filled in from its row; and names the members that are missing.
-pub fn fetch<B: Bank>(
+pub fn read_listed<B: Bank>(
     members: &mut Members,
     bank: &mut B,
     shape: &Shape,
@@ -74,10 +74,10 @@ pub fn fetch<B: Bank>(
     let count = (into.len() / 512) as u64;
     let read = read_parts(members, bank, shape, first, into, scratch, mended);
     if read.answer.is_err() {
-        let refusal = unread(members, shape, first, count, mended);
+        let refusal = first_read_refusal(members, shape, first, count, mended);
         return Fetched { spares: 0, refusal };
     }
-    let spares = name_missing(members, bank);
+    let spares = record_missing(members, bank);
     Fetched {
         spares,
         refusal: None,

@@ -6,7 +6,7 @@ use Rattle.reshape_request.specs.sb_specs_Reading.{shape_of}
 use Rattle.stripe_region_write.specs.history_Stands.{shape_for}
 use Rattle.stripe_region_write.specs.array_members_Placed.{HaveSameReshape}
 use Rattle.stripe_region_write.proofs.array_members_Fit.{for-alike, list-alike}
-use Rattle.stripe_region_resync.specs.Mends.{low_end, high_shape, high_stripe, mend_stripes, stripe_behind, first_sector, relied_sector}
+use Rattle.stripe_region_resync.specs.Mends.{low_end, high_shape, high_stripe, resync_stripes, stripe_after, first_sector, relied_sector}
 use Rattle.stripe_region_write.proofs.LowRuns.{end-alike}
 pub use Rattle.stripe_region_write.proofs.LowRuns.{low-alike, low-stripes-alike}
 use Rattle.stripe_region_resync.proofs.StripeLaws.{stripe-at}
@@ -18,10 +18,10 @@ module _ (old new : Sb) (reshape : HaveSameReshape old new) (shape : shape_of ne
   high-stripe-alike : high_stripe new ≡ high_stripe old
   high-stripe-alike i = end-alike old new reshape shape size i / stripe_sectors (high-alike i)
 
-  pub mends-alike : mend_stripes new ≡ mend_stripes old
+  pub mends-alike : resync_stripes new ≡ resync_stripes old
   mends-alike i = low-stripes-alike old new reshape shape size i + (size i / (high-alike i).chunk - high-stripe-alike i)
 
-  pub behind-alike : (mended : ℕ) → stripe_behind new mended ≡ stripe_behind old mended
+  pub behind-alike : (mended : ℕ) → stripe_after new mended ≡ stripe_after old mended
   behind-alike mended i = if nat_lt mended (low-stripes-alike old new reshape shape size i) then stripe-at (low-alike old new reshape shape size i) mended else stripe-at (high-alike i) (high-stripe-alike i + (mended - low-stripes-alike old new reshape shape size i))
 
   pub relied-alike : (resync : Option ℕ) → relied_sector new resync ≡ relied_sector old resync

@@ -22,8 +22,8 @@ use Rattle.stripe_region_write.specs.array_members_Moving.{IsMoved}
 use Rattle.stripe_region_write.proofs.array_members_Stripes.{stripes-whole}
 use Rattle.reshape_request.specs.declared.window.Window.{Window}
 use Rattle.reshape_request.specs.declared.window.Window.TheVariants.{Closed, Entered, Unsure}
-use Rattle.stripe_region_resync.specs.Mends.{low_shape, high_shape, low_stripes, high_stripe, mend_stripes}
-use Rattle.stripe_region_resync.specs.Left.{mends_at, position_behind, MendsAreCounted, ResyncLeftStays, RecordsLeaveResync, MendingTakesOne, ResyncEndsLast}
+use Rattle.stripe_region_resync.specs.Mends.{low_shape, high_shape, low_stripes, high_stripe, resync_stripes}
+use Rattle.stripe_region_resync.specs.Left.{resyncs_at, position_behind, ResyncsAreCounted, ResyncLeftStays, RecordsLeaveResync, ResyncingTakesOne, ResyncEndsLast}
 use Rattle.stripe_region_write.proofs.Sides.{low-some, low-is}
 
 lt-is : (a b : ℕ) → a < b → nat_lt a b ≡ true
@@ -76,7 +76,7 @@ module _ (newest : Sb) (fit : AreShapesFit newest) (active : is_reshaping newest
   on : (x : ℕ) (back : Bool) → is_backward newest ≡ back → (s : Side) → side back newest.reshape_position x ≡ s → shape_for newest x ≡ shape_at newest s
   on x back is s at = shape-on newest active x s (ap (λ (b : Bool). side b newest.reshape_position x) is ∙ at)
 
-  counted : (back : Bool) → is_backward newest ≡ back → mend_stripes newest ≡ mends_at (shape_of newest) (final_shape newest) newest.size back newest.reshape_position
+  counted : (back : Bool) → is_backward newest ≡ back → resync_stripes newest ≡ resyncs_at (shape_of newest) (final_shape newest) newest.size back newest.reshape_position
   counted false is =
       (λ i. low-count (final_shape newest) fit.valid.final (λ some. on 0 false is New (ap (λ (b : Bool). if b then New else Old) (lt-is 0 newest.reshape_position some))) i
       + high-count (shape_of newest) (ap (λ (x : ℕ). shape_for newest x) (low-is newest fit active) ∙ on newest.reshape_position false is Old (ap (λ (b : Bool). if b then New else Old) (not-lt newest.reshape_position newest.reshape_position (omega arith)))) i)
@@ -84,7 +84,7 @@ module _ (newest : Sb) (fit : AreShapesFit newest) (active : is_reshaping newest
       (λ i. low-count (shape_of newest) fit.valid.old (λ some. on 0 true is Old (ap (λ (b : Bool). if b then New else Old) (not-le newest.reshape_position 0 some))) i
       + high-count (final_shape newest) (ap (λ (x : ℕ). shape_for newest x) (low-is newest fit active) ∙ on newest.reshape_position true is New (ap (λ (b : Bool). if b then New else Old) (is-le newest.reshape_position newest.reshape_position (omega arith)))) i)
 
-pub mends-counted : MendsAreCounted
+pub mends-counted : ResyncsAreCounted
 mends-counted newest fit active = counted newest fit active (is_backward newest) refl
 
 -- ---- the steps
@@ -96,24 +96,24 @@ behind-stays given old new (Unsure span) moved = moved.reshape.position
 
 pub left-stays : ResyncLeftStays
 left-stays given old new window None moved = refl
-left-stays given old new window (Some mended) moved = λ i. mends_at (moved.shape i) (moved.reshape.final i) (moved.size i) (moved.reshape.backward i) (behind-stays given old new window moved i) - mended + 1
+left-stays given old new window (Some mended) moved = λ i. resyncs_at (moved.shape i) (moved.reshape.final i) (moved.size i) (moved.reshape.backward i) (behind-stays given old new window moved i) - mended + 1
 
 pub records-leave : RecordsLeaveResync
 records-leave given old new span copied sectioned None moved = refl
 records-leave given old new span copied sectioned (Some mended) moved = left-stays given (moved_past span old) new Closed (Some mended) moved
 
-pub mending-takes-one : MendingTakesOne
+pub mending-takes-one : ResyncingTakesOne
 mending-takes-one given old new mended fit active lt moved =
     ap (λ (n : ℕ). n + 1) (left-stays given old new Closed (Some (mended + 1)) moved)
-    ∙ one (mends_at (shape_of old.newest) (final_shape old.newest) old.newest.size (is_backward old.newest) old.newest.reshape_position) (let all = mends-counted old.newest fit active in omega (arith, all, lt))
+    ∙ one (resyncs_at (shape_of old.newest) (final_shape old.newest) old.newest.size (is_backward old.newest) old.newest.reshape_position) (let all = mends-counted old.newest fit active in omega (arith, all, lt))
   where
     one : (all : ℕ) → mended < all → all - (mended + 1) + 1 + 1 ≡ all - mended + 1
     one all lt = omega (arith, lt)
 
 pub resync-ends-last : ResyncEndsLast
 resync-ends-last newest fit active =
-    ap (λ (n : ℕ). mends_at (shape_of newest) (final_shape newest) newest.size (is_backward newest) newest.reshape_position - n + 1) (mends-counted newest fit active)
-    ∙ none (mends_at (shape_of newest) (final_shape newest) newest.size (is_backward newest) newest.reshape_position)
+    ap (λ (n : ℕ). resyncs_at (shape_of newest) (final_shape newest) newest.size (is_backward newest) newest.reshape_position - n + 1) (mends-counted newest fit active)
+    ∙ none (resyncs_at (shape_of newest) (final_shape newest) newest.size (is_backward newest) newest.reshape_position)
   where
     none : (n : ℕ) → n - n + 1 ≡ 1
     none n = omega arith

@@ -3,7 +3,7 @@ pub mod ReliedLaws
 pub mod Alike
 pub mod RefusalLaws
 pub mod StripeRows
-pub mod MendedLists
+pub mod SyncedLists
 pub mod LeftLaws
 pub use Rattle.stripe_region_write.proofs.LowRuns as stripe_region_write_LowRuns
 pub use Rattle.stripe_region_write.proofs.RunLists as stripe_region_write_RunLists

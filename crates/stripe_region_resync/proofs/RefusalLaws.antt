@@ -12,7 +12,7 @@ use Rattle.stripe_region_write.specs.array_members_Placed.{IsInForce}
 use Rattle.stripe_region_write.specs.array_members_Lacking.{lacking, too_many, DoesWithout, LacksTooMany, AreTooMany, IsUnwritten}
 use Rattle.stripe_region_write.specs.sb_safe_updates_First.{are_too_many, write_refusal}
 use Rattle.stripe_region_write.proofs.sb_safe_updates_RefusingLaws.{write-cause}
-use Rattle.stripe_region_resync.specs.Mends.{lacking_or, mend_refusal, IsNotMended}
+use Rattle.stripe_region_resync.specs.Mends.{lacking_or, refusal_of_resync, IsNotSynced}
 
 is-above : (a b : ℕ) → nat_lt a b ≡ true → a < b
 is-above a b is = grind (arith, nat_tests, is)
@@ -71,11 +71,11 @@ module _ (m : Members) (shape : Shape) (force : IsInForce m.newest shape) where
     | inr same ↦ absurd (let above = (subst (λ (s : Shape). LacksTooMany s m refusal) same many).above in omega (arith, above, final))
   ]
 
-  pub told-why : (found : Option Refusal) → MatchOption found ⊤ (IsUnwritten shape false m) → MatchOption (lacking_or m found) (DoWithout m) (IsNotMended shape m)
+  pub told-why : (found : Option Refusal) → MatchOption found ⊤ (IsUnwritten shape false m) → MatchOption (lacking_or m found) (DoWithout m) (IsNotSynced shape m)
   told-why found is = by (are_too_many (shape_of m.newest) m) refl (are_too_many (final_shape m.newest) m) refl found is
     where
       by : (a : Bool) → are_too_many (shape_of m.newest) m ≡ a → (b : Bool) → are_too_many (final_shape m.newest) m ≡ b → (found : Option Refusal) → MatchOption found ⊤ (IsUnwritten shape false m)
-          → MatchOption (chosen m a b found) (DoWithout m) (IsNotMended shape m)
+          → MatchOption (chosen m a b found) (DoWithout m) (IsNotSynced shape m)
       by true one b two found is = inl (inl (many-of (shape_of m.newest) m one))
       by false one true two found is = inl (inr (few-of (shape_of m.newest) m one, many-of (final_shape m.newest) m two))
       by false one false two None is = record { old = few-of (shape_of m.newest) m one; final = few-of (final_shape m.newest) m two }
@@ -83,7 +83,7 @@ module _ (m : Members) (shape : Shape) (force : IsInForce m.newest shape) where
       by false one false two (Some refusal) (inr cause) = inr (record { old = few-of (shape_of m.newest) m one; final = few-of (final_shape m.newest) m two }, cause)
 
 pub told-first : (m : Members) (shape : Shape) (found : Option Refusal) → MatchOption found ⊤ (λ refusal. write_refusal shape false m ≡ Some refusal)
-    → MatchOption (lacking_or m found) ⊤ (λ refusal. mend_refusal shape m ≡ Some refusal)
+    → MatchOption (lacking_or m found) ⊤ (λ refusal. refusal_of_resync shape m ≡ Some refusal)
 told-first m shape found is = by (are_too_many (shape_of m.newest) m) (are_too_many (final_shape m.newest) m) found is
   where
     by : (a b : Bool) (found : Option Refusal) → MatchOption found ⊤ (λ refusal. write_refusal shape false m ≡ Some refusal)
@@ -113,8 +113,8 @@ none-lacking m found is = by (are_too_many (shape_of m.newest) m) refl (are_too_
 
 -- ---- before any device is touched
 
-pub told-before : (m : Members) (shape : Shape) → IsInForce m.newest shape → (told : Option Refusal) → told ≡ mend_refusal shape m → MatchOption told (DoWithout m) (IsNotMended shape m)
-told-before m shape force told is = subst (λ (o : Option Refusal). MatchOption o (DoWithout m) (IsNotMended shape m)) (sym is) (told-why m shape force (write_refusal shape false m) (cause (write_refusal shape false m) refl))
+pub told-before : (m : Members) (shape : Shape) → IsInForce m.newest shape → (told : Option Refusal) → told ≡ refusal_of_resync shape m → MatchOption told (DoWithout m) (IsNotSynced shape m)
+told-before m shape force told is = subst (λ (o : Option Refusal). MatchOption o (DoWithout m) (IsNotSynced shape m)) (sym is) (told-why m shape force (write_refusal shape false m) (cause (write_refusal shape false m) refl))
   where
     cause : (found : Option Refusal) → write_refusal shape false m ≡ found → MatchOption found ⊤ (IsUnwritten shape false m)
     cause None is = tt

@@ -20,13 +20,13 @@ use Rattle.stripe_region_write.proofs.array_members_Stripes.{row-in_stripes}
 use Rattle.stripe_region_write.specs.stripe_region_read_Stretches.{relied_rows}
 use Rattle.stripe_region_write.proofs.stripe_region_read_StretchLaws.{relied-below}
 use Rattle.stripe_region_resync.specs.declared.stripes.Stripe.{Stripe}
-use Rattle.stripe_region_resync.specs.Mends.{low_end, low_shape, high_shape, low_stripes, high_stripe, mend_stripes, stripe_behind, relied_sector}
-use Rattle.stripe_region_resync.specs.Laws.{ReliedGrows, ReliedReaches, ReliedIsWhole, StillMends}
+use Rattle.stripe_region_resync.specs.Mends.{low_end, low_shape, high_shape, low_stripes, high_stripe, resync_stripes, stripe_after, relied_sector}
+use Rattle.stripe_region_resync.specs.Laws.{ReliedGrows, ReliedReaches, ReliedIsWhole, StillResyncs}
 use Rattle.stripe_region_write.proofs.Sides.{low-valid, high-valid, low-some, high-some, low-none, low-own, high-own, list-stripes, high-whole, high-few, low-ends, low-before}
 use Rattle.stripe_region_resync.proofs.StripeLaws.{stripe-at, behind-low, behind-high, relied-low, relied-high, relied-between, relied-low-fits, is-next}
 
 -- the shape of each stripe is one that places sectors
-pub behind-valid : (newest : Sb) → AreShapesFit newest → (mended : ℕ) → is_valid_shape (stripe_behind newest mended).shape ≡ true
+pub behind-valid : (newest : Sb) → AreShapesFit newest → (mended : ℕ) → is_valid_shape (stripe_after newest mended).shape ≡ true
 behind-valid newest fit mended = elim (cases_lt mended (low_stripes newest)) [
   | inl low ↦ subst (λ (s : Stripe). is_valid_shape s.shape ≡ true) (sym (behind-low newest mended low)) (low-valid newest fit)
   | inr high ↦ subst (λ (s : Stripe). is_valid_shape s.shape ≡ true) (sym (behind-high newest mended high)) (high-valid newest fit)
@@ -34,7 +34,7 @@ behind-valid newest fit mended = elim (cases_lt mended (low_stripes newest)) [
 
 -- ---- it grows
 
-one-further : (newest : Sb) (fit : AreShapesFit newest) (mended : ℕ) → mended < mend_stripes newest → relied_sector newest (Some mended) ≤ relied_sector newest (Some (mended + 1))
+one-further : (newest : Sb) (fit : AreShapesFit newest) (mended : ℕ) → mended < resync_stripes newest → relied_sector newest (Some mended) ≤ relied_sector newest (Some (mended + 1))
 one-further newest fit mended lt = let next = is-next newest fit mended lt in let begins = next.begins in let chunk = next.chunk in omega (arith, begins, chunk)
 
 pub relied-grows : ReliedGrows
@@ -59,16 +59,16 @@ module _ (newest : Sb) (fit : AreShapesFit newest) where
         relied-between newest fit 0 same ∙ ceiling_zero (low_end newest) (stripe_sectors (low_shape newest)) (low-some newest fit) (sym same))
   ]
 
-  pub to-all : relied_sector newest (Some (mend_stripes newest)) ≡ list_length newest
+  pub to-all : relied_sector newest (Some (resync_stripes newest)) ≡ list_length newest
   to-all =
-      relied-high newest (mend_stripes newest) (omega arith)
+      relied-high newest (resync_stripes newest) (omega arith)
       ∙ ap (λ (n : ℕ). n * stripe_sectors (high_shape newest))
       (let few = high-few newest fit in
       let last : high_stripe newest + (low_stripes newest + (newest.size / (high_shape newest).chunk - high_stripe newest) - low_stripes newest) ≡ newest.size / (high_shape newest).chunk = omega (arith, few) in last)
       ∙ sym (list-stripes newest fit)
 
-  pub relied-within : (mended : ℕ) → mended ≤ mend_stripes newest → relied_sector newest (Some mended) ≤ list_length newest
-  relied-within mended few = let grown = relied-grows newest mended (mend_stripes newest) fit few (omega arith) in let all = to-all in omega (arith, grown, all)
+  pub relied-within : (mended : ℕ) → mended ≤ resync_stripes newest → relied_sector newest (Some mended) ≤ list_length newest
+  relied-within mended few = let grown = relied-grows newest mended (resync_stripes newest) fit few (omega arith) in let all = to-all in omega (arith, grown, all)
 
 pub relied-reaches : ReliedReaches
 relied-reaches newest fit = (from-none newest fit, to-all newest fit)
@@ -108,7 +108,7 @@ module _ (newest : Sb) (fit : AreShapesFit newest) (x : ℕ) (x-in : x < list_le
       (subst (λ (b : Bool). (place shape x).row < (if b then newest.size else relied / stripe_sectors shape * shape.chunk)) (sym (above (list_length newest) relied short))
       (row-within shape (subst (λ (s : Shape). is_valid_shape s ≡ true) is (valid-for newest fit x)) x m relied lt le))
 
-  relied-row : (mended : ℕ) → mended ≤ mend_stripes newest → x < relied_sector newest (Some mended)
+  relied-row : (mended : ℕ) → mended ≤ resync_stripes newest → x < relied_sector newest (Some mended)
       → (place_by newest x).row < relied_rows newest (relied_sector newest (Some mended)) (shape_for newest x)
   relied-row mended few below = elim (cases_lt (relied_sector newest (Some mended)) (list_length newest)) [
     | inr all ↦ all-rows (relied_sector newest (Some mended)) all
@@ -131,7 +131,7 @@ module _ (newest : Sb) (fit : AreShapesFit newest) (x : ℕ) (x-in : x < list_le
     ]
   ]
 
-  whole-row : (resync : Option ℕ) → IfSome resync (λ mended. mended ≤ mend_stripes newest) → x < relied_sector newest resync
+  whole-row : (resync : Option ℕ) → IfSome resync (λ mended. mended ≤ resync_stripes newest) → x < relied_sector newest resync
       → (place_by newest x).row < relied_rows newest (relied_sector newest resync) (shape_for newest x)
   whole-row None few below = all-rows (list_length newest) (omega arith)
   whole-row (Some mended) few below = relied-row mended few below
@@ -169,7 +169,7 @@ module _ (newest : Sb) (fit : AreShapesFit newest) (still : is_reshaping newest 
   high-still : high_shape newest ≡ shape_of newest
   high-still = for-still newest still (low_end newest)
 
-pub still-mends : StillMends
+pub still-mends : StillResyncs
 still-mends newest mended fit still =
     let low = none-low newest fit still in
     let high = none-high newest fit still in (

@@ -10,8 +10,8 @@ use Rattle.reshape_request.proofs.reshape_geometry_Valid.{bounded}
 use Rattle.reshape_request.specs.sb_specs_Reading.{list_length}
 use Rattle.stripe_region_write.specs.crash_views_Regions.{AreShapesFit}
 use Rattle.stripe_region_resync.specs.declared.stripes.Stripe.{Stripe}
-use Rattle.stripe_region_resync.specs.Mends.{low_end, low_shape, high_shape, low_stripes, high_stripe, mend_stripes, stripe_behind, relied_sector}
-use Rattle.stripe_region_resync.specs.Laws.{IsMendedNext, MendsGoOn}
+use Rattle.stripe_region_resync.specs.Mends.{low_end, low_shape, high_shape, low_stripes, high_stripe, resync_stripes, stripe_after, relied_sector}
+use Rattle.stripe_region_resync.specs.Laws.{IsSyncedNext, ResyncsGoOn}
 use Rattle.stripe_region_write.proofs.Sides.{low-valid, high-valid, low-force, high-force, low-fits, low-own, high-own, list-stripes, high-whole, high-few, low-ends, low-before, low-reach, low-few}
 
 lt-is : (a b : ℕ) → a < b → nat_lt a b ≡ true
@@ -36,11 +36,11 @@ stripe-at shape n = record { shape = shape; at = n }
 
 -- ---- which one it is
 
-pub behind-low : (newest : Sb) (mended : ℕ) → mended < low_stripes newest → stripe_behind newest mended ≡ stripe-at (low_shape newest) mended
+pub behind-low : (newest : Sb) (mended : ℕ) → mended < low_stripes newest → stripe_after newest mended ≡ stripe-at (low_shape newest) mended
 behind-low newest mended lt =
     ap (λ (b : Bool). if b then stripe-at (low_shape newest) mended else stripe-at (high_shape newest) (high_stripe newest + (mended - low_stripes newest))) (lt-is mended (low_stripes newest) lt)
 
-pub behind-high : (newest : Sb) (mended : ℕ) → low_stripes newest ≤ mended → stripe_behind newest mended ≡ stripe-at (high_shape newest) (high_stripe newest + (mended - low_stripes newest))
+pub behind-high : (newest : Sb) (mended : ℕ) → low_stripes newest ≤ mended → stripe_after newest mended ≡ stripe-at (high_shape newest) (high_stripe newest + (mended - low_stripes newest))
 behind-high newest mended le =
     ap (λ (b : Bool). if b then stripe-at (low_shape newest) mended else stripe-at (high_shape newest) (high_stripe newest + (mended - low_stripes newest))) (not-lt mended (low_stripes newest) le)
 
@@ -94,7 +94,7 @@ module _ (newest : Sb) (fit : AreShapesFit newest) where
           ])
     ]
 
-    pub low-next : IsMendedNext newest mended (stripe-at (low_shape newest) mended)
+    pub low-next : IsSyncedNext newest mended (stripe-at (low_shape newest) mended)
     low-next = record {
       force = low-force newest fit;
       below = let few = low-few newest fit in omega (arith, few, lt);
@@ -111,7 +111,7 @@ module _ (newest : Sb) (fit : AreShapesFit newest) where
 
   -- ---- a stripe of the upper one
 
-  module _ (mended : ℕ) (ge : low_stripes newest ≤ mended) (lt : mended < mend_stripes newest) where
+  module _ (mended : ℕ) (ge : low_stripes newest ≤ mended) (lt : mended < resync_stripes newest) where
     abbrev at : ℕ
     at = high_stripe newest + (mended - low_stripes newest)
 
@@ -139,7 +139,7 @@ module _ (newest : Sb) (fit : AreShapesFit newest) where
         let whole = high-whole newest fit in
         omega (arith, more, whole)
 
-    pub high-next : IsMendedNext newest mended (stripe-at (high_shape newest) at)
+    pub high-next : IsSyncedNext newest mended (stripe-at (high_shape newest) at)
     high-next = record {
       force = high-force newest fit;
       below = high-below;
@@ -154,18 +154,18 @@ module _ (newest : Sb) (fit : AreShapesFit newest) where
 
   -- ---- either
 
-  pub is-next : (mended : ℕ) → mended < mend_stripes newest → IsMendedNext newest mended (stripe_behind newest mended)
+  pub is-next : (mended : ℕ) → mended < resync_stripes newest → IsSyncedNext newest mended (stripe_after newest mended)
   is-next mended lt = elim (cases_lt mended (low_stripes newest)) [
-    | inl low ↦ subst (λ (s : Stripe). IsMendedNext newest mended s) (sym (behind-low newest mended low)) (low-next mended low)
-    | inr high ↦ subst (λ (s : Stripe). IsMendedNext newest mended s) (sym (behind-high newest mended high)) (high-next mended high lt)
+    | inl low ↦ subst (λ (s : Stripe). IsSyncedNext newest mended s) (sym (behind-low newest mended low)) (low-next mended low)
+    | inr high ↦ subst (λ (s : Stripe). IsSyncedNext newest mended s) (sym (behind-high newest mended high)) (high-next mended high lt)
   ]
 
-pub mends-go-on : MendsGoOn
-mends-go-on newest mended next fit is = of (nat_lt mended (mend_stripes newest)) refl is
+pub mends-go-on : ResyncsGoOn
+mends-go-on newest mended next fit is = of (nat_lt mended (resync_stripes newest)) refl is
   where
     same-stripe : (a b : Stripe) → ◌≡◌ {A = Option Stripe} (Some a) (Some b) → a ≡ b
     same-stripe a b e = cc
 
-    of : (b : Bool) → nat_lt mended (mend_stripes newest) ≡ b → ◌≡◌ {A = Option Stripe} (if b then Some (stripe_behind newest mended) else None) (Some next) → IsMendedNext newest mended next
-    of true less e = subst (λ (s : Stripe). IsMendedNext newest mended s) (same-stripe (stripe_behind newest mended) next e) (is-next newest fit mended (is-lt mended (mend_stripes newest) less))
+    of : (b : Bool) → nat_lt mended (resync_stripes newest) ≡ b → ◌≡◌ {A = Option Stripe} (if b then Some (stripe_after newest mended) else None) (Some next) → IsSyncedNext newest mended next
+    of true less e = subst (λ (s : Stripe). IsSyncedNext newest mended s) (same-stripe (stripe_after newest mended) next e) (is-next newest fit mended (is-lt mended (resync_stripes newest) less))
     of false all e = absurd (cc)

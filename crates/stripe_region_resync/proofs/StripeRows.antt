@@ -20,8 +20,8 @@ use Rattle.stripe_region_write.proofs.array_members_Fit.{force-valid}
 use Rattle.stripe_region_write.proofs.array_members_Stripes.{stripes-multiple, row-beyond, row-in_stripes, sector-in_stripes, of_stripe-touched}
 use Rattle.stripe_region_write.proofs.Together.{rows-together, together-shape}
 use Rattle.stripe_region_resync.specs.declared.stripes.Stripe.{Stripe}
-use Rattle.stripe_region_resync.specs.Mends.{low_end, low_shape, low_stripes, mend_stripes, stripe_behind, first_sector, relied_sector, IsMendRow}
-use Rattle.stripe_region_resync.specs.Laws.{IsMendedNext, MendsAreListed}
+use Rattle.stripe_region_resync.specs.Mends.{low_end, low_shape, low_stripes, resync_stripes, stripe_after, first_sector, relied_sector, IsResyncRow}
+use Rattle.stripe_region_resync.specs.Laws.{IsSyncedNext, ResyncsAreListed}
 use Rattle.stripe_region_write.proofs.Sides.{low-valid, high-some, low-is, low-fits, low-ends, low-before}
 use Rattle.stripe_region_resync.proofs.StripeLaws.{behind-low, behind-high, high-from, high-within, is-next}
 use Rattle.stripe_region_resync.proofs.ReliedLaws.{relied-within}
@@ -70,11 +70,11 @@ of-stripe-or shape at row = elim (cases_lt row (at * shape.chunk)) [
 
 -- ---- the one that is mended next
 
-module _ (newest : Sb) (fit : AreShapesFit newest) (mended : ℕ) (lt : mended < mend_stripes newest) where
+module _ (newest : Sb) (fit : AreShapesFit newest) (mended : ℕ) (lt : mended < resync_stripes newest) where
   abbrev next : Stripe
-  next = stripe_behind newest mended
+  next = stripe_after newest mended
 
-  is : IsMendedNext newest mended (stripe_behind newest mended)
+  is : IsSyncedNext newest mended (stripe_after newest mended)
   is = is-next newest fit mended lt
 
   pub next-valid : is_valid_shape next.shape ≡ true
@@ -88,7 +88,7 @@ module _ (newest : Sb) (fit : AreShapesFit newest) (mended : ℕ) (lt : mended <
   next-some = let chunk = is.chunk in let some = chunk_some next.shape next-valid in omega (arith, chunk, some)
 
   -- these sectors stand in its rows, by its shape
-  pub next-row : (x : ℕ) → relied_sector newest (Some mended) ≤ x → x < relied_sector newest (Some (mended + 1)) → IsMendRow newest mended (place next.shape x).row
+  pub next-row : (x : ℕ) → relied_sector newest (Some mended) ≤ x → x < relied_sector newest (Some (mended + 1)) → IsResyncRow newest mended (place next.shape x).row
   next-row x from to =
       let begins = is.begins in
       let ends = is.ends in
@@ -98,7 +98,7 @@ module _ (newest : Sb) (fit : AreShapesFit newest) (mended : ℕ) (lt : mended <
       lower a b = omega arith
 
   -- a sector of the list that its shape places there is one of them
-  pub next-sector : (y : ℕ) → y < list_length newest → IsMendRow newest mended (place next.shape y).row → (relied_sector newest (Some mended) ≤ y) × (y < relied_sector newest (Some (mended + 1)))
+  pub next-sector : (y : ℕ) → y < list_length newest → IsResyncRow newest mended (place next.shape y).row → (relied_sector newest (Some mended) ≤ y) × (y < relied_sector newest (Some (mended + 1)))
   next-sector y y-in at =
       let here = of-stripe next.shape next-valid next.at y at in
       let low = here.0 in
@@ -108,7 +108,7 @@ module _ (newest : Sb) (fit : AreShapesFit newest) (mended : ℕ) (lt : mended <
       (omega (arith, low, begins), omega (arith, high, ends, y-in))
 
   -- each of its rows has one
-  pub next-has : (row : ℕ) → IsMendRow newest mended row → (z : ℕ) × (first_sector next ≤ z) × (z < relied_sector newest (Some (mended + 1))) × ((place next.shape z).row ≡ row)
+  pub next-has : (row : ℕ) → IsResyncRow newest mended row → (z : ℕ) × (first_sector next ≤ z) × (z < relied_sector newest (Some (mended + 1))) × ((place next.shape z).row ≡ row)
   next-has row at =
       let low = at.0 in
       let high = at.1 in
@@ -127,7 +127,7 @@ module _ (newest : Sb) (fit : AreShapesFit newest) (mended : ℕ) (lt : mended <
       turned-first d c q = omega arith
 
   -- each sector of the list that stands there is placed by that shape
-  pub next-region : (x : ℕ) → x < list_length newest → IsMendRow newest mended (place_by newest x).row → shape_for newest x ≡ next.shape
+  pub next-region : (x : ℕ) → x < list_length newest → IsResyncRow newest mended (place_by newest x).row → shape_for newest x ≡ next.shape
   next-region x x-in at =
       let z = next-has (place_by newest x).row at in
       let own : shape_for newest z.0 ≡ next.shape = is.own z.0 z.1 z.2 in
@@ -135,21 +135,21 @@ module _ (newest : Sb) (fit : AreShapesFit newest) (mended : ℕ) (lt : mended <
       together-shape newest z.0 x (rows-together newest fit z.0 x z-in x-in (ap (λ (s : Shape). (place s z.0).row) own ∙ z.3)) ∙ own
 
   -- and each that it would place there
-  pub next-mate : (y : ℕ) → y < list_length newest → IsMendRow newest mended (place next.shape y).row → shape_for newest y ≡ next.shape
+  pub next-mate : (y : ℕ) → y < list_length newest → IsResyncRow newest mended (place next.shape y).row → shape_for newest y ≡ next.shape
   next-mate y y-in at = let here = next-sector y y-in at in is.own y (let from = here.0 in let begins = is.begins in omega (arith, from, begins)) here.1
 
   -- none stands there below what is relied on already
-  pub next-behind : (x : ℕ) → x < list_length newest → x < relied_sector newest (Some mended) → IsMendRow newest mended (place_by newest x).row → ⊥
+  pub next-behind : (x : ℕ) → x < list_length newest → x < relied_sector newest (Some mended) → IsResyncRow newest mended (place_by newest x).row → ⊥
   next-behind x x-in below at =
       let own = next-region x x-in at in
-      let here = next-sector x x-in (subst (λ (s : Shape). IsMendRow newest mended (place s x).row) own at) in
+      let here = next-sector x x-in (subst (λ (s : Shape). IsResyncRow newest mended (place s x).row) own at) in
       let from = here.0 in
       absurd (omega (arith, below, from))
 
   -- ---- behind the list's end
 
   -- it is of the lower region where its shape has places there
-  pub next-past : (y : ℕ) → list_length newest ≤ y → IsMendRow newest mended (place next.shape y).row → (next.shape ≡ low_shape newest) × (next.at < low_stripes newest)
+  pub next-past : (y : ℕ) → list_length newest ≤ y → IsResyncRow newest mended (place next.shape y).row → (next.shape ≡ low_shape newest) × (next.at < low_stripes newest)
   next-past y past at = elim (cases_lt mended (low_stripes newest)) [
     | inl low ↦ (
         let same = behind-low newest mended low in
@@ -195,7 +195,7 @@ module _ (newest : Sb) (fit : AreShapesFit newest) (mended : ℕ) (lt : mended <
 
 -- ---- behind a forward reshape's last window
 
-pub mends-are-listed : MendsAreListed
+pub mends-are-listed : ResyncsAreListed
 mends-are-listed newest mended row fit active forth through lt at = elim (cases_lt mended (low_stripes newest)) [
   | inl low ↦ (
       let low-row : IsOfStripe (low_shape newest) mended row = subst (λ (s : Stripe). IsOfStripe s.shape s.at row) (behind-low newest mended low) at in

@@ -13,15 +13,15 @@ use Rattle.stripe_region_write.specs.crash_views_Windows.{moved_past}
 use Rattle.stripe_region_write.specs.array_members_Moving.{IsMoved}
 use Rattle.reshape_request.specs.declared.window.Window.{Window}
 use Rattle.reshape_request.specs.declared.window.Window.TheVariants.{Closed, Entered, Unsure}
-use Rattle.stripe_region_resync.specs.Mends.{mend_stripes}
+use Rattle.stripe_region_resync.specs.Mends.{resync_stripes}
 
 -- the stripes that two shapes have below a position and from there on, over so many rows
 abbrev pub stripes_beside : Shape → Shape → ℕ → ℕ → ℕ
 stripes_beside low high size position = ceiling position (stripe_sectors low) + (size / high.chunk - position / stripe_sectors high)
 
 -- those of a resync in a reshape at a position: forward the new ones below it and the old ones behind, backward the other way round
-abbrev pub mends_at : Shape → Shape → ℕ → Bool → ℕ → ℕ
-mends_at old new size back position = if back then stripes_beside old new size position else stripes_beside new old size position
+abbrev pub resyncs_at : Shape → Shape → ℕ → Bool → ℕ → ℕ
+resyncs_at old new size back position = if back then stripes_beside old new size position else stripes_beside new old size position
 
 -- the position behind the window under way, if one is entered
 abbrev pub position_behind : Sb → Window → ℕ
@@ -32,14 +32,14 @@ position_behind newest (Unsure span) = newest.reshape_position
 -- one step for each stripe that isn't mended, counted for the position behind an entered window, and one for the end; none where no resync is pending
 abbrev pub resync_left : Sb → Window → Option ℕ → ℕ
 resync_left newest window None = 0
-resync_left newest window (Some mended) = mends_at (shape_of newest) (final_shape newest) newest.size (is_backward newest) (position_behind newest window) - mended + 1
+resync_left newest window (Some mended) = resyncs_at (shape_of newest) (final_shape newest) newest.size (is_backward newest) (position_behind newest window) - mended + 1
 
 -- ---- laws
 
 -- The stripes of a resync are so many.
-abbrev pub MendsAreCounted : Type 0
-MendsAreCounted = (newest : Sb) → AreShapesFit newest → is_reshaping newest ≡ true
-    → mend_stripes newest ≡ mends_at (shape_of newest) (final_shape newest) newest.size (is_backward newest) newest.reshape_position
+abbrev pub ResyncsAreCounted : Type 0
+ResyncsAreCounted = (newest : Sb) → AreShapesFit newest → is_reshaping newest ≡ true
+    → resync_stripes newest ≡ resyncs_at (shape_of newest) (final_shape newest) newest.size (is_backward newest) newest.reshape_position
 
 -- Members that lost slots have as many left; and a window that is recorded leaves as many.
 abbrev pub ResyncLeftStays : Type 0
@@ -50,9 +50,9 @@ RecordsLeaveResync = (given : Given) (old new : Members) (span : Span) (copied :
     → resync_left new.newest Closed resync ≡ resync_left old.newest (Entered span copied sectioned) resync
 
 -- A stripe that is mended takes one, and its end the last.
-abbrev pub MendingTakesOne : Type 0
-MendingTakesOne = (given : Given) (old new : Members) (mended : ℕ) → AreShapesFit old.newest → is_reshaping old.newest ≡ true → mended < mend_stripes old.newest → IsMoved given old new
+abbrev pub ResyncingTakesOne : Type 0
+ResyncingTakesOne = (given : Given) (old new : Members) (mended : ℕ) → AreShapesFit old.newest → is_reshaping old.newest ≡ true → mended < resync_stripes old.newest → IsMoved given old new
     → resync_left new.newest Closed (Some (mended + 1)) + 1 ≡ resync_left old.newest Closed (Some mended)
 
 abbrev pub ResyncEndsLast : Type 0
-ResyncEndsLast = (newest : Sb) → AreShapesFit newest → is_reshaping newest ≡ true → resync_left newest Closed (Some (mend_stripes newest)) ≡ 1
+ResyncEndsLast = (newest : Sb) → AreShapesFit newest → is_reshaping newest ≡ true → resync_left newest Closed (Some (resync_stripes newest)) ≡ 1

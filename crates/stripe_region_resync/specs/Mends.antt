@@ -17,18 +17,18 @@ use Rattle.stripe_region_resync.specs.declared.stripes.Stripe.{Stripe}
 -- ---- the stripes
 
 -- a resync has so many: those of both regions
-abbrev pub mend_stripes : Sb → ℕ
-mend_stripes newest = low_stripes newest + (newest.size / (high_shape newest).chunk - high_stripe newest)
+abbrev pub resync_stripes : Sb → ℕ
+resync_stripes newest = low_stripes newest + (newest.size / (high_shape newest).chunk - high_stripe newest)
 
 -- the one behind so many of them, in the order of the list
-abbrev pub stripe_behind : Sb → ℕ → Stripe
-stripe_behind newest mended =
+abbrev pub stripe_after : Sb → ℕ → Stripe
+stripe_after newest mended =
     if nat_lt mended (low_stripes newest) then record { shape = low_shape newest; at = mended }
     else record { shape = high_shape newest; at = high_stripe newest + (mended - low_stripes newest) }
 
 -- the one that is mended next, where so many are; none where all are
-abbrev pub next_mend : Sb → ℕ → Option Stripe
-next_mend newest mended = if nat_lt mended (mend_stripes newest) then Some (stripe_behind newest mended) else None
+abbrev pub next_resync : Sb → ℕ → Option Stripe
+next_resync newest mended = if nat_lt mended (resync_stripes newest) then Some (stripe_after newest mended) else None
 
 -- where a stripe begins in the list
 abbrev pub first_sector : Stripe → ℕ
@@ -37,18 +37,18 @@ first_sector stripe = stripe.at * stripe_sectors stripe.shape
 -- parity is relied on below this sector of the list: where a resync is pending, below the first stripe that it hasn't mended
 abbrev pub relied_sector : Sb → Option ℕ → ℕ
 relied_sector newest None = list_length newest
-relied_sector newest (Some mended) = first_sector (stripe_behind newest mended)
+relied_sector newest (Some mended) = first_sector (stripe_after newest mended)
 
 -- the shape of the stripe behind so many, and a row of it
-abbrev pub mend_shape : Sb → ℕ → Shape
-mend_shape newest mended = (stripe_behind newest mended).shape
+abbrev pub resync_shape : Sb → ℕ → Shape
+resync_shape newest mended = (stripe_after newest mended).shape
 
-abbrev pub IsMendRow : Sb → ℕ → ℕ → Type 0
-IsMendRow newest mended row = IsOfStripe (mend_shape newest mended) (stripe_behind newest mended).at row
+abbrev pub IsResyncRow : Sb → ℕ → ℕ → Type 0
+IsResyncRow newest mended row = IsOfStripe (resync_shape newest mended) (stripe_after newest mended).at row
 
 -- the list stands in the data of its rows
-abbrev pub MendStands : Sb → ℕ → Members → Contents → (ℕ → Sector) → Type 0
-MendStands newest mended m c list = DataStandsAmong (mend_shape newest mended) (IsMendRow newest mended) m c list
+abbrev pub ResyncStands : Sb → ℕ → Members → Contents → (ℕ → Sector) → Type 0
+ResyncStands newest mended m c list = DataStandsAmong (resync_shape newest mended) (IsResyncRow newest mended) m c list
 
 -- ---- why a stripe isn't mended
 
@@ -58,9 +58,9 @@ lacking_or m rest = if are_too_many (shape_of m.newest) m then Some (too_many (s
     else if are_too_many (final_shape m.newest) m then Some (too_many (final_shape m.newest) m) else rest
 
 -- the first of two causes: that, or the lowest missing role that has data in the stripe's shape
-abbrev pub mend_refusal : Shape → Members → Option Refusal
-mend_refusal shape m = lacking_or m (write_refusal shape false m)
+abbrev pub refusal_of_resync : Shape → Members → Option Refusal
+refusal_of_resync shape m = lacking_or m (write_refusal shape false m)
 
 -- a refusal tells one of them
-abbrev pub IsNotMended : Shape → Members → Refusal → Type 0
-IsNotMended shape m refusal = AreTooMany m refusal ⊎ (DoWithout m × IsNotResynced shape false m refusal)
+abbrev pub IsNotSynced : Shape → Members → Refusal → Type 0
+IsNotSynced shape m refusal = AreTooMany m refusal ⊎ (DoWithout m × IsNotResynced shape false m refusal)

@@ -4,7 +4,7 @@ ghost use Rattle.std.specs.Prelude.{◌≡◌, ◌*◌, ◌^◌, ◌≤◌, IfSo
 ghost use Rattle.reshape_request.specs.raid_types_Shapes.{is_valid_shape, is_multiple, data_disks};
 ghost use Rattle.reshape_request.specs.sb_specs_Reading.{is_backward, shape_of, final_shape, list_length};
 ghost use Rattle.stripe_region_write.specs.crash_views_Regions.{AreShapesFit};
-ghost use Rattle.stripe_region_resync.specs.Left.{stripes_beside, mends_at, position_behind, resync_left};
+ghost use Rattle.stripe_region_resync.specs.Left.{stripes_beside, resyncs_at, position_behind, resync_left};
 
 use reshape_request::shapes::is_backward;
 use reshape_request::{Members, Shape, Window, stripe_sectors};
@@ -25,10 +25,10 @@ fn stripes_beside(low: &Shape, high: &Shape, size: u64, position: u64) -> u64
 }
 
 /// How many stripes a resync has where the reshape stands at this position.
-pub fn mends_at(members: &Members, position: u64) -> u64
+pub fn resyncs_at(members: &Members, position: u64) -> u64
     requires fit { AreShapesFit members.now.newest }
     requires within { position ≤ list_length members.now.newest }
-    ensures value { let newest = members.now.newest in result ≡ mends_at (shape_of newest) (final_shape newest) newest.size (is_backward newest) position }
+    ensures value { let newest = members.now.newest in result ≡ resyncs_at (shape_of newest) (final_shape newest) newest.size (is_backward newest) position }
     ensures short { result ≤ 2 ^ 54 }
 {
     let old = shape_in(members);
@@ -71,5 +71,5 @@ pub fn resync_left(members: &Members, window: &Window, resync: Option<u64>) -> u
     let Some(mended) = resync else {
         return 0;
     };
-    mends_at(members, position_behind(members, window)).saturating_sub(mended) + 1
+    resyncs_at(members, position_behind(members, window)).saturating_sub(mended) + 1
 }

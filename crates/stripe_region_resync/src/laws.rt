@@ -1,11 +1,11 @@
 //! How a resync goes through the list. Each function's contract is the law.
 
-ghost use Rattle.stripe_region_resync.specs.Left.{MendsAreCounted, ResyncLeftStays, RecordsLeaveResync, MendingTakesOne, ResyncEndsLast};
-ghost use Rattle.stripe_region_resync.specs.Laws.{MendsGoOn, ReliedGrows, ReliedReaches, ReliedIsWhole, MendsAreListed, StillMends};
+ghost use Rattle.stripe_region_resync.specs.Left.{ResyncsAreCounted, ResyncLeftStays, RecordsLeaveResync, ResyncingTakesOne, ResyncEndsLast};
+ghost use Rattle.stripe_region_resync.specs.Laws.{ResyncsGoOn, ReliedGrows, ReliedReaches, ReliedIsWhole, ResyncsAreListed, StillResyncs};
 
 /// The next stripe begins where parity is relied on so far, and with it that is so to its end.
-pub fn mends_go_on()
-    ensures { MendsGoOn }
+pub fn resyncs_go_on()
+    ensures { ResyncsGoOn }
 {}
 
 /// Parity is never relied on in less of the list with more stripes mended.
@@ -24,18 +24,18 @@ pub fn relied_is_whole()
 {}
 
 /// Behind a forward reshape's last window no row behind the list's last stripe is mended.
-pub fn mends_are_listed()
-    ensures { MendsAreListed }
+pub fn resyncs_are_listed()
+    ensures { ResyncsAreListed }
 {}
 
 /// Without a reshape the stripes are those of the array.
-pub fn still_mends()
-    ensures { StillMends }
+pub fn still_resyncs()
+    ensures { StillResyncs }
 {}
 
 /// In a reshape they are counted by its two shapes and the position.
-pub fn mends_are_counted()
-    ensures { MendsAreCounted }
+pub fn resyncs_are_counted()
+    ensures { ResyncsAreCounted }
 {}
 
 /// Members that lost slots have as many steps left.
@@ -49,8 +49,8 @@ pub fn records_leave_resync()
 {}
 
 /// A stripe that is mended takes one.
-pub fn mending_takes_one()
-    ensures { MendingTakesOne }
+pub fn resyncing_takes_one()
+    ensures { ResyncingTakesOne }
 {}
 
 /// The end is the last.

@@ -4,7 +4,7 @@ ghost use Rattle.std.specs.Prelude.{◌≡◌, ◌*◌, ◌^◌, ◌<◌, ◌≤
 ghost use Rattle.reshape_request.specs.raid_types_Shapes.{stripe_sectors};
 ghost use Rattle.reshape_request.specs.sb_specs_Reading.{list_length};
 ghost use Rattle.stripe_region_write.specs.crash_views_Regions.{AreShapesFit};
-ghost use Rattle.stripe_region_resync.specs.Mends.{low_end, low_shape, high_shape, low_stripes, high_stripe, mend_stripes, stripe_behind, next_mend, relied_sector};
+ghost use Rattle.stripe_region_resync.specs.Mends.{low_end, low_shape, high_shape, low_stripes, high_stripe, resync_stripes, stripe_after, next_resync, relied_sector};
 
 use reshape_request::{Members, Shape, is_reshaping, list_end, stripe_sectors};
 use stripe_region_write::{final_in, shape_for, shape_in};
@@ -59,9 +59,9 @@ fn high_stripe(members: &Members) -> u64
 }
 
 /// How many stripes a resync has: those of both regions, of which the last below the position may go past it.
-pub fn mend_stripes(members: &Members) -> u64
+pub fn resync_stripes(members: &Members) -> u64
     requires fit { AreShapesFit members.now.newest }
-    ensures value { result ≡ mend_stripes members.now.newest }
+    ensures value { result ≡ resync_stripes members.now.newest }
     ensures short { result ≤ 2 ^ 54 }
 {
     let high = members.newest.size / u64::from(high_shape(members).chunk) - high_stripe(members);
@@ -69,10 +69,10 @@ pub fn mend_stripes(members: &Members) -> u64
 }
 
 /// The stripe behind so many, in the order of the list.
-pub fn stripe_behind(members: &Members, mended: u64) -> Stripe
+pub fn stripe_after(members: &Members, mended: u64) -> Stripe
     requires fit { AreShapesFit members.now.newest }
-    requires mended { mended ≤ mend_stripes members.now.newest }
-    ensures { result ≡ stripe_behind members.now.newest mended }
+    requires mended { mended ≤ resync_stripes members.now.newest }
+    ensures { result ≡ stripe_after members.now.newest mended }
 {
     let low = low_stripes(members);
     if mended < low {
@@ -88,12 +88,12 @@ pub fn stripe_behind(members: &Members, mended: u64) -> Stripe
 }
 
 /// The stripe that is mended next, where so many are; None where all are.
-pub fn next_mend(members: &Members, mended: u64) -> Option<Stripe>
+pub fn next_resync(members: &Members, mended: u64) -> Option<Stripe>
     requires fit { AreShapesFit members.now.newest }
-    ensures { result ≡ next_mend members.now.newest mended }
+    ensures { result ≡ next_resync members.now.newest mended }
 {
-    if mended < mend_stripes(members) {
-        Some(stripe_behind(members, mended))
+    if mended < resync_stripes(members) {
+        Some(stripe_after(members, mended))
     } else {
         None
     }
@@ -108,24 +108,24 @@ fn list_sectors(members: &Members) -> u64
 }
 
 // The first sector of the stripe behind so many.
-fn mended_sector(members: &Members, mended: u64) -> u64
+fn synced_sector(members: &Members, mended: u64) -> u64
     requires fit { AreShapesFit members.now.newest }
-    requires mended { mended ≤ mend_stripes members.now.newest }
-    ensures { result ≡ (stripe_behind members.now.newest mended).at * stripe_sectors (stripe_behind members.now.newest mended).shape }
+    requires mended { mended ≤ resync_stripes members.now.newest }
+    ensures { result ≡ (stripe_after members.now.newest mended).at * stripe_sectors (stripe_after members.now.newest mended).shape }
 {
-    let next = stripe_behind(members, mended);
+    let next = stripe_after(members, mended);
     next.at * stripe_sectors(&next.shape)
 }
 
 /// The sector of the list below which parity is relied on, where a resync is pending that has mended so many stripes, or none.
 pub fn relied_sector(members: &Members, resync: Option<u64>) -> u64
     requires fit { AreShapesFit members.now.newest }
-    requires progress { IfSome resync (λ mended. mended ≤ mend_stripes members.now.newest) }
+    requires progress { IfSome resync (λ mended. mended ≤ resync_stripes members.now.newest) }
     ensures value { result ≡ relied_sector members.now.newest resync }
     ensures within { result ≤ list_length members.now.newest }
 {
     match resync {
         None => list_sectors(members),
-        Some(mended) => mended_sector(members, mended),
+        Some(mended) => synced_sector(members, mended),
     }
 }

@@ -11,7 +11,7 @@ pub use Rattle.stripe_region_read.proofs.sb_safe_updates_Unused
 pub use Rattle.stripe_region_read.proofs.array_members_Fit
 pub use Rattle.stripe_region_read.proofs.array_members_Stripes
 pub use Rattle.stripe_region_read.proofs.array_members_HeldRows
-pub use Rattle.stripe_region_read.proofs.array_members_MendedParts
+pub use Rattle.stripe_region_read.proofs.array_members_SyncedParts
 pub use Rattle.stripe_region_read.proofs.crash_views_UnderWay
 pub use Rattle.stripe_region_read.proofs.crash_views_Stands
 pub use Rattle.stripe_region_read.proofs.crash_views_Alike

@@ -10,7 +10,9 @@ ghost use Rattle.stripe_region_read.specs.sb_safe_updates_First.{write_refusal};
 ghost use Rattle.stripe_region_write.specs.Runs.{IsRun, IsRelied, AreRuns, AreRunsTorn, AreRunsUnwritten};
 
 use stripe_region_read::stretches::{relied_rows, stretch_at};
-use stripe_region_read::{Members, Refusal, Shape, Span, list_length, too_many_of, unwritten};
+use stripe_region_read::{
+    Members, Refusal, Shape, Span, first_write_refusal, list_length, too_many_of,
+};
 
 /// Sectors of the list that are placed by one shape, from one up to another, and whether parity is relied on in each row that they touch.
 #[derive(Clone, Copy)]
@@ -113,7 +115,7 @@ pub fn too_many_runs(members: &Members, low: &Run, high: &Run) -> Option<Refusal
 
 /// Why two runs can't be written: too many roles are missing of one of their shapes, or else one that has data, in a run in which parity
 /// isn't relied on.
-pub fn unwritten_runs(members: &Members, low: &Run, high: &Run) -> Option<Refusal>
+pub fn first_runs_refusal(members: &Members, low: &Run, high: &Run) -> Option<Refusal>
     requires fit { AreShapesFit members.now.newest }
     requires roles { length members.now.roles ≡ role_count members.now.newest }
     requires low { IsInForce members.now.newest low.now.shape }
@@ -125,9 +127,9 @@ pub fn unwritten_runs(members: &Members, low: &Run, high: &Run) -> Option<Refusa
     if refusal.is_some() {
         return refusal;
     }
-    let refusal = unwritten(members, &low.shape, low.synced);
+    let refusal = first_write_refusal(members, &low.shape, low.synced);
     if refusal.is_some() {
         return refusal;
     }
-    unwritten(members, &high.shape, high.synced)
+    first_write_refusal(members, &high.shape, high.synced)
 }

@@ -29,8 +29,10 @@ ghost use Rattle.stripe_region_read.specs.Stretches.{RowsStandTo, IsShapeOf, Lis
 ghost use Rattle.stripe_region_write.specs.Runs.{IsRun, AreRowsOf, AreFull, StayRebuilt, IsListTouched, IsTornTouched, MayBeHidden, WindowRowsStand, IsListTorn, IsListUnwritten, AreRunsTorn, AreRunsUnwritten};
 ghost use Rattle.stripe_region_write.specs.Ends.{AreEndsStanding};
 
-use crate::runs::{Run, runs_of, too_many_runs, unwritten_runs};
-use stripe_region_read::{Bank, Members, Outcome, Refusal, Span, put_rows, raise, read_touched};
+use crate::runs::{Run, first_runs_refusal, runs_of, too_many_runs};
+use stripe_region_read::{
+    Bank, Members, Outcome, Refusal, Span, mark_dirty, read_touched, write_list_rows,
+};
 
 // The spares that were lost, and why what was asked for wasn't done.
 #[derive(Clone, Copy)]
@@ -63,7 +65,7 @@ fn read_runs<B: Bank>(
     ensures moved { IsMoved (B.given bank.old) members.old members.new }
     ensures lost { (lost : ℕ) × (members.new ≡ members_without lost members.old) }
     ensures failed { HaveFailedSince members.old members.new 0 (B.faults_of bank.old) (B.faults_of bank.new) }
-    ensures unread { result ≡ false → ((write_refusal low.now.shape low.now.synced members.new ≡ None) × (write_refusal high.now.shape high.now.synced members.new ≡ None)) → ⊥ }
+    ensures first_read_refusal { result ≡ false → ((write_refusal low.now.shape low.now.synced members.new ≡ None) × (write_refusal high.now.shape high.now.synced members.new ≡ None)) → ⊥ }
     ensures low { result ≡ true → B.tells → AreRowsRead low.now.shape low.now.synced members.old members.new (present (B.given bank.old) (B.tape bank.old)) rows.new.items buffer.new.items }
     ensures high { result ≡ true → B.tells → AreRowsRead high.now.shape high.now.synced members.old members.new (present (B.given bank.old) (B.tape bank.old)) far_rows.new.items far_buffer.new.items }
     ensures low_rows { result ≡ true → AreRowsOf low.now members.old.newest.size rows.new.items }
@@ -153,10 +155,10 @@ fn prepare_runs<B: Bank>(
     if !read {
         return Part {
             spares: 0,
-            refusal: unwritten_runs(members, low, high),
+            refusal: first_runs_refusal(members, low, high),
         };
     }
-    let spares = raise(members, bank);
+    let spares = mark_dirty(members, bank);
     Part {
         spares,
         refusal: too_many_runs(members, low, high),
@@ -220,14 +222,14 @@ fn write_runs<B: Bank>(
     ensures buffer { length buffer.new.items ≡ length buffer.old.items }
     ensures far_buffer { length far_buffer.new.items ≡ length far_buffer.old.items }
 {
-    let near = put_rows(members, bank, &low.shape, first, from, rows, buffer);
+    let near = write_list_rows(members, bank, &low.shape, first, from, rows, buffer);
     if near.refusal.is_some() {
         return Part {
             spares: near.spares,
             refusal: near.refusal,
         };
     }
-    let far = put_rows(
+    let far = write_list_rows(
         members,
         bank,
         &high.shape,
@@ -248,7 +250,7 @@ fn write_runs<B: Bank>(
 /// at least as many data disks: where that is cut off, the shape of each row that was written misses more roles than it tolerates. It ends
 /// where more roles of one of the shapes are missing than it tolerates, or, in rows whose parity isn't to be relied on, one that has data;
 /// parity is to be relied on up to sector `relied` of the list, and in `window`, if there is one, whose rows were just written.
-pub fn put_list<B: Bank>(
+pub fn write_list<B: Bank>(
     members: &mut Members,
     bank: &mut B,
     first: u64,
@@ -280,7 +282,7 @@ pub fn put_list<B: Bank>(
     ensures torn_rows { MatchOption result.refusal ⊤ (λ refusal. B.tells → AreOtherRowsKept (IsTornTouched members.old.newest first (first + length from.now / 512) members.new) (reading_of members.new)
         (present (B.given bank.old) (B.tape bank.old)) (present (B.given bank.old) (B.tape bank.new))) }
     ensures grows { Grows B.tells (B.tape bank.old) (B.tape bank.new) }
-    ensures put { result.refusal ≡ None → B.tells → (among : Shape → Bool) → (hidden : Option Span) → (list list' : ℕ → Sector) → IsWritten list list' first from.now
+    ensures write_listed { result.refusal ≡ None → B.tells → (among : Shape → Bool) → (hidden : Option Span) → (list list' : ℕ → Sector) → IsWritten list list' first from.now
         → ListStandsIn (λ s. among s ≡ true) hidden members.old (present (B.given bank.old) (B.tape bank.old)) list
         → ListStandsIn (λ s. among s ≡ true) hidden members.new (present (B.given bank.old) (B.tape bank.new)) list' }
     ensures tail { result.refusal ≡ None → B.tells → (list list' : ℕ → Sector) → IsWritten list list' first from.now

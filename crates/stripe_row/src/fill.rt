@@ -28,7 +28,7 @@ fn next_lacking(members: &Members, row: u64, first: u32, disks: u32) -> Option<u
 }
 
 /// Fills the roles of a row that no slot holds, where no more roles are missing than the shape tolerates.
-pub fn fill_lacking(members: &Members, shape: &Shape, row: u64, into: &mut [u8])
+pub fn reconstruct_missing(members: &Members, shape: &Shape, row: u64, into: &mut [u8])
     requires shape { IsTrue (is_valid_shape shape.now) }
     requires disks { shape.now.disks ≤ length members.now.roles }
     requires row { row < members.now.newest.size }

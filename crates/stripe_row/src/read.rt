@@ -6,7 +6,7 @@ ghost use Rattle.sb_specs.specs.raid_types_Shapes.{has_slot, tolerance};
 ghost use Rattle.raid_parity_simd.specs.raid_parity_Rows.{IsRowOf, sector_of};
 ghost use Rattle.stripe_row.specs.Rows.{present, reading_of, standing_sector, missing_count, lost_of, members_without, IsRow, IsTolerated, IsLoss, HaveFailed, HasSector};
 
-use crate::fill::fill_lacking;
+use crate::fill::reconstruct_missing;
 use crate::held::{data_offset, held_slot};
 use crate::lose::{lose_slots, missing_count};
 use crate::sets::{contains, with};
@@ -123,6 +123,6 @@ pub fn read_row<B: Bank>(
     if tolerance(shape) < missing_count(members, shape.disks) {
         return Err(lost);
     }
-    fill_lacking(members, shape, row, into);
+    reconstruct_missing(members, shape, row, into);
     Ok(lost)
 }

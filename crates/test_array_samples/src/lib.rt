@@ -52,7 +52,7 @@ pub fn put(bank: &mut MemoryBank, slot: u32, sb: &Sb) -> Result<(), Fail> {
 }
 
 /// Stores these superblocks in the first slots.
-pub fn put_all(bank: &mut MemoryBank, superblocks: &[Sb]) -> Result<(), Fail> {
+pub fn write_all_rows(bank: &mut MemoryBank, superblocks: &[Sb]) -> Result<(), Fail> {
     if superblocks.len() > 32 {
         return Err(Fail::from("too many superblocks"));
     }

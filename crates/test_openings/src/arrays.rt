@@ -9,7 +9,7 @@ use std::alloc::Global;
 use std::process::Abort;
 use std::test::Fail;
 use test_array_samples::{
-    CreateSpec, Opened, SHAPE, SPEC, bank_of, made, opened, put_all, refusal_of_create,
+    CreateSpec, Opened, SHAPE, SPEC, bank_of, made, opened, refusal_of_create, write_all_rows,
 };
 use test_mdadm_images::{
     BITMAP, BITMAP_MEMBERS, DIRTY, DIRTY_MEMBERS, SPARE, SPARE_MEMBERS, members_of, reshaping,
@@ -62,7 +62,7 @@ fn compare(
 ) -> Result<(), Fail> {
     for (lengths, failing, backup, wanted, ops) in openings {
         let mut bank = bank_of(alloc, lengths, 64, failing)?;
-        put_all(&mut bank, superblocks)?;
+        write_all_rows(&mut bank, superblocks)?;
         assert!(rt; opens(alloc, &mut bank, *backup, wanted)?, "{wanted:?}");
         assert!(rt; bank.ops() == *ops, "{wanted:?}");
     }
@@ -121,7 +121,7 @@ const OF_RESHAPE: [Opening; 4] = [
 // Each slot is flushed once, in order.
 fn compare_flushes(rt: &impl Abort, alloc: Global, superblocks: &[Sb]) -> Result<(), Fail> {
     let mut bank = bank_of(alloc, &[288; 4], 64, &[])?;
-    put_all(&mut bank, superblocks)?;
+    write_all_rows(&mut bank, superblocks)?;
     assert!(rt; opened(alloc, &mut bank, None)?.is_ok());
     assert!(rt; bank.ops() == 12);
     assert!(rt; bank.op(8) == Op::Flush { slot: 0 } && bank.op(11) == Op::Flush { slot: 3 });

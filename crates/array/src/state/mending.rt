@@ -41,7 +41,7 @@ impl<B: Bank> Running<B> {
     /// Does the next step of an array without a reshape, of which one is left besides those of the phases ahead: of the resync where one
     /// is pending, or else of a rebuild. Where the slot that is rebuilt is lost, only the loss is entered. Refusals: `TooManyMissing`,
     /// and at a stripe of a resync `NotResynced`. It takes no memory.
-    pub fn mend_or_rebuild(&mut self, who: Who) -> Result<(), Fault>
+    pub fn resync_or_rebuild(&mut self, who: Who) -> Result<(), Fault>
         requires open { IsCallGoing self.old.parts.entries who }
         requires unbroken { next_kind self.old.parts.work self.old.parts.members ≡ EndsRebuild → IsCallUnbroken B.tells (moving_world (B.given self.old.parts.bank) (B.tape self.old.parts.bank) self.old) self.old.parts.entries who }
         requires caller { who.caller ≢ 254 }

@@ -8,7 +8,7 @@ ghost use Rattle.array_grow.specs.array_reshaping_state_Due.{due_of};
 ghost use Rattle.array_grow.specs.array_reshaping_state_the_Due_TheVariants.{Finish as EndsReshape};
 ghost use Rattle.array_grow.specs.array_specs_Parts.{left_in};
 ghost use Rattle.array_grow.specs.array_specs_Calls.{IsStepTaken, IsNextUnsure};
-ghost use Rattle.array_grow.specs.array_reshaping_laws_Mending.{IsMendCalled};
+ghost use Rattle.array_grow.specs.array_reshaping_laws_Resyncing.{IsResyncCalled};
 ghost use Rattle.array_grow.specs.array_reshaping_laws_Steps.{kind_of, resync_behind, IsMarkedBehind, IsStepCaused};
 ghost use Rattle.array.specs.Calls.{IsRefusedInStep};
 
@@ -27,7 +27,7 @@ impl<B: Bank> Running<B> {
         requires active { is_reshaping self.old.parts.members.newest ≡ true }
         requires due { due_of self.old.parts.members.newest self.old.course self.old.parts.work.resync ≢ EndsReshape }
         ensures entered { IsStepTaken who self.old.parts.entries self.new.parts.entries (kind_of (due_of self.old.parts.members.newest self.old.course self.old.parts.work.resync)) (left_in self.new.parts.work self.new.parts.members self.new.course self.new.ahead) result }
-        ensures called { IsMendCalled B.tells (B.given self.old.parts.bank) (B.tape self.old.parts.bank) (B.tape self.new.parts.bank) (B.faults_of self.old.parts.bank) (B.faults_of self.new.parts.bank) self.old self.new }
+        ensures called { IsResyncCalled B.tells (B.given self.old.parts.bank) (B.tape self.old.parts.bank) (B.tape self.new.parts.bank) (B.faults_of self.old.parts.bank) (B.faults_of self.new.parts.bank) self.old self.new }
         ensures work { self.new.parts.work ≡ record self.old.parts.work {
           resync = by_answer result (resync_behind (due_of self.old.parts.members.newest self.old.course self.old.parts.work.resync) self.old.parts.work.resync) self.old.parts.work.resync;
         } }

@@ -10,7 +10,7 @@ use crate::state::Still;
 use array_fixed_laws::shape_in;
 use array_parts::{Epoch, PhasesLeft};
 use array_state::NoMemory;
-use array_state::absent::enter_all_absent;
+use array_state::absent::append_absent;
 use array_state::room::{Room, room_for};
 use array_state::work::found_work;
 use sb_election::{Bank, Members};
@@ -62,7 +62,7 @@ impl<B: Bank> Still<B> {
             entries: room.entries,
         };
         let disks = shape_in(&members).disks;
-        enter_all_absent(&mut epoch, &members, first, disks);
+        append_absent(&mut epoch, &members, first, disks);
         let work = found_work(&members);
         Ok(Still {
             alloc,

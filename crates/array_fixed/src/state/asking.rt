@@ -13,7 +13,7 @@ use crate::state::Still;
 use array_fixed_laws::shape_in;
 use array_parts::Event;
 use array_state::asking::{copy_roles, copy_slots, visible as list_sectors};
-use array_state::{NoMemory, Status, Who, check_number, enter, stripes};
+use array_state::{NoMemory, Status, Who, append_entry, check_number, stripes};
 use sb_election::{Bank, is_clean};
 
 impl<B: Bank> Still<B> {
@@ -113,7 +113,7 @@ impl<B: Bank> Still<B> {
         self.steps = 0;
         check_number(&self.epoch.entries, who);
         let end = self.bank.ops();
-        enter(&mut self.epoch, who, end, Event::Shown { status: shown });
+        append_entry(&mut self.epoch, who, end, Event::Shown { status: shown });
         Ok(status)
     }
 }

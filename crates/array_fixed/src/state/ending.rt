@@ -26,7 +26,7 @@ ghost use Rattle.array_fixed_laws.specs.Plain.{AreToldPlainly, IsPlainEpoch};
 
 use crate::state::Still;
 use array_parts::{Epoch, Event};
-use array_state::{Fault, Who, check_number, enter};
+use array_state::{Fault, Who, append_entry, check_number};
 use sb_election::Bank;
 
 impl<B: Bank> Still<B> {
@@ -101,7 +101,7 @@ impl<B: Bank> Still<B> {
         } = self;
         check_number(&epoch.entries, who);
         let end = bank.ops();
-        enter(&mut epoch, who, end, Event::Halted);
+        append_entry(&mut epoch, who, end, Event::Halted);
         (bank, epoch)
     }
 

@@ -12,7 +12,7 @@ ghost use Rattle.array_fixed_laws.specs.array_specs_Visible.{visible_refusal, st
 use crate::state::Still;
 use array_fixed_laws::visible_of;
 use array_parts::{Event, PhasesLeft};
-use array_state::{BusyKind, Fault, Refusal, Who, check_number, enter};
+use array_state::{BusyKind, Fault, Refusal, Who, append_entry, check_number};
 use sb_election::Bank;
 
 // Whether a phase of a plan hasn't begun.
@@ -79,12 +79,12 @@ impl<B: Bank> Still<B> {
         check_number(&self.epoch.entries, who);
         let end = self.bank.ops();
         if let Some(refusal) = unlimited(&self.ahead, size, limit) {
-            enter(&mut self.epoch, who, end, Event::Refused { refusal });
+            append_entry(&mut self.epoch, who, end, Event::Refused { refusal });
             return Err(Fault::Refused(refusal));
         }
         self.limit = limit;
         let count = visible_of(size, limit);
-        enter(&mut self.epoch, who, end, Event::Visible { limit, count });
+        append_entry(&mut self.epoch, who, end, Event::Visible { limit, count });
         Ok(count)
     }
 }

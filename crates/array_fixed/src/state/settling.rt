@@ -14,9 +14,9 @@ ghost use Rattle.array_fixed_laws.specs.array_specs_Calls.{IsCalled};
 ghost use Rattle.array_fixed_laws.specs.array_specs_Still.{AreLeftSettled};
 
 use crate::state::Still;
-use array_fixed_laws::{newly_vacant, settle, too_many, vacant_roles};
+use array_fixed_laws::{flush_and_mark, newly_unassigned, too_many, unassigned_roles};
 use array_parts::Event;
-use array_state::{Fault, Who, check_number, enter, enter_behind};
+use array_state::{Fault, Who, append_after_losses, append_entry, check_number};
 use sb_election::Bank;
 
 impl<B: Bank> Still<B> {
@@ -46,24 +46,24 @@ impl<B: Bank> Still<B> {
         check_number(&self.epoch.entries, who);
         if let Some(refusal) = too_many(&self.members) {
             let end = self.bank.ops();
-            enter(&mut self.epoch, who, end, Event::Refused { refusal });
+            append_entry(&mut self.epoch, who, end, Event::Refused { refusal });
             return Err(Fault::Refused(refusal));
         }
         let count = self.members.roles.len() as u32;
-        let before = vacant_roles(&self.members, count);
-        let settled = settle(
+        let before = unassigned_roles(&self.members, count);
+        let settled = flush_and_mark(
             &mut self.members,
             &mut self.bank,
             self.work.resync.is_some(),
         );
-        let roles = newly_vacant(&self.members, count, before);
+        let roles = newly_unassigned(&self.members, count, before);
         let end = self.bank.ops();
         if let Some(refusal) = settled.refusal {
             let event = Event::Refused { refusal };
-            enter_behind(&mut self.epoch, who, end, roles, settled.spares, event);
+            append_after_losses(&mut self.epoch, who, end, roles, settled.spares, event);
             return Err(Fault::Refused(refusal));
         }
-        enter_behind(&mut self.epoch, who, end, roles, settled.spares, event);
+        append_after_losses(&mut self.epoch, who, end, roles, settled.spares, event);
         Ok(())
     }
 

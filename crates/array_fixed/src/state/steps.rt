@@ -10,7 +10,7 @@ ghost use Rattle.array_fixed_laws.specs.Steps.{IsStepped, MayAnswer, IsStepsRepl
 
 use crate::state::Still;
 use array_parts::{Entries, Event};
-use array_state::{NoMemory, Who, enter};
+use array_state::{NoMemory, Who, append_entry};
 use sb_election::Bank;
 
 /// The number of a call that goes on is at most the number of entries.
@@ -60,6 +60,6 @@ impl<B: Bank> Still<B> {
         self.steps -= 1;
         check_going(&self.epoch.entries, who);
         let end = self.bank.ops();
-        enter(&mut self.epoch, who, end, event);
+        append_entry(&mut self.epoch, who, end, event);
     }
 }

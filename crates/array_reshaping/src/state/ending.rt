@@ -16,7 +16,7 @@ ghost use Rattle.array_reshaping_laws.specs.array_specs_Calls.{IsCalled, IsEpoch
 
 use crate::state::Moving;
 use array_parts::{Epoch, Event};
-use array_state::{Fault, Who, check_number, enter};
+use array_state::{Fault, Who, append_entry, check_number};
 use sb_election::Bank;
 
 impl<B: Bank> Moving<B> {
@@ -85,7 +85,7 @@ impl<B: Bank> Moving<B> {
         } = self;
         check_number(&epoch.entries, who);
         let end = bank.ops();
-        enter(&mut epoch, who, end, Event::Halted);
+        append_entry(&mut epoch, who, end, Event::Halted);
         (bank, epoch)
     }
 

@@ -12,8 +12,8 @@ ghost use Rattle.array_reshaping_laws.specs.array_specs_Calls.{IsCalled};
 
 use crate::state::Moving;
 use array_parts::{Event, LostCause, lose_slot};
-use array_reshaping_laws::{name_missing, newly_vacant, vacant_roles};
-use array_state::{Fault, Refusal, Role, Who, check_number, enter, enter_behind};
+use array_reshaping_laws::{newly_unassigned, record_missing, unassigned_roles};
+use array_state::{Fault, Refusal, Role, Who, append_after_losses, append_entry, check_number};
 use sb_election::{Bank, Members};
 
 // The slot that holds a role, whole or in part.
@@ -57,19 +57,19 @@ impl<B: Bank> Moving<B> {
         let Some(slot) = slot_of(&self.members, role) else {
             let refusal = Refusal::NoSuchRole(role);
             let end = self.bank.ops();
-            enter(&mut self.epoch, who, end, Event::Refused { refusal });
+            append_entry(&mut self.epoch, who, end, Event::Refused { refusal });
             return Err(Fault::Refused(refusal));
         };
         let count = self.members.roles.len() as u32;
         let _ = lose_slot(&mut self.members, slot);
-        let before = vacant_roles(&self.members, count);
-        let spares = name_missing(&mut self.members, &mut self.bank);
-        let roles = newly_vacant(&self.members, count, before);
+        let before = unassigned_roles(&self.members, count);
+        let spares = record_missing(&mut self.members, &mut self.bank);
+        let roles = newly_unassigned(&self.members, count, before);
         let end = self.bank.ops();
         let cause = LostCause::Command;
-        enter(&mut self.epoch, who, end, Event::Lost { role, cause });
+        append_entry(&mut self.epoch, who, end, Event::Lost { role, cause });
         let event = Event::Failed { role };
-        enter_behind(&mut self.epoch, who, end, roles, spares, event);
+        append_after_losses(&mut self.epoch, who, end, roles, spares, event);
         Ok(())
     }
 }

@@ -3,7 +3,7 @@ use Rattle.array_takeover.specs.sb_specs_Reading.{is_reshaping}
 use Rattle.array_takeover.specs.history_Legal.{told_left}
 use Rattle.array_grow.specs.array_call_specs_Kept.{scope_in}
 use Rattle.array_grow.specs.array_specs_Parts.{left_in, still_left}
-use Rattle.array_grow.proofs.array_reshaping_laws_MendLaws.{left-some}
+use Rattle.array_grow.proofs.array_reshaping_laws_ResyncLaws.{left-some}
 use Rattle.array_grow.proofs.Stored.{stored-by}
 use Rattle.array.proofs.Checked.{some-of, left-by, aside-moving, window-next}
 use Rattle.array.proofs.state.moving_again.Goals as goal

@@ -48,17 +48,17 @@ invariant_of-still-2 g c =
     (unaddable-refused given a.backup c.args.slot a.members a.work.resync refusal c.in-Some.ensures))
     (unaddable-plain was c.args.who end (begins-going a.epoch.entries.items c.args.who number) c.requires.caller c.ops-end.ensures.count c.args.slot a.backup refl refusal c.in-Some.ensures)
     (λ slot. omega arith) (alone-keeps c.args.who end (Refused refusal) (λ n. refl) (λ limit. refl))
-    refl (scope-same given a.backup refl c.enter.ensures.uuid c.enter.ensures.given) c.enter.ensures.first c.make_room.ensures.items c.enter.ensures.items
-    (omega (arith, c.enter.ensures.room, c.in-Ok.ensures.ok))
+    refl (scope-same given a.backup refl c.append_entry.ensures.uuid c.append_entry.ensures.given) c.append_entry.ensures.first c.make_room.ensures.items c.append_entry.ensures.items
+    (omega (arith, c.append_entry.ensures.room, c.in-Ok.ensures.ok))
 
 pub returns-clause-answered : goal.returns-clause-answered
 returns-clause-answered g c =
     let refusal = c.in-Some.refusal in
     let a = c.still.inside in
     let number : c.args.who.number ≡ next_number c.args.who.caller a.epoch.entries.items = c.requires.next ∙ ap (λ p. next_number c.args.who.caller p.parts.entries) (sym c.still.view_is) in
-    rw (← c.still.view_is) (unadded_reply (g.B.Bank.given a.bank) a.backup a.members (list_length a.members.newest) c.args.who a.epoch.entries.items c.enter.new.epoch.entries.items
+    rw (← c.still.view_is) (unadded_reply (g.B.Bank.given a.bank) a.backup a.members (list_length a.members.newest) c.args.who a.epoch.entries.items c.append_entry.new.epoch.entries.items
     c.ops-end.result c.args.slot refusal c.in-Some.ensures
-    (c.enter.ensures.items ∙ ap (λ (l : List Entry). l ++ entries_of c.args.who c.ops-end.result (Refused refusal ∷ [])) c.make_room.ensures.items) number)
+    (c.append_entry.ensures.items ∙ ap (λ (l : List Entry). l ++ entries_of c.args.who c.ops-end.result (Refused refusal ∷ [])) c.make_room.ensures.items) number)
 
 pub returns-clause-stepped : goal.returns-clause-stepped
 returns-clause-stepped g c =
@@ -67,11 +67,11 @@ returns-clause-stepped g c =
     let faults = g.B.Bank.faults_of a.bank in
     let event = Refused c.in-Some.refusal in
     rw (← c.still.view_is) (stepped (grows-none (λ t. refl)) (shapes-same a.members.newest)
-    (ended-behind (g.B.Bank.tape a.bank) c.enter.new.epoch.first c.make_room.new.self.items c.args.who c.ops-end.result [] event c.enter.ensures.items c.ops-end.ensures.count)
+    (ended-behind (g.B.Bank.tape a.bank) c.append_entry.new.epoch.first c.make_room.new.self.items c.args.who c.ops-end.result [] event c.append_entry.ensures.items c.ops-end.ensures.count)
     (λ role slot held. inl held)
-    (alone-lossless a.members faults faults a.epoch.entries.items c.make_room.new.self.items c.enter.new.epoch.entries.items c.args.who c.ops-end.result event tt c.make_room.ensures.items c.enter.ensures.items)
+    (alone-lossless a.members faults faults a.epoch.entries.items c.make_room.new.self.items c.append_entry.new.epoch.entries.items c.args.who c.ops-end.result event tt c.make_room.ensures.items c.append_entry.ensures.items)
     (λ slot. omega arith)
-    (record { uuid = c.enter.ensures.uuid; given = c.enter.ensures.given; first = c.enter.ensures.first; backup = refl; ahead = refl; limit = refl })
+    (record { uuid = c.append_entry.ensures.uuid; given = c.append_entry.ensures.given; first = c.append_entry.ensures.first; backup = refl; ahead = refl; limit = refl })
     (λ t. (was.kept.recorded t).begun))
 
 pub is_held_up-requires : goal.is_held_up-requires

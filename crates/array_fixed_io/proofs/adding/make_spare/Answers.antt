@@ -74,13 +74,13 @@ invariant_of-still-in_default g c =
     (looked-refused c.args.who end c.args.slot was.kept (without-left given a.members here.placed here.unlost (slot-does given a.backup c.args.slot a.members here.placed addable)) number c.requires.caller c.ops-end.ensures.count did.tape)
     (refused-plain was c.args.who end (begins-going a.epoch.entries.items c.args.who number) c.requires.caller c.ops-end.ensures.count (record { more = λ t. ((did.tape t).0, (did.tape t).2) }) (SlotFault c.args.slot) (λ t p. tt) tt)
     did.counts (alone-keeps c.args.who end (Refused (SlotFault c.args.slot)) (λ n. refl) (λ limit. refl))
-    did.given (scope-same given a.backup did.given c.enter.ensures.uuid c.enter.ensures.given) c.enter.ensures.first c.make_room.ensures.items c.enter.ensures.items
-    (omega (arith, c.enter.ensures.room, c.in-Ok.ensures.ok))
+    did.given (scope-same given a.backup did.given c.append_entry.ensures.uuid c.append_entry.ensures.given) c.append_entry.ensures.first c.make_room.ensures.items c.append_entry.ensures.items
+    (omega (arith, c.append_entry.ensures.room, c.in-Ok.ensures.ok))
 
 pub returns-in_default-clause-answered : goal.returns-in_default-clause-answered
 returns-in_default-clause-answered g c =
-    faulted_reply (list_length c.args.still.now.parts.members.newest) c.args.who c.args.still.now.parts.entries c.enter.new.epoch.entries.items c.ops-end.result c.args.slot [] tt
-    (c.enter.ensures.items ∙ ap (λ (l : List Entry). l ++ entries_of c.args.who c.ops-end.result (Refused (SlotFault c.args.slot) ∷ [])) (c.make_room.ensures.items ∙ ap (λ p. p.parts.entries) c.still.view_is))
+    faulted_reply (list_length c.args.still.now.parts.members.newest) c.args.who c.args.still.now.parts.entries c.append_entry.new.epoch.entries.items c.ops-end.result c.args.slot [] tt
+    (c.append_entry.ensures.items ∙ ap (λ (l : List Entry). l ++ entries_of c.args.who c.ops-end.result (Refused (SlotFault c.args.slot) ∷ [])) (c.make_room.ensures.items ∙ ap (λ p. p.parts.entries) c.still.view_is))
     c.requires.next
 
 pub returns-in_default-clause-caused : goal.returns-in_default-clause-caused
@@ -97,12 +97,12 @@ returns-in_default-clause-stepped g c =
     let did = c.look_at.ensures in
     let looked = did.tape in
     rw (← c.still.view_is) (stepped (record { more = λ t. ((looked t).0, (looked t).2) }) (shapes-same a.members.newest)
-    (ended-behind (g.B.Bank.tape c.look_at.new.bank) c.enter.new.epoch.first c.make_room.new.self.items c.args.who c.ops-end.result [] (Refused (SlotFault c.args.slot)) c.enter.ensures.items c.ops-end.ensures.count)
+    (ended-behind (g.B.Bank.tape c.look_at.new.bank) c.append_entry.new.epoch.first c.make_room.new.self.items c.args.who c.ops-end.result [] (Refused (SlotFault c.args.slot)) c.append_entry.ensures.items c.ops-end.ensures.count)
     (λ role slot held. inl held)
-    (alone-lossless a.members (g.B.Bank.faults_of a.bank) (g.B.Bank.faults_of c.look_at.new.bank) a.epoch.entries.items c.make_room.new.self.items c.enter.new.epoch.entries.items c.args.who c.ops-end.result
-    (Refused (SlotFault c.args.slot)) tt c.make_room.ensures.items c.enter.ensures.items)
+    (alone-lossless a.members (g.B.Bank.faults_of a.bank) (g.B.Bank.faults_of c.look_at.new.bank) a.epoch.entries.items c.make_room.new.self.items c.append_entry.new.epoch.entries.items c.args.who c.ops-end.result
+    (Refused (SlotFault c.args.slot)) tt c.make_room.ensures.items c.append_entry.ensures.items)
     did.counts
-    (record { uuid = c.enter.ensures.uuid; given = c.enter.ensures.given; first = c.enter.ensures.first; backup = refl; ahead = refl; limit = refl })
+    (record { uuid = c.append_entry.ensures.uuid; given = c.append_entry.ensures.given; first = c.append_entry.ensures.first; backup = refl; ahead = refl; limit = refl })
     (λ t. (was.kept.recorded t).begun))
 
 -- ---- what the update needs
@@ -202,10 +202,10 @@ invariant_of-still-then-contains g c =
     let look = c.look_at.ensures in
     let did = add-done look.given was.kept.slots here.placed here.unlost here.free (slot-there given a.backup c.args.slot a.members here.placed addable)
     (λ role may. slot-free given a.backup c.args.slot a.members here.placed addable (inr (role, may))) look.counts c.spare_for-sb.ensures.made e.own e.moved e.failed e.lost e.grows e.others e.clean e.rise e.counts in
-    let since = since-added did c.shape_in-disks.result.disks c.vacant_roles-before.result c.newly_vacant-roles.result c.without-spares.result (ap (λ (s : Shape). s.disks) c.shape_in-disks.ensures ∙ sym (count-still a.members.newest here.still))
-    c.vacant_roles-before.ensures c.newly_vacant-roles.ensures
+    let since = since-added did c.shape_in-disks.result.disks c.unassigned_roles-before.result c.newly_unassigned-roles.result c.without-spares.result (ap (λ (s : Shape). s.disks) c.shape_in-disks.ensures ∙ sym (count-still a.members.newest here.still))
+    c.unassigned_roles-before.ensures c.newly_unassigned-roles.ensures
     (others-lost c.args.slot c.add_member-lost.result c.with.result c.without-spares.result c.with.ensures c.without-spares.ensures (omega (arith, c.without-spares.type_inv))) in
-    let roles = c.newly_vacant-roles.result in
+    let roles = c.newly_unassigned-roles.result in
     let spares = c.without-spares.result in
     let end = c.ops-end-2.result in
     let m = c.add_member-lost.new.members in
@@ -224,14 +224,14 @@ invariant_of-still-then-contains g c =
     rw (c.bear.ensures) (ready (entries_of c.args.who end (losses_of roles spares ++ Refused (SlotFault c.args.slot) ∷ [])) was (rows-moved given (with_spare c.args.slot sb a.members) m did.moved) kept
     (unadded-plain was c.args.who end (begins-going a.epoch.entries.items c.args.who number) c.requires.caller c.ops-end-2.ensures.count look.tape did since (e.lost (sym c.contains.ensures ∙ c.if-contains.true)))
     did.counts (behind-keeps c.args.who end roles spares (Refused (SlotFault c.args.slot) ∷ []) (alone-keeps c.args.who end (Refused (SlotFault c.args.slot)) (λ n. refl) (λ limit. refl)))
-    given_is (scope-same given a.backup given_is c.enter_behind.ensures.uuid c.enter_behind.ensures.given) c.enter_behind.ensures.first c.make_room.ensures.items c.enter_behind.ensures.items
-    (omega (arith, c.enter_behind.ensures.room, c.in-Ok.ensures.ok)))
+    given_is (scope-same given a.backup given_is c.append_after_losses.ensures.uuid c.append_after_losses.ensures.given) c.append_after_losses.ensures.first c.make_room.ensures.items c.append_after_losses.ensures.items
+    (omega (arith, c.append_after_losses.ensures.room, c.in-Ok.ensures.ok)))
 
 pub returns-then-contains-clause-answered : goal.returns-then-contains-clause-answered
 returns-then-contains-clause-answered g c =
-    faulted_reply (list_length c.args.still.now.parts.members.newest) c.args.who c.args.still.now.parts.entries c.enter_behind.new.epoch.entries.items c.ops-end-2.result c.args.slot (losses_of c.newly_vacant-roles.result c.without-spares.result)
-    (losses-are c.newly_vacant-roles.result c.without-spares.result)
-    (c.enter_behind.ensures.items ∙ ap (λ (l : List Entry). l ++ entries_of c.args.who c.ops-end-2.result (losses_of c.newly_vacant-roles.result c.without-spares.result ++ Refused (SlotFault c.args.slot) ∷ [])) (c.make_room.ensures.items ∙ ap (λ p. p.parts.entries) c.still.view_is))
+    faulted_reply (list_length c.args.still.now.parts.members.newest) c.args.who c.args.still.now.parts.entries c.append_after_losses.new.epoch.entries.items c.ops-end-2.result c.args.slot (losses_of c.newly_unassigned-roles.result c.without-spares.result)
+    (losses-are c.newly_unassigned-roles.result c.without-spares.result)
+    (c.append_after_losses.ensures.items ∙ ap (λ (l : List Entry). l ++ entries_of c.args.who c.ops-end-2.result (losses_of c.newly_unassigned-roles.result c.without-spares.result ++ Refused (SlotFault c.args.slot) ∷ [])) (c.make_room.ensures.items ∙ ap (λ p. p.parts.entries) c.still.view_is))
     c.requires.next
 
 pub returns-then-contains-clause-caused : goal.returns-then-contains-clause-caused
@@ -272,21 +272,21 @@ returns-then-contains-clause-stepped g c =
     let look = c.look_at.ensures in
     let did = add-done look.given was.kept.slots here.placed here.unlost here.free (slot-there given a.backup c.args.slot a.members here.placed addable)
     (λ role may. slot-free given a.backup c.args.slot a.members here.placed addable (inr (role, may))) look.counts c.spare_for-sb.ensures.made e.own e.moved e.failed e.lost e.grows e.others e.clean e.rise e.counts in
-    let since = since-added did c.shape_in-disks.result.disks c.vacant_roles-before.result c.newly_vacant-roles.result c.without-spares.result (ap (λ (s : Shape). s.disks) c.shape_in-disks.ensures ∙ sym (count-still a.members.newest here.still))
-    c.vacant_roles-before.ensures c.newly_vacant-roles.ensures
+    let since = since-added did c.shape_in-disks.result.disks c.unassigned_roles-before.result c.newly_unassigned-roles.result c.without-spares.result (ap (λ (s : Shape). s.disks) c.shape_in-disks.ensures ∙ sym (count-still a.members.newest here.still))
+    c.unassigned_roles-before.ensures c.newly_unassigned-roles.ensures
     (others-lost c.args.slot c.add_member-lost.result c.with.result c.without-spares.result c.with.ensures c.without-spares.ensures (omega (arith, c.without-spares.type_inv))) in
-    let roles = c.newly_vacant-roles.result in
+    let roles = c.newly_unassigned-roles.result in
     let spares = c.without-spares.result in
     let end = c.ops-end-2.result in
     let m = c.add_member-lost.new.members in
     let looked = look.tape in
     rw (← c.still.view_is) (stepped (grows-then (record { more = λ t. ((looked t).0, (looked t).2) }) e.grows) (shapes-moved did.moved)
-    (ended-behind (g.B.Bank.tape c.add_member-lost.new.bank) c.enter_behind.new.epoch.first c.make_room.new.self.items c.args.who end (losses_of roles spares) (Refused (SlotFault c.args.slot)) c.enter_behind.ensures.items c.ops-end-2.ensures.count)
+    (ended-behind (g.B.Bank.tape c.add_member-lost.new.bank) c.append_after_losses.new.epoch.first c.make_room.new.self.items c.args.who end (losses_of roles spares) (Refused (SlotFault c.args.slot)) c.append_after_losses.ensures.items c.ops-end-2.ensures.count)
     did.failed.roles
-    (losses-behind a.members m (g.B.Bank.faults_of a.bank) (g.B.Bank.faults_of c.add_member-lost.new.bank) a.epoch.entries.items c.make_room.new.self.items c.enter_behind.new.epoch.entries.items c.args.who end roles spares
-    (Refused (SlotFault c.args.slot)) since tt c.make_room.ensures.items c.enter_behind.ensures.items)
+    (losses-behind a.members m (g.B.Bank.faults_of a.bank) (g.B.Bank.faults_of c.add_member-lost.new.bank) a.epoch.entries.items c.make_room.new.self.items c.append_after_losses.new.epoch.entries.items c.args.who end roles spares
+    (Refused (SlotFault c.args.slot)) since tt c.make_room.ensures.items c.append_after_losses.ensures.items)
     did.counts
-    (record { uuid = c.enter_behind.ensures.uuid; given = c.enter_behind.ensures.given; first = c.enter_behind.ensures.first; backup = refl; ahead = refl; limit = refl })
+    (record { uuid = c.append_after_losses.ensures.uuid; given = c.append_after_losses.ensures.given; first = c.append_after_losses.ensures.first; backup = refl; ahead = refl; limit = refl })
     (λ t. (was.kept.recorded t).begun))
 
 -- ---- where it wasn't
@@ -305,10 +305,10 @@ invariant_of-still-2 g c =
     let look = c.look_at.ensures in
     let did = add-done look.given was.kept.slots here.placed here.unlost here.free (slot-there given a.backup c.args.slot a.members here.placed addable)
     (λ role may. slot-free given a.backup c.args.slot a.members here.placed addable (inr (role, may))) look.counts c.spare_for-sb.ensures.made e.own e.moved e.failed e.lost e.grows e.others e.clean e.rise e.counts in
-    let since = since-added did c.shape_in-disks.result.disks c.vacant_roles-before.result c.newly_vacant-roles.result c.without-spares.result (ap (λ (s : Shape). s.disks) c.shape_in-disks.ensures ∙ sym (count-still a.members.newest here.still))
-    c.vacant_roles-before.ensures c.newly_vacant-roles.ensures
+    let since = since-added did c.shape_in-disks.result.disks c.unassigned_roles-before.result c.newly_unassigned-roles.result c.without-spares.result (ap (λ (s : Shape). s.disks) c.shape_in-disks.ensures ∙ sym (count-still a.members.newest here.still))
+    c.unassigned_roles-before.ensures c.newly_unassigned-roles.ensures
     (others-lost c.args.slot c.add_member-lost.result c.with.result c.without-spares.result c.with.ensures c.without-spares.ensures (omega (arith, c.without-spares.type_inv))) in
-    let roles = c.newly_vacant-roles.result in
+    let roles = c.newly_unassigned-roles.result in
     let spares = c.without-spares.result in
     let end = c.ops-end-2.result in
     let m = c.add_member-lost.new.members in
@@ -327,13 +327,13 @@ invariant_of-still-2 g c =
     rw (c.bear-2.ensures) (ready (entries_of c.args.who end (losses_of roles spares ++ Added c.args.slot ∷ [])) was (rows-moved given (with_spare c.args.slot sb a.members) m did.moved) kept
     (added-plain was c.args.who end (begins-going a.epoch.entries.items c.args.who number) c.requires.caller c.ops-end-2.ensures.count look.tape did since (e.spare (sym c.contains.ensures ∙ c.if-contains.false)))
     did.counts (behind-keeps c.args.who end roles spares (Added c.args.slot ∷ []) (alone-keeps c.args.who end (Added c.args.slot) (λ n. refl) (λ limit. refl)))
-    given_is (scope-same given a.backup given_is c.enter_behind-2.ensures.uuid c.enter_behind-2.ensures.given) c.enter_behind-2.ensures.first c.make_room.ensures.items c.enter_behind-2.ensures.items
-    (omega (arith, c.enter_behind-2.ensures.room, c.in-Ok.ensures.ok)))
+    given_is (scope-same given a.backup given_is c.append_after_losses-2.ensures.uuid c.append_after_losses-2.ensures.given) c.append_after_losses-2.ensures.first c.make_room.ensures.items c.append_after_losses-2.ensures.items
+    (omega (arith, c.append_after_losses-2.ensures.room, c.in-Ok.ensures.ok)))
 
 pub returns-clause-answered : goal.returns-clause-answered
 returns-clause-answered g c =
-    added_reply (list_length c.args.still.now.parts.members.newest) c.args.who c.args.still.now.parts.entries c.enter_behind-2.new.epoch.entries.items c.ops-end-2.result c.args.slot c.newly_vacant-roles.result c.without-spares.result
-    (c.enter_behind-2.ensures.items ∙ ap (λ (l : List Entry). l ++ entries_of c.args.who c.ops-end-2.result (losses_of c.newly_vacant-roles.result c.without-spares.result ++ Added c.args.slot ∷ [])) (c.make_room.ensures.items ∙ ap (λ p. p.parts.entries) c.still.view_is))
+    added_reply (list_length c.args.still.now.parts.members.newest) c.args.who c.args.still.now.parts.entries c.append_after_losses-2.new.epoch.entries.items c.ops-end-2.result c.args.slot c.newly_unassigned-roles.result c.without-spares.result
+    (c.append_after_losses-2.ensures.items ∙ ap (λ (l : List Entry). l ++ entries_of c.args.who c.ops-end-2.result (losses_of c.newly_unassigned-roles.result c.without-spares.result ++ Added c.args.slot ∷ [])) (c.make_room.ensures.items ∙ ap (λ p. p.parts.entries) c.still.view_is))
     c.requires.next
 
 pub returns-clause-stored : goal.returns-clause-stored
@@ -368,21 +368,21 @@ returns-clause-stepped g c =
     let look = c.look_at.ensures in
     let did = add-done look.given was.kept.slots here.placed here.unlost here.free (slot-there given a.backup c.args.slot a.members here.placed addable)
     (λ role may. slot-free given a.backup c.args.slot a.members here.placed addable (inr (role, may))) look.counts c.spare_for-sb.ensures.made e.own e.moved e.failed e.lost e.grows e.others e.clean e.rise e.counts in
-    let since = since-added did c.shape_in-disks.result.disks c.vacant_roles-before.result c.newly_vacant-roles.result c.without-spares.result (ap (λ (s : Shape). s.disks) c.shape_in-disks.ensures ∙ sym (count-still a.members.newest here.still))
-    c.vacant_roles-before.ensures c.newly_vacant-roles.ensures
+    let since = since-added did c.shape_in-disks.result.disks c.unassigned_roles-before.result c.newly_unassigned-roles.result c.without-spares.result (ap (λ (s : Shape). s.disks) c.shape_in-disks.ensures ∙ sym (count-still a.members.newest here.still))
+    c.unassigned_roles-before.ensures c.newly_unassigned-roles.ensures
     (others-lost c.args.slot c.add_member-lost.result c.with.result c.without-spares.result c.with.ensures c.without-spares.ensures (omega (arith, c.without-spares.type_inv))) in
-    let roles = c.newly_vacant-roles.result in
+    let roles = c.newly_unassigned-roles.result in
     let spares = c.without-spares.result in
     let end = c.ops-end-2.result in
     let m = c.add_member-lost.new.members in
     let looked = look.tape in
     rw (← c.still.view_is) (stepped (grows-then (record { more = λ t. ((looked t).0, (looked t).2) }) e.grows) (shapes-moved did.moved)
-    (ended-behind (g.B.Bank.tape c.add_member-lost.new.bank) c.enter_behind-2.new.epoch.first c.make_room.new.self.items c.args.who end (losses_of roles spares) (Added c.args.slot) c.enter_behind-2.ensures.items c.ops-end-2.ensures.count)
+    (ended-behind (g.B.Bank.tape c.add_member-lost.new.bank) c.append_after_losses-2.new.epoch.first c.make_room.new.self.items c.args.who end (losses_of roles spares) (Added c.args.slot) c.append_after_losses-2.ensures.items c.ops-end-2.ensures.count)
     did.failed.roles
-    (losses-behind a.members m (g.B.Bank.faults_of a.bank) (g.B.Bank.faults_of c.add_member-lost.new.bank) a.epoch.entries.items c.make_room.new.self.items c.enter_behind-2.new.epoch.entries.items c.args.who end roles spares
-    (Added c.args.slot) since tt c.make_room.ensures.items c.enter_behind-2.ensures.items)
+    (losses-behind a.members m (g.B.Bank.faults_of a.bank) (g.B.Bank.faults_of c.add_member-lost.new.bank) a.epoch.entries.items c.make_room.new.self.items c.append_after_losses-2.new.epoch.entries.items c.args.who end roles spares
+    (Added c.args.slot) since tt c.make_room.ensures.items c.append_after_losses-2.ensures.items)
     did.counts
-    (record { uuid = c.enter_behind-2.ensures.uuid; given = c.enter_behind-2.ensures.given; first = c.enter_behind-2.ensures.first; backup = refl; ahead = refl; limit = refl })
+    (record { uuid = c.append_after_losses-2.ensures.uuid; given = c.append_after_losses-2.ensures.given; first = c.append_after_losses-2.ensures.first; backup = refl; ahead = refl; limit = refl })
     (λ t. (was.kept.recorded t).begun))
 
 -- ---- what is handed down, and what is left of it
@@ -422,11 +422,11 @@ pub check_number-requires : goal.check_number-requires
 check_number-requires g c =
     c.requires.next ∙ ap (λ p. next_number c.args.who.caller p.parts.entries) (sym c.still.view_is) ∙ ap (λ (l : List Entry). next_number c.args.who.caller l) (sym c.make_room.ensures.items)
 
-pub enter-requires-clause-room : goal.enter-requires-clause-room
-enter-requires-clause-room g c = room-1 c.make_room.new.self.room c.in-Ok.ensures.ok
+pub append_entry-requires-clause-room : goal.append_entry-requires-clause-room
+append_entry-requires-clause-room g c = room-1 c.make_room.new.self.room c.in-Ok.ensures.ok
 
-pub enter-requires-clause-number : goal.enter-requires-clause-number
-enter-requires-clause-number g c = c.check_number.ensures
+pub append_entry-requires-clause-number : goal.append_entry-requires-clause-number
+append_entry-requires-clause-number g c = c.check_number.ensures
 
 pub returns-in_default-clause-spares : goal.returns-in_default-clause-spares
 returns-in_default-clause-spares g c =
@@ -454,11 +454,11 @@ returns-in_default-clause-given g c = c.look_at.ensures.given ∙ ap (λ p. g.B.
 pub shape_in-disks-requires : goal.shape_in-disks-requires
 shape_in-disks-requires g c = valid (g.B.Bank.given c.still.inside.bank) c.still.inside.members c.still.invariant.kept.members_are.placed
 
-pub vacant_roles-before-requires-clause-known : goal.vacant_roles-before-requires-clause-known
-vacant_roles-before-requires-clause-known g c = shape-known (g.B.Bank.given c.still.inside.bank) c.still.inside.members c.still.invariant.kept.members_are.placed c.shape_in-disks.result c.shape_in-disks.ensures
+pub unassigned_roles-before-requires-clause-known : goal.unassigned_roles-before-requires-clause-known
+unassigned_roles-before-requires-clause-known g c = shape-known (g.B.Bank.given c.still.inside.bank) c.still.inside.members c.still.invariant.kept.members_are.placed c.shape_in-disks.result c.shape_in-disks.ensures
 
-pub vacant_roles-before-requires-clause-few : goal.vacant_roles-before-requires-clause-few
-vacant_roles-before-requires-clause-few g c = shape-few (g.B.Bank.given c.still.inside.bank) c.still.inside.members c.still.invariant.kept.members_are.placed c.shape_in-disks.result c.shape_in-disks.ensures
+pub unassigned_roles-before-requires-clause-few : goal.unassigned_roles-before-requires-clause-few
+unassigned_roles-before-requires-clause-few g c = shape-few (g.B.Bank.given c.still.inside.bank) c.still.inside.members c.still.invariant.kept.members_are.placed c.shape_in-disks.result c.shape_in-disks.ensures
 
 pub add_member-lost-requires-clause-slots : goal.add_member-lost-requires-clause-slots
 add_member-lost-requires-clause-slots g c = subst (λ (b : Given). b.slots ≤ 32) (sym c.look_at.ensures.given) c.still.invariant.kept.slots
@@ -472,19 +472,19 @@ add_member-lost-requires-clause-unlost g c = c.still.invariant.kept.members_are.
 pub add_member-lost-requires-clause-made : goal.add_member-lost-requires-clause-made
 add_member-lost-requires-clause-made g c = c.spare_for-sb.ensures.made
 
-pub newly_vacant-roles-requires-clause-known : goal.newly_vacant-roles-requires-clause-known
-newly_vacant-roles-requires-clause-known g c =
+pub newly_unassigned-roles-requires-clause-known : goal.newly_unassigned-roles-requires-clause-known
+newly_unassigned-roles-requires-clause-known g c =
     let moved = c.add_member-lost.ensures.moved in
     shape-known (g.B.Bank.given c.look_at.new.bank) c.add_member-lost.new.members moved.placed c.shape_in-disks.result (c.shape_in-disks.ensures ∙ sym moved.shape)
 
-pub newly_vacant-roles-requires-clause-few : goal.newly_vacant-roles-requires-clause-few
-newly_vacant-roles-requires-clause-few g c = shape-few (g.B.Bank.given c.still.inside.bank) c.still.inside.members c.still.invariant.kept.members_are.placed c.shape_in-disks.result c.shape_in-disks.ensures
+pub newly_unassigned-roles-requires-clause-few : goal.newly_unassigned-roles-requires-clause-few
+newly_unassigned-roles-requires-clause-few g c = shape-few (g.B.Bank.given c.still.inside.bank) c.still.inside.members c.still.invariant.kept.members_are.placed c.shape_in-disks.result c.shape_in-disks.ensures
 
-pub enter_behind-requires-clause-room : goal.enter_behind-requires-clause-room
-enter_behind-requires-clause-room g c = room-49 c.make_room.new.self.room c.in-Ok.ensures.ok
+pub append_after_losses-requires-clause-room : goal.append_after_losses-requires-clause-room
+append_after_losses-requires-clause-room g c = room-49 c.make_room.new.self.room c.in-Ok.ensures.ok
 
-pub enter_behind-requires-clause-number : goal.enter_behind-requires-clause-number
-enter_behind-requires-clause-number g c = c.check_number.ensures
+pub append_after_losses-requires-clause-number : goal.append_after_losses-requires-clause-number
+append_after_losses-requires-clause-number g c = c.check_number.ensures
 
 pub returns-then-contains-clause-clean : goal.returns-then-contains-clause-clean
 returns-then-contains-clause-clean g c = c.add_member-lost.ensures.clean ∙ ap (λ p. is_clean p.parts.members.newest) c.still.view_is
@@ -492,11 +492,11 @@ returns-then-contains-clause-clean g c = c.add_member-lost.ensures.clean ∙ ap 
 pub returns-then-contains-clause-given : goal.returns-then-contains-clause-given
 returns-then-contains-clause-given g c = c.add_member-lost.ensures.given ∙ c.look_at.ensures.given ∙ ap (λ p. g.B.Bank.given p.parts.bank) c.still.view_is
 
-pub enter_behind-requires-2-clause-room : goal.enter_behind-requires-2-clause-room
-enter_behind-requires-2-clause-room g c = room-49 c.make_room.new.self.room c.in-Ok.ensures.ok
+pub append_after_losses-requires-2-clause-room : goal.append_after_losses-requires-2-clause-room
+append_after_losses-requires-2-clause-room g c = room-49 c.make_room.new.self.room c.in-Ok.ensures.ok
 
-pub enter_behind-requires-2-clause-number : goal.enter_behind-requires-2-clause-number
-enter_behind-requires-2-clause-number g c = c.check_number.ensures
+pub append_after_losses-requires-2-clause-number : goal.append_after_losses-requires-2-clause-number
+append_after_losses-requires-2-clause-number g c = c.check_number.ensures
 
 pub returns-clause-caused : goal.returns-clause-caused
 returns-clause-caused g c = (c.requires.addable, c.add_member-lost.ensures.spare (sym c.contains.ensures ∙ c.if-contains.false))

@@ -16,7 +16,7 @@ use Rattle.array_fixed.specs.history_World.{opening_list}
 use Rattle.array_fixed.specs.history_Flat.{next_number, now}
 use Rattle.array_fixed.specs.history_Plain.{entries_of}
 use Rattle.array_fixed.proofs.crash_views_Stands.{list-still}
-use Rattle.array_fixed.specs.array_members_Lacking.{IsUnread, mended_rows, HaveRolesFailed}
+use Rattle.array_fixed.specs.array_members_Lacking.{IsUnread, synced_rows, HaveRolesFailed}
 use Rattle.array_fixed.specs.array_members_Placed.{places_of, AreWhole}
 use Rattle.array_fixed.specs.array_members_Rows.{row_sector}
 use Rattle.array_fixed.specs.array_members_Whole.{list_size}
@@ -78,14 +78,14 @@ invariant_of-still-in-Some g c =
     let refusal = c.in-Some.refusal in
     ready (entries_of c.args.who c.ops-end.result (Refused refusal ∷ [])) was (rows-same a.members.newest)
     (refused-alone c.args.who c.ops-end.result was.kept number c.requires.caller c.ops-end.ensures.count refusal
-    (refused-first was.kept was.limited (c.args.at + count) (IsUnread (shape_of a.members.newest) (mended_rows a.work.resync a.members) c.args.at count) refusal
+    (refused-first was.kept was.limited (c.args.at + count) (IsUnread (shape_of a.members.newest) (synced_rows a.work.resync a.members) c.args.at count) refusal
     (λ within. unread-still given a.members was.kept.members_are a.work.resync c.args.at count refusal within) c.in-Some.ensures.why))
     (first-plain was c.args.who c.ops-end.result (begins-going a.epoch.entries.items c.args.who number) c.requires.caller c.ops-end.ensures.count (grows-none (λ t. refl)) (c.args.at + count)
-    (IsUnread (shape_of a.members.newest) (mended_rows a.work.resync a.members) c.args.at count) refusal
+    (IsUnread (shape_of a.members.newest) (synced_rows a.work.resync a.members) c.args.at count) refusal
     (λ within. unread-plain given a.members was.kept.members_are a.work.resync (visible_size a.members a.limit) c.args.at count refusal within) c.in-Some.ensures.why)
     (λ slot. omega arith) (alone-keeps c.args.who c.ops-end.result (Refused refusal) (λ n. refl) (λ limit. refl))
-    refl (scope-same given a.backup refl c.enter.ensures.uuid c.enter.ensures.given) c.enter.ensures.first c.make_room.ensures.items c.enter.ensures.items
-    (omega (arith, c.enter.ensures.room, c.in-Ok-make_room.ensures.ok))
+    refl (scope-same given a.backup refl c.append_entry.ensures.uuid c.append_entry.ensures.given) c.append_entry.ensures.first c.make_room.ensures.items c.append_entry.ensures.items
+    (omega (arith, c.append_entry.ensures.room, c.in-Ok-make_room.ensures.ok))
 
 pub returns-in-Some-clause-answered : goal.returns-in-Some-clause-answered
 returns-in-Some-clause-answered g c =
@@ -94,9 +94,9 @@ returns-in-Some-clause-answered g c =
     let number : c.args.who.number ≡ next_number c.args.who.caller a.epoch.entries.items = c.requires.next ∙ ap (λ p. next_number c.args.who.caller p.parts.entries) (sym c.still.view_is) in
     let count = length c.args.into.now / 512 in
     rw (← c.still.view_is) (refused_reply (list_length a.members.newest) a.limit a.epoch.entries.items was.sized was.limited (AsksRead c.args.at count) c.args.who (c.args.at + count)
-    (IsUnread (shape_of a.members.newest) (mended_rows a.work.resync a.members) c.args.at count) c.enter.new.epoch.entries.items c.ops-end.result a.members c.in-Some.refusal (read_kind c.args.at count)
-    (unread-of (shape_of a.members.newest) (mended_rows a.work.resync a.members) c.args.at count a.members c.in-Some.refusal) c.in-Some.ensures.why
-    (c.enter.ensures.items ∙ ap (λ (l : List Entry). l ++ entries_of c.args.who c.ops-end.result (Refused c.in-Some.refusal ∷ [])) c.make_room.ensures.items) number)
+    (IsUnread (shape_of a.members.newest) (synced_rows a.work.resync a.members) c.args.at count) c.append_entry.new.epoch.entries.items c.ops-end.result a.members c.in-Some.refusal (read_kind c.args.at count)
+    (unread-of (shape_of a.members.newest) (synced_rows a.work.resync a.members) c.args.at count a.members c.in-Some.refusal) c.in-Some.ensures.why
+    (c.append_entry.ensures.items ∙ ap (λ (l : List Entry). l ++ entries_of c.args.who c.ops-end.result (Refused c.in-Some.refusal ∷ [])) c.make_room.ensures.items) number)
 
 pub returns-in-Some-clause-called : goal.returns-in-Some-clause-called
 returns-in-Some-clause-called g c =
@@ -107,10 +107,10 @@ returns-in-Some-clause-called g c =
     let end = c.ops-end.result in
     let refusal = c.in-Some.refusal in
     rw (← c.still.view_is) (called (grows-none (λ t. refl)) (moved-same given given a.members a.members refl refl was.kept.members_are.placed was.kept.members_are.unlost)
-    (ended-behind (g.B.Bank.tape a.bank) c.enter.new.epoch.first c.make_room.new.self.items c.args.who end [] (Refused refusal) c.enter.ensures.items c.ops-end.ensures.count)
-    (alone-lossless a.members faults faults a.epoch.entries.items c.make_room.new.self.items c.enter.new.epoch.entries.items c.args.who end (Refused refusal) tt c.make_room.ensures.items c.enter.ensures.items)
+    (ended-behind (g.B.Bank.tape a.bank) c.append_entry.new.epoch.first c.make_room.new.self.items c.args.who end [] (Refused refusal) c.append_entry.ensures.items c.ops-end.ensures.count)
+    (alone-lossless a.members faults faults a.epoch.entries.items c.make_room.new.self.items c.append_entry.new.epoch.entries.items c.args.who end (Refused refusal) tt c.make_room.ensures.items c.append_entry.ensures.items)
     (λ slot. omega arith)
-    (record { uuid = c.enter.ensures.uuid; given = c.enter.ensures.given; first = c.enter.ensures.first; backup = refl; work = refl; ahead = refl; limit = refl })
+    (record { uuid = c.append_entry.ensures.uuid; given = c.append_entry.ensures.given; first = c.append_entry.ensures.first; backup = refl; work = refl; ahead = refl; limit = refl })
     (λ t. (was.kept.recorded t).begun))
 
 pub returns-in-Some-clause-caused : goal.returns-in-Some-clause-caused
@@ -121,15 +121,15 @@ returns-in-Some-clause-first g c = rw (← c.still.view_is) (sym c.in-Some.ensur
 
 -- ---- the shape has at most so many roles
 
-pub vacant_roles-before-requires-clause-few : goal.vacant_roles-before-requires-clause-few
-vacant_roles-before-requires-clause-few g c =
+pub unassigned_roles-before-requires-clause-few : goal.unassigned_roles-before-requires-clause-few
+unassigned_roles-before-requires-clause-few g c =
     let a = c.still.inside in
     let most = (limited (shape_of a.members.newest) (valid (g.B.Bank.given a.bank) a.members c.still.invariant.kept.members_are.placed)).most in
     let disks = ap (λ (s : Shape). s.disks) c.shape_in-shape.ensures in
     omega (arith, most, disks)
 
-pub newly_vacant-roles-requires-clause-few : goal.newly_vacant-roles-requires-clause-few
-newly_vacant-roles-requires-clause-few g c =
+pub newly_unassigned-roles-requires-clause-few : goal.newly_unassigned-roles-requires-clause-few
+newly_unassigned-roles-requires-clause-few g c =
     let a = c.still.inside in
     let most = (limited (shape_of a.members.newest) (valid (g.B.Bank.given a.bank) a.members c.still.invariant.kept.members_are.placed)).most in
     let disks = ap (λ (s : Shape). s.disks) c.shape_in-shape.ensures in
@@ -137,11 +137,11 @@ newly_vacant-roles-requires-clause-few g c =
 
 -- ---- it is read by the one shape
 
-pub fetch-fetched-requires-clause-shape : goal.fetch-fetched-requires-clause-shape
-fetch-fetched-requires-clause-shape g c = inl c.shape_in-shape.ensures
+pub read_listed-fetched-requires-clause-shape : goal.read_listed-fetched-requires-clause-shape
+read_listed-fetched-requires-clause-shape g c = inl c.shape_in-shape.ensures
 
-pub fetch-fetched-requires-clause-within : goal.fetch-fetched-requires-clause-within
-fetch-fetched-requires-clause-within g c =
+pub read_listed-fetched-requires-clause-within : goal.read_listed-fetched-requires-clause-within
+read_listed-fetched-requires-clause-within g c =
     let m = c.still.inside.members in
     let same = asked-is c.in-Ok.bytes.items c.as_mut_slice.result.now c.args.into.now c.in-Ok.ensures.len c.as_mut_slice.ensures.value in
     let below : c.args.at + length c.args.into.now / 512 ≤ data_disks (shape_of m.newest) * m.newest.size =
@@ -150,13 +150,13 @@ fetch-fetched-requires-clause-within g c =
     subst (λ (s : Shape). c.args.at + length c.as_mut_slice.result.now / 512 ≤ data_disks s * m.newest.size) (sym c.shape_in-shape.ensures)
     (subst (λ (n : ℕ). c.args.at + n ≤ data_disks (shape_of m.newest) * m.newest.size) (sym same) below)
 
-pub fetch-fetched-requires-clause-stripes : goal.fetch-fetched-requires-clause-stripes
-fetch-fetched-requires-clause-stripes g c =
-    subst (λ (s : Shape). IsTrue (is_multiple c.mended_rows-mended.result s.chunk)) (sym c.shape_in-shape.ensures) c.mended_rows-mended.ensures.stripes
+pub read_listed-fetched-requires-clause-stripes : goal.read_listed-fetched-requires-clause-stripes
+read_listed-fetched-requires-clause-stripes g c =
+    subst (λ (s : Shape). IsTrue (is_multiple c.synced_rows-mended.result s.chunk)) (sym c.shape_in-shape.ensures) c.synced_rows-mended.ensures.stripes
 
 -- the list is short
-pub fetch-fetched-requires-clause-short : goal.fetch-fetched-requires-clause-short
-fetch-fetched-requires-clause-short g c =
+pub read_listed-fetched-requires-clause-short : goal.read_listed-fetched-requires-clause-short
+read_listed-fetched-requires-clause-short g c =
     let m = c.still.inside.members in
     let few = list-few (g.B.Bank.given c.still.inside.bank) m c.still.invariant.kept.members_are.placed in
     let same = asked-is c.in-Ok.bytes.items c.as_mut_slice.result.now c.args.into.now c.in-Ok.ensures.len c.as_mut_slice.ensures.value in
@@ -181,7 +181,7 @@ invariant_of-still-in-Some-refusal g c =
     let tape' = g.B.Bank.tape c.fetch-fetched.new.bank in
     let before = g.B.Bank.faults_of a.bank in
     let after = g.B.Bank.faults_of c.fetch-fetched.new.bank in
-    let roles = c.newly_vacant-roles.result in
+    let roles = c.newly_unassigned-roles.result in
     let spares = c.fetch-fetched.result.spares in
     let refusal = c.in-Some-refusal.refusal in
     let end = c.ops-end-2.result in
@@ -189,16 +189,16 @@ invariant_of-still-in-Some-refusal g c =
     let asked = length c.as_mut_slice.result.now / 512 in
     let same = asked-is c.in-Ok.bytes.items c.as_mut_slice.result.now c.args.into.now c.in-Ok.ensures.len c.as_mut_slice.ensures.value in
     let does = without-still a.members here.still (shape-without (shape_of a.members.newest) a.members (λ refusal many. c.in_default.ensures.why.1 refusal (inl many))) in
-    let since = lost-since given a.members m c.shape_in-shape.result.disks c.vacant_roles-before.result roles spares before after here.placed did.moved did.failed
-    (ap (λ (s : Shape). s.disks) c.shape_in-shape.ensures ∙ sym (count-still a.members.newest here.still)) c.vacant_roles-before.ensures c.newly_vacant-roles.ensures in
+    let since = lost-since given a.members m c.shape_in-shape.result.disks c.unassigned_roles-before.result roles spares before after here.placed did.moved did.failed
+    (ap (λ (s : Shape). s.disks) c.shape_in-shape.ensures ∙ sym (count-still a.members.newest here.still)) c.unassigned_roles-before.ensures c.newly_unassigned-roles.ensures in
     let named : IsNamedStill g.B.Bank.tells given tape tape' a.members m roles spares before after =
     record { moved = did.moved; since = since; grows = did.grows; clean = did.clean; rise = risen-told did.rise; others = did.others; safe = did.safe } in
-    let why = some-of (IsUnread c.shape_in-shape.result c.mended_rows-mended.result c.args.at asked m) c.fetch-fetched.result.refusal refusal c.in-Some-refusal.is did.refused in
+    let why = some-of (IsUnread c.shape_in-shape.result c.synced_rows-mended.result c.args.at asked m) c.fetch-fetched.result.refusal refusal c.in-Some-refusal.is did.refused in
     let inside : c.args.at + count ≤ list_length m.newest = (let long = (rows-moved given a.members m did.moved).long in let below = c.in_default.ensures.why.0 in let most = visible-within (list_length a.members.newest) a.limit in omega (arith, long, below, most)) in
-    let unread : IsUnread (shape_of m.newest) (mended_rows a.work.resync m) c.args.at count m refusal =
-    subst (λ (s : Shape). IsUnread s (mended_rows a.work.resync m) c.args.at count m refusal) (c.shape_in-shape.ensures ∙ sym did.moved.shape)
-    (subst (λ (n : ℕ). IsUnread c.shape_in-shape.result n c.args.at count m refusal) (c.mended_rows-mended.ensures.rows ∙ sym (mended-moved did.moved a.work.resync))
-    (subst (λ (n : ℕ). IsUnread c.shape_in-shape.result c.mended_rows-mended.result c.args.at n m refusal) same why)) in
+    let unread : IsUnread (shape_of m.newest) (synced_rows a.work.resync m) c.args.at count m refusal =
+    subst (λ (s : Shape). IsUnread s (synced_rows a.work.resync m) c.args.at count m refusal) (c.shape_in-shape.ensures ∙ sym did.moved.shape)
+    (subst (λ (n : ℕ). IsUnread c.shape_in-shape.result n c.args.at count m refusal) (c.synced_rows-mended.ensures.rows ∙ sym (mended-moved did.moved a.work.resync))
+    (subst (λ (n : ℕ). IsUnread c.shape_in-shape.result c.synced_rows-mended.result c.args.at n m refusal) same why)) in
     with-buffers was.rows_fit (let len = (with_items a.buffer c.fetch-fetched.new.scratch).ok.0 in let ok = a.buffer.ok.0 in let fits = was.buffer_fits in omega (arith, len, ok, fits))
     (ready (entries_of c.args.who end (losses_of roles spares ++ Refused refusal ∷ [])) was (rows-moved given a.members m did.moved)
     (refused-stands g.B.Bank.tells given tape tape' scope a.epoch.first a.epoch.entries.items a.members m a.work (still_left a.work a.members a.ahead) (still_left a.work m a.ahead) c.args.who end roles spares before after refusal
@@ -208,8 +208,8 @@ invariant_of-still-in-Some-refusal g c =
     (plain-refused was c.args.who end (begins-going a.epoch.entries.items c.args.who number) c.requires.caller c.ops-end-2.ensures.count did.grows did.moved since refusal
     (unread-plain given m (rest-moved given a.members m did.moved here) a.work.resync (visible_size a.members a.limit) c.args.at count refusal inside unread))
     did.counts (behind-keeps c.args.who end roles spares (Refused refusal ∷ []) (alone-keeps c.args.who end (Refused refusal) (λ n. refl) (λ limit. refl)))
-    did.given (scope-same given a.backup did.given c.enter_behind.ensures.uuid c.enter_behind.ensures.given) c.enter_behind.ensures.first c.make_room.ensures.items c.enter_behind.ensures.items
-    (omega (arith, c.enter_behind.ensures.room, c.in-Ok-make_room.ensures.ok)))
+    did.given (scope-same given a.backup did.given c.append_after_losses.ensures.uuid c.append_after_losses.ensures.given) c.append_after_losses.ensures.first c.make_room.ensures.items c.append_after_losses.ensures.items
+    (omega (arith, c.append_after_losses.ensures.room, c.in-Ok-make_room.ensures.ok)))
 
 pub returns-in-Some-refusal-clause-answered : goal.returns-in-Some-refusal-clause-answered
 returns-in-Some-refusal-clause-answered g c =
@@ -217,16 +217,16 @@ returns-in-Some-refusal-clause-answered g c =
     let a = c.still.inside in
     let number : c.args.who.number ≡ next_number c.args.who.caller a.epoch.entries.items = c.requires.next ∙ ap (λ p. next_number c.args.who.caller p.parts.entries) (sym c.still.view_is) in
     let m = c.fetch-fetched.new.members in
-    let roles = c.newly_vacant-roles.result in
+    let roles = c.newly_unassigned-roles.result in
     let spares = c.fetch-fetched.result.spares in
     let refusal = c.in-Some-refusal.refusal in
     let end = c.ops-end-2.result in
     let count = length c.args.into.now / 512 in
     let asked = length c.as_mut_slice.result.now / 512 in
-    let why = some-of (IsUnread c.shape_in-shape.result c.mended_rows-mended.result c.args.at asked m) c.fetch-fetched.result.refusal refusal c.in-Some-refusal.is c.fetch-fetched.ensures.refused in
+    let why = some-of (IsUnread c.shape_in-shape.result c.synced_rows-mended.result c.args.at asked m) c.fetch-fetched.result.refusal refusal c.in-Some-refusal.is c.fetch-fetched.ensures.refused in
     rw (← c.still.view_is) (lost_reply (list_length a.members.newest) a.limit a.epoch.entries.items was.sized was.limited (AsksRead c.args.at count) c.args.who (c.args.at + count)
-    c.enter_behind.new.epoch.entries.items end roles spares refusal (read_kind c.args.at count) c.in_default.ensures.why.0 (unread-of c.shape_in-shape.result c.mended_rows-mended.result c.args.at asked m refusal why)
-    (c.enter_behind.ensures.items ∙ ap (λ (l : List Entry). l ++ entries_of c.args.who end (losses_of roles spares ++ Refused refusal ∷ [])) c.make_room.ensures.items) number)
+    c.append_after_losses.new.epoch.entries.items end roles spares refusal (read_kind c.args.at count) c.in_default.ensures.why.0 (unread-of c.shape_in-shape.result c.synced_rows-mended.result c.args.at asked m refusal why)
+    (c.append_after_losses.ensures.items ∙ ap (λ (l : List Entry). l ++ entries_of c.args.who end (losses_of roles spares ++ Refused refusal ∷ [])) c.make_room.ensures.items) number)
 
 pub returns-in-Some-refusal-clause-called : goal.returns-in-Some-refusal-clause-called
 returns-in-Some-refusal-clause-called g c =
@@ -238,17 +238,17 @@ returns-in-Some-refusal-clause-called g c =
     let m = c.fetch-fetched.new.members in
     let before = g.B.Bank.faults_of a.bank in
     let after = g.B.Bank.faults_of c.fetch-fetched.new.bank in
-    let roles = c.newly_vacant-roles.result in
+    let roles = c.newly_unassigned-roles.result in
     let spares = c.fetch-fetched.result.spares in
     let end = c.ops-end-2.result in
     let event = Refused c.in-Some-refusal.refusal in
-    let since = lost-since given a.members m c.shape_in-shape.result.disks c.vacant_roles-before.result roles spares before after here.placed did.moved did.failed
-    (ap (λ (s : Shape). s.disks) c.shape_in-shape.ensures ∙ sym (count-still a.members.newest here.still)) c.vacant_roles-before.ensures c.newly_vacant-roles.ensures in
+    let since = lost-since given a.members m c.shape_in-shape.result.disks c.unassigned_roles-before.result roles spares before after here.placed did.moved did.failed
+    (ap (λ (s : Shape). s.disks) c.shape_in-shape.ensures ∙ sym (count-still a.members.newest here.still)) c.unassigned_roles-before.ensures c.newly_unassigned-roles.ensures in
     rw (← c.still.view_is) (called did.grows did.moved
-    (ended-behind (g.B.Bank.tape c.fetch-fetched.new.bank) c.enter_behind.new.epoch.first c.make_room.new.self.items c.args.who end (losses_of roles spares) event c.enter_behind.ensures.items c.ops-end-2.ensures.count)
-    (losses-behind a.members m before after a.epoch.entries.items c.make_room.new.self.items c.enter_behind.new.epoch.entries.items c.args.who end roles spares event since tt c.make_room.ensures.items c.enter_behind.ensures.items)
+    (ended-behind (g.B.Bank.tape c.fetch-fetched.new.bank) c.append_after_losses.new.epoch.first c.make_room.new.self.items c.args.who end (losses_of roles spares) event c.append_after_losses.ensures.items c.ops-end-2.ensures.count)
+    (losses-behind a.members m before after a.epoch.entries.items c.make_room.new.self.items c.append_after_losses.new.epoch.entries.items c.args.who end roles spares event since tt c.make_room.ensures.items c.append_after_losses.ensures.items)
     did.counts
-    (record { uuid = c.enter_behind.ensures.uuid; given = c.enter_behind.ensures.given; first = c.enter_behind.ensures.first; backup = refl; work = refl; ahead = refl; limit = refl })
+    (record { uuid = c.append_after_losses.ensures.uuid; given = c.append_after_losses.ensures.given; first = c.append_after_losses.ensures.first; backup = refl; work = refl; ahead = refl; limit = refl })
     (λ t. (was.kept.recorded t).begun))
 
 pub returns-in-Some-refusal-clause-caused : goal.returns-in-Some-refusal-clause-caused
@@ -259,11 +259,11 @@ returns-in-Some-refusal-clause-caused g c =
     let count = length c.args.into.now / 512 in
     let asked = length c.as_mut_slice.result.now / 512 in
     let same : asked ≡ count = asked-is c.in-Ok.bytes.items c.as_mut_slice.result.now c.args.into.now c.in-Ok.ensures.len c.as_mut_slice.ensures.value in
-    let why = some-of (IsUnread c.shape_in-shape.result c.mended_rows-mended.result c.args.at asked m) c.fetch-fetched.result.refusal refusal c.in-Some-refusal.is c.fetch-fetched.ensures.refused in
-    rw (← c.still.view_is) (refused-for (visible_size a.members a.limit) (c.args.at + count) (IsUnread (shape_of a.members.newest) (mended_rows a.work.resync a.members) c.args.at count) a.members m refusal
-    (unread-of c.shape_in-shape.result c.mended_rows-mended.result c.args.at asked m refusal why) c.in_default.ensures.why.0
-    (subst (λ (s : Shape). IsUnread s (mended_rows a.work.resync a.members) c.args.at count m refusal) c.shape_in-shape.ensures
-    (subst (λ (n : ℕ). IsUnread c.shape_in-shape.result n c.args.at count m refusal) c.mended_rows-mended.ensures.rows (subst (λ (n : ℕ). IsUnread c.shape_in-shape.result c.mended_rows-mended.result c.args.at n m refusal) same why))))
+    let why = some-of (IsUnread c.shape_in-shape.result c.synced_rows-mended.result c.args.at asked m) c.fetch-fetched.result.refusal refusal c.in-Some-refusal.is c.fetch-fetched.ensures.refused in
+    rw (← c.still.view_is) (refused-for (visible_size a.members a.limit) (c.args.at + count) (IsUnread (shape_of a.members.newest) (synced_rows a.work.resync a.members) c.args.at count) a.members m refusal
+    (unread-of c.shape_in-shape.result c.synced_rows-mended.result c.args.at asked m refusal why) c.in_default.ensures.why.0
+    (subst (λ (s : Shape). IsUnread s (synced_rows a.work.resync a.members) c.args.at count m refusal) c.shape_in-shape.ensures
+    (subst (λ (n : ℕ). IsUnread c.shape_in-shape.result n c.args.at count m refusal) c.synced_rows-mended.ensures.rows (subst (λ (n : ℕ). IsUnread c.shape_in-shape.result c.synced_rows-mended.result c.args.at n m refusal) same why))))
 
 pub returns-in-Some-refusal-clause-first : goal.returns-in-Some-refusal-clause-first
 returns-in-Some-refusal-clause-first g c =
@@ -272,12 +272,12 @@ returns-in-Some-refusal-clause-first g c =
     let refusal = c.in-Some-refusal.refusal in
     let count = length c.args.into.now / 512 in
     let asked = length c.as_mut_slice.result.now / 512 in
-    let mended = mended_rows a.work.resync a.members in
+    let mended = synced_rows a.work.resync a.members in
     let same : asked ≡ count = asked-is c.in-Ok.bytes.items c.as_mut_slice.result.now c.args.into.now c.in-Ok.ensures.len c.as_mut_slice.ensures.value in
-    let why = some-of (λ r. read_refusal c.shape_in-shape.result c.mended_rows-mended.result c.args.at asked m ≡ Some r) c.fetch-fetched.result.refusal refusal c.in-Some-refusal.is c.fetch-fetched.ensures.first in
+    let why = some-of (λ r. read_refusal c.shape_in-shape.result c.synced_rows-mended.result c.args.at asked m ≡ Some r) c.fetch-fetched.result.refusal refusal c.in-Some-refusal.is c.fetch-fetched.ensures.first in
     rw (← c.still.view_is) (call-within (visible_size a.members a.limit) (c.args.at + count) (read_refusal (shape_of a.members.newest) mended c.args.at count m) c.in_default.ensures.why.0
     ∙ subst (λ (s : Shape). read_refusal s mended c.args.at count m ≡ Some refusal) c.shape_in-shape.ensures
-    (subst (λ (n : ℕ). read_refusal c.shape_in-shape.result n c.args.at count m ≡ Some refusal) c.mended_rows-mended.ensures.rows (subst (λ (n : ℕ). read_refusal c.shape_in-shape.result c.mended_rows-mended.result c.args.at n m ≡ Some refusal) same why)))
+    (subst (λ (n : ℕ). read_refusal c.shape_in-shape.result n c.args.at count m ≡ Some refusal) c.synced_rows-mended.ensures.rows (subst (λ (n : ℕ). read_refusal c.shape_in-shape.result c.synced_rows-mended.result c.args.at n m ≡ Some refusal) same why)))
 
 pub returns-in-Some-refusal-clause-tape : goal.returns-in-Some-refusal-clause-tape
 returns-in-Some-refusal-clause-tape g c = λ whole t. c.fetch-fetched.ensures.tape whole t ∙ ap (λ p. g.B.Bank.tape p.parts.bank) c.still.view_is
@@ -307,7 +307,7 @@ invariant_of-still-2 g c =
     let tape' = g.B.Bank.tape c.fetch-fetched.new.bank in
     let before = g.B.Bank.faults_of a.bank in
     let after = g.B.Bank.faults_of c.fetch-fetched.new.bank in
-    let roles = c.newly_vacant-roles.result in
+    let roles = c.newly_unassigned-roles.result in
     let spares = c.fetch-fetched.result.spares in
     let bytes = c.fetch-fetched.new.into in
     let end = c.ops-end-2.result in
@@ -317,11 +317,11 @@ invariant_of-still-2 g c =
     let seen_within : c.args.at + length bytes / 512 ≤ visible_size a.members a.limit = rw len c.in_default.ensures.why.0 in
     let within : c.args.at + length bytes / 512 ≤ list_length a.members.newest = le_trans seen_within (visible-within (list_length a.members.newest) a.limit) in
     let does = without-still a.members here.still (shape-without (shape_of a.members.newest) a.members (λ refusal many. c.in_default.ensures.why.1 refusal (inl many))) in
-    let since = lost-since given a.members m c.shape_in-shape.result.disks c.vacant_roles-before.result roles spares before after here.placed did.moved did.failed
-    (ap (λ (s : Shape). s.disks) c.shape_in-shape.ensures ∙ sym (count-still a.members.newest here.still)) c.vacant_roles-before.ensures c.newly_vacant-roles.ensures in
+    let since = lost-since given a.members m c.shape_in-shape.result.disks c.unassigned_roles-before.result roles spares before after here.placed did.moved did.failed
+    (ap (λ (s : Shape). s.disks) c.shape_in-shape.ensures ∙ sym (count-still a.members.newest here.still)) c.unassigned_roles-before.ensures c.newly_unassigned-roles.ensures in
     let named : IsNamedStill g.B.Bank.tells given tape tape' a.members m roles spares before after =
     record { moved = did.moved; since = since; grows = did.grows; clean = did.clean; rise = risen-told did.rise; others = did.others; safe = did.safe } in
-    let fetched = fetched-holds given tape a.members m a.work.resync c.shape_in-shape.result c.args.at (length c.as_mut_slice.result.now / 512) c.mended_rows-mended.result bytes c.shape_in-shape.ensures c.mended_rows-mended.ensures.rows same
+    let fetched = fetched-holds given tape a.members m a.work.resync c.shape_in-shape.result c.args.at (length c.as_mut_slice.result.now / 512) c.synced_rows-mended.result bytes c.shape_in-shape.ensures c.synced_rows-mended.ensures.rows same
     (did.holds c.in_default-refusal.is) in
     with-buffers was.rows_fit (let len = (with_items a.buffer c.fetch-fetched.new.scratch).ok.0 in let ok = a.buffer.ok.0 in let fits = was.buffer_fits in omega (arith, len, ok, fits))
     (ready (entries_of c.args.who end (losses_of roles spares ++ Read c.args.at (sectors_of bytes) ∷ [])) was (rows-moved given a.members m did.moved)
@@ -330,23 +330,23 @@ invariant_of-still-2 g c =
     c.args.at bytes within (λ t. let all = seen was.kept was.limited t in omega (arith, all, seen_within)) fetched)
     (plain-read was c.args.who end (begins-going a.epoch.entries.items c.args.who number) c.requires.caller c.ops-end-2.ensures.count did.grows did.moved since c.args.at bytes does seen_within fetched)
     did.counts (behind-keeps c.args.who end roles spares (Read c.args.at (sectors_of bytes) ∷ []) (alone-keeps c.args.who end (Read c.args.at (sectors_of bytes)) (λ n. refl) (λ limit. refl)))
-    did.given (scope-same given a.backup did.given c.enter_behind-2.ensures.uuid c.enter_behind-2.ensures.given) c.enter_behind-2.ensures.first c.make_room.ensures.items
-    (c.enter_behind-2.ensures.items ∙ ap (λ (b : List Sector). c.make_room.new.self.items ++ entries_of c.args.who end (losses_of roles spares ++ Read c.args.at b ∷ [])) (c.from_bytes-body.ensures ∙ ap sectors_of whole))
-    (omega (arith, c.enter_behind-2.ensures.room, c.in-Ok-make_room.ensures.ok)))
+    did.given (scope-same given a.backup did.given c.append_after_losses-2.ensures.uuid c.append_after_losses-2.ensures.given) c.append_after_losses-2.ensures.first c.make_room.ensures.items
+    (c.append_after_losses-2.ensures.items ∙ ap (λ (b : List Sector). c.make_room.new.self.items ++ entries_of c.args.who end (losses_of roles spares ++ Read c.args.at b ∷ [])) (c.from_bytes-body.ensures ∙ ap sectors_of whole))
+    (omega (arith, c.append_after_losses-2.ensures.room, c.in-Ok-make_room.ensures.ok)))
 
 pub returns-clause-answered : goal.returns-clause-answered
 returns-clause-answered g c =
     let a = c.still.inside in
     let number : c.args.who.number ≡ next_number c.args.who.caller a.epoch.entries.items = c.requires.next ∙ ap (λ p. next_number c.args.who.caller p.parts.entries) (sym c.still.view_is) in
-    let roles = c.newly_vacant-roles.result in
+    let roles = c.newly_unassigned-roles.result in
     let spares = c.fetch-fetched.result.spares in
     let end = c.ops-end-2.result in
     let into = c.copy_from_slice.new.self in
     let copied = c.copy_from_slice.ensures.after ∙ c.as_slice.ensures.value in
     let count : length (sectors_of into) ≡ length c.args.into.now / 512 = length-sectors_of into ∙ ap (λ (n : ℕ). n / 512) c.copy_from_slice.auto.self in
-    rw (← c.still.view_is) (replied (list_length a.members.newest) (AsksRead c.args.at (length c.args.into.now / 512)) c.args.who a.epoch.entries.items c.enter_behind-2.new.epoch.entries.items
+    rw (← c.still.view_is) (replied (list_length a.members.newest) (AsksRead c.args.at (length c.args.into.now / 512)) c.args.who a.epoch.entries.items c.append_after_losses-2.new.epoch.entries.items
     end (losses_of roles spares) (Read c.args.at (sectors_of into))
-    (c.enter_behind-2.ensures.items ∙ ap (λ (l : List Entry). l ++ entries_of c.args.who end (losses_of roles spares ++ Read c.args.at c.from_bytes-body.result ∷ [])) c.make_room.ensures.items
+    (c.append_after_losses-2.ensures.items ∙ ap (λ (l : List Entry). l ++ entries_of c.args.who end (losses_of roles spares ++ Read c.args.at c.from_bytes-body.result ∷ [])) c.make_room.ensures.items
     ∙ ap (λ (b : List Sector). a.epoch.entries.items ++ entries_of c.args.who end (losses_of roles spares ++ Read c.args.at b ∷ [])) (c.from_bytes-body.ensures ∙ ap (λ (l : List ℕ). sectors_of l) (sym copied)))
     number (λ call. (refl, count)) (inside-losses c.args.who end (losses_of roles spares) (losses-are roles spares)) (torn-losses (AsksRead c.args.at (length c.args.into.now / 512)) c.args.who end (losses_of roles spares) (losses-are roles spares)))
 
@@ -361,24 +361,24 @@ returns-clause-holds g c = λ t fills i lt.
     let m = c.fetch-fetched.new.members in
     let before = g.B.Bank.faults_of a.bank in
     let after = g.B.Bank.faults_of c.fetch-fetched.new.bank in
-    let roles = c.newly_vacant-roles.result in
+    let roles = c.newly_unassigned-roles.result in
     let spares = c.fetch-fetched.result.spares in
     let bytes = c.fetch-fetched.new.into in
     let whole = written-whole c.in-Ok.bytes.len c.in-Ok.bytes.items bytes (c.fetch-fetched.auto.into ∙ ap (λ (l : List ℕ). length l) c.as_mut_slice.ensures.value) c.in-Ok.bytes.ok.0 in
     let copied : c.copy_from_slice.new.self ≡ bytes = c.copy_from_slice.ensures.after ∙ c.as_slice.ensures.value ∙ whole in
     let same : length bytes / 512 ≡ length c.as_mut_slice.result.now / 512 = ap (λ (n : ℕ). n / 512) c.fetch-fetched.auto.into in
     let does = without-still a.members here.still (shape-without (shape_of a.members.newest) a.members (λ refusal many. c.in_default.ensures.why.1 refusal (inl many))) in
-    let since = lost-since given a.members m c.shape_in-shape.result.disks c.vacant_roles-before.result roles spares before after here.placed did.moved did.failed
-    (ap (λ (s : Shape). s.disks) c.shape_in-shape.ensures ∙ sym (count-still a.members.newest here.still)) c.vacant_roles-before.ensures c.newly_vacant-roles.ensures in
+    let since = lost-since given a.members m c.shape_in-shape.result.disks c.unassigned_roles-before.result roles spares before after here.placed did.moved did.failed
+    (ap (λ (s : Shape). s.disks) c.shape_in-shape.ensures ∙ sym (count-still a.members.newest here.still)) c.unassigned_roles-before.ensures c.newly_unassigned-roles.ensures in
     let event = Read c.args.at c.from_bytes-body.result in
     let added = entries_of c.args.who c.ops-end-2.result (losses_of roles spares ++ event ∷ []) in
-    let items : c.enter_behind-2.new.epoch.entries.items ≡ a.epoch.entries.items ++ added = c.enter_behind-2.ensures.items ∙ ap (λ (l : List Entry). l ++ added) c.make_room.ensures.items in
+    let items : c.append_after_losses-2.new.epoch.entries.items ≡ a.epoch.entries.items ++ added = c.append_after_losses-2.ensures.items ∙ ap (λ (l : List Entry). l ++ added) c.make_room.ensures.items in
     ap (λ (l : List ℕ). row_sector l i) copied ∙ sym (row-sector bytes i)
     ∙ read-holds was.kept does c.args.who c.ops-end-2.result event did.moved since c.args.at bytes
-    (fetched-holds given tape a.members m a.work.resync c.shape_in-shape.result c.args.at (length c.as_mut_slice.result.now / 512) c.mended_rows-mended.result bytes c.shape_in-shape.ensures c.mended_rows-mended.ensures.rows same
+    (fetched-holds given tape a.members m a.work.resync c.shape_in-shape.result c.args.at (length c.as_mut_slice.result.now / 512) c.synced_rows-mended.result bytes c.shape_in-shape.ensures c.synced_rows-mended.ensures.rows same
     (did.holds c.in_default-refusal.is)) t
     (subst (λ (l : List Entry). IsFilledRight (world_in given tape (scope_in given a.epoch.uuid a.epoch.given a.backup) a.epoch.first) l) items
-    (subst (λ p. IsFilledRight (moving_world (g.B.Bank.given p.parts.bank) (g.B.Bank.tape p.parts.bank) p) c.enter_behind-2.new.epoch.entries.items) (sym c.still.view_is) fills)) i (subst (λ (l : List ℕ). i < length l / 512) copied lt)
+    (subst (λ p. IsFilledRight (moving_world (g.B.Bank.given p.parts.bank) (g.B.Bank.tape p.parts.bank) p) c.append_after_losses-2.new.epoch.entries.items) (sym c.still.view_is) fills)) i (subst (λ (l : List ℕ). i < length l / 512) copied lt)
     ∙ ap (λ p. now (opening_list (moving_world (g.B.Bank.given p.parts.bank) (g.B.Bank.tape p.parts.bank) p)) p.parts.entries (c.args.at + i)) c.still.view_is
 
 pub returns-clause-called : goal.returns-clause-called
@@ -391,17 +391,17 @@ returns-clause-called g c =
     let m = c.fetch-fetched.new.members in
     let before = g.B.Bank.faults_of a.bank in
     let after = g.B.Bank.faults_of c.fetch-fetched.new.bank in
-    let roles = c.newly_vacant-roles.result in
+    let roles = c.newly_unassigned-roles.result in
     let spares = c.fetch-fetched.result.spares in
     let end = c.ops-end-2.result in
     let event = Read c.args.at c.from_bytes-body.result in
-    let since = lost-since given a.members m c.shape_in-shape.result.disks c.vacant_roles-before.result roles spares before after here.placed did.moved did.failed
-    (ap (λ (s : Shape). s.disks) c.shape_in-shape.ensures ∙ sym (count-still a.members.newest here.still)) c.vacant_roles-before.ensures c.newly_vacant-roles.ensures in
+    let since = lost-since given a.members m c.shape_in-shape.result.disks c.unassigned_roles-before.result roles spares before after here.placed did.moved did.failed
+    (ap (λ (s : Shape). s.disks) c.shape_in-shape.ensures ∙ sym (count-still a.members.newest here.still)) c.unassigned_roles-before.ensures c.newly_unassigned-roles.ensures in
     rw (← c.still.view_is) (called did.grows did.moved
-    (ended-behind (g.B.Bank.tape c.fetch-fetched.new.bank) c.enter_behind-2.new.epoch.first c.make_room.new.self.items c.args.who end (losses_of roles spares) event c.enter_behind-2.ensures.items c.ops-end-2.ensures.count)
-    (losses-behind a.members m before after a.epoch.entries.items c.make_room.new.self.items c.enter_behind-2.new.epoch.entries.items c.args.who end roles spares event since tt c.make_room.ensures.items c.enter_behind-2.ensures.items)
+    (ended-behind (g.B.Bank.tape c.fetch-fetched.new.bank) c.append_after_losses-2.new.epoch.first c.make_room.new.self.items c.args.who end (losses_of roles spares) event c.append_after_losses-2.ensures.items c.ops-end-2.ensures.count)
+    (losses-behind a.members m before after a.epoch.entries.items c.make_room.new.self.items c.append_after_losses-2.new.epoch.entries.items c.args.who end roles spares event since tt c.make_room.ensures.items c.append_after_losses-2.ensures.items)
     did.counts
-    (record { uuid = c.enter_behind-2.ensures.uuid; given = c.enter_behind-2.ensures.given; first = c.enter_behind-2.ensures.first; backup = refl; work = refl; ahead = refl; limit = refl })
+    (record { uuid = c.append_after_losses-2.ensures.uuid; given = c.append_after_losses-2.ensures.given; first = c.append_after_losses-2.ensures.first; backup = refl; work = refl; ahead = refl; limit = refl })
     (λ t. (was.kept.recorded t).begun))
 
 pub returns-clause-tape : goal.returns-clause-tape
@@ -439,50 +439,50 @@ unread_here-requires-clause-size g c = short (g.B.Bank.given c.still.inside.bank
 pub unread_here-requires-clause-progress : goal.unread_here-requires-clause-progress
 unread_here-requires-clause-progress g c = c.still.invariant.kept.progress
 
-pub enter-requires-clause-room : goal.enter-requires-clause-room
-enter-requires-clause-room g c = room-1 c.in-Ok-make_room.ensures.ok
+pub append_entry-requires-clause-room : goal.append_entry-requires-clause-room
+append_entry-requires-clause-room g c = room-1 c.in-Ok-make_room.ensures.ok
 
-pub enter-requires-clause-number : goal.enter-requires-clause-number
-enter-requires-clause-number g c = c.check_number.ensures
+pub append_entry-requires-clause-number : goal.append_entry-requires-clause-number
+append_entry-requires-clause-number g c = c.check_number.ensures
 
 pub shape_in-shape-requires : goal.shape_in-shape-requires
 shape_in-shape-requires g c = c.still.invariant.kept.members_are.placed.fit.valid.old
 
-pub vacant_roles-before-requires-clause-known : goal.vacant_roles-before-requires-clause-known
-vacant_roles-before-requires-clause-known g c = known-at c.still.invariant.kept.members_are.placed c.shape_in-shape.ensures
+pub unassigned_roles-before-requires-clause-known : goal.unassigned_roles-before-requires-clause-known
+unassigned_roles-before-requires-clause-known g c = known-at c.still.invariant.kept.members_are.placed c.shape_in-shape.ensures
 
-pub mended_rows-mended-requires-clause-shape : goal.mended_rows-mended-requires-clause-shape
-mended_rows-mended-requires-clause-shape g c = c.still.invariant.kept.members_are.placed.fit.valid.old
+pub synced_rows-mended-requires-clause-shape : goal.synced_rows-mended-requires-clause-shape
+synced_rows-mended-requires-clause-shape g c = c.still.invariant.kept.members_are.placed.fit.valid.old
 
-pub mended_rows-mended-requires-clause-multiple : goal.mended_rows-mended-requires-clause-multiple
-mended_rows-mended-requires-clause-multiple g c = multiple (g.B.Bank.given c.still.inside.bank) c.still.inside.members c.still.invariant.kept.members_are.placed
+pub synced_rows-mended-requires-clause-multiple : goal.synced_rows-mended-requires-clause-multiple
+synced_rows-mended-requires-clause-multiple g c = multiple (g.B.Bank.given c.still.inside.bank) c.still.inside.members c.still.invariant.kept.members_are.placed
 
-pub mended_rows-mended-requires-clause-progress : goal.mended_rows-mended-requires-clause-progress
-mended_rows-mended-requires-clause-progress g c = c.still.invariant.kept.progress
+pub synced_rows-mended-requires-clause-progress : goal.synced_rows-mended-requires-clause-progress
+synced_rows-mended-requires-clause-progress g c = c.still.invariant.kept.progress
 
-pub fetch-fetched-requires-clause-slots : goal.fetch-fetched-requires-clause-slots
-fetch-fetched-requires-clause-slots g c = c.still.invariant.kept.slots
+pub read_listed-fetched-requires-clause-slots : goal.read_listed-fetched-requires-clause-slots
+read_listed-fetched-requires-clause-slots g c = c.still.invariant.kept.slots
 
-pub fetch-fetched-requires-clause-placed : goal.fetch-fetched-requires-clause-placed
-fetch-fetched-requires-clause-placed g c = c.still.invariant.kept.members_are.placed
+pub read_listed-fetched-requires-clause-placed : goal.read_listed-fetched-requires-clause-placed
+read_listed-fetched-requires-clause-placed g c = c.still.invariant.kept.members_are.placed
 
-pub fetch-fetched-requires-clause-unlost : goal.fetch-fetched-requires-clause-unlost
-fetch-fetched-requires-clause-unlost g c = c.still.invariant.kept.members_are.unlost
+pub read_listed-fetched-requires-clause-unlost : goal.read_listed-fetched-requires-clause-unlost
+read_listed-fetched-requires-clause-unlost g c = c.still.invariant.kept.members_are.unlost
 
-pub fetch-fetched-requires-clause-free : goal.fetch-fetched-requires-clause-free
-fetch-fetched-requires-clause-free g c = c.still.invariant.kept.members_are.free
+pub read_listed-fetched-requires-clause-free : goal.read_listed-fetched-requires-clause-free
+read_listed-fetched-requires-clause-free g c = c.still.invariant.kept.members_are.free
 
-pub fetch-fetched-requires-clause-into : goal.fetch-fetched-requires-clause-into
-fetch-fetched-requires-clause-into g c = whole-alike _ _ (ap (λ (l : List ℕ). length l) c.as_mut_slice.ensures.value ∙ c.in-Ok.ensures.len) c.requires.whole
+pub read_listed-fetched-requires-clause-into : goal.read_listed-fetched-requires-clause-into
+read_listed-fetched-requires-clause-into g c = whole-alike _ _ (ap (λ (l : List ℕ). length l) c.as_mut_slice.ensures.value ∙ c.in-Ok.ensures.len) c.requires.whole
 
-pub fetch-fetched-requires-clause-scratch : goal.fetch-fetched-requires-clause-scratch
-fetch-fetched-requires-clause-scratch g c = scratch-fits c.as_mut_slice-2.ensures.value c.still.invariant.buffer_fits
+pub read_listed-fetched-requires-clause-scratch : goal.read_listed-fetched-requires-clause-scratch
+read_listed-fetched-requires-clause-scratch g c = scratch-fits c.as_mut_slice-2.ensures.value c.still.invariant.buffer_fits
 
-pub fetch-fetched-requires-clause-mended : goal.fetch-fetched-requires-clause-mended
-fetch-fetched-requires-clause-mended g c = c.mended_rows-mended.ensures.within
+pub read_listed-fetched-requires-clause-mended : goal.read_listed-fetched-requires-clause-mended
+read_listed-fetched-requires-clause-mended g c = c.synced_rows-mended.ensures.within
 
-pub newly_vacant-roles-requires-clause-known : goal.newly_vacant-roles-requires-clause-known
-newly_vacant-roles-requires-clause-known g c = known-behind c.fetch-fetched.ensures.moved c.shape_in-shape.ensures
+pub newly_unassigned-roles-requires-clause-known : goal.newly_unassigned-roles-requires-clause-known
+newly_unassigned-roles-requires-clause-known g c = known-behind c.fetch-fetched.ensures.moved c.shape_in-shape.ensures
 
 pub copy_from_slice-requires : goal.copy_from_slice-requires
 copy_from_slice-requires g c =
@@ -496,17 +496,17 @@ from_bytes-body-requires g c =
     let whole = written-whole c.in-Ok.bytes.len c.in-Ok.bytes.items c.fetch-fetched.new.into (c.fetch-fetched.auto.into ∙ ap (λ (l : List ℕ). length l) c.as_mut_slice.ensures.value) c.in-Ok.bytes.ok.0 in
     subst (λ (l : List ℕ). IsWhole l) (sym whole) (whole-alike _ _ len c.requires.whole)
 
-pub enter_behind-requires-clause-room : goal.enter_behind-requires-clause-room
-enter_behind-requires-clause-room g c = room-49 c.in-Ok-make_room.ensures.ok
+pub append_after_losses-requires-clause-room : goal.append_after_losses-requires-clause-room
+append_after_losses-requires-clause-room g c = room-49 c.in-Ok-make_room.ensures.ok
 
-pub enter_behind-requires-clause-number : goal.enter_behind-requires-clause-number
-enter_behind-requires-clause-number g c = c.check_number.ensures
+pub append_after_losses-requires-clause-number : goal.append_after_losses-requires-clause-number
+append_after_losses-requires-clause-number g c = c.check_number.ensures
 
-pub enter_behind-requires-2-clause-room : goal.enter_behind-requires-2-clause-room
-enter_behind-requires-2-clause-room g c = room-49 c.in-Ok-make_room.ensures.ok
+pub append_after_losses-requires-2-clause-room : goal.append_after_losses-requires-2-clause-room
+append_after_losses-requires-2-clause-room g c = room-49 c.in-Ok-make_room.ensures.ok
 
-pub enter_behind-requires-2-clause-number : goal.enter_behind-requires-2-clause-number
-enter_behind-requires-2-clause-number g c = c.check_number.ensures
+pub append_after_losses-requires-2-clause-number : goal.append_after_losses-requires-2-clause-number
+append_after_losses-requires-2-clause-number g c = c.check_number.ensures
 
 -- ---- memory was short
 

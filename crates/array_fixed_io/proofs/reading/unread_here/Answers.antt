@@ -2,7 +2,7 @@ use Rattle.std.proofs.Common.{◌≤◌, ◌+◌, ◌*◌, ℕ, refl, sym, ◌�
 use Rattle.array_fixed.specs.raid_types_the_Shape.{Shape}
 use Rattle.array_fixed.specs.raid_types_Shapes.{data_disks}
 use Rattle.array_fixed.specs.sb_specs_Reading.{shape_of}
-use Rattle.array_fixed.specs.array_members_Lacking.{mended_rows}
+use Rattle.array_fixed.specs.array_members_Lacking.{synced_rows}
 use Rattle.array_fixed.specs.sb_safe_updates_First.{read_refusal}
 use Rattle.array_fixed.proofs.array_state_FirstLaws.{short-list, past-is, within-is, read-judged}
 use Rattle.array_fixed.specs.array_specs_Parts.{visible_size}
@@ -19,14 +19,14 @@ returns-then-sectors-at-clause-why c =
     let same = visible-still c.args.members.now c.args.limit c.visible-size.result c.visible_of-sectors.result c.requires.still c.visible-size.ensures c.visible_of-sectors.ensures.value in
     (same, (let past = c.if-sectors-at.true in omega (arith, same, past)), refl)
 
-pub unread-requires-clause-within : goal.unread-requires-clause-within
-unread-requires-clause-within c =
+pub first_read_refusal-requires-clause-within : goal.first_read_refusal-requires-clause-within
+first_read_refusal-requires-clause-within c =
     let m = c.args.members.now in
     let within : c.args.at + c.args.count ≤ data_disks (shape_of m.newest) * m.newest.size = omega (arith, c.visible-size.ensures, c.visible_of-sectors.ensures.within, c.if-sectors-at.false) in
     subst (λ (s : Shape). c.args.at + c.args.count ≤ data_disks s * m.newest.size) (sym c.shape_in.ensures) within
 
-pub unread-requires-clause-short : goal.unread-requires-clause-short
-unread-requires-clause-short c =
+pub first_read_refusal-requires-clause-short : goal.first_read_refusal-requires-clause-short
+first_read_refusal-requires-clause-short c =
     let m = c.args.members.now in
     let few = short-list (shape_of m.newest) m.newest.size c.requires.shape c.requires.size in
     omega (arith, c.visible-size.ensures, c.visible_of-sectors.ensures.within, few, c.if-sectors-at.false)
@@ -37,8 +37,8 @@ returns-clause-first c =
     let to = c.args.at + c.args.count in
     let same = visible-still m c.args.limit c.visible-size.result c.visible_of-sectors.result c.requires.still c.visible-size.ensures c.visible_of-sectors.ensures.value in
     let within : to ≤ visible_size m c.args.limit = omega (arith, same, c.if-sectors-at.false) in
-    within-is (visible_size m c.args.limit) to c.unread.result (read_refusal (shape_of m.newest) (mended_rows c.args.resync m) c.args.at c.args.count m) within
-    (c.unread.ensures ∙ ap₂ (λ (s : Shape) (n : ℕ). read_refusal s n c.args.at c.args.count m) c.shape_in.ensures c.mended_rows-mended.ensures.rows)
+    within-is (visible_size m c.args.limit) to c.first_read_refusal.result (read_refusal (shape_of m.newest) (synced_rows c.args.resync m) c.args.at c.args.count m) within
+    (c.first_read_refusal.ensures ∙ ap₂ (λ (s : Shape) (n : ℕ). read_refusal s n c.args.at c.args.count m) c.shape_in.ensures c.synced_rows-mended.ensures.rows)
 
 pub returns-clause-why : goal.returns-clause-why
 returns-clause-why c =
@@ -46,5 +46,5 @@ returns-clause-why c =
     let to = c.args.at + c.args.count in
     let same = visible-still m c.args.limit c.visible-size.result c.visible_of-sectors.result c.requires.still c.visible-size.ensures c.visible_of-sectors.ensures.value in
     let within : to ≤ visible_size m c.args.limit = omega (arith, same, c.if-sectors-at.false) in
-    read-judged (shape_of m.newest) (visible_size m c.args.limit) to (mended_rows c.args.resync m) c.args.at c.args.count m c.unread.result within
-    (c.unread.ensures ∙ ap₂ (λ (s : Shape) (n : ℕ). read_refusal s n c.args.at c.args.count m) c.shape_in.ensures c.mended_rows-mended.ensures.rows)
+    read-judged (shape_of m.newest) (visible_size m c.args.limit) to (synced_rows c.args.resync m) c.args.at c.args.count m c.first_read_refusal.result within
+    (c.first_read_refusal.ensures ∙ ap₂ (λ (s : Shape) (n : ℕ). read_refusal s n c.args.at c.args.count m) c.shape_in.ensures c.synced_rows-mended.ensures.rows)

@@ -11,7 +11,7 @@ use Rattle.array_fixed.specs.history_the_Request_TheVariants.{Write as AsksWrite
 use Rattle.array_fixed.specs.history_Flat.{next_number}
 use Rattle.array_fixed.specs.history_Plain.{entries_of}
 use Rattle.array_fixed.proofs.crash_views_Stands.{list-still}
-use Rattle.array_fixed.specs.array_members_Lacking.{IsUnwritten, LacksTooMany, AreBytes, are_mended, mended_rows, HaveRolesFailed}
+use Rattle.array_fixed.specs.array_members_Lacking.{IsUnwritten, LacksTooMany, AreBytes, are_synced, synced_rows, HaveRolesFailed}
 use Rattle.array_fixed.specs.array_members_Placed.{places_of, AreWhole}
 use Rattle.array_fixed.specs.array_members_Whole.{list_size}
 use Rattle.array_fixed.proofs.array_members_LackingLaws.{lost-since, shape-without}
@@ -60,14 +60,14 @@ invariant_of-still-in-Some g c =
     let refusal = c.in-Some.refusal in
     ready (entries_of c.args.who c.ops-end.result (Refused refusal ∷ [])) was (rows-same a.members.newest)
     (refused-alone c.args.who c.ops-end.result was.kept number c.requires.caller c.ops-end.ensures.count refusal
-    (refused-first was.kept was.limited to (IsUnwritten (shape_of a.members.newest) (are_mended (shape_of a.members.newest) (mended_rows a.work.resync a.members) to)) refusal
+    (refused-first was.kept was.limited to (IsUnwritten (shape_of a.members.newest) (are_synced (shape_of a.members.newest) (synced_rows a.work.resync a.members) to)) refusal
     (λ within. unwritten-still given a.members was.kept.members_are a.work.resync to refusal within) c.in-Some.ensures.why))
     (first-plain was c.args.who c.ops-end.result (begins-going a.epoch.entries.items c.args.who number) c.requires.caller c.ops-end.ensures.count (grows-none (λ t. refl)) to
-    (IsUnwritten (shape_of a.members.newest) (are_mended (shape_of a.members.newest) (mended_rows a.work.resync a.members) to)) refusal
+    (IsUnwritten (shape_of a.members.newest) (are_synced (shape_of a.members.newest) (synced_rows a.work.resync a.members) to)) refusal
     (λ within. unwritten-plain given a.members was.kept.members_are a.work.resync (visible_size a.members a.limit) to refusal within) c.in-Some.ensures.why)
     (λ slot. omega arith) (alone-keeps c.args.who c.ops-end.result (Refused refusal) (λ n. refl) (λ limit. refl))
-    refl (scope-same given a.backup refl c.enter.ensures.uuid c.enter.ensures.given) c.enter.ensures.first c.make_room.ensures.items c.enter.ensures.items
-    (omega (arith, c.enter.ensures.room, c.in-Ok-make_room.ensures.ok))
+    refl (scope-same given a.backup refl c.append_entry.ensures.uuid c.append_entry.ensures.given) c.append_entry.ensures.first c.make_room.ensures.items c.append_entry.ensures.items
+    (omega (arith, c.append_entry.ensures.room, c.in-Ok-make_room.ensures.ok))
 
 pub returns-in-Some-clause-answered : goal.returns-in-Some-clause-answered
 returns-in-Some-clause-answered g c =
@@ -76,12 +76,12 @@ returns-in-Some-clause-answered g c =
     let number : c.args.who.number ≡ next_number c.args.who.caller a.epoch.entries.items = c.requires.next ∙ ap (λ p. next_number c.args.who.caller p.parts.entries) (sym c.still.view_is) in
     let size = list_length a.members.newest in
     let body = sectors_of c.args.from.now in
-    let synced = are_mended (shape_of a.members.newest) (mended_rows a.work.resync a.members) (c.args.at + length c.args.from.now / 512) in
+    let synced = are_synced (shape_of a.members.newest) (synced_rows a.work.resync a.members) (c.args.at + length c.args.from.now / 512) in
     let why = subst (λ (n : ℕ). IsRefusedFor (visible_size a.members a.limit) (c.args.at + n) (IsUnwritten (shape_of a.members.newest) synced) a.members a.members c.in-Some.refusal) (sym (length-sectors_of c.args.from.now)) c.in-Some.ensures.why in
     rw (← c.still.view_is) (refused_reply size a.limit a.epoch.entries.items was.sized was.limited (AsksWrite c.args.at body) c.args.who (c.args.at + length body)
-    (IsUnwritten (shape_of a.members.newest) synced) c.enter.new.epoch.entries.items c.ops-end.result a.members c.in-Some.refusal (write_kind c.args.at body)
+    (IsUnwritten (shape_of a.members.newest) synced) c.append_entry.new.epoch.entries.items c.ops-end.result a.members c.in-Some.refusal (write_kind c.args.at body)
     (unwritten-of (shape_of a.members.newest) synced a.members c.in-Some.refusal) why
-    (c.enter.ensures.items ∙ ap (λ (l : List Entry). l ++ entries_of c.args.who c.ops-end.result (Refused c.in-Some.refusal ∷ [])) c.make_room.ensures.items) number)
+    (c.append_entry.ensures.items ∙ ap (λ (l : List Entry). l ++ entries_of c.args.who c.ops-end.result (Refused c.in-Some.refusal ∷ [])) c.make_room.ensures.items) number)
 
 pub returns-in-Some-clause-called : goal.returns-in-Some-clause-called
 returns-in-Some-clause-called g c =
@@ -92,27 +92,27 @@ returns-in-Some-clause-called g c =
     let end = c.ops-end.result in
     let refusal = c.in-Some.refusal in
     rw (← c.still.view_is) (called (grows-none (λ t. refl)) (moved-same given given a.members a.members refl refl was.kept.members_are.placed was.kept.members_are.unlost)
-    (ended-behind (g.B.Bank.tape a.bank) c.enter.new.epoch.first c.make_room.new.self.items c.args.who end [] (Refused refusal) c.enter.ensures.items c.ops-end.ensures.count)
-    (alone-lossless a.members faults faults a.epoch.entries.items c.make_room.new.self.items c.enter.new.epoch.entries.items c.args.who end (Refused refusal) tt c.make_room.ensures.items c.enter.ensures.items)
+    (ended-behind (g.B.Bank.tape a.bank) c.append_entry.new.epoch.first c.make_room.new.self.items c.args.who end [] (Refused refusal) c.append_entry.ensures.items c.ops-end.ensures.count)
+    (alone-lossless a.members faults faults a.epoch.entries.items c.make_room.new.self.items c.append_entry.new.epoch.entries.items c.args.who end (Refused refusal) tt c.make_room.ensures.items c.append_entry.ensures.items)
     (λ slot. omega arith)
-    (record { uuid = c.enter.ensures.uuid; given = c.enter.ensures.given; first = c.enter.ensures.first; backup = refl; work = refl; ahead = refl; limit = refl })
+    (record { uuid = c.append_entry.ensures.uuid; given = c.append_entry.ensures.given; first = c.append_entry.ensures.first; backup = refl; work = refl; ahead = refl; limit = refl })
     (λ t. (was.kept.recorded t).begun))
 
 -- ---- it is written by the one shape
 
-pub put-done-requires-clause-shape : goal.put-done-requires-clause-shape
-put-done-requires-clause-shape g c = inl c.shape_in-shape.ensures
+pub write_listed-done-requires-clause-shape : goal.write_listed-done-requires-clause-shape
+write_listed-done-requires-clause-shape g c = inl c.shape_in-shape.ensures
 
-pub put-done-requires-clause-within : goal.put-done-requires-clause-within
-put-done-requires-clause-within g c =
+pub write_listed-done-requires-clause-within : goal.write_listed-done-requires-clause-within
+write_listed-done-requires-clause-within g c =
     let m = c.still.inside.members in
     subst (λ (s : Shape). c.args.at + length c.args.from.now / 512 ≤ data_disks s * m.newest.size) (sym c.shape_in-shape.ensures)
     (subst (λ (n : ℕ). c.args.at + length c.args.from.now / 512 ≤ n) (list-still m.newest c.still.invariant.kept.members_are.still)
     (le_trans c.in_default.ensures.why.0 (visible-within (list_length m.newest) c.still.inside.limit)))
 
 -- the list is short
-pub put-done-requires-clause-short : goal.put-done-requires-clause-short
-put-done-requires-clause-short g c =
+pub write_listed-done-requires-clause-short : goal.write_listed-done-requires-clause-short
+write_listed-done-requires-clause-short g c =
     let m = c.still.inside.members in
     let few = list-few (g.B.Bank.given c.still.inside.bank) m c.still.invariant.kept.members_are.placed in
     let within : c.args.at + length c.args.from.now / 512 ≤ list_size (places_of m) =
@@ -135,7 +135,7 @@ invariant_of-still-in-Some-refusal g c =
     let tape' = g.B.Bank.tape c.put-done.new.bank in
     let before = g.B.Bank.faults_of a.bank in
     let after = g.B.Bank.faults_of c.put-done.new.bank in
-    let roles = c.newly_vacant-roles.result in
+    let roles = c.newly_unassigned-roles.result in
     let spares = c.put-done.result.spares in
     let torn = c.put-done.result.begun in
     let refusal = c.in-Some-refusal.refusal in
@@ -145,11 +145,11 @@ invariant_of-still-in-Some-refusal g c =
     let shape = c.shape_in-shape.result in
     let within : c.args.at + length from / 512 ≤ list_length a.members.newest = le_trans c.in_default.ensures.why.0 (visible-within (list_length a.members.newest) a.limit) in
     let does = without-still a.members here.still (shape-without (shape_of a.members.newest) a.members (λ refusal many. c.in_default.ensures.why.1 refusal (inl many))) in
-    let synced = c.are_mended-synced.result in
-    let asked : synced ≡ are_mended (shape_of a.members.newest) (mended_rows a.work.resync a.members) (c.args.at + length from / 512) =
-    c.are_mended-synced.ensures ∙ ap (λ (s : Shape). are_mended s (mended_rows a.work.resync a.members) (c.args.at + length from / 512)) c.shape_in-shape.ensures in
-    let since = lost-since given a.members m c.shape_in-shape.result.disks c.vacant_roles-before.result roles spares before after here.placed did.moved did.failed
-    (ap (λ (s : Shape). s.disks) c.shape_in-shape.ensures ∙ sym (count-still a.members.newest here.still)) c.vacant_roles-before.ensures c.newly_vacant-roles.ensures in
+    let synced = c.are_synced-synced.result in
+    let asked : synced ≡ are_synced (shape_of a.members.newest) (synced_rows a.work.resync a.members) (c.args.at + length from / 512) =
+    c.are_synced-synced.ensures ∙ ap (λ (s : Shape). are_synced s (synced_rows a.work.resync a.members) (c.args.at + length from / 512)) c.shape_in-shape.ensures in
+    let since = lost-since given a.members m c.shape_in-shape.result.disks c.unassigned_roles-before.result roles spares before after here.placed did.moved did.failed
+    (ap (λ (s : Shape). s.disks) c.shape_in-shape.ensures ∙ sym (count-still a.members.newest here.still)) c.unassigned_roles-before.ensures c.newly_unassigned-roles.ensures in
     let put = put-still given tape tape' a.members m here did.moved a.work.resync shape c.shape_in-shape.ensures c.args.at from synced asked since did.grows did.stays did.rise did.safe in
     with-buffers (let fits = was.rows_fit in let more = did.rows in omega (arith, fits, more)) (rw did.buffer was.buffer_fits)
     (ready (entries_of c.args.who end (failure_events roles spares torn c.args.at body refusal)) was (rows-moved given a.members m did.moved)
@@ -164,9 +164,9 @@ invariant_of-still-in-Some-refusal g c =
     (some-of (IsUnwritten shape synced m) c.put-done.result.refusal refusal c.in-Some-refusal.is did.refused))
     (λ begun. some-of (LacksTooMany shape m) c.put-done.result.refusal refusal c.in-Some-refusal.is (did.torn begun)))
     did.counts (failure-keeps c.args.who end roles spares torn c.args.at body refusal)
-    did.given (scope-same given a.backup did.given c.enter_failure.ensures.uuid c.enter_failure.ensures.given) c.enter_failure.ensures.first c.make_room.ensures.items
-    (c.enter_failure.ensures.items ∙ ap (λ (b : List Sector). c.make_room.new.self.items ++ entries_of c.args.who end (failure_events roles spares torn c.args.at b refusal)) c.in-Ok.ensures)
-    (omega (arith, c.enter_failure.ensures.room, c.in-Ok-make_room.ensures.ok)))
+    did.given (scope-same given a.backup did.given c.append_failure.ensures.uuid c.append_failure.ensures.given) c.append_failure.ensures.first c.make_room.ensures.items
+    (c.append_failure.ensures.items ∙ ap (λ (b : List Sector). c.make_room.new.self.items ++ entries_of c.args.who end (failure_events roles spares torn c.args.at b refusal)) c.in-Ok.ensures)
+    (omega (arith, c.append_failure.ensures.room, c.in-Ok-make_room.ensures.ok)))
 
 pub returns-in-Some-refusal-clause-answered : goal.returns-in-Some-refusal-clause-answered
 returns-in-Some-refusal-clause-answered g c =
@@ -174,7 +174,7 @@ returns-in-Some-refusal-clause-answered g c =
     let a = c.still.inside in
     let number : c.args.who.number ≡ next_number c.args.who.caller a.epoch.entries.items = c.requires.next ∙ ap (λ p. next_number c.args.who.caller p.parts.entries) (sym c.still.view_is) in
     let m = c.put-done.new.members in
-    let roles = c.newly_vacant-roles.result in
+    let roles = c.newly_unassigned-roles.result in
     let spares = c.put-done.result.spares in
     let torn = c.put-done.result.begun in
     let refusal = c.in-Some-refusal.refusal in
@@ -182,32 +182,32 @@ returns-in-Some-refusal-clause-answered g c =
     let size = list_length a.members.newest in
     let body = sectors_of c.args.from.now in
     let within : c.args.at + length body ≤ visible_size a.members a.limit = omega (arith, c.in_default.ensures.why.0, length-sectors_of c.args.from.now) in
-    let synced = c.are_mended-synced.result in
+    let synced = c.are_synced-synced.result in
     let why = some-of (IsUnwritten c.shape_in-shape.result synced m) c.put-done.result.refusal refusal c.in-Some-refusal.is c.put-done.ensures.refused in
-    rw (← c.still.view_is) (failed_reply size a.limit a.epoch.entries.items was.sized was.limited torn c.args.who c.args.at body c.enter_failure.new.epoch.entries.items end roles spares refusal within
+    rw (← c.still.view_is) (failed_reply size a.limit a.epoch.entries.items was.sized was.limited torn c.args.who c.args.at body c.append_failure.new.epoch.entries.items end roles spares refusal within
     (unwritten-of c.shape_in-shape.result synced m refusal why)
-    (subst (λ (l : List Entry). c.enter_failure.new.epoch.entries.items ≡ l ++ entries_of c.args.who end (failure_events roles spares torn c.args.at body refusal)) c.make_room.ensures.items
-    (subst (λ (b : List Sector). c.enter_failure.new.epoch.entries.items ≡ c.make_room.new.self.items ++ entries_of c.args.who end (failure_events roles spares torn c.args.at b refusal)) c.in-Ok.ensures c.enter_failure.ensures.items)) number)
+    (subst (λ (l : List Entry). c.append_failure.new.epoch.entries.items ≡ l ++ entries_of c.args.who end (failure_events roles spares torn c.args.at body refusal)) c.make_room.ensures.items
+    (subst (λ (b : List Sector). c.append_failure.new.epoch.entries.items ≡ c.make_room.new.self.items ++ entries_of c.args.who end (failure_events roles spares torn c.args.at b refusal)) c.in-Ok.ensures c.append_failure.ensures.items)) number)
 
 pub returns-in-Some-refusal-clause-untouched : goal.returns-in-Some-refusal-clause-untouched
 returns-in-Some-refusal-clause-untouched g c =
-    let roles = c.newly_vacant-roles.result in
+    let roles = c.newly_unassigned-roles.result in
     let spares = c.put-done.result.spares in
     let torn = c.put-done.result.begun in
     rw (← c.still.view_is) (λ none told. c.put-done.ensures.untouched
-    (torn-told c.args.who c.ops-end-2.result roles spares torn c.args.at c.in-Ok.body c.in-Some-refusal.refusal c.make_room.ensures.items c.enter_failure.ensures.items none) told)
+    (torn-told c.args.who c.ops-end-2.result roles spares torn c.args.at c.in-Ok.body c.in-Some-refusal.refusal c.make_room.ensures.items c.append_failure.ensures.items none) told)
 
 pub returns-in-Some-refusal-clause-caused : goal.returns-in-Some-refusal-clause-caused
 returns-in-Some-refusal-clause-caused g c =
     let a = c.still.inside in
     let m = c.put-done.new.members in
     let refusal = c.in-Some-refusal.refusal in
-    let synced = c.are_mended-synced.result in
-    let asked : synced ≡ are_mended (shape_of a.members.newest) (mended_rows a.work.resync a.members) (c.args.at + length c.args.from.now / 512) = c.are_mended-synced.ensures ∙ ap (λ (s : Shape). are_mended s (mended_rows a.work.resync a.members) (c.args.at + length c.args.from.now / 512)) c.shape_in-shape.ensures in
+    let synced = c.are_synced-synced.result in
+    let asked : synced ≡ are_synced (shape_of a.members.newest) (synced_rows a.work.resync a.members) (c.args.at + length c.args.from.now / 512) = c.are_synced-synced.ensures ∙ ap (λ (s : Shape). are_synced s (synced_rows a.work.resync a.members) (c.args.at + length c.args.from.now / 512)) c.shape_in-shape.ensures in
     let why = some-of (IsUnwritten c.shape_in-shape.result synced m) c.put-done.result.refusal refusal c.in-Some-refusal.is c.put-done.ensures.refused in
     rw (← c.still.view_is) (refused-for (visible_size a.members a.limit) (c.args.at + length c.args.from.now / 512)
-    (IsUnwritten (shape_of a.members.newest) (are_mended (shape_of a.members.newest) (mended_rows a.work.resync a.members) (c.args.at + length c.args.from.now / 512))) a.members m refusal
-    (unwritten-of c.shape_in-shape.result synced m refusal why) c.in_default.ensures.why.0 (subst (λ (s : Shape). IsUnwritten s (are_mended (shape_of a.members.newest) (mended_rows a.work.resync a.members) (c.args.at + length c.args.from.now / 512)) m refusal) c.shape_in-shape.ensures
+    (IsUnwritten (shape_of a.members.newest) (are_synced (shape_of a.members.newest) (synced_rows a.work.resync a.members) (c.args.at + length c.args.from.now / 512))) a.members m refusal
+    (unwritten-of c.shape_in-shape.result synced m refusal why) c.in_default.ensures.why.0 (subst (λ (s : Shape). IsUnwritten s (are_synced (shape_of a.members.newest) (synced_rows a.work.resync a.members) (c.args.at + length c.args.from.now / 512)) m refusal) c.shape_in-shape.ensures
     (subst (λ (b : Bool). IsUnwritten c.shape_in-shape.result b m refusal) asked why)))
 
 pub returns-in-Some-refusal-clause-first : goal.returns-in-Some-refusal-clause-first
@@ -216,9 +216,9 @@ returns-in-Some-refusal-clause-first g c =
     let m = c.put-done.new.members in
     let refusal = c.in-Some-refusal.refusal in
     let to = c.args.at + length c.args.from.now / 512 in
-    let asked = are_mended (shape_of a.members.newest) (mended_rows a.work.resync a.members) to in
-    let same = c.are_mended-synced.ensures ∙ ap (λ (s : Shape). are_mended s (mended_rows a.work.resync a.members) to) c.shape_in-shape.ensures in
-    let why = some-of (λ r. write_refusal c.shape_in-shape.result c.are_mended-synced.result m ≡ Some r) c.put-done.result.refusal refusal c.in-Some-refusal.is c.put-done.ensures.first in
+    let asked = are_synced (shape_of a.members.newest) (synced_rows a.work.resync a.members) to in
+    let same = c.are_synced-synced.ensures ∙ ap (λ (s : Shape). are_synced s (synced_rows a.work.resync a.members) to) c.shape_in-shape.ensures in
+    let why = some-of (λ r. write_refusal c.shape_in-shape.result c.are_synced-synced.result m ≡ Some r) c.put-done.result.refusal refusal c.in-Some-refusal.is c.put-done.ensures.first in
     rw (← c.still.view_is) (call-within (visible_size a.members a.limit) to (write_refusal (shape_of a.members.newest) asked m) c.in_default.ensures.why.0
     ∙ subst (λ (s : Shape). write_refusal s asked m ≡ Some refusal) c.shape_in-shape.ensures (subst (λ (b : Bool). write_refusal c.shape_in-shape.result b m ≡ Some refusal) same why))
 
@@ -232,18 +232,18 @@ returns-in-Some-refusal-clause-called g c =
     let m = c.put-done.new.members in
     let before = g.B.Bank.faults_of a.bank in
     let after = g.B.Bank.faults_of c.put-done.new.bank in
-    let roles = c.newly_vacant-roles.result in
+    let roles = c.newly_unassigned-roles.result in
     let spares = c.put-done.result.spares in
     let torn = c.put-done.result.begun in
     let end = c.ops-end-2.result in
-    let since = lost-since given a.members m c.shape_in-shape.result.disks c.vacant_roles-before.result roles spares before after here.placed did.moved did.failed
-    (ap (λ (s : Shape). s.disks) c.shape_in-shape.ensures ∙ sym (count-still a.members.newest here.still)) c.vacant_roles-before.ensures c.newly_vacant-roles.ensures in
+    let since = lost-since given a.members m c.shape_in-shape.result.disks c.unassigned_roles-before.result roles spares before after here.placed did.moved did.failed
+    (ap (λ (s : Shape). s.disks) c.shape_in-shape.ensures ∙ sym (count-still a.members.newest here.still)) c.unassigned_roles-before.ensures c.newly_unassigned-roles.ensures in
     rw (← c.still.view_is) (called did.grows did.moved
-    (ended-failure (g.B.Bank.tape c.put-done.new.bank) c.enter_failure.new.epoch.first c.make_room.new.self.items c.args.who end roles spares torn c.args.at c.in-Ok.body c.in-Some-refusal.refusal c.enter_failure.ensures.items c.ops-end-2.ensures.count)
-    (losses-failure a.members m before after a.epoch.entries.items c.make_room.new.self.items c.enter_failure.new.epoch.entries.items c.args.who end roles spares torn c.args.at c.in-Ok.body c.in-Some-refusal.refusal since
-    c.make_room.ensures.items c.enter_failure.ensures.items)
+    (ended-failure (g.B.Bank.tape c.put-done.new.bank) c.append_failure.new.epoch.first c.make_room.new.self.items c.args.who end roles spares torn c.args.at c.in-Ok.body c.in-Some-refusal.refusal c.append_failure.ensures.items c.ops-end-2.ensures.count)
+    (losses-failure a.members m before after a.epoch.entries.items c.make_room.new.self.items c.append_failure.new.epoch.entries.items c.args.who end roles spares torn c.args.at c.in-Ok.body c.in-Some-refusal.refusal since
+    c.make_room.ensures.items c.append_failure.ensures.items)
     did.counts
-    (record { uuid = c.enter_failure.ensures.uuid; given = c.enter_failure.ensures.given; first = c.enter_failure.ensures.first; backup = refl; work = refl; ahead = refl; limit = refl })
+    (record { uuid = c.append_failure.ensures.uuid; given = c.append_failure.ensures.given; first = c.append_failure.ensures.first; backup = refl; work = refl; ahead = refl; limit = refl })
     (λ t. (was.kept.recorded t).begun))
 
 -- ---- done
@@ -262,7 +262,7 @@ invariant_of-still-2 g c =
     let tape' = g.B.Bank.tape c.put-done.new.bank in
     let before = g.B.Bank.faults_of a.bank in
     let after = g.B.Bank.faults_of c.put-done.new.bank in
-    let roles = c.newly_vacant-roles.result in
+    let roles = c.newly_unassigned-roles.result in
     let spares = c.put-done.result.spares in
     let end = c.ops-end-2.result in
     let from = c.args.from.now in
@@ -272,13 +272,13 @@ invariant_of-still-2 g c =
     let done = c.in_default-refusal.is in
     let bytes : AreBytes from = λ i. (c.type_inv.from i).fits in
     let does = without-still a.members here.still (shape-without (shape_of a.members.newest) a.members (λ refusal many. c.in_default.ensures.why.1 refusal (inl many))) in
-    let synced = c.are_mended-synced.result in
-    let asked : synced ≡ are_mended (shape_of a.members.newest) (mended_rows a.work.resync a.members) (c.args.at + length from / 512) =
-    c.are_mended-synced.ensures ∙ ap (λ (s : Shape). are_mended s (mended_rows a.work.resync a.members) (c.args.at + length from / 512)) c.shape_in-shape.ensures in
-    let since = lost-since given a.members m c.shape_in-shape.result.disks c.vacant_roles-before.result roles spares before after here.placed did.moved did.failed
-    (ap (λ (s : Shape). s.disks) c.shape_in-shape.ensures ∙ sym (count-still a.members.newest here.still)) c.vacant_roles-before.ensures c.newly_vacant-roles.ensures in
+    let synced = c.are_synced-synced.result in
+    let asked : synced ≡ are_synced (shape_of a.members.newest) (synced_rows a.work.resync a.members) (c.args.at + length from / 512) =
+    c.are_synced-synced.ensures ∙ ap (λ (s : Shape). are_synced s (synced_rows a.work.resync a.members) (c.args.at + length from / 512)) c.shape_in-shape.ensures in
+    let since = lost-since given a.members m c.shape_in-shape.result.disks c.unassigned_roles-before.result roles spares before after here.placed did.moved did.failed
+    (ap (λ (s : Shape). s.disks) c.shape_in-shape.ensures ∙ sym (count-still a.members.newest here.still)) c.unassigned_roles-before.ensures c.newly_unassigned-roles.ensures in
     let put = put-still given tape tape' a.members m here did.moved a.work.resync shape c.shape_in-shape.ensures c.args.at from synced asked since did.grows did.stays did.rise did.safe in
-    let written = written-still given tape tape' a.members m here did.moved a.work.resync shape c.shape_in-shape.ensures c.args.at from synced asked (did.dirty done) did.others (did.put done)
+    let written = written-still given tape tape' a.members m here did.moved a.work.resync shape c.shape_in-shape.ensures c.args.at from synced asked (did.dirty done) did.others (did.write_listed done)
     (λ t list more written. did.good done t list more written bytes) (did.rebuilt done) in
     with-buffers (let fits = was.rows_fit in let more = did.rows in omega (arith, fits, more)) (rw did.buffer was.buffer_fits)
     (ready (entries_of c.args.who end (losses_of roles spares ++ Wrote c.args.at body ∷ [])) was (rows-moved given a.members m did.moved)
@@ -287,21 +287,21 @@ invariant_of-still-2 g c =
     (λ t. let all = seen was.kept was.limited t in let within = c.in_default.ensures.why.0 in omega (arith, all, within)) put written c.requires.whole bytes)
     (plain-wrote was c.args.who end (begins-going a.epoch.entries.items c.args.who number) c.requires.caller c.ops-end-2.ensures.count did.grows did.moved since c.args.at from c.in_default.ensures.why.0)
     did.counts (behind-keeps c.args.who end roles spares (Wrote c.args.at body ∷ []) (alone-keeps c.args.who end (Wrote c.args.at body) (λ n. refl) (λ limit. refl)))
-    did.given (scope-same given a.backup did.given c.enter_behind.ensures.uuid c.enter_behind.ensures.given) c.enter_behind.ensures.first c.make_room.ensures.items
-    (c.enter_behind.ensures.items ∙ ap (λ (b : List Sector). c.make_room.new.self.items ++ entries_of c.args.who end (losses_of roles spares ++ Wrote c.args.at b ∷ [])) c.in-Ok.ensures)
-    (omega (arith, c.enter_behind.ensures.room, c.in-Ok-make_room.ensures.ok)))
+    did.given (scope-same given a.backup did.given c.append_after_losses.ensures.uuid c.append_after_losses.ensures.given) c.append_after_losses.ensures.first c.make_room.ensures.items
+    (c.append_after_losses.ensures.items ∙ ap (λ (b : List Sector). c.make_room.new.self.items ++ entries_of c.args.who end (losses_of roles spares ++ Wrote c.args.at b ∷ [])) c.in-Ok.ensures)
+    (omega (arith, c.append_after_losses.ensures.room, c.in-Ok-make_room.ensures.ok)))
 
 pub returns-clause-answered : goal.returns-clause-answered
 returns-clause-answered g c =
     let a = c.still.inside in
     let number : c.args.who.number ≡ next_number c.args.who.caller a.epoch.entries.items = c.requires.next ∙ ap (λ p. next_number c.args.who.caller p.parts.entries) (sym c.still.view_is) in
-    let roles = c.newly_vacant-roles.result in
+    let roles = c.newly_unassigned-roles.result in
     let spares = c.put-done.result.spares in
     let end = c.ops-end-2.result in
     let body = sectors_of c.args.from.now in
-    rw (← c.still.view_is) (replied (list_length a.members.newest) (AsksWrite c.args.at body) c.args.who a.epoch.entries.items c.enter_behind.new.epoch.entries.items
+    rw (← c.still.view_is) (replied (list_length a.members.newest) (AsksWrite c.args.at body) c.args.who a.epoch.entries.items c.append_after_losses.new.epoch.entries.items
     end (losses_of roles spares) (Wrote c.args.at body)
-    (c.enter_behind.ensures.items ∙ ap (λ (l : List Entry). l ++ entries_of c.args.who end (losses_of roles spares ++ Wrote c.args.at c.in-Ok.body ∷ [])) c.make_room.ensures.items
+    (c.append_after_losses.ensures.items ∙ ap (λ (l : List Entry). l ++ entries_of c.args.who end (losses_of roles spares ++ Wrote c.args.at c.in-Ok.body ∷ [])) c.make_room.ensures.items
     ∙ ap (λ (b : List Sector). a.epoch.entries.items ++ entries_of c.args.who end (losses_of roles spares ++ Wrote c.args.at b ∷ [])) c.in-Ok.ensures)
     number (λ call. (refl, refl)) (inside-losses c.args.who end (losses_of roles spares) (losses-are roles spares)) (torn-losses (AsksWrite c.args.at body) c.args.who end (losses_of roles spares) (losses-are roles spares)))
 
@@ -315,17 +315,17 @@ returns-clause-called g c =
     let m = c.put-done.new.members in
     let before = g.B.Bank.faults_of a.bank in
     let after = g.B.Bank.faults_of c.put-done.new.bank in
-    let roles = c.newly_vacant-roles.result in
+    let roles = c.newly_unassigned-roles.result in
     let spares = c.put-done.result.spares in
     let end = c.ops-end-2.result in
     let event = Wrote c.args.at c.in-Ok.body in
-    let since = lost-since given a.members m c.shape_in-shape.result.disks c.vacant_roles-before.result roles spares before after here.placed did.moved did.failed
-    (ap (λ (s : Shape). s.disks) c.shape_in-shape.ensures ∙ sym (count-still a.members.newest here.still)) c.vacant_roles-before.ensures c.newly_vacant-roles.ensures in
+    let since = lost-since given a.members m c.shape_in-shape.result.disks c.unassigned_roles-before.result roles spares before after here.placed did.moved did.failed
+    (ap (λ (s : Shape). s.disks) c.shape_in-shape.ensures ∙ sym (count-still a.members.newest here.still)) c.unassigned_roles-before.ensures c.newly_unassigned-roles.ensures in
     rw (← c.still.view_is) (called did.grows did.moved
-    (ended-behind (g.B.Bank.tape c.put-done.new.bank) c.enter_behind.new.epoch.first c.make_room.new.self.items c.args.who end (losses_of roles spares) event c.enter_behind.ensures.items c.ops-end-2.ensures.count)
-    (losses-behind a.members m before after a.epoch.entries.items c.make_room.new.self.items c.enter_behind.new.epoch.entries.items c.args.who end roles spares event since tt c.make_room.ensures.items c.enter_behind.ensures.items)
+    (ended-behind (g.B.Bank.tape c.put-done.new.bank) c.append_after_losses.new.epoch.first c.make_room.new.self.items c.args.who end (losses_of roles spares) event c.append_after_losses.ensures.items c.ops-end-2.ensures.count)
+    (losses-behind a.members m before after a.epoch.entries.items c.make_room.new.self.items c.append_after_losses.new.epoch.entries.items c.args.who end roles spares event since tt c.make_room.ensures.items c.append_after_losses.ensures.items)
     did.counts
-    (record { uuid = c.enter_behind.ensures.uuid; given = c.enter_behind.ensures.given; first = c.enter_behind.ensures.first; backup = refl; work = refl; ahead = refl; limit = refl })
+    (record { uuid = c.append_after_losses.ensures.uuid; given = c.append_after_losses.ensures.given; first = c.append_after_losses.ensures.first; backup = refl; work = refl; ahead = refl; limit = refl })
     (λ t. (was.kept.recorded t).begun))
 
 pub returns-clause-caused : goal.returns-clause-caused
@@ -390,11 +390,11 @@ unwritten_here-requires-clause-size g c = short (g.B.Bank.given c.still.inside.b
 pub unwritten_here-requires-clause-progress : goal.unwritten_here-requires-clause-progress
 unwritten_here-requires-clause-progress g c = c.still.invariant.kept.progress
 
-pub enter-requires-clause-room : goal.enter-requires-clause-room
-enter-requires-clause-room g c = room-1 c.make_room.new.self.room (room-50 51 c.make_room.new.self.room (omega arith) c.in-Ok-make_room.ensures.ok)
+pub append_entry-requires-clause-room : goal.append_entry-requires-clause-room
+append_entry-requires-clause-room g c = room-1 c.make_room.new.self.room (room-50 51 c.make_room.new.self.room (omega arith) c.in-Ok-make_room.ensures.ok)
 
-pub enter-requires-clause-number : goal.enter-requires-clause-number
-enter-requires-clause-number g c = c.check_number.ensures
+pub append_entry-requires-clause-number : goal.append_entry-requires-clause-number
+append_entry-requires-clause-number g c = c.check_number.ensures
 
 pub returns-in-Some-clause-whole : goal.returns-in-Some-clause-whole
 returns-in-Some-clause-whole g c = subst (λ p. AreWhole c.still.inside.members → AreWhole p.parts.members) c.still.view_is (λ whole. whole)
@@ -410,73 +410,73 @@ returns-in-Some-clause-given g c = ap (λ p. g.B.Bank.given p.parts.bank) c.stil
 pub shape_in-shape-requires : goal.shape_in-shape-requires
 shape_in-shape-requires g c = valid (g.B.Bank.given c.still.inside.bank) c.still.inside.members c.still.invariant.kept.members_are.placed
 
-pub vacant_roles-before-requires-clause-known : goal.vacant_roles-before-requires-clause-known
-vacant_roles-before-requires-clause-known g c = shape-known (g.B.Bank.given c.still.inside.bank) c.still.inside.members c.still.invariant.kept.members_are.placed c.shape_in-shape.result c.shape_in-shape.ensures
+pub unassigned_roles-before-requires-clause-known : goal.unassigned_roles-before-requires-clause-known
+unassigned_roles-before-requires-clause-known g c = shape-known (g.B.Bank.given c.still.inside.bank) c.still.inside.members c.still.invariant.kept.members_are.placed c.shape_in-shape.result c.shape_in-shape.ensures
 
-pub vacant_roles-before-requires-clause-few : goal.vacant_roles-before-requires-clause-few
-vacant_roles-before-requires-clause-few g c = shape-few (g.B.Bank.given c.still.inside.bank) c.still.inside.members c.still.invariant.kept.members_are.placed c.shape_in-shape.result c.shape_in-shape.ensures
+pub unassigned_roles-before-requires-clause-few : goal.unassigned_roles-before-requires-clause-few
+unassigned_roles-before-requires-clause-few g c = shape-few (g.B.Bank.given c.still.inside.bank) c.still.inside.members c.still.invariant.kept.members_are.placed c.shape_in-shape.result c.shape_in-shape.ensures
 
-pub are_mended-synced-requires-clause-shape : goal.are_mended-synced-requires-clause-shape
-are_mended-synced-requires-clause-shape g c = c.shape_in-shape.ensures
+pub are_synced-synced-requires-clause-shape : goal.are_synced-synced-requires-clause-shape
+are_synced-synced-requires-clause-shape g c = c.shape_in-shape.ensures
 
-pub are_mended-synced-requires-clause-valid : goal.are_mended-synced-requires-clause-valid
-are_mended-synced-requires-clause-valid g c = valid (g.B.Bank.given c.still.inside.bank) c.still.inside.members c.still.invariant.kept.members_are.placed
+pub are_synced-synced-requires-clause-valid : goal.are_synced-synced-requires-clause-valid
+are_synced-synced-requires-clause-valid g c = valid (g.B.Bank.given c.still.inside.bank) c.still.inside.members c.still.invariant.kept.members_are.placed
 
-pub are_mended-synced-requires-clause-multiple : goal.are_mended-synced-requires-clause-multiple
-are_mended-synced-requires-clause-multiple g c = multiple (g.B.Bank.given c.still.inside.bank) c.still.inside.members c.still.invariant.kept.members_are.placed
+pub are_synced-synced-requires-clause-multiple : goal.are_synced-synced-requires-clause-multiple
+are_synced-synced-requires-clause-multiple g c = multiple (g.B.Bank.given c.still.inside.bank) c.still.inside.members c.still.invariant.kept.members_are.placed
 
-pub are_mended-synced-requires-clause-size : goal.are_mended-synced-requires-clause-size
-are_mended-synced-requires-clause-size g c = short (g.B.Bank.given c.still.inside.bank) c.still.inside.members c.still.invariant.kept.members_are.placed
+pub are_synced-synced-requires-clause-size : goal.are_synced-synced-requires-clause-size
+are_synced-synced-requires-clause-size g c = short (g.B.Bank.given c.still.inside.bank) c.still.inside.members c.still.invariant.kept.members_are.placed
 
-pub are_mended-synced-requires-clause-progress : goal.are_mended-synced-requires-clause-progress
-are_mended-synced-requires-clause-progress g c = c.still.invariant.kept.progress
+pub are_synced-synced-requires-clause-progress : goal.are_synced-synced-requires-clause-progress
+are_synced-synced-requires-clause-progress g c = c.still.invariant.kept.progress
 
-pub put-done-requires-clause-slots : goal.put-done-requires-clause-slots
-put-done-requires-clause-slots g c = c.still.invariant.kept.slots
+pub write_listed-done-requires-clause-slots : goal.write_listed-done-requires-clause-slots
+write_listed-done-requires-clause-slots g c = c.still.invariant.kept.slots
 
-pub put-done-requires-clause-placed : goal.put-done-requires-clause-placed
-put-done-requires-clause-placed g c = c.still.invariant.kept.members_are.placed
+pub write_listed-done-requires-clause-placed : goal.write_listed-done-requires-clause-placed
+write_listed-done-requires-clause-placed g c = c.still.invariant.kept.members_are.placed
 
-pub put-done-requires-clause-unlost : goal.put-done-requires-clause-unlost
-put-done-requires-clause-unlost g c = c.still.invariant.kept.members_are.unlost
+pub write_listed-done-requires-clause-unlost : goal.write_listed-done-requires-clause-unlost
+write_listed-done-requires-clause-unlost g c = c.still.invariant.kept.members_are.unlost
 
-pub put-done-requires-clause-free : goal.put-done-requires-clause-free
-put-done-requires-clause-free g c = c.still.invariant.kept.members_are.free
+pub write_listed-done-requires-clause-free : goal.write_listed-done-requires-clause-free
+write_listed-done-requires-clause-free g c = c.still.invariant.kept.members_are.free
 
-pub put-done-requires-clause-from : goal.put-done-requires-clause-from
-put-done-requires-clause-from g c = c.requires.whole
+pub write_listed-done-requires-clause-from : goal.write_listed-done-requires-clause-from
+write_listed-done-requires-clause-from g c = c.requires.whole
 
-pub put-done-requires-clause-few : goal.put-done-requires-clause-few
-put-done-requires-clause-few g c = c.requires.few
+pub write_listed-done-requires-clause-few : goal.write_listed-done-requires-clause-few
+write_listed-done-requires-clause-few g c = c.requires.few
 
-pub put-done-requires-clause-rows : goal.put-done-requires-clause-rows
-put-done-requires-clause-rows g c = c.still.invariant.rows_fit
+pub write_listed-done-requires-clause-rows : goal.write_listed-done-requires-clause-rows
+write_listed-done-requires-clause-rows g c = c.still.invariant.rows_fit
 
-pub put-done-requires-clause-buffer : goal.put-done-requires-clause-buffer
-put-done-requires-clause-buffer g c = c.still.invariant.buffer_fits
+pub write_listed-done-requires-clause-buffer : goal.write_listed-done-requires-clause-buffer
+write_listed-done-requires-clause-buffer g c = c.still.invariant.buffer_fits
 
-pub newly_vacant-roles-requires-clause-known : goal.newly_vacant-roles-requires-clause-known
-newly_vacant-roles-requires-clause-known g c =
+pub newly_unassigned-roles-requires-clause-known : goal.newly_unassigned-roles-requires-clause-known
+newly_unassigned-roles-requires-clause-known g c =
     let moved = c.put-done.ensures.moved in
     shape-known (g.B.Bank.given c.still.inside.bank) c.put-done.new.members moved.placed c.shape_in-shape.result (c.shape_in-shape.ensures ∙ sym moved.shape)
 
-pub newly_vacant-roles-requires-clause-few : goal.newly_vacant-roles-requires-clause-few
-newly_vacant-roles-requires-clause-few g c = shape-few (g.B.Bank.given c.still.inside.bank) c.still.inside.members c.still.invariant.kept.members_are.placed c.shape_in-shape.result c.shape_in-shape.ensures
+pub newly_unassigned-roles-requires-clause-few : goal.newly_unassigned-roles-requires-clause-few
+newly_unassigned-roles-requires-clause-few g c = shape-few (g.B.Bank.given c.still.inside.bank) c.still.inside.members c.still.invariant.kept.members_are.placed c.shape_in-shape.result c.shape_in-shape.ensures
 
-pub enter_failure-requires-clause-room : goal.enter_failure-requires-clause-room
-enter_failure-requires-clause-room g c = room-50 51 c.make_room.new.self.room (omega arith) c.in-Ok-make_room.ensures.ok
+pub append_failure-requires-clause-room : goal.append_failure-requires-clause-room
+append_failure-requires-clause-room g c = room-50 51 c.make_room.new.self.room (omega arith) c.in-Ok-make_room.ensures.ok
 
-pub enter_failure-requires-clause-number : goal.enter_failure-requires-clause-number
-enter_failure-requires-clause-number g c = c.check_number.ensures
+pub append_failure-requires-clause-number : goal.append_failure-requires-clause-number
+append_failure-requires-clause-number g c = c.check_number.ensures
 
 pub returns-in-Some-refusal-clause-given : goal.returns-in-Some-refusal-clause-given
 returns-in-Some-refusal-clause-given g c = c.put-done.ensures.given ∙ ap (λ p. g.B.Bank.given p.parts.bank) c.still.view_is
 
-pub enter_behind-requires-clause-room : goal.enter_behind-requires-clause-room
-enter_behind-requires-clause-room g c = room-49 c.make_room.new.self.room (room-50 51 c.make_room.new.self.room (omega arith) c.in-Ok-make_room.ensures.ok)
+pub append_after_losses-requires-clause-room : goal.append_after_losses-requires-clause-room
+append_after_losses-requires-clause-room g c = room-49 c.make_room.new.self.room (room-50 51 c.make_room.new.self.room (omega arith) c.in-Ok-make_room.ensures.ok)
 
-pub enter_behind-requires-clause-number : goal.enter_behind-requires-clause-number
-enter_behind-requires-clause-number g c = c.check_number.ensures
+pub append_after_losses-requires-clause-number : goal.append_after_losses-requires-clause-number
+append_after_losses-requires-clause-number g c = c.check_number.ensures
 
 pub returns-clause-dirty : goal.returns-clause-dirty
 returns-clause-dirty g c = c.put-done.ensures.dirty c.in_default-refusal.is
@@ -488,14 +488,14 @@ pub returns-in-Some-clause-caused : goal.returns-in-Some-clause-caused
 returns-in-Some-clause-caused g c =
     let to = c.args.at + length c.args.from.now / 512 in
     let m = c.still.inside.members in
-    subst (λ p. IsRefusedFor (visible_in p) to (IsUnwritten (shape_of p.parts.members.newest) (are_mended (shape_of p.parts.members.newest) (mended_rows p.parts.work.resync p.parts.members) to)) p.parts.members m c.in-Some.refusal)
+    subst (λ p. IsRefusedFor (visible_in p) to (IsUnwritten (shape_of p.parts.members.newest) (are_synced (shape_of p.parts.members.newest) (synced_rows p.parts.work.resync p.parts.members) to)) p.parts.members m c.in-Some.refusal)
     c.still.view_is c.in-Some.ensures.why
 
 pub returns-in-Some-clause-first : goal.returns-in-Some-clause-first
 returns-in-Some-clause-first g c =
     let to = c.args.at + length c.args.from.now / 512 in
     let m = c.still.inside.members in
-    subst (λ p. call_refusal (visible_in p) to (write_refusal (shape_of p.parts.members.newest) (are_mended (shape_of p.parts.members.newest) (mended_rows p.parts.work.resync p.parts.members) to) m) ≡ Some c.in-Some.refusal)
+    subst (λ p. call_refusal (visible_in p) to (write_refusal (shape_of p.parts.members.newest) (are_synced (shape_of p.parts.members.newest) (synced_rows p.parts.work.resync p.parts.members) to) m) ≡ Some c.in-Some.refusal)
     c.still.view_is (sym c.in-Some.ensures.first)
 
 pub returns-in-Some-refusal-clause-failed : goal.returns-in-Some-refusal-clause-failed

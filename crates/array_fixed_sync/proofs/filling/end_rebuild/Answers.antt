@@ -11,7 +11,7 @@ use Rattle.array_fixed.specs.history_the_LostCause_TheVariants.{Fault}
 use Rattle.array_fixed.specs.history_the_StepKind_TheVariants.{RebuildEnded}
 use Rattle.array_fixed.specs.history_Plain.{entries_of}
 use Rattle.array_fixed.specs.history_Transfers.{last_end_from}
-use Rattle.array_fixed.specs.array_members_Lacking.{AreLostSince, AreTooMany, mended_rows}
+use Rattle.array_fixed.specs.array_members_Lacking.{AreLostSince, AreTooMany, synced_rows}
 use Rattle.array_fixed.specs.array_members_Rebuilding.{Held, with_whole}
 use Rattle.array_fixed.specs.array_members_Status.{left_of, stripes_of}
 use Rattle.array_fixed.proofs.array_members_Fit.{valid, short}
@@ -77,15 +77,15 @@ check_going-requires g c =
     subst (λ p. IsCallUnbroken g.B.Bank.tells (moving_world (g.B.Bank.given p.parts.bank) (g.B.Bank.tape p.parts.bank) p) p.parts.entries c.args.who) (sym c.still.view_is) c.requires.open in
     unbroken.goes
 
-pub vacant_roles-before-requires-clause-few : goal.vacant_roles-before-requires-clause-few
-vacant_roles-before-requires-clause-few g c =
+pub unassigned_roles-before-requires-clause-few : goal.unassigned_roles-before-requires-clause-few
+unassigned_roles-before-requires-clause-few g c =
     let a = c.still.inside in
     let most = (limited (shape_of a.members.newest) (valid (g.B.Bank.given a.bank) a.members c.still.invariant.kept.members_are.placed)).most in
     let disks = ap (λ (s : Shape). s.disks) c.shape_in-disks.ensures in
     omega (arith, most, disks)
 
-pub newly_vacant-roles-requires-clause-few : goal.newly_vacant-roles-requires-clause-few
-newly_vacant-roles-requires-clause-few g c =
+pub newly_unassigned-roles-requires-clause-few : goal.newly_unassigned-roles-requires-clause-few
+newly_unassigned-roles-requires-clause-few g c =
     let a = c.still.inside in
     let most = (limited (shape_of a.members.newest) (valid (g.B.Bank.given a.bank) a.members c.still.invariant.kept.members_are.placed)).most in
     let disks = ap (λ (s : Shape). s.disks) c.shape_in-disks.ensures in
@@ -108,7 +108,7 @@ invariant_of-still g c =
     let tape' = g.B.Bank.tape c.record_and_name-spares.new.bank in
     let before = g.B.Bank.faults_of a.bank in
     let after = g.B.Bank.faults_of c.record_and_name-spares.new.bank in
-    let roles = c.newly_vacant-roles.result in
+    let roles = c.newly_unassigned-roles.result in
     let spares = c.record_and_name-spares.result in
     let end = c.ops-end.result in
     let role = c.args.role in
@@ -118,9 +118,9 @@ invariant_of-still g c =
     let below : role < (shape_of a.members.newest).disks = subst (λ (n : ℕ). role < n) (count-still a.members.newest here.still) pending.0.0 in
     let to = receiver-recovering given a.members here.placed here.unlost role slot below recovers in
     let synced : a.work.resync ≡ None = subst (λ p. p.parts.work.resync ≡ None) (sym c.still.view_is) c.requires.synced in
-    let since : AreLostSince (with_whole role slot a.members) m roles spares before after = lost-since given (with_whole role slot a.members) m c.shape_in-disks.result.disks c.vacant_roles-before.result roles spares before after
+    let since : AreLostSince (with_whole role slot a.members) m roles spares before after = lost-since given (with_whole role slot a.members) m c.shape_in-disks.result.disks c.unassigned_roles-before.result roles spares before after
     (placed-given given a.members here.placed None role slot to) did.moved did.failed (ap (λ (s : Shape). s.disks) c.shape_in-disks.ensures ∙ sym (count-still a.members.newest here.still))
-    (λ r. c.vacant_roles-before.ensures r ∙ whole-vacant given a.members m here.placed role slot to here.free recovers did.moved c.shape_in-disks.result.disks r) c.newly_vacant-roles.ensures in
+    (λ r. c.unassigned_roles-before.ensures r ∙ whole-vacant given a.members m here.placed role slot to here.free recovers did.moved c.shape_in-disks.result.disks r) c.newly_unassigned-roles.ensures in
     let leaves : IsMadeWhole g.B.Bank.tells given tape tape' a.members m role slot roles spares before after = record {
       below = below;
       recovers = recovers;
@@ -134,16 +134,16 @@ invariant_of-still g c =
       safe = did.safe;
       back = did.given_back;
     } in
-    let vacant = sym c.is_vacant.ensures ∙ c.if-is_vacant.true in
+    let vacant = sym c.is_unassigned.ensures ∙ c.if-is_unassigned.true in
     ready (entries_of c.args.who end (losses_of roles spares)) was (rows-moved given (with_whole role slot a.members) m did.moved)
     (end-lost a.ahead c.args.who end role slot roles spares was.kept c.in_default.ensures unbroken.goes c.requires.caller c.ops-end.ensures.count pending.1 synced leaves vacant)
     (gone-plain was c.args.who end c.in_default.ensures unbroken.goes c.requires.caller c.ops-end.ensures.count pending.1 synced leaves vacant)
     did.counts (losses-keep c.args.who end roles spares)
-    did.given (scope-same given a.backup did.given c.enter_lost.ensures.uuid c.enter_lost.ensures.given) c.enter_lost.ensures.first refl c.enter_lost.ensures.items
-    (room-after-losses was.room_left some c.enter_lost.ensures.room)
+    did.given (scope-same given a.backup did.given c.append_lost.ensures.uuid c.append_lost.ensures.given) c.append_lost.ensures.first refl c.append_lost.ensures.items
+    (room-after-losses was.room_left some c.append_lost.ensures.room)
 
-pub returns-then-is_vacant-clause-entered : goal.returns-then-is_vacant-clause-entered
-returns-then-is_vacant-clause-entered g c =
+pub returns-then-is_unassigned-clause-entered : goal.returns-then-is_unassigned-clause-entered
+returns-then-is_unassigned-clause-entered g c =
     let was = c.still.invariant in
     let here = was.kept.members_are in
     let a = c.still.inside in
@@ -154,7 +154,7 @@ returns-then-is_vacant-clause-entered g c =
     let tape' = g.B.Bank.tape c.record_and_name-spares.new.bank in
     let before = g.B.Bank.faults_of a.bank in
     let after = g.B.Bank.faults_of c.record_and_name-spares.new.bank in
-    let roles = c.newly_vacant-roles.result in
+    let roles = c.newly_unassigned-roles.result in
     let spares = c.record_and_name-spares.result in
     let end = c.ops-end.result in
     let role = c.args.role in
@@ -163,15 +163,15 @@ returns-then-is_vacant-clause-entered g c =
     let pending : AreStripesRebuilt a.work a.members role = subst (λ p. AreStripesRebuilt p.parts.work p.parts.members role) (sym c.still.view_is) c.requires.pending in
     let below : role < (shape_of a.members.newest).disks = subst (λ (n : ℕ). role < n) (count-still a.members.newest here.still) pending.0.0 in
     let to = receiver-recovering given a.members here.placed here.unlost role slot below recovers in
-    let since : AreLostSince (with_whole role slot a.members) m roles spares before after = lost-since given (with_whole role slot a.members) m c.shape_in-disks.result.disks c.vacant_roles-before.result roles spares before after
+    let since : AreLostSince (with_whole role slot a.members) m roles spares before after = lost-since given (with_whole role slot a.members) m c.shape_in-disks.result.disks c.unassigned_roles-before.result roles spares before after
     (placed-given given a.members here.placed None role slot to) did.moved did.failed (ap (λ (s : Shape). s.disks) c.shape_in-disks.ensures ∙ sym (count-still a.members.newest here.still))
-    (λ r. c.vacant_roles-before.ensures r ∙ whole-vacant given a.members m here.placed role slot to here.free recovers did.moved c.shape_in-disks.result.disks r) c.newly_vacant-roles.ensures in
-    let vacant = sym c.is_vacant.ensures ∙ c.if-is_vacant.true in
+    (λ r. c.unassigned_roles-before.ensures r ∙ whole-vacant given a.members m here.placed role slot to here.free recovers did.moved c.shape_in-disks.result.disks r) c.newly_unassigned-roles.ensures in
+    let vacant = sym c.is_unassigned.ensures ∙ c.if-is_unassigned.true in
     let told = among-vacant did.moved since role pending.0.0 (whole-held given a.members here.placed role slot to) vacant in
-    rw (← c.still.view_is) (inr (record { roles = roles; spares = spares; end = end; is = c.enter_lost.ensures.items; among = told }, vacant))
+    rw (← c.still.view_is) (inr (record { roles = roles; spares = spares; end = end; is = c.append_lost.ensures.items; among = told }, vacant))
 
-pub returns-then-is_vacant-clause-stepped : goal.returns-then-is_vacant-clause-stepped
-returns-then-is_vacant-clause-stepped g c =
+pub returns-then-is_unassigned-clause-stepped : goal.returns-then-is_unassigned-clause-stepped
+returns-then-is_unassigned-clause-stepped g c =
     let was = c.still.invariant in
     let here = was.kept.members_are in
     let a = c.still.inside in
@@ -182,7 +182,7 @@ returns-then-is_vacant-clause-stepped g c =
     let tape' = g.B.Bank.tape c.record_and_name-spares.new.bank in
     let before = g.B.Bank.faults_of a.bank in
     let after = g.B.Bank.faults_of c.record_and_name-spares.new.bank in
-    let roles = c.newly_vacant-roles.result in
+    let roles = c.newly_unassigned-roles.result in
     let spares = c.record_and_name-spares.result in
     let end = c.ops-end.result in
     let role = c.args.role in
@@ -191,35 +191,35 @@ returns-then-is_vacant-clause-stepped g c =
     let pending : AreStripesRebuilt a.work a.members role = subst (λ p. AreStripesRebuilt p.parts.work p.parts.members role) (sym c.still.view_is) c.requires.pending in
     let below : role < (shape_of a.members.newest).disks = subst (λ (n : ℕ). role < n) (count-still a.members.newest here.still) pending.0.0 in
     let to = receiver-recovering given a.members here.placed here.unlost role slot below recovers in
-    let since : AreLostSince (with_whole role slot a.members) m roles spares before after = lost-since given (with_whole role slot a.members) m c.shape_in-disks.result.disks c.vacant_roles-before.result roles spares before after
+    let since : AreLostSince (with_whole role slot a.members) m roles spares before after = lost-since given (with_whole role slot a.members) m c.shape_in-disks.result.disks c.unassigned_roles-before.result roles spares before after
     (placed-given given a.members here.placed None role slot to) did.moved did.failed (ap (λ (s : Shape). s.disks) c.shape_in-disks.ensures ∙ sym (count-still a.members.newest here.still))
-    (λ r. c.vacant_roles-before.ensures r ∙ whole-vacant given a.members m here.placed role slot to here.free recovers did.moved c.shape_in-disks.result.disks r) c.newly_vacant-roles.ensures in
-    let vacant = sym c.is_vacant.ensures ∙ c.if-is_vacant.true in
+    (λ r. c.unassigned_roles-before.ensures r ∙ whole-vacant given a.members m here.placed role slot to here.free recovers did.moved c.shape_in-disks.result.disks r) c.newly_unassigned-roles.ensures in
+    let vacant = sym c.is_unassigned.ensures ∙ c.if-is_unassigned.true in
     let told = among-vacant did.moved since role pending.0.0 (whole-held given a.members here.placed role slot to) vacant in
     rw (← c.still.view_is) (stepped did.grows (shapes-moved did.moved)
-    (λ t. subst (λ (l : List Entry). last_end_from c.enter_lost.new.epoch.first l ≡ length (g.B.Bank.tape c.record_and_name-spares.new.bank)) (sym c.enter_lost.ensures.items)
-    (losses-end c.enter_lost.new.epoch.first a.epoch.entries.items c.args.who end (losses_of roles spares) (Lost role Fault) told ∙ c.ops-end.ensures.count t))
+    (λ t. subst (λ (l : List Entry). last_end_from c.append_lost.new.epoch.first l ≡ length (g.B.Bank.tape c.record_and_name-spares.new.bank)) (sym c.append_lost.ensures.items)
+    (losses-end c.append_lost.new.epoch.first a.epoch.entries.items c.args.who end (losses_of roles spares) (Lost role Fault) told ∙ c.ops-end.ensures.count t))
     (failed-still given a.members m here.placed role slot to here.free recovers did.moved spares before after did.failed).roles
     (losses-tail (Held a.members) (WasSpare a.members) (with_whole role slot a.members) m (λ r s held. holder-before given a.members m here.placed role slot to here.free recovers did.moved r s held)
-    (λ s spare. (spare-before given a.members here.placed None role slot to s spare).0) before after a.epoch.entries.items a.epoch.entries.items c.enter_lost.new.epoch.entries.items
+    (λ s spare. (spare-before given a.members here.placed None role slot to s spare).0) before after a.epoch.entries.items a.epoch.entries.items c.append_lost.new.epoch.entries.items
     c.args.who end roles spares since refl [] (All-nil (λ e. IsLossBy (Held a.members) (WasSpare a.members) before after e.event))
-    (alone a.epoch.entries.items c.enter_lost.new.epoch.entries.items c.args.who end (losses_of roles spares) c.enter_lost.ensures.items))
+    (alone a.epoch.entries.items c.append_lost.new.epoch.entries.items c.args.who end (losses_of roles spares) c.append_lost.ensures.items))
     did.counts
-    (record { uuid = c.enter_lost.ensures.uuid; given = c.enter_lost.ensures.given; first = c.enter_lost.ensures.first; backup = refl; ahead = refl; limit = refl })
+    (record { uuid = c.append_lost.ensures.uuid; given = c.append_lost.ensures.given; first = c.append_lost.ensures.first; backup = refl; ahead = refl; limit = refl })
     (λ t. (was.kept.recorded t).begun))
 
-pub returns-then-is_vacant-clause-whole : goal.returns-then-is_vacant-clause-whole
-returns-then-is_vacant-clause-whole g c = rw (← c.still.view_is) (inr (sym c.is_vacant.ensures ∙ c.if-is_vacant.true))
+pub returns-then-is_unassigned-clause-whole : goal.returns-then-is_unassigned-clause-whole
+returns-then-is_unassigned-clause-whole g c = rw (← c.still.view_is) (inr (sym c.is_unassigned.ensures ∙ c.if-is_unassigned.true))
 
-pub returns-then-is_vacant-clause-good : goal.returns-then-is_vacant-clause-good
-returns-then-is_vacant-clause-good g c =
+pub returns-then-is_unassigned-clause-good : goal.returns-then-is_unassigned-clause-good
+returns-then-is_unassigned-clause-good g c =
     let a = c.still.inside in
     let m = c.record_and_name-spares.new.members in
     let synced : a.work.resync ≡ None = subst (λ p. p.parts.work.resync ≡ None) (sym c.still.view_is) c.requires.synced in
-    λ t does fit row low. ((invariant_of-still g c).kept.listed t does (inr fit)).rows fit row (subst (λ o. row < mended_rows o m) (sym synced) low) low
+    λ t does fit row low. ((invariant_of-still g c).kept.listed t does (inr fit)).rows fit row (subst (λ o. row < synced_rows o m) (sym synced) low) low
 
-pub returns-then-is_vacant-clause-held : goal.returns-then-is_vacant-clause-held
-returns-then-is_vacant-clause-held g c =
+pub returns-then-is_unassigned-clause-held : goal.returns-then-is_unassigned-clause-held
+returns-then-is_unassigned-clause-held g c =
     let was = c.still.invariant in
     let here = was.kept.members_are in
     let a = c.still.inside in
@@ -234,8 +234,8 @@ returns-then-is_vacant-clause-held g c =
     let m = c.record_and_name-spares.new.members in
     rw (← c.still.view_is) (λ r s held. holder-before given a.members m here.placed role slot to here.free recovers did.moved r s (did.moved.held r s held))
 
-pub returns-then-is_vacant-clause-spares : goal.returns-then-is_vacant-clause-spares
-returns-then-is_vacant-clause-spares g c =
+pub returns-then-is_unassigned-clause-spares : goal.returns-then-is_unassigned-clause-spares
+returns-then-is_unassigned-clause-spares g c =
     let was = c.still.invariant in
     let here = was.kept.members_are in
     let a = c.still.inside in
@@ -248,8 +248,8 @@ returns-then-is_vacant-clause-spares g c =
     let to = receiver-recovering given a.members here.placed here.unlost role slot below recovers in
     rw (← c.still.view_is) (λ s has. (spare-before given a.members here.placed None role slot to s (c.record_and_name-spares.ensures.moved.fewer s has)).0)
 
-pub returns-then-is_vacant-clause-left : goal.returns-then-is_vacant-clause-left
-returns-then-is_vacant-clause-left g c =
+pub returns-then-is_unassigned-clause-left : goal.returns-then-is_unassigned-clause-left
+returns-then-is_unassigned-clause-left g c =
     let was = c.still.invariant in
     let here = was.kept.members_are in
     let a = c.still.inside in
@@ -262,7 +262,7 @@ returns-then-is_vacant-clause-left g c =
     let tape' = g.B.Bank.tape c.record_and_name-spares.new.bank in
     let before = g.B.Bank.faults_of a.bank in
     let after = g.B.Bank.faults_of c.record_and_name-spares.new.bank in
-    let roles = c.newly_vacant-roles.result in
+    let roles = c.newly_unassigned-roles.result in
     let spares = c.record_and_name-spares.result in
     let end = c.ops-end.result in
     let role = c.args.role in
@@ -272,9 +272,9 @@ returns-then-is_vacant-clause-left g c =
     let below : role < (shape_of a.members.newest).disks = subst (λ (n : ℕ). role < n) (count-still a.members.newest here.still) pending.0.0 in
     let to = receiver-recovering given a.members here.placed here.unlost role slot below recovers in
     let synced : a.work.resync ≡ None = subst (λ p. p.parts.work.resync ≡ None) (sym c.still.view_is) c.requires.synced in
-    let since : AreLostSince (with_whole role slot a.members) m roles spares before after = lost-since given (with_whole role slot a.members) m c.shape_in-disks.result.disks c.vacant_roles-before.result roles spares before after
+    let since : AreLostSince (with_whole role slot a.members) m roles spares before after = lost-since given (with_whole role slot a.members) m c.shape_in-disks.result.disks c.unassigned_roles-before.result roles spares before after
     (placed-given given a.members here.placed None role slot to) did.moved did.failed (ap (λ (s : Shape). s.disks) c.shape_in-disks.ensures ∙ sym (count-still a.members.newest here.still))
-    (λ r. c.vacant_roles-before.ensures r ∙ whole-vacant given a.members m here.placed role slot to here.free recovers did.moved c.shape_in-disks.result.disks r) c.newly_vacant-roles.ensures in
+    (λ r. c.unassigned_roles-before.ensures r ∙ whole-vacant given a.members m here.placed role slot to here.free recovers did.moved c.shape_in-disks.result.disks r) c.newly_unassigned-roles.ensures in
     let leaves : IsMadeWhole g.B.Bank.tells given tape tape' a.members m role slot roles spares before after = record {
       below = below;
       recovers = recovers;
@@ -290,10 +290,10 @@ returns-then-is_vacant-clause-left g c =
     } in
     let less = whole-less a.ahead c.args.who end role slot roles spares was.kept c.in_default.ensures unbroken.goes c.requires.caller c.ops-end.ensures.count pending.1 synced leaves in
     rw (← c.still.view_is) (fewer-more (planned-same a.ahead (shapes-moved did.moved))
-    (steps-fewer a.work (left_of a.work a.members) c.args.who end [] did.moved since less (alone a.epoch.entries.items c.enter_lost.new.epoch.entries.items c.args.who end (losses_of roles spares) c.enter_lost.ensures.items)))
+    (steps-fewer a.work (left_of a.work a.members) c.args.who end [] did.moved since less (alone a.epoch.entries.items c.append_lost.new.epoch.entries.items c.args.who end (losses_of roles spares) c.append_lost.ensures.items)))
 
-pub returns-then-is_vacant-clause-caused : goal.returns-then-is_vacant-clause-caused
-returns-then-is_vacant-clause-caused g c = rw (← c.still.view_is) (omega arith, λ refusal many. never-both c.still.inside.members refusal c.in_default.ensures many)
+pub returns-then-is_unassigned-clause-caused : goal.returns-then-is_unassigned-clause-caused
+returns-then-is_unassigned-clause-caused g c = rw (← c.still.view_is) (omega arith, λ refusal many. never-both c.still.inside.members refusal c.in_default.ensures many)
 
 -- ---- the role is whole
 
@@ -313,7 +313,7 @@ invariant_of-still-2 g c =
     let tape' = g.B.Bank.tape c.record_and_name-spares.new.bank in
     let before = g.B.Bank.faults_of a.bank in
     let after = g.B.Bank.faults_of c.record_and_name-spares.new.bank in
-    let roles = c.newly_vacant-roles.result in
+    let roles = c.newly_unassigned-roles.result in
     let spares = c.record_and_name-spares.result in
     let end = c.ops-end.result in
     let role = c.args.role in
@@ -323,9 +323,9 @@ invariant_of-still-2 g c =
     let below : role < (shape_of a.members.newest).disks = subst (λ (n : ℕ). role < n) (count-still a.members.newest here.still) pending.0.0 in
     let to = receiver-recovering given a.members here.placed here.unlost role slot below recovers in
     let synced : a.work.resync ≡ None = subst (λ p. p.parts.work.resync ≡ None) (sym c.still.view_is) c.requires.synced in
-    let since : AreLostSince (with_whole role slot a.members) m roles spares before after = lost-since given (with_whole role slot a.members) m c.shape_in-disks.result.disks c.vacant_roles-before.result roles spares before after
+    let since : AreLostSince (with_whole role slot a.members) m roles spares before after = lost-since given (with_whole role slot a.members) m c.shape_in-disks.result.disks c.unassigned_roles-before.result roles spares before after
     (placed-given given a.members here.placed None role slot to) did.moved did.failed (ap (λ (s : Shape). s.disks) c.shape_in-disks.ensures ∙ sym (count-still a.members.newest here.still))
-    (λ r. c.vacant_roles-before.ensures r ∙ whole-vacant given a.members m here.placed role slot to here.free recovers did.moved c.shape_in-disks.result.disks r) c.newly_vacant-roles.ensures in
+    (λ r. c.unassigned_roles-before.ensures r ∙ whole-vacant given a.members m here.placed role slot to here.free recovers did.moved c.shape_in-disks.result.disks r) c.newly_unassigned-roles.ensures in
     let leaves : IsMadeWhole g.B.Bank.tells given tape tape' a.members m role slot roles spares before after = record {
       below = below;
       recovers = recovers;
@@ -339,15 +339,15 @@ invariant_of-still-2 g c =
       safe = did.safe;
       back = did.given_back;
     } in
-    let whole_is : role_state (reading_of m) role ≡ Whole slot = whole-after given a.members m here.placed role slot to here.free recovers did.moved (sym c.is_vacant.ensures ∙ c.if-is_vacant.false) in
+    let whole_is : role_state (reading_of m) role ≡ Whole slot = whole-after given a.members m here.placed role slot to here.free recovers did.moved (sym c.is_unassigned.ensures ∙ c.if-is_unassigned.false) in
     let left = c.all_left-left.result in
     ready (entries_of c.args.who end (losses_of roles spares ++ Step RebuildEnded left ∷ Rebuilt role ∷ [])) was (rows-moved given (with_whole role slot a.members) m did.moved)
     (whole-done a.ahead c.args.who end role slot roles spares was.kept c.in_default.ensures unbroken.goes c.requires.caller c.ops-end.ensures.count pending.1 synced leaves left c.all_left-left.ensures plans whole_is unbroken.kept)
     (whole-plain was c.args.who end c.in_default.ensures unbroken.goes c.requires.caller c.ops-end.ensures.count pending.1 synced leaves left whole_is c.all_left-left.ensures)
     did.counts (behind-keeps c.args.who end roles spares (Step RebuildEnded left ∷ Rebuilt role ∷ []) (record { long = λ n. refl; free = λ limit. refl }))
-    did.given (scope-same given a.backup did.given (c.enter.ensures.uuid ∙ c.enter_behind.ensures.uuid) (c.enter.ensures.given ∙ c.enter_behind.ensures.given)) (c.enter.ensures.first ∙ c.enter_behind.ensures.first) refl
-    (both a.epoch.entries.items c.enter_behind.new.epoch.entries.items c.enter.new.epoch.entries.items c.args.who end (losses_of roles spares) (Step RebuildEnded c.all_left-left.result) (Rebuilt role) c.enter_behind.ensures.items c.enter.ensures.items)
-    (omega (arith, c.enter_behind.ensures.room, c.enter.ensures.room, was.room_left, some))
+    did.given (scope-same given a.backup did.given (c.append_entry.ensures.uuid ∙ c.append_after_losses.ensures.uuid) (c.append_entry.ensures.given ∙ c.append_after_losses.ensures.given)) (c.append_entry.ensures.first ∙ c.append_after_losses.ensures.first) refl
+    (both a.epoch.entries.items c.append_after_losses.new.epoch.entries.items c.append_entry.new.epoch.entries.items c.args.who end (losses_of roles spares) (Step RebuildEnded c.all_left-left.result) (Rebuilt role) c.append_after_losses.ensures.items c.append_entry.ensures.items)
+    (omega (arith, c.append_after_losses.ensures.room, c.append_entry.ensures.room, was.room_left, some))
 
 pub returns-clause-entered : goal.returns-clause-entered
 returns-clause-entered g c =
@@ -361,7 +361,7 @@ returns-clause-entered g c =
     let tape' = g.B.Bank.tape c.record_and_name-spares.new.bank in
     let before = g.B.Bank.faults_of a.bank in
     let after = g.B.Bank.faults_of c.record_and_name-spares.new.bank in
-    let roles = c.newly_vacant-roles.result in
+    let roles = c.newly_unassigned-roles.result in
     let spares = c.record_and_name-spares.result in
     let end = c.ops-end.result in
     let role = c.args.role in
@@ -369,8 +369,8 @@ returns-clause-entered g c =
       roles,
       spares,
       end,
-      subst (λ (n : ℕ). c.enter.new.epoch.entries.items ≡ a.epoch.entries.items ++ entries_of c.args.who end (losses_of roles spares ++ Step RebuildEnded n ∷ Rebuilt role ∷ [])) c.all_left-left.ensures
-          (both a.epoch.entries.items c.enter_behind.new.epoch.entries.items c.enter.new.epoch.entries.items c.args.who end (losses_of roles spares) (Step RebuildEnded c.all_left-left.result) (Rebuilt role) c.enter_behind.ensures.items c.enter.ensures.items),
+      subst (λ (n : ℕ). c.append_entry.new.epoch.entries.items ≡ a.epoch.entries.items ++ entries_of c.args.who end (losses_of roles spares ++ Step RebuildEnded n ∷ Rebuilt role ∷ [])) c.all_left-left.ensures
+          (both a.epoch.entries.items c.append_after_losses.new.epoch.entries.items c.append_entry.new.epoch.entries.items c.args.who end (losses_of roles spares) (Step RebuildEnded c.all_left-left.result) (Rebuilt role) c.append_after_losses.ensures.items c.append_entry.ensures.items),
     ))
 
 pub returns-clause-stepped : goal.returns-clause-stepped
@@ -385,7 +385,7 @@ returns-clause-stepped g c =
     let tape' = g.B.Bank.tape c.record_and_name-spares.new.bank in
     let before = g.B.Bank.faults_of a.bank in
     let after = g.B.Bank.faults_of c.record_and_name-spares.new.bank in
-    let roles = c.newly_vacant-roles.result in
+    let roles = c.newly_unassigned-roles.result in
     let spares = c.record_and_name-spares.result in
     let end = c.ops-end.result in
     let role = c.args.role in
@@ -394,20 +394,20 @@ returns-clause-stepped g c =
     let pending : AreStripesRebuilt a.work a.members role = subst (λ p. AreStripesRebuilt p.parts.work p.parts.members role) (sym c.still.view_is) c.requires.pending in
     let below : role < (shape_of a.members.newest).disks = subst (λ (n : ℕ). role < n) (count-still a.members.newest here.still) pending.0.0 in
     let to = receiver-recovering given a.members here.placed here.unlost role slot below recovers in
-    let since : AreLostSince (with_whole role slot a.members) m roles spares before after = lost-since given (with_whole role slot a.members) m c.shape_in-disks.result.disks c.vacant_roles-before.result roles spares before after
+    let since : AreLostSince (with_whole role slot a.members) m roles spares before after = lost-since given (with_whole role slot a.members) m c.shape_in-disks.result.disks c.unassigned_roles-before.result roles spares before after
     (placed-given given a.members here.placed None role slot to) did.moved did.failed (ap (λ (s : Shape). s.disks) c.shape_in-disks.ensures ∙ sym (count-still a.members.newest here.still))
-    (λ r. c.vacant_roles-before.ensures r ∙ whole-vacant given a.members m here.placed role slot to here.free recovers did.moved c.shape_in-disks.result.disks r) c.newly_vacant-roles.ensures in
+    (λ r. c.unassigned_roles-before.ensures r ∙ whole-vacant given a.members m here.placed role slot to here.free recovers did.moved c.shape_in-disks.result.disks r) c.newly_unassigned-roles.ensures in
     let P = λ (e : Entry). IsLossBy (Held a.members) (WasSpare a.members) before after e.event in
     rw (← c.still.view_is) (stepped did.grows (shapes-moved did.moved)
-    (ended-behind tape' c.enter.new.epoch.first c.enter_behind.new.epoch.entries.items c.args.who end [] (Rebuilt role) c.enter.ensures.items c.ops-end.ensures.count)
+    (ended-behind tape' c.append_entry.new.epoch.first c.append_after_losses.new.epoch.entries.items c.args.who end [] (Rebuilt role) c.append_entry.ensures.items c.ops-end.ensures.count)
     (failed-still given a.members m here.placed role slot to here.free recovers did.moved spares before after did.failed).roles
     (losses-tail (Held a.members) (WasSpare a.members) (with_whole role slot a.members) m (λ r s held. holder-before given a.members m here.placed role slot to here.free recovers did.moved r s held)
-    (λ s spare. (spare-before given a.members here.placed None role slot to s spare).0) before after a.epoch.entries.items a.epoch.entries.items c.enter.new.epoch.entries.items
+    (λ s spare. (spare-before given a.members here.placed None role slot to s spare).0) before after a.epoch.entries.items a.epoch.entries.items c.append_entry.new.epoch.entries.items
     c.args.who end roles spares since refl (Step RebuildEnded c.all_left-left.result ∷ Rebuilt role ∷ [])
     (All-cons P (one c.args.who end (Step RebuildEnded c.all_left-left.result)) (one c.args.who end (Rebuilt role) ∷ []) tt (All-cons P (one c.args.who end (Rebuilt role)) [] tt (All-nil P)))
-    (both a.epoch.entries.items c.enter_behind.new.epoch.entries.items c.enter.new.epoch.entries.items c.args.who end (losses_of roles spares) (Step RebuildEnded c.all_left-left.result) (Rebuilt role) c.enter_behind.ensures.items c.enter.ensures.items))
+    (both a.epoch.entries.items c.append_after_losses.new.epoch.entries.items c.append_entry.new.epoch.entries.items c.args.who end (losses_of roles spares) (Step RebuildEnded c.all_left-left.result) (Rebuilt role) c.append_after_losses.ensures.items c.append_entry.ensures.items))
     did.counts
-    (record { uuid = (c.enter.ensures.uuid ∙ c.enter_behind.ensures.uuid); given = (c.enter.ensures.given ∙ c.enter_behind.ensures.given); first = (c.enter.ensures.first ∙ c.enter_behind.ensures.first); backup = refl; ahead = refl; limit = refl })
+    (record { uuid = (c.append_entry.ensures.uuid ∙ c.append_after_losses.ensures.uuid); given = (c.append_entry.ensures.given ∙ c.append_after_losses.ensures.given); first = (c.append_entry.ensures.first ∙ c.append_after_losses.ensures.first); backup = refl; ahead = refl; limit = refl })
     (λ t. (was.kept.recorded t).begun))
 
 pub returns-clause-whole : goal.returns-clause-whole
@@ -424,7 +424,7 @@ returns-clause-whole g c =
     let to = receiver-recovering given a.members here.placed here.unlost role slot below recovers in
     let did = c.record_and_name-spares.ensures in
     let m = c.record_and_name-spares.new.members in
-    let whole_is : role_state (reading_of m) role ≡ Whole slot = whole-after given a.members m here.placed role slot to here.free recovers did.moved (sym c.is_vacant.ensures ∙ c.if-is_vacant.false) in
+    let whole_is : role_state (reading_of m) role ≡ Whole slot = whole-after given a.members m here.placed role slot to here.free recovers did.moved (sym c.is_unassigned.ensures ∙ c.if-is_unassigned.false) in
     rw (← c.still.view_is) (inl (slot, recovers, whole_is))
 
 pub returns-clause-good : goal.returns-clause-good
@@ -432,7 +432,7 @@ returns-clause-good g c =
     let a = c.still.inside in
     let m = c.record_and_name-spares.new.members in
     let synced : a.work.resync ≡ None = subst (λ p. p.parts.work.resync ≡ None) (sym c.still.view_is) c.requires.synced in
-    λ t does fit row low. ((invariant_of-still-2 g c).kept.listed t does (inr fit)).rows fit row (subst (λ o. row < mended_rows o m) (sym synced) low) low
+    λ t does fit row low. ((invariant_of-still-2 g c).kept.listed t does (inr fit)).rows fit row (subst (λ o. row < synced_rows o m) (sym synced) low) low
 
 pub returns-clause-held : goal.returns-clause-held
 returns-clause-held g c =
@@ -478,7 +478,7 @@ returns-clause-left g c =
     let tape' = g.B.Bank.tape c.record_and_name-spares.new.bank in
     let before = g.B.Bank.faults_of a.bank in
     let after = g.B.Bank.faults_of c.record_and_name-spares.new.bank in
-    let roles = c.newly_vacant-roles.result in
+    let roles = c.newly_unassigned-roles.result in
     let spares = c.record_and_name-spares.result in
     let end = c.ops-end.result in
     let role = c.args.role in
@@ -488,9 +488,9 @@ returns-clause-left g c =
     let below : role < (shape_of a.members.newest).disks = subst (λ (n : ℕ). role < n) (count-still a.members.newest here.still) pending.0.0 in
     let to = receiver-recovering given a.members here.placed here.unlost role slot below recovers in
     let synced : a.work.resync ≡ None = subst (λ p. p.parts.work.resync ≡ None) (sym c.still.view_is) c.requires.synced in
-    let since : AreLostSince (with_whole role slot a.members) m roles spares before after = lost-since given (with_whole role slot a.members) m c.shape_in-disks.result.disks c.vacant_roles-before.result roles spares before after
+    let since : AreLostSince (with_whole role slot a.members) m roles spares before after = lost-since given (with_whole role slot a.members) m c.shape_in-disks.result.disks c.unassigned_roles-before.result roles spares before after
     (placed-given given a.members here.placed None role slot to) did.moved did.failed (ap (λ (s : Shape). s.disks) c.shape_in-disks.ensures ∙ sym (count-still a.members.newest here.still))
-    (λ r. c.vacant_roles-before.ensures r ∙ whole-vacant given a.members m here.placed role slot to here.free recovers did.moved c.shape_in-disks.result.disks r) c.newly_vacant-roles.ensures in
+    (λ r. c.unassigned_roles-before.ensures r ∙ whole-vacant given a.members m here.placed role slot to here.free recovers did.moved c.shape_in-disks.result.disks r) c.newly_unassigned-roles.ensures in
     let leaves : IsMadeWhole g.B.Bank.tells given tape tape' a.members m role slot roles spares before after = record {
       below = below;
       recovers = recovers;
@@ -507,40 +507,40 @@ returns-clause-left g c =
     let less = whole-less a.ahead c.args.who end role slot roles spares was.kept c.in_default.ensures unbroken.goes c.requires.caller c.ops-end.ensures.count pending.1 synced leaves in
     rw (← c.still.view_is) (fewer-more (planned-same a.ahead (shapes-moved did.moved))
     (steps-fewer a.work (left_of a.work a.members) c.args.who end (Step RebuildEnded c.all_left-left.result ∷ Rebuilt role ∷ []) did.moved since less
-    (both a.epoch.entries.items c.enter_behind.new.epoch.entries.items c.enter.new.epoch.entries.items c.args.who end (losses_of roles spares) (Step RebuildEnded c.all_left-left.result) (Rebuilt role) c.enter_behind.ensures.items c.enter.ensures.items)))
+    (both a.epoch.entries.items c.append_after_losses.new.epoch.entries.items c.append_entry.new.epoch.entries.items c.args.who end (losses_of roles spares) (Step RebuildEnded c.all_left-left.result) (Rebuilt role) c.append_after_losses.ensures.items c.append_entry.ensures.items)))
 
 pub returns-clause-caused : goal.returns-clause-caused
 returns-clause-caused g c = rw (← c.still.view_is) (omega arith, λ refusal many. never-both c.still.inside.members refusal c.in_default.ensures many)
 
 -- ---- the call goes on
 
-pub returns-then-is_vacant-clause-open : goal.returns-then-is_vacant-clause-open
-returns-then-is_vacant-clause-open g c =
-    let losses = losses_of c.newly_vacant-roles.result c.record_and_name-spares.result in
-    still-going c.args.who c.ops-end.result (losses ++ []) c.requires.open.goes (losses-open losses [] (losses-are c.newly_vacant-roles.result c.record_and_name-spares.result) tt) (ap (λ p. p.parts.entries) c.still.view_is)
-    (alone c.still.inside.epoch.entries.items c.enter_lost.new.epoch.entries.items c.args.who c.ops-end.result losses c.enter_lost.ensures.items)
+pub returns-then-is_unassigned-clause-open : goal.returns-then-is_unassigned-clause-open
+returns-then-is_unassigned-clause-open g c =
+    let losses = losses_of c.newly_unassigned-roles.result c.record_and_name-spares.result in
+    still-going c.args.who c.ops-end.result (losses ++ []) c.requires.open.goes (losses-open losses [] (losses-are c.newly_unassigned-roles.result c.record_and_name-spares.result) tt) (ap (λ p. p.parts.entries) c.still.view_is)
+    (alone c.still.inside.epoch.entries.items c.append_lost.new.epoch.entries.items c.args.who c.ops-end.result losses c.append_lost.ensures.items)
 
 pub returns-clause-open : goal.returns-clause-open
 returns-clause-open g c =
     let a = c.still.inside in
     let role = c.args.role in
-    let roles = c.newly_vacant-roles.result in
+    let roles = c.newly_unassigned-roles.result in
     let spares = c.record_and_name-spares.result in
     let end = c.ops-end.result in
     still-going c.args.who end (losses_of roles spares ++ Step RebuildEnded c.all_left-left.result ∷ Rebuilt role ∷ []) c.requires.open.goes
     (losses-open (losses_of roles spares) (Step RebuildEnded c.all_left-left.result ∷ Rebuilt role ∷ []) (losses-are roles spares) (tt, (tt, tt))) (ap (λ p. p.parts.entries) c.still.view_is)
-    (both a.epoch.entries.items c.enter_behind.new.epoch.entries.items c.enter.new.epoch.entries.items c.args.who end (losses_of roles spares) (Step RebuildEnded c.all_left-left.result) (Rebuilt role) c.enter_behind.ensures.items c.enter.ensures.items)
+    (both a.epoch.entries.items c.append_after_losses.new.epoch.entries.items c.append_entry.new.epoch.entries.items c.args.who end (losses_of roles spares) (Step RebuildEnded c.all_left-left.result) (Rebuilt role) c.append_after_losses.ensures.items c.append_entry.ensures.items)
 
-pub returns-then-is_vacant-clause-closable : goal.returns-then-is_vacant-clause-closable
-returns-then-is_vacant-clause-closable g c = λ none. inr (inl c.record_and_name-spares.ensures.missing)
+pub returns-then-is_unassigned-clause-closable : goal.returns-then-is_unassigned-clause-closable
+returns-then-is_unassigned-clause-closable g c = λ none. inr (inl c.record_and_name-spares.ensures.missing)
 
 pub returns-clause-closable : goal.returns-clause-closable
 returns-clause-closable g c = λ none. inr (inl c.record_and_name-spares.ensures.missing)
 
 -- ---- what the calls ask
 
-pub vacant_roles-before-requires-clause-known : goal.vacant_roles-before-requires-clause-known
-vacant_roles-before-requires-clause-known g c = known-at c.still.invariant.kept.members_are.placed c.shape_in-disks.ensures
+pub unassigned_roles-before-requires-clause-known : goal.unassigned_roles-before-requires-clause-known
+unassigned_roles-before-requires-clause-known g c = known-at c.still.invariant.kept.members_are.placed c.shape_in-disks.ensures
 
 pub recovering_slot-requires : goal.recovering_slot-requires
 recovering_slot-requires g c =
@@ -575,11 +575,11 @@ record_and_name-spares-requires-clause-role g c =
 pub record_and_name-spares-requires-clause-recovering : goal.record_and_name-spares-requires-clause-recovering
 record_and_name-spares-requires-clause-recovering g c = c.in-Some-recovering_slot.ensures.some
 
-pub newly_vacant-roles-requires-clause-known : goal.newly_vacant-roles-requires-clause-known
-newly_vacant-roles-requires-clause-known g c = known-behind c.record_and_name-spares.ensures.moved c.shape_in-disks.ensures
+pub newly_unassigned-roles-requires-clause-known : goal.newly_unassigned-roles-requires-clause-known
+newly_unassigned-roles-requires-clause-known g c = known-behind c.record_and_name-spares.ensures.moved c.shape_in-disks.ensures
 
-pub is_vacant-requires : goal.is_vacant-requires
-is_vacant-requires g c =
+pub is_unassigned-requires : goal.is_unassigned-requires
+is_unassigned-requires g c =
     let pending : AreStripesRebuilt c.still.inside.work c.still.inside.members c.args.role = subst (λ p. AreStripesRebuilt p.parts.work p.parts.members c.args.role) (sym c.still.view_is) c.requires.pending in
     le_trans (role-of-shape c.still.invariant.kept.members_are refl pending.0.0) (known-behind c.record_and_name-spares.ensures.moved refl)
 
@@ -598,23 +598,23 @@ all_left-left-requires-clause-progress g c = subst (λ (o : Option ℕ). IfSome 
 pub all_left-left-requires-clause-sound : goal.all_left-left-requires-clause-sound
 all_left-left-requires-clause-sound g c = sound-behind c.still.inside.ahead c.record_and_name-spares.ensures.moved c.still.invariant.planned
 
-pub enter_lost-requires-clause-room : goal.enter_lost-requires-clause-room
-enter_lost-requires-clause-room g c = room-for-losses (ap (λ p. p.parts.steps) c.still.view_is) c.still.invariant.room_left c.requires.room
+pub append_lost-requires-clause-room : goal.append_lost-requires-clause-room
+append_lost-requires-clause-room g c = room-for-losses (ap (λ p. p.parts.steps) c.still.view_is) c.still.invariant.room_left c.requires.room
 
-pub enter_lost-requires-clause-number : goal.enter_lost-requires-clause-number
-enter_lost-requires-clause-number g c = c.check_going.ensures
+pub append_lost-requires-clause-number : goal.append_lost-requires-clause-number
+append_lost-requires-clause-number g c = c.check_going.ensures
 
-pub enter_behind-requires-clause-room : goal.enter_behind-requires-clause-room
-enter_behind-requires-clause-room g c = room-for-step (ap (λ p. p.parts.steps) c.still.view_is) c.still.invariant.room_left c.requires.room
+pub append_after_losses-requires-clause-room : goal.append_after_losses-requires-clause-room
+append_after_losses-requires-clause-room g c = room-for-step (ap (λ p. p.parts.steps) c.still.view_is) c.still.invariant.room_left c.requires.room
 
-pub enter_behind-requires-clause-number : goal.enter_behind-requires-clause-number
-enter_behind-requires-clause-number g c = c.check_going.ensures
+pub append_after_losses-requires-clause-number : goal.append_after_losses-requires-clause-number
+append_after_losses-requires-clause-number g c = c.check_going.ensures
 
-pub enter-requires-clause-room : goal.enter-requires-clause-room
-enter-requires-clause-room g c = room-behind-step (ap (λ p. p.parts.steps) c.still.view_is) c.still.invariant.room_left c.requires.room c.enter_behind.ensures.room
+pub append_entry-requires-clause-room : goal.append_entry-requires-clause-room
+append_entry-requires-clause-room g c = room-behind-step (ap (λ p. p.parts.steps) c.still.view_is) c.still.invariant.room_left c.requires.room c.append_after_losses.ensures.room
 
-pub enter-requires-clause-number : goal.enter-requires-clause-number
-enter-requires-clause-number g c = number-behind _ _ c.enter_behind.ensures.items c.check_going.ensures
+pub append_entry-requires-clause-number : goal.append_entry-requires-clause-number
+append_entry-requires-clause-number g c = number-behind _ _ c.append_after_losses.ensures.items c.check_going.ensures
 
 -- ---- what it leaves as it was
 
@@ -624,20 +624,20 @@ returns-in-Some-clause-stays g c = c.refuse_step.ensures.stays
 pub returns-in-Some-clause-memory : goal.returns-in-Some-clause-memory
 returns-in-Some-clause-memory g c = refused-at-all c.in-Some.refusal
 
-pub returns-then-is_vacant-clause-memory : goal.returns-then-is_vacant-clause-memory
-returns-then-is_vacant-clause-memory g c = done-at-all tt
+pub returns-then-is_unassigned-clause-memory : goal.returns-then-is_unassigned-clause-memory
+returns-then-is_unassigned-clause-memory g c = done-at-all tt
 
-pub returns-then-is_vacant-clause-work : goal.returns-then-is_vacant-clause-work
-returns-then-is_vacant-clause-work g c = ap (λ p. p.parts.work) c.still.view_is
+pub returns-then-is_unassigned-clause-work : goal.returns-then-is_unassigned-clause-work
+returns-then-is_unassigned-clause-work g c = ap (λ p. p.parts.work) c.still.view_is
 
-pub returns-then-is_vacant-clause-clean : goal.returns-then-is_vacant-clause-clean
-returns-then-is_vacant-clause-clean g c = c.record_and_name-spares.ensures.clean ∙ ap (λ p. is_clean p.parts.members.newest) c.still.view_is
+pub returns-then-is_unassigned-clause-clean : goal.returns-then-is_unassigned-clause-clean
+returns-then-is_unassigned-clause-clean g c = c.record_and_name-spares.ensures.clean ∙ ap (λ p. is_clean p.parts.members.newest) c.still.view_is
 
-pub returns-then-is_vacant-clause-room : goal.returns-then-is_vacant-clause-room
-returns-then-is_vacant-clause-room g c = step-taken (ap (λ p. p.parts.steps) c.still.view_is) c.requires.room
+pub returns-then-is_unassigned-clause-room : goal.returns-then-is_unassigned-clause-room
+returns-then-is_unassigned-clause-room g c = step-taken (ap (λ p. p.parts.steps) c.still.view_is) c.requires.room
 
-pub returns-then-is_vacant-clause-given : goal.returns-then-is_vacant-clause-given
-returns-then-is_vacant-clause-given g c = c.record_and_name-spares.ensures.given ∙ ap (λ p. g.B.Bank.given p.parts.bank) c.still.view_is
+pub returns-then-is_unassigned-clause-given : goal.returns-then-is_unassigned-clause-given
+returns-then-is_unassigned-clause-given g c = c.record_and_name-spares.ensures.given ∙ ap (λ p. g.B.Bank.given p.parts.bank) c.still.view_is
 
 pub returns-clause-memory : goal.returns-clause-memory
 returns-clause-memory g c = done-at-all tt

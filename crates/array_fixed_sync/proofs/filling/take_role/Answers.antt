@@ -9,7 +9,7 @@ use Rattle.array_fixed.specs.history_the_StepKind_TheVariants.{RebuildTaken}
 use Rattle.array_fixed.specs.history_Plain.{entries_of}
 use Rattle.array_fixed.specs.array_members_the_Work.{Work}
 use Rattle.array_fixed.specs.array_members_Lacking.{AreLostSince, AreTooMany}
-use Rattle.array_fixed.specs.array_members_Placed.{is_vacant}
+use Rattle.array_fixed.specs.array_members_Placed.{is_unassigned}
 use Rattle.array_fixed.specs.array_members_Rebuilding.{with_recovering}
 use Rattle.array_fixed.specs.array_members_Status.{left_of, stripes_of}
 use Rattle.array_fixed.proofs.array_members_Fit.{valid, short}
@@ -65,14 +65,14 @@ returns-in-Some-clause-held g c = record { roles = λ role slot held. inl (c.ref
 
 -- ---- the spare gets the role
 
-pub vacant_roles-requires-clause-few : goal.vacant_roles-requires-clause-few
-vacant_roles-requires-clause-few g c =
+pub unassigned_roles-requires-clause-few : goal.unassigned_roles-requires-clause-few
+unassigned_roles-requires-clause-few g c =
     let most = (limited (shape_of c.still.inside.members.newest) (valid (g.B.Bank.given c.still.inside.bank) c.still.inside.members c.still.invariant.kept.members_are.placed)).most in
     let disks = ap (λ (s : Shape). s.disks) c.shape_in-disks.ensures in
     omega (arith, most, disks)
 
-pub newly_vacant-roles-requires-clause-few : goal.newly_vacant-roles-requires-clause-few
-newly_vacant-roles-requires-clause-few g c =
+pub newly_unassigned-roles-requires-clause-few : goal.newly_unassigned-roles-requires-clause-few
+newly_unassigned-roles-requires-clause-few g c =
     let most = (limited (shape_of c.still.inside.members.newest) (valid (g.B.Bank.given c.still.inside.bank) c.still.inside.members c.still.invariant.kept.members_are.placed)).most in
     let disks = ap (λ (s : Shape). s.disks) c.shape_in-disks.ensures in
     omega (arith, most, disks)
@@ -104,7 +104,7 @@ invariant_of-still g c =
     let m = c.give_and_name-spares.new.members in
     let before = g.B.Bank.faults_of a.bank in
     let after = g.B.Bank.faults_of c.give_and_name-spares.new.bank in
-    let roles = c.newly_vacant-roles.result in
+    let roles = c.newly_unassigned-roles.result in
     let spares = c.give_and_name-spares.result in
     let end = c.ops-end.result in
     let tape = g.B.Bank.tape a.bank in
@@ -112,15 +112,15 @@ invariant_of-still g c =
     let role = c.args.role in
     let slot = c.args.slot in
     let below : role < (shape_of a.members.newest).disks = subst (λ p. role < (shape_of p.parts.members.newest).disks) (sym c.still.view_is) c.requires.role in
-    let vacant : is_vacant (reading_of a.members) role ≡ true = subst (λ p. is_vacant (reading_of p.parts.members) role ≡ true) (sym c.still.view_is) c.requires.vacant in
+    let vacant : is_unassigned (reading_of a.members) role ≡ true = subst (λ p. is_unassigned (reading_of p.parts.members) role ≡ true) (sym c.still.view_is) c.requires.vacant in
     let spare : has_spare a.members.spares slot ≡ true = subst (λ p. has_spare p.parts.members.spares slot ≡ true) (sym c.still.view_is) c.requires.spare in
     let to = receiver-spare given a.members here.placed here.free role slot below vacant spare in
     let most = (limited (shape_of a.members.newest) (valid given a.members here.placed)).most in
     let few : c.shape_in-disks.result.disks ≤ 32 = (let disks = ap (λ (s : Shape). s.disks) c.shape_in-disks.ensures in omega (arith, most, disks)) in
     let since : AreLostSince (with_recovering role slot a.members) m roles spares before after = lost-since given (with_recovering role slot a.members) m c.shape_in-disks.result.disks c.without-before.result roles spares before after
     (placed-given given a.members here.placed (Some 0) role slot to) did.moved did.failed (ap (λ (s : Shape). s.disks) c.shape_in-disks.ensures ∙ sym (count-still a.members.newest here.still))
-    (taken-vacant given a.members here.placed role slot to c.shape_in-disks.result.disks c.vacant_roles.result c.with.result c.without-before.result few (omega arith) c.vacant_roles.ensures c.with.ensures c.without-before.ensures)
-    c.newly_vacant-roles.ensures in
+    (taken-vacant given a.members here.placed role slot to c.shape_in-disks.result.disks c.unassigned_roles.result c.with.result c.without-before.result few (omega arith) c.unassigned_roles.ensures c.with.ensures c.without-before.ensures)
+    c.newly_unassigned-roles.ensures in
     let leaves : IsTaken g.B.Bank.tells given tape tape' a.members m role slot roles spares before after = record {
       below = below;
       vacant = vacant;
@@ -142,8 +142,8 @@ invariant_of-still g c =
     ready (entries_of c.args.who end (losses_of roles spares ++ Step RebuildTaken left ∷ [])) was (rows-moved given (with_recovering role slot a.members) m did.moved)
     kept (taken-plain was c.args.who end c.in_default.ensures goes c.requires.caller c.ops-end.ensures.count c.set_rebuilt.ensures.known leaves left told)
     did.counts (behind-keeps c.args.who end roles spares (Step RebuildTaken left ∷ []) (alone-keeps c.args.who end (Step RebuildTaken left) (λ n. refl) (λ limit. refl)))
-    did.given (scope-same given a.backup did.given c.enter_behind.ensures.uuid c.enter_behind.ensures.given) c.enter_behind.ensures.first refl c.enter_behind.ensures.items
-    (room-after was.room_left some c.enter_behind.ensures.room)
+    did.given (scope-same given a.backup did.given c.append_after_losses.ensures.uuid c.append_after_losses.ensures.given) c.append_after_losses.ensures.first refl c.append_after_losses.ensures.items
+    (room-after was.room_left some c.append_after_losses.ensures.room)
 
 pub returns-clause-stepped : goal.returns-clause-stepped
 returns-clause-stepped g c =
@@ -155,30 +155,30 @@ returns-clause-stepped g c =
     let m = c.give_and_name-spares.new.members in
     let before = g.B.Bank.faults_of a.bank in
     let after = g.B.Bank.faults_of c.give_and_name-spares.new.bank in
-    let roles = c.newly_vacant-roles.result in
+    let roles = c.newly_unassigned-roles.result in
     let spares = c.give_and_name-spares.result in
     let end = c.ops-end.result in
     let role = c.args.role in
     let slot = c.args.slot in
     let below : role < (shape_of a.members.newest).disks = subst (λ p. role < (shape_of p.parts.members.newest).disks) (sym c.still.view_is) c.requires.role in
-    let vacant : is_vacant (reading_of a.members) role ≡ true = subst (λ p. is_vacant (reading_of p.parts.members) role ≡ true) (sym c.still.view_is) c.requires.vacant in
+    let vacant : is_unassigned (reading_of a.members) role ≡ true = subst (λ p. is_unassigned (reading_of p.parts.members) role ≡ true) (sym c.still.view_is) c.requires.vacant in
     let spare : has_spare a.members.spares slot ≡ true = subst (λ p. has_spare p.parts.members.spares slot ≡ true) (sym c.still.view_is) c.requires.spare in
     let to = receiver-spare given a.members here.placed here.free role slot below vacant spare in
     let most = (limited (shape_of a.members.newest) (valid given a.members here.placed)).most in
     let few : c.shape_in-disks.result.disks ≤ 32 = (let disks = ap (λ (s : Shape). s.disks) c.shape_in-disks.ensures in omega (arith, most, disks)) in
     let since : AreLostSince (with_recovering role slot a.members) m roles spares before after = lost-since given (with_recovering role slot a.members) m c.shape_in-disks.result.disks c.without-before.result roles spares before after
     (placed-given given a.members here.placed (Some 0) role slot to) did.moved did.failed (ap (λ (s : Shape). s.disks) c.shape_in-disks.ensures ∙ sym (count-still a.members.newest here.still))
-    (taken-vacant given a.members here.placed role slot to c.shape_in-disks.result.disks c.vacant_roles.result c.with.result c.without-before.result few (omega arith) c.vacant_roles.ensures c.with.ensures c.without-before.ensures)
-    c.newly_vacant-roles.ensures in
+    (taken-vacant given a.members here.placed role slot to c.shape_in-disks.result.disks c.unassigned_roles.result c.with.result c.without-before.result few (omega arith) c.unassigned_roles.ensures c.with.ensures c.without-before.ensures)
+    c.newly_unassigned-roles.ensures in
     let event = Step RebuildTaken c.all_left-left.result in
     rw (← c.still.view_is) (stepped did.grows (shapes-moved did.moved)
-    (ended-behind (g.B.Bank.tape c.give_and_name-spares.new.bank) c.enter_behind.new.epoch.first a.epoch.entries.items c.args.who end (losses_of roles spares) event c.enter_behind.ensures.items c.ops-end.ensures.count)
+    (ended-behind (g.B.Bank.tape c.give_and_name-spares.new.bank) c.append_after_losses.new.epoch.first a.epoch.entries.items c.args.who end (losses_of roles spares) event c.append_after_losses.ensures.items c.ops-end.ensures.count)
     (λ r s held. did.failed.roles r s (taken-held given a.members here.placed role slot to r s held))
     (losses-before (IsHeldOrGiven a.members role slot) (WasSpare a.members) (with_recovering role slot a.members) m (taken-by given a.members here.placed role slot to)
-    (λ s spare. (spare-before given a.members here.placed (Some 0) role slot to s spare).0) before after a.epoch.entries.items a.epoch.entries.items c.enter_behind.new.epoch.entries.items c.args.who end
-    roles spares since refl event tt c.enter_behind.ensures.items)
+    (λ s spare. (spare-before given a.members here.placed (Some 0) role slot to s spare).0) before after a.epoch.entries.items a.epoch.entries.items c.append_after_losses.new.epoch.entries.items c.args.who end
+    roles spares since refl event tt c.append_after_losses.ensures.items)
     did.counts
-    (record { uuid = c.enter_behind.ensures.uuid; given = c.enter_behind.ensures.given; first = c.enter_behind.ensures.first; backup = refl; ahead = refl; limit = refl })
+    (record { uuid = c.append_after_losses.ensures.uuid; given = c.append_after_losses.ensures.given; first = c.append_after_losses.ensures.first; backup = refl; ahead = refl; limit = refl })
     (λ t. (was.kept.recorded t).begun))
 
 pub returns-clause-taken : goal.returns-clause-taken
@@ -190,7 +190,7 @@ returns-clause-taken g c =
     let role = c.args.role in
     let slot = c.args.slot in
     let below : role < (shape_of a.members.newest).disks = subst (λ p. role < (shape_of p.parts.members.newest).disks) (sym c.still.view_is) c.requires.role in
-    let vacant : is_vacant (reading_of a.members) role ≡ true = subst (λ p. is_vacant (reading_of p.parts.members) role ≡ true) (sym c.still.view_is) c.requires.vacant in
+    let vacant : is_unassigned (reading_of a.members) role ≡ true = subst (λ p. is_unassigned (reading_of p.parts.members) role ≡ true) (sym c.still.view_is) c.requires.vacant in
     let spare : has_spare a.members.spares slot ≡ true = subst (λ p. has_spare p.parts.members.spares slot ≡ true) (sym c.still.view_is) c.requires.spare in
     let to = receiver-spare given a.members here.placed here.free role slot below vacant spare in
     taken-after given a.members here.placed role slot to c.give_and_name-spares.new.members c.give_and_name-spares.ensures.moved
@@ -204,7 +204,7 @@ returns-clause-held g c =
     let role = c.args.role in
     let slot = c.args.slot in
     let below : role < (shape_of a.members.newest).disks = subst (λ p. role < (shape_of p.parts.members.newest).disks) (sym c.still.view_is) c.requires.role in
-    let vacant : is_vacant (reading_of a.members) role ≡ true = subst (λ p. is_vacant (reading_of p.parts.members) role ≡ true) (sym c.still.view_is) c.requires.vacant in
+    let vacant : is_unassigned (reading_of a.members) role ≡ true = subst (λ p. is_unassigned (reading_of p.parts.members) role ≡ true) (sym c.still.view_is) c.requires.vacant in
     let spare : has_spare a.members.spares slot ≡ true = subst (λ p. has_spare p.parts.members.spares slot ≡ true) (sym c.still.view_is) c.requires.spare in
     let to = receiver-spare given a.members here.placed here.free role slot below vacant spare in
     let did = c.give_and_name-spares.ensures in
@@ -224,7 +224,7 @@ returns-clause-left g c =
     let m = c.give_and_name-spares.new.members in
     let before = g.B.Bank.faults_of a.bank in
     let after = g.B.Bank.faults_of c.give_and_name-spares.new.bank in
-    let roles = c.newly_vacant-roles.result in
+    let roles = c.newly_unassigned-roles.result in
     let spares = c.give_and_name-spares.result in
     let end = c.ops-end.result in
     let tape = g.B.Bank.tape a.bank in
@@ -232,15 +232,15 @@ returns-clause-left g c =
     let role = c.args.role in
     let slot = c.args.slot in
     let below : role < (shape_of a.members.newest).disks = subst (λ p. role < (shape_of p.parts.members.newest).disks) (sym c.still.view_is) c.requires.role in
-    let vacant : is_vacant (reading_of a.members) role ≡ true = subst (λ p. is_vacant (reading_of p.parts.members) role ≡ true) (sym c.still.view_is) c.requires.vacant in
+    let vacant : is_unassigned (reading_of a.members) role ≡ true = subst (λ p. is_unassigned (reading_of p.parts.members) role ≡ true) (sym c.still.view_is) c.requires.vacant in
     let spare : has_spare a.members.spares slot ≡ true = subst (λ p. has_spare p.parts.members.spares slot ≡ true) (sym c.still.view_is) c.requires.spare in
     let to = receiver-spare given a.members here.placed here.free role slot below vacant spare in
     let most = (limited (shape_of a.members.newest) (valid given a.members here.placed)).most in
     let few : c.shape_in-disks.result.disks ≤ 32 = (let disks = ap (λ (s : Shape). s.disks) c.shape_in-disks.ensures in omega (arith, most, disks)) in
     let since : AreLostSince (with_recovering role slot a.members) m roles spares before after = lost-since given (with_recovering role slot a.members) m c.shape_in-disks.result.disks c.without-before.result roles spares before after
     (placed-given given a.members here.placed (Some 0) role slot to) did.moved did.failed (ap (λ (s : Shape). s.disks) c.shape_in-disks.ensures ∙ sym (count-still a.members.newest here.still))
-    (taken-vacant given a.members here.placed role slot to c.shape_in-disks.result.disks c.vacant_roles.result c.with.result c.without-before.result few (omega arith) c.vacant_roles.ensures c.with.ensures c.without-before.ensures)
-    c.newly_vacant-roles.ensures in
+    (taken-vacant given a.members here.placed role slot to c.shape_in-disks.result.disks c.unassigned_roles.result c.with.result c.without-before.result few (omega arith) c.unassigned_roles.ensures c.with.ensures c.without-before.ensures)
+    c.newly_unassigned-roles.ensures in
     let leaves : IsTaken g.B.Bank.tells given tape tape' a.members m role slot roles spares before after = record {
       below = below;
       vacant = vacant;
@@ -255,9 +255,9 @@ returns-clause-left g c =
       safe = did.safe;
     } in
     let less = taken-less a.ahead c.args.who end role slot roles spares was.kept c.in_default.ensures goes c.requires.caller c.ops-end.ensures.count c.set_rebuilt.ensures.known leaves in
-    rw (← c.still.view_is) (subst (λ (w : Work). AreStepsFewer a.epoch.entries.items c.enter_behind.new.epoch.entries.items (still_left a.work a.members a.ahead) (still_left w m a.ahead)) (sym c.set_rebuilt.ensures.work)
+    rw (← c.still.view_is) (subst (λ (w : Work). AreStepsFewer a.epoch.entries.items c.append_after_losses.new.epoch.entries.items (still_left a.work a.members a.ahead) (still_left w m a.ahead)) (sym c.set_rebuilt.ensures.work)
     (fewer-more (planned-same a.ahead (shapes-moved did.moved))
-    (steps-fewer (with_rebuilt role 0 a.work) (left_of a.work a.members) c.args.who end (Step RebuildTaken c.all_left-left.result ∷ []) did.moved since less c.enter_behind.ensures.items)))
+    (steps-fewer (with_rebuilt role 0 a.work) (left_of a.work a.members) c.args.who end (Step RebuildTaken c.all_left-left.result ∷ []) did.moved since less c.append_after_losses.ensures.items)))
 
 pub returns-clause-work : goal.returns-clause-work
 returns-clause-work g c = rw (← c.still.view_is) c.set_rebuilt.ensures.work
@@ -268,7 +268,7 @@ returns-clause-caused g c = rw (← c.still.view_is) (omega arith, λ refusal ma
 -- ---- the call goes on
 
 pub returns-clause-open : goal.returns-clause-open
-returns-clause-open g c = step-going c.args.who c.ops-end.result c.newly_vacant-roles.result c.give_and_name-spares.result (Step RebuildTaken c.all_left-left.result) c.requires.open tt (ap (λ p. p.parts.entries) c.still.view_is) c.enter_behind.ensures.items
+returns-clause-open g c = step-going c.args.who c.ops-end.result c.newly_unassigned-roles.result c.give_and_name-spares.result (Step RebuildTaken c.all_left-left.result) c.requires.open tt (ap (λ p. p.parts.entries) c.still.view_is) c.append_after_losses.ensures.items
 
 pub returns-clause-closable : goal.returns-clause-closable
 returns-clause-closable g c = λ none. inr (inl c.give_and_name-spares.ensures.missing)
@@ -278,14 +278,14 @@ returns-clause-closable g c = λ none. inr (inl c.give_and_name-spares.ensures.m
 pub check_going-requires : goal.check_going-requires
 check_going-requires g c = subst (λ p. IsCallGoing p.parts.entries c.args.who) (sym c.still.view_is) c.requires.open
 
-pub vacant_roles-requires-clause-known : goal.vacant_roles-requires-clause-known
-vacant_roles-requires-clause-known g c = known-at c.still.invariant.kept.members_are.placed c.shape_in-disks.ensures
+pub unassigned_roles-requires-clause-known : goal.unassigned_roles-requires-clause-known
+unassigned_roles-requires-clause-known g c = known-at c.still.invariant.kept.members_are.placed c.shape_in-disks.ensures
 
 pub give_and_name-spares-requires-clause-role : goal.give_and_name-spares-requires-clause-role
 give_and_name-spares-requires-clause-role g c = subst (λ p. c.args.role < (shape_of p.parts.members.newest).disks) (sym c.still.view_is) c.requires.role
 
-pub newly_vacant-roles-requires-clause-known : goal.newly_vacant-roles-requires-clause-known
-newly_vacant-roles-requires-clause-known g c = known-behind c.give_and_name-spares.ensures.moved c.shape_in-disks.ensures
+pub newly_unassigned-roles-requires-clause-known : goal.newly_unassigned-roles-requires-clause-known
+newly_unassigned-roles-requires-clause-known g c = known-behind c.give_and_name-spares.ensures.moved c.shape_in-disks.ensures
 
 pub all_left-left-requires-clause-shape : goal.all_left-left-requires-clause-shape
 all_left-left-requires-clause-shape g c = c.give_and_name-spares.ensures.moved.placed.fit.valid.old
@@ -304,11 +304,11 @@ all_left-left-requires-clause-progress g c =
 pub all_left-left-requires-clause-sound : goal.all_left-left-requires-clause-sound
 all_left-left-requires-clause-sound g c = sound-behind c.still.inside.ahead c.give_and_name-spares.ensures.moved c.still.invariant.planned
 
-pub enter_behind-requires-clause-room : goal.enter_behind-requires-clause-room
-enter_behind-requires-clause-room g c = room-for-step (ap (λ p. p.parts.steps) c.still.view_is) c.still.invariant.room_left c.requires.room
+pub append_after_losses-requires-clause-room : goal.append_after_losses-requires-clause-room
+append_after_losses-requires-clause-room g c = room-for-step (ap (λ p. p.parts.steps) c.still.view_is) c.still.invariant.room_left c.requires.room
 
-pub enter_behind-requires-clause-number : goal.enter_behind-requires-clause-number
-enter_behind-requires-clause-number g c = c.check_going.ensures
+pub append_after_losses-requires-clause-number : goal.append_after_losses-requires-clause-number
+append_after_losses-requires-clause-number g c = c.check_going.ensures
 
 -- ---- what it enters, and what it leaves as it was
 
@@ -319,7 +319,7 @@ pub returns-in-Some-clause-memory : goal.returns-in-Some-clause-memory
 returns-in-Some-clause-memory g c = refused-at-all c.in-Some.refusal
 
 pub returns-clause-entered : goal.returns-clause-entered
-returns-clause-entered g c = inl (step-entered c.args.who c.ops-end.result c.newly_vacant-roles.result c.give_and_name-spares.result RebuildTaken (ap (λ p. p.parts.entries) c.still.view_is) c.all_left-left.ensures c.enter_behind.ensures.items)
+returns-clause-entered g c = inl (step-entered c.args.who c.ops-end.result c.newly_unassigned-roles.result c.give_and_name-spares.result RebuildTaken (ap (λ p. p.parts.entries) c.still.view_is) c.all_left-left.ensures c.append_after_losses.ensures.items)
 
 pub returns-clause-memory : goal.returns-clause-memory
 returns-clause-memory g c = done-at-all tt

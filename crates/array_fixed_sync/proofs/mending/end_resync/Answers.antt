@@ -9,7 +9,7 @@ use Rattle.array_fixed.specs.array_members_Status.{left_of}
 use Rattle.array_fixed.proofs.array_members_LackingLaws.{lost-since, never-both}
 use Rattle.array_fixed.proofs.array_members_Still.{count-still}
 use Rattle.array_fixed.specs.history_append_Losing.{losses_of}
-use Rattle.array_fixed.specs.array_call_specs_Calls.{IsAllMended, AreSparesFewer}
+use Rattle.array_fixed.specs.array_call_specs_Calls.{IsAllSynced, AreSparesFewer}
 use Rattle.array_fixed.proofs.array_call_specs_LossLaws.{losses-behind, ended-behind}
 use Rattle.array_fixed.proofs.array_call_specs_ReadyLaws.{scope-same}
 use Rattle.array_fixed.proofs.array_call_specs_ReplyLaws.{too-many-of, refused-for}
@@ -24,7 +24,7 @@ use Rattle.array_fixed.proofs.array_specs_Lengths.{alone-keeps, behind-keeps}
 use Rattle.array_fixed.proofs.array_fixed_laws_Kept.{ready, rows-moved}
 use Rattle.array_fixed.proofs.array_fixed_laws_Going.{step-going}
 use Rattle.array_fixed.proofs.array_fixed_laws_StepLaws.{refused-of, shapes-moved, planned-same, stepped, fewer-more, kept-more}
-use Rattle.array_fixed.proofs.array_fixed_laws_MendLaws.{resync-done, resync-refused}
+use Rattle.array_fixed.proofs.array_fixed_laws_ResyncLaws.{resync-done, resync-refused}
 use Rattle.array_fixed.proofs.array_call_specs_DegradedLaws.{too-many-here}
 use Rattle.array_fixed.proofs.array_fixed_laws_PlainBehind.{plain-refused}
 use Rattle.array_fixed.proofs.array_fixed_laws_PlainSteps.{resynced-plain}
@@ -60,18 +60,18 @@ invariant_of-still g c =
     let a = c.still.inside in
     let given = g.B.Bank.given a.bank in
     let goes : IsCallGoing a.epoch.entries.items c.args.who = subst (λ p. IsCallGoing p.parts.entries c.args.who) (sym c.still.view_is) c.requires.open in
-    let all : IsAllMended a.work.resync a.members = subst (λ p. IsAllMended p.parts.work.resync p.parts.members) (sym c.still.view_is) c.requires.pending in
+    let all : IsAllSynced a.work.resync a.members = subst (λ p. IsAllSynced p.parts.work.resync p.parts.members) (sym c.still.view_is) c.requires.pending in
     let some : 1 ≤ a.steps = subst (λ p. 1 ≤ p.parts.steps) (sym c.still.view_is) c.requires.room in
     let did = c.settle-settled.ensures in
     let m = c.settle-settled.new.members in
     let before = g.B.Bank.faults_of a.bank in
     let after = g.B.Bank.faults_of c.settle-settled.new.bank in
-    let roles = c.newly_vacant-roles.result in
+    let roles = c.newly_unassigned-roles.result in
     let spares = c.settle-settled.result.spares in
     let end = c.ops-end.result in
     let refusal = c.in-Some-refusal.refusal in
-    let since : AreLostSince a.members m roles spares before after = lost-since given a.members m c.shape_in-disks.result.disks c.vacant_roles-before.result roles spares before after here.placed did.moved did.failed
-    (ap (λ (s : Shape). s.disks) c.shape_in-disks.ensures ∙ sym (count-still a.members.newest here.still)) c.vacant_roles-before.ensures c.newly_vacant-roles.ensures in
+    let since : AreLostSince a.members m roles spares before after = lost-since given a.members m c.shape_in-disks.result.disks c.unassigned_roles-before.result roles spares before after here.placed did.moved did.failed
+    (ap (λ (s : Shape). s.disks) c.shape_in-disks.ensures ∙ sym (count-still a.members.newest here.still)) c.unassigned_roles-before.ensures c.newly_unassigned-roles.ensures in
     let leaves : IsFlushedStill g.B.Bank.tells given (g.B.Bank.tape a.bank) (g.B.Bank.tape c.settle-settled.new.bank) a.members m roles spares before after false = record {
       moved = did.moved;
       since = since;
@@ -86,8 +86,8 @@ invariant_of-still g c =
     (plain-refused was c.args.who end goes c.requires.caller c.ops-end.ensures.count did.grows did.moved since refusal
     (too-many-here (visible_size a.members a.limit) a.work.resync m refusal (refused-of (AreTooMany m) c.settle-settled.result.refusal refusal c.in-Some-refusal.is did.refused)))
     did.counts (behind-keeps c.args.who end roles spares (Refused refusal ∷ []) (alone-keeps c.args.who end (Refused refusal) (λ n. refl) (λ limit. refl)))
-    did.given (scope-same given a.backup did.given c.enter_behind.ensures.uuid c.enter_behind.ensures.given) c.enter_behind.ensures.first refl c.enter_behind.ensures.items
-    (room-after was.room_left some c.enter_behind.ensures.room)
+    did.given (scope-same given a.backup did.given c.append_after_losses.ensures.uuid c.append_after_losses.ensures.given) c.append_after_losses.ensures.first refl c.append_after_losses.ensures.items
+    (room-after was.room_left some c.append_after_losses.ensures.room)
 
 pub returns-in-Some-refusal-clause-stepped : goal.returns-in-Some-refusal-clause-stepped
 returns-in-Some-refusal-clause-stepped g c =
@@ -99,18 +99,18 @@ returns-in-Some-refusal-clause-stepped g c =
     let m = c.settle-settled.new.members in
     let before = g.B.Bank.faults_of a.bank in
     let after = g.B.Bank.faults_of c.settle-settled.new.bank in
-    let roles = c.newly_vacant-roles.result in
+    let roles = c.newly_unassigned-roles.result in
     let spares = c.settle-settled.result.spares in
     let end = c.ops-end.result in
     let refusal = c.in-Some-refusal.refusal in
-    let since : AreLostSince a.members m roles spares before after = lost-since given a.members m c.shape_in-disks.result.disks c.vacant_roles-before.result roles spares before after here.placed did.moved did.failed
-    (ap (λ (s : Shape). s.disks) c.shape_in-disks.ensures ∙ sym (count-still a.members.newest here.still)) c.vacant_roles-before.ensures c.newly_vacant-roles.ensures in
+    let since : AreLostSince a.members m roles spares before after = lost-since given a.members m c.shape_in-disks.result.disks c.unassigned_roles-before.result roles spares before after here.placed did.moved did.failed
+    (ap (λ (s : Shape). s.disks) c.shape_in-disks.ensures ∙ sym (count-still a.members.newest here.still)) c.unassigned_roles-before.ensures c.newly_unassigned-roles.ensures in
     rw (← c.still.view_is) (stepped did.grows (shapes-moved did.moved)
-    (ended-behind (g.B.Bank.tape c.settle-settled.new.bank) c.enter_behind.new.epoch.first a.epoch.entries.items c.args.who end (losses_of roles spares) (Refused refusal) c.enter_behind.ensures.items c.ops-end.ensures.count)
+    (ended-behind (g.B.Bank.tape c.settle-settled.new.bank) c.append_after_losses.new.epoch.first a.epoch.entries.items c.args.who end (losses_of roles spares) (Refused refusal) c.append_after_losses.ensures.items c.ops-end.ensures.count)
     did.failed.roles
-    (losses-behind a.members m before after a.epoch.entries.items a.epoch.entries.items c.enter_behind.new.epoch.entries.items c.args.who end roles spares (Refused refusal) since tt refl c.enter_behind.ensures.items)
+    (losses-behind a.members m before after a.epoch.entries.items a.epoch.entries.items c.append_after_losses.new.epoch.entries.items c.args.who end roles spares (Refused refusal) since tt refl c.append_after_losses.ensures.items)
     did.counts
-    (record { uuid = c.enter_behind.ensures.uuid; given = c.enter_behind.ensures.given; first = c.enter_behind.ensures.first; backup = refl; ahead = refl; limit = refl })
+    (record { uuid = c.append_after_losses.ensures.uuid; given = c.append_after_losses.ensures.given; first = c.append_after_losses.ensures.first; backup = refl; ahead = refl; limit = refl })
     (λ t. (was.kept.recorded t).begun))
 
 pub returns-in-Some-refusal-clause-stays : goal.returns-in-Some-refusal-clause-stays
@@ -122,12 +122,12 @@ returns-in-Some-refusal-clause-stays g c =
     let m = c.settle-settled.new.members in
     let before = g.B.Bank.faults_of a.bank in
     let after = g.B.Bank.faults_of c.settle-settled.new.bank in
-    let roles = c.newly_vacant-roles.result in
+    let roles = c.newly_unassigned-roles.result in
     let spares = c.settle-settled.result.spares in
-    let since : AreLostSince a.members m roles spares before after = lost-since (g.B.Bank.given a.bank) a.members m c.shape_in-disks.result.disks c.vacant_roles-before.result roles spares before after here.placed did.moved did.failed
-    (ap (λ (s : Shape). s.disks) c.shape_in-disks.ensures ∙ sym (count-still a.members.newest here.still)) c.vacant_roles-before.ensures c.newly_vacant-roles.ensures in
+    let since : AreLostSince a.members m roles spares before after = lost-since (g.B.Bank.given a.bank) a.members m c.shape_in-disks.result.disks c.unassigned_roles-before.result roles spares before after here.placed did.moved did.failed
+    (ap (λ (s : Shape). s.disks) c.shape_in-disks.ensures ∙ sym (count-still a.members.newest here.still)) c.unassigned_roles-before.ensures c.newly_unassigned-roles.ensures in
     rw (← c.still.view_is) (kept-more (planned-same a.ahead (shapes-moved did.moved))
-    (steps-kept a.work c.args.who c.ops-end.result (Refused c.in-Some-refusal.refusal ∷ []) did.moved since c.enter_behind.ensures.items))
+    (steps-kept a.work c.args.who c.ops-end.result (Refused c.in-Some-refusal.refusal ∷ []) did.moved since c.append_after_losses.ensures.items))
 
 pub returns-in-Some-refusal-clause-caused : goal.returns-in-Some-refusal-clause-caused
 returns-in-Some-refusal-clause-caused g c =
@@ -152,19 +152,19 @@ invariant_of-still-2 g c =
     let a = c.still.inside in
     let given = g.B.Bank.given a.bank in
     let goes : IsCallGoing a.epoch.entries.items c.args.who = subst (λ p. IsCallGoing p.parts.entries c.args.who) (sym c.still.view_is) c.requires.open in
-    let all : IsAllMended a.work.resync a.members = subst (λ p. IsAllMended p.parts.work.resync p.parts.members) (sym c.still.view_is) c.requires.pending in
+    let all : IsAllSynced a.work.resync a.members = subst (λ p. IsAllSynced p.parts.work.resync p.parts.members) (sym c.still.view_is) c.requires.pending in
     let plans = subst (λ p. ArePlansKept g.B.Bank.tells (moving_world (g.B.Bank.given p.parts.bank) (g.B.Bank.tape p.parts.bank) p) p) (sym c.still.view_is) c.requires.plans in
     let some : 1 ≤ a.steps = subst (λ p. 1 ≤ p.parts.steps) (sym c.still.view_is) c.requires.room in
     let did = c.settle-settled.ensures in
     let m = c.settle-settled.new.members in
     let before = g.B.Bank.faults_of a.bank in
     let after = g.B.Bank.faults_of c.settle-settled.new.bank in
-    let roles = c.newly_vacant-roles.result in
+    let roles = c.newly_unassigned-roles.result in
     let spares = c.settle-settled.result.spares in
     let end = c.ops-end.result in
     let left = c.all_left-left.result in
-    let since : AreLostSince a.members m roles spares before after = lost-since given a.members m c.shape_in-disks.result.disks c.vacant_roles-before.result roles spares before after here.placed did.moved did.failed
-    (ap (λ (s : Shape). s.disks) c.shape_in-disks.ensures ∙ sym (count-still a.members.newest here.still)) c.vacant_roles-before.ensures c.newly_vacant-roles.ensures in
+    let since : AreLostSince a.members m roles spares before after = lost-since given a.members m c.shape_in-disks.result.disks c.unassigned_roles-before.result roles spares before after here.placed did.moved did.failed
+    (ap (λ (s : Shape). s.disks) c.shape_in-disks.ensures ∙ sym (count-still a.members.newest here.still)) c.unassigned_roles-before.ensures c.newly_unassigned-roles.ensures in
     let leaves : IsFlushedStill g.B.Bank.tells given (g.B.Bank.tape a.bank) (g.B.Bank.tape c.settle-settled.new.bank) a.members m roles spares before after false = record {
       moved = did.moved;
       since = since;
@@ -182,8 +182,8 @@ invariant_of-still-2 g c =
     (resync-done a.ahead c.args.who end roles spares was.kept c.in_default.ensures goes c.requires.caller c.ops-end.ensures.count all leaves left c.all_left-left.ensures plans done)
     (resynced-plain was c.args.who end goes c.requires.caller c.ops-end.ensures.count did.grows did.moved since left all c.all_left-left.ensures)
     did.counts (behind-keeps c.args.who end roles spares (Step ResyncEnded left ∷ []) (alone-keeps c.args.who end (Step ResyncEnded left) (λ n. refl) (λ limit. refl)))
-    did.given (scope-same given a.backup did.given c.enter_behind-2.ensures.uuid c.enter_behind-2.ensures.given) c.enter_behind-2.ensures.first refl c.enter_behind-2.ensures.items
-    (room-after was.room_left some c.enter_behind-2.ensures.room)
+    did.given (scope-same given a.backup did.given c.append_after_losses-2.ensures.uuid c.append_after_losses-2.ensures.given) c.append_after_losses-2.ensures.first refl c.append_after_losses-2.ensures.items
+    (room-after was.room_left some c.append_after_losses-2.ensures.room)
 
 pub returns-clause-stepped : goal.returns-clause-stepped
 returns-clause-stepped g c =
@@ -195,18 +195,18 @@ returns-clause-stepped g c =
     let m = c.settle-settled.new.members in
     let before = g.B.Bank.faults_of a.bank in
     let after = g.B.Bank.faults_of c.settle-settled.new.bank in
-    let roles = c.newly_vacant-roles.result in
+    let roles = c.newly_unassigned-roles.result in
     let spares = c.settle-settled.result.spares in
     let end = c.ops-end.result in
     let event = Step ResyncEnded c.all_left-left.result in
-    let since : AreLostSince a.members m roles spares before after = lost-since given a.members m c.shape_in-disks.result.disks c.vacant_roles-before.result roles spares before after here.placed did.moved did.failed
-    (ap (λ (s : Shape). s.disks) c.shape_in-disks.ensures ∙ sym (count-still a.members.newest here.still)) c.vacant_roles-before.ensures c.newly_vacant-roles.ensures in
+    let since : AreLostSince a.members m roles spares before after = lost-since given a.members m c.shape_in-disks.result.disks c.unassigned_roles-before.result roles spares before after here.placed did.moved did.failed
+    (ap (λ (s : Shape). s.disks) c.shape_in-disks.ensures ∙ sym (count-still a.members.newest here.still)) c.unassigned_roles-before.ensures c.newly_unassigned-roles.ensures in
     rw (← c.still.view_is) (stepped did.grows (shapes-moved did.moved)
-    (ended-behind (g.B.Bank.tape c.settle-settled.new.bank) c.enter_behind-2.new.epoch.first a.epoch.entries.items c.args.who end (losses_of roles spares) event c.enter_behind-2.ensures.items c.ops-end.ensures.count)
+    (ended-behind (g.B.Bank.tape c.settle-settled.new.bank) c.append_after_losses-2.new.epoch.first a.epoch.entries.items c.args.who end (losses_of roles spares) event c.append_after_losses-2.ensures.items c.ops-end.ensures.count)
     did.failed.roles
-    (losses-behind a.members m before after a.epoch.entries.items a.epoch.entries.items c.enter_behind-2.new.epoch.entries.items c.args.who end roles spares event since tt refl c.enter_behind-2.ensures.items)
+    (losses-behind a.members m before after a.epoch.entries.items a.epoch.entries.items c.append_after_losses-2.new.epoch.entries.items c.args.who end roles spares event since tt refl c.append_after_losses-2.ensures.items)
     did.counts
-    (record { uuid = c.enter_behind-2.ensures.uuid; given = c.enter_behind-2.ensures.given; first = c.enter_behind-2.ensures.first; backup = refl; ahead = refl; limit = refl })
+    (record { uuid = c.append_after_losses-2.ensures.uuid; given = c.append_after_losses-2.ensures.given; first = c.append_after_losses-2.ensures.first; backup = refl; ahead = refl; limit = refl })
     (λ t. (was.kept.recorded t).begun))
 
 pub returns-clause-left : goal.returns-clause-left
@@ -214,18 +214,18 @@ returns-clause-left g c =
     let was = c.still.invariant in
     let here = was.kept.members_are in
     let a = c.still.inside in
-    let all : IsAllMended a.work.resync a.members = subst (λ p. IsAllMended p.parts.work.resync p.parts.members) (sym c.still.view_is) c.requires.pending in
+    let all : IsAllSynced a.work.resync a.members = subst (λ p. IsAllSynced p.parts.work.resync p.parts.members) (sym c.still.view_is) c.requires.pending in
     let did = c.settle-settled.ensures in
     let m = c.settle-settled.new.members in
     let before = g.B.Bank.faults_of a.bank in
     let after = g.B.Bank.faults_of c.settle-settled.new.bank in
-    let roles = c.newly_vacant-roles.result in
+    let roles = c.newly_unassigned-roles.result in
     let spares = c.settle-settled.result.spares in
-    let since : AreLostSince a.members m roles spares before after = lost-since (g.B.Bank.given a.bank) a.members m c.shape_in-disks.result.disks c.vacant_roles-before.result roles spares before after here.placed did.moved did.failed
-    (ap (λ (s : Shape). s.disks) c.shape_in-disks.ensures ∙ sym (count-still a.members.newest here.still)) c.vacant_roles-before.ensures c.newly_vacant-roles.ensures in
+    let since : AreLostSince a.members m roles spares before after = lost-since (g.B.Bank.given a.bank) a.members m c.shape_in-disks.result.disks c.unassigned_roles-before.result roles spares before after here.placed did.moved did.failed
+    (ap (λ (s : Shape). s.disks) c.shape_in-disks.ensures ∙ sym (count-still a.members.newest here.still)) c.unassigned_roles-before.ensures c.newly_unassigned-roles.ensures in
     rw (← c.still.view_is) (fewer-more (planned-same a.ahead (shapes-moved did.moved))
     (steps-fewer (record a.work { resync = None }) (left_of a.work a.members) c.args.who c.ops-end.result (Step ResyncEnded c.all_left-left.result ∷ []) did.moved since
-    (left-ended a.work a.members all) c.enter_behind-2.ensures.items))
+    (left-ended a.work a.members all) c.append_after_losses-2.ensures.items))
 
 pub returns-clause-caused : goal.returns-clause-caused
 returns-clause-caused g c = rw (← c.still.view_is) (omega arith, λ refusal many. never-both c.still.inside.members refusal c.in_default.ensures many)
@@ -245,27 +245,27 @@ returns-clause-spares g c = subst (λ p. AreSparesFewer p.parts.members c.settle
 -- ---- the call goes on
 
 pub returns-in-Some-refusal-clause-open : goal.returns-in-Some-refusal-clause-open
-returns-in-Some-refusal-clause-open g c = step-going c.args.who c.ops-end.result c.newly_vacant-roles.result c.settle-settled.result.spares (Refused c.in-Some-refusal.refusal) c.requires.open tt (ap (λ p. p.parts.entries) c.still.view_is) c.enter_behind.ensures.items
+returns-in-Some-refusal-clause-open g c = step-going c.args.who c.ops-end.result c.newly_unassigned-roles.result c.settle-settled.result.spares (Refused c.in-Some-refusal.refusal) c.requires.open tt (ap (λ p. p.parts.entries) c.still.view_is) c.append_after_losses.ensures.items
 
 pub returns-clause-open : goal.returns-clause-open
-returns-clause-open g c = step-going c.args.who c.ops-end.result c.newly_vacant-roles.result c.settle-settled.result.spares (Step ResyncEnded c.all_left-left.result) c.requires.open tt (ap (λ p. p.parts.entries) c.still.view_is) c.enter_behind-2.ensures.items
+returns-clause-open g c = step-going c.args.who c.ops-end.result c.newly_unassigned-roles.result c.settle-settled.result.spares (Step ResyncEnded c.all_left-left.result) c.requires.open tt (ap (λ p. p.parts.entries) c.still.view_is) c.append_after_losses-2.ensures.items
 
 -- ---- what the calls ask
 
 pub check_going-requires : goal.check_going-requires
 check_going-requires g c = subst (λ p. IsCallGoing p.parts.entries c.args.who) (sym c.still.view_is) c.requires.open
 
-pub vacant_roles-before-requires-clause-known : goal.vacant_roles-before-requires-clause-known
-vacant_roles-before-requires-clause-known g c = known-at c.still.invariant.kept.members_are.placed c.shape_in-disks.ensures
+pub unassigned_roles-before-requires-clause-known : goal.unassigned_roles-before-requires-clause-known
+unassigned_roles-before-requires-clause-known g c = known-at c.still.invariant.kept.members_are.placed c.shape_in-disks.ensures
 
-pub vacant_roles-before-requires-clause-few : goal.vacant_roles-before-requires-clause-few
-vacant_roles-before-requires-clause-few g c = few-at c.still.invariant.kept.members_are.placed c.shape_in-disks.ensures
+pub unassigned_roles-before-requires-clause-few : goal.unassigned_roles-before-requires-clause-few
+unassigned_roles-before-requires-clause-few g c = few-at c.still.invariant.kept.members_are.placed c.shape_in-disks.ensures
 
-pub newly_vacant-roles-requires-clause-known : goal.newly_vacant-roles-requires-clause-known
-newly_vacant-roles-requires-clause-known g c = known-behind c.settle-settled.ensures.moved c.shape_in-disks.ensures
+pub newly_unassigned-roles-requires-clause-known : goal.newly_unassigned-roles-requires-clause-known
+newly_unassigned-roles-requires-clause-known g c = known-behind c.settle-settled.ensures.moved c.shape_in-disks.ensures
 
-pub newly_vacant-roles-requires-clause-few : goal.newly_vacant-roles-requires-clause-few
-newly_vacant-roles-requires-clause-few g c = few-at c.still.invariant.kept.members_are.placed c.shape_in-disks.ensures
+pub newly_unassigned-roles-requires-clause-few : goal.newly_unassigned-roles-requires-clause-few
+newly_unassigned-roles-requires-clause-few g c = few-at c.still.invariant.kept.members_are.placed c.shape_in-disks.ensures
 
 pub all_left-left-requires-clause-shape : goal.all_left-left-requires-clause-shape
 all_left-left-requires-clause-shape g c = c.settle-settled.ensures.moved.placed.fit.valid.old
@@ -279,17 +279,17 @@ all_left-left-requires-clause-roles g c = known-at c.settle-settled.ensures.move
 pub all_left-left-requires-clause-sound : goal.all_left-left-requires-clause-sound
 all_left-left-requires-clause-sound g c = sound-behind c.still.inside.ahead c.settle-settled.ensures.moved c.still.invariant.planned
 
-pub enter_behind-requires-clause-room : goal.enter_behind-requires-clause-room
-enter_behind-requires-clause-room g c = room-for-step (ap (λ p. p.parts.steps) c.still.view_is) c.still.invariant.room_left c.requires.room
+pub append_after_losses-requires-clause-room : goal.append_after_losses-requires-clause-room
+append_after_losses-requires-clause-room g c = room-for-step (ap (λ p. p.parts.steps) c.still.view_is) c.still.invariant.room_left c.requires.room
 
-pub enter_behind-requires-clause-number : goal.enter_behind-requires-clause-number
-enter_behind-requires-clause-number g c = c.check_going.ensures
+pub append_after_losses-requires-clause-number : goal.append_after_losses-requires-clause-number
+append_after_losses-requires-clause-number g c = c.check_going.ensures
 
-pub enter_behind-requires-2-clause-room : goal.enter_behind-requires-2-clause-room
-enter_behind-requires-2-clause-room g c = room-for-step (ap (λ p. p.parts.steps) c.still.view_is) c.still.invariant.room_left c.requires.room
+pub append_after_losses-requires-2-clause-room : goal.append_after_losses-requires-2-clause-room
+append_after_losses-requires-2-clause-room g c = room-for-step (ap (λ p. p.parts.steps) c.still.view_is) c.still.invariant.room_left c.requires.room
 
-pub enter_behind-requires-2-clause-number : goal.enter_behind-requires-2-clause-number
-enter_behind-requires-2-clause-number g c = c.check_going.ensures
+pub append_after_losses-requires-2-clause-number : goal.append_after_losses-requires-2-clause-number
+append_after_losses-requires-2-clause-number g c = c.check_going.ensures
 
 -- ---- what it enters, and what it leaves as it was
 
@@ -297,7 +297,7 @@ pub returns-in-Some-clause-stays : goal.returns-in-Some-clause-stays
 returns-in-Some-clause-stays g c = c.refuse_step.ensures.stays
 
 pub returns-in-Some-refusal-clause-entered : goal.returns-in-Some-refusal-clause-entered
-returns-in-Some-refusal-clause-entered g c = one-entered c.args.who c.ops-end.result c.newly_vacant-roles.result c.settle-settled.result.spares (Refused c.in-Some-refusal.refusal) (ap (λ p. p.parts.entries) c.still.view_is) c.enter_behind.ensures.items
+returns-in-Some-refusal-clause-entered g c = one-entered c.args.who c.ops-end.result c.newly_unassigned-roles.result c.settle-settled.result.spares (Refused c.in-Some-refusal.refusal) (ap (λ p. p.parts.entries) c.still.view_is) c.append_after_losses.ensures.items
 
 pub returns-in-Some-refusal-clause-work : goal.returns-in-Some-refusal-clause-work
 returns-in-Some-refusal-clause-work g c = ap (λ p. p.parts.work) c.still.view_is
@@ -309,7 +309,7 @@ pub returns-in-Some-refusal-clause-given : goal.returns-in-Some-refusal-clause-g
 returns-in-Some-refusal-clause-given g c = c.settle-settled.ensures.given ∙ ap (λ p. g.B.Bank.given p.parts.bank) c.still.view_is
 
 pub returns-clause-entered : goal.returns-clause-entered
-returns-clause-entered g c = step-behind c.args.who c.ops-end.result c.newly_vacant-roles.result c.settle-settled.result.spares ResyncEnded (ap (λ p. p.parts.entries) c.still.view_is) c.all_left-left.ensures c.enter_behind-2.ensures.items
+returns-clause-entered g c = step-behind c.args.who c.ops-end.result c.newly_unassigned-roles.result c.settle-settled.result.spares ResyncEnded (ap (λ p. p.parts.entries) c.still.view_is) c.all_left-left.ensures c.append_after_losses-2.ensures.items
 
 pub returns-clause-work : goal.returns-clause-work
 returns-clause-work g c = ap (λ (w : Work). record w { resync = None }) (ap (λ p. p.parts.work) c.still.view_is)

@@ -10,7 +10,7 @@ use Rattle.array_fixed.specs.stripe_row_Rows.{reading_of, present}
 use Rattle.array_fixed.specs.history_Sound.{OpensFit}
 use Rattle.array_fixed.specs.crash_safety_laws_Marking.{AreOthersPresent}
 use Rattle.array_fixed.proofs.crash_safety_laws_Risen.{risen-then, room-first, room-then}
-use Rattle.array_fixed.specs.array_members_Placed.{IsPlaced, is_vacant}
+use Rattle.array_fixed.specs.array_members_Placed.{IsPlaced, is_unassigned}
 use Rattle.array_fixed.specs.array_members_Rebuilding.{AreSparesFree}
 use Rattle.array_fixed.proofs.array_members_LackingLaws.{since-then, in-either}
 use Rattle.array_fixed.proofs.array_members_MovedLaws.{grows-then, moved-then, moved-from}
@@ -34,7 +34,7 @@ none-of None e = refl
 none-of (Some refusal) e = absurd (cc)
 
 -- a role that no slot holds recovers on none
-vacant-not : (m : Members) (role slot : ℕ) → is_vacant (reading_of m) role ≡ true → role_state (reading_of m) role ≡ Recovering slot → ⊥
+vacant-not : (m : Members) (role slot : ℕ) → is_unassigned (reading_of m) role ≡ true → role_state (reading_of m) role ≡ Recovering slot → ⊥
 vacant-not m role slot vacant recovers = (let clash : true ≡ false = sym vacant ∙ ap (λ (s : Role). not (is_some (holder s))) recovers in cc)
 
 neither : (a b : Bool) → (a || not b) ≡ true → a ≡ false → b ≡ true → ⊥
@@ -42,8 +42,8 @@ neither true b e is has = cc
 neither false true e is has = cc
 neither false false e is has = cc
 
-pub is_vacant-requires : goal.is_vacant-requires
-is_vacant-requires g c =
+pub is_unassigned-requires : goal.is_unassigned-requires
+is_unassigned-requires g c =
     let did = c.fill-filled.ensures in
     let given = g.B.Bank.given c.args.bank.now in
     let below : c.args.role < (shape_of c.fill-filled.new.members.newest).disks = subst (λ (s : Shape). c.args.role < s.disks) (c.requires.shape ∙ sym did.moved.shape) c.requires.role in
@@ -53,25 +53,25 @@ is_vacant-requires g c =
 
 -- ---- the slot is there, or it isn't filled
 
-pub returns-then-is_some-is_vacant-clause-missing : goal.returns-then-is_some-is_vacant-clause-missing
-returns-then-is_some-is_vacant-clause-missing g c = λ none vacant live.
-    absurd (neither c.is_some.result c.is_vacant.result c.if-is_some-is_vacant.true (c.is_some.ensures ∙ ap (λ (o : Option Refusal). is_some o) none) (c.is_vacant.ensures ∙ vacant))
+pub returns-then-is_some-is_unassigned-clause-missing : goal.returns-then-is_some-is_unassigned-clause-missing
+returns-then-is_some-is_unassigned-clause-missing g c = λ none vacant live.
+    absurd (neither c.is_some.result c.is_unassigned.result c.if-is_some-is_unassigned.true (c.is_some.ensures ∙ ap (λ (o : Option Refusal). is_some o) none) (c.is_unassigned.ensures ∙ vacant))
 
-pub returns-then-is_some-is_vacant-clause-counts : goal.returns-then-is_some-is_vacant-clause-counts
-returns-then-is_some-is_vacant-clause-counts g c = c.fill-filled.ensures.counts
+pub returns-then-is_some-is_unassigned-clause-counts : goal.returns-then-is_some-is_unassigned-clause-counts
+returns-then-is_some-is_unassigned-clause-counts g c = c.fill-filled.ensures.counts
 
 -- ---- it is lost
 
-pub name_missing-others-requires-clause-placed : goal.name_missing-others-requires-clause-placed
-name_missing-others-requires-clause-placed g c =
+pub record_missing-others-requires-clause-placed : goal.record_missing-others-requires-clause-placed
+record_missing-others-requires-clause-placed g c =
     let did = c.fill-filled.ensures in
     subst (λ (b : Given). IsPlaced b c.fill-filled.new.members) (sym did.given) did.moved.placed
 
-pub name_missing-others-requires-clause-unlost : goal.name_missing-others-requires-clause-unlost
-name_missing-others-requires-clause-unlost g c = c.fill-filled.ensures.moved.unlost
+pub record_missing-others-requires-clause-unlost : goal.record_missing-others-requires-clause-unlost
+record_missing-others-requires-clause-unlost g c = c.fill-filled.ensures.moved.unlost
 
-pub name_missing-others-requires-clause-free : goal.name_missing-others-requires-clause-free
-name_missing-others-requires-clause-free g c =
+pub record_missing-others-requires-clause-free : goal.record_missing-others-requires-clause-free
+record_missing-others-requires-clause-free g c =
     let did = c.fill-filled.ensures in
     subst (λ (b : Given). AreSparesFree b c.fill-filled.new.members) (sym did.given) (did.moved.free c.requires.free)
 
@@ -79,63 +79,63 @@ pub returns-clause-moved : goal.returns-clause-moved
 returns-clause-moved g c =
     let m1 = c.fill-filled.new.members in
     let did = c.fill-filled.ensures in
-    moved-then (g.B.Bank.given c.args.bank.now) c.args.members.now m1 c.name_missing-others.new.members did.moved
-    (moved-from (g.B.Bank.given c.args.bank.now) (g.B.Bank.given c.fill-filled.new.bank) m1 m1 c.name_missing-others.new.members did.given refl c.name_missing-others.ensures.moved)
+    moved-then (g.B.Bank.given c.args.bank.now) c.args.members.now m1 c.record_missing-others.new.members did.moved
+    (moved-from (g.B.Bank.given c.args.bank.now) (g.B.Bank.given c.fill-filled.new.bank) m1 m1 c.record_missing-others.new.members did.given refl c.record_missing-others.ensures.moved)
 
 pub returns-clause-failed : goal.returns-clause-failed
 returns-clause-failed g c =
     let s = c.fill-filled.result.spares in
-    let t = c.name_missing-others.result in
-    since-then c.args.members.now c.fill-filled.new.members c.name_missing-others.new.members s t _ (g.B.Bank.faults_of c.args.bank.now) (g.B.Bank.faults_of c.fill-filled.new.bank)
-    (g.B.Bank.faults_of c.name_missing-others.new.bank) c.fill-filled.ensures.counts c.name_missing-others.ensures.counts c.fill-filled.ensures.failed c.name_missing-others.ensures.failed (in-either s t)
+    let t = c.record_missing-others.result in
+    since-then c.args.members.now c.fill-filled.new.members c.record_missing-others.new.members s t _ (g.B.Bank.faults_of c.args.bank.now) (g.B.Bank.faults_of c.fill-filled.new.bank)
+    (g.B.Bank.faults_of c.record_missing-others.new.bank) c.fill-filled.ensures.counts c.record_missing-others.ensures.counts c.fill-filled.ensures.failed c.record_missing-others.ensures.failed (in-either s t)
 
 pub returns-clause-grows : goal.returns-clause-grows
-returns-clause-grows g c = grows-then c.fill-filled.ensures.grows c.name_missing-others.ensures.grows
+returns-clause-grows g c = grows-then c.fill-filled.ensures.grows c.record_missing-others.ensures.grows
 
 -- it recovers on no slot then
 pub returns-clause-filled : goal.returns-clause-filled
 returns-clause-filled g c = λ none recovers.
-    let vacant = sym c.is_vacant.ensures ∙ second c.is_some.result c.is_vacant.result c.if-is_some-is_vacant.false in
-    absurd (vacant-not c.fill-filled.new.members c.args.role c.args.slot vacant (sym (c.name_missing-others.ensures.moved.states c.args.role c.args.slot (ap holder recovers)) ∙ recovers))
+    let vacant = sym c.is_unassigned.ensures ∙ second c.is_some.result c.is_unassigned.result c.if-is_some-is_unassigned.false in
+    absurd (vacant-not c.fill-filled.new.members c.args.role c.args.slot vacant (sym (c.record_missing-others.ensures.moved.states c.args.role c.args.slot (ap holder recovers)) ∙ recovers))
 
 pub returns-clause-others : goal.returns-clause-others
 returns-clause-others g c = λ told s k other.
     let given = g.B.Bank.given c.args.bank.now in
     let did = c.fill-filled.ensures in
     let tape1 = g.B.Bank.tape c.fill-filled.new.bank in
-    let tape2 = g.B.Bank.tape c.name_missing-others.new.bank in
-    let same = subst (λ (b : Given). AreOthersPresent (present b tape1) (present b tape2)) did.given (c.name_missing-others.ensures.others told) s k other in
+    let tape2 = g.B.Bank.tape c.record_missing-others.new.bank in
+    let same = subst (λ (b : Given). AreOthersPresent (present b tape1) (present b tape2)) did.given (c.record_missing-others.ensures.others told) s k other in
     ⊎_elim (λ was. inl (same ∙ was)) (λ place. inr place) (did.others told s k other)
 
 pub returns-clause-rise : goal.returns-clause-rise
-returns-clause-rise g c = risen-then c.fill-filled.ensures.rise c.name_missing-others.ensures.rise
+returns-clause-rise g c = risen-then c.fill-filled.ensures.rise c.record_missing-others.ensures.rise
 
 pub returns-clause-safe : goal.returns-clause-safe
 returns-clause-safe g c = λ tell world told room gone unclean now.
     let m = c.args.members.now in
     let m1 = c.fill-filled.new.members in
-    let m2 = c.name_missing-others.new.members in
+    let m2 = c.record_missing-others.new.members in
     let given = g.B.Bank.given c.args.bank.now in
     let given1 = g.B.Bank.given c.fill-filled.new.bank in
     let tape0 = g.B.Bank.tape c.args.bank.now in
     let tape1 = g.B.Bank.tape c.fill-filled.new.bank in
-    let tape2 = g.B.Bank.tape c.name_missing-others.new.bank in
+    let tape2 = g.B.Bank.tape c.record_missing-others.new.bank in
     let did = c.fill-filled.ensures in
-    let next = c.name_missing-others.ensures in
+    let next = c.record_missing-others.ensures in
     let moved2 = moved-from given given1 m1 m1 m2 did.given refl next.moved in
     let kept = did.safe tell world told (room-first m tape0 tape1 tape2 room (grows-longer next.grows tell)) (gone-before given m1 m2 did.moved.placed moved2 told gone) unclean now in
     safe-then (OpensFit world) world.scope given told m1 m2 tape0 tape1 tape2 kept
     (keeps-from world given given1 told m2 tape1 tape2 did.given
     (next.safe tell world told (room-then tape2 tell room did.rise) gone (λ dirty. unclean (sym did.clean ∙ dirty)) (over-at world given given1 told m1 tape1 did.given kept.next)))
 
-pub name_missing-others-requires-clause-slots : goal.name_missing-others-requires-clause-slots
-name_missing-others-requires-clause-slots g c = subst (λ (b : Given). b.slots ≤ 32) (sym c.fill-filled.ensures.given) c.requires.slots
+pub record_missing-others-requires-clause-slots : goal.record_missing-others-requires-clause-slots
+record_missing-others-requires-clause-slots g c = subst (λ (b : Given). b.slots ≤ 32) (sym c.fill-filled.ensures.given) c.requires.slots
 
 pub returns-clause-missing : goal.returns-clause-missing
-returns-clause-missing g c = λ none vacant. c.name_missing-others.ensures.missing
+returns-clause-missing g c = λ none vacant. c.record_missing-others.ensures.missing
 
 pub returns-clause-counts : goal.returns-clause-counts
-returns-clause-counts g c = λ slot. le_trans (c.fill-filled.ensures.counts slot) (c.name_missing-others.ensures.counts slot)
+returns-clause-counts g c = λ slot. le_trans (c.fill-filled.ensures.counts slot) (c.record_missing-others.ensures.counts slot)
 
 pub returns-clause-buffer : goal.returns-clause-buffer
 returns-clause-buffer g c = c.fill-filled.ensures.buffer

@@ -21,20 +21,20 @@ use Rattle.array_fixed.proofs.array_members_MovedLaws.{grows-then, moved-then, m
 use Rattle.array_fixed.proofs.array_members_SafeStretch.{gone-before, safe-then, grows-longer, over-at, keeps-from}
 use Rattle.array_fixed.proofs.array_call_laws_RebuildGiven.{receiver-recovering, free-then}
 use Rattle.array_fixed_sync.proofs.naming.record_and_name.Given.{Over}
-use Rattle.array_fixed_sync.proofs.naming.record_and_name.Goals.{After-name_missing-others}
+use Rattle.array_fixed_sync.proofs.naming.record_and_name.Goals.{After-record_missing-others}
 use Rattle.std.proofs.Math.Nat.{le_trans}
 use Rattle.array_fixed_sync.proofs.naming.record_and_name.Goals as goal
 
-pub name_missing-others-requires-clause-placed : goal.name_missing-others-requires-clause-placed
-name_missing-others-requires-clause-placed g c =
+pub record_missing-others-requires-clause-placed : goal.record_missing-others-requires-clause-placed
+record_missing-others-requires-clause-placed g c =
     let did = c.flush_and_record-spares.ensures in
     subst (λ (b : Given). IsPlaced b c.flush_and_record-spares.new.members) (sym did.given) did.moved.placed
 
-pub name_missing-others-requires-clause-unlost : goal.name_missing-others-requires-clause-unlost
-name_missing-others-requires-clause-unlost g c = c.flush_and_record-spares.ensures.moved.unlost
+pub record_missing-others-requires-clause-unlost : goal.record_missing-others-requires-clause-unlost
+record_missing-others-requires-clause-unlost g c = c.flush_and_record-spares.ensures.moved.unlost
 
-pub name_missing-others-requires-clause-free : goal.name_missing-others-requires-clause-free
-name_missing-others-requires-clause-free g c =
+pub record_missing-others-requires-clause-free : goal.record_missing-others-requires-clause-free
+record_missing-others-requires-clause-free g c =
     let did = c.flush_and_record-spares.ensures in
     let given = g.B.Bank.given c.args.bank.now in
     let m = c.args.members.now in
@@ -45,65 +45,65 @@ pub returns-clause-moved : goal.returns-clause-moved
 returns-clause-moved g c =
     let m1 = c.flush_and_record-spares.new.members in
     let did = c.flush_and_record-spares.ensures in
-    moved-then (g.B.Bank.given c.args.bank.now) (with_whole c.args.role c.args.slot c.args.members.now) m1 c.name_missing-others.new.members did.moved
-    (moved-from (g.B.Bank.given c.args.bank.now) (g.B.Bank.given c.flush_and_record-spares.new.bank) m1 m1 c.name_missing-others.new.members did.given refl c.name_missing-others.ensures.moved)
+    moved-then (g.B.Bank.given c.args.bank.now) (with_whole c.args.role c.args.slot c.args.members.now) m1 c.record_missing-others.new.members did.moved
+    (moved-from (g.B.Bank.given c.args.bank.now) (g.B.Bank.given c.flush_and_record-spares.new.bank) m1 m1 c.record_missing-others.new.members did.given refl c.record_missing-others.ensures.moved)
 
 pub returns-clause-failed : goal.returns-clause-failed
 returns-clause-failed g c =
     let s = c.flush_and_record-spares.result in
-    let t = c.name_missing-others.result in
-    since-then (with_whole c.args.role c.args.slot c.args.members.now) c.flush_and_record-spares.new.members c.name_missing-others.new.members s t _ (g.B.Bank.faults_of c.args.bank.now) (g.B.Bank.faults_of c.flush_and_record-spares.new.bank)
-    (g.B.Bank.faults_of c.name_missing-others.new.bank) c.flush_and_record-spares.ensures.counts c.name_missing-others.ensures.counts c.flush_and_record-spares.ensures.failed c.name_missing-others.ensures.failed (in-either s t)
+    let t = c.record_missing-others.result in
+    since-then (with_whole c.args.role c.args.slot c.args.members.now) c.flush_and_record-spares.new.members c.record_missing-others.new.members s t _ (g.B.Bank.faults_of c.args.bank.now) (g.B.Bank.faults_of c.flush_and_record-spares.new.bank)
+    (g.B.Bank.faults_of c.record_missing-others.new.bank) c.flush_and_record-spares.ensures.counts c.record_missing-others.ensures.counts c.flush_and_record-spares.ensures.failed c.record_missing-others.ensures.failed (in-either s t)
 
 pub returns-clause-grows : goal.returns-clause-grows
-returns-clause-grows g c = grows-then c.flush_and_record-spares.ensures.grows c.name_missing-others.ensures.grows
+returns-clause-grows g c = grows-then c.flush_and_record-spares.ensures.grows c.record_missing-others.ensures.grows
 
 pub returns-clause-others : goal.returns-clause-others
 returns-clause-others g c = λ told s k other.
     let given = g.B.Bank.given c.args.bank.now in
     let did = c.flush_and_record-spares.ensures in
     let tape1 = g.B.Bank.tape c.flush_and_record-spares.new.bank in
-    let tape2 = g.B.Bank.tape c.name_missing-others.new.bank in
-    subst (λ (b : Given). AreOthersPresent (present b tape1) (present b tape2)) did.given (c.name_missing-others.ensures.others told) s k other ∙ did.others told s k other
+    let tape2 = g.B.Bank.tape c.record_missing-others.new.bank in
+    subst (λ (b : Given). AreOthersPresent (present b tape1) (present b tape2)) did.given (c.record_missing-others.ensures.others told) s k other ∙ did.others told s k other
 
 pub returns-clause-rise : goal.returns-clause-rise
-returns-clause-rise g c = risen-then c.flush_and_record-spares.ensures.rise c.name_missing-others.ensures.rise
+returns-clause-rise g c = risen-then c.flush_and_record-spares.ensures.rise c.record_missing-others.ensures.rise
 
 -- what was done before it keeps the array safe, by any ledger that tells what is missing then
-module _ (g : Over) (c : After-name_missing-others g) (tell : g.B.Bank.tells) (world : World) (told : Ledger) (room : HasRoomLeft c.args.members.now (g.B.Bank.tape c.args.bank.now) (g.B.Bank.tape c.name_missing-others.new.bank))
-    (gone : AreGoneTold told c.name_missing-others.new.members) where
+module _ (g : Over) (c : After-record_missing-others g) (tell : g.B.Bank.tells) (world : World) (told : Ledger) (room : HasRoomLeft c.args.members.now (g.B.Bank.tape c.args.bank.now) (g.B.Bank.tape c.record_missing-others.new.bank))
+    (gone : AreGoneTold told c.record_missing-others.new.members) where
   room-before : HasRoomLeft c.args.members.now (g.B.Bank.tape c.args.bank.now) (g.B.Bank.tape c.flush_and_record-spares.new.bank)
-  room-before = room-first c.args.members.now (g.B.Bank.tape c.args.bank.now) (g.B.Bank.tape c.flush_and_record-spares.new.bank) (g.B.Bank.tape c.name_missing-others.new.bank) room (grows-longer c.name_missing-others.ensures.grows tell)
+  room-before = room-first c.args.members.now (g.B.Bank.tape c.args.bank.now) (g.B.Bank.tape c.flush_and_record-spares.new.bank) (g.B.Bank.tape c.record_missing-others.new.bank) room (grows-longer c.record_missing-others.ensures.grows tell)
 
-  moved-last : IsMoved (g.B.Bank.given c.args.bank.now) c.flush_and_record-spares.new.members c.name_missing-others.new.members
-  moved-last = moved-from (g.B.Bank.given c.args.bank.now) (g.B.Bank.given c.flush_and_record-spares.new.bank) c.flush_and_record-spares.new.members c.flush_and_record-spares.new.members c.name_missing-others.new.members
-      c.flush_and_record-spares.ensures.given refl c.name_missing-others.ensures.moved
+  moved-last : IsMoved (g.B.Bank.given c.args.bank.now) c.flush_and_record-spares.new.members c.record_missing-others.new.members
+  moved-last = moved-from (g.B.Bank.given c.args.bank.now) (g.B.Bank.given c.flush_and_record-spares.new.bank) c.flush_and_record-spares.new.members c.flush_and_record-spares.new.members c.record_missing-others.new.members
+      c.flush_and_record-spares.ensures.given refl c.record_missing-others.ensures.moved
 
   gone-mid : AreGoneTold told c.flush_and_record-spares.new.members
-  gone-mid = gone-before (g.B.Bank.given c.args.bank.now) c.flush_and_record-spares.new.members c.name_missing-others.new.members c.flush_and_record-spares.ensures.moved.placed moved-last told gone
+  gone-mid = gone-before (g.B.Bank.given c.args.bank.now) c.flush_and_record-spares.new.members c.record_missing-others.new.members c.flush_and_record-spares.ensures.moved.placed moved-last told gone
 
   -- and naming does
   named-then : IsUncleanTold told c.args.members.now → IsSafeOver world (g.B.Bank.given c.args.bank.now) told c.flush_and_record-spares.new.members (g.B.Bank.tape c.flush_and_record-spares.new.bank)
-      → KeepsSafe world (g.B.Bank.given c.args.bank.now) told c.name_missing-others.new.members (g.B.Bank.tape c.flush_and_record-spares.new.bank) (g.B.Bank.tape c.name_missing-others.new.bank)
+      → KeepsSafe world (g.B.Bank.given c.args.bank.now) told c.record_missing-others.new.members (g.B.Bank.tape c.flush_and_record-spares.new.bank) (g.B.Bank.tape c.record_missing-others.new.bank)
   named-then unclean now =
       let did = c.flush_and_record-spares.ensures in
       let m1 = c.flush_and_record-spares.new.members in
-      let m2 = c.name_missing-others.new.members in
+      let m2 = c.record_missing-others.new.members in
       let given = g.B.Bank.given c.args.bank.now in
       let given1 = g.B.Bank.given c.flush_and_record-spares.new.bank in
       let tape1 = g.B.Bank.tape c.flush_and_record-spares.new.bank in
-      let tape2 = g.B.Bank.tape c.name_missing-others.new.bank in
+      let tape2 = g.B.Bank.tape c.record_missing-others.new.bank in
       keeps-from world given given1 told m2 tape1 tape2 did.given
-      (c.name_missing-others.ensures.safe tell world told (room-then tape2 tell room did.rise) gone (λ dirty. unclean (sym did.clean ∙ dirty)) (over-at world given given1 told m1 tape1 did.given now))
+      (c.record_missing-others.ensures.safe tell world told (room-then tape2 tell room did.rise) gone (λ dirty. unclean (sym did.clean ∙ dirty)) (over-at world given given1 told m1 tape1 did.given now))
 
 pub returns-clause-safe : goal.returns-clause-safe
 returns-clause-safe g c = λ tell world told room gone here unclean premise does list stands allowed full now.
     let given = g.B.Bank.given c.args.bank.now in
     let tape0 = g.B.Bank.tape c.args.bank.now in
     let tape1 = g.B.Bank.tape c.flush_and_record-spares.new.bank in
-    let tape2 = g.B.Bank.tape c.name_missing-others.new.bank in
+    let tape2 = g.B.Bank.tape c.record_missing-others.new.bank in
     let kept = c.flush_and_record-spares.ensures.safe tell world told (room-before g c tell world told room gone) (gone-mid g c tell world told room gone) here unclean premise does list stands allowed full now in
-    safe-then (OpensFit world) world.scope given told c.flush_and_record-spares.new.members c.name_missing-others.new.members tape0 tape1 tape2 kept (named-then g c tell world told room gone unclean kept.next)
+    safe-then (OpensFit world) world.scope given told c.flush_and_record-spares.new.members c.record_missing-others.new.members tape0 tape1 tape2 kept (named-then g c tell world told room gone unclean kept.next)
 
 but : (a b : Bool) → a ≡ true → b ≡ false → (a && not b) ≡ true
 but true false is apart = refl
@@ -124,17 +124,17 @@ other m r role miss whole = ne r role (λ same. (
 pub returns-clause-given_back : goal.returns-clause-given_back
 returns-clause-given_back g c = λ whole tell world told room gone here unclean premise does list stands allowed full now.
     let role = c.args.role in
-    let m2 = c.name_missing-others.new.members in
-    let was : role_state (reading_of c.flush_and_record-spares.new.members) role ≡ Whole c.args.slot = sym (c.name_missing-others.ensures.moved.states role c.args.slot (ap holder whole)) ∙ whole in
+    let m2 = c.record_missing-others.new.members in
+    let was : role_state (reading_of c.flush_and_record-spares.new.members) role ≡ Whole c.args.slot = sym (c.record_missing-others.ensures.moved.states role c.args.slot (ap holder whole)) ∙ whole in
     let back = c.flush_and_record-spares.ensures.given_back was tell world told (room-before g c tell world told room gone) (gone-mid g c tell world told room gone) here unclean premise does list stands allowed full now in
     let told_back : AreGoneTold (given_back role told) m2 = (λ r lt miss. but (told.gone r) (r == role) (gone r lt miss) (other m2 r role miss whole)) in
     (named-then g c tell world (given_back role told) room told_back unclean back).next
 
-pub name_missing-others-requires-clause-slots : goal.name_missing-others-requires-clause-slots
-name_missing-others-requires-clause-slots g c = subst (λ (b : Given). b.slots ≤ 32) (sym c.flush_and_record-spares.ensures.given) c.requires.slots
+pub record_missing-others-requires-clause-slots : goal.record_missing-others-requires-clause-slots
+record_missing-others-requires-clause-slots g c = subst (λ (b : Given). b.slots ≤ 32) (sym c.flush_and_record-spares.ensures.given) c.requires.slots
 
 pub returns-clause-missing : goal.returns-clause-missing
-returns-clause-missing g c = c.name_missing-others.ensures.missing
+returns-clause-missing g c = c.record_missing-others.ensures.missing
 
 pub returns-clause-counts : goal.returns-clause-counts
-returns-clause-counts g c = λ slot. le_trans (c.flush_and_record-spares.ensures.counts slot) (c.name_missing-others.ensures.counts slot)
+returns-clause-counts g c = λ slot. le_trans (c.flush_and_record-spares.ensures.counts slot) (c.record_missing-others.ensures.counts slot)

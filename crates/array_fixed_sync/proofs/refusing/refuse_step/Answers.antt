@@ -32,11 +32,11 @@ invariant_of-still g c =
     (here-plain was c.args.who end goes c.requires.caller c.ops-end.ensures.count (grows-none (λ t. refl)) c.args.refusal
     (step-here given a.members was.kept.members_are.placed (visible_size a.members a.limit) c.args.refusal a.work.resync unmendable many))
     (λ slot. omega arith) (alone-keeps c.args.who end (Refused c.args.refusal) (λ n. refl) (λ limit. refl))
-    refl (scope-same given a.backup refl c.enter.ensures.uuid c.enter.ensures.given) c.enter.ensures.first refl c.enter.ensures.items
-    (omega (arith, c.enter.ensures.room, was.room_left, some))
+    refl (scope-same given a.backup refl c.append_entry.ensures.uuid c.append_entry.ensures.given) c.append_entry.ensures.first refl c.append_entry.ensures.items
+    (omega (arith, c.append_entry.ensures.room, was.room_left, some))
 
 pub returns-clause-entered : goal.returns-clause-entered
-returns-clause-entered g c = rw (← c.still.view_is) (behind-alone c.args.who c.ops-end.result (Refused c.args.refusal) refl c.enter.ensures.items)
+returns-clause-entered g c = rw (← c.still.view_is) (behind-alone c.args.who c.ops-end.result (Refused c.args.refusal) refl c.append_entry.ensures.items)
 
 pub returns-clause-stepped : goal.returns-clause-stepped
 returns-clause-stepped g c =
@@ -45,12 +45,12 @@ returns-clause-stepped g c =
     let faults = g.B.Bank.faults_of a.bank in
     let end = c.ops-end.result in
     rw (← c.still.view_is) (stepped (grows-none (λ t. refl)) (shapes-same a.members.newest)
-    (ended-behind (g.B.Bank.tape a.bank) c.enter.new.epoch.first a.epoch.entries.items c.args.who end [] (Refused c.args.refusal) c.enter.ensures.items c.ops-end.ensures.count)
+    (ended-behind (g.B.Bank.tape a.bank) c.append_entry.new.epoch.first a.epoch.entries.items c.args.who end [] (Refused c.args.refusal) c.append_entry.ensures.items c.ops-end.ensures.count)
     (λ role slot held. inl held)
-    (alone-lossless a.members faults faults a.epoch.entries.items a.epoch.entries.items c.enter.new.epoch.entries.items c.args.who end (Refused c.args.refusal) tt refl c.enter.ensures.items)
+    (alone-lossless a.members faults faults a.epoch.entries.items a.epoch.entries.items c.append_entry.new.epoch.entries.items c.args.who end (Refused c.args.refusal) tt refl c.append_entry.ensures.items)
     (λ slot. omega arith)
-    (record { uuid = c.enter.ensures.uuid; given = c.enter.ensures.given; first = c.enter.ensures.first; backup = refl; ahead = refl; limit = refl })
+    (record { uuid = c.append_entry.ensures.uuid; given = c.append_entry.ensures.given; first = c.append_entry.ensures.first; backup = refl; ahead = refl; limit = refl })
     (λ t. (was.kept.recorded t).begun))
 
 pub returns-clause-open : goal.returns-clause-open
-returns-clause-open g c = still-going c.args.who c.ops-end.result (Refused c.args.refusal ∷ []) c.requires.open (tt, tt) (ap (λ p. p.parts.entries) c.still.view_is) c.enter.ensures.items
+returns-clause-open g c = still-going c.args.who c.ops-end.result (Refused c.args.refusal ∷ []) c.requires.open (tt, tt) (ap (λ p. p.parts.entries) c.still.view_is) c.append_entry.ensures.items

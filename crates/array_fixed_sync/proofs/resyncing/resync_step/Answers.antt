@@ -18,13 +18,13 @@ returns-then-eq-clause-caused g c =
 
 pub returns-else-eq-clause-list : goal.returns-else-eq-clause-list
 returns-else-eq-clause-list g c =
-    kept-settled c.args.who c.args.still.now.parts.entries c.mend_stripe.new.still.parts.entries ResyncStripe (still_left c.mend_stripe.new.still.parts.work c.mend_stripe.new.still.parts.members c.mend_stripe.new.still.ahead) c.mend_stripe.result c.mend_stripe.ensures.entered
+    kept-settled c.args.who c.args.still.now.parts.entries c.resync_stripe.new.still.parts.entries ResyncStripe (still_left c.resync_stripe.new.still.parts.work c.resync_stripe.new.still.parts.members c.resync_stripe.new.still.ahead) c.resync_stripe.result c.resync_stripe.ensures.entered
 
 pub returns-else-eq-clause-caused : goal.returns-else-eq-clause-caused
 returns-else-eq-clause-caused g c =
-    caused-as (list_length c.args.still.now.parts.members.newest) (is_at_end c.args.still.now.parts.work.resync c.args.still.now.parts.members) false c.args.still.now.parts.members c.mend_stripe.new.still.parts.members c.mend_stripe.result
+    caused-as (list_length c.args.still.now.parts.members.newest) (is_at_end c.args.still.now.parts.work.resync c.args.still.now.parts.members) false c.args.still.now.parts.members c.resync_stripe.new.still.parts.members c.resync_stripe.result
     (at_end-is c.resync.result c.args.still.now.parts.work.resync c.stripes.result c.args.still.now.parts.members false c.resync.ensures.resync c.stripes.ensures (sym c.eq.ensures ∙ c.if-eq.false))
-    c.mend_stripe.ensures.caused
+    c.resync_stripe.ensures.caused
 
 pub returns-then-eq-clause-good : goal.returns-then-eq-clause-good
 returns-then-eq-clause-good g c = ok-so c.end_resync.result (λ good end. good) c.end_resync.ensures.good

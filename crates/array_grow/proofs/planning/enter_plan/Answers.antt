@@ -56,8 +56,8 @@ of_pieces-requires g c =
     record {
       ready = planned-ready who end wish plan.result.steps was number c.requires.caller c.ops-end.ensures.count
           (subst (AreSound (shape_of p.members.newest) p.members.newest.size) (sym ahead) plan.ensures.sound) (omega (arith, idle, steps))
-          (scope-same given p.backup refl c.enter.ensures.uuid c.enter.ensures.given) c.enter.ensures.first c.enter.ensures.items
-          (let had = was.room_left in let room = c.enter.ensures.room in omega (arith, had, room, some));
+          (scope-same given p.backup refl c.append_entry.ensures.uuid c.append_entry.ensures.given) c.append_entry.ensures.first c.append_entry.ensures.items
+          (let had = was.room_left in let room = c.append_entry.ensures.room in omega (arith, had, room, some));
     }
 
 pub returns-clause-reply : goal.returns-clause-reply
@@ -76,7 +76,7 @@ returns-clause-reply g c =
     reply-as g.B.Bank.given g.B.Bank.tape wish who (Planned c.plan_of-plan.result.steps wish) c.args.still c.of_pieces.result _ _ same c.of_pieces.ensures.same (record {
       end = end;
       at_end = c.ops-end.ensures.count;
-      is = c.enter.ensures.items;
+      is = c.append_entry.ensures.items;
       fits = λ t right ahead read. plan-fits (world_in given tape (scope_in given p.epoch.uuid p.epoch.given p.backup) p.epoch.first) p.epoch.entries.items who end a wish c.plan_of-plan.result.steps number (c.ops-end.ensures.count t)
           (told-by (length (phases_of p.ahead)) end was.kept was.limited t right (c.ops-end.ensures.count t) ahead read) taken c.plan_of-plan.ensures.steps;
     })
@@ -85,7 +85,7 @@ pub returns-clause-ended : goal.returns-clause-ended
 returns-clause-ended g c =
     let p = c.take_apart-pieces.result in
     end-as g.B.Bank.tape c.of_pieces.result _ c.of_pieces.ensures.same
-    (ended-behind (g.B.Bank.tape p.bank) c.enter.new.epoch.first p.epoch.entries.items c.args.who c.ops-end.result [] (Planned c.plan_of-plan.result.steps c.args.wish) c.enter.ensures.items c.ops-end.ensures.count)
+    (ended-behind (g.B.Bank.tape p.bank) c.append_entry.new.epoch.first p.epoch.entries.items c.args.who c.ops-end.result [] (Planned c.plan_of-plan.result.steps c.args.wish) c.append_entry.ensures.items c.ops-end.ensures.count)
 
 pub returns-clause-left : goal.returns-clause-left
 returns-clause-left g c =
@@ -116,10 +116,10 @@ returns-clause-planned g c =
     let a = asked_of p.members p.work.resync (length (phases_of p.ahead)) (visible_size p.members p.limit) (option_map (sizes given).sectors p.backup) in
     let taken = subst (λ s. grow_refusal (asked_in (g.B.Bank.given s.parts.bank) s) wish ≡ None) c.take_apart-pieces.ensures.same c.requires.taken in
     let ahead : phases_of c.all_left-pieces.result ≡ phases shape wish = c.all_left-pieces.ensures ∙ plan.ensures.phases in
-    let scope_is = scope-same given p.backup refl c.enter.ensures.uuid c.enter.ensures.given in
-    let world_is : ◌≡◌ {A = World} (world_in given tape (scope_in given c.enter.new.epoch.uuid c.enter.new.epoch.given p.backup) c.enter.new.epoch.first) (world_in given tape (scope_in given p.epoch.uuid p.epoch.given p.backup) p.epoch.first) =
-    λ i. world_in given tape (scope_is i) (c.enter.ensures.first i) in
-    let items = c.enter.ensures.items in
+    let scope_is = scope-same given p.backup refl c.append_entry.ensures.uuid c.append_entry.ensures.given in
+    let world_is : ◌≡◌ {A = World} (world_in given tape (scope_in given c.append_entry.new.epoch.uuid c.append_entry.new.epoch.given p.backup) c.append_entry.new.epoch.first) (world_in given tape (scope_in given p.epoch.uuid p.epoch.given p.backup) p.epoch.first) =
+    λ i. world_in given tape (scope_is i) (c.append_entry.ensures.first i) in
+    let items = c.append_entry.ensures.items in
     planned-as g.B.Bank.given g.B.Bank.tape wish plan.result.steps c.of_pieces.result _ c.of_pieces.ensures.same (record {
       ahead = ahead;
       left_is = plan.ensures.steps ∙ ap (phases_steps shape p.members.newest.size) (sym ahead);
@@ -130,7 +130,7 @@ returns-clause-planned g c =
       backed = subst (λ (l : List Phase). HasWideBackup given p.backup (largest_window shape p.members.newest.size l)) (sym ahead) (wide-backup given p.backup a wish refl taken);
       told = λ t right. (λ i. phases_left (world_is i) (items i))
           ∙ phases-told who end wish plan.result.steps was.kept (planned-whole a wish taken) c.ops-end.ensures.count t (subst (λ (w : World). IsReliable w (p.epoch.entries.items ++ entries_of who end (Planned plan.result.steps wish ∷ []))) world_is
-          (subst (λ (l : List Entry). IsReliable (world_in given tape (scope_in given c.enter.new.epoch.uuid c.enter.new.epoch.given p.backup) c.enter.new.epoch.first) l) items right))
+          (subst (λ (l : List Entry). IsReliable (world_in given tape (scope_in given c.append_entry.new.epoch.uuid c.append_entry.new.epoch.given p.backup) c.append_entry.new.epoch.first) l) items right))
           ∙ ap (λ (l : List Phase). length l) (sym ahead);
     })
 
@@ -148,15 +148,15 @@ returns-clause-goes g c =
     let a = asked_of p.members p.work.resync (length (phases_of p.ahead)) (visible_size p.members p.limit) (option_map (sizes given).sectors p.backup) in
     let taken = subst (λ s. grow_refusal (asked_in (g.B.Bank.given s.parts.bank) s) wish ≡ None) c.take_apart-pieces.ensures.same c.requires.taken in
     let ahead : phases_of c.all_left-pieces.result ≡ phases shape wish = c.all_left-pieces.ensures ∙ plan.ensures.phases in
-    let scope_is = scope-same given p.backup refl c.enter.ensures.uuid c.enter.ensures.given in
-    let world_is : ◌≡◌ {A = World} (world_in given tape (scope_in given c.enter.new.epoch.uuid c.enter.new.epoch.given p.backup) c.enter.new.epoch.first) (world_in given tape (scope_in given p.epoch.uuid p.epoch.given p.backup) p.epoch.first) =
-    λ i. world_in given tape (scope_is i) (c.enter.ensures.first i) in
+    let scope_is = scope-same given p.backup refl c.append_entry.ensures.uuid c.append_entry.ensures.given in
+    let world_is : ◌≡◌ {A = World} (world_in given tape (scope_in given c.append_entry.new.epoch.uuid c.append_entry.new.epoch.given p.backup) c.append_entry.new.epoch.first) (world_in given tape (scope_in given p.epoch.uuid p.epoch.given p.backup) p.epoch.first) =
+    λ i. world_in given tape (scope_is i) (c.append_entry.ensures.first i) in
     let aim_is : last_shape (if is_reshaping p.members.newest then final_shape p.members.newest else shape) (phases_of c.all_left-pieces.result) ≡ last_shape shape (phases_of c.all_left-pieces.result) =
     λ i. last_shape (if was.kept.members_are.still i then final_shape p.members.newest else shape) (phases_of c.all_left-pieces.result) in
     goes-as g.B.Bank.given g.B.Bank.tape c.args.still c.of_pieces.result _ _ c.take_apart-pieces.ensures.same c.of_pieces.ensures.same (λ none t right.
-    subst (λ (s : Shape). GoTo (world_in given tape (scope_in given c.enter.new.epoch.uuid c.enter.new.epoch.given p.backup) c.enter.new.epoch.first) s c.enter.new.epoch.entries.items) (sym aim_is)
-    (subst (λ (w : World). GoTo w (last_shape shape (phases_of c.all_left-pieces.result)) c.enter.new.epoch.entries.items) (sym world_is)
-    (subst (λ (l : List Entry). GoTo (world_in given tape (scope_in given p.epoch.uuid p.epoch.given p.backup) p.epoch.first) (last_shape shape (phases_of c.all_left-pieces.result)) l) (sym c.enter.ensures.items)
+    subst (λ (s : Shape). GoTo (world_in given tape (scope_in given c.append_entry.new.epoch.uuid c.append_entry.new.epoch.given p.backup) c.append_entry.new.epoch.first) s c.append_entry.new.epoch.entries.items) (sym aim_is)
+    (subst (λ (w : World). GoTo w (last_shape shape (phases_of c.all_left-pieces.result)) c.append_entry.new.epoch.entries.items) (sym world_is)
+    (subst (λ (l : List Entry). GoTo (world_in given tape (scope_in given p.epoch.uuid p.epoch.given p.backup) p.epoch.first) (last_shape shape (phases_of c.all_left-pieces.result)) l) (sym c.append_entry.ensures.items)
     (planned-goes who end wish plan.result.steps (phases_of c.all_left-pieces.result) was.kept (planned-whole a wish taken) c.ops-end.ensures.count ahead none t
     (subst (λ (w : World). IsReliable w (p.epoch.entries.items ++ entries_of who end (Planned plan.result.steps wish ∷ []))) world_is
-    (subst (λ (l : List Entry). IsReliable (world_in given tape (scope_in given c.enter.new.epoch.uuid c.enter.new.epoch.given p.backup) c.enter.new.epoch.first) l) c.enter.ensures.items right))))))
+    (subst (λ (l : List Entry). IsReliable (world_in given tape (scope_in given c.append_entry.new.epoch.uuid c.append_entry.new.epoch.given p.backup) c.append_entry.new.epoch.first) l) c.append_entry.ensures.items right))))))

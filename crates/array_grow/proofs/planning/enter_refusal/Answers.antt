@@ -40,14 +40,14 @@ of_pieces-requires g c =
     let some : 1 ≤ p.steps = subst (λ s. 1 ≤ s.parts.steps) same c.requires.room in
     let why = subst (λ s. grow_refusal (asked_in (g.B.Bank.given s.parts.bank) s) wish ≡ Some refusal) same c.requires.why in
     record {
-      ready = ready {scope' = scope_in given c.enter.new.epoch.uuid c.enter.new.epoch.given p.backup} (entries_of who end (Refused refusal ∷ [])) was (rows-same p.members.newest)
+      ready = ready {scope' = scope_in given c.append_entry.new.epoch.uuid c.append_entry.new.epoch.given p.backup} (entries_of who end (Refused refusal ∷ [])) was (rows-same p.members.newest)
           (refused-going who end refusal was.kept (begins-going p.epoch.entries.items who number) c.requires.caller c.ops-end.ensures.count
           (grow-plain a wish p.work.resync p.members refusal (first-of a wish refusal why).holds))
           (refused-plain was who end (begins-going p.epoch.entries.items who number) c.requires.caller c.ops-end.ensures.count (grows-none (λ t. refl)) refusal
           (λ t kept. grow-shaped (opening_in (world_in given (g.B.Bank.tape p.bank) (scope_in given p.epoch.uuid p.epoch.given p.backup) p.epoch.first)) p.epoch.entries.items a wish refusal (first-of a wish refusal why).holds)
           (grow-plainly a wish refusal (first-of a wish refusal why).holds))
-          (λ slot. omega arith) (alone-keeps who end (Refused refusal) (λ n. refl) (λ limit. refl)) refl (scope-same given p.backup refl c.enter.ensures.uuid c.enter.ensures.given) c.enter.ensures.first refl c.enter.ensures.items
-          (let had = was.room_left in let room = c.enter.ensures.room in omega (arith, had, room, some));
+          (λ slot. omega arith) (alone-keeps who end (Refused refusal) (λ n. refl) (λ limit. refl)) refl (scope-same given p.backup refl c.append_entry.ensures.uuid c.append_entry.ensures.given) c.append_entry.ensures.first refl c.append_entry.ensures.items
+          (let had = was.room_left in let room = c.append_entry.ensures.room in omega (arith, had, room, some));
     }
 
 pub returns-clause-reply : goal.returns-clause-reply
@@ -67,7 +67,7 @@ returns-clause-reply g c =
     reply-as g.B.Bank.given g.B.Bank.tape wish who (Refused refusal) c.args.still c.of_pieces.result _ _ same c.of_pieces.ensures.same (record {
       end = end;
       at_end = c.ops-end.ensures.count;
-      is = c.enter.ensures.items;
+      is = c.append_entry.ensures.items;
       fits = λ t right ahead read. refusal-fits (world_in given tape (scope_in given p.epoch.uuid p.epoch.given p.backup) p.epoch.first) p.epoch.entries.items who end a wish refusal number (c.ops-end.ensures.count t)
           (told-by (length (phases_of p.ahead)) end was.kept was.limited t right (c.ops-end.ensures.count t) ahead read) why;
     })
@@ -78,13 +78,13 @@ overflow_sub-pieces g c = subst (λ s. 1 ≤ s.parts.steps) c.take_apart-pieces.
 pub check_number-requires : goal.check_number-requires
 check_number-requires g c = subst (λ s. c.args.who.number ≡ next_number c.args.who.caller s.parts.entries) c.take_apart-pieces.ensures.same c.requires.next
 
-pub enter-requires-clause-room : goal.enter-requires-clause-room
-enter-requires-clause-room g c =
+pub append_entry-requires-clause-room : goal.append_entry-requires-clause-room
+append_entry-requires-clause-room g c =
     room-for 1 c.take_apart-pieces.result.steps c.take_apart-pieces.result.epoch.entries.room c.take_apart-pieces.ensures.ready.room_left (subst (λ s. 1 ≤ s.parts.steps) c.take_apart-pieces.ensures.same c.requires.room) (omega arith)
 
 pub returns-clause-as_before : goal.returns-clause-as_before
 returns-clause-as_before g c = before-as c.args.still c.of_pieces.result _ _ c.take_apart-pieces.ensures.same c.of_pieces.ensures.same
-    (record { bank = refl; uuid = c.enter.ensures.uuid; given = c.enter.ensures.given; first = c.enter.ensures.first; backup = refl; members = refl; work = refl; course = refl })
+    (record { bank = refl; uuid = c.append_entry.ensures.uuid; given = c.append_entry.ensures.given; first = c.append_entry.ensures.first; backup = refl; members = refl; work = refl; course = refl })
 
 pub returns-clause-limit : goal.returns-clause-limit
 returns-clause-limit g c = both-limit c.args.still c.of_pieces.result _ _ c.take_apart-pieces.ensures.same c.of_pieces.ensures.same refl
@@ -96,4 +96,4 @@ pub returns-clause-ended : goal.returns-clause-ended
 returns-clause-ended g c =
     let p = c.take_apart-pieces.result in
     end-as g.B.Bank.tape c.of_pieces.result _ c.of_pieces.ensures.same
-    (ended-behind (g.B.Bank.tape p.bank) c.enter.new.epoch.first p.epoch.entries.items c.args.who c.ops-end.result [] (Refused c.args.refusal) c.enter.ensures.items c.ops-end.ensures.count)
+    (ended-behind (g.B.Bank.tape p.bank) c.append_entry.new.epoch.first p.epoch.entries.items c.args.who c.ops-end.result [] (Refused c.args.refusal) c.append_entry.ensures.items c.ops-end.ensures.count)

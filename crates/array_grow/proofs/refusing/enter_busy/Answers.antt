@@ -30,8 +30,8 @@ of_pieces-moving-requires-2-clause-ready g c =
     let number = subst (λ s. who.number ≡ next_number who.caller s.parts.entries) c.take_apart-pieces.ensures.same c.requires.next in
     ready (entries_of who end (Refused (Busy Reshape) ∷ [])) was (grows-none (λ t. refl)) (shapes-same p.members.newest)
     (busy-moves who end was.kept number c.requires.caller c.ops-end.ensures.count)
-    refl (λ slot. omega arith) (alone-keeps who end (Refused (Busy Reshape)) (λ n. refl) (λ limit. refl)) (λ none whole. whole) refl (scope-same given p.backup refl c.enter.ensures.uuid c.enter.ensures.given) c.enter.ensures.first c.make_room.ensures.items c.enter.ensures.items
-    (omega (arith, c.enter.ensures.room, c.in-Ok.ensures.ok))
+    refl (λ slot. omega arith) (alone-keeps who end (Refused (Busy Reshape)) (λ n. refl) (λ limit. refl)) (λ none whole. whole) refl (scope-same given p.backup refl c.append_entry.ensures.uuid c.append_entry.ensures.given) c.append_entry.ensures.first c.make_room.ensures.items c.append_entry.ensures.items
+    (omega (arith, c.append_entry.ensures.room, c.in-Ok.ensures.ok))
 
 pub returns-clause-reply : goal.returns-clause-reply
 returns-clause-reply g c request may =
@@ -45,7 +45,7 @@ returns-clause-reply g c request may =
     replied-as g.B.Bank.given g.B.Bank.tape request who (Refused (Busy Reshape)) c.args.moving c.of_pieces-moving-2.result _ _ c.take_apart-pieces.ensures.same c.of_pieces-moving-2.ensures.same (record {
       end = end;
       at_end = c.ops-end.ensures.count;
-      is = c.enter.ensures.items ∙ ap (λ (l : List Entry). l ++ entries_of who end (Refused (Busy Reshape) ∷ [])) c.make_room.ensures.items;
+      is = c.append_entry.ensures.items ∙ ap (λ (l : List Entry). l ++ entries_of who end (Refused (Busy Reshape) ∷ [])) c.make_room.ensures.items;
       fits = λ t right ahead read. busy-fits (world_in given tape (scope_in given p.epoch.uuid p.epoch.given p.backup) p.epoch.first) p.epoch.entries.items who end request p.members may number (c.ops-end.ensures.count t)
           was.kept.members_are.active read;
     })
@@ -54,7 +54,7 @@ pub returns-clause-ended : goal.returns-clause-ended
 returns-clause-ended g c =
     let p = c.take_apart-pieces.result.0 in
     end-as g.B.Bank.tape c.of_pieces-moving-2.result _ c.of_pieces-moving-2.ensures.same
-    (ended-behind (g.B.Bank.tape p.bank) c.enter.new.epoch.first c.make_room.new.self.items c.args.who c.ops-end.result [] (Refused (Busy Reshape)) c.enter.ensures.items c.ops-end.ensures.count)
+    (ended-behind (g.B.Bank.tape p.bank) c.append_entry.new.epoch.first c.make_room.new.self.items c.args.who c.ops-end.result [] (Refused (Busy Reshape)) c.append_entry.ensures.items c.ops-end.ensures.count)
 
 pub returns-clause-visible : goal.returns-clause-visible
 returns-clause-visible g c =

@@ -39,14 +39,14 @@ lose_recovering-requires-clause-few g c = few-placed (g.B.Bank.given c.args.bank
 pub lose_recovering-requires-clause-small : goal.lose_recovering-requires-clause-small
 lose_recovering-requires-clause-small g c = λ role slot held. ((placed-by c.requires.opened.members_are).holders role slot held).small
 
-count-few : goal.enter_all_absent-requires-clause-disks
+count-few : goal.append_absent-requires-clause-disks
 count-few g c =
     let few = few-placed (g.B.Bank.given c.args.bank) c.args.members (placed-by c.requires.opened.members_are) in
     let same = same-roles c.lose_recovering.result c.args.members c.lose_recovering.new.members c.lose_recovering.ensures.members in
     omega (arith, few, same, c.len-count.ensures)
 
-pub enter_all_absent-requires-clause-disks : goal.enter_all_absent-requires-clause-disks
-enter_all_absent-requires-clause-disks = count-few
+pub append_absent-requires-clause-disks : goal.append_absent-requires-clause-disks
+append_absent-requires-clause-disks = count-few
 
 pub overflow_cast-count : goal.overflow_cast-count
 overflow_cast-count g c =
@@ -61,8 +61,8 @@ of_pieces-requires-clause-ready g c =
     let lost = c.lose_recovering.result in
     let members = c.lose_recovering.new.members in
     let members_are = c.lose_recovering.ensures.members in
-    let did = c.enter_all_absent.ensures in
-    let epoch = c.enter_all_absent.new.epoch in
+    let did = c.append_absent.ensures in
+    let epoch = c.append_absent.new.epoch in
     let placed = placed-by c.requires.opened.members_are in
     ready-by c.args.window.items c.requires.opened lost c.lose_recovering.ensures.recovering
     (sym (ap (λ (m : Members). length m.own) members_are) ∙ c.moving_work-work.ensures.slots) c.args.first c.requires.first
@@ -78,8 +78,8 @@ returns-clause-adopted g c =
     let lost = c.lose_recovering.result in
     let members = c.lose_recovering.new.members in
     let members_are = c.lose_recovering.ensures.members in
-    let did = c.enter_all_absent.ensures in
-    let epoch = c.enter_all_absent.new.epoch in
+    let did = c.append_absent.ensures in
+    let epoch = c.append_absent.new.epoch in
     let placed = placed-by c.requires.opened.members_are in
     adopted-as (g.B.Bank.given c.args.bank) (g.B.Bank.tape c.args.bank) c.args.given c.args.backup former c.of_pieces.result _ c.of_pieces.ensures.same (record {
       uuid = did.same.uuid ∙ ap (λ (m : Members). m.newest.set_uuid) members_are;

@@ -71,17 +71,17 @@ invariant_of-moving-2 g c =
     (unadded-moves g.B.Bank.tells given (g.B.Bank.tape a.bank) (scope_in given a.epoch.uuid a.epoch.given (Some a.backup)) a.epoch.first a.epoch.entries.items a.members (bears a.work) a.work.resync a.course
     (bytes_in a.course.window a.window.items) (left_in a.work a.members a.course a.ahead) c.args.who end (Some a.backup) c.args.slot refusal
     was.kept (begins-going a.epoch.entries.items c.args.who number) (not_254 c.args.who.caller c.requires.caller) c.ops-end.ensures.count c.in-Some.ensures)
-    refl (λ slot. omega arith) (alone-keeps c.args.who end (Refused refusal) (λ n. refl) (λ limit. refl)) (λ none whole. whole) refl (scope-same given (Some a.backup) refl c.enter.ensures.uuid c.enter.ensures.given) c.enter.ensures.first c.make_room.ensures.items c.enter.ensures.items
-    (omega (arith, c.enter.ensures.room, c.in-Ok.ensures.ok))
+    refl (λ slot. omega arith) (alone-keeps c.args.who end (Refused refusal) (λ n. refl) (λ limit. refl)) (λ none whole. whole) refl (scope-same given (Some a.backup) refl c.append_entry.ensures.uuid c.append_entry.ensures.given) c.append_entry.ensures.first c.make_room.ensures.items c.append_entry.ensures.items
+    (omega (arith, c.append_entry.ensures.room, c.in-Ok.ensures.ok))
 
 pub returns-clause-answered : goal.returns-clause-answered
 returns-clause-answered g c =
     let refusal = c.in-Some.refusal in
     let a = c.moving.inside in
     let number : c.args.who.number ≡ next_number c.args.who.caller a.epoch.entries.items = c.requires.next ∙ ap (λ p. next_number c.args.who.caller p.parts.entries) (sym c.moving.view_is) in
-    rw (← c.moving.view_is) (unadded_reply (g.B.Bank.given a.bank) (Some a.backup) a.members (list_length a.members.newest) c.args.who a.epoch.entries.items c.enter.new.epoch.entries.items
+    rw (← c.moving.view_is) (unadded_reply (g.B.Bank.given a.bank) (Some a.backup) a.members (list_length a.members.newest) c.args.who a.epoch.entries.items c.append_entry.new.epoch.entries.items
     c.ops-end.result c.args.slot refusal c.in-Some.ensures
-    (c.enter.ensures.items ∙ ap (λ (l : List Entry). l ++ entries_of c.args.who c.ops-end.result (Refused refusal ∷ [])) c.make_room.ensures.items) number)
+    (c.append_entry.ensures.items ∙ ap (λ (l : List Entry). l ++ entries_of c.args.who c.ops-end.result (Refused refusal ∷ [])) c.make_room.ensures.items) number)
 
 pub returns-clause-numbers : goal.returns-clause-numbers
 returns-clause-numbers g c = subst (λ p. (number : ℕ) → bears p.parts.work c.args.slot number ≡ true → bears c.moving.inside.work c.args.slot number ≡ true) c.moving.view_is (λ number is. is)
@@ -102,10 +102,10 @@ returns-clause-called g c =
     let end = c.ops-end.result in
     let refusal = c.in-Some.refusal in
     rw (← c.moving.view_is) (none-added (called (grows-none (λ t. refl)) (moved-same given given a.members a.members refl refl was.kept.members_are.placed was.kept.members_are.unlost)
-    (ended-behind (g.B.Bank.tape a.bank) c.enter.new.epoch.first c.make_room.new.self.items c.args.who end [] (Refused refusal) c.enter.ensures.items c.ops-end.ensures.count)
-    (alone-lossless a.members faults faults a.epoch.entries.items c.make_room.new.self.items c.enter.new.epoch.entries.items c.args.who end (Refused refusal) tt c.make_room.ensures.items c.enter.ensures.items)
+    (ended-behind (g.B.Bank.tape a.bank) c.append_entry.new.epoch.first c.make_room.new.self.items c.args.who end [] (Refused refusal) c.append_entry.ensures.items c.ops-end.ensures.count)
+    (alone-lossless a.members faults faults a.epoch.entries.items c.make_room.new.self.items c.append_entry.new.epoch.entries.items c.args.who end (Refused refusal) tt c.make_room.ensures.items c.append_entry.ensures.items)
     (λ slot. omega arith)
-    (record { uuid = c.enter.ensures.uuid; given = c.enter.ensures.given; first = c.enter.ensures.first; backup = refl; work = refl; ahead = refl; limit = refl })
+    (record { uuid = c.append_entry.ensures.uuid; given = c.append_entry.ensures.given; first = c.append_entry.ensures.first; backup = refl; work = refl; ahead = refl; limit = refl })
     (λ t. (was.kept.recorded t).begun)))
 
 -- ---- by what stands above

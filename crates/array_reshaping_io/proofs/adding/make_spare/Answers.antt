@@ -69,13 +69,13 @@ invariant_of-moving-in_default g c =
     (looked-moves g.B.Bank.tells given (g.B.Bank.tape a.bank) (g.B.Bank.tape c.look_at.new.bank) (scope_in given a.epoch.uuid a.epoch.given (Some a.backup)) a.epoch.first a.epoch.entries.items a.members (bears a.work) a.work.resync
     a.course (bytes_in a.course.window a.window.items) (left_in a.work a.members a.course a.ahead) c.args.who end c.args.slot
     was.kept (live-of was.kept (slot-does given (Some a.backup) c.args.slot a.members was.kept.members_are.placed addable)) (begins-going a.epoch.entries.items c.args.who number) (not_254 c.args.who.caller c.requires.caller) c.ops-end.ensures.count look.tape)
-    refl look.counts (alone-keeps c.args.who end (Refused (SlotFault c.args.slot)) (λ n. refl) (λ limit. refl)) (λ none whole. whole) look.given (scope-same given (Some a.backup) look.given c.enter.ensures.uuid c.enter.ensures.given) c.enter.ensures.first c.make_room.ensures.items c.enter.ensures.items
-    (omega (arith, c.enter.ensures.room, c.in-Ok.ensures.ok))
+    refl look.counts (alone-keeps c.args.who end (Refused (SlotFault c.args.slot)) (λ n. refl) (λ limit. refl)) (λ none whole. whole) look.given (scope-same given (Some a.backup) look.given c.append_entry.ensures.uuid c.append_entry.ensures.given) c.append_entry.ensures.first c.make_room.ensures.items c.append_entry.ensures.items
+    (omega (arith, c.append_entry.ensures.room, c.in-Ok.ensures.ok))
 
 pub returns-in_default-clause-answered : goal.returns-in_default-clause-answered
 returns-in_default-clause-answered g c =
-    faulted_reply (list_length c.args.moving.now.parts.members.newest) c.args.who c.args.moving.now.parts.entries c.enter.new.epoch.entries.items c.ops-end.result c.args.slot [] tt
-    (c.enter.ensures.items ∙ ap (λ (l : List Entry). l ++ entries_of c.args.who c.ops-end.result (Refused (SlotFault c.args.slot) ∷ [])) (c.make_room.ensures.items ∙ ap (λ p. p.parts.entries) c.moving.view_is))
+    faulted_reply (list_length c.args.moving.now.parts.members.newest) c.args.who c.args.moving.now.parts.entries c.append_entry.new.epoch.entries.items c.ops-end.result c.args.slot [] tt
+    (c.append_entry.ensures.items ∙ ap (λ (l : List Entry). l ++ entries_of c.args.who c.ops-end.result (Refused (SlotFault c.args.slot) ∷ [])) (c.make_room.ensures.items ∙ ap (λ p. p.parts.entries) c.moving.view_is))
     c.requires.next
 
 pub returns-in_default-clause-caused : goal.returns-in_default-clause-caused
@@ -103,10 +103,10 @@ returns-in_default-clause-called g c =
     let end = c.ops-end.result in
     let event = Refused (SlotFault c.args.slot) in
     rw (← c.moving.view_is) (none-added (called (looked-grows look.tape) (moved-same given given a.members a.members refl refl was.kept.members_are.placed was.kept.members_are.unlost)
-    (ended-behind (g.B.Bank.tape c.look_at.new.bank) c.enter.new.epoch.first c.make_room.new.self.items c.args.who end [] event c.enter.ensures.items c.ops-end.ensures.count)
-    (alone-lossless a.members before after a.epoch.entries.items c.make_room.new.self.items c.enter.new.epoch.entries.items c.args.who end event tt c.make_room.ensures.items c.enter.ensures.items)
+    (ended-behind (g.B.Bank.tape c.look_at.new.bank) c.append_entry.new.epoch.first c.make_room.new.self.items c.args.who end [] event c.append_entry.ensures.items c.ops-end.ensures.count)
+    (alone-lossless a.members before after a.epoch.entries.items c.make_room.new.self.items c.append_entry.new.epoch.entries.items c.args.who end event tt c.make_room.ensures.items c.append_entry.ensures.items)
     look.counts
-    (record { uuid = c.enter.ensures.uuid; given = c.enter.ensures.given; first = c.enter.ensures.first; backup = refl; work = refl; ahead = refl; limit = refl })
+    (record { uuid = c.append_entry.ensures.uuid; given = c.append_entry.ensures.given; first = c.append_entry.ensures.first; backup = refl; work = refl; ahead = refl; limit = refl })
     (λ t. (was.kept.recorded t).begun)))
 
 pub returns-in_default-clause-others : goal.returns-in_default-clause-others
@@ -155,16 +155,16 @@ overflow_cast-count g c =
     let long = c.len-count.ensures in
     omega (arith, few, roles, long)
 
-pub vacant_roles-before-requires-clause-few : goal.vacant_roles-before-requires-clause-few
-vacant_roles-before-requires-clause-few g c =
+pub unassigned_roles-before-requires-clause-few : goal.unassigned_roles-before-requires-clause-few
+unassigned_roles-before-requires-clause-few g c =
     let members = c.moving.invariant.kept.members_are in
     let few = few-roles c.moving.inside.members.newest members.placed.fit.valid in
     let roles = members.backed.roles in
     let long = c.len-count.ensures in
     omega (arith, few, roles, long)
 
-pub newly_vacant-roles-requires-clause-few : goal.newly_vacant-roles-requires-clause-few
-newly_vacant-roles-requires-clause-few g c =
+pub newly_unassigned-roles-requires-clause-few : goal.newly_unassigned-roles-requires-clause-few
+newly_unassigned-roles-requires-clause-few g c =
     let members = c.moving.invariant.kept.members_are in
     let few = few-roles c.moving.inside.members.newest members.placed.fit.valid in
     let roles = members.backed.roles in
@@ -239,9 +239,9 @@ invariant_of-moving-then-contains g c =
     let did = add-done look.given was.kept.slots here.placed here.unlost here.free there (λ role may. slot-free given (Some a.backup) slot a.members here.placed addable (inr (role, may))) look.counts
     c.spare_for-sb.ensures.made e.own e.moved e.failed e.lost e.grows e.others e.clean e.rise e.counts in
     let m = c.add_member-lost.new.members in
-    let roles = c.newly_vacant-roles.result in
+    let roles = c.newly_unassigned-roles.result in
     let spares = c.without-spares.result in
-    let since = since-added did c.len-count.result c.vacant_roles-before.result roles spares (c.len-count.ensures ∙ here.backed.roles) c.vacant_roles-before.ensures c.newly_vacant-roles.ensures
+    let since = since-added did c.len-count.result c.unassigned_roles-before.result roles spares (c.len-count.ensures ∙ here.backed.roles) c.unassigned_roles-before.ensures c.newly_unassigned-roles.ensures
     (others-lost slot c.add_member-lost.result c.with.result spares c.with.ensures c.without-spares.ensures (omega (arith, c.without-spares.type_inv))) in
     let first = subst (λ p. free_number p.parts.members.newest p.parts.work ≡ Some c.args.number) (sym c.moving.view_is) c.requires.number in
     let free = is-free a.members.newest a.work c.args.number first in
@@ -265,15 +265,15 @@ invariant_of-moving-then-contains g c =
     (added-lost-moves g.B.Bank.tells given tape mid tape' scope a.epoch.first a.epoch.entries.items a.members m (bears a.work) (bears work) a.work.resync a.course (bytes_in a.course.window a.window.items)
     (left_in a.work a.members a.course a.ahead) c.args.who end slot sb roles spares was.kept (begins-going a.epoch.entries.items c.args.who number) (not_254 c.args.who.caller c.requires.caller) c.ops-end-2.ensures.count made))
     refl did.counts (behind-keeps c.args.who end roles spares (Refused (SlotFault slot)) (λ n. refl) (λ limit. refl))
-    (behind-whole tape' scope a.epoch.first a.epoch.entries.items c.args.who end roles spares (Refused (SlotFault slot)) did.moved made.since) given_is (scope-same given (Some a.backup) given_is c.enter_behind.ensures.uuid c.enter_behind.ensures.given) c.enter_behind.ensures.first c.make_room.ensures.items c.enter_behind.ensures.items
-    (omega (arith, c.enter_behind.ensures.room, c.in-Ok.ensures.ok)))
+    (behind-whole tape' scope a.epoch.first a.epoch.entries.items c.args.who end roles spares (Refused (SlotFault slot)) did.moved made.since) given_is (scope-same given (Some a.backup) given_is c.append_after_losses.ensures.uuid c.append_after_losses.ensures.given) c.append_after_losses.ensures.first c.make_room.ensures.items c.append_after_losses.ensures.items
+    (omega (arith, c.append_after_losses.ensures.room, c.in-Ok.ensures.ok)))
 
 pub returns-then-contains-clause-answered : goal.returns-then-contains-clause-answered
 returns-then-contains-clause-answered g c =
-    let losses = losses_of c.newly_vacant-roles.result c.without-spares.result in
-    faulted_reply (list_length c.args.moving.now.parts.members.newest) c.args.who c.args.moving.now.parts.entries c.enter_behind.new.epoch.entries.items c.ops-end-2.result c.args.slot losses
-    (losses-are c.newly_vacant-roles.result c.without-spares.result)
-    (c.enter_behind.ensures.items ∙ ap (λ (l : List Entry). l ++ entries_of c.args.who c.ops-end-2.result (losses ++ Refused (SlotFault c.args.slot) ∷ [])) (c.make_room.ensures.items ∙ ap (λ p. p.parts.entries) c.moving.view_is))
+    let losses = losses_of c.newly_unassigned-roles.result c.without-spares.result in
+    faulted_reply (list_length c.args.moving.now.parts.members.newest) c.args.who c.args.moving.now.parts.entries c.append_after_losses.new.epoch.entries.items c.ops-end-2.result c.args.slot losses
+    (losses-are c.newly_unassigned-roles.result c.without-spares.result)
+    (c.append_after_losses.ensures.items ∙ ap (λ (l : List Entry). l ++ entries_of c.args.who c.ops-end-2.result (losses ++ Refused (SlotFault c.args.slot) ∷ [])) (c.make_room.ensures.items ∙ ap (λ p. p.parts.entries) c.moving.view_is))
     c.requires.next
 
 pub returns-then-contains-clause-caused : goal.returns-then-contains-clause-caused
@@ -312,19 +312,19 @@ returns-then-contains-clause-called g c =
     let did = add-done look.given was.kept.slots here.placed here.unlost here.free there (λ role may. slot-free given (Some a.backup) slot a.members here.placed addable (inr (role, may))) look.counts
     c.spare_for-sb.ensures.made e.own e.moved e.failed e.lost e.grows e.others e.clean e.rise e.counts in
     let m = c.add_member-lost.new.members in
-    let roles = c.newly_vacant-roles.result in
+    let roles = c.newly_unassigned-roles.result in
     let spares = c.without-spares.result in
-    let since = since-added did c.len-count.result c.vacant_roles-before.result roles spares (c.len-count.ensures ∙ here.backed.roles) c.vacant_roles-before.ensures c.newly_vacant-roles.ensures
+    let since = since-added did c.len-count.result c.unassigned_roles-before.result roles spares (c.len-count.ensures ∙ here.backed.roles) c.unassigned_roles-before.ensures c.newly_unassigned-roles.ensures
     (others-lost slot c.add_member-lost.result c.with.result spares c.with.ensures c.without-spares.ensures (omega (arith, c.without-spares.type_inv))) in
     let first = subst (λ p. free_number p.parts.members.newest p.parts.work ≡ Some c.args.number) (sym c.moving.view_is) c.requires.number in
     let end = c.ops-end-2.result in
     let event = Refused (SlotFault slot) in
     rw (← c.moving.view_is) (add-called false c.args.number look.tape did
-    (ended-behind (g.B.Bank.tape c.add_member-lost.new.bank) c.enter_behind.new.epoch.first c.make_room.new.self.items c.args.who end (losses_of roles spares) event c.enter_behind.ensures.items c.ops-end-2.ensures.count)
-    (losses-behind a.members m (g.B.Bank.faults_of a.bank) (g.B.Bank.faults_of c.add_member-lost.new.bank) a.epoch.entries.items c.make_room.new.self.items c.enter_behind.new.epoch.entries.items c.args.who end roles spares
-    event since tt c.make_room.ensures.items c.enter_behind.ensures.items)
+    (ended-behind (g.B.Bank.tape c.add_member-lost.new.bank) c.append_after_losses.new.epoch.first c.make_room.new.self.items c.args.who end (losses_of roles spares) event c.append_after_losses.ensures.items c.ops-end-2.ensures.count)
+    (losses-behind a.members m (g.B.Bank.faults_of a.bank) (g.B.Bank.faults_of c.add_member-lost.new.bank) a.epoch.entries.items c.make_room.new.self.items c.append_after_losses.new.epoch.entries.items c.args.who end roles spares
+    event since tt c.make_room.ensures.items c.append_after_losses.ensures.items)
     first
-    (record { uuid = c.enter_behind.ensures.uuid; given = c.enter_behind.ensures.given; first = c.enter_behind.ensures.first; backup = refl; work = c.bear.ensures; ahead = refl; limit = refl })
+    (record { uuid = c.append_after_losses.ensures.uuid; given = c.append_after_losses.ensures.given; first = c.append_after_losses.ensures.first; backup = refl; work = c.bear.ensures; ahead = refl; limit = refl })
     (λ t. (was.kept.recorded t).begun))
 
 pub returns-then-contains-clause-others : goal.returns-then-contains-clause-others
@@ -374,9 +374,9 @@ invariant_of-moving-2 g c =
     let did = add-done look.given was.kept.slots here.placed here.unlost here.free there (λ role may. slot-free given (Some a.backup) slot a.members here.placed addable (inr (role, may))) look.counts
     c.spare_for-sb.ensures.made e.own e.moved e.failed e.lost e.grows e.others e.clean e.rise e.counts in
     let m = c.add_member-lost.new.members in
-    let roles = c.newly_vacant-roles.result in
+    let roles = c.newly_unassigned-roles.result in
     let spares = c.without-spares.result in
-    let since = since-added did c.len-count.result c.vacant_roles-before.result roles spares (c.len-count.ensures ∙ here.backed.roles) c.vacant_roles-before.ensures c.newly_vacant-roles.ensures
+    let since = since-added did c.len-count.result c.unassigned_roles-before.result roles spares (c.len-count.ensures ∙ here.backed.roles) c.unassigned_roles-before.ensures c.newly_unassigned-roles.ensures
     (others-lost slot c.add_member-lost.result c.with.result spares c.with.ensures c.without-spares.ensures (omega (arith, c.without-spares.type_inv))) in
     let first = subst (λ p. free_number p.parts.members.newest p.parts.work ≡ Some c.args.number) (sym c.moving.view_is) c.requires.number in
     let free = is-free a.members.newest a.work c.args.number first in
@@ -406,15 +406,15 @@ invariant_of-moving-2 g c =
     (added-moves g.B.Bank.tells given tape mid tape' scope a.epoch.first a.epoch.entries.items a.members m (bears a.work) (bears more) a.work.resync a.course (bytes_in a.course.window a.window.items)
     (left_in a.work a.members a.course a.ahead) c.args.who end slot sb roles spares was.kept (begins-going a.epoch.entries.items c.args.who number) (not_254 c.args.who.caller c.requires.caller) c.ops-end-2.ensures.count made)))
     refl did.counts (behind-keeps c.args.who end roles spares (Added slot) (λ n. refl) (λ limit. refl))
-    (behind-whole tape' scope a.epoch.first a.epoch.entries.items c.args.who end roles spares (Added slot) did.moved made.since) given_is (scope-same given (Some a.backup) given_is c.enter_behind-2.ensures.uuid c.enter_behind-2.ensures.given) c.enter_behind-2.ensures.first c.make_room.ensures.items c.enter_behind-2.ensures.items
-    (omega (arith, c.enter_behind-2.ensures.room, c.in-Ok.ensures.ok)))
+    (behind-whole tape' scope a.epoch.first a.epoch.entries.items c.args.who end roles spares (Added slot) did.moved made.since) given_is (scope-same given (Some a.backup) given_is c.append_after_losses-2.ensures.uuid c.append_after_losses-2.ensures.given) c.append_after_losses-2.ensures.first c.make_room.ensures.items c.append_after_losses-2.ensures.items
+    (omega (arith, c.append_after_losses-2.ensures.room, c.in-Ok.ensures.ok)))
 
 pub returns-clause-answered : goal.returns-clause-answered
 returns-clause-answered g c =
-    let roles = c.newly_vacant-roles.result in
+    let roles = c.newly_unassigned-roles.result in
     let spares = c.without-spares.result in
-    added_reply (list_length c.args.moving.now.parts.members.newest) c.args.who c.args.moving.now.parts.entries c.enter_behind-2.new.epoch.entries.items c.ops-end-2.result c.args.slot roles spares
-    (c.enter_behind-2.ensures.items ∙ ap (λ (l : List Entry). l ++ entries_of c.args.who c.ops-end-2.result (losses_of roles spares ++ Added c.args.slot ∷ [])) (c.make_room.ensures.items ∙ ap (λ p. p.parts.entries) c.moving.view_is))
+    added_reply (list_length c.args.moving.now.parts.members.newest) c.args.who c.args.moving.now.parts.entries c.append_after_losses-2.new.epoch.entries.items c.ops-end-2.result c.args.slot roles spares
+    (c.append_after_losses-2.ensures.items ∙ ap (λ (l : List Entry). l ++ entries_of c.args.who c.ops-end-2.result (losses_of roles spares ++ Added c.args.slot ∷ [])) (c.make_room.ensures.items ∙ ap (λ p. p.parts.entries) c.moving.view_is))
     c.requires.next
 
 pub returns-clause-caused : goal.returns-clause-caused
@@ -453,19 +453,19 @@ returns-clause-called g c =
     let did = add-done look.given was.kept.slots here.placed here.unlost here.free there (λ role may. slot-free given (Some a.backup) slot a.members here.placed addable (inr (role, may))) look.counts
     c.spare_for-sb.ensures.made e.own e.moved e.failed e.lost e.grows e.others e.clean e.rise e.counts in
     let m = c.add_member-lost.new.members in
-    let roles = c.newly_vacant-roles.result in
+    let roles = c.newly_unassigned-roles.result in
     let spares = c.without-spares.result in
-    let since = since-added did c.len-count.result c.vacant_roles-before.result roles spares (c.len-count.ensures ∙ here.backed.roles) c.vacant_roles-before.ensures c.newly_vacant-roles.ensures
+    let since = since-added did c.len-count.result c.unassigned_roles-before.result roles spares (c.len-count.ensures ∙ here.backed.roles) c.unassigned_roles-before.ensures c.newly_unassigned-roles.ensures
     (others-lost slot c.add_member-lost.result c.with.result spares c.with.ensures c.without-spares.ensures (omega (arith, c.without-spares.type_inv))) in
     let first = subst (λ p. free_number p.parts.members.newest p.parts.work ≡ Some c.args.number) (sym c.moving.view_is) c.requires.number in
     let end = c.ops-end-2.result in
     let event = Added slot in
     rw (← c.moving.view_is) (add-called true c.args.number look.tape did
-    (ended-behind (g.B.Bank.tape c.add_member-lost.new.bank) c.enter_behind-2.new.epoch.first c.make_room.new.self.items c.args.who end (losses_of roles spares) event c.enter_behind-2.ensures.items c.ops-end-2.ensures.count)
-    (losses-behind a.members m (g.B.Bank.faults_of a.bank) (g.B.Bank.faults_of c.add_member-lost.new.bank) a.epoch.entries.items c.make_room.new.self.items c.enter_behind-2.new.epoch.entries.items c.args.who end roles spares
-    event since tt c.make_room.ensures.items c.enter_behind-2.ensures.items)
+    (ended-behind (g.B.Bank.tape c.add_member-lost.new.bank) c.append_after_losses-2.new.epoch.first c.make_room.new.self.items c.args.who end (losses_of roles spares) event c.append_after_losses-2.ensures.items c.ops-end-2.ensures.count)
+    (losses-behind a.members m (g.B.Bank.faults_of a.bank) (g.B.Bank.faults_of c.add_member-lost.new.bank) a.epoch.entries.items c.make_room.new.self.items c.append_after_losses-2.new.epoch.entries.items c.args.who end roles spares
+    event since tt c.make_room.ensures.items c.append_after_losses-2.ensures.items)
     first
-    (record { uuid = c.enter_behind-2.ensures.uuid; given = c.enter_behind-2.ensures.given; first = c.enter_behind-2.ensures.first; backup = refl; work = c.bear-2.ensures; ahead = refl; limit = refl })
+    (record { uuid = c.append_after_losses-2.ensures.uuid; given = c.append_after_losses-2.ensures.given; first = c.append_after_losses-2.ensures.first; backup = refl; work = c.bear-2.ensures; ahead = refl; limit = refl })
     (λ t. (was.kept.recorded t).begun))
 
 pub returns-clause-others : goal.returns-clause-others
@@ -524,8 +524,8 @@ returns-in_default-clause-failed g c = rw (← c.moving.view_is) (λ role slot h
 pub returns-in_default-clause-course : goal.returns-in_default-clause-course
 returns-in_default-clause-course g c = ap (λ p. p.course) c.moving.view_is
 
-pub vacant_roles-before-requires-clause-known : goal.vacant_roles-before-requires-clause-known
-vacant_roles-before-requires-clause-known g c = le_of_eq c.len-count.ensures
+pub unassigned_roles-before-requires-clause-known : goal.unassigned_roles-before-requires-clause-known
+unassigned_roles-before-requires-clause-known g c = le_of_eq c.len-count.ensures
 
 pub add_member-lost-requires-clause-slots : goal.add_member-lost-requires-clause-slots
 add_member-lost-requires-clause-slots g c = subst (λ (b : Given). b.slots ≤ 32) (sym c.look_at.ensures.given) c.moving.invariant.kept.slots
@@ -533,15 +533,15 @@ add_member-lost-requires-clause-slots g c = subst (λ (b : Given). b.slots ≤ 3
 pub add_member-lost-requires-clause-unlost : goal.add_member-lost-requires-clause-unlost
 add_member-lost-requires-clause-unlost g c = c.moving.invariant.kept.members_are.unlost
 
-pub newly_vacant-roles-requires-clause-known : goal.newly_vacant-roles-requires-clause-known
-newly_vacant-roles-requires-clause-known g c =
+pub newly_unassigned-roles-requires-clause-known : goal.newly_unassigned-roles-requires-clause-known
+newly_unassigned-roles-requires-clause-known g c =
     roles-moved (g.B.Bank.given c.look_at.new.bank) (with_spare c.args.slot c.spare_for-sb.result c.moving.inside.members) c.add_member-lost.new.members c.add_member-lost.ensures.moved c.len-count.result c.len-count.ensures c.moving.invariant.kept.members_are.placed.roles
 
-pub enter_behind-requires-clause-room : goal.enter_behind-requires-clause-room
-enter_behind-requires-clause-room g c = room-made _ c.in-Ok.ensures.ok
+pub append_after_losses-requires-clause-room : goal.append_after_losses-requires-clause-room
+append_after_losses-requires-clause-room g c = room-made _ c.in-Ok.ensures.ok
 
-pub enter_behind-requires-clause-number : goal.enter_behind-requires-clause-number
-enter_behind-requires-clause-number g c = c.check_number.ensures
+pub append_after_losses-requires-clause-number : goal.append_after_losses-requires-clause-number
+append_after_losses-requires-clause-number g c = c.check_number.ensures
 
 pub returns-then-contains-clause-clean : goal.returns-then-contains-clause-clean
 returns-then-contains-clause-clean g c = c.add_member-lost.ensures.clean ∙ ap (λ p. is_clean p.parts.members.newest) c.moving.view_is
@@ -552,11 +552,11 @@ returns-then-contains-clause-course g c = ap (λ p. p.course) c.moving.view_is
 pub returns-then-contains-clause-given : goal.returns-then-contains-clause-given
 returns-then-contains-clause-given g c = c.add_member-lost.ensures.given ∙ c.look_at.ensures.given ∙ ap (λ p. g.B.Bank.given p.parts.bank) c.moving.view_is
 
-pub enter_behind-requires-2-clause-room : goal.enter_behind-requires-2-clause-room
-enter_behind-requires-2-clause-room g c = room-made _ c.in-Ok.ensures.ok
+pub append_after_losses-requires-2-clause-room : goal.append_after_losses-requires-2-clause-room
+append_after_losses-requires-2-clause-room g c = room-made _ c.in-Ok.ensures.ok
 
-pub enter_behind-requires-2-clause-number : goal.enter_behind-requires-2-clause-number
-enter_behind-requires-2-clause-number g c = c.check_number.ensures
+pub append_after_losses-requires-2-clause-number : goal.append_after_losses-requires-2-clause-number
+append_after_losses-requires-2-clause-number g c = c.check_number.ensures
 
 pub returns-clause-clean : goal.returns-clause-clean
 returns-clause-clean g c = c.add_member-lost.ensures.clean ∙ ap (λ p. is_clean p.parts.members.newest) c.moving.view_is

@@ -9,7 +9,7 @@ use Rattle.array_reshaping_steps.specs.history_Transfers.{last_end_from}
 use Rattle.array_reshaping_steps.specs.array_members_Rebuilding.{Held}
 use Rattle.array_reshaping_steps.proofs.array_members_MovedLaws.{grows-none, moved-same}
 use Rattle.array_reshaping_steps.specs.array_call_specs_Calls.{IsLossBy, WasSpare}
-use Rattle.array_reshaping_steps.specs.stripe_region_resync_Mends.{relied_sector}
+use Rattle.array_reshaping_steps.specs.stripe_region_resync_Resyncs.{relied_sector}
 use Rattle.array_reshaping_steps.specs.array_specs_Parts.{left_in}
 use Rattle.array_reshaping_steps.proofs.array_specs_Called.{called}
 use Rattle.array_reshaping_steps.specs.array_reshaping_laws_Writing.{IsRefusedAlone, TouchesUnsure}

@@ -21,7 +21,7 @@ use Rattle.array_reshaping_steps.specs.array_call_specs_Calls.{IsLossBy, WasSpar
 use Rattle.array_reshaping_steps.proofs.array_call_specs_LossLaws.{ended-behind}
 use Rattle.array_reshaping_steps.proofs.array_call_specs_ReadyLaws.{scope-same, list-same}
 use Rattle.array_reshaping_steps.proofs.array_call_specs_ReplyLaws.{inside-losses, replied}
-use Rattle.array_reshaping_steps.specs.stripe_region_resync_Mends.{relied_sector}
+use Rattle.array_reshaping_steps.specs.stripe_region_resync_Resyncs.{relied_sector}
 use Rattle.array_reshaping_steps.specs.reshape_progress_Course.{hidden_in}
 use Rattle.array_reshaping_steps.specs.array_reshaping_state_First.{IsUnreadAround}
 use Rattle.array_reshaping_steps.specs.history_invariant_Safe.{world_in}
@@ -69,15 +69,15 @@ invariant_of-moving-in-Some g c =
     let refusal = c.in-Some.refusal in
     let count = length c.args.into.now / 512 in
     let size = visible_size a.members a.limit in
-    let hidden = c.hidden_span-hidden.result in
+    let hidden = c.backed_up_span-hidden.result in
     let relied = c.relied_sector-relied.result in
     let why = subst (λ (n : ℕ). IsRefusedFor n (c.args.at + count) (IsUnreadAround hidden relied c.args.at (c.args.at + count)) a.members a.members refusal) c.visible-sectors.ensures.value c.in-Some.ensures.why in
     let kept = resting-moves g.B.Bank.tells given tape scope a.epoch.first a.epoch.entries.items a.members (bears a.work) a.work.resync a.course (bytes_in a.course.window a.window.items) (left_in a.work a.members a.course a.ahead)
     c.args.who end (Refused refusal) was.kept (begins-going a.epoch.entries.items c.args.who number) (not_254 c.args.who.caller c.requires.caller) c.ops-end.ensures.count (quiet-refusal refusal) (λ told is. is)
     (first-right was.kept was.limited hidden relied c.args.at (c.args.at + count) refusal c.relied_sector-relied.ensures.value why) in
     ready (entries_of c.args.who end (Refused refusal ∷ [])) was (grows-none (λ t. refl)) (shapes-same a.members.newest) kept
-    refl (never-falls _) (alone-keeps c.args.who end (Refused refusal) (λ n. refl) (λ limit. refl)) (λ none whole. whole) refl (scope-same given (Some a.backup) refl c.enter.ensures.uuid c.enter.ensures.given) c.enter.ensures.first c.make_room.ensures.items c.enter.ensures.items
-    (omega (arith, c.enter.ensures.room, c.in-Ok-make_room.ensures.ok))
+    refl (never-falls _) (alone-keeps c.args.who end (Refused refusal) (λ n. refl) (λ limit. refl)) (λ none whole. whole) refl (scope-same given (Some a.backup) refl c.append_entry.ensures.uuid c.append_entry.ensures.given) c.append_entry.ensures.first c.make_room.ensures.items c.append_entry.ensures.items
+    (omega (arith, c.append_entry.ensures.room, c.in-Ok-make_room.ensures.ok))
 
 pub returns-in-Some-clause-answered : goal.returns-in-Some-clause-answered
 returns-in-Some-clause-answered g c =
@@ -87,11 +87,11 @@ returns-in-Some-clause-answered g c =
     let count = length c.args.into.now / 512 in
     let size = visible_size a.members a.limit in
     let refusal = c.in-Some.refusal in
-    let hidden = c.hidden_span-hidden.result in
+    let hidden = c.backed_up_span-hidden.result in
     let relied = c.relied_sector-relied.result in
     let why = subst (λ (n : ℕ). IsRefusedFor n (c.args.at + count) (IsUnreadAround hidden relied c.args.at (c.args.at + count)) a.members a.members refusal) c.visible-sectors.ensures.value c.in-Some.ensures.why in
-    rw (← c.moving.view_is) (first-reply a.members hidden relied a.limit a.epoch.entries.items was.sized was.limited c.args.who c.args.at count c.enter.new.epoch.entries.items c.ops-end.result refusal why
-    (c.enter.ensures.items ∙ ap (λ (l : List Entry). l ++ entries_of c.args.who c.ops-end.result (Refused refusal ∷ [])) c.make_room.ensures.items) number)
+    rw (← c.moving.view_is) (first-reply a.members hidden relied a.limit a.epoch.entries.items was.sized was.limited c.args.who c.args.at count c.append_entry.new.epoch.entries.items c.ops-end.result refusal why
+    (c.append_entry.ensures.items ∙ ap (λ (l : List Entry). l ++ entries_of c.args.who c.ops-end.result (Refused refusal ∷ [])) c.make_room.ensures.items) number)
 
 pub returns-in-Some-clause-called : goal.returns-in-Some-clause-called
 returns-in-Some-clause-called g c =
@@ -103,21 +103,21 @@ returns-in-Some-clause-called g c =
     let refusal = c.in-Some.refusal in
     called-over g.B.Bank.given g.B.Bank.tape g.B.Bank.faults_of c.moving.view_is (record {
       grows = grows-none (λ t. refl);
-      ended = ended-behind (g.B.Bank.tape a.bank) c.enter.new.epoch.first c.make_room.new.self.items c.args.who end [] (Refused refusal) c.enter.ensures.items c.ops-end.ensures.count;
+      ended = ended-behind (g.B.Bank.tape a.bank) c.append_entry.new.epoch.first c.make_room.new.self.items c.args.who end [] (Refused refusal) c.append_entry.ensures.items c.ops-end.ensures.count;
       held = λ role slot held. held;
       spares = λ slot spare. spare;
-      losses = alone-lossless a.members (g.B.Bank.faults_of a.bank) (g.B.Bank.faults_of a.bank) a.epoch.entries.items c.make_room.new.self.items c.enter.new.epoch.entries.items c.args.who end (Refused refusal) tt c.make_room.ensures.items c.enter.ensures.items;
+      losses = alone-lossless a.members (g.B.Bank.faults_of a.bank) (g.B.Bank.faults_of a.bank) a.epoch.entries.items c.make_room.new.self.items c.append_entry.new.epoch.entries.items c.args.who end (Refused refusal) tt c.make_room.ensures.items c.append_entry.ensures.items;
       never_falls = never-falls _;
       work = refl;
       same = record {
         array = record {
-          uuid = c.enter.ensures.uuid;
-          given = c.enter.ensures.given;
-          first = c.enter.ensures.first;
+          uuid = c.append_entry.ensures.uuid;
+          given = c.append_entry.ensures.given;
+          first = c.append_entry.ensures.first;
           backup = refl;
           shape = refl;
           size = refl;
-          list = list-same given scope a.epoch.first refl (scope-same given (Some a.backup) refl c.enter.ensures.uuid c.enter.ensures.given) c.enter.ensures.first (grows-none (λ t. refl)) (λ t. (was.kept.recorded t).begun);
+          list = list-same given scope a.epoch.first refl (scope-same given (Some a.backup) refl c.append_entry.ensures.uuid c.append_entry.ensures.given) c.append_entry.ensures.first (grows-none (λ t. refl)) (λ t. (was.kept.recorded t).begun);
         };
         final = refl;
         backward = refl;
@@ -132,9 +132,9 @@ returns-in-Some-clause-caused g c =
     let to = c.args.at + length c.args.into.now / 512 in
     let size = visible_size a.members a.limit in
     let refusal = c.in-Some.refusal in
-    rw (← c.moving.view_is) (subst (λ (o : Option Span). IsRefusedFor size to (IsUnreadAround o (relied_sector a.members.newest a.work.resync) c.args.at to) a.members a.members refusal) c.hidden_span-hidden.ensures
-    (subst (λ (n : ℕ). IsRefusedFor size to (IsUnreadAround c.hidden_span-hidden.result n c.args.at to) a.members a.members refusal) c.relied_sector-relied.ensures.value
-    (subst (λ (n : ℕ). IsRefusedFor n to (IsUnreadAround c.hidden_span-hidden.result c.relied_sector-relied.result c.args.at to) a.members a.members refusal) c.visible-sectors.ensures.value c.in-Some.ensures.why)))
+    rw (← c.moving.view_is) (subst (λ (o : Option Span). IsRefusedFor size to (IsUnreadAround o (relied_sector a.members.newest a.work.resync) c.args.at to) a.members a.members refusal) c.backed_up_span-hidden.ensures
+    (subst (λ (n : ℕ). IsRefusedFor size to (IsUnreadAround c.backed_up_span-hidden.result n c.args.at to) a.members a.members refusal) c.relied_sector-relied.ensures.value
+    (subst (λ (n : ℕ). IsRefusedFor n to (IsUnreadAround c.backed_up_span-hidden.result c.relied_sector-relied.result c.args.at to) a.members a.members refusal) c.visible-sectors.ensures.value c.in-Some.ensures.why)))
 
 -- ---- none are asked for
 
@@ -218,7 +218,7 @@ returns-then-asked-eq0-clause-caused g c =
     let to = c.args.at + length c.args.into.now / 512 in
     rw (← c.moving.view_is) (
       omega (arith, below, sectors),
-      λ refusal why. c.in_default.ensures.why.1 refusal (subst (λ (o : Option Span). IsUnreadAround o c.relied_sector-relied.result c.args.at to a.members refusal) (sym c.hidden_span-hidden.ensures)
+      λ refusal why. c.in_default.ensures.why.1 refusal (subst (λ (o : Option Span). IsUnreadAround o c.relied_sector-relied.result c.args.at to a.members refusal) (sym c.backed_up_span-hidden.ensures)
           (subst (λ (n : ℕ). IsUnreadAround (hidden_in a.course.window) n c.args.at to a.members refusal) (sym c.relied_sector-relied.ensures.value) why)),
     )
 
@@ -249,7 +249,7 @@ read_some-requires-clause-fine g c =
     let below = c.in_default.ensures.why.0 in
     let sectors = c.visible-sectors.ensures.value in (
       omega (arith, below, sectors),
-      λ refusal why. c.in_default.ensures.why.1 refusal (subst (λ (o : Option Span). IsUnreadAround o c.relied_sector-relied.result c.args.at to a.members refusal) (sym c.hidden_span-hidden.ensures)
+      λ refusal why. c.in_default.ensures.why.1 refusal (subst (λ (o : Option Span). IsUnreadAround o c.relied_sector-relied.result c.args.at to a.members refusal) (sym c.backed_up_span-hidden.ensures)
           (subst (λ (n : ℕ). IsUnreadAround (hidden_in a.course.window) n c.args.at to a.members refusal) (sym c.relied_sector-relied.ensures.value) why)),
     )
 
@@ -374,11 +374,11 @@ returns-in-Err-make_room-clause-unchanged g c =
 pub returns-in-Err-make_room-clause-caused : goal.returns-in-Err-make_room-clause-caused
 returns-in-Err-make_room-clause-caused g c = ap (λ p. p.parts.members) c.moving.view_is
 
-pub unread_from-requires-clause-roles : goal.unread_from-requires-clause-roles
-unread_from-requires-clause-roles g c = c.moving.invariant.kept.members_are.placed.roles
+pub first_read_refusal_from-requires-clause-roles : goal.first_read_refusal_from-requires-clause-roles
+first_read_refusal_from-requires-clause-roles g c = c.moving.invariant.kept.members_are.placed.roles
 
-pub unread_from-requires-clause-visible : goal.unread_from-requires-clause-visible
-unread_from-requires-clause-visible g c = c.visible-sectors.ensures.within
+pub first_read_refusal_from-requires-clause-visible : goal.first_read_refusal_from-requires-clause-visible
+first_read_refusal_from-requires-clause-visible g c = c.visible-sectors.ensures.within
 
 pub read_some-requires-clause-same : goal.read_some-requires-clause-same
 read_some-requires-clause-same g c = c.in-Ok.ensures.len
@@ -386,17 +386,17 @@ read_some-requires-clause-same g c = c.in-Ok.ensures.len
 pub read_some-requires-clause-whole : goal.read_some-requires-clause-whole
 read_some-requires-clause-whole g c = c.requires.whole
 
-pub enter-requires-clause-number : goal.enter-requires-clause-number
-enter-requires-clause-number g c = c.check_number.ensures
+pub append_entry-requires-clause-number : goal.append_entry-requires-clause-number
+append_entry-requires-clause-number g c = c.check_number.ensures
 
-pub enter-requires-then-asked-eq0-clause-number : goal.enter-requires-then-asked-eq0-clause-number
-enter-requires-then-asked-eq0-clause-number g c = c.check_number.ensures
+pub append_entry-requires-then-asked-eq0-clause-number : goal.append_entry-requires-then-asked-eq0-clause-number
+append_entry-requires-then-asked-eq0-clause-number g c = c.check_number.ensures
 
-pub enter-requires-clause-room : goal.enter-requires-clause-room
-enter-requires-clause-room g c = one-of-51 c.in-Ok-make_room.ensures.ok
+pub append_entry-requires-clause-room : goal.append_entry-requires-clause-room
+append_entry-requires-clause-room g c = one-of-51 c.in-Ok-make_room.ensures.ok
 
-pub enter-requires-then-asked-eq0-clause-room : goal.enter-requires-then-asked-eq0-clause-room
-enter-requires-then-asked-eq0-clause-room g c = one-of-51 c.in-Ok-make_room.ensures.ok
+pub append_entry-requires-then-asked-eq0-clause-room : goal.append_entry-requires-then-asked-eq0-clause-room
+append_entry-requires-then-asked-eq0-clause-room g c = one-of-51 c.in-Ok-make_room.ensures.ok
 
 pub check_number-requires : goal.check_number-requires
 check_number-requires g c =
@@ -413,8 +413,8 @@ returns-then-asked-eq0-clause-holds g c = λ t right i few.
 pub read_some-requires-clause-some : goal.read_some-requires-clause-some
 read_some-requires-clause-some g c = some-of _ c.if-asked-eq0.false
 
-pub unread_from-requires-clause-fit : goal.unread_from-requires-clause-fit
-unread_from-requires-clause-fit g c = c.moving.invariant.kept.members_are.placed.fit
+pub first_read_refusal_from-requires-clause-fit : goal.first_read_refusal_from-requires-clause-fit
+first_read_refusal_from-requires-clause-fit g c = c.moving.invariant.kept.members_are.placed.fit
 
 pub relied_sector-relied-requires-clause-fit : goal.relied_sector-relied-requires-clause-fit
 relied_sector-relied-requires-clause-fit g c = c.moving.invariant.kept.members_are.placed.fit

@@ -12,7 +12,7 @@ use Rattle.array_reshaping_steps.proofs.array_call_specs_LossLaws.{ended-behind,
 use Rattle.array_reshaping_steps.proofs.array_call_specs_ReadyLaws.{scope-same}
 use Rattle.array_reshaping_steps.specs.stripe_region_write_Runs.{IsListUnwritten}
 use Rattle.array_reshaping_steps.specs.array_reshaping_state_Due.{open_in}
-use Rattle.array_reshaping_steps.specs.stripe_region_resync_Mends.{relied_sector}
+use Rattle.array_reshaping_steps.specs.stripe_region_resync_Resyncs.{relied_sector}
 use Rattle.array_reshaping_steps.specs.history_invariant_Recorded.{IsCallGoing}
 use Rattle.array_reshaping_steps.proofs.array_reshaping_invariant_Refusals.{quiet-refusal}
 use Rattle.array_reshaping_steps.proofs.array_reshaping_invariant_Resting.{resting-moves}
@@ -44,12 +44,12 @@ invariant_of-moving g c =
     c.args.who end (Refused refusal) was.kept goes (not_254 c.args.who.caller c.requires.caller) c.ops-end.ensures.count (quiet-refusal refusal) (λ told is. is)
     (λ t right. first-right was.kept was.limited c.open_span-window.result c.relied_sector-relied.result c.args.at to refusal c.relied_sector-relied.ensures.value c.in-Some.ensures.why t right) in
     ready (entries_of c.args.who end (Refused refusal ∷ [])) was (grows-none (λ t. refl)) (shapes-same a.members.newest) kept
-    refl (λ slot. omega arith) (alone-keeps c.args.who end (Refused refusal) (λ n. refl) (λ limit. refl)) (λ none whole. whole) refl (scope-same given (Some a.backup) refl c.enter.ensures.uuid c.enter.ensures.given) c.enter.ensures.first refl c.enter.ensures.items
-    (let had = was.room_left in let room = c.enter.ensures.room in omega (arith, room, had, steps))
+    refl (λ slot. omega arith) (alone-keeps c.args.who end (Refused refusal) (λ n. refl) (λ limit. refl)) (λ none whole. whole) refl (scope-same given (Some a.backup) refl c.append_entry.ensures.uuid c.append_entry.ensures.given) c.append_entry.ensures.first refl c.append_entry.ensures.items
+    (let had = was.room_left in let room = c.append_entry.ensures.room in omega (arith, room, had, steps))
 
 pub returns-in-Some-clause-entered : goal.returns-in-Some-clause-entered
 returns-in-Some-clause-entered g c =
-    rw (← c.moving.view_is) (behind-alone c.args.who c.ops-end.result (Refused c.in-Some.refusal) refl c.enter.ensures.items)
+    rw (← c.moving.view_is) (behind-alone c.args.who c.ops-end.result (Refused c.in-Some.refusal) refl c.append_entry.ensures.items)
 
 pub returns-in-Some-clause-called : goal.returns-in-Some-clause-called
 returns-in-Some-clause-called g c =
@@ -60,10 +60,10 @@ returns-in-Some-clause-called g c =
     let end = c.ops-end.result in
     let refusal = c.in-Some.refusal in
     rw (← c.moving.view_is) (called (grows-none (λ t. refl)) (moved-same given given a.members a.members refl refl was.kept.members_are.placed was.kept.members_are.unlost)
-    (ended-behind (g.B.Bank.tape a.bank) c.enter.new.epoch.first a.epoch.entries.items c.args.who end [] (Refused refusal) c.enter.ensures.items c.ops-end.ensures.count)
-    (alone-lossless a.members faults faults a.epoch.entries.items a.epoch.entries.items c.enter.new.epoch.entries.items c.args.who end (Refused refusal) tt refl c.enter.ensures.items)
+    (ended-behind (g.B.Bank.tape a.bank) c.append_entry.new.epoch.first a.epoch.entries.items c.args.who end [] (Refused refusal) c.append_entry.ensures.items c.ops-end.ensures.count)
+    (alone-lossless a.members faults faults a.epoch.entries.items a.epoch.entries.items c.append_entry.new.epoch.entries.items c.args.who end (Refused refusal) tt refl c.append_entry.ensures.items)
     (λ slot. omega arith)
-    (record { uuid = c.enter.ensures.uuid; given = c.enter.ensures.given; first = c.enter.ensures.first; backup = refl; work = refl; ahead = refl; limit = refl })
+    (record { uuid = c.append_entry.ensures.uuid; given = c.append_entry.ensures.given; first = c.append_entry.ensures.first; backup = refl; work = refl; ahead = refl; limit = refl })
     (λ t. (was.kept.recorded t).begun))
 
 pub returns-in-Some-clause-caused : goal.returns-in-Some-clause-caused
@@ -111,5 +111,5 @@ overflow_sub-moving g c = subst (λ p. 1 ≤ p.parts.steps) (sym c.moving.view_i
 pub returns-in-Some-clause-room : goal.returns-in-Some-clause-room
 returns-in-Some-clause-room g c = one-less c.moving.inside.steps (subst (λ p. 1 ≤ p.parts.steps) (sym c.moving.view_is) c.requires.room) ∙ ap (λ p. p.parts.steps) c.moving.view_is
 
-pub enter-requires-clause-number : goal.enter-requires-clause-number
-enter-requires-clause-number g c = c.check_going.ensures
+pub append_entry-requires-clause-number : goal.append_entry-requires-clause-number
+append_entry-requires-clause-number g c = c.check_going.ensures

@@ -4,7 +4,7 @@ use Rattle.array_reshaping_steps.specs.raid_types_the_Span.{Span}
 use Rattle.array_reshaping_steps.specs.sb_specs_Reading.{list_length}
 use Rattle.array_reshaping_steps.specs.history_Stands.{covers}
 use Rattle.array_reshaping_steps.specs.array_reshaping_state_Due.{unsure_in}
-use Rattle.array_reshaping_steps.specs.stripe_region_resync_Mends.{relied_sector}
+use Rattle.array_reshaping_steps.specs.stripe_region_resync_Resyncs.{relied_sector}
 use Rattle.array_reshaping_steps.specs.array_specs_Parts.{visible_in}
 use Rattle.array_reshaping_steps.specs.array_reshaping_laws_Writing.{TouchesUnsure}
 use Rattle.array_reshaping_steps.proofs.array_reshaping_laws_BarredLaws.{sure-caused, sure-replied, sure-never, err-ok}
@@ -16,7 +16,7 @@ pub bar_write-requires-clause-touches : goal.bar_write-requires-clause-touches
 bar_write-requires-clause-touches g c =
     let met = c.meets.ensures.yes c.if-meets.true in
     subst (λ p. TouchesUnsure p.course.window c.args.at (c.args.at + length c.args.from.now / 512)) c.moving.view_is
-    (met.0, met.1, met.2, subst (λ (s : Option Span). covers s met.0 ≡ true) c.unsure_span.ensures met.3)
+    (met.0, met.1, met.2, subst (λ (s : Option Span). covers s met.0 ≡ true) c.uncertain_span.ensures met.3)
 
 pub returns-then-meets-clause-dirty : goal.returns-then-meets-clause-dirty
 returns-then-meets-clause-dirty g c = err-ok _ c.bar_write.result c.bar_write.ensures.refused
@@ -28,7 +28,7 @@ returns-then-meets-clause-closed g c = err-ok _ c.bar_write.result c.bar_write.e
 
 pub write_sure-requires-clause-sure : goal.write_sure-requires-clause-sure
 write_sure-requires-clause-sure g c = λ x low high.
-    subst (λ p. covers (unsure_in p.course.window) x ≡ false) c.moving.view_is (subst (λ (s : Option Span). covers s x ≡ false) c.unsure_span.ensures (c.meets.ensures.no c.if-meets.false x low high))
+    subst (λ p. covers (unsure_in p.course.window) x ≡ false) c.moving.view_is (subst (λ (s : Option Span). covers s x ≡ false) c.uncertain_span.ensures (c.meets.ensures.no c.if-meets.false x low high))
 
 pub returns-clause-caused : goal.returns-clause-caused
 returns-clause-caused g c =
@@ -37,7 +37,7 @@ returns-clause-caused g c =
     sure-caused old.course.window (visible_in old) (relied_sector old.parts.members.newest old.parts.work.resync) c.args.at to old.parts.members c.write_sure.new.moving.parts.members c.write_sure.result
     (λ touched.
     let no = subst (λ p. covers (unsure_in p.course.window) touched.0 ≡ false) c.moving.view_is
-    (subst (λ (s : Option Span). covers s touched.0 ≡ false) c.unsure_span.ensures (c.meets.ensures.no c.if-meets.false touched.0 touched.1 touched.2)) in
+    (subst (λ (s : Option Span). covers s touched.0 ≡ false) c.uncertain_span.ensures (c.meets.ensures.no c.if-meets.false touched.0 touched.1 touched.2)) in
     let both : true ≡ false = sym touched.3 ∙ no in cc)
     c.write_sure.ensures.caused
 

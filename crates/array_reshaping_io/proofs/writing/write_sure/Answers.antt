@@ -18,7 +18,7 @@ use Rattle.array_reshaping_steps.specs.stripe_region_write_Runs.{IsListUnwritten
 use Rattle.array_reshaping_steps.specs.reshape_progress_Laws.{closed}
 use Rattle.array_reshaping_steps.specs.array_reshaping_invariant_Moving.{IsWindowStanding}
 use Rattle.array_reshaping_steps.specs.array_reshaping_state_Due.{open_in, unsure_in}
-use Rattle.array_reshaping_steps.specs.stripe_region_resync_Mends.{relied_sector}
+use Rattle.array_reshaping_steps.specs.stripe_region_resync_Resyncs.{relied_sector}
 use Rattle.array_reshaping_steps.specs.array_specs_Calls.{moving_world, IsStepTaken}
 use Rattle.array_reshaping_steps.specs.array_specs_Parts.{visible_size, visible_in, left_in}
 use Rattle.array_reshaping_steps.specs.array_reshaping_state_Left.{visible_by}

@@ -2,8 +2,8 @@ use Rattle.std.proofs.Common.{sym, ◌∙◌, arith}
 use Rattle.array_reshaping_state.proofs.FirstLaws.{before-around, both-around}
 use Rattle.array_reshaping_state.proofs.refusing.unread_beside.Goals as goal
 
-pub unread_list-refusal-requires-clause-within : goal.unread_list-refusal-requires-clause-within
-unread_list-refusal-requires-clause-within c =
+pub first_list_refusal-refusal-requires-clause-within : goal.first_list_refusal-refusal-requires-clause-within
+first_list_refusal-refusal-requires-clause-within c =
     let part = c.part_in-part.ensures in
     let order = part.order in
     let ends = part.ends c.requires.order in
@@ -15,13 +15,13 @@ returns-then-is_some c =
     let part = c.part_in-part.ensures in
     let order = part.order in
     let ends = part.ends c.requires.order in
-    before-around c.args.members.now c.args.hidden c.args.relied c.args.from c.args.to c.part_in-part.result part.sectors part.begins ends _ _ c.unread_list-refusal.result (omega (arith, order, ends))
-    (sym c.is_some.ensures ∙ c.if-is_some.true) c.unread_list-refusal.ensures
+    before-around c.args.members.now c.args.hidden c.args.relied c.args.from c.args.to c.part_in-part.result part.sectors part.begins ends _ _ c.first_list_refusal-refusal.result (omega (arith, order, ends))
+    (sym c.is_some.ensures ∙ c.if-is_some.true) c.first_list_refusal-refusal.ensures
 
 pub returns : goal.returns
 returns c =
     let part = c.part_in-part.ensures in
     let begins = part.begins in
     let order = part.order in
-    both-around c.args.members.now c.args.hidden c.args.relied c.args.from c.args.to c.part_in-part.result part.sectors begins (part.ends c.requires.order) c.unread_list-refusal.result c.unread_list.result
-    (omega (arith, begins, order)) (sym c.is_some.ensures ∙ c.if-is_some.false) c.unread_list-refusal.ensures c.unread_list.ensures
+    both-around c.args.members.now c.args.hidden c.args.relied c.args.from c.args.to c.part_in-part.result part.sectors begins (part.ends c.requires.order) c.first_list_refusal-refusal.result c.first_list_refusal.result
+    (omega (arith, begins, order)) (sym c.is_some.ensures ∙ c.if-is_some.false) c.first_list_refusal-refusal.ensures c.first_list_refusal.ensures

@@ -27,11 +27,11 @@ of_pieces-requires-clause-ready g c =
     ready (entries_of who end (c.args.event ∷ [])) was (grows-none (λ t. refl)) (shapes-same p.members.newest)
     (answer-moves p.work course p.ahead who end c.args.event was.kept goes c.requires.caller c.ops-end.ensures.count reply)
     refl (λ slot. omega arith) (reply-keeps p.work p.members course p.ahead who end c.args.event reply) (λ none whole. whole) refl
-    (scope-same (g.B.Bank.given p.bank) p.backup refl c.enter.ensures.uuid c.enter.ensures.given) c.enter.ensures.first refl c.enter.ensures.items
-    (omega (arith, c.enter.ensures.room, was.room_left, some))
+    (scope-same (g.B.Bank.given p.bank) p.backup refl c.append_entry.ensures.uuid c.append_entry.ensures.given) c.append_entry.ensures.first refl c.append_entry.ensures.items
+    (omega (arith, c.append_entry.ensures.room, was.room_left, some))
 
 pub returns-clause-entered : goal.returns-clause-entered
-returns-clause-entered g c = rw (c.of_pieces.ensures.same, c.take_apart-pieces.ensures.same) (record { end = c.ops-end.result; at_end = c.ops-end.ensures.count; is = c.enter.ensures.items })
+returns-clause-entered g c = rw (c.of_pieces.ensures.same, c.take_apart-pieces.ensures.same) (record { end = c.ops-end.result; at_end = c.ops-end.ensures.count; is = c.append_entry.ensures.items })
 
 pub returns-clause-called : goal.returns-clause-called
 returns-clause-called g c =
@@ -43,8 +43,8 @@ returns-clause-called g c =
     let end = c.ops-end.result in
     let reply : IsReplyInReshape p.work p.members course p.ahead c.args.event = subst (λ s. IsReplyInReshape s.parts.work s.parts.members s.course s.ahead c.args.event) c.take_apart-pieces.ensures.same c.requires.reply in
     called-as g.B.Bank.given g.B.Bank.tape g.B.Bank.faults_of c.args.moving c.of_pieces.result _ _ c.take_apart-pieces.ensures.same c.of_pieces.ensures.same (called (grows-none (λ t. refl)) (moved-same given given p.members p.members refl refl was.kept.members_are.placed was.kept.members_are.unlost)
-    (ended-behind (g.B.Bank.tape p.bank) c.enter.new.epoch.first p.epoch.entries.items c.args.who end [] c.args.event c.enter.ensures.items c.ops-end.ensures.count)
-    (alone-lossless p.members faults faults p.epoch.entries.items p.epoch.entries.items c.enter.new.epoch.entries.items c.args.who end c.args.event (reply-lossless p.work p.members course p.ahead (Held p.members) (WasSpare p.members) faults faults c.args.event reply) refl c.enter.ensures.items)
+    (ended-behind (g.B.Bank.tape p.bank) c.append_entry.new.epoch.first p.epoch.entries.items c.args.who end [] c.args.event c.append_entry.ensures.items c.ops-end.ensures.count)
+    (alone-lossless p.members faults faults p.epoch.entries.items p.epoch.entries.items c.append_entry.new.epoch.entries.items c.args.who end c.args.event (reply-lossless p.work p.members course p.ahead (Held p.members) (WasSpare p.members) faults faults c.args.event reply) refl c.append_entry.ensures.items)
     (λ slot. omega arith)
-    (record { uuid = c.enter.ensures.uuid; given = c.enter.ensures.given; first = c.enter.ensures.first; backup = refl; work = refl; ahead = refl; limit = refl })
+    (record { uuid = c.append_entry.ensures.uuid; given = c.append_entry.ensures.given; first = c.append_entry.ensures.first; backup = refl; work = refl; ahead = refl; limit = refl })
     (λ t. (was.kept.recorded t).begun))

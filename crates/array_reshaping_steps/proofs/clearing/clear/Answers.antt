@@ -71,8 +71,8 @@ invariant_of-moving g c =
     c.args.who end (Refused BackupFault) was.kept goes (not_254 c.args.who.caller c.requires.caller) (λ t. c.ops-end.ensures.count t ∙ ap (λ l. length l) (same t)) (quiet-refusal BackupFault) (λ told is. is) (λ t right. tt) in
     ready (entries_of c.args.who end (Refused BackupFault ∷ [])) was (grows-none same) (shapes-same a.members.newest) (moving-still same kept)
     refl c.clear_window.ensures.cause.never_falls (alone-keeps c.args.who end (Refused BackupFault) (λ n. refl) (λ limit. refl)) (λ none whole. whole) c.clear_window.ensures.given
-    (scope-same given (Some a.backup) c.clear_window.ensures.given c.enter.ensures.uuid c.enter.ensures.given) c.enter.ensures.first refl c.enter.ensures.items
-    (let had = was.room_left in let room = c.enter.ensures.room in omega (arith, room, had, steps))
+    (scope-same given (Some a.backup) c.clear_window.ensures.given c.append_entry.ensures.uuid c.append_entry.ensures.given) c.append_entry.ensures.first refl c.append_entry.ensures.items
+    (let had = was.room_left in let room = c.append_entry.ensures.room in omega (arith, room, had, steps))
 
 pub returns-clause-called : goal.returns-clause-called
 returns-clause-called g c =
@@ -85,10 +85,10 @@ returns-clause-called g c =
     let same = (c.clear_window.ensures.dead (c.moving.invariant.dead here.0 here.1)).1 in
     let end = c.ops-end.result in
     rw (← c.moving.view_is) (called (grows-none same) (moved-same given given a.members a.members refl refl was.kept.members_are.placed was.kept.members_are.unlost)
-    (ended-behind (g.B.Bank.tape c.clear_window.new.bank) c.enter.new.epoch.first a.epoch.entries.items c.args.who end [] (Refused BackupFault) c.enter.ensures.items c.ops-end.ensures.count)
-    (alone-lossless a.members before after a.epoch.entries.items a.epoch.entries.items c.enter.new.epoch.entries.items c.args.who end (Refused BackupFault) tt refl c.enter.ensures.items)
+    (ended-behind (g.B.Bank.tape c.clear_window.new.bank) c.append_entry.new.epoch.first a.epoch.entries.items c.args.who end [] (Refused BackupFault) c.append_entry.ensures.items c.ops-end.ensures.count)
+    (alone-lossless a.members before after a.epoch.entries.items a.epoch.entries.items c.append_entry.new.epoch.entries.items c.args.who end (Refused BackupFault) tt refl c.append_entry.ensures.items)
     c.clear_window.ensures.cause.never_falls
-    (record { uuid = c.enter.ensures.uuid; given = c.enter.ensures.given; first = c.enter.ensures.first; backup = refl; work = refl; ahead = refl; limit = refl })
+    (record { uuid = c.append_entry.ensures.uuid; given = c.append_entry.ensures.given; first = c.append_entry.ensures.first; backup = refl; work = refl; ahead = refl; limit = refl })
     (λ t. (was.kept.recorded t).begun))
 
 -- ---- by what stands above
@@ -106,4 +106,4 @@ pub returns-clause-members : goal.returns-clause-members
 returns-clause-members g c = ap (λ p. p.parts.members) c.moving.view_is
 
 pub returns-clause-alone : goal.returns-clause-alone
-returns-clause-alone g c = rw (← c.moving.view_is) (c.ops-end.result, c.enter.ensures.items)
+returns-clause-alone g c = rw (← c.moving.view_is) (c.ops-end.result, c.append_entry.ensures.items)

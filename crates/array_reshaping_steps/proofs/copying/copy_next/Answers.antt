@@ -18,15 +18,15 @@ overflow_cast-count g c =
     let long = c.len-count.ensures in
     omega (arith, few, roles, long)
 
-pub vacant_roles-before-requires-clause-few : goal.vacant_roles-before-requires-clause-few
-vacant_roles-before-requires-clause-few g c =
+pub unassigned_roles-before-requires-clause-few : goal.unassigned_roles-before-requires-clause-few
+unassigned_roles-before-requires-clause-few g c =
     let few = few-roles c.args.members.now.newest c.requires.placed.fit.valid in
     let roles = c.requires.placed.roles in
     let long = c.len-count.ensures in
     omega (arith, few, roles, long)
 
-pub newly_vacant-requires-clause-few : goal.newly_vacant-requires-clause-few
-newly_vacant-requires-clause-few g c =
+pub newly_unassigned-requires-clause-few : goal.newly_unassigned-requires-clause-few
+newly_unassigned-requires-clause-few g c =
     let few = few-roles c.args.members.now.newest c.requires.placed.fit.valid in
     let roles = c.requires.placed.roles in
     let long = c.len-count.ensures in
@@ -37,9 +37,9 @@ overflow_sub-width g c = span-order c.args.members.now.newest c.requires.placed.
 
 pub returns-clause-since : goal.returns-clause-since
 returns-clause-since g c =
-    lost-since (g.B.Bank.given c.args.bank.now) c.args.members.now c.copy-done.new.members c.len-count.result c.vacant_roles-before.result c.newly_vacant.result c.copy-done.result.spares
+    lost-since (g.B.Bank.given c.args.bank.now) c.args.members.now c.copy-done.new.members c.len-count.result c.unassigned_roles-before.result c.newly_unassigned.result c.copy-done.result.spares
     (g.B.Bank.faults_of c.args.bank.now) (g.B.Bank.faults_of c.copy-done.new.bank) c.requires.placed c.copy-done.ensures.moved c.copy-done.ensures.failed
-    (c.len-count.ensures ∙ c.requires.placed.roles) c.vacant_roles-before.ensures c.newly_vacant.ensures
+    (c.len-count.ensures ∙ c.requires.placed.roles) c.unassigned_roles-before.ensures c.newly_unassigned.ensures
 
 pub returns-clause-stands : goal.returns-clause-stands
 returns-clause-stands g c = λ none t list copied row at.
@@ -64,8 +64,8 @@ returns-clause-others g c = λ t.
 
 -- ---- by what stands above
 
-pub newly_vacant-requires-clause-known : goal.newly_vacant-requires-clause-known
-newly_vacant-requires-clause-known g c = known-moved c.len-count.result c.copy-done.ensures.moved c.len-count.ensures c.requires.placed.roles
+pub newly_unassigned-requires-clause-known : goal.newly_unassigned-requires-clause-known
+newly_unassigned-requires-clause-known g c = known-moved c.len-count.result c.copy-done.ensures.moved c.len-count.ensures c.requires.placed.roles
 
 pub returns-clause-counts : goal.returns-clause-counts
 returns-clause-counts g c = c.copy-done.ensures.counts

@@ -55,8 +55,8 @@ invariant_of-moving g c =
     c.args.who end (Refused refusal) was.kept goes (not_254 c.args.who.caller c.requires.caller) c.ops-end.ensures.count (quiet-refusal refusal) (λ told is. is)
     (λ t right. refused-right (world_in given tape scope a.epoch.first) a.epoch.entries.items given a.members was.kept.members_are.placed (was.kept.gone t right) (was.kept.levelled t right) refusal c.in-Some.ensures) in
     ready (entries_of c.args.who end (Refused refusal ∷ [])) was (grows-none (λ t. refl)) (shapes-same a.members.newest) kept
-    refl (never-falls _) (alone-keeps c.args.who end (Refused refusal) (λ n. refl) (λ limit. refl)) (λ none whole. whole) refl (scope-same given (Some a.backup) refl c.enter.ensures.uuid c.enter.ensures.given) c.enter.ensures.first refl c.enter.ensures.items
-    (room-after-1 a.steps a.epoch.entries.room c.enter.new.epoch.entries.room was.room_left c.enter.ensures.room steps)
+    refl (never-falls _) (alone-keeps c.args.who end (Refused refusal) (λ n. refl) (λ limit. refl)) (λ none whole. whole) refl (scope-same given (Some a.backup) refl c.append_entry.ensures.uuid c.append_entry.ensures.given) c.append_entry.ensures.first refl c.append_entry.ensures.items
+    (room-after-1 a.steps a.epoch.entries.room c.append_entry.new.epoch.entries.room was.room_left c.append_entry.ensures.room steps)
 
 pub returns-in-Some-clause-called : goal.returns-in-Some-clause-called
 returns-in-Some-clause-called g c =
@@ -67,15 +67,15 @@ returns-in-Some-clause-called g c =
     let end = c.ops-end.result in
     let refusal = c.in-Some.refusal in
     called-over g.B.Bank.given g.B.Bank.tape g.B.Bank.faults_of c.moving.view_is (called (grows-none (λ t. refl)) (moved-same given given a.members a.members refl refl was.kept.members_are.placed was.kept.members_are.unlost)
-    (ended-behind (g.B.Bank.tape a.bank) c.enter.new.epoch.first a.epoch.entries.items c.args.who end [] (Refused refusal) c.enter.ensures.items c.ops-end.ensures.count)
-    (alone-lossless a.members faults faults a.epoch.entries.items a.epoch.entries.items c.enter.new.epoch.entries.items c.args.who end (Refused refusal) tt refl c.enter.ensures.items)
+    (ended-behind (g.B.Bank.tape a.bank) c.append_entry.new.epoch.first a.epoch.entries.items c.args.who end [] (Refused refusal) c.append_entry.ensures.items c.ops-end.ensures.count)
+    (alone-lossless a.members faults faults a.epoch.entries.items a.epoch.entries.items c.append_entry.new.epoch.entries.items c.args.who end (Refused refusal) tt refl c.append_entry.ensures.items)
     (never-falls _)
-    (record { uuid = c.enter.ensures.uuid; given = c.enter.ensures.given; first = c.enter.ensures.first; backup = refl; work = refl; ahead = refl; limit = refl })
+    (record { uuid = c.append_entry.ensures.uuid; given = c.append_entry.ensures.given; first = c.append_entry.ensures.first; backup = refl; work = refl; ahead = refl; limit = refl })
     (λ t. (was.kept.recorded t).begun))
 
 pub returns-in-Some-clause-entered : goal.returns-in-Some-clause-entered
 returns-in-Some-clause-entered g c =
-    rw (← c.moving.view_is) (behind-alone c.args.who c.ops-end.result (Refused c.in-Some.refusal) refl c.enter.ensures.items)
+    rw (← c.moving.view_is) (behind-alone c.args.who c.ops-end.result (Refused c.in-Some.refusal) refl c.append_entry.ensures.items)
 
 -- ---- the copy is refused
 
@@ -111,8 +111,8 @@ invariant_of-moving-in-Some-refusal g c =
     refusal (many-of m c.copy_next-moved.result.refusal refusal c.in-Some-refusal.is did.refused) in
     with-buffer (let len = (with_items a.buffer c.copy_next-moved.new.scratch).ok.0 in let ok = a.buffer.ok.0 in omega (arith, len, ok, was.buffer_fits))
     (ready (entries_of c.args.who end (losses_of roles spares ++ Refused refusal ∷ [])) was did.grows (shapes-moved given a.members m did.moved) kept
-    refl did.counts (behind-keeps c.args.who end roles spares (Refused refusal) (λ n. refl) (λ limit. refl)) (behind-whole tape' (scope_in given a.epoch.uuid a.epoch.given (Some a.backup)) a.epoch.first a.epoch.entries.items c.args.who end roles spares (Refused refusal) did.moved (missing-since roles did.moved did.since.vacant)) did.given (scope-same given (Some a.backup) did.given c.enter_behind.ensures.uuid c.enter_behind.ensures.given) c.enter_behind.ensures.first refl c.enter_behind.ensures.items
-    (room-after-49 a.steps a.epoch.entries.room c.enter_behind.new.epoch.entries.room was.room_left c.enter_behind.ensures.room steps))
+    refl did.counts (behind-keeps c.args.who end roles spares (Refused refusal) (λ n. refl) (λ limit. refl)) (behind-whole tape' (scope_in given a.epoch.uuid a.epoch.given (Some a.backup)) a.epoch.first a.epoch.entries.items c.args.who end roles spares (Refused refusal) did.moved (missing-since roles did.moved did.since.vacant)) did.given (scope-same given (Some a.backup) did.given c.append_after_losses.ensures.uuid c.append_after_losses.ensures.given) c.append_after_losses.ensures.first refl c.append_after_losses.ensures.items
+    (room-after-49 a.steps a.epoch.entries.room c.append_after_losses.new.epoch.entries.room was.room_left c.append_after_losses.ensures.room steps))
 
 pub returns-in-Some-refusal-clause-called : goal.returns-in-Some-refusal-clause-called
 returns-in-Some-refusal-clause-called g c =
@@ -127,10 +127,10 @@ returns-in-Some-refusal-clause-called g c =
     let end = c.ops-end-2.result in
     let event = Refused c.in-Some-refusal.refusal in
     called-over g.B.Bank.given g.B.Bank.tape g.B.Bank.faults_of c.moving.view_is (called did.grows did.moved
-    (ended-behind (g.B.Bank.tape c.copy_next-moved.new.bank) c.enter_behind.new.epoch.first a.epoch.entries.items c.args.who end (losses_of roles spares) event c.enter_behind.ensures.items c.ops-end-2.ensures.count)
-    (losses-behind a.members m before after a.epoch.entries.items a.epoch.entries.items c.enter_behind.new.epoch.entries.items c.args.who end roles spares event did.since tt refl c.enter_behind.ensures.items)
+    (ended-behind (g.B.Bank.tape c.copy_next-moved.new.bank) c.append_after_losses.new.epoch.first a.epoch.entries.items c.args.who end (losses_of roles spares) event c.append_after_losses.ensures.items c.ops-end-2.ensures.count)
+    (losses-behind a.members m before after a.epoch.entries.items a.epoch.entries.items c.append_after_losses.new.epoch.entries.items c.args.who end roles spares event did.since tt refl c.append_after_losses.ensures.items)
     did.counts
-    (record { uuid = c.enter_behind.ensures.uuid; given = c.enter_behind.ensures.given; first = c.enter_behind.ensures.first; backup = refl; work = refl; ahead = refl; limit = refl })
+    (record { uuid = c.append_after_losses.ensures.uuid; given = c.append_after_losses.ensures.given; first = c.append_after_losses.ensures.first; backup = refl; work = refl; ahead = refl; limit = refl })
     (λ t. (was.kept.recorded t).begun))
 
 -- ---- the stripe is copied
@@ -168,8 +168,8 @@ invariant_of-moving-2 g c =
     left c.all_left-left.ensures (λ t list copied. did.stands c.in_default-refusal.is t list (subst (λ (l : List ℕ). IsCopied span (take (512 * (span.hi - span.lo)) l) (tail_of a.members.newest) list) (sym c.as_slice.ensures.value) copied)) in
     with-buffer (let len = (with_items a.buffer c.copy_next-moved.new.scratch).ok.0 in let ok = a.buffer.ok.0 in omega (arith, len, ok, was.buffer_fits))
     (ready-moved (entries_of c.args.who end (losses_of roles spares ++ Step CopiesStripe left ∷ [])) was did.grows (shapes-moved given a.members m did.moved) kept (λ next is. entered-sure c.in-Entered.span next (c.in-Entered.copied + 1) c.in-Entered.sectioned is)
-    refl did.counts (behind-keeps c.args.who end roles spares (Step CopiesStripe left) (λ n. refl) (λ limit. refl)) (behind-whole tape' (scope_in given a.epoch.uuid a.epoch.given (Some a.backup)) a.epoch.first a.epoch.entries.items c.args.who end roles spares (Step CopiesStripe left) did.moved (missing-since roles did.moved did.since.vacant)) did.given (scope-same given (Some a.backup) did.given c.enter_behind-2.ensures.uuid c.enter_behind-2.ensures.given) c.enter_behind-2.ensures.first refl c.enter_behind-2.ensures.items
-    (room-after-49 a.steps a.epoch.entries.room c.enter_behind-2.new.epoch.entries.room was.room_left c.enter_behind-2.ensures.room steps))
+    refl did.counts (behind-keeps c.args.who end roles spares (Step CopiesStripe left) (λ n. refl) (λ limit. refl)) (behind-whole tape' (scope_in given a.epoch.uuid a.epoch.given (Some a.backup)) a.epoch.first a.epoch.entries.items c.args.who end roles spares (Step CopiesStripe left) did.moved (missing-since roles did.moved did.since.vacant)) did.given (scope-same given (Some a.backup) did.given c.append_after_losses-2.ensures.uuid c.append_after_losses-2.ensures.given) c.append_after_losses-2.ensures.first refl c.append_after_losses-2.ensures.items
+    (room-after-49 a.steps a.epoch.entries.room c.append_after_losses-2.new.epoch.entries.room was.room_left c.append_after_losses-2.ensures.room steps))
 
 pub returns-clause-called : goal.returns-clause-called
 returns-clause-called g c =
@@ -184,10 +184,10 @@ returns-clause-called g c =
     let end = c.ops-end-2.result in
     let event = Step CopiesStripe c.all_left-left.result in
     called-over g.B.Bank.given g.B.Bank.tape g.B.Bank.faults_of c.moving.view_is (called did.grows did.moved
-    (ended-behind (g.B.Bank.tape c.copy_next-moved.new.bank) c.enter_behind-2.new.epoch.first a.epoch.entries.items c.args.who end (losses_of roles spares) event c.enter_behind-2.ensures.items c.ops-end-2.ensures.count)
-    (losses-behind a.members m before after a.epoch.entries.items a.epoch.entries.items c.enter_behind-2.new.epoch.entries.items c.args.who end roles spares event did.since tt refl c.enter_behind-2.ensures.items)
+    (ended-behind (g.B.Bank.tape c.copy_next-moved.new.bank) c.append_after_losses-2.new.epoch.first a.epoch.entries.items c.args.who end (losses_of roles spares) event c.append_after_losses-2.ensures.items c.ops-end-2.ensures.count)
+    (losses-behind a.members m before after a.epoch.entries.items a.epoch.entries.items c.append_after_losses-2.new.epoch.entries.items c.args.who end roles spares event did.since tt refl c.append_after_losses-2.ensures.items)
     did.counts
-    (record { uuid = c.enter_behind-2.ensures.uuid; given = c.enter_behind-2.ensures.given; first = c.enter_behind-2.ensures.first; backup = refl; work = refl; ahead = refl; limit = refl })
+    (record { uuid = c.append_after_losses-2.ensures.uuid; given = c.append_after_losses-2.ensures.given; first = c.append_after_losses-2.ensures.first; backup = refl; work = refl; ahead = refl; limit = refl })
     (λ t. (was.kept.recorded t).begun))
 
 pub returns-clause-copied : goal.returns-clause-copied
@@ -256,26 +256,26 @@ returns-in-Some-refusal-clause-room g c = one-less c.moving.inside.steps (subst 
 pub returns-clause-room : goal.returns-clause-room
 returns-clause-room g c = one-less c.moving.inside.steps (subst (λ p. 1 ≤ p.parts.steps) (sym c.moving.view_is) c.requires.room) ∙ ap (λ p. p.parts.steps) c.moving.view_is
 
-pub enter_behind-requires-clause-room : goal.enter_behind-requires-clause-room
-enter_behind-requires-clause-room g c = room-49 c.moving.inside.steps c.moving.inside.epoch.entries.room (subst (λ p. 1 ≤ p.parts.steps) (sym c.moving.view_is) c.requires.room) c.moving.invariant.room_left
+pub append_after_losses-requires-clause-room : goal.append_after_losses-requires-clause-room
+append_after_losses-requires-clause-room g c = room-49 c.moving.inside.steps c.moving.inside.epoch.entries.room (subst (λ p. 1 ≤ p.parts.steps) (sym c.moving.view_is) c.requires.room) c.moving.invariant.room_left
 
-pub enter_behind-requires-2-clause-room : goal.enter_behind-requires-2-clause-room
-enter_behind-requires-2-clause-room g c = room-49 c.moving.inside.steps c.moving.inside.epoch.entries.room (subst (λ p. 1 ≤ p.parts.steps) (sym c.moving.view_is) c.requires.room) c.moving.invariant.room_left
+pub append_after_losses-requires-2-clause-room : goal.append_after_losses-requires-2-clause-room
+append_after_losses-requires-2-clause-room g c = room-49 c.moving.inside.steps c.moving.inside.epoch.entries.room (subst (λ p. 1 ≤ p.parts.steps) (sym c.moving.view_is) c.requires.room) c.moving.invariant.room_left
 
-pub enter_behind-requires-clause-number : goal.enter_behind-requires-clause-number
-enter_behind-requires-clause-number g c = c.check_going.ensures
+pub append_after_losses-requires-clause-number : goal.append_after_losses-requires-clause-number
+append_after_losses-requires-clause-number g c = c.check_going.ensures
 
-pub enter_behind-requires-2-clause-number : goal.enter_behind-requires-2-clause-number
-enter_behind-requires-2-clause-number g c = c.check_going.ensures
+pub append_after_losses-requires-2-clause-number : goal.append_after_losses-requires-2-clause-number
+append_after_losses-requires-2-clause-number g c = c.check_going.ensures
 
-pub enter-requires-clause-number : goal.enter-requires-clause-number
-enter-requires-clause-number g c = c.check_going.ensures
+pub append_entry-requires-clause-number : goal.append_entry-requires-clause-number
+append_entry-requires-clause-number g c = c.check_going.ensures
 
 pub returns-in-Some-refusal-clause-entered : goal.returns-in-Some-refusal-clause-entered
-returns-in-Some-refusal-clause-entered g c = rw (← c.moving.view_is) (record { roles = c.copy_next-moved.result.roles; spares = c.copy_next-moved.result.spares; end = c.ops-end-2.result; is = c.enter_behind.ensures.items })
+returns-in-Some-refusal-clause-entered g c = rw (← c.moving.view_is) (record { roles = c.copy_next-moved.result.roles; spares = c.copy_next-moved.result.spares; end = c.ops-end-2.result; is = c.append_after_losses.ensures.items })
 
 pub returns-clause-entered : goal.returns-clause-entered
-returns-clause-entered g c = step-entered c.copy_next-moved.result.roles c.copy_next-moved.result.spares c.ops-end-2.result c.enter_behind-2.ensures.items c.all_left-left.ensures (ap (λ p. p.parts.entries) c.moving.view_is)
+returns-clause-entered g c = step-entered c.copy_next-moved.result.roles c.copy_next-moved.result.spares c.ops-end-2.result c.append_after_losses-2.ensures.items c.all_left-left.ensures (ap (λ p. p.parts.entries) c.moving.view_is)
 
 pub copy_next-moved-requires-clause-placed : goal.copy_next-moved-requires-clause-placed
 copy_next-moved-requires-clause-placed g c = c.moving.invariant.kept.members_are.placed

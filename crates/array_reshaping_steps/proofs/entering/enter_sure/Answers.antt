@@ -57,8 +57,8 @@ invariant_of-moving g c =
     c.args.who end (Refused refusal) was.kept goes (not_254 c.args.who.caller c.requires.caller) c.ops-end.ensures.count (quiet-refusal refusal) (λ told is. is)
     (λ t right. refused-right (world_in given tape scope a.epoch.first) a.epoch.entries.items given a.members was.kept.members_are.placed (was.kept.gone t right) (was.kept.levelled t right) refusal c.in-Some.ensures) in
     ready (entries_of c.args.who end (Refused refusal ∷ [])) was (grows-none (λ t. refl)) (shapes-same a.members.newest) kept
-    refl (λ slot. omega arith) (alone-keeps c.args.who end (Refused refusal) (λ n. refl) (λ limit. refl)) (λ none whole. whole) refl (scope-same given (Some a.backup) refl c.enter.ensures.uuid c.enter.ensures.given) c.enter.ensures.first refl c.enter.ensures.items
-    (let had = was.room_left in let room = c.enter.ensures.room in omega (arith, room, had, steps))
+    refl (λ slot. omega arith) (alone-keeps c.args.who end (Refused refusal) (λ n. refl) (λ limit. refl)) (λ none whole. whole) refl (scope-same given (Some a.backup) refl c.append_entry.ensures.uuid c.append_entry.ensures.given) c.append_entry.ensures.first refl c.append_entry.ensures.items
+    (let had = was.room_left in let room = c.append_entry.ensures.room in omega (arith, room, had, steps))
 
 pub returns-in-Some-clause-called : goal.returns-in-Some-clause-called
 returns-in-Some-clause-called g c =
@@ -69,15 +69,15 @@ returns-in-Some-clause-called g c =
     let end = c.ops-end.result in
     let refusal = c.in-Some.refusal in
     rw (← c.moving.view_is) (called (grows-none (λ t. refl)) (moved-same given given a.members a.members refl refl was.kept.members_are.placed was.kept.members_are.unlost)
-    (ended-behind (g.B.Bank.tape a.bank) c.enter.new.epoch.first a.epoch.entries.items c.args.who end [] (Refused refusal) c.enter.ensures.items c.ops-end.ensures.count)
-    (alone-lossless a.members faults faults a.epoch.entries.items a.epoch.entries.items c.enter.new.epoch.entries.items c.args.who end (Refused refusal) tt refl c.enter.ensures.items)
+    (ended-behind (g.B.Bank.tape a.bank) c.append_entry.new.epoch.first a.epoch.entries.items c.args.who end [] (Refused refusal) c.append_entry.ensures.items c.ops-end.ensures.count)
+    (alone-lossless a.members faults faults a.epoch.entries.items a.epoch.entries.items c.append_entry.new.epoch.entries.items c.args.who end (Refused refusal) tt refl c.append_entry.ensures.items)
     (λ slot. omega arith)
-    (record { uuid = c.enter.ensures.uuid; given = c.enter.ensures.given; first = c.enter.ensures.first; backup = refl; work = refl; ahead = refl; limit = refl })
+    (record { uuid = c.append_entry.ensures.uuid; given = c.append_entry.ensures.given; first = c.append_entry.ensures.first; backup = refl; work = refl; ahead = refl; limit = refl })
     (λ t. (was.kept.recorded t).begun))
 
 pub returns-in-Some-clause-entered : goal.returns-in-Some-clause-entered
 returns-in-Some-clause-entered g c =
-    rw (← c.moving.view_is) (behind-alone c.args.who c.ops-end.result (Refused c.in-Some.refusal) refl c.enter.ensures.items)
+    rw (← c.moving.view_is) (behind-alone c.args.who c.ops-end.result (Refused c.in-Some.refusal) refl c.append_entry.ensures.items)
 
 -- ---- the backup
 
@@ -136,8 +136,8 @@ invariant_of-moving-in-Some-refusal g c =
     (ready-moved (entries_of c.args.who end (losses_of tried.roles tried.spares ++ Refused refusal ∷ [])) was did.grows (shapes-moved given a.members m did.moved) kept (λ span is. inr (did.dead span is))
     (let len = (with_items a.window written).ok.0 in let ok = a.window.ok.0 in omega (arith, len, ok)) did.counts (behind-keeps c.args.who end tried.roles tried.spares (Refused refusal) (λ n. refl) (λ limit. refl))
     (behind-whole tape' scope a.epoch.first a.epoch.entries.items c.args.who end tried.roles tried.spares (Refused refusal) did.moved (missing-since tried.roles did.moved did.since.vacant))
-    did.given (scope-same given (Some a.backup) did.given c.enter_behind.ensures.uuid c.enter_behind.ensures.given) c.enter_behind.ensures.first refl c.enter_behind.ensures.items
-    (let had = was.room_left in let room = c.enter_behind.ensures.room in omega (arith, room, had, steps)))
+    did.given (scope-same given (Some a.backup) did.given c.append_after_losses.ensures.uuid c.append_after_losses.ensures.given) c.append_after_losses.ensures.first refl c.append_after_losses.ensures.items
+    (let had = was.room_left in let room = c.append_after_losses.ensures.room in omega (arith, room, had, steps)))
 
 pub returns-in-Some-refusal-clause-called : goal.returns-in-Some-refusal-clause-called
 returns-in-Some-refusal-clause-called g c =
@@ -151,10 +151,10 @@ returns-in-Some-refusal-clause-called g c =
     let end = c.ops-end-2.result in
     let event = Refused c.in-Some-refusal.refusal in
     rw (← c.moving.view_is) (called did.grows did.moved
-    (ended-behind (g.B.Bank.tape c.enter_next-tried.new.bank) c.enter_behind.new.epoch.first a.epoch.entries.items c.args.who end (losses_of tried.roles tried.spares) event c.enter_behind.ensures.items c.ops-end-2.ensures.count)
-    (losses-behind a.members m before after a.epoch.entries.items a.epoch.entries.items c.enter_behind.new.epoch.entries.items c.args.who end tried.roles tried.spares event did.since tt refl c.enter_behind.ensures.items)
+    (ended-behind (g.B.Bank.tape c.enter_next-tried.new.bank) c.append_after_losses.new.epoch.first a.epoch.entries.items c.args.who end (losses_of tried.roles tried.spares) event c.append_after_losses.ensures.items c.ops-end-2.ensures.count)
+    (losses-behind a.members m before after a.epoch.entries.items a.epoch.entries.items c.append_after_losses.new.epoch.entries.items c.args.who end tried.roles tried.spares event did.since tt refl c.append_after_losses.ensures.items)
     did.counts
-    (record { uuid = c.enter_behind.ensures.uuid; given = c.enter_behind.ensures.given; first = c.enter_behind.ensures.first; backup = refl; work = refl; ahead = refl; limit = refl })
+    (record { uuid = c.append_after_losses.ensures.uuid; given = c.append_after_losses.ensures.given; first = c.append_after_losses.ensures.first; backup = refl; work = refl; ahead = refl; limit = refl })
     (λ t. (was.kept.recorded t).begun))
 
 pub returns-in-Some-refusal-clause-caused : goal.returns-in-Some-refusal-clause-caused
@@ -218,8 +218,8 @@ invariant_of-moving-2 g c =
     (ready-moved (entries_of c.args.who end (losses_of tried.roles tried.spares ++ Step EntersWindow left ∷ [])) was did.grows (shapes-moved given a.members m did.moved) kept (λ span is. inr (did.dead span is))
     (let len = (with_items a.window written).ok.0 in let ok = a.window.ok.0 in omega (arith, len, ok)) did.counts (behind-keeps c.args.who end tried.roles tried.spares (Step EntersWindow left) (λ n. refl) (λ limit. refl))
     (behind-whole tape' scope a.epoch.first a.epoch.entries.items c.args.who end tried.roles tried.spares (Step EntersWindow left) did.moved (missing-since tried.roles did.moved did.since.vacant))
-    did.given (scope-same given (Some a.backup) did.given c.enter_behind-2.ensures.uuid c.enter_behind-2.ensures.given) c.enter_behind-2.ensures.first refl c.enter_behind-2.ensures.items
-    (let had = was.room_left in let room = c.enter_behind-2.ensures.room in omega (arith, room, had, steps)))
+    did.given (scope-same given (Some a.backup) did.given c.append_after_losses-2.ensures.uuid c.append_after_losses-2.ensures.given) c.append_after_losses-2.ensures.first refl c.append_after_losses-2.ensures.items
+    (let had = was.room_left in let room = c.append_after_losses-2.ensures.room in omega (arith, room, had, steps)))
 
 pub returns-clause-called : goal.returns-clause-called
 returns-clause-called g c =
@@ -233,10 +233,10 @@ returns-clause-called g c =
     let end = c.ops-end-2.result in
     let event = Step EntersWindow c.all_left-left.result in
     rw (← c.moving.view_is) (called did.grows did.moved
-    (ended-behind (g.B.Bank.tape c.enter_next-tried.new.bank) c.enter_behind-2.new.epoch.first a.epoch.entries.items c.args.who end (losses_of tried.roles tried.spares) event c.enter_behind-2.ensures.items c.ops-end-2.ensures.count)
-    (losses-behind a.members m before after a.epoch.entries.items a.epoch.entries.items c.enter_behind-2.new.epoch.entries.items c.args.who end tried.roles tried.spares event did.since tt refl c.enter_behind-2.ensures.items)
+    (ended-behind (g.B.Bank.tape c.enter_next-tried.new.bank) c.append_after_losses-2.new.epoch.first a.epoch.entries.items c.args.who end (losses_of tried.roles tried.spares) event c.append_after_losses-2.ensures.items c.ops-end-2.ensures.count)
+    (losses-behind a.members m before after a.epoch.entries.items a.epoch.entries.items c.append_after_losses-2.new.epoch.entries.items c.args.who end tried.roles tried.spares event did.since tt refl c.append_after_losses-2.ensures.items)
     did.counts
-    (record { uuid = c.enter_behind-2.ensures.uuid; given = c.enter_behind-2.ensures.given; first = c.enter_behind-2.ensures.first; backup = refl; work = refl; ahead = refl; limit = refl })
+    (record { uuid = c.append_after_losses-2.ensures.uuid; given = c.append_after_losses-2.ensures.given; first = c.append_after_losses-2.ensures.first; backup = refl; work = refl; ahead = refl; limit = refl })
     (λ t. (was.kept.recorded t).begun))
 
 pub returns-clause-caused : goal.returns-clause-caused
@@ -299,8 +299,8 @@ returns-clause-opened g c =
 pub check_going-requires : goal.check_going-requires
 check_going-requires g c = subst (λ p. IsCallGoing p.parts.entries c.args.who) (sym c.moving.view_is) c.requires.open
 
-pub enter-requires-clause-number : goal.enter-requires-clause-number
-enter-requires-clause-number g c = c.check_going.ensures
+pub append_entry-requires-clause-number : goal.append_entry-requires-clause-number
+append_entry-requires-clause-number g c = c.check_going.ensures
 
 pub returns-in-Some-clause-clean : goal.returns-in-Some-clause-clean
 returns-in-Some-clause-clean g c = ap (λ p. is_clean p.parts.members.newest) c.moving.view_is
@@ -355,16 +355,16 @@ enter_next-tried-requires-clause-scratch g c =
 pub enter_next-tried-requires-clause-relied : goal.enter_next-tried-requires-clause-relied
 enter_next-tried-requires-clause-relied g c = le_of_eq (sym c.list_sectors-relied.ensures.length)
 
-pub enter_behind-requires-clause-room : goal.enter_behind-requires-clause-room
-enter_behind-requires-clause-room g c = room-behind c.moving.inside.steps c.args.moving.now.parts.steps c.moving.inside.epoch.entries.room (ap (λ p. p.parts.steps) c.moving.view_is) c.requires.room c.moving.invariant.room_left
+pub append_after_losses-requires-clause-room : goal.append_after_losses-requires-clause-room
+append_after_losses-requires-clause-room g c = room-behind c.moving.inside.steps c.args.moving.now.parts.steps c.moving.inside.epoch.entries.room (ap (λ p. p.parts.steps) c.moving.view_is) c.requires.room c.moving.invariant.room_left
 
-pub enter_behind-requires-clause-number : goal.enter_behind-requires-clause-number
-enter_behind-requires-clause-number g c = c.check_going.ensures
+pub append_after_losses-requires-clause-number : goal.append_after_losses-requires-clause-number
+append_after_losses-requires-clause-number g c = c.check_going.ensures
 
 pub returns-in-Some-refusal-clause-entered : goal.returns-in-Some-refusal-clause-entered
 returns-in-Some-refusal-clause-entered g c =
     let tried = c.enter_next-tried.result in
-    rw (← c.moving.view_is) (record { roles = tried.roles; spares = tried.spares; end = c.ops-end-2.result; is = c.enter_behind.ensures.items })
+    rw (← c.moving.view_is) (record { roles = tried.roles; spares = tried.spares; end = c.ops-end-2.result; is = c.append_after_losses.ensures.items })
 
 pub returns-in-Some-refusal-clause-clean : goal.returns-in-Some-refusal-clause-clean
 returns-in-Some-refusal-clause-clean g c = c.enter_next-tried.ensures.clean ∙ ap (λ p. is_clean p.parts.members.newest) c.moving.view_is
@@ -396,16 +396,16 @@ pub all_left-left-requires-clause-sound : goal.all_left-left-requires-clause-sou
 all_left-left-requires-clause-sound g c =
     sound-moved (g.B.Bank.given c.moving.inside.bank) c.moving.inside.members c.enter_next-tried.new.members c.enter_next-tried.ensures.moved (phases_of c.moving.inside.ahead) c.moving.invariant.planned
 
-pub enter_behind-requires-2-clause-room : goal.enter_behind-requires-2-clause-room
-enter_behind-requires-2-clause-room g c = room-behind c.moving.inside.steps c.args.moving.now.parts.steps c.moving.inside.epoch.entries.room (ap (λ p. p.parts.steps) c.moving.view_is) c.requires.room c.moving.invariant.room_left
+pub append_after_losses-requires-2-clause-room : goal.append_after_losses-requires-2-clause-room
+append_after_losses-requires-2-clause-room g c = room-behind c.moving.inside.steps c.args.moving.now.parts.steps c.moving.inside.epoch.entries.room (ap (λ p. p.parts.steps) c.moving.view_is) c.requires.room c.moving.invariant.room_left
 
-pub enter_behind-requires-2-clause-number : goal.enter_behind-requires-2-clause-number
-enter_behind-requires-2-clause-number g c = c.check_going.ensures
+pub append_after_losses-requires-2-clause-number : goal.append_after_losses-requires-2-clause-number
+append_after_losses-requires-2-clause-number g c = c.check_going.ensures
 
 pub returns-clause-entered : goal.returns-clause-entered
 returns-clause-entered g c =
     let tried = c.enter_next-tried.result in
-    rw (← c.moving.view_is) (taken-behind c.args.who c.ops-end-2.result tried.roles tried.spares EntersWindow c.all_left-left.result _ c.all_left-left.ensures c.enter_behind-2.ensures.items)
+    rw (← c.moving.view_is) (taken-behind c.args.who c.ops-end-2.result tried.roles tried.spares EntersWindow c.all_left-left.result _ c.all_left-left.ensures c.append_after_losses-2.ensures.items)
 
 pub returns-clause-clean : goal.returns-clause-clean
 returns-clause-clean g c = c.enter_next-tried.ensures.clean ∙ ap (λ p. is_clean p.parts.members.newest) c.moving.view_is

@@ -20,7 +20,7 @@ use Rattle.array_reshaping.specs.history_invariant_Safe.{world_in}
 use Rattle.array_reshaping.specs.reshape_progress_the_Course.{Course}
 use Rattle.array_reshaping.specs.reshape_request_the_Window.{Window}
 use Rattle.array_reshaping.specs.reshape_progress_Course.{IsWindowOf}
-use Rattle.array_reshaping.specs.reshape_progress_resync_laws_Mended.{IsAside, IsUnmended}
+use Rattle.array_reshaping.specs.reshape_progress_resync_laws_Synced.{IsAside, IsUnsynced}
 use Rattle.array_reshaping.proofs.array_reshaping_state_ReshapeLaws.{window-reach, under-way-of}
 use Rattle.array_reshaping.proofs.array_reshaping_invariant_FinishedCall.{IsFinishedBy}
 use Rattle.array_reshaping.proofs.array_reshaping_invariant_Going.{going-on}
@@ -39,7 +39,7 @@ use Rattle.array_reshaping.proofs.array_reshaping_laws_WriteLaws.{finish-relied,
 use Rattle.array_fixed_invariant.specs.reshape_request_Left.{phases_of}
 use Rattle.array_reshaping.specs.array_call_specs_Calls.{IsRefusedFor}
 use Rattle.array_reshaping.proofs.Calls.{room-49, one-less, many-refused, sound-same, closed-sure, never-falls, room-after-1, room-after-49, scratch-of, step-entered, called-over, zero-le}
-use Rattle.array_reshaping.specs.stripe_region_resync_Mends.{relied_sector}
+use Rattle.array_reshaping.specs.stripe_region_resync_Resyncs.{relied_sector}
 use Rattle.array_reshaping.proofs.array_specs_Lengths.{alone-keeps}
 use Rattle.array_reshaping_steps.proofs.finishing.finish_open.Goals as goal
 
@@ -60,8 +60,8 @@ invariant_of-moving g c =
     c.args.who end (Refused refusal) was.kept goes (not_254 c.args.who.caller c.requires.caller) c.ops-end.ensures.count (quiet-refusal refusal) (λ told is. is)
     (λ t right. refused-right (world_in given tape scope a.epoch.first) a.epoch.entries.items given a.members was.kept.members_are.placed (was.kept.gone t right) (was.kept.levelled t right) refusal c.in-Some.ensures) in
     ready (entries_of c.args.who end (Refused refusal ∷ [])) was (grows-none (λ t. refl)) (shapes-same a.members.newest) kept
-    refl (never-falls _) (alone-keeps c.args.who end (Refused refusal) (λ n. refl) (λ limit. refl)) (λ none whole. whole) refl (scope-same given (Some a.backup) refl c.enter.ensures.uuid c.enter.ensures.given) c.enter.ensures.first refl c.enter.ensures.items
-    (room-after-1 a.steps a.epoch.entries.room c.enter.new.epoch.entries.room was.room_left c.enter.ensures.room steps)
+    refl (never-falls _) (alone-keeps c.args.who end (Refused refusal) (λ n. refl) (λ limit. refl)) (λ none whole. whole) refl (scope-same given (Some a.backup) refl c.append_entry.ensures.uuid c.append_entry.ensures.given) c.append_entry.ensures.first refl c.append_entry.ensures.items
+    (room-after-1 a.steps a.epoch.entries.room c.append_entry.new.epoch.entries.room was.room_left c.append_entry.ensures.room steps)
 
 pub returns-in-Some-clause-called : goal.returns-in-Some-clause-called
 returns-in-Some-clause-called g c =
@@ -72,15 +72,15 @@ returns-in-Some-clause-called g c =
     let end = c.ops-end.result in
     let refusal = c.in-Some.refusal in
     called-over g.B.Bank.given g.B.Bank.tape g.B.Bank.faults_of c.moving.view_is (called (grows-none (λ t. refl)) (moved-same given given a.members a.members refl refl was.kept.members_are.placed was.kept.members_are.unlost)
-    (ended-behind (g.B.Bank.tape a.bank) c.enter.new.epoch.first a.epoch.entries.items c.args.who end [] (Refused refusal) c.enter.ensures.items c.ops-end.ensures.count)
-    (alone-lossless a.members faults faults a.epoch.entries.items a.epoch.entries.items c.enter.new.epoch.entries.items c.args.who end (Refused refusal) tt refl c.enter.ensures.items)
+    (ended-behind (g.B.Bank.tape a.bank) c.append_entry.new.epoch.first a.epoch.entries.items c.args.who end [] (Refused refusal) c.append_entry.ensures.items c.ops-end.ensures.count)
+    (alone-lossless a.members faults faults a.epoch.entries.items a.epoch.entries.items c.append_entry.new.epoch.entries.items c.args.who end (Refused refusal) tt refl c.append_entry.ensures.items)
     (never-falls _)
-    (record { uuid = c.enter.ensures.uuid; given = c.enter.ensures.given; first = c.enter.ensures.first; backup = refl; work = refl; ahead = refl; limit = refl })
+    (record { uuid = c.append_entry.ensures.uuid; given = c.append_entry.ensures.given; first = c.append_entry.ensures.first; backup = refl; work = refl; ahead = refl; limit = refl })
     (λ t. (was.kept.recorded t).begun))
 
 pub returns-in-Some-clause-entered : goal.returns-in-Some-clause-entered
 returns-in-Some-clause-entered g c =
-    rw (← c.moving.view_is) (behind-alone c.args.who c.ops-end.result (Refused c.in-Some.refusal) refl c.enter.ensures.items)
+    rw (← c.moving.view_is) (behind-alone c.args.who c.ops-end.result (Refused c.in-Some.refusal) refl c.append_entry.ensures.items)
 
 -- ---- the window
 
@@ -149,8 +149,8 @@ invariant_of-moving-in-Some-refusal g c =
     with-buffer (let len = (with_items a.buffer c.finish_rest-rest.new.scratch).ok.0 in let ok = a.buffer.ok.0 in omega (arith, len, ok, was.buffer_fits))
     (ready (entries_of c.args.who end (losses_of roles spares ++ Refused refusal ∷ [])) was did.grows (shapes-moved given a.members m moved) kept
     refl did.counts (behind-keeps c.args.who end roles spares (Refused refusal) (λ n. refl) (λ limit. refl))
-    (behind-whole tape' scope a.epoch.first a.epoch.entries.items c.args.who end roles spares (Refused refusal) moved (missing-since roles moved did.since.vacant)) did.given (scope-same given (Some a.backup) did.given c.enter_behind.ensures.uuid c.enter_behind.ensures.given) c.enter_behind.ensures.first refl c.enter_behind.ensures.items
-    (room-after-49 a.steps a.epoch.entries.room c.enter_behind.new.epoch.entries.room was.room_left c.enter_behind.ensures.room steps))
+    (behind-whole tape' scope a.epoch.first a.epoch.entries.items c.args.who end roles spares (Refused refusal) moved (missing-since roles moved did.since.vacant)) did.given (scope-same given (Some a.backup) did.given c.append_after_losses.ensures.uuid c.append_after_losses.ensures.given) c.append_after_losses.ensures.first refl c.append_after_losses.ensures.items
+    (room-after-49 a.steps a.epoch.entries.room c.append_after_losses.new.epoch.entries.room was.room_left c.append_after_losses.ensures.room steps))
 
 pub returns-in-Some-refusal-clause-called : goal.returns-in-Some-refusal-clause-called
 returns-in-Some-refusal-clause-called g c =
@@ -166,10 +166,10 @@ returns-in-Some-refusal-clause-called g c =
     let end = c.ops-end-2.result in
     let event = Refused c.in-Some-refusal.refusal in
     called-over g.B.Bank.given g.B.Bank.tape g.B.Bank.faults_of c.moving.view_is (called did.grows (moved-if given c.in-Entered.span a.members m c.finish_rest-rest.result.refusal c.in-Some-refusal.refusal c.in-Some-refusal.is did.moved)
-    (ended-behind (g.B.Bank.tape c.finish_rest-rest.new.bank) c.enter_behind.new.epoch.first a.epoch.entries.items c.args.who end (losses_of roles spares) event c.enter_behind.ensures.items c.ops-end-2.ensures.count)
-    (losses-behind a.members m before after a.epoch.entries.items a.epoch.entries.items c.enter_behind.new.epoch.entries.items c.args.who end roles spares event did.since tt refl c.enter_behind.ensures.items)
+    (ended-behind (g.B.Bank.tape c.finish_rest-rest.new.bank) c.append_after_losses.new.epoch.first a.epoch.entries.items c.args.who end (losses_of roles spares) event c.append_after_losses.ensures.items c.ops-end-2.ensures.count)
+    (losses-behind a.members m before after a.epoch.entries.items a.epoch.entries.items c.append_after_losses.new.epoch.entries.items c.args.who end roles spares event did.since tt refl c.append_after_losses.ensures.items)
     did.counts
-    (record { uuid = c.enter_behind.ensures.uuid; given = c.enter_behind.ensures.given; first = c.enter_behind.ensures.first; backup = refl; work = refl; ahead = refl; limit = refl })
+    (record { uuid = c.append_after_losses.ensures.uuid; given = c.append_after_losses.ensures.given; first = c.append_after_losses.ensures.first; backup = refl; work = refl; ahead = refl; limit = refl })
     (λ t. (was.kept.recorded t).begun))
 
 pub returns-in-Some-refusal-clause-caused : goal.returns-in-Some-refusal-clause-caused
@@ -224,8 +224,8 @@ invariant_of-moving-2 g c =
     with-buffer (let len = (with_items a.buffer c.finish_rest-rest.new.scratch).ok.0 in let ok = a.buffer.ok.0 in omega (arith, len, ok, was.buffer_fits))
     (ready-moved (entries_of c.args.who end (losses_of roles spares ++ Step FinishesWindow left ∷ [])) was did.grows (shapes-past given a.members m span moved) kept (λ next is. closed-sure next is)
     refl did.counts (behind-keeps c.args.who end roles spares (Step FinishesWindow left) (λ n. refl) (λ limit. refl))
-    (behind-whole {old = moved_past span a.members} tape' scope a.epoch.first a.epoch.entries.items c.args.who end roles spares (Step FinishesWindow left) moved (missing-since {old = moved_past span a.members} roles moved did.since.vacant)) did.given (scope-same given (Some a.backup) did.given c.enter_behind-2.ensures.uuid c.enter_behind-2.ensures.given) c.enter_behind-2.ensures.first refl c.enter_behind-2.ensures.items
-    (room-after-49 a.steps a.epoch.entries.room c.enter_behind-2.new.epoch.entries.room was.room_left c.enter_behind-2.ensures.room steps))
+    (behind-whole {old = moved_past span a.members} tape' scope a.epoch.first a.epoch.entries.items c.args.who end roles spares (Step FinishesWindow left) moved (missing-since {old = moved_past span a.members} roles moved did.since.vacant)) did.given (scope-same given (Some a.backup) did.given c.append_after_losses-2.ensures.uuid c.append_after_losses-2.ensures.given) c.append_after_losses-2.ensures.first refl c.append_after_losses-2.ensures.items
+    (room-after-49 a.steps a.epoch.entries.room c.append_after_losses-2.new.epoch.entries.room was.room_left c.append_after_losses-2.ensures.room steps))
 
 pub returns-clause-stood : goal.returns-clause-stood
 returns-clause-stood g c =
@@ -245,7 +245,7 @@ returns-clause-stood g c =
     let left = c.all_left-left.result in
     let none = c.in_default-refusal.is in
     let span = c.in-Entered.span in
-    let epoch = c.enter_behind-2.new.epoch in
+    let epoch = c.append_after_losses-2.new.epoch in
     let due = open-is _ span c.in-Entered.copied c.in-Entered.sectioned (subst (λ p. IsWindowOpen p) (sym c.moving.view_is) c.requires.due) c.in-Entered.is in
     let by : IsFinishedBy g.B.Bank.tells given tape tape' a.members m (final_shape a.members.newest) span c.in-Entered.copied c.finish_rest-rest.result.copied (take (512 * (span.hi - span.lo)) c.as_slice.result.now) roles c.finish_rest-rest.result.refusal =
     record {
@@ -268,7 +268,7 @@ returns-clause-stood g c =
     left none c.all_left-left.ensures in
     rw (← c.moving.view_is) (λ t.
     subst (λ (w : Window). IsWindowStanding (open_in w) (world_in given' tape' (scope_in given' epoch.uuid epoch.given (Some a.backup)) epoch.first) epoch.entries.items m (present given' tape')) (sym c.in-Entered.is)
-    (recorded-as (Some span) tape' m did.given (scope-same given (Some a.backup) did.given c.enter_behind-2.ensures.uuid c.enter_behind-2.ensures.given) c.enter_behind-2.ensures.first c.enter_behind-2.ensures.items (stands t)))
+    (recorded-as (Some span) tape' m did.given (scope-same given (Some a.backup) did.given c.append_after_losses-2.ensures.uuid c.append_after_losses-2.ensures.given) c.append_after_losses-2.ensures.first c.append_after_losses-2.ensures.items (stands t)))
 
 pub returns-clause-goes : goal.returns-clause-goes
 returns-clause-goes g c =
@@ -277,7 +277,7 @@ returns-clause-goes g c =
     let goes : IsCallGoing a.epoch.entries.items c.args.who = subst (λ p. IsCallGoing p.parts.entries c.args.who) (sym c.moving.view_is) c.requires.open in
     let roles = c.finish_rest-rest.result.roles in
     let spares = c.finish_rest-rest.result.spares in
-    subst (λ l. IsCallGoing l c.args.who) (sym c.enter_behind-2.ensures.items) (going-on a.epoch.entries.items c.args.who c.ops-end-2.result roles spares (Step FinishesWindow c.all_left-left.result) goes tt)
+    subst (λ l. IsCallGoing l c.args.who) (sym c.append_after_losses-2.ensures.items) (going-on a.epoch.entries.items c.args.who c.ops-end-2.result roles spares (Step FinishesWindow c.all_left-left.result) goes tt)
 
 pub returns-clause-called : goal.returns-clause-called
 returns-clause-called g c =
@@ -296,22 +296,22 @@ returns-clause-called g c =
     let moved = moved-none given c.in-Entered.span a.members m c.finish_rest-rest.result.refusal c.in_default-refusal.is did.moved in
     called-over g.B.Bank.given g.B.Bank.tape g.B.Bank.faults_of c.moving.view_is (record {
       grows = did.grows;
-      ended = ended-behind (g.B.Bank.tape c.finish_rest-rest.new.bank) c.enter_behind-2.new.epoch.first a.epoch.entries.items c.args.who end (losses_of roles spares) event c.enter_behind-2.ensures.items c.ops-end-2.ensures.count;
+      ended = ended-behind (g.B.Bank.tape c.finish_rest-rest.new.bank) c.append_after_losses-2.new.epoch.first a.epoch.entries.items c.args.who end (losses_of roles spares) event c.append_after_losses-2.ensures.items c.ops-end-2.ensures.count;
       held = moved.held;
       spares = moved.fewer;
-      losses = losses-behind a.members m before after a.epoch.entries.items a.epoch.entries.items c.enter_behind-2.new.epoch.entries.items c.args.who end roles spares event did.since tt refl c.enter_behind-2.ensures.items;
+      losses = losses-behind a.members m before after a.epoch.entries.items a.epoch.entries.items c.append_after_losses-2.new.epoch.entries.items c.args.who end roles spares event did.since tt refl c.append_after_losses-2.ensures.items;
       never_falls = did.counts;
       work = refl;
       same = record {
         array = record {
-          uuid = c.enter_behind-2.ensures.uuid;
-          given = c.enter_behind-2.ensures.given;
-          first = c.enter_behind-2.ensures.first;
+          uuid = c.append_after_losses-2.ensures.uuid;
+          given = c.append_after_losses-2.ensures.given;
+          first = c.append_after_losses-2.ensures.first;
           backup = refl;
           shape = moved.shape;
           size = moved.size;
           list = list-same given scope a.epoch.first refl
-              (scope-same given (Some a.backup) refl c.enter_behind-2.ensures.uuid c.enter_behind-2.ensures.given) c.enter_behind-2.ensures.first did.grows (λ t. (was.kept.recorded t).begun);
+              (scope-same given (Some a.backup) refl c.append_after_losses-2.ensures.uuid c.append_after_losses-2.ensures.given) c.append_after_losses-2.ensures.first did.grows (λ t. (was.kept.recorded t).begun);
         };
         final = moved.reshape.final;
         backward = moved.reshape.backward;
@@ -351,7 +351,7 @@ returns-clause-relied g c =
     let given = g.B.Bank.given a.bank in
     let kept = c.moving.invariant.kept in
     finish-relied given a.members m a.work.resync span kept.members_are.placed (moved-none given span a.members m c.finish_rest-rest.result.refusal c.in_default-refusal.is c.finish_rest-rest.ensures.moved)
-    (subst (λ (w : Window). IsAside w ⊎ IsUnmended a.work.resync) c.in-Entered.is kept.beside) ∙ ap (λ p. relied_sector p.parts.members.newest p.parts.work.resync) c.moving.view_is
+    (subst (λ (w : Window). IsAside w ⊎ IsUnsynced a.work.resync) c.in-Entered.is kept.beside) ∙ ap (λ p. relied_sector p.parts.members.newest p.parts.work.resync) c.moving.view_is
 
 -- ---- by what stands above
 
@@ -372,26 +372,26 @@ returns-in-Some-refusal-clause-room g c = one-less c.moving.inside.steps (subst 
 pub returns-clause-room : goal.returns-clause-room
 returns-clause-room g c = one-less c.moving.inside.steps (subst (λ p. 1 ≤ p.parts.steps) (sym c.moving.view_is) c.requires.room) ∙ ap (λ p. p.parts.steps) c.moving.view_is
 
-pub enter_behind-requires-clause-room : goal.enter_behind-requires-clause-room
-enter_behind-requires-clause-room g c = room-49 c.moving.inside.steps c.moving.inside.epoch.entries.room (subst (λ p. 1 ≤ p.parts.steps) (sym c.moving.view_is) c.requires.room) c.moving.invariant.room_left
+pub append_after_losses-requires-clause-room : goal.append_after_losses-requires-clause-room
+append_after_losses-requires-clause-room g c = room-49 c.moving.inside.steps c.moving.inside.epoch.entries.room (subst (λ p. 1 ≤ p.parts.steps) (sym c.moving.view_is) c.requires.room) c.moving.invariant.room_left
 
-pub enter_behind-requires-2-clause-room : goal.enter_behind-requires-2-clause-room
-enter_behind-requires-2-clause-room g c = room-49 c.moving.inside.steps c.moving.inside.epoch.entries.room (subst (λ p. 1 ≤ p.parts.steps) (sym c.moving.view_is) c.requires.room) c.moving.invariant.room_left
+pub append_after_losses-requires-2-clause-room : goal.append_after_losses-requires-2-clause-room
+append_after_losses-requires-2-clause-room g c = room-49 c.moving.inside.steps c.moving.inside.epoch.entries.room (subst (λ p. 1 ≤ p.parts.steps) (sym c.moving.view_is) c.requires.room) c.moving.invariant.room_left
 
-pub enter_behind-requires-clause-number : goal.enter_behind-requires-clause-number
-enter_behind-requires-clause-number g c = c.check_going.ensures
+pub append_after_losses-requires-clause-number : goal.append_after_losses-requires-clause-number
+append_after_losses-requires-clause-number g c = c.check_going.ensures
 
-pub enter_behind-requires-2-clause-number : goal.enter_behind-requires-2-clause-number
-enter_behind-requires-2-clause-number g c = c.check_going.ensures
+pub append_after_losses-requires-2-clause-number : goal.append_after_losses-requires-2-clause-number
+append_after_losses-requires-2-clause-number g c = c.check_going.ensures
 
-pub enter-requires-clause-number : goal.enter-requires-clause-number
-enter-requires-clause-number g c = c.check_going.ensures
+pub append_entry-requires-clause-number : goal.append_entry-requires-clause-number
+append_entry-requires-clause-number g c = c.check_going.ensures
 
 pub returns-in-Some-refusal-clause-entered : goal.returns-in-Some-refusal-clause-entered
-returns-in-Some-refusal-clause-entered g c = rw (← c.moving.view_is) (record { roles = c.finish_rest-rest.result.roles; spares = c.finish_rest-rest.result.spares; end = c.ops-end-2.result; is = c.enter_behind.ensures.items })
+returns-in-Some-refusal-clause-entered g c = rw (← c.moving.view_is) (record { roles = c.finish_rest-rest.result.roles; spares = c.finish_rest-rest.result.spares; end = c.ops-end-2.result; is = c.append_after_losses.ensures.items })
 
 pub returns-clause-entered : goal.returns-clause-entered
-returns-clause-entered g c = step-entered c.finish_rest-rest.result.roles c.finish_rest-rest.result.spares c.ops-end-2.result c.enter_behind-2.ensures.items c.all_left-left.ensures (ap (λ p. p.parts.entries) c.moving.view_is)
+returns-clause-entered g c = step-entered c.finish_rest-rest.result.roles c.finish_rest-rest.result.spares c.ops-end-2.result c.append_after_losses-2.ensures.items c.all_left-left.ensures (ap (λ p. p.parts.entries) c.moving.view_is)
 
 pub finish_rest-rest-requires-clause-placed : goal.finish_rest-rest-requires-clause-placed
 finish_rest-rest-requires-clause-placed g c = c.moving.invariant.kept.members_are.placed

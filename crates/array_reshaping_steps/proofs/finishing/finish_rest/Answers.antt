@@ -18,15 +18,15 @@ overflow_cast-count g c =
     let long = c.len-count.ensures in
     omega (arith, few, roles, long)
 
-pub vacant_roles-before-requires-clause-few : goal.vacant_roles-before-requires-clause-few
-vacant_roles-before-requires-clause-few g c =
+pub unassigned_roles-before-requires-clause-few : goal.unassigned_roles-before-requires-clause-few
+unassigned_roles-before-requires-clause-few g c =
     let few = few-roles c.args.members.now.newest c.requires.placed.fit.valid in
     let roles = c.requires.placed.roles in
     let long = c.len-count.ensures in
     omega (arith, few, roles, long)
 
-pub newly_vacant-requires-clause-few : goal.newly_vacant-requires-clause-few
-newly_vacant-requires-clause-few g c =
+pub newly_unassigned-requires-clause-few : goal.newly_unassigned-requires-clause-few
+newly_unassigned-requires-clause-few g c =
     let few = few-roles c.args.members.now.newest c.requires.placed.fit.valid in
     let roles = c.requires.placed.roles in
     let long = c.len-count.ensures in
@@ -42,8 +42,8 @@ finish_window-done-requires-clause-from g c =
 pub returns-clause-since : goal.returns-clause-since
 returns-clause-since g c =
     finished-since (g.B.Bank.given c.args.bank.now) c.args.members.now c.finish_window-done.new.members c.args.span.now c.finish_window-done.result.refusal c.finish_window-done.ensures.moved
-    c.len-count.result c.vacant_roles-before.result c.newly_vacant.result c.finish_window-done.result.spares (g.B.Bank.faults_of c.args.bank.now) (g.B.Bank.faults_of c.finish_window-done.new.bank)
-    c.requires.placed c.requires.next c.finish_window-done.ensures.failed (c.len-count.ensures ∙ c.requires.placed.roles) c.vacant_roles-before.ensures c.newly_vacant.ensures
+    c.len-count.result c.unassigned_roles-before.result c.newly_unassigned.result c.finish_window-done.result.spares (g.B.Bank.faults_of c.args.bank.now) (g.B.Bank.faults_of c.finish_window-done.new.bank)
+    c.requires.placed c.requires.next c.finish_window-done.ensures.failed (c.len-count.ensures ∙ c.requires.placed.roles) c.unassigned_roles-before.ensures c.newly_unassigned.ensures
 
 pub returns-clause-all : goal.returns-clause-all
 returns-clause-all g c = λ none. c.finish_window-done.ensures.all none ∙ ap (λ (s : Shape). stripes s c.args.span.now.lo c.args.span.now.hi) c.final_in-shape.ensures
@@ -70,8 +70,8 @@ returns-clause-others g c = λ t.
 
 -- ---- by what stands above
 
-pub newly_vacant-requires-clause-known : goal.newly_vacant-requires-clause-known
-newly_vacant-requires-clause-known g c = known-finished _ c.args.span.now _ _ c.len-count.result c.finish_window-done.result.refusal c.finish_window-done.ensures.moved c.len-count.ensures c.requires.placed.roles
+pub newly_unassigned-requires-clause-known : goal.newly_unassigned-requires-clause-known
+newly_unassigned-requires-clause-known g c = known-finished _ c.args.span.now _ _ c.len-count.result c.finish_window-done.result.refusal c.finish_window-done.ensures.moved c.len-count.ensures c.requires.placed.roles
 
 pub returns-clause-counts : goal.returns-clause-counts
 returns-clause-counts g c = c.finish_window-done.ensures.counts

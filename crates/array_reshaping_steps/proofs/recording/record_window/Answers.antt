@@ -51,12 +51,12 @@ invariant_of-moving g c =
     c.args.who end (Refused refusal) was.kept goes (not_254 c.args.who.caller c.requires.caller) c.ops-end.ensures.count (quiet-refusal refusal) (λ told is. is)
     (λ t right. refused-right (world_in given tape scope a.epoch.first) a.epoch.entries.items given a.members was.kept.members_are.placed (was.kept.gone t right) (was.kept.levelled t right) refusal c.in-Some.ensures) in
     ready (entries_of c.args.who end (Refused refusal ∷ [])) was (grows-none (λ t. refl)) (shapes-same a.members.newest) kept
-    refl (λ slot. omega arith) (alone-keeps c.args.who end (Refused refusal) (λ n. refl) (λ limit. refl)) (λ none whole. whole) refl (scope-same given (Some a.backup) refl c.enter.ensures.uuid c.enter.ensures.given) c.enter.ensures.first refl c.enter.ensures.items
-    (omega (arith, c.enter.ensures.room, was.room_left, some))
+    refl (λ slot. omega arith) (alone-keeps c.args.who end (Refused refusal) (λ n. refl) (λ limit. refl)) (λ none whole. whole) refl (scope-same given (Some a.backup) refl c.append_entry.ensures.uuid c.append_entry.ensures.given) c.append_entry.ensures.first refl c.append_entry.ensures.items
+    (omega (arith, c.append_entry.ensures.room, was.room_left, some))
 
 pub returns-in-Some-clause-entered : goal.returns-in-Some-clause-entered
 returns-in-Some-clause-entered g c =
-    rw (← c.moving.view_is) (behind-alone c.args.who c.ops-end.result (Refused c.in-Some.refusal) refl c.enter.ensures.items)
+    rw (← c.moving.view_is) (behind-alone c.args.who c.ops-end.result (Refused c.in-Some.refusal) refl c.append_entry.ensures.items)
 
 pub returns-in-Some-clause-called : goal.returns-in-Some-clause-called
 returns-in-Some-clause-called g c =
@@ -67,10 +67,10 @@ returns-in-Some-clause-called g c =
     let end = c.ops-end.result in
     let refusal = c.in-Some.refusal in
     rw (← c.moving.view_is) (called (grows-none (λ t. refl)) (moved-same given given a.members a.members refl refl was.kept.members_are.placed was.kept.members_are.unlost)
-    (ended-behind (g.B.Bank.tape a.bank) c.enter.new.epoch.first a.epoch.entries.items c.args.who end [] (Refused refusal) c.enter.ensures.items c.ops-end.ensures.count)
-    (alone-lossless a.members faults faults a.epoch.entries.items a.epoch.entries.items c.enter.new.epoch.entries.items c.args.who end (Refused refusal) tt refl c.enter.ensures.items)
+    (ended-behind (g.B.Bank.tape a.bank) c.append_entry.new.epoch.first a.epoch.entries.items c.args.who end [] (Refused refusal) c.append_entry.ensures.items c.ops-end.ensures.count)
+    (alone-lossless a.members faults faults a.epoch.entries.items a.epoch.entries.items c.append_entry.new.epoch.entries.items c.args.who end (Refused refusal) tt refl c.append_entry.ensures.items)
     (λ slot. omega arith)
-    (record { uuid = c.enter.ensures.uuid; given = c.enter.ensures.given; first = c.enter.ensures.first; backup = refl; work = refl; ahead = refl; limit = refl })
+    (record { uuid = c.append_entry.ensures.uuid; given = c.append_entry.ensures.given; first = c.append_entry.ensures.first; backup = refl; work = refl; ahead = refl; limit = refl })
     (λ t. (was.kept.recorded t).begun))
 
 -- ---- the roles
@@ -83,16 +83,16 @@ overflow_cast-count g c =
     let long = c.len-count.ensures in
     omega (arith, few, roles, long)
 
-pub vacant_roles-before-requires-clause-few : goal.vacant_roles-before-requires-clause-few
-vacant_roles-before-requires-clause-few g c =
+pub unassigned_roles-before-requires-clause-few : goal.unassigned_roles-before-requires-clause-few
+unassigned_roles-before-requires-clause-few g c =
     let members = c.moving.invariant.kept.members_are in
     let few = few-roles c.moving.inside.members.newest members.placed.fit.valid in
     let roles = members.backed.roles in
     let long = c.len-count.ensures in
     omega (arith, few, roles, long)
 
-pub newly_vacant-roles-requires-clause-few : goal.newly_vacant-roles-requires-clause-few
-newly_vacant-roles-requires-clause-few g c =
+pub newly_unassigned-roles-requires-clause-few : goal.newly_unassigned-roles-requires-clause-few
+newly_unassigned-roles-requires-clause-few g c =
     let members = c.moving.invariant.kept.members_are in
     let few = few-roles c.moving.inside.members.newest members.placed.fit.valid in
     let roles = members.backed.roles in
@@ -115,18 +115,18 @@ invariant_of-moving-in-Some-refusal g c =
     let tape' = g.B.Bank.tape c.record-done.new.bank in
     let before = g.B.Bank.faults_of a.bank in
     let after = g.B.Bank.faults_of c.record-done.new.bank in
-    let roles = c.newly_vacant-roles.result in
+    let roles = c.newly_unassigned-roles.result in
     let spares = c.record-done.result.spares in
     let end = c.ops-end-2.result in
     let refusal = c.in-Some-refusal.refusal in
     let moved = moved-if given c.in-Entered.span a.members m c.record-done.result.refusal refusal c.in-Some-refusal.is did.moved in
-    let since = lost-since given a.members m c.len-count.result c.vacant_roles-before.result roles spares before after here.placed moved did.failed
-    (c.len-count.ensures ∙ here.backed.roles) c.vacant_roles-before.ensures c.newly_vacant-roles.ensures in
+    let since = lost-since given a.members m c.len-count.result c.unassigned_roles-before.result roles spares before after here.placed moved did.failed
+    (c.len-count.ensures ∙ here.backed.roles) c.unassigned_roles-before.ensures c.newly_unassigned-roles.ensures in
     let kept = record-refused a.course a.ahead c.in-Entered.span c.args.who end roles spares was.kept (live-of was.kept c.in_default.ensures) goes c.requires.caller c.ops-end-2.ensures.count did.grows since did.clean did.rise did.others
     c.record-done.result.refusal refusal c.in-Some-refusal.is moved (many-of m c.record-done.result.refusal refusal c.in-Some-refusal.is did.refused) did.unused did.safe in
     ready (entries_of c.args.who end (losses_of roles spares ++ Refused refusal ∷ [])) was did.grows (shapes-moved given a.members m moved) kept
-    refl did.counts (behind-keeps c.args.who end roles spares (Refused refusal) (λ n. refl) (λ limit. refl)) (behind-whole tape' (scope_in given a.epoch.uuid a.epoch.given (Some a.backup)) a.epoch.first a.epoch.entries.items c.args.who end roles spares (Refused refusal) moved (missing-since roles moved since.vacant)) did.given (scope-same given (Some a.backup) did.given c.enter_behind.ensures.uuid c.enter_behind.ensures.given) c.enter_behind.ensures.first refl c.enter_behind.ensures.items
-    (omega (arith, c.enter_behind.ensures.room, was.room_left, some))
+    refl did.counts (behind-keeps c.args.who end roles spares (Refused refusal) (λ n. refl) (λ limit. refl)) (behind-whole tape' (scope_in given a.epoch.uuid a.epoch.given (Some a.backup)) a.epoch.first a.epoch.entries.items c.args.who end roles spares (Refused refusal) moved (missing-since roles moved since.vacant)) did.given (scope-same given (Some a.backup) did.given c.append_after_losses.ensures.uuid c.append_after_losses.ensures.given) c.append_after_losses.ensures.first refl c.append_after_losses.ensures.items
+    (omega (arith, c.append_after_losses.ensures.room, was.room_left, some))
 
 pub returns-in-Some-refusal-clause-called : goal.returns-in-Some-refusal-clause-called
 returns-in-Some-refusal-clause-called g c =
@@ -138,18 +138,18 @@ returns-in-Some-refusal-clause-called g c =
     let did = c.record-done.ensures in
     let before = g.B.Bank.faults_of a.bank in
     let after = g.B.Bank.faults_of c.record-done.new.bank in
-    let roles = c.newly_vacant-roles.result in
+    let roles = c.newly_unassigned-roles.result in
     let spares = c.record-done.result.spares in
     let end = c.ops-end-2.result in
     let refusal = c.in-Some-refusal.refusal in
     let moved = moved-if given c.in-Entered.span a.members m c.record-done.result.refusal refusal c.in-Some-refusal.is did.moved in
-    let since = lost-since given a.members m c.len-count.result c.vacant_roles-before.result roles spares before after here.placed moved did.failed
-    (c.len-count.ensures ∙ here.backed.roles) c.vacant_roles-before.ensures c.newly_vacant-roles.ensures in
+    let since = lost-since given a.members m c.len-count.result c.unassigned_roles-before.result roles spares before after here.placed moved did.failed
+    (c.len-count.ensures ∙ here.backed.roles) c.unassigned_roles-before.ensures c.newly_unassigned-roles.ensures in
     rw (← c.moving.view_is) (called did.grows moved
-    (ended-behind (g.B.Bank.tape c.record-done.new.bank) c.enter_behind.new.epoch.first a.epoch.entries.items c.args.who end (losses_of roles spares) (Refused refusal) c.enter_behind.ensures.items c.ops-end-2.ensures.count)
-    (losses-behind a.members m before after a.epoch.entries.items a.epoch.entries.items c.enter_behind.new.epoch.entries.items c.args.who end roles spares (Refused refusal) since tt refl c.enter_behind.ensures.items)
+    (ended-behind (g.B.Bank.tape c.record-done.new.bank) c.append_after_losses.new.epoch.first a.epoch.entries.items c.args.who end (losses_of roles spares) (Refused refusal) c.append_after_losses.ensures.items c.ops-end-2.ensures.count)
+    (losses-behind a.members m before after a.epoch.entries.items a.epoch.entries.items c.append_after_losses.new.epoch.entries.items c.args.who end roles spares (Refused refusal) since tt refl c.append_after_losses.ensures.items)
     did.counts
-    (record { uuid = c.enter_behind.ensures.uuid; given = c.enter_behind.ensures.given; first = c.enter_behind.ensures.first; backup = refl; work = refl; ahead = refl; limit = refl })
+    (record { uuid = c.append_after_losses.ensures.uuid; given = c.append_after_losses.ensures.given; first = c.append_after_losses.ensures.first; backup = refl; work = refl; ahead = refl; limit = refl })
     (λ t. (was.kept.recorded t).begun))
 
 pub returns-in-Some-refusal-clause-caused : goal.returns-in-Some-refusal-clause-caused
@@ -180,19 +180,19 @@ invariant_of-moving-2 g c =
     let tape' = g.B.Bank.tape c.record-done.new.bank in
     let before = g.B.Bank.faults_of a.bank in
     let after = g.B.Bank.faults_of c.record-done.new.bank in
-    let roles = c.newly_vacant-roles.result in
+    let roles = c.newly_unassigned-roles.result in
     let spares = c.record-done.result.spares in
     let end = c.ops-end-2.result in
     let left = c.all_left-left.result in
     let moved = moved-none given c.in-Entered.span a.members m c.record-done.result.refusal none did.moved in
     let next = subst (λ (s : Span). next_window a.members.newest ≡ Some s) (sym same) (window-next a.course due.span _ due.sectioned due.is was.kept.course_is) in
-    let since = since-past given a.members m c.in-Entered.span c.len-count.result c.vacant_roles-before.result roles spares before after here.placed next moved did.failed
-    (c.len-count.ensures ∙ here.backed.roles) c.vacant_roles-before.ensures c.newly_vacant-roles.ensures in
+    let since = since-past given a.members m c.in-Entered.span c.len-count.result c.unassigned_roles-before.result roles spares before after here.placed next moved did.failed
+    (c.len-count.ensures ∙ here.backed.roles) c.unassigned_roles-before.ensures c.newly_unassigned-roles.ensures in
     let kept = record-done a.course a.ahead c.in-Entered.span c.args.who end roles spares was.kept (live-of was.kept c.in_default.ensures) goes c.requires.caller c.ops-end-2.ensures.count did.grows since did.clean did.rise did.others
     due.sectioned left is c.all_left-left.ensures moved c.in_default.ensures (λ t. did.plain none t (scope_in given a.epoch.uuid a.epoch.given (Some a.backup))) (safe-none-of c.record-done.result.refusal none did.safe) in
     ready-moved (entries_of c.args.who end (losses_of roles spares ++ Step RecordsWindow left ∷ [])) was did.grows (shapes-past given a.members m c.in-Entered.span moved) kept (λ span is. closed-sure span is)
-    refl did.counts (behind-keeps c.args.who end roles spares (Step RecordsWindow left) (λ n. refl) (λ limit. refl)) (behind-whole {old = moved_past c.in-Entered.span a.members} tape' (scope_in given a.epoch.uuid a.epoch.given (Some a.backup)) a.epoch.first a.epoch.entries.items c.args.who end roles spares (Step RecordsWindow left) moved (missing-since {old = moved_past c.in-Entered.span a.members} roles moved since.vacant)) did.given (scope-same given (Some a.backup) did.given c.enter_behind-2.ensures.uuid c.enter_behind-2.ensures.given) c.enter_behind-2.ensures.first refl c.enter_behind-2.ensures.items
-    (omega (arith, c.enter_behind-2.ensures.room, was.room_left, some))
+    refl did.counts (behind-keeps c.args.who end roles spares (Step RecordsWindow left) (λ n. refl) (λ limit. refl)) (behind-whole {old = moved_past c.in-Entered.span a.members} tape' (scope_in given a.epoch.uuid a.epoch.given (Some a.backup)) a.epoch.first a.epoch.entries.items c.args.who end roles spares (Step RecordsWindow left) moved (missing-since {old = moved_past c.in-Entered.span a.members} roles moved since.vacant)) did.given (scope-same given (Some a.backup) did.given c.append_after_losses-2.ensures.uuid c.append_after_losses-2.ensures.given) c.append_after_losses-2.ensures.first refl c.append_after_losses-2.ensures.items
+    (omega (arith, c.append_after_losses-2.ensures.room, was.room_left, some))
 
 pub returns-clause-called : goal.returns-clause-called
 returns-clause-called g c =
@@ -207,32 +207,32 @@ returns-clause-called g c =
     let did = c.record-done.ensures in
     let before = g.B.Bank.faults_of a.bank in
     let after = g.B.Bank.faults_of c.record-done.new.bank in
-    let roles = c.newly_vacant-roles.result in
+    let roles = c.newly_unassigned-roles.result in
     let spares = c.record-done.result.spares in
     let end = c.ops-end-2.result in
     let event = Step RecordsWindow c.all_left-left.result in
     let moved = moved-none given c.in-Entered.span a.members m c.record-done.result.refusal c.in_default-refusal.is did.moved in
     let next = subst (λ (s : Span). next_window a.members.newest ≡ Some s) (sym same) (window-next a.course due.span _ due.sectioned due.is was.kept.course_is) in
-    let since = since-past given a.members m c.in-Entered.span c.len-count.result c.vacant_roles-before.result roles spares before after here.placed next moved did.failed
-    (c.len-count.ensures ∙ here.backed.roles) c.vacant_roles-before.ensures c.newly_vacant-roles.ensures in
+    let since = since-past given a.members m c.in-Entered.span c.len-count.result c.unassigned_roles-before.result roles spares before after here.placed next moved did.failed
+    (c.len-count.ensures ∙ here.backed.roles) c.unassigned_roles-before.ensures c.newly_unassigned-roles.ensures in
     rw (← c.moving.view_is) (record {
       grows = did.grows;
-      ended = ended-behind (g.B.Bank.tape c.record-done.new.bank) c.enter_behind-2.new.epoch.first a.epoch.entries.items c.args.who end (losses_of roles spares) event c.enter_behind-2.ensures.items c.ops-end-2.ensures.count;
+      ended = ended-behind (g.B.Bank.tape c.record-done.new.bank) c.append_after_losses-2.new.epoch.first a.epoch.entries.items c.args.who end (losses_of roles spares) event c.append_after_losses-2.ensures.items c.ops-end-2.ensures.count;
       held = moved.held;
       spares = moved.fewer;
-      losses = losses-behind a.members m before after a.epoch.entries.items a.epoch.entries.items c.enter_behind-2.new.epoch.entries.items c.args.who end roles spares event since tt refl c.enter_behind-2.ensures.items;
+      losses = losses-behind a.members m before after a.epoch.entries.items a.epoch.entries.items c.append_after_losses-2.new.epoch.entries.items c.args.who end roles spares event since tt refl c.append_after_losses-2.ensures.items;
       never_falls = did.counts;
       work = refl;
       same = record {
         array = record {
-          uuid = c.enter_behind-2.ensures.uuid;
-          given = c.enter_behind-2.ensures.given;
-          first = c.enter_behind-2.ensures.first;
+          uuid = c.append_after_losses-2.ensures.uuid;
+          given = c.append_after_losses-2.ensures.given;
+          first = c.append_after_losses-2.ensures.first;
           backup = refl;
           shape = moved.shape;
           size = moved.size;
           list = list-same given scope a.epoch.first refl
-              (scope-same given (Some a.backup) refl c.enter_behind-2.ensures.uuid c.enter_behind-2.ensures.given) c.enter_behind-2.ensures.first did.grows (λ t. (was.kept.recorded t).begun);
+              (scope-same given (Some a.backup) refl c.append_after_losses-2.ensures.uuid c.append_after_losses-2.ensures.given) c.append_after_losses-2.ensures.first did.grows (λ t. (was.kept.recorded t).begun);
         };
         final = moved.reshape.final;
         backward = moved.reshape.backward;
@@ -261,8 +261,8 @@ returns-clause-left g c =
 pub check_going-requires : goal.check_going-requires
 check_going-requires g c = subst (λ p. IsCallGoing p.parts.entries c.args.who) (sym c.moving.view_is) c.requires.open
 
-pub enter-requires-clause-number : goal.enter-requires-clause-number
-enter-requires-clause-number g c = c.check_going.ensures
+pub append_entry-requires-clause-number : goal.append_entry-requires-clause-number
+append_entry-requires-clause-number g c = c.check_going.ensures
 
 pub returns-in-Some-clause-clean : goal.returns-in-Some-clause-clean
 returns-in-Some-clause-clean g c = ap (λ p. is_clean p.parts.members.newest) c.moving.view_is
@@ -301,19 +301,19 @@ record-done-requires-clause-next g c =
     let next = subst (λ (s : Span). next_window c.moving.inside.members.newest ≡ Some s) (sym same) (window-next c.moving.inside.course due.span _ due.sectioned due.is c.moving.invariant.kept.course_is) in
     next
 
-pub newly_vacant-roles-requires-clause-known : goal.newly_vacant-roles-requires-clause-known
-newly_vacant-roles-requires-clause-known g c =
+pub newly_unassigned-roles-requires-clause-known : goal.newly_unassigned-roles-requires-clause-known
+newly_unassigned-roles-requires-clause-known g c =
     roles-past (g.B.Bank.given c.moving.inside.bank) c.moving.inside.members c.record-done.new.members c.in-Entered.span c.record-done.result.refusal c.record-done.ensures.moved c.len-count.result c.len-count.ensures c.moving.invariant.kept.members_are.placed.roles
 
-pub enter_behind-requires-clause-room : goal.enter_behind-requires-clause-room
-enter_behind-requires-clause-room g c = room-behind c.moving.inside.steps c.args.moving.now.parts.steps c.moving.inside.epoch.entries.room (ap (λ p. p.parts.steps) c.moving.view_is) c.requires.room c.moving.invariant.room_left
+pub append_after_losses-requires-clause-room : goal.append_after_losses-requires-clause-room
+append_after_losses-requires-clause-room g c = room-behind c.moving.inside.steps c.args.moving.now.parts.steps c.moving.inside.epoch.entries.room (ap (λ p. p.parts.steps) c.moving.view_is) c.requires.room c.moving.invariant.room_left
 
-pub enter_behind-requires-clause-number : goal.enter_behind-requires-clause-number
-enter_behind-requires-clause-number g c = c.check_going.ensures
+pub append_after_losses-requires-clause-number : goal.append_after_losses-requires-clause-number
+append_after_losses-requires-clause-number g c = c.check_going.ensures
 
 pub returns-in-Some-refusal-clause-entered : goal.returns-in-Some-refusal-clause-entered
 returns-in-Some-refusal-clause-entered g c =
-    rw (← c.moving.view_is) (record { roles = c.newly_vacant-roles.result; spares = c.record-done.result.spares; end = c.ops-end-2.result; is = c.enter_behind.ensures.items })
+    rw (← c.moving.view_is) (record { roles = c.newly_unassigned-roles.result; spares = c.record-done.result.spares; end = c.ops-end-2.result; is = c.append_after_losses.ensures.items })
 
 pub returns-in-Some-refusal-clause-clean : goal.returns-in-Some-refusal-clause-clean
 returns-in-Some-refusal-clause-clean g c = c.record-done.ensures.clean ∙ ap (λ p. is_clean p.parts.members.newest) c.moving.view_is
@@ -338,15 +338,15 @@ pub all_left-left-requires-clause-sound : goal.all_left-left-requires-clause-sou
 all_left-left-requires-clause-sound g c =
     sound-moved (g.B.Bank.given c.moving.inside.bank) (moved_past c.in-Entered.span c.moving.inside.members) c.record-done.new.members (moved-none (g.B.Bank.given c.moving.inside.bank) c.in-Entered.span c.moving.inside.members c.record-done.new.members c.record-done.result.refusal c.in_default-refusal.is c.record-done.ensures.moved) (phases_of c.moving.inside.ahead) c.moving.invariant.planned
 
-pub enter_behind-requires-2-clause-room : goal.enter_behind-requires-2-clause-room
-enter_behind-requires-2-clause-room g c = room-behind c.moving.inside.steps c.args.moving.now.parts.steps c.moving.inside.epoch.entries.room (ap (λ p. p.parts.steps) c.moving.view_is) c.requires.room c.moving.invariant.room_left
+pub append_after_losses-requires-2-clause-room : goal.append_after_losses-requires-2-clause-room
+append_after_losses-requires-2-clause-room g c = room-behind c.moving.inside.steps c.args.moving.now.parts.steps c.moving.inside.epoch.entries.room (ap (λ p. p.parts.steps) c.moving.view_is) c.requires.room c.moving.invariant.room_left
 
-pub enter_behind-requires-2-clause-number : goal.enter_behind-requires-2-clause-number
-enter_behind-requires-2-clause-number g c = c.check_going.ensures
+pub append_after_losses-requires-2-clause-number : goal.append_after_losses-requires-2-clause-number
+append_after_losses-requires-2-clause-number g c = c.check_going.ensures
 
 pub returns-clause-entered : goal.returns-clause-entered
 returns-clause-entered g c =
-    rw (← c.moving.view_is) (taken-behind c.args.who c.ops-end-2.result c.newly_vacant-roles.result c.record-done.result.spares RecordsWindow c.all_left-left.result _ c.all_left-left.ensures c.enter_behind-2.ensures.items)
+    rw (← c.moving.view_is) (taken-behind c.args.who c.ops-end-2.result c.newly_unassigned-roles.result c.record-done.result.spares RecordsWindow c.all_left-left.result _ c.all_left-left.ensures c.append_after_losses-2.ensures.items)
 
 pub returns-clause-clean : goal.returns-clause-clean
 returns-clause-clean g c = c.record-done.ensures.clean ∙ ap (λ p. is_clean p.parts.members.newest) c.moving.view_is

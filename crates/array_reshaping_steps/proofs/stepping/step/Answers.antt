@@ -5,18 +5,18 @@ use Rattle.array_reshaping.specs.array_reshaping_state_the_Due.{Due}
 use Rattle.array_reshaping.specs.array_specs_Calls.{IsEnterDue, IsCopyDue, IsRecordDue, IsZeroDue, IsStepTaken, IsNextUnsure}
 use Rattle.array_reshaping.specs.array_specs_Parts.{left_in}
 use Rattle.array_reshaping.specs.array_reshaping_laws_Steps.{kind_of, resync_behind, IsMarkedBehind, IsStepCaused}
-use Rattle.array_reshaping.specs.array_reshaping_laws_Mending.{IsMendDue, IsResyncEndDue}
+use Rattle.array_reshaping.specs.array_reshaping_laws_Resyncing.{IsResyncDue, IsResyncEndDue}
 use Rattle.array_reshaping.proofs.array_reshaping_laws_DueSteps.{enter-due}
-use Rattle.array_reshaping.proofs.array_reshaping_laws_MendLaws.{mend-due, end-due}
+use Rattle.array_reshaping.proofs.array_reshaping_laws_ResyncLaws.{mend-due, end-due}
 use Rattle.array_reshaping.proofs.Calls.{copy-due, record-due, zero-due, work-same, step-called, err-either, err-first}
 use Rattle.array_reshaping_steps.proofs.stepping.step.Goals as goal
 
 -- ---- of a resync
 
-pub mend_stripe-requires-clause-due : goal.mend_stripe-requires-clause-due
-mend_stripe-requires-clause-due g c =
+pub resync_stripe-requires-clause-due : goal.resync_stripe-requires-clause-due
+resync_stripe-requires-clause-due g c =
     let a = c.moving.inside in
-    subst (λ p. IsMendDue p) c.moving.view_is (mend-due _ (subst (λ due. IsDue a.members.newest a.course a.work.resync due) c.in-Mend.is c.due_step.ensures.ready))
+    subst (λ p. IsResyncDue p) c.moving.view_is (mend-due _ (subst (λ due. IsDue a.members.newest a.course a.work.resync due) c.in-Mend.is c.due_step.ensures.ready))
 
 pub end_resync-requires-clause-due : goal.end_resync-requires-clause-due
 end_resync-requires-clause-due g c =
@@ -134,26 +134,26 @@ returns-in-Record-clause-course g c = err-either c.record_window.result (c.recor
 pub returns-in-Mend-clause-entered : goal.returns-in-Mend-clause-entered
 returns-in-Mend-clause-entered g c =
     let now = c.args.moving.now in
-    let new = c.mend_stripe.new.self in
+    let new = c.resync_stripe.new.self in
     let due : Mend ≡ due_of now.parts.members.newest now.course now.parts.work.resync = sym c.in-Mend.is ∙ c.due_step.ensures.value ∙ ap (λ p. due_of p.parts.members.newest p.course p.parts.work.resync) c.moving.view_is in
-    subst (λ (d : Due). IsStepTaken c.args.who now.parts.entries new.parts.entries (kind_of d) (left_in new.parts.work new.parts.members new.course new.ahead) c.mend_stripe.result) due c.mend_stripe.ensures.entered
+    subst (λ (d : Due). IsStepTaken c.args.who now.parts.entries new.parts.entries (kind_of d) (left_in new.parts.work new.parts.members new.course new.ahead) c.resync_stripe.result) due c.resync_stripe.ensures.entered
 
 pub returns-in-Mend-clause-clean : goal.returns-in-Mend-clause-clean
 returns-in-Mend-clause-clean g c =
     let now = c.args.moving.now in
-    let new = c.mend_stripe.new.self in
+    let new = c.resync_stripe.new.self in
     let due : Mend ≡ due_of now.parts.members.newest now.course now.parts.work.resync = sym c.in-Mend.is ∙ c.due_step.ensures.value ∙ ap (λ p. due_of p.parts.members.newest p.course p.parts.work.resync) c.moving.view_is in
-    subst (λ (d : Due). IsMarkedBehind d now.parts.members new.parts.members c.mend_stripe.result) due c.mend_stripe.ensures.clean
+    subst (λ (d : Due). IsMarkedBehind d now.parts.members new.parts.members c.resync_stripe.result) due c.resync_stripe.ensures.clean
 
 pub returns-in-Mend-clause-caused : goal.returns-in-Mend-clause-caused
 returns-in-Mend-clause-caused g c =
     let now = c.args.moving.now in
-    let new = c.mend_stripe.new.self in
+    let new = c.resync_stripe.new.self in
     let due : Mend ≡ due_of now.parts.members.newest now.course now.parts.work.resync = sym c.in-Mend.is ∙ c.due_step.ensures.value ∙ ap (λ p. due_of p.parts.members.newest p.course p.parts.work.resync) c.moving.view_is in
-    subst (λ (d : Due). IsStepCaused d now.parts.work.resync now.parts.backup now.parts.members new.parts.members (g.B.Bank.faults_of now.parts.bank) (g.B.Bank.faults_of new.parts.bank) c.mend_stripe.result) due c.mend_stripe.ensures.caused
+    subst (λ (d : Due). IsStepCaused d now.parts.work.resync now.parts.backup now.parts.members new.parts.members (g.B.Bank.faults_of now.parts.bank) (g.B.Bank.faults_of new.parts.bank) c.resync_stripe.result) due c.resync_stripe.ensures.caused
 
 pub returns-in-Mend-clause-course : goal.returns-in-Mend-clause-course
-returns-in-Mend-clause-course g c = err-first c.mend_stripe.result (c.mend_stripe.new.self.course ≡ c.args.moving.now.course) (IsNextUnsure c.args.moving.now.parts.members c.mend_stripe.new.self.course) c.mend_stripe.ensures.course
+returns-in-Mend-clause-course g c = err-first c.resync_stripe.result (c.resync_stripe.new.self.course ≡ c.args.moving.now.course) (IsNextUnsure c.args.moving.now.parts.members c.resync_stripe.new.self.course) c.resync_stripe.ensures.course
 
 -- ---- end_resync
 

@@ -53,12 +53,12 @@ invariant_of-moving g c =
     c.args.who end (Refused refusal) was.kept goes (not_254 c.args.who.caller c.requires.caller) c.ops-end.ensures.count (quiet-refusal refusal) (λ told is. is)
     (λ t right. refused-right (world_in given tape scope a.epoch.first) a.epoch.entries.items given a.members was.kept.members_are.placed (was.kept.gone t right) (was.kept.levelled t right) refusal c.in-Some.ensures) in
     ready (entries_of c.args.who end (Refused refusal ∷ [])) was (grows-none (λ t. refl)) (shapes-same a.members.newest) kept
-    refl (λ slot. omega arith) (alone-keeps c.args.who end (Refused refusal) (λ n. refl) (λ limit. refl)) (λ none whole. whole) refl (scope-same given (Some a.backup) refl c.enter.ensures.uuid c.enter.ensures.given) c.enter.ensures.first refl c.enter.ensures.items
-    (omega (arith, c.enter.ensures.room, was.room_left, some))
+    refl (λ slot. omega arith) (alone-keeps c.args.who end (Refused refusal) (λ n. refl) (λ limit. refl)) (λ none whole. whole) refl (scope-same given (Some a.backup) refl c.append_entry.ensures.uuid c.append_entry.ensures.given) c.append_entry.ensures.first refl c.append_entry.ensures.items
+    (omega (arith, c.append_entry.ensures.room, was.room_left, some))
 
 pub returns-in-Some-clause-entered : goal.returns-in-Some-clause-entered
 returns-in-Some-clause-entered g c =
-    rw (← c.moving.view_is) (behind-alone c.args.who c.ops-end.result (Refused c.in-Some.refusal) refl c.enter.ensures.items)
+    rw (← c.moving.view_is) (behind-alone c.args.who c.ops-end.result (Refused c.in-Some.refusal) refl c.append_entry.ensures.items)
 
 pub returns-in-Some-clause-called : goal.returns-in-Some-clause-called
 returns-in-Some-clause-called g c =
@@ -69,10 +69,10 @@ returns-in-Some-clause-called g c =
     let end = c.ops-end.result in
     let refusal = c.in-Some.refusal in
     rw (← c.moving.view_is) (called (grows-none (λ t. refl)) (moved-same given given a.members a.members refl refl was.kept.members_are.placed was.kept.members_are.unlost)
-    (ended-behind (g.B.Bank.tape a.bank) c.enter.new.epoch.first a.epoch.entries.items c.args.who end [] (Refused refusal) c.enter.ensures.items c.ops-end.ensures.count)
-    (alone-lossless a.members faults faults a.epoch.entries.items a.epoch.entries.items c.enter.new.epoch.entries.items c.args.who end (Refused refusal) tt refl c.enter.ensures.items)
+    (ended-behind (g.B.Bank.tape a.bank) c.append_entry.new.epoch.first a.epoch.entries.items c.args.who end [] (Refused refusal) c.append_entry.ensures.items c.ops-end.ensures.count)
+    (alone-lossless a.members faults faults a.epoch.entries.items a.epoch.entries.items c.append_entry.new.epoch.entries.items c.args.who end (Refused refusal) tt refl c.append_entry.ensures.items)
     (λ slot. omega arith)
-    (record { uuid = c.enter.ensures.uuid; given = c.enter.ensures.given; first = c.enter.ensures.first; backup = refl; work = refl; ahead = refl; limit = refl })
+    (record { uuid = c.append_entry.ensures.uuid; given = c.append_entry.ensures.given; first = c.append_entry.ensures.first; backup = refl; work = refl; ahead = refl; limit = refl })
     (λ t. (was.kept.recorded t).begun))
 
 -- ---- the roles
@@ -85,16 +85,16 @@ overflow_cast-count g c =
     let long = c.len-count.ensures in
     omega (arith, few, roles, long)
 
-pub vacant_roles-before-requires-clause-few : goal.vacant_roles-before-requires-clause-few
-vacant_roles-before-requires-clause-few g c =
+pub unassigned_roles-before-requires-clause-few : goal.unassigned_roles-before-requires-clause-few
+unassigned_roles-before-requires-clause-few g c =
     let members = c.moving.invariant.kept.members_are in
     let few = few-roles c.moving.inside.members.newest members.placed.fit.valid in
     let roles = members.backed.roles in
     let long = c.len-count.ensures in
     omega (arith, few, roles, long)
 
-pub newly_vacant-roles-requires-clause-few : goal.newly_vacant-roles-requires-clause-few
-newly_vacant-roles-requires-clause-few g c =
+pub newly_unassigned-roles-requires-clause-few : goal.newly_unassigned-roles-requires-clause-few
+newly_unassigned-roles-requires-clause-few g c =
     let members = c.moving.invariant.kept.members_are in
     let few = few-roles c.moving.inside.members.newest members.placed.fit.valid in
     let roles = members.backed.roles in
@@ -128,20 +128,20 @@ invariant_of-moving-in-Some-refusal g c =
     let tape' = g.B.Bank.tape c.zero-done.new.bank in
     let before = g.B.Bank.faults_of a.bank in
     let after = g.B.Bank.faults_of c.zero-done.new.bank in
-    let roles = c.newly_vacant-roles.result in
+    let roles = c.newly_unassigned-roles.result in
     let spares = c.zero-done.result.spares in
     let end = c.ops-end-2.result in
     let refusal = c.in-Some-refusal.refusal in
-    let since = lost-since given a.members m c.len-count.result c.vacant_roles-before.result roles spares before after here.placed did.moved did.failed
-    (c.len-count.ensures ∙ here.backed.roles) c.vacant_roles-before.ensures c.newly_vacant-roles.ensures in
+    let since = lost-since given a.members m c.len-count.result c.unassigned_roles-before.result roles spares before after here.placed did.moved did.failed
+    (c.len-count.ensures ∙ here.backed.roles) c.unassigned_roles-before.ensures c.newly_unassigned-roles.ensures in
     let step = zero-step given a.members m tape tape' c.final_in-shape.result c.stripe_to_zero-stripe.result a.course.zeroed roles spares before after c.final_in-shape.ensures c.stripe_to_zero-stripe.ensures.value
     did.moved did.grows since did.clean did.rise did.unused did.others did.safe in
     let kept = zero-refused a.course a.ahead c.args.who end roles spares is due.through synced was.kept (live-of was.kept c.in_default.ensures) goes c.requires.caller c.ops-end-2.ensures.count step refusal
     (many-of m c.zero-done.result.refusal refusal c.in-Some-refusal.is did.refused) in
     with-buffer (let len = (with_items a.buffer c.zero-done.new.scratch).ok.0 in let ok = a.buffer.ok.0 in omega (arith, len, ok, was.buffer_fits))
     (ready (entries_of c.args.who end (losses_of roles spares ++ Refused refusal ∷ [])) was did.grows (shapes-moved given a.members m did.moved) kept
-    refl did.counts (behind-keeps c.args.who end roles spares (Refused refusal) (λ n. refl) (λ limit. refl)) (behind-whole tape' (scope_in given a.epoch.uuid a.epoch.given (Some a.backup)) a.epoch.first a.epoch.entries.items c.args.who end roles spares (Refused refusal) did.moved (missing-since roles did.moved since.vacant)) did.given (scope-same given (Some a.backup) did.given c.enter_behind.ensures.uuid c.enter_behind.ensures.given) c.enter_behind.ensures.first refl c.enter_behind.ensures.items
-    (omega (arith, c.enter_behind.ensures.room, was.room_left, some)))
+    refl did.counts (behind-keeps c.args.who end roles spares (Refused refusal) (λ n. refl) (λ limit. refl)) (behind-whole tape' (scope_in given a.epoch.uuid a.epoch.given (Some a.backup)) a.epoch.first a.epoch.entries.items c.args.who end roles spares (Refused refusal) did.moved (missing-since roles did.moved since.vacant)) did.given (scope-same given (Some a.backup) did.given c.append_after_losses.ensures.uuid c.append_after_losses.ensures.given) c.append_after_losses.ensures.first refl c.append_after_losses.ensures.items
+    (omega (arith, c.append_after_losses.ensures.room, was.room_left, some)))
 
 pub returns-in-Some-refusal-clause-called : goal.returns-in-Some-refusal-clause-called
 returns-in-Some-refusal-clause-called g c =
@@ -153,17 +153,17 @@ returns-in-Some-refusal-clause-called g c =
     let did = c.zero-done.ensures in
     let before = g.B.Bank.faults_of a.bank in
     let after = g.B.Bank.faults_of c.zero-done.new.bank in
-    let roles = c.newly_vacant-roles.result in
+    let roles = c.newly_unassigned-roles.result in
     let spares = c.zero-done.result.spares in
     let end = c.ops-end-2.result in
     let refusal = c.in-Some-refusal.refusal in
-    let since = lost-since given a.members m c.len-count.result c.vacant_roles-before.result roles spares before after here.placed did.moved did.failed
-    (c.len-count.ensures ∙ here.backed.roles) c.vacant_roles-before.ensures c.newly_vacant-roles.ensures in
+    let since = lost-since given a.members m c.len-count.result c.unassigned_roles-before.result roles spares before after here.placed did.moved did.failed
+    (c.len-count.ensures ∙ here.backed.roles) c.unassigned_roles-before.ensures c.newly_unassigned-roles.ensures in
     rw (← c.moving.view_is) (called did.grows did.moved
-    (ended-behind (g.B.Bank.tape c.zero-done.new.bank) c.enter_behind.new.epoch.first a.epoch.entries.items c.args.who end (losses_of roles spares) (Refused refusal) c.enter_behind.ensures.items c.ops-end-2.ensures.count)
-    (losses-behind a.members m before after a.epoch.entries.items a.epoch.entries.items c.enter_behind.new.epoch.entries.items c.args.who end roles spares (Refused refusal) since tt refl c.enter_behind.ensures.items)
+    (ended-behind (g.B.Bank.tape c.zero-done.new.bank) c.append_after_losses.new.epoch.first a.epoch.entries.items c.args.who end (losses_of roles spares) (Refused refusal) c.append_after_losses.ensures.items c.ops-end-2.ensures.count)
+    (losses-behind a.members m before after a.epoch.entries.items a.epoch.entries.items c.append_after_losses.new.epoch.entries.items c.args.who end roles spares (Refused refusal) since tt refl c.append_after_losses.ensures.items)
     did.counts
-    (record { uuid = c.enter_behind.ensures.uuid; given = c.enter_behind.ensures.given; first = c.enter_behind.ensures.first; backup = refl; work = refl; ahead = refl; limit = refl })
+    (record { uuid = c.append_after_losses.ensures.uuid; given = c.append_after_losses.ensures.given; first = c.append_after_losses.ensures.first; backup = refl; work = refl; ahead = refl; limit = refl })
     (λ t. (was.kept.recorded t).begun))
 
 pub returns-in-Some-refusal-clause-caused : goal.returns-in-Some-refusal-clause-caused
@@ -205,20 +205,20 @@ invariant_of-moving-2 g c =
     let tape' = g.B.Bank.tape c.zero-done.new.bank in
     let before = g.B.Bank.faults_of a.bank in
     let after = g.B.Bank.faults_of c.zero-done.new.bank in
-    let roles = c.newly_vacant-roles.result in
+    let roles = c.newly_unassigned-roles.result in
     let spares = c.zero-done.result.spares in
     let end = c.ops-end-2.result in
     let left = c.all_left-left.result in
-    let since = lost-since given a.members m c.len-count.result c.vacant_roles-before.result roles spares before after here.placed did.moved did.failed
-    (c.len-count.ensures ∙ here.backed.roles) c.vacant_roles-before.ensures c.newly_vacant-roles.ensures in
+    let since = lost-since given a.members m c.len-count.result c.unassigned_roles-before.result roles spares before after here.placed did.moved did.failed
+    (c.len-count.ensures ∙ here.backed.roles) c.unassigned_roles-before.ensures c.newly_unassigned-roles.ensures in
     let step = zero-step given a.members m tape tape' c.final_in-shape.result c.stripe_to_zero-stripe.result a.course.zeroed roles spares before after c.final_in-shape.ensures c.stripe_to_zero-stripe.ensures.value
     did.moved did.grows since did.clean did.rise did.unused did.others did.safe in
     let kept = zero-done a.course a.ahead c.args.who end roles spares is due.through synced was.kept (live-of was.kept c.in_default.ensures) goes c.requires.caller c.ops-end-2.ensures.count step left c.all_left-left.ensures more
     (rows-zeroed given a.members m tape' c.final_in-shape.result c.stripe_to_zero-stripe.result a.course.zeroed c.final_in-shape.ensures c.stripe_to_zero-stripe.ensures.value (did.stands c.in_default-refusal.is)) in
     with-buffer (let len = (with_items a.buffer c.zero-done.new.scratch).ok.0 in let ok = a.buffer.ok.0 in omega (arith, len, ok, was.buffer_fits))
     (ready (entries_of c.args.who end (losses_of roles spares ++ Step ZeroesStripe left ∷ [])) was did.grows (shapes-moved given a.members m did.moved) kept
-    refl did.counts (behind-keeps c.args.who end roles spares (Step ZeroesStripe left) (λ n. refl) (λ limit. refl)) (behind-whole tape' (scope_in given a.epoch.uuid a.epoch.given (Some a.backup)) a.epoch.first a.epoch.entries.items c.args.who end roles spares (Step ZeroesStripe left) did.moved (missing-since roles did.moved since.vacant)) did.given (scope-same given (Some a.backup) did.given c.enter_behind-2.ensures.uuid c.enter_behind-2.ensures.given) c.enter_behind-2.ensures.first refl c.enter_behind-2.ensures.items
-    (omega (arith, c.enter_behind-2.ensures.room, was.room_left, some)))
+    refl did.counts (behind-keeps c.args.who end roles spares (Step ZeroesStripe left) (λ n. refl) (λ limit. refl)) (behind-whole tape' (scope_in given a.epoch.uuid a.epoch.given (Some a.backup)) a.epoch.first a.epoch.entries.items c.args.who end roles spares (Step ZeroesStripe left) did.moved (missing-since roles did.moved since.vacant)) did.given (scope-same given (Some a.backup) did.given c.append_after_losses-2.ensures.uuid c.append_after_losses-2.ensures.given) c.append_after_losses-2.ensures.first refl c.append_after_losses-2.ensures.items
+    (omega (arith, c.append_after_losses-2.ensures.room, was.room_left, some)))
 
 pub returns-clause-called : goal.returns-clause-called
 returns-clause-called g c =
@@ -230,17 +230,17 @@ returns-clause-called g c =
     let did = c.zero-done.ensures in
     let before = g.B.Bank.faults_of a.bank in
     let after = g.B.Bank.faults_of c.zero-done.new.bank in
-    let roles = c.newly_vacant-roles.result in
+    let roles = c.newly_unassigned-roles.result in
     let spares = c.zero-done.result.spares in
     let end = c.ops-end-2.result in
     let event = Step ZeroesStripe c.all_left-left.result in
-    let since = lost-since given a.members m c.len-count.result c.vacant_roles-before.result roles spares before after here.placed did.moved did.failed
-    (c.len-count.ensures ∙ here.backed.roles) c.vacant_roles-before.ensures c.newly_vacant-roles.ensures in
+    let since = lost-since given a.members m c.len-count.result c.unassigned_roles-before.result roles spares before after here.placed did.moved did.failed
+    (c.len-count.ensures ∙ here.backed.roles) c.unassigned_roles-before.ensures c.newly_unassigned-roles.ensures in
     rw (← c.moving.view_is) (called did.grows did.moved
-    (ended-behind (g.B.Bank.tape c.zero-done.new.bank) c.enter_behind-2.new.epoch.first a.epoch.entries.items c.args.who end (losses_of roles spares) event c.enter_behind-2.ensures.items c.ops-end-2.ensures.count)
-    (losses-behind a.members m before after a.epoch.entries.items a.epoch.entries.items c.enter_behind-2.new.epoch.entries.items c.args.who end roles spares event since tt refl c.enter_behind-2.ensures.items)
+    (ended-behind (g.B.Bank.tape c.zero-done.new.bank) c.append_after_losses-2.new.epoch.first a.epoch.entries.items c.args.who end (losses_of roles spares) event c.append_after_losses-2.ensures.items c.ops-end-2.ensures.count)
+    (losses-behind a.members m before after a.epoch.entries.items a.epoch.entries.items c.append_after_losses-2.new.epoch.entries.items c.args.who end roles spares event since tt refl c.append_after_losses-2.ensures.items)
     did.counts
-    (record { uuid = c.enter_behind-2.ensures.uuid; given = c.enter_behind-2.ensures.given; first = c.enter_behind-2.ensures.first; backup = refl; work = refl; ahead = refl; limit = refl })
+    (record { uuid = c.append_after_losses-2.ensures.uuid; given = c.append_after_losses-2.ensures.given; first = c.append_after_losses-2.ensures.first; backup = refl; work = refl; ahead = refl; limit = refl })
     (λ t. (was.kept.recorded t).begun))
 
 -- ---- what the searches would find too, for longer
@@ -248,8 +248,8 @@ returns-clause-called g c =
 pub check_going-requires : goal.check_going-requires
 check_going-requires g c = subst (λ p. IsCallGoing p.parts.entries c.args.who) (sym c.moving.view_is) c.requires.open
 
-pub enter-requires-clause-number : goal.enter-requires-clause-number
-enter-requires-clause-number g c = c.check_going.ensures
+pub append_entry-requires-clause-number : goal.append_entry-requires-clause-number
+append_entry-requires-clause-number g c = c.check_going.ensures
 
 pub returns-in-Some-clause-clean : goal.returns-in-Some-clause-clean
 returns-in-Some-clause-clean g c = ap (λ p. is_clean p.parts.members.newest) c.moving.view_is
@@ -293,19 +293,19 @@ pub zero-done-requires-clause-scratch : goal.zero-done-requires-clause-scratch
 zero-done-requires-clause-scratch g c =
     scratch-for (length c.moving.inside.buffer.items) (length c.as_mut_slice.result.now) (ap (λ (l : List ℕ). length l) c.as_mut_slice.ensures.value) c.moving.invariant.buffer_fits
 
-pub newly_vacant-roles-requires-clause-known : goal.newly_vacant-roles-requires-clause-known
-newly_vacant-roles-requires-clause-known g c =
+pub newly_unassigned-roles-requires-clause-known : goal.newly_unassigned-roles-requires-clause-known
+newly_unassigned-roles-requires-clause-known g c =
     roles-moved (g.B.Bank.given c.moving.inside.bank) c.moving.inside.members c.zero-done.new.members c.zero-done.ensures.moved c.len-count.result c.len-count.ensures c.moving.invariant.kept.members_are.placed.roles
 
-pub enter_behind-requires-clause-room : goal.enter_behind-requires-clause-room
-enter_behind-requires-clause-room g c = room-behind c.moving.inside.steps c.args.moving.now.parts.steps c.moving.inside.epoch.entries.room (ap (λ p. p.parts.steps) c.moving.view_is) c.requires.room c.moving.invariant.room_left
+pub append_after_losses-requires-clause-room : goal.append_after_losses-requires-clause-room
+append_after_losses-requires-clause-room g c = room-behind c.moving.inside.steps c.args.moving.now.parts.steps c.moving.inside.epoch.entries.room (ap (λ p. p.parts.steps) c.moving.view_is) c.requires.room c.moving.invariant.room_left
 
-pub enter_behind-requires-clause-number : goal.enter_behind-requires-clause-number
-enter_behind-requires-clause-number g c = c.check_going.ensures
+pub append_after_losses-requires-clause-number : goal.append_after_losses-requires-clause-number
+append_after_losses-requires-clause-number g c = c.check_going.ensures
 
 pub returns-in-Some-refusal-clause-entered : goal.returns-in-Some-refusal-clause-entered
 returns-in-Some-refusal-clause-entered g c =
-    rw (← c.moving.view_is) (record { roles = c.newly_vacant-roles.result; spares = c.zero-done.result.spares; end = c.ops-end-2.result; is = c.enter_behind.ensures.items })
+    rw (← c.moving.view_is) (record { roles = c.newly_unassigned-roles.result; spares = c.zero-done.result.spares; end = c.ops-end-2.result; is = c.append_after_losses.ensures.items })
 
 pub returns-in-Some-refusal-clause-clean : goal.returns-in-Some-refusal-clause-clean
 returns-in-Some-refusal-clause-clean g c = c.zero-done.ensures.clean ∙ ap (λ p. is_clean p.parts.members.newest) c.moving.view_is
@@ -341,15 +341,15 @@ pub all_left-left-requires-clause-sound : goal.all_left-left-requires-clause-sou
 all_left-left-requires-clause-sound g c =
     sound-moved (g.B.Bank.given c.moving.inside.bank) c.moving.inside.members c.zero-done.new.members c.zero-done.ensures.moved (phases_of c.moving.inside.ahead) c.moving.invariant.planned
 
-pub enter_behind-requires-2-clause-room : goal.enter_behind-requires-2-clause-room
-enter_behind-requires-2-clause-room g c = room-behind c.moving.inside.steps c.args.moving.now.parts.steps c.moving.inside.epoch.entries.room (ap (λ p. p.parts.steps) c.moving.view_is) c.requires.room c.moving.invariant.room_left
+pub append_after_losses-requires-2-clause-room : goal.append_after_losses-requires-2-clause-room
+append_after_losses-requires-2-clause-room g c = room-behind c.moving.inside.steps c.args.moving.now.parts.steps c.moving.inside.epoch.entries.room (ap (λ p. p.parts.steps) c.moving.view_is) c.requires.room c.moving.invariant.room_left
 
-pub enter_behind-requires-2-clause-number : goal.enter_behind-requires-2-clause-number
-enter_behind-requires-2-clause-number g c = c.check_going.ensures
+pub append_after_losses-requires-2-clause-number : goal.append_after_losses-requires-2-clause-number
+append_after_losses-requires-2-clause-number g c = c.check_going.ensures
 
 pub returns-clause-entered : goal.returns-clause-entered
 returns-clause-entered g c =
-    rw (← c.moving.view_is) (taken-behind c.args.who c.ops-end-2.result c.newly_vacant-roles.result c.zero-done.result.spares ZeroesStripe c.all_left-left.result _ c.all_left-left.ensures c.enter_behind-2.ensures.items)
+    rw (← c.moving.view_is) (taken-behind c.args.who c.ops-end-2.result c.newly_unassigned-roles.result c.zero-done.result.spares ZeroesStripe c.all_left-left.result _ c.all_left-left.ensures c.append_after_losses-2.ensures.items)
 
 pub returns-clause-clean : goal.returns-clause-clean
 returns-clause-clean g c = c.zero-done.ensures.clean ∙ ap (λ p. is_clean p.parts.members.newest) c.moving.view_is

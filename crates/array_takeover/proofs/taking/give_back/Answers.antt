@@ -16,9 +16,9 @@ of_pieces-requires g c =
     let given = g.B.Bank.given a.bank in
     let end = c.ops-end.result in
     record {
-      ready = ready {scope' = scope_in given c.enter.new.epoch.uuid c.enter.new.epoch.given a.backup} (entries_of c.args.who end (Refused c.args.refusal ∷ [])) was (rows-same a.members.newest)
+      ready = ready {scope' = scope_in given c.append_entry.new.epoch.uuid c.append_entry.new.epoch.given a.backup} (entries_of c.args.who end (Refused c.args.refusal ∷ [])) was (rows-same a.members.newest)
           (untaken-stands c.args.who end c.requires.why.0 c.args.refusal was.kept c.requires.open c.requires.caller c.ops-end.ensures.count c.requires.why.1)
           (turned-plain (turns-first a.epoch.entries.items (entries_of c.args.who end (Refused c.args.refusal ∷ [])) c.requires.told))
-          (λ slot. omega arith) (alone-keeps c.args.who end (Refused c.args.refusal) (λ n. refl) (λ limit. refl)) refl (scope-same given a.backup refl c.enter.ensures.uuid c.enter.ensures.given) c.enter.ensures.first refl c.enter.ensures.items
-          (let had = was.room_left in let room = c.enter.ensures.room in let some = c.requires.room in omega (arith, had, room, some));
+          (λ slot. omega arith) (alone-keeps c.args.who end (Refused c.args.refusal) (λ n. refl) (λ limit. refl)) refl (scope-same given a.backup refl c.append_entry.ensures.uuid c.append_entry.ensures.given) c.append_entry.ensures.first refl c.append_entry.ensures.items
+          (let had = was.room_left in let room = c.append_entry.ensures.room in let some = c.requires.room in omega (arith, had, room, some));
     }

@@ -16,8 +16,8 @@ overflow_cast-count c =
 pub overflow_add-result : goal.overflow_add-result
 overflow_add-result c = let few = left-few c.args.work.now c.args.members.now c.requires.fit.valid.old c.requires.size in omega (arith, few, c.steps_left-own.ensures, c.planned_left.ensures.few)
 
-pub vacant_roles-requires-clause-few : goal.vacant_roles-requires-clause-few
-vacant_roles-requires-clause-few c =
+pub unassigned_roles-requires-clause-few : goal.unassigned_roles-requires-clause-few
+unassigned_roles-requires-clause-few c =
     let few = (limited (shape_of c.args.members.now.newest) c.requires.fit.valid.old).most in
     let same = ap (λ (s : Shape). s.disks) c.requires.shape in
     let count = c.requires.roles in

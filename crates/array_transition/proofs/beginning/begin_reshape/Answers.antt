@@ -107,7 +107,7 @@ of_pieces-requires g c =
     let given = g.B.Bank.given p.bank in
     let tape = g.B.Bank.tape p.bank in
     let bank = c.begin-begun.new.bank in
-    let epoch = c.enter.new.epoch in
+    let epoch = c.append_entry.new.epoch in
     let did = c.begin-begun.ensures in
     let refusal = c.in-Some-refusal.refusal in
     let is = c.in-Some-refusal.is in
@@ -130,9 +130,9 @@ of_pieces-requires g c =
           (g.B.Bank.faults_of bank) (p.steps - 1) epoch.entries.room (vec_capacity p.rows) (length p.buffer.items) (vec_capacity p.far_rows) (length p.far_buffer.items)) (sym none.members)
           (ready (entries_of c.args.who end (Refused BackupFault ∷ [])) was (rows-same p.members.newest) kept
           (turned-plain (turns-first p.epoch.entries.items (entries_of c.args.who end (Refused BackupFault ∷ [])) (ahead-told (phases_of p.ahead) (Reshape c.args.to) (phases_of c.args.behind) was.ahead_told next))) did.counts (alone-keeps c.args.who end (Refused BackupFault) (λ n. refl) (λ limit. refl))
-          did.given (scope-same given p.backup did.given c.enter.ensures.uuid c.enter.ensures.given) c.enter.ensures.first refl
-          (c.enter.ensures.items ∙ ap (λ (r : Refusal). p.epoch.entries.items ++ entries_of c.args.who end (Refused r ∷ [])) fault)
-          (let had = was.room_left in let room = c.enter.ensures.room in omega (arith, had, room, some)));
+          did.given (scope-same given p.backup did.given c.append_entry.ensures.uuid c.append_entry.ensures.given) c.append_entry.ensures.first refl
+          (c.append_entry.ensures.items ∙ ap (λ (r : Refusal). p.epoch.entries.items ++ entries_of c.args.who end (Refused r ∷ [])) fault)
+          (let had = was.room_left in let room = c.append_entry.ensures.room in omega (arith, had, room, some)));
     }
 
 pub returns-in-Some-refusal-clause-refused : goal.returns-in-Some-refusal-clause-refused
@@ -143,14 +143,14 @@ returns-in-Some-refusal-clause-refused g c =
     let some : 1 ≤ p.steps = subst (λ s. 1 ≤ s.parts.steps) c.take_apart-pieces.ensures.same c.requires.room in
     back-as g.B.Bank.given g.B.Bank.tape c.args.who refusal c.args.still c.of_pieces.result _ _ c.take_apart-pieces.ensures.same c.of_pieces.ensures.same (record {
       end = end;
-      entered = c.enter.ensures.items;
-      ended = ended-behind (g.B.Bank.tape c.begin-begun.new.bank) c.enter.new.epoch.first p.epoch.entries.items c.args.who end [] (Refused refusal) c.enter.ensures.items c.ops-end.ensures.count;
+      entered = c.append_entry.ensures.items;
+      ended = ended-behind (g.B.Bank.tape c.begin-begun.new.bank) c.append_entry.new.epoch.first p.epoch.entries.items c.args.who end [] (Refused refusal) c.append_entry.ensures.items c.ops-end.ensures.count;
       members = (c.begin-begun.ensures.refused refusal c.in-Some-refusal.is).members;
       others = λ t slot k far which. c.begin-begun.ensures.others t slot k far (others-of p.backup c.in-Some-backup.backup slot k c.in-Some-backup.is which);
       course = refl;
       ahead = refl;
       steps = omega (arith, some);
-      same = record { uuid = c.enter.ensures.uuid; given = c.enter.ensures.given; first = c.enter.ensures.first; backup = refl; work = refl; limit = refl };
+      same = record { uuid = c.append_entry.ensures.uuid; given = c.append_entry.ensures.given; first = c.append_entry.ensures.first; backup = refl; work = refl; limit = refl };
     })
 
 pub returns-in-Some-refusal-clause-caused : goal.returns-in-Some-refusal-clause-caused
@@ -388,8 +388,8 @@ begin-begun-requires-clause-within g c =
     has-one (phase_window (shape_of p.members.newest) p.members.newest.size (Reshape c.args.to)) ((g.B.Bank.given p.bank).sectors c.in-Some-backup.backup)
     (backup-here (g.B.Bank.given p.bank) p.members c.args.to p.backup c.in-Some-backup.backup backed c.in-Some-backup.is).room
 
-pub enter-requires-clause-room : goal.enter-requires-clause-room
-enter-requires-clause-room g c =
+pub append_entry-requires-clause-room : goal.append_entry-requires-clause-room
+append_entry-requires-clause-room g c =
     room-for 1 c.take_apart-pieces.result.steps c.take_apart-pieces.result.epoch.entries.room c.take_apart-pieces.ensures.ready.room_left (subst (λ s. 1 ≤ s.parts.steps) c.take_apart-pieces.ensures.same c.requires.room) (omega arith)
 
 pub enter_begun-requires-clause-room : goal.enter_begun-requires-clause-room

@@ -15,7 +15,7 @@ returns-clause-items c =
     let first = entries_of a.who a.end (Step Begun a.told.now.left ∷ []) in
     let sized = entries_of a.who a.end (begun_length a.told.now.back a.told.now.size) in
     let lost = entries_of a.who a.end (losses_of a.told.now.roles a.told.now.spares) in
-    c.enter_lost.ensures.items
-    ∙ ap (λ (l : List Entry). l ++ lost) (c.enter_length.ensures.items ∙ ap (λ (l : List Entry). l ++ sized) c.enter.ensures.items)
+    c.append_lost.ensures.items
+    ∙ ap (λ (l : List Entry). l ++ lost) (c.enter_length.ensures.items ∙ ap (λ (l : List Entry). l ++ sized) c.append_entry.ensures.items)
     ∙ append_assoc (old ++ first) sized lost ∙ append_assoc old first (sized ++ lost)
     ∙ ap (λ (l : List Entry). old ++ (first ++ l)) (sym (entries-both a.who a.end (begun_length a.told.now.back a.told.now.size) (losses_of a.told.now.roles a.told.now.spares)))

@@ -9,8 +9,8 @@ overflow_cast-count c =
     let long = c.len-count.ensures in
     omega (arith, few, count, long)
 
-pub vacant_roles-requires-clause-few : goal.vacant_roles-requires-clause-few
-vacant_roles-requires-clause-few c =
+pub unassigned_roles-requires-clause-few : goal.unassigned_roles-requires-clause-few
+unassigned_roles-requires-clause-few c =
     let few = few-roles c.args.members.now.newest c.requires.fit.valid in
     let count = c.requires.roles in
     let long = c.len-count.ensures in

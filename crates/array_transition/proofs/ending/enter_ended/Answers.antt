@@ -16,8 +16,8 @@ returns-clause-items c =
     let step = entries_of a.who a.end (Step Finished a.left ∷ []) in
     let sized = entries_of a.who a.end (ended_length a.told.now.before a.told.now.size) in
     let lost = entries_of a.who a.end (losses_of a.told.now.late a.told.now.late_spares) in
-    c.enter_lost.ensures.items
-    ∙ ap (λ (l : List Entry). l ++ lost) (c.enter_longer.ensures.items ∙ ap (λ (l : List Entry). l ++ sized) (c.enter_behind.ensures.items ∙ ap (λ (l : List Entry). old ++ l) (entries-both a.who a.end (losses_of a.told.now.roles a.told.now.spares) (Step Finished a.left ∷ []))))
+    c.append_lost.ensures.items
+    ∙ ap (λ (l : List Entry). l ++ lost) (c.enter_longer.ensures.items ∙ ap (λ (l : List Entry). l ++ sized) (c.append_after_losses.ensures.items ∙ ap (λ (l : List Entry). old ++ l) (entries-both a.who a.end (losses_of a.told.now.roles a.told.now.spares) (Step Finished a.left ∷ []))))
     ∙ append_assoc (old ++ (early ++ step)) sized lost ∙ append_assoc old (early ++ step) (sized ++ lost)
     ∙ ap (λ (l : List Entry). old ++ l) (append_assoc early step (sized ++ lost))
     ∙ ap (λ (l : List Entry). old ++ (early ++ (step ++ l))) (sym (entries-both a.who a.end (ended_length a.told.now.before a.told.now.size) (losses_of a.told.now.late a.told.now.late_spares)))

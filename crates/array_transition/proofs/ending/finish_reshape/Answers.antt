@@ -16,7 +16,7 @@ use Rattle.array_reshaping_steps.specs.history_Transfers.{last_end_from}
 use Rattle.array_reshaping_steps.specs.reshape_begin_end_Finished.{IsOver}
 use Rattle.array_reshaping_steps.specs.array_members_Lacking.{AreTooMany}
 use Rattle.array_reshaping_steps.specs.array_members_Numbers.{bears}
-use Rattle.array_reshaping_steps.specs.array_members_Placed.{is_vacant}
+use Rattle.array_reshaping_steps.specs.array_members_Placed.{is_unassigned}
 use Rattle.array_reshaping_steps.specs.array_members_Status.{stripes_of}
 use Rattle.array_reshaping_steps.proofs.array_members_Fit.{count-alike, fit-short}
 use Rattle.array_reshaping_steps.proofs.array_members_LackingLaws.{lost-since, never-both}
@@ -69,12 +69,12 @@ of_pieces-requires-clause-ready g c =
     who end (Refused refusal) was.kept goes (not_254 who.caller c.requires.caller) c.ops-end.ensures.count (quiet-refusal refusal) (λ told is. is)
     (λ t right. refused-right (world_in given (g.B.Bank.tape p.bank) scope p.epoch.first) p.epoch.entries.items given p.members was.kept.members_are.placed (was.kept.gone t right) (was.kept.levelled t right) refusal c.in-Some-too_many.ensures) in
     ready (entries_of who end (Refused refusal ∷ [])) was (grows-none (λ t. refl)) (shapes-same p.members.newest) kept
-    refl (λ slot. omega arith) (alone-keeps who end (Refused refusal) (λ n. refl) (λ limit. refl)) (λ none whole. whole) refl (scope-same given p.backup refl c.enter.ensures.uuid c.enter.ensures.given) c.enter.ensures.first refl c.enter.ensures.items
-    (let had = was.room_left in let room = c.enter.ensures.room in omega (arith, had, room, some))
+    refl (λ slot. omega arith) (alone-keeps who end (Refused refusal) (λ n. refl) (λ limit. refl)) (λ none whole. whole) refl (scope-same given p.backup refl c.append_entry.ensures.uuid c.append_entry.ensures.given) c.append_entry.ensures.first refl c.append_entry.ensures.items
+    (let had = was.room_left in let room = c.append_entry.ensures.room in omega (arith, had, room, some))
 
 pub returns-in-Some-too_many-clause-refused : goal.returns-in-Some-too_many-clause-refused
 returns-in-Some-too_many-clause-refused g c =
-    behind-as c.args.who (Refused c.in-Some-too_many.refusal) c.args.moving c.of_pieces.result _ _ c.take_apart-pieces.ensures.same c.of_pieces.ensures.same (behind-alone c.args.who c.ops-end.result (Refused c.in-Some-too_many.refusal) refl c.enter.ensures.items)
+    behind-as c.args.who (Refused c.in-Some-too_many.refusal) c.args.moving c.of_pieces.result _ _ c.take_apart-pieces.ensures.same c.of_pieces.ensures.same (behind-alone c.args.who c.ops-end.result (Refused c.in-Some-too_many.refusal) refl c.append_entry.ensures.items)
 
 pub returns-in-Some-too_many-clause-caused : goal.returns-in-Some-too_many-clause-caused
 returns-in-Some-too_many-clause-caused g c = many-as c.of_pieces.result _ c.in-Some-too_many.refusal c.of_pieces.ensures.same c.in-Some-too_many.ensures
@@ -90,10 +90,10 @@ returns-in-Some-too_many-clause-called g c =
     let refusal = c.in-Some-too_many.refusal in
     called-as g.B.Bank.given g.B.Bank.tape g.B.Bank.faults_of c.args.moving c.of_pieces.result _ _ c.take_apart-pieces.ensures.same c.of_pieces.ensures.same
     (called (grows-none (λ t. refl)) (moved-same given given p.members p.members refl refl was.kept.members_are.placed was.kept.members_are.unlost)
-    (ended-behind (g.B.Bank.tape p.bank) c.enter.new.epoch.first p.epoch.entries.items who end [] (Refused refusal) c.enter.ensures.items c.ops-end.ensures.count)
-    (alone-lossless p.members faults faults p.epoch.entries.items p.epoch.entries.items c.enter.new.epoch.entries.items who end (Refused refusal) tt refl c.enter.ensures.items)
+    (ended-behind (g.B.Bank.tape p.bank) c.append_entry.new.epoch.first p.epoch.entries.items who end [] (Refused refusal) c.append_entry.ensures.items c.ops-end.ensures.count)
+    (alone-lossless p.members faults faults p.epoch.entries.items p.epoch.entries.items c.append_entry.new.epoch.entries.items who end (Refused refusal) tt refl c.append_entry.ensures.items)
     (λ slot. omega arith)
-    (record { uuid = c.enter.ensures.uuid; given = c.enter.ensures.given; first = c.enter.ensures.first; backup = refl; work = refl; ahead = refl; limit = refl })
+    (record { uuid = c.append_entry.ensures.uuid; given = c.append_entry.ensures.given; first = c.append_entry.ensures.first; backup = refl; work = refl; ahead = refl; limit = refl })
     (λ t. (was.kept.recorded t).begun))
 
 -- ---- what is asked of the parts
@@ -108,8 +108,8 @@ finish-done-requires-clause-last g c =
     let due = subst (λ s. due_of s.parts.members.newest s.course s.parts.work.resync ≡ Finish) c.take_apart-pieces.ensures.same c.requires.due in
     (end-due p.members.newest c.take_apart-pieces.result.1 p.work.resync kept.members_are.placed.fit kept.members_are.active kept.course_is kept.progress due).1.last
 
-pub newly_vacant-roles-requires-clause-known : goal.newly_vacant-roles-requires-clause-known
-newly_vacant-roles-requires-clause-known g c =
+pub newly_unassigned-roles-requires-clause-known : goal.newly_unassigned-roles-requires-clause-known
+newly_unassigned-roles-requires-clause-known g c =
     let p = c.take_apart-pieces.result.0 in
     let m = c.finish-done.new.members in
     let moved = (c.finish-done.ensures.refused c.in-Some-refusal.refusal c.in-Some-refusal.is).1 in
@@ -119,8 +119,8 @@ newly_vacant-roles-requires-clause-known g c =
     let then = moved.placed.roles in
     omega (arith, count, long, same, then)
 
-pub newly_vacant-roles-requires-clause-few : goal.newly_vacant-roles-requires-clause-few
-newly_vacant-roles-requires-clause-few g c =
+pub newly_unassigned-roles-requires-clause-few : goal.newly_unassigned-roles-requires-clause-few
+newly_unassigned-roles-requires-clause-few g c =
     let placed = c.take_apart-pieces.ensures.ready.kept.members_are.placed in
     let few = few-roles c.take_apart-pieces.result.0.members.newest placed.fit.valid in
     let count = c.before_end-was.ensures.count in
@@ -159,7 +159,7 @@ of_pieces-requires-in-Some-refusal-clause-ready g c =
     let before = g.B.Bank.faults_of p.bank in
     let after = g.B.Bank.faults_of c.finish-done.new.bank in
     let vacant = c.before_end-was.result.vacant in
-    let roles = c.newly_vacant-roles.result in
+    let roles = c.newly_unassigned-roles.result in
     let spares = c.finish-done.result.spares in
     let end = c.ops-end-2.result in
     let refusal = c.in-Some-refusal.refusal in
@@ -168,15 +168,15 @@ of_pieces-requires-in-Some-refusal-clause-ready g c =
     let failed = flush-failed given p.members m c.finish-done.result.roles spares c.finish-done.result.lost before after (did.refused refusal is).0 here.free moved did.failed in
     let since = lost-since given p.members m c.before_end-was.result.count vacant roles spares before after here.placed moved failed
     (c.before_end-was.ensures.count ∙ here.placed.roles)
-    (λ role. c.before_end-was.ensures.vacant role ∙ ap (λ (n : ℕ). nat_lt role n && is_vacant (reading_of p.members) role) (sym c.before_end-was.ensures.count)) c.newly_vacant-roles.ensures in
+    (λ role. c.before_end-was.ensures.vacant role ∙ ap (λ (n : ℕ). nat_lt role n && is_unassigned (reading_of p.members) role) (sym c.before_end-was.ensures.count)) c.newly_unassigned-roles.ensures in
     let many = subst (λ (o : Option Refusal). MatchOption o (IsOver p.members.newest m.newest) (AreTooMany m)) is did.answer in
     let kept = refused-behind course p.ahead who end roles spares refusal was.kept c.in_default-too_many.ensures goes c.requires.caller c.ops-end-2.ensures.count did.grows moved since (did.untouched refusal is).0 many
     did.rise (did.untouched refusal is).1 did.others (did.kept refusal is) in
     ready (entries_of who end (losses_of roles spares ++ Refused refusal ∷ [])) was did.grows (shapes-moved given p.members m moved) kept
     refl did.counts (behind-keeps who end roles spares (Refused refusal) (λ n. refl) (λ limit. refl))
     (behind-whole (g.B.Bank.tape c.finish-done.new.bank) scope p.epoch.first p.epoch.entries.items who end roles spares (Refused refusal) moved (missing-since roles moved since.vacant))
-    did.given (scope-same given p.backup did.given c.enter_behind.ensures.uuid c.enter_behind.ensures.given) c.enter_behind.ensures.first refl c.enter_behind.ensures.items
-    (let had = was.room_left in let room = c.enter_behind.ensures.room in omega (arith, had, room, some))
+    did.given (scope-same given p.backup did.given c.append_after_losses.ensures.uuid c.append_after_losses.ensures.given) c.append_after_losses.ensures.first refl c.append_after_losses.ensures.items
+    (let had = was.room_left in let room = c.append_after_losses.ensures.room in omega (arith, had, room, some))
 
 pub returns-in-Some-refusal-clause-caused : goal.returns-in-Some-refusal-clause-caused
 returns-in-Some-refusal-clause-caused g c =
@@ -196,7 +196,7 @@ returns-in-Some-refusal-clause-called g c =
     let before = g.B.Bank.faults_of p.bank in
     let after = g.B.Bank.faults_of c.finish-done.new.bank in
     let vacant = c.before_end-was.result.vacant in
-    let roles = c.newly_vacant-roles.result in
+    let roles = c.newly_unassigned-roles.result in
     let spares = c.finish-done.result.spares in
     let end = c.ops-end-2.result in
     let refusal = c.in-Some-refusal.refusal in
@@ -205,12 +205,12 @@ returns-in-Some-refusal-clause-called g c =
     let failed = flush-failed given p.members m c.finish-done.result.roles spares c.finish-done.result.lost before after (did.refused refusal is).0 here.free moved did.failed in
     let since = lost-since given p.members m c.before_end-was.result.count vacant roles spares before after here.placed moved failed
     (c.before_end-was.ensures.count ∙ here.placed.roles)
-    (λ role. c.before_end-was.ensures.vacant role ∙ ap (λ (n : ℕ). nat_lt role n && is_vacant (reading_of p.members) role) (sym c.before_end-was.ensures.count)) c.newly_vacant-roles.ensures in
+    (λ role. c.before_end-was.ensures.vacant role ∙ ap (λ (n : ℕ). nat_lt role n && is_unassigned (reading_of p.members) role) (sym c.before_end-was.ensures.count)) c.newly_unassigned-roles.ensures in
     called-as g.B.Bank.given g.B.Bank.tape g.B.Bank.faults_of c.args.moving c.of_pieces-in-Some-refusal.result _ _ c.take_apart-pieces.ensures.same c.of_pieces-in-Some-refusal.ensures.same (called did.grows moved
-    (ended-behind (g.B.Bank.tape c.finish-done.new.bank) c.enter_behind.new.epoch.first p.epoch.entries.items who end (losses_of roles spares) (Refused refusal) c.enter_behind.ensures.items c.ops-end-2.ensures.count)
-    (losses-behind p.members m before after p.epoch.entries.items p.epoch.entries.items c.enter_behind.new.epoch.entries.items who end roles spares (Refused refusal) since tt refl c.enter_behind.ensures.items)
+    (ended-behind (g.B.Bank.tape c.finish-done.new.bank) c.append_after_losses.new.epoch.first p.epoch.entries.items who end (losses_of roles spares) (Refused refusal) c.append_after_losses.ensures.items c.ops-end-2.ensures.count)
+    (losses-behind p.members m before after p.epoch.entries.items p.epoch.entries.items c.append_after_losses.new.epoch.entries.items who end roles spares (Refused refusal) since tt refl c.append_after_losses.ensures.items)
     did.counts
-    (record { uuid = c.enter_behind.ensures.uuid; given = c.enter_behind.ensures.given; first = c.enter_behind.ensures.first; backup = refl; work = refl; ahead = refl; limit = refl })
+    (record { uuid = c.append_after_losses.ensures.uuid; given = c.append_after_losses.ensures.given; first = c.append_after_losses.ensures.first; backup = refl; work = refl; ahead = refl; limit = refl })
     (λ t. (was.kept.recorded t).begun))
 
 -- ---- it is done
@@ -333,7 +333,7 @@ returns-clause-ended g c =
       spares_kept = spares-kept p.members m roles spares lost before after did.failed;
       losses = ended-losses p.members m roles spares lost before after did.failed told.late told.late_spares
           (late-held p.members m roles spares lost before after did.failed vacant told.late c.before_end-was.ensures.vacant (final-few given p.members here.placed)
-          (λ role. tell.late role ∙ ap (λ (s : Shape). (nat_lt role s.disks && is_vacant (reading_of m) role) && not (has_slot vacant role || has_slot roles role)) over.shape))
+          (λ role. tell.late role ∙ ap (λ (s : Shape). (nat_lt role s.disks && is_unassigned (reading_of m) role) && not (has_slot vacant role || has_slot roles role)) over.shape))
           (λ slot has. (and_parts (has_slot lost slot) (not (has_slot c.before_end-was.result.held slot)) (sym (tell.late_spares slot) ∙ has)).0) c.before_end-was.result.held
           (λ slot has. (and_parts (has_slot lost slot) (not (has_slot c.before_end-was.result.held slot)) (sym (tell.late_spares slot) ∙ has)).1)
           c.before_end-was.ensures.held
@@ -360,8 +360,8 @@ too_many-requires-clause-shapes g c = c.take_apart-pieces.ensures.ready.kept.mem
 pub too_many-requires-clause-roles : goal.too_many-requires-clause-roles
 too_many-requires-clause-roles g c = c.take_apart-pieces.ensures.ready.kept.members_are.placed.roles
 
-pub enter-requires-clause-room : goal.enter-requires-clause-room
-enter-requires-clause-room g c = room-for-two 1 c.take_apart-pieces.result.0.steps c.take_apart-pieces.result.0.epoch.entries.room c.take_apart-pieces.ensures.ready.room_left (subst (λ s. 2 ≤ s.parts.steps) c.take_apart-pieces.ensures.same c.requires.room) (omega arith)
+pub append_entry-requires-clause-room : goal.append_entry-requires-clause-room
+append_entry-requires-clause-room g c = room-for-two 1 c.take_apart-pieces.result.0.steps c.take_apart-pieces.result.0.epoch.entries.room c.take_apart-pieces.ensures.ready.room_left (subst (λ s. 2 ≤ s.parts.steps) c.take_apart-pieces.ensures.same c.requires.room) (omega arith)
 
 pub before_end-was-requires-clause-fit : goal.before_end-was-requires-clause-fit
 before_end-was-requires-clause-fit g c = c.take_apart-pieces.ensures.ready.kept.members_are.placed.fit
@@ -387,8 +387,8 @@ finish-done-requires-clause-active g c = c.take_apart-pieces.ensures.ready.kept.
 pub finish-done-requires-clause-whole : goal.finish-done-requires-clause-whole
 finish-done-requires-clause-whole g c = c.take_apart-pieces.ensures.ready.kept.members_are.whole
 
-pub enter_behind-requires-clause-room : goal.enter_behind-requires-clause-room
-enter_behind-requires-clause-room g c = room-for-two 49 c.take_apart-pieces.result.0.steps c.take_apart-pieces.result.0.epoch.entries.room c.take_apart-pieces.ensures.ready.room_left (subst (λ s. 2 ≤ s.parts.steps) c.take_apart-pieces.ensures.same c.requires.room) (omega arith)
+pub append_after_losses-requires-clause-room : goal.append_after_losses-requires-clause-room
+append_after_losses-requires-clause-room g c = room-for-two 49 c.take_apart-pieces.result.0.steps c.take_apart-pieces.result.0.epoch.entries.room c.take_apart-pieces.ensures.ready.room_left (subst (λ s. 2 ≤ s.parts.steps) c.take_apart-pieces.ensures.same c.requires.room) (omega arith)
 
 pub enter_ended-requires-clause-room : goal.enter_ended-requires-clause-room
 enter_ended-requires-clause-room g c = room-for-two 98 c.take_apart-pieces.result.0.steps c.take_apart-pieces.result.0.epoch.entries.room c.take_apart-pieces.ensures.ready.room_left (subst (λ s. 2 ≤ s.parts.steps) c.take_apart-pieces.ensures.same c.requires.room) (omega arith)
@@ -422,7 +422,7 @@ returns-in-Some-refusal-clause-left_given g c = both-given g.B.Bank.given c.args
 pub returns-in-Some-refusal-clause-refused : goal.returns-in-Some-refusal-clause-refused
 returns-in-Some-refusal-clause-refused g c =
     behind-as c.args.who (Refused c.in-Some-refusal.refusal) c.args.moving c.of_pieces-in-Some-refusal.result _ _ c.take_apart-pieces.ensures.same c.of_pieces-in-Some-refusal.ensures.same
-    (record { roles = c.newly_vacant-roles.result; spares = c.finish-done.result.spares; end = c.ops-end-2.result; is = c.enter_behind.ensures.items })
+    (record { roles = c.newly_unassigned-roles.result; spares = c.finish-done.result.spares; end = c.ops-end-2.result; is = c.append_after_losses.ensures.items })
 
 pub returns-clause-given : goal.returns-clause-given
 returns-clause-given g c = both-given g.B.Bank.given c.args.moving c.of_pieces-2.result _ _ c.take_apart-pieces.ensures.same c.of_pieces-2.ensures.same c.finish-done.ensures.given

@@ -1,5 +1,5 @@
 use Rattle.std.proofs.Common.{◌≡◌, ℕ, ◌≤◌, sym, ◌∙◌, subst, Option, Some, IfSome, arith}
-use Rattle.lane_shared.specs.Worker.{done_in, left_behind}
+use Rattle.lane_shared.specs.Worker.{done_in, left_after}
 use Rattle.lane_shared.specs.Pace.{Paces, asked_by}
 use Rattle.lane_shared.proofs.Done.{on}
 use Rattle.lane_shared.proofs.Turns.{first-turn, turn-more, if-more}
@@ -19,7 +19,7 @@ loop-turns-init g c =
       omega arith,
       omega (arith, is, most),
       omega arith,
-      if-more (left_behind c.take_turn-pass.result.1) (λ (some : 1 ≤ done_in c.take_turn-pass.result.1). omega (arith, is, some)) turn.some,
+      if-more (left_after c.take_turn-pass.result.1) (λ (some : 1 ≤ done_in c.take_turn-pass.result.1). omega (arith, is, some)) turn.some,
     )
 
 pub loop-turns-preserved : goal.loop-turns-preserved
@@ -28,7 +28,7 @@ loop-turns-preserved g c =
     let turn = c.take_turn-next.ensures in
     let is = c.steps_done-done-in-loop-turns.ensures in
     let most = turn.most in
-    let more : left_behind c.loop-turns.last ≡ Some c.in-Some.left = sym c.steps_left.ensures ∙ c.in-Some.is in
+    let more : left_after c.loop-turns.last ≡ Some c.in-Some.left = sym c.steps_left.ensures ∙ c.in-Some.is in
     let few : c.loop-turns.turns ≤ c.loop-turns.done = subst (λ (found : Option ℕ). IfSome found (λ m. c.loop-turns.turns ≤ c.loop-turns.done)) more was.8 in
     let bound = was.6 in
     let test = c.loop-turns-test.true in (
@@ -42,5 +42,5 @@ loop-turns-preserved g c =
       omega (arith, test),
       omega (arith, is, most, bound),
       omega (arith, few),
-      if-more (left_behind c.take_turn-next.result.1) (λ (some : 1 ≤ done_in c.take_turn-next.result.1). omega (arith, is, some, few)) turn.some,
+      if-more (left_after c.take_turn-next.result.1) (λ (some : 1 ≤ done_in c.take_turn-next.result.1). omega (arith, is, some, few)) turn.some,
     )

@@ -1,7 +1,7 @@
 use Rattle.std.proofs.Common.{◌≡◌, ◌+◌, ◌*◌, ◌≤◌, ◌^◌, IfSome, ◌-◌}
 use Rattle.lane_shared.specs.Pace.{Paces, asked_by}
 use Rattle.lane_shared.specs.Carried.{GoesOn, IsOwn}
-use Rattle.lane_shared.specs.Worker.{left_behind, HasWorked}
+use Rattle.lane_shared.specs.Worker.{left_after, HasWorked}
 use Rattle.lane_shared.proofs.worker.run_worker.Given as goal
 
 abbrev pub invariant-loop-turns : goal.invariant-loop-turns
@@ -14,7 +14,7 @@ invariant-loop-turns g l =
     × (l.turns ≤ 2 ^ 40)
     × (l.done ≤ 64 * l.turns)
     × (l.turns ≤ l.done + 1)
-    × IfSome (left_behind l.last) (λ more. l.turns ≤ l.done)
+    × IfSome (left_after l.last) (λ more. l.turns ≤ l.done)
 
 abbrev pub decreases-loop-turns : goal.decreases-loop-turns
 decreases-loop-turns g l = 2 ^ 40 - l.turns

@@ -35,11 +35,11 @@ use Rattle.reshape_begin_end.proofs.finishing.finish.Goals as goal
 pub count_roles-count-requires : goal.count_roles-count-requires
 count_roles-count-requires g c = few (g.B.Bank.given c.args.bank.now) c.args.members.now c.requires.placed
 
-pub vacant_roles-before-requires-clause-few : goal.vacant_roles-before-requires-clause-few
-vacant_roles-before-requires-clause-few g c = let most = few (g.B.Bank.given c.args.bank.now) c.args.members.now c.requires.placed in let is = c.count_roles-count.ensures in omega (arith, most, is)
+pub unassigned_roles-before-requires-clause-few : goal.unassigned_roles-before-requires-clause-few
+unassigned_roles-before-requires-clause-few g c = let most = few (g.B.Bank.given c.args.bank.now) c.args.members.now c.requires.placed in let is = c.count_roles-count.ensures in omega (arith, most, is)
 
-pub newly_vacant-roles-requires-clause-known : goal.newly_vacant-roles-requires-clause-known
-newly_vacant-roles-requires-clause-known g c =
+pub newly_unassigned-roles-requires-clause-known : goal.newly_unassigned-roles-requires-clause-known
+newly_unassigned-roles-requires-clause-known g c =
     let moved = c.flush_naming-spares.ensures.moved in
     let same = count-alike c.args.members.now.newest c.flush_naming-spares.new.members.newest moved.reshape moved.shape moved.size in
     let long = c.requires.placed.roles in
@@ -47,8 +47,8 @@ newly_vacant-roles-requires-clause-known g c =
     let is = c.count_roles-count.ensures in
     omega (arith, same, long, now, is)
 
-pub newly_vacant-roles-requires-clause-few : goal.newly_vacant-roles-requires-clause-few
-newly_vacant-roles-requires-clause-few g c = let most = few (g.B.Bank.given c.args.bank.now) c.args.members.now c.requires.placed in let is = c.count_roles-count.ensures in omega (arith, most, is)
+pub newly_unassigned-roles-requires-clause-few : goal.newly_unassigned-roles-requires-clause-few
+newly_unassigned-roles-requires-clause-few g c = let most = few (g.B.Bank.given c.args.bank.now) c.args.members.now c.requires.placed in let is = c.count_roles-count.ensures in omega (arith, most, is)
 
 pub too_many-requires-clause-shapes : goal.too_many-requires-clause-shapes
 too_many-requires-clause-shapes g c = c.flush_naming-spares.ensures.moved.placed.fit.valid
@@ -113,7 +113,7 @@ returns-in-Some-clause-named g c = c.flush_naming-spares.ensures.missing
 pub returns-in-Some-clause-failed : goal.returns-in-Some-clause-failed
 returns-in-Some-clause-failed g c =
     lost-in-flush (g.B.Bank.given c.args.bank.now) c.args.members.now c.flush_naming-spares.new.members c.flush_naming-spares.ensures.moved c.requires.placed c.requires.whole c.count_roles-count.result
-    c.vacant_roles-before.result c.newly_vacant-roles.result c.count_roles-count.ensures c.vacant_roles-before.ensures c.newly_vacant-roles.ensures c.flush_naming-spares.result
+    c.unassigned_roles-before.result c.newly_unassigned-roles.result c.count_roles-count.ensures c.unassigned_roles-before.ensures c.newly_unassigned-roles.ensures c.flush_naming-spares.result
     (g.B.Bank.faults_of c.args.bank.now) (g.B.Bank.faults_of c.flush_naming-spares.new.bank) c.flush_naming-spares.ensures.failed
 
 pub returns-in-Some-clause-refused : goal.returns-in-Some-clause-refused
@@ -223,15 +223,15 @@ returns-clause-rise g c = risen-then c.flush_naming-spares.ensures.rise c.end_up
 pub returns-clause-failed : goal.returns-clause-failed
 returns-clause-failed g c =
     lost-in-end (first_given g c) (m g c) (f g c) (n g c) (moved g c) c.requires.active c.requires.last c.requires.whole (done g c) (g.B.Bank.faults_of c.args.bank.now) (g.B.Bank.faults_of c.flush_naming-spares.new.bank)
-    (g.B.Bank.faults_of c.end_update-lost.new.bank) c.flush_naming-spares.ensures.counts c.end_update-lost.ensures.counts c.end_update-lost.ensures.losses c.newly_vacant-roles.result c.flush_naming-spares.result
+    (g.B.Bank.faults_of c.end_update-lost.new.bank) c.flush_naming-spares.ensures.counts c.end_update-lost.ensures.counts c.end_update-lost.ensures.losses c.newly_unassigned-roles.result c.flush_naming-spares.result
     c.end_update-lost.result c.end_update-lost.ensures.result
     (ended-one (first_given g c) (m g c) (f g c) (moved g c) c.requires.active c.requires.last c.requires.whole ((moved g c).free c.requires.free) (n g c) (done g c) c.end_update-lost.ensures.less
     c.end_update-lost.ensures.fit c.check_counts.ensures.own)
     c.flush_naming-spares.ensures.failed (moved g c).unlost ((moved g c).free c.requires.free)
-    (roles-lost (first_given g c) (m g c) (f g c) (moved g c) c.requires.placed c.requires.whole c.count_roles-count.result c.vacant_roles-before.result c.newly_vacant-roles.result c.count_roles-count.ensures
-    c.vacant_roles-before.ensures c.newly_vacant-roles.ensures c.flush_naming-spares.result (g.B.Bank.faults_of c.args.bank.now) (g.B.Bank.faults_of c.flush_naming-spares.new.bank) c.flush_naming-spares.ensures.failed)
-    (roles-gone (first_given g c) (m g c) (f g c) (moved g c) c.requires.placed c.requires.whole c.count_roles-count.result c.vacant_roles-before.result c.newly_vacant-roles.result c.count_roles-count.ensures
-    c.vacant_roles-before.ensures c.newly_vacant-roles.ensures c.flush_naming-spares.result (g.B.Bank.faults_of c.args.bank.now) (g.B.Bank.faults_of c.flush_naming-spares.new.bank) c.flush_naming-spares.ensures.failed)
+    (roles-lost (first_given g c) (m g c) (f g c) (moved g c) c.requires.placed c.requires.whole c.count_roles-count.result c.unassigned_roles-before.result c.newly_unassigned-roles.result c.count_roles-count.ensures
+    c.unassigned_roles-before.ensures c.newly_unassigned-roles.ensures c.flush_naming-spares.result (g.B.Bank.faults_of c.args.bank.now) (g.B.Bank.faults_of c.flush_naming-spares.new.bank) c.flush_naming-spares.ensures.failed)
+    (roles-gone (first_given g c) (m g c) (f g c) (moved g c) c.requires.placed c.requires.whole c.count_roles-count.result c.unassigned_roles-before.result c.newly_unassigned-roles.result c.count_roles-count.ensures
+    c.unassigned_roles-before.ensures c.newly_unassigned-roles.ensures c.flush_naming-spares.result (g.B.Bank.faults_of c.args.bank.now) (g.B.Bank.faults_of c.flush_naming-spares.new.bank) c.flush_naming-spares.ensures.failed)
 
 pub returns-clause-refused : goal.returns-clause-refused
 returns-clause-refused g c = λ why is. absurd (cc)
@@ -245,8 +245,8 @@ returns-clause-ended g c = λ none. record {
   enough = c.in-None.ensures;
   rise = c.flush_naming-spares.ensures.rise;
   safe = λ tell world told room gone tells unclean safe.
-      let tells-flushed = gone-then (first_given g c) (m g c) (f g c) (moved g c) c.requires.placed c.requires.whole c.count_roles-count.result c.vacant_roles-before.result c.newly_vacant-roles.result
-      c.count_roles-count.ensures c.vacant_roles-before.ensures c.newly_vacant-roles.ensures told gone tells in
+      let tells-flushed = gone-then (first_given g c) (m g c) (f g c) (moved g c) c.requires.placed c.requires.whole c.count_roles-count.result c.unassigned_roles-before.result c.newly_unassigned-roles.result
+      c.count_roles-count.ensures c.unassigned_roles-before.ensures c.newly_unassigned-roles.ensures told gone tells in
       (c.flush_naming-spares.ensures.safe tell world told room tells-flushed unclean safe).next;
   update = done g c;
 }
@@ -257,8 +257,8 @@ returns-clause-kept g c = λ why is. absurd (cc)
 pub returns-clause-safe : goal.returns-clause-safe
 returns-clause-safe g c = λ none tell world told more list room former able gone tells gone' unclean unclean' carried safe.
     let given = first_given g c in
-    let tells-flushed = gone-then given (m g c) (f g c) (moved g c) c.requires.placed c.requires.whole c.count_roles-count.result c.vacant_roles-before.result c.newly_vacant-roles.result c.count_roles-count.ensures
-    c.vacant_roles-before.ensures c.newly_vacant-roles.ensures told gone tells in
+    let tells-flushed = gone-then given (m g c) (f g c) (moved g c) c.requires.placed c.requires.whole c.count_roles-count.result c.unassigned_roles-before.result c.newly_unassigned-roles.result c.count_roles-count.ensures
+    c.unassigned_roles-before.ensures c.newly_unassigned-roles.ensures told gone tells in
     let kept = c.flush_naming-spares.ensures.safe tell world told (room-first (m g c) (before g c) (mid g c) (after g c) ((done g c).update.marks.longer tell) room) tells-flushed unclean safe in
     change-then (OpensFit world) world.scope given told more (n g c) (before g c) (mid g c) (after g c) kept.marks
     (subst

@@ -19,22 +19,22 @@ overflow_cast-count g c =
     let long = c.len-count.ensures in
     omega (arith, few, roles, long)
 
-pub vacant_roles-before-requires-clause-few : goal.vacant_roles-before-requires-clause-few
-vacant_roles-before-requires-clause-few g c =
+pub unassigned_roles-before-requires-clause-few : goal.unassigned_roles-before-requires-clause-few
+unassigned_roles-before-requires-clause-few g c =
     let few = few-roles c.args.members.now.newest c.requires.placed.fit.valid in
     let roles = c.requires.placed.roles in
     let long = c.len-count.ensures in
     omega (arith, few, roles, long)
 
-pub fetch_list-read-requires-clause-within : goal.fetch_list-read-requires-clause-within
-fetch_list-read-requires-clause-within g c =
+pub read_list-read-requires-clause-within : goal.read_list-read-requires-clause-within
+read_list-read-requires-clause-within g c =
     let order = span-order c.args.members.now.newest c.requires.placed.fit c.args.span.now c.requires.next in
     let inside = window-inside c.args.members.now.newest c.requires.placed.fit c.args.span.now c.requires.next in
     let end = window-end c.args.span.now c.args.window.now order c.requires.room in
     omega (arith, end, inside)
 
-pub newly_vacant-requires-clause-few : goal.newly_vacant-requires-clause-few
-newly_vacant-requires-clause-few g c =
+pub newly_unassigned-requires-clause-few : goal.newly_unassigned-requires-clause-few
+newly_unassigned-requires-clause-few g c =
     let few = few-roles c.args.members.now.newest c.requires.placed.fit.valid in
     let roles = c.requires.placed.roles in
     let long = c.len-count.ensures in
@@ -44,21 +44,21 @@ newly_vacant-requires-clause-few g c =
 
 pub returns-clause-since : goal.returns-clause-since
 returns-clause-since g c =
-    lost-since (g.B.Bank.given c.args.bank.now) c.args.members.now c.fetch_list-read.new.members c.len-count.result c.vacant_roles-before.result c.newly_vacant.result c.fetch_list-read.result.spares
-    (g.B.Bank.faults_of c.args.bank.now) (g.B.Bank.faults_of c.fetch_list-read.new.bank) c.requires.placed c.fetch_list-read.ensures.moved c.fetch_list-read.ensures.failed
-    (c.len-count.ensures ∙ c.requires.placed.roles) c.vacant_roles-before.ensures c.newly_vacant.ensures
+    lost-since (g.B.Bank.given c.args.bank.now) c.args.members.now c.read_list-read.new.members c.len-count.result c.unassigned_roles-before.result c.newly_unassigned.result c.read_list-read.result.spares
+    (g.B.Bank.faults_of c.args.bank.now) (g.B.Bank.faults_of c.read_list-read.new.bank) c.requires.placed c.read_list-read.ensures.moved c.read_list-read.ensures.failed
+    (c.len-count.ensures ∙ c.requires.placed.roles) c.unassigned_roles-before.ensures c.newly_unassigned.ensures
 
 pub returns-clause-refused : goal.returns-clause-refused
 returns-clause-refused g c =
     let old = c.args.members.now in
-    let new = c.fetch_list-read.new.members in
-    let moved = c.fetch_list-read.ensures.moved in
+    let new = c.read_list-read.new.members in
+    let moved = c.read_list-read.ensures.moved in
     let order = span-order old.newest c.requires.placed.fit c.args.span.now c.requires.next in
     let end = window-end c.args.span.now c.args.window.now order c.requires.room in
     let long = list-alike old.newest new.newest moved.reshape moved.shape moved.size in
     let all = c.requires.relied in
     refused-many new moved.placed.fit c.args.span.now (window-alike old.newest new.newest moved.reshape moved.shape moved.size ∙ c.requires.next) c.args.relied
-    (c.args.span.now.lo + length c.args.window.now / 512) c.fetch_list-read.result.refusal c.refusal_behind.result (omega (arith, long, all)) (omega (arith, end)) c.fetch_list-read.ensures.refused c.refusal_behind.ensures
+    (c.args.span.now.lo + length c.args.window.now / 512) c.read_list-read.result.refusal c.refusal_behind.result (omega (arith, long, all)) (omega (arith, end)) c.read_list-read.ensures.refused c.refusal_behind.ensures
 
 pub returns-clause-has : goal.returns-clause-has
 returns-clause-has g c = λ none told list stands filled.
@@ -66,7 +66,7 @@ returns-clause-has g c = λ none told list stands filled.
     let content = present (g.B.Bank.given c.args.bank.now) (g.B.Bank.tape c.args.bank.now) in
     let to = c.args.span.now.lo + length c.args.window.now / 512 in
     let room = c.requires.room in
-    has-window old c.args.span.now c.fetch_list-read.new.into content list (length c.args.window.now / 512) c.args.relied c.requires.placed.fit c.requires.next (omega (arith, room))
-    (c.fetch_list-read.ensures.holds (none-read c.fetch_list-read.new.members c.fetch_list-read.result.refusal c.refusal_behind.result c.refusal_behind.ensures none) told None list
-    (stands-in old c.args.span.now c.fetch_list-read.new.into content list (length c.args.window.now / 512) c.args.relied (IsShapeOf old.newest c.args.span.now.lo to) stands)
-    (rows-in old c.args.span.now c.fetch_list-read.new.into content list (length c.args.window.now / 512) c.args.relied (IsShapeOf old.newest c.args.span.now.lo to) (AreWhole c.fetch_list-read.new.members) filled))
+    has-window old c.args.span.now c.read_list-read.new.into content list (length c.args.window.now / 512) c.args.relied c.requires.placed.fit c.requires.next (omega (arith, room))
+    (c.read_list-read.ensures.holds (none-read c.read_list-read.new.members c.read_list-read.result.refusal c.refusal_behind.result c.refusal_behind.ensures none) told None list
+    (stands-in old c.args.span.now c.read_list-read.new.into content list (length c.args.window.now / 512) c.args.relied (IsShapeOf old.newest c.args.span.now.lo to) stands)
+    (rows-in old c.args.span.now c.read_list-read.new.into content list (length c.args.window.now / 512) c.args.relied (IsShapeOf old.newest c.args.span.now.lo to) (AreWhole c.read_list-read.new.members) filled))

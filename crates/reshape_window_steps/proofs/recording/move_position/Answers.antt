@@ -10,7 +10,7 @@ use Rattle.reshape_window_rows.proofs.crash_safety_laws_Risen.{risen-then}
 use Rattle.reshape_window_rows.specs.array_members_Rebuilding.{AreSparesFree}
 use Rattle.reshape_window_rows.specs.array_members_Under.{IsRestKept}
 use Rattle.reshape_window_rows.proofs.array_members_LackingLaws.{since-then, in-either, holders-fewer, holders-at}
-use Rattle.reshape_window_rows.proofs.array_members_MendedParts.{safe-part}
+use Rattle.reshape_window_rows.proofs.array_members_SyncedParts.{safe-part}
 use Rattle.reshape_window_rows.proofs.array_members_MovedLaws.{moved-then, moved-from, grows-then}
 use Rattle.reshape_window_rows.specs.sb_safe_updates_Named.{AreDataKept}
 use Rattle.reshape_window_rows.proofs.sb_safe_updates_Unused.{rest-unused, unused-then}
@@ -18,8 +18,8 @@ use Rattle.reshape_window_steps.proofs.PastLaws.{free-moved}
 use Rattle.reshape_window_rows.specs.array_members_Placed.{IsPlaced}
 use Rattle.reshape_window_steps.proofs.recording.move_position.Goals as goal
 
-pub name_missing-named-requires-clause-free : goal.name_missing-named-requires-clause-free
-name_missing-named-requires-clause-free g c =
+pub record_missing-named-requires-clause-free : goal.record_missing-named-requires-clause-free
+record_missing-named-requires-clause-free g c =
     let did = c.put_position-put.ensures in
     let given = g.B.Bank.given c.args.bank.now in
     subst (λ (b : Given). AreSparesFree b c.put_position-put.new.members) (sym did.given) (free-moved given c.args.members.now c.put_position-put.new.members c.args.span.now did.moved c.requires.free)
@@ -29,24 +29,24 @@ returns-clause-moved g c =
     let given = g.B.Bank.given c.args.bank.now in
     let given1 = g.B.Bank.given c.put_position-put.new.bank in
     let n = c.put_position-put.new.members in
-    moved-then given (moved_past c.args.span.now c.args.members.now) n c.name_missing-named.new.members c.put_position-put.ensures.moved
-    (moved-from given given1 n n c.name_missing-named.new.members c.put_position-put.ensures.given refl c.name_missing-named.ensures.moved)
+    moved-then given (moved_past c.args.span.now c.args.members.now) n c.record_missing-named.new.members c.put_position-put.ensures.moved
+    (moved-from given given1 n n c.record_missing-named.new.members c.put_position-put.ensures.given refl c.record_missing-named.ensures.moved)
 
 pub returns-clause-failed : goal.returns-clause-failed
 returns-clause-failed g c =
     let s = c.put_position-put.result in
-    let t = c.name_missing-named.result in
-    since-then c.args.members.now c.put_position-put.new.members c.name_missing-named.new.members s t _ (g.B.Bank.faults_of c.args.bank.now) (g.B.Bank.faults_of c.put_position-put.new.bank)
-    (g.B.Bank.faults_of c.name_missing-named.new.bank) c.put_position-put.ensures.counts c.name_missing-named.ensures.counts c.put_position-put.ensures.failed c.name_missing-named.ensures.failed (in-either s t)
+    let t = c.record_missing-named.result in
+    since-then c.args.members.now c.put_position-put.new.members c.record_missing-named.new.members s t _ (g.B.Bank.faults_of c.args.bank.now) (g.B.Bank.faults_of c.put_position-put.new.bank)
+    (g.B.Bank.faults_of c.record_missing-named.new.bank) c.put_position-put.ensures.counts c.record_missing-named.ensures.counts c.put_position-put.ensures.failed c.record_missing-named.ensures.failed (in-either s t)
 
 pub returns-clause-grows : goal.returns-clause-grows
-returns-clause-grows g c = grows-then c.put_position-put.ensures.grows c.name_missing-named.ensures.grows
+returns-clause-grows g c = grows-then c.put_position-put.ensures.grows c.record_missing-named.ensures.grows
 
 pub returns-clause-others : goal.returns-clause-others
 returns-clause-others g c = λ told s k other.
     let tape1 = g.B.Bank.tape c.put_position-put.new.bank in
-    let tape2 = g.B.Bank.tape c.name_missing-named.new.bank in
-    subst (λ (b : Given). AreOthersPresent (present b tape1) (present b tape2)) c.put_position-put.ensures.given (c.name_missing-named.ensures.others told) s k other
+    let tape2 = g.B.Bank.tape c.record_missing-named.new.bank in
+    subst (λ (b : Given). AreOthersPresent (present b tape1) (present b tape2)) c.put_position-put.ensures.given (c.record_missing-named.ensures.others told) s k other
     ∙ c.put_position-put.ensures.others told s k other
 
 pub returns-clause-flushed : goal.returns-clause-flushed
@@ -55,11 +55,11 @@ returns-clause-flushed g c = λ told flushed.
     let given1 = g.B.Bank.given c.put_position-put.new.bank in
     let m = c.args.members.now in
     let n = c.put_position-put.new.members in
-    let new = c.name_missing-named.new.members in
+    let new = c.record_missing-named.new.members in
     let tape1 = g.B.Bank.tape c.put_position-put.new.bank in
-    let tape2 = g.B.Bank.tape c.name_missing-named.new.bank in
+    let tape2 = g.B.Bank.tape c.record_missing-named.new.bank in
     let did = c.put_position-put.ensures in
-    let named = c.name_missing-named.ensures in
+    let named = c.record_missing-named.ensures in
     holders-fewer given n new tape2 named.moved.held
     (holders-at (reading_of n) given1 given tape2 (sym did.given)
     (named.flushed told (holders-at (reading_of n) given given1 tape1 did.given (holders-fewer given m n tape1 did.moved.held (did.flushed told flushed)))))
@@ -68,9 +68,9 @@ pub returns-clause-fewer : goal.returns-clause-fewer
 returns-clause-fewer g c = λ told s k v other may.
     let given = g.B.Bank.given c.args.bank.now in
     let tape1 = g.B.Bank.tape c.put_position-put.new.bank in
-    let tape2 = g.B.Bank.tape c.name_missing-named.new.bank in
+    let tape2 = g.B.Bank.tape c.record_missing-named.new.bank in
     let did = c.put_position-put.ensures in
-    let kept = subst (λ (b : Given). EachMark g.B.Bank.tells b.start tape1 tape2 (AreDataKept (disk b.start tape1))) did.given c.name_missing-named.ensures.«data» in
+    let kept = subst (λ (b : Given). EachMark g.B.Bank.tells b.start tape1 tape2 (AreDataKept (disk b.start tape1))) did.given c.record_missing-named.ensures.«data» in
     did.fewer told s k v other (kept_in (disk given.start tape1 s k) (disk given.start tape2 s k) v (marks_last kept told s k other) may)
 
 pub returns-clause-unused : goal.returns-clause-unused
@@ -78,21 +78,21 @@ returns-clause-unused g c = λ told.
     let given = g.B.Bank.given c.args.bank.now in
     let n = c.put_position-put.new.members in
     let tape1 = g.B.Bank.tape c.put_position-put.new.bank in
-    let tape2 = g.B.Bank.tape c.name_missing-named.new.bank in
+    let tape2 = g.B.Bank.tape c.record_missing-named.new.bank in
     let did = c.put_position-put.ensures in
     let named : IsRestKept n (disk given.start tape1) (disk given.start tape2) =
-    subst (λ (b : Given). IsRestKept n (disk b.start tape1) (disk b.start tape2)) did.given (c.name_missing-named.ensures.rest told) in
+    subst (λ (b : Given). IsRestKept n (disk b.start tape1) (disk b.start tape2)) did.given (c.record_missing-named.ensures.rest told) in
     unused-then given (moved_past c.args.span.now c.args.members.now) n (disk given.start (g.B.Bank.tape c.args.bank.now)) (disk given.start tape1) (disk given.start tape2) did.moved (did.unused told)
     (rest-unused n (disk given.start tape1) (disk given.start tape2) named)
 
 pub returns-clause-clean : goal.returns-clause-clean
-returns-clause-clean g c = c.name_missing-named.ensures.clean ∙ c.put_position-put.ensures.clean
+returns-clause-clean g c = c.record_missing-named.ensures.clean ∙ c.put_position-put.ensures.clean
 
 pub returns-clause-rise : goal.returns-clause-rise
-returns-clause-rise g c = risen-then c.put_position-put.ensures.rise c.name_missing-named.ensures.rise
+returns-clause-rise g c = risen-then c.put_position-put.ensures.rise c.record_missing-named.ensures.rise
 
 pub returns-clause-counts : goal.returns-clause-counts
-returns-clause-counts g c = λ s. le_trans (c.put_position-put.ensures.counts s) (c.name_missing-named.ensures.counts s)
+returns-clause-counts g c = λ s. le_trans (c.put_position-put.ensures.counts s) (c.record_missing-named.ensures.counts s)
 
 pub returns-clause-safe : goal.returns-clause-safe
 returns-clause-safe g c = λ told world ledger room gone unclean right safe.
@@ -100,26 +100,26 @@ returns-clause-safe g c = λ told world ledger room gone unclean right safe.
     let given1 = g.B.Bank.given c.put_position-put.new.bank in
     let m = c.args.members.now in
     let n = c.put_position-put.new.members in
-    let new = c.name_missing-named.new.members in
+    let new = c.record_missing-named.new.members in
     let tape0 = g.B.Bank.tape c.args.bank.now in
     let tape1 = g.B.Bank.tape c.put_position-put.new.bank in
-    let tape2 = g.B.Bank.tape c.name_missing-named.new.bank in
+    let tape2 = g.B.Bank.tape c.record_missing-named.new.bank in
     let did = c.put_position-put.ensures in
-    let named = c.name_missing-named.ensures in
+    let named = c.record_missing-named.ensures in
     safe-part world given given1 ledger m n new tape0 tape1 tape2 told did.given did.moved.placed (moved-from given given1 n n new did.given refl named.moved) named.grows did.rise room gone
     (λ first gone1. did.safe told world ledger first gone1 right safe)
     (λ then now. named.safe told world ledger then gone (λ dirty. unclean (sym did.clean ∙ dirty)) now)
 
 -- ---- what the searches would find too, for longer
 
-pub name_missing-named-requires-clause-slots : goal.name_missing-named-requires-clause-slots
-name_missing-named-requires-clause-slots g c = subst (λ (b : Given). b.slots ≤ 32) (sym c.put_position-put.ensures.given) c.requires.slots
+pub record_missing-named-requires-clause-slots : goal.record_missing-named-requires-clause-slots
+record_missing-named-requires-clause-slots g c = subst (λ (b : Given). b.slots ≤ 32) (sym c.put_position-put.ensures.given) c.requires.slots
 
-pub name_missing-named-requires-clause-placed : goal.name_missing-named-requires-clause-placed
-name_missing-named-requires-clause-placed g c = subst (λ (b : Given). IsPlaced b c.put_position-put.new.members) (sym c.put_position-put.ensures.given) c.put_position-put.ensures.moved.placed
+pub record_missing-named-requires-clause-placed : goal.record_missing-named-requires-clause-placed
+record_missing-named-requires-clause-placed g c = subst (λ (b : Given). IsPlaced b c.put_position-put.new.members) (sym c.put_position-put.ensures.given) c.put_position-put.ensures.moved.placed
 
-pub name_missing-named-requires-clause-unlost : goal.name_missing-named-requires-clause-unlost
-name_missing-named-requires-clause-unlost g c = c.put_position-put.ensures.moved.unlost
+pub record_missing-named-requires-clause-unlost : goal.record_missing-named-requires-clause-unlost
+record_missing-named-requires-clause-unlost g c = c.put_position-put.ensures.moved.unlost
 
 pub returns-clause-given : goal.returns-clause-given
-returns-clause-given g c = c.name_missing-named.ensures.given ∙ c.put_position-put.ensures.given
+returns-clause-given g c = c.record_missing-named.ensures.given ∙ c.put_position-put.ensures.given

@@ -15,7 +15,7 @@ use Rattle.reshape_window_rows.proofs.array_members_MovedLaws.{moved-then, moved
 use Rattle.reshape_window_rows.proofs.array_members_LackingLaws.{since-same, since-then, in-either}
 use Rattle.reshape_window_rows.proofs.array_members_LackingLists.{none-of}
 use Rattle.reshape_window_rows.proofs.array_members_SafeStretch.{safe-none}
-use Rattle.reshape_window_rows.proofs.array_members_MendedParts.{safe-part}
+use Rattle.reshape_window_rows.proofs.array_members_SyncedParts.{safe-part}
 use Rattle.reshape_window_rows.specs.sb_safe_updates_Unused.{IsUnusedKept}
 use Rattle.reshape_window_rows.proofs.sb_safe_updates_Unused.{unused-then}
 use Rattle.reshape_window_steps.specs.Copying.{IsOfStripeFrom, AreHeadersKept}

@@ -36,35 +36,35 @@ lose_slot-requires-clause-small g c role slot held = (c.requires.placed.holders 
 
 -- ---- where the slot failed
 
-pub name_missing-requires-clause-placed : goal.name_missing-requires-clause-placed
-name_missing-requires-clause-placed g c = mid-placed (g.B.Bank.given c.args.bank.now) (g.B.Bank.given c.flush.new.self) c.args.members.now c.lose_slot.new.members c.lose_slot.result c.args.role c.args.slot
+pub record_missing-requires-clause-placed : goal.record_missing-requires-clause-placed
+record_missing-requires-clause-placed g c = mid-placed (g.B.Bank.given c.args.bank.now) (g.B.Bank.given c.flush.new.self) c.args.members.now c.lose_slot.new.members c.lose_slot.result c.args.role c.args.slot
     c.requires.placed c.requires.unlost c.requires.free c.requires.role c.requires.recovering c.flush.ensures.given c.lose_slot.ensures.members c.lose_slot.ensures.alone
 
-pub name_missing-requires-clause-unlost : goal.name_missing-requires-clause-unlost
-name_missing-requires-clause-unlost g c = (lost-moved (g.B.Bank.given c.args.bank.now) (g.B.Bank.given c.flush.new.self) c.args.members.now c.lose_slot.new.members c.lose_slot.result c.args.role c.args.slot
+pub record_missing-requires-clause-unlost : goal.record_missing-requires-clause-unlost
+record_missing-requires-clause-unlost g c = (lost-moved (g.B.Bank.given c.args.bank.now) (g.B.Bank.given c.flush.new.self) c.args.members.now c.lose_slot.new.members c.lose_slot.result c.args.role c.args.slot
     c.requires.placed c.requires.unlost c.requires.free c.requires.role c.requires.recovering c.flush.ensures.given c.lose_slot.ensures.members c.lose_slot.ensures.alone).unlost
 
-pub name_missing-requires-clause-free : goal.name_missing-requires-clause-free
-name_missing-requires-clause-free g c = mid-free (g.B.Bank.given c.args.bank.now) (g.B.Bank.given c.flush.new.self) c.args.members.now c.lose_slot.new.members c.lose_slot.result c.args.role c.args.slot
+pub record_missing-requires-clause-free : goal.record_missing-requires-clause-free
+record_missing-requires-clause-free g c = mid-free (g.B.Bank.given c.args.bank.now) (g.B.Bank.given c.flush.new.self) c.args.members.now c.lose_slot.new.members c.lose_slot.result c.args.role c.args.slot
     c.requires.placed c.requires.unlost c.requires.free c.requires.role c.requires.recovering c.flush.ensures.given c.lose_slot.ensures.members c.lose_slot.ensures.alone
 
 pub returns-then-is_err-clause-moved : goal.returns-then-is_err-clause-moved
 returns-then-is_err-clause-moved g c = failed-moved (g.B.Bank.given c.args.bank.now) (g.B.Bank.given c.flush.new.self) c.args.members.now c.lose_slot.new.members c.lose_slot.result c.args.role c.args.slot
     c.requires.placed c.requires.unlost c.requires.free c.requires.role c.requires.recovering c.flush.ensures.given c.lose_slot.ensures.members c.lose_slot.ensures.alone
-    c.name_missing.new.members c.name_missing.ensures.moved c.requires.few
+    c.record_missing.new.members c.record_missing.ensures.moved c.requires.few
 
 pub returns-then-is_err-clause-failed : goal.returns-then-is_err-clause-failed
 returns-then-is_err-clause-failed g c = failed-since (g.B.Bank.given c.args.bank.now) (g.B.Bank.given c.flush.new.self) c.args.members.now c.lose_slot.new.members c.lose_slot.result c.args.role c.args.slot
     c.requires.placed c.requires.unlost c.requires.free c.requires.role c.requires.recovering c.flush.ensures.given c.lose_slot.ensures.members c.lose_slot.ensures.alone
-    c.name_missing.new.members c.name_missing.ensures.moved c.name_missing.result (g.B.Bank.faults_of c.args.bank.now) (g.B.Bank.faults_of c.flush.new.self) (g.B.Bank.faults_of c.name_missing.new.bank)
-    c.flush.ensures.cause.never_falls c.name_missing.ensures.counts (c.flush.ensures.cause.failed (sym c.is_err.ensures.value ∙ c.if-is_err.true)) c.name_missing.ensures.failed
+    c.record_missing.new.members c.record_missing.ensures.moved c.record_missing.result (g.B.Bank.faults_of c.args.bank.now) (g.B.Bank.faults_of c.flush.new.self) (g.B.Bank.faults_of c.record_missing.new.bank)
+    c.flush.ensures.cause.never_falls c.record_missing.ensures.counts (c.flush.ensures.cause.failed (sym c.is_err.ensures.value ∙ c.if-is_err.true)) c.record_missing.ensures.failed
 
 pub returns-then-is_err-clause-rise : goal.returns-then-is_err-clause-rise
 returns-then-is_err-clause-rise g c =
     let tape0 = g.B.Bank.tape c.args.bank.now in
     let tape1 = g.B.Bank.tape c.flush.new.self in
     risen-then (risen-lost c.args.members.now c.lose_slot.new.members c.lose_slot.result tape0 tape1 c.lose_slot.ensures.members
-    (λ tell. added-longer tape0 tape1 (flush-added c.args.slot c.flush.ensures.did tell))) c.name_missing.ensures.rise
+    (λ tell. added-longer tape0 tape1 (flush-added c.args.slot c.flush.ensures.did tell))) c.record_missing.ensures.rise
 
 pub returns-then-is_err-clause-safe : goal.returns-then-is_err-clause-safe
 returns-then-is_err-clause-safe g c = λ tell world told room gone here unclean premise does list stands allowed full now.
@@ -74,13 +74,13 @@ returns-then-is_err-clause-safe g c = λ tell world told room gone here unclean 
     let given1 = g.B.Bank.given c.flush.new.self in
     let tape0 = g.B.Bank.tape c.args.bank.now in
     let tape1 = g.B.Bank.tape c.flush.new.self in
-    let tape2 = g.B.Bank.tape c.name_missing.new.bank in
+    let tape2 = g.B.Bank.tape c.record_missing.new.bank in
     let is = c.lose_slot.ensures.members in
     let added : g.B.Bank.tells → OnlyFlushesAdded tape0 tape1 = flush-added c.args.slot c.flush.ensures.did in
     let lost = lost-safe (OpensFit world) world.scope given told m n c.lose_slot.result tape0 tape1 is (added tell) now in
-    safe-then (OpensFit world) world.scope given told n c.name_missing.new.members tape0 tape1 tape2 lost
-    (keeps-from world given given1 told c.name_missing.new.members tape1 tape2 c.flush.ensures.given
-    (c.name_missing.ensures.safe tell world told
+    safe-then (OpensFit world) world.scope given told n c.record_missing.new.members tape0 tape1 tape2 lost
+    (keeps-from world given given1 told c.record_missing.new.members tape1 tape2 c.flush.ensures.given
+    (c.record_missing.ensures.safe tell world told
     (room-then tape2 tell room (risen-lost m n c.lose_slot.result tape0 tape1 is (λ t. added-longer tape0 tape1 (added t)))) gone
     (subst (λ (x : Members). IsUncleanTold told x) (sym is) unclean) (over-at world given given1 told n tape1 c.flush.ensures.given lost.next)))
 
@@ -88,7 +88,7 @@ pub returns-then-is_err-clause-given_back : goal.returns-then-is_err-clause-give
 returns-then-is_err-clause-given_back g c = λ whole tell world told room gone here unclean premise does list stands allowed full now.
     absurd (out (g.B.Bank.given c.args.bank.now) (g.B.Bank.given c.flush.new.self) c.args.members.now c.lose_slot.new.members c.lose_slot.result c.args.role c.args.slot
     c.requires.placed c.requires.unlost c.requires.free c.requires.role c.requires.recovering c.flush.ensures.given c.lose_slot.ensures.members c.lose_slot.ensures.alone
-    c.name_missing.new.members c.name_missing.ensures.moved c.args.role c.args.slot (ap holder whole) refl)
+    c.record_missing.new.members c.record_missing.ensures.moved c.args.role c.args.slot (ap holder whole) refl)
 
 -- ---- where it was flushed
 

@@ -24,8 +24,8 @@ use Rattle.sb_safe_updates.proofs.settles.flush_naming.Goals as goal
 pub lose_slots-requires-clause-small : goal.lose_slots-requires-clause-small
 lose_slots-requires-clause-small g c role slot held = (c.requires.placed.holders role slot held).small
 
-pub name_missing-requires-clause-placed : goal.name_missing-requires-clause-placed
-name_missing-requires-clause-placed g c =
+pub record_missing-requires-clause-placed : goal.record_missing-requires-clause-placed
+record_missing-requires-clause-placed g c =
     let m = c.args.members.now in
     let given = g.B.Bank.given c.args.bank.now in
     let did1 = c.flush_members-failed.ensures in
@@ -36,8 +36,8 @@ name_missing-requires-clause-placed g c =
     lost-all given m n c.flush_members-failed.result f0 f1 c.requires.placed c.lose_slots.ensures did1.failed did1.counts.never_falls in
     subst (λ (b : Given). IsPlaced b n) (sym did1.given) lost.placed
 
-pub name_missing-requires-clause-unlost : goal.name_missing-requires-clause-unlost
-name_missing-requires-clause-unlost g c =
+pub record_missing-requires-clause-unlost : goal.record_missing-requires-clause-unlost
+record_missing-requires-clause-unlost g c =
     let m = c.args.members.now in
     let given = g.B.Bank.given c.args.bank.now in
     let did1 = c.flush_members-failed.ensures in
@@ -48,8 +48,8 @@ name_missing-requires-clause-unlost g c =
     lost-all given m n c.flush_members-failed.result f0 f1 c.requires.placed c.lose_slots.ensures did1.failed did1.counts.never_falls in
     (moved-lost given (widest m.newest) m n c.flush_members-failed.result f0 f1 c.requires.placed lost c.requires.unlost).unlost
 
-pub name_missing-requires-clause-free : goal.name_missing-requires-clause-free
-name_missing-requires-clause-free g c =
+pub record_missing-requires-clause-free : goal.record_missing-requires-clause-free
+record_missing-requires-clause-free g c =
     let m = c.args.members.now in
     let given = g.B.Bank.given c.args.bank.now in
     let did1 = c.flush_members-failed.ensures in
@@ -71,8 +71,8 @@ returns-clause-moved g c =
     let n = c.lose_slots.new.members in
     let lost : AreLost given (widest m.newest) m n c.flush_members-failed.result f0 f1 =
     lost-all given m n c.flush_members-failed.result f0 f1 c.requires.placed c.lose_slots.ensures did1.failed did1.counts.never_falls in
-    moved-then given m n c.name_missing.new.members (moved-lost given (widest m.newest) m n c.flush_members-failed.result f0 f1 c.requires.placed lost c.requires.unlost)
-    (moved-from given (g.B.Bank.given c.flush_members-failed.new.bank) n n c.name_missing.new.members did1.given refl c.name_missing.ensures.moved)
+    moved-then given m n c.record_missing.new.members (moved-lost given (widest m.newest) m n c.flush_members-failed.result f0 f1 c.requires.placed lost c.requires.unlost)
+    (moved-from given (g.B.Bank.given c.flush_members-failed.new.bank) n n c.record_missing.new.members did1.given refl c.record_missing.ensures.moved)
 
 pub returns-clause-failed : goal.returns-clause-failed
 returns-clause-failed g c =
@@ -81,12 +81,12 @@ returns-clause-failed g c =
     let did1 = c.flush_members-failed.ensures in
     let f0 = g.B.Bank.faults_of c.args.bank.now in
     let f1 = g.B.Bank.faults_of c.flush_members-failed.new.bank in
-    let f2 = g.B.Bank.faults_of c.name_missing.new.bank in
+    let f2 = g.B.Bank.faults_of c.record_missing.new.bank in
     let n = c.lose_slots.new.members in
     let lost : AreLost given (widest m.newest) m n c.flush_members-failed.result f0 f1 =
     lost-all given m n c.flush_members-failed.result f0 f1 c.requires.placed c.lose_slots.ensures did1.failed did1.counts.never_falls in
-    since-then m n c.name_missing.new.members 0 c.name_missing.result c.name_missing.result f0 f1 f2 did1.counts.never_falls c.name_missing.ensures.counts
-    (since-lost given (widest m.newest) m n c.flush_members-failed.result f0 f1 lost) c.name_missing.ensures.failed (in-second c.name_missing.result)
+    since-then m n c.record_missing.new.members 0 c.record_missing.result c.record_missing.result f0 f1 f2 did1.counts.never_falls c.record_missing.ensures.counts
+    (since-lost given (widest m.newest) m n c.flush_members-failed.result f0 f1 lost) c.record_missing.ensures.failed (in-second c.record_missing.result)
 
 pub returns-clause-others : goal.returns-clause-others
 returns-clause-others g c = λ told s k other.
@@ -94,8 +94,8 @@ returns-clause-others g c = λ told s k other.
     let did1 = c.flush_members-failed.ensures in
     let tape0 = g.B.Bank.tape c.args.bank.now in
     let tape1 = g.B.Bank.tape c.flush_members-failed.new.bank in
-    let tape2 = g.B.Bank.tape c.name_missing.new.bank in
-    subst (λ (b : Given). AreOthersPresent (present b tape1) (present b tape2)) did1.given (c.name_missing.ensures.others told) s k other
+    let tape2 = g.B.Bank.tape c.record_missing.new.bank in
+    subst (λ (b : Given). AreOthersPresent (present b tape1) (present b tape2)) did1.given (c.record_missing.ensures.others told) s k other
     ∙ ap (λ (d : Contents). d s k) (contents-added given.start tape0 tape1 (did1.tape told))
 
 pub returns-clause-flushed : goal.returns-clause-flushed
@@ -107,13 +107,13 @@ returns-clause-flushed g c = λ told.
     let f1 = g.B.Bank.faults_of c.flush_members-failed.new.bank in
     let given1 = g.B.Bank.given c.flush_members-failed.new.bank in
     let tape1 = g.B.Bank.tape c.flush_members-failed.new.bank in
-    let tape2 = g.B.Bank.tape c.name_missing.new.bank in
+    let tape2 = g.B.Bank.tape c.record_missing.new.bank in
     let n = c.lose_slots.new.members in
     let lost : AreLost given (widest m.newest) m n c.flush_members-failed.result f0 f1 =
     lost-all given m n c.flush_members-failed.result f0 f1 c.requires.placed c.lose_slots.ensures did1.failed did1.counts.never_falls in
-    holders-fewer given n c.name_missing.new.members tape2 c.name_missing.ensures.moved.held
+    holders-fewer given n c.record_missing.new.members tape2 c.record_missing.ensures.moved.held
     (holders-at (reading_of n) given1 given tape2 (sym did1.given)
-    (c.name_missing.ensures.flushed told (holders-at (reading_of n) given given1 tape1 did1.given
+    (c.record_missing.ensures.flushed told (holders-at (reading_of n) given given1 tape1 did1.given
     (holders-flushed given (widest m.newest) m n tape1 c.flush_members-failed.result f0 f1 lost did1.flushed told))))
 
 pub returns-clause-kept : goal.returns-clause-kept
@@ -127,11 +127,11 @@ returns-clause-kept g c = λ whole.
     let lost : AreLost given (widest m.newest) m n c.flush_members-failed.result f0 f1 =
     lost-all given m n c.flush_members-failed.result f0 f1 c.requires.placed c.lose_slots.ensures did1.failed did1.counts.never_falls in
     let moved = moved-lost given (widest m.newest) m n c.flush_members-failed.result f0 f1 c.requires.placed lost c.requires.unlost in
-    let mid : AreWhole n = c.name_missing.ensures.moved.whole whole in
-    c.name_missing.ensures.kept mid ∙ lost.kept (lost-none given (widest m.newest) m n c.flush_members-failed.result f0 f1 lost (widest-force m.newest) mid)
+    let mid : AreWhole n = c.record_missing.ensures.moved.whole whole in
+    c.record_missing.ensures.kept mid ∙ lost.kept (lost-none given (widest m.newest) m n c.flush_members-failed.result f0 f1 lost (widest-force m.newest) mid)
 
 pub returns-clause-clean : goal.returns-clause-clean
-returns-clause-clean g c = c.name_missing.ensures.clean ∙ ap (λ (x : Members). is_clean x.newest) c.lose_slots.ensures
+returns-clause-clean g c = c.record_missing.ensures.clean ∙ ap (λ (x : Members). is_clean x.newest) c.lose_slots.ensures
 
 pub returns-clause-rise : goal.returns-clause-rise
 returns-clause-rise g c =
@@ -139,7 +139,7 @@ returns-clause-rise g c =
     let tape0 = g.B.Bank.tape c.args.bank.now in
     let tape1 = g.B.Bank.tape c.flush_members-failed.new.bank in
     risen-then (risen-lost c.args.members.now c.lose_slots.new.members c.flush_members-failed.result tape0 tape1 c.lose_slots.ensures (λ tell. added-longer tape0 tape1 (did1.tape tell)))
-    c.name_missing.ensures.rise
+    c.record_missing.ensures.rise
 
 pub returns-clause-safe : goal.returns-clause-safe
 returns-clause-safe g c = λ tell world told room gone unclean now.
@@ -149,14 +149,14 @@ returns-clause-safe g c = λ tell world told room gone unclean now.
     let given1 = g.B.Bank.given c.flush_members-failed.new.bank in
     let tape0 = g.B.Bank.tape c.args.bank.now in
     let tape1 = g.B.Bank.tape c.flush_members-failed.new.bank in
-    let tape2 = g.B.Bank.tape c.name_missing.new.bank in
+    let tape2 = g.B.Bank.tape c.record_missing.new.bank in
     let failed = c.flush_members-failed.result in
     let did1 = c.flush_members-failed.ensures in
     let is = c.lose_slots.ensures in
     let flushed = lost-safe (OpensFit world) world.scope given told m n failed tape0 tape1 is (did1.tape tell) now in
-    safe-then (OpensFit world) world.scope given told n c.name_missing.new.members tape0 tape1 tape2 flushed
-    (keeps-from world given given1 told c.name_missing.new.members tape1 tape2 did1.given
-    (c.name_missing.ensures.safe tell world told
+    safe-then (OpensFit world) world.scope given told n c.record_missing.new.members tape0 tape1 tape2 flushed
+    (keeps-from world given given1 told c.record_missing.new.members tape1 tape2 did1.given
+    (c.record_missing.ensures.safe tell world told
     (room-then tape2 tell room (risen-lost m n failed tape0 tape1 is (λ t. added-longer tape0 tape1 (did1.tape t)))) gone
     (subst (λ (x : Members). IsUncleanTold told x) (sym is) unclean) (over-at world given given1 told n tape1 did1.given flushed.next)))
 
@@ -168,13 +168,13 @@ returns-clause-named g c = λ tell world told room gone unclean now left.
     let given1 = g.B.Bank.given c.flush_members-failed.new.bank in
     let tape0 = g.B.Bank.tape c.args.bank.now in
     let tape1 = g.B.Bank.tape c.flush_members-failed.new.bank in
-    let tape2 = g.B.Bank.tape c.name_missing.new.bank in
+    let tape2 = g.B.Bank.tape c.record_missing.new.bank in
     let failed = c.flush_members-failed.result in
     let did1 = c.flush_members-failed.ensures in
     let is = c.lose_slots.ensures in
     let flushed = lost-safe (OpensFit world) world.scope given told m n failed tape0 tape1 is (did1.tape tell) now in
-    subst (λ (b : Given). IsNamedOver world b told c.name_missing.new.members tape2) did1.given
-    (c.name_missing.ensures.named tell world told
+    subst (λ (b : Given). IsNamedOver world b told c.record_missing.new.members tape2) did1.given
+    (c.record_missing.ensures.named tell world told
     (room-then tape2 tell room (risen-lost m n failed tape0 tape1 is (λ t. added-longer tape0 tape1 (did1.tape t)))) gone
     (subst (λ (x : Members). IsUncleanTold told x) (sym is) unclean) (over-at world given given1 told n tape1 did1.given flushed.next) left)
 
@@ -183,7 +183,7 @@ lose_slots-requires-clause-few g c = let most = few (g.B.Bank.given c.args.bank.
 
 pub returns-clause-grows : goal.returns-clause-grows
 returns-clause-grows g c =
-    grows-then (record { more = λ told. let added = c.flush_members-failed.ensures.tape told in (added.0, added.2) }) c.name_missing.ensures.grows
+    grows-then (record { more = λ told. let added = c.flush_members-failed.ensures.tape told in (added.0, added.2) }) c.record_missing.ensures.grows
 
 pub returns-clause-rest : goal.returns-clause-rest
 returns-clause-rest g c = λ tell s k v why may.
@@ -192,10 +192,10 @@ returns-clause-rest g c = λ tell s k v why may.
     let given1 = g.B.Bank.given c.flush_members-failed.new.bank in
     let tape0 = g.B.Bank.tape c.args.bank.now in
     let tape1 = g.B.Bank.tape c.flush_members-failed.new.bank in
-    let tape2 = g.B.Bank.tape c.name_missing.new.bank in
+    let tape2 = g.B.Bank.tape c.record_missing.new.bank in
     let did1 = c.flush_members-failed.ensures in
     let rest : IsRestKept c.lose_slots.new.members (disk given.start tape1) (disk given.start tape2) =
-    subst (λ (b : Given). IsRestKept c.lose_slots.new.members (disk b.start tape1) (disk b.start tape2)) did1.given (c.name_missing.ensures.rest tell) in
+    subst (λ (b : Given). IsRestKept c.lose_slots.new.members (disk b.start tape1) (disk b.start tape2)) did1.given (c.record_missing.ensures.rest tell) in
     flushed-fewer given.start tape0 tape1 (did1.tape tell) s k v (rest s k v (⊎_elim (λ other. inl other) (λ idle. inr (
     subst (λ (n : Members). IsIdle n s) (sym c.lose_slots.ensures) (idle-without m c.flush_members-failed.result s idle))) why) may)
 
@@ -205,14 +205,14 @@ flush_members-failed-requires-clause-slots g c = c.requires.slots
 pub flush_members-failed-requires-clause-placed : goal.flush_members-failed-requires-clause-placed
 flush_members-failed-requires-clause-placed g c = c.requires.placed
 
-pub name_missing-requires-clause-slots : goal.name_missing-requires-clause-slots
-name_missing-requires-clause-slots g c = subst (λ (b : Given). b.slots ≤ 32) (sym c.flush_members-failed.ensures.given) c.requires.slots
+pub record_missing-requires-clause-slots : goal.record_missing-requires-clause-slots
+record_missing-requires-clause-slots g c = subst (λ (b : Given). b.slots ≤ 32) (sym c.flush_members-failed.ensures.given) c.requires.slots
 
 pub returns-clause-missing : goal.returns-clause-missing
-returns-clause-missing g c = c.name_missing.ensures.missing
+returns-clause-missing g c = c.record_missing.ensures.missing
 
 pub returns-clause-given : goal.returns-clause-given
-returns-clause-given g c = c.name_missing.ensures.given ∙ c.flush_members-failed.ensures.given
+returns-clause-given g c = c.record_missing.ensures.given ∙ c.flush_members-failed.ensures.given
 
 pub returns-clause-counts : goal.returns-clause-counts
-returns-clause-counts g c s = le_trans (c.flush_members-failed.ensures.counts.never_falls s) (c.name_missing.ensures.counts s)
+returns-clause-counts g c s = le_trans (c.flush_members-failed.ensures.counts.never_falls s) (c.record_missing.ensures.counts s)

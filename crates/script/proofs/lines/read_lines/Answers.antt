@@ -39,7 +39,7 @@ loop-line-preserved-in-PassedOver c =
     let means : PassedOver ≡ meaning_of c.loop-line.inside (get_or (lines_of c.args.text.now) (length c.loop-line.yielded) []) =
     sym c.in-PassedOver.is ∙ c.meaning_of_line-meaning.ensures ∙ ap (meaning_of c.loop-line.inside) (here.1) in
     let kept = so_far-silent (c.loop-line.invariant.1) (here.0) PassedOver means (omega (arith, count)) refl refl (λ e. e) in
-    (rw length_push (ap (λ n. n + 1) count), rw (length_push c.loop-line.yielded c.in-Some.line, c.is_inside_behind-inside.ensures, c.in-PassedOver.is) kept)
+    (rw length_push (ap (λ n. n + 1) count), rw (length_push c.loop-line.yielded c.in-Some.line, c.is_inside_after-inside.ensures, c.in-PassedOver.is) kept)
 
 pub loop-line-preserved-then-blocks : goal.loop-line-preserved-then-blocks
 loop-line-preserved-then-blocks c =
@@ -52,7 +52,7 @@ loop-line-preserved-then-blocks c =
     let means : Opens ≡ meaning_of c.loop-line.inside (get_or (lines_of c.args.text.now) (length c.loop-line.yielded) []) =
     sym c.in-Opens.is ∙ c.meaning_of_line-meaning.ensures ∙ ap (meaning_of c.loop-line.inside) (here.1) in
     let kept = so_far-silent (c.loop-line.invariant.1) (here.0) Opens means (omega (arith, count)) refl (ap not c.if-blocks.true) (λ e. absurd (cc)) in
-    (rw length_push (ap (λ n. n + 1) count), rw (length_push c.loop-line.yielded c.in-Some.line, c.is_inside_behind-inside.ensures, c.in-Opens.is) kept)
+    (rw length_push (ap (λ n. n + 1) count), rw (length_push c.loop-line.yielded c.in-Some.line, c.is_inside_after-inside.ensures, c.in-Opens.is) kept)
 
 pub returns-in-Opens-2-clause-bad : goal.returns-in-Opens-2-clause-bad
 returns-in-Opens-2-clause-bad c =
@@ -119,7 +119,7 @@ loop-line-preserved c =
     ∙ ap (λ n. c.loop-line.turns.script.items ++ in_turn c.loop-line.turns.waiting.items (record { number = n + 1; lane = c.in-Asks.lane; line = c.in-Asks.line } ∷ more)) count in
     let kept = so_far-asked (c.loop-line.invariant.1) (here.0) c.in-Asks.lane c.in-Asks.line c.push.new.self.script.items c.push.new.self.waiting.items
     means (omega (arith, count)) (omega (arith, size)) turn left in
-    (rw length_push (ap (λ n. n + 1) count), rw (length_push c.loop-line.yielded c.in-Some.line, c.is_inside_behind-inside.ensures, c.in-Asks.is, size) kept)
+    (rw length_push (ap (λ n. n + 1) count), rw (length_push c.loop-line.yielded c.in-Some.line, c.is_inside_after-inside.ensures, c.in-Asks.is, size) kept)
 
 pub returns-then-inside-clause-bad : goal.returns-then-inside-clause-bad
 returns-then-inside-clause-bad c =

@@ -106,7 +106,7 @@ loop-line-preserved c =
     let size = c.sectors_in-sectors.ensures in
     let good : c.in-Ok.meaning ≢ Bad = λ bad. true≢false (sym (c.in-Ok.ensures.bad.1 (sym c.in-Ok.ensures.meaning ∙ bad))) in
     let more = read_to-more (c.loop-line.invariant.1) (here.0) c.in-Ok.meaning means good (omega (arith, count)) (omega (arith, size)) in
-    (rw length_push (ap (λ n. n + 1) count), rw (length_push c.loop-line.yielded c.in-Some.line, c.is_inside_behind-inside.ensures, size) more)
+    (rw length_push (ap (λ n. n + 1) count), rw (length_push c.loop-line.yielded c.in-Some.line, c.is_inside_after-inside.ensures, size) more)
 
 pub returns-then-inside-clause-line : goal.returns-then-inside-clause-line
 returns-then-inside-clause-line c =

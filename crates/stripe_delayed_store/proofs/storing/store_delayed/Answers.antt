@@ -14,8 +14,8 @@ use Rattle.stripe_delayed_store.proofs.StoredLaws.{full-stays, rebuilt-stays}
 use mathlib.Core.List.{not-mem-nil}
 use Rattle.stripe_delayed_store.proofs.storing.store_delayed.Goals as goal
 
-pub name_missing-spares-requires-clause-free : goal.name_missing-spares-requires-clause-free
-name_missing-spares-requires-clause-free g c =
+pub record_missing-spares-requires-clause-free : goal.record_missing-spares-requires-clause-free
+record_missing-spares-requires-clause-free g c =
     let did = c.store_one-refusal.ensures in
     subst (λ (b : Given). AreSparesFree b c.store_one-refusal.new.members) (sym did.given) (did.moved.free c.requires.free)
 
@@ -62,35 +62,35 @@ returns-clause-moved g c =
     let given = g.B.Bank.given c.args.bank.now in
     let n = c.store_one-refusal.new.members in
     let did = c.store_one-refusal.ensures in
-    moved-then given c.args.members.now n c.name_missing-spares.new.members did.moved
-    (moved-from given (g.B.Bank.given c.store_one-refusal.new.bank) n n c.name_missing-spares.new.members did.given refl c.name_missing-spares.ensures.moved)
+    moved-then given c.args.members.now n c.record_missing-spares.new.members did.moved
+    (moved-from given (g.B.Bank.given c.store_one-refusal.new.bank) n n c.record_missing-spares.new.members did.given refl c.record_missing-spares.ensures.moved)
 
 pub returns-clause-failed : goal.returns-clause-failed
 returns-clause-failed g c =
-    since-then c.args.members.now c.store_one-refusal.new.members c.name_missing-spares.new.members 0 c.name_missing-spares.result c.name_missing-spares.result
-    (g.B.Bank.faults_of c.args.bank.now) (g.B.Bank.faults_of c.store_one-refusal.new.bank) (g.B.Bank.faults_of c.name_missing-spares.new.bank)
-    c.store_one-refusal.ensures.counts c.name_missing-spares.ensures.counts c.store_one-refusal.ensures.failed c.name_missing-spares.ensures.failed (in-second c.name_missing-spares.result)
+    since-then c.args.members.now c.store_one-refusal.new.members c.record_missing-spares.new.members 0 c.record_missing-spares.result c.record_missing-spares.result
+    (g.B.Bank.faults_of c.args.bank.now) (g.B.Bank.faults_of c.store_one-refusal.new.bank) (g.B.Bank.faults_of c.record_missing-spares.new.bank)
+    c.store_one-refusal.ensures.counts c.record_missing-spares.ensures.counts c.store_one-refusal.ensures.failed c.record_missing-spares.ensures.failed (in-second c.record_missing-spares.result)
 
 pub returns-clause-grows : goal.returns-clause-grows
-returns-clause-grows g c = grows-then c.store_one-refusal.ensures.grows c.name_missing-spares.ensures.grows
+returns-clause-grows g c = grows-then c.store_one-refusal.ensures.grows c.record_missing-spares.ensures.grows
 
 pub returns-clause-rise : goal.returns-clause-rise
-returns-clause-rise g c = risen-then c.store_one-refusal.ensures.rise c.name_missing-spares.ensures.rise
+returns-clause-rise g c = risen-then c.store_one-refusal.ensures.rise c.record_missing-spares.ensures.rise
 
 pub returns-clause-counts : goal.returns-clause-counts
-returns-clause-counts g c = λ s. le_trans (c.store_one-refusal.ensures.counts s) (c.name_missing-spares.ensures.counts s)
+returns-clause-counts g c = λ s. le_trans (c.store_one-refusal.ensures.counts s) (c.record_missing-spares.ensures.counts s)
 
 pub returns-clause-full : goal.returns-clause-full
 returns-clause-full g c = λ list told own.
     let given = g.B.Bank.given c.args.bank.now in
     let given1 = g.B.Bank.given c.store_one-refusal.new.bank in
     let tape1 = g.B.Bank.tape c.store_one-refusal.new.bank in
-    let tape2 = g.B.Bank.tape c.name_missing-spares.new.bank in
+    let tape2 = g.B.Bank.tape c.record_missing-spares.new.bank in
     let n = c.store_one-refusal.new.members in
     let did = c.store_one-refusal.ensures in
-    full-stays given n c.name_missing-spares.new.members (moved-from given given1 n n c.name_missing-spares.new.members did.given refl c.name_missing-spares.ensures.moved) did.moved.placed
+    full-stays given n c.record_missing-spares.new.members (moved-from given given1 n n c.record_missing-spares.new.members did.given refl c.record_missing-spares.ensures.moved) did.moved.placed
     (present given tape1) (present given tape2)
-    (subst (λ (b : Given). AreOthersPresent (present b tape1) (present b tape2)) did.given (c.name_missing-spares.ensures.others told))
+    (subst (λ (b : Given). AreOthersPresent (present b tape1) (present b tape2)) did.given (c.record_missing-spares.ensures.others told))
     c.args.shape.now list c.args.row (did.full list told own)
 
 pub returns-clause-rebuilt : goal.returns-clause-rebuilt
@@ -98,12 +98,12 @@ returns-clause-rebuilt g c = λ stored list told own differ.
     let given = g.B.Bank.given c.args.bank.now in
     let given1 = g.B.Bank.given c.store_one-refusal.new.bank in
     let tape1 = g.B.Bank.tape c.store_one-refusal.new.bank in
-    let tape2 = g.B.Bank.tape c.name_missing-spares.new.bank in
+    let tape2 = g.B.Bank.tape c.record_missing-spares.new.bank in
     let n = c.store_one-refusal.new.members in
     let did = c.store_one-refusal.ensures in
-    rebuilt-stays given n c.name_missing-spares.new.members (moved-from given given1 n n c.name_missing-spares.new.members did.given refl c.name_missing-spares.ensures.moved) did.moved.placed
+    rebuilt-stays given n c.record_missing-spares.new.members (moved-from given given1 n n c.record_missing-spares.new.members did.given refl c.record_missing-spares.ensures.moved) did.moved.placed
     (present given (g.B.Bank.tape c.args.bank.now)) (present given tape1) (present given tape2)
-    (subst (λ (b : Given). AreOthersPresent (present b tape1) (present b tape2)) did.given (c.name_missing-spares.ensures.others told))
+    (subst (λ (b : Given). AreOthersPresent (present b tape1) (present b tape2)) did.given (c.record_missing-spares.ensures.others told))
     c.args.shape.now stored list c.args.row (did.rebuilt stored list told own differ)
 
 pub returns-clause-others : goal.returns-clause-others
@@ -112,13 +112,13 @@ returns-clause-others g c = λ told.
     let given1 = g.B.Bank.given c.store_one-refusal.new.bank in
     let tape0 = g.B.Bank.tape c.args.bank.now in
     let tape1 = g.B.Bank.tape c.store_one-refusal.new.bank in
-    let tape2 = g.B.Bank.tape c.name_missing-spares.new.bank in
+    let tape2 = g.B.Bank.tape c.record_missing-spares.new.bank in
     let n = c.store_one-refusal.new.members in
     let did = c.store_one-refusal.ensures in
-    let moved = moved-from given given1 n n c.name_missing-spares.new.members did.given refl c.name_missing-spares.ensures.moved in
-    others-then given (λ other. other ≡ c.args.row) c.args.members.now n c.name_missing-spares.new.members (present given tape0) (present given tape1) (present given tape2) moved (did.others told)
-    (others-same given (λ other. other ≡ c.args.row) n c.name_missing-spares.new.members (present given tape1) (present given tape2) moved did.moved.placed
-    (subst (λ (b : Given). AreOthersPresent (present b tape1) (present b tape2)) did.given (c.name_missing-spares.ensures.others told)))
+    let moved = moved-from given given1 n n c.record_missing-spares.new.members did.given refl c.record_missing-spares.ensures.moved in
+    others-then given (λ other. other ≡ c.args.row) c.args.members.now n c.record_missing-spares.new.members (present given tape0) (present given tape1) (present given tape2) moved (did.others told)
+    (others-same given (λ other. other ≡ c.args.row) n c.record_missing-spares.new.members (present given tape1) (present given tape2) moved did.moved.placed
+    (subst (λ (b : Given). AreOthersPresent (present b tape1) (present b tape2)) did.given (c.record_missing-spares.ensures.others told)))
 
 pub returns-clause-safe : goal.returns-clause-safe
 returns-clause-safe g c = λ told world ledger room gone unclean dirty region list own allowed zeros safe.
@@ -126,11 +126,11 @@ returns-clause-safe g c = λ told world ledger room gone unclean dirty region li
     let given1 = g.B.Bank.given c.store_one-refusal.new.bank in
     let tape0 = g.B.Bank.tape c.args.bank.now in
     let tape1 = g.B.Bank.tape c.store_one-refusal.new.bank in
-    let tape2 = g.B.Bank.tape c.name_missing-spares.new.bank in
+    let tape2 = g.B.Bank.tape c.record_missing-spares.new.bank in
     let n = c.store_one-refusal.new.members in
     let did = c.store_one-refusal.ensures in
-    let named = c.name_missing-spares.ensures in
+    let named = c.record_missing-spares.ensures in
     let one = did.safe told world ledger dirty region list own allowed zeros safe in
-    safe-then (OpensFit world) world.scope given ledger n c.name_missing-spares.new.members tape0 tape1 tape2 one
-    (keeps-from world given given1 ledger c.name_missing-spares.new.members tape1 tape2 did.given
+    safe-then (OpensFit world) world.scope given ledger n c.record_missing-spares.new.members tape0 tape1 tape2 one
+    (keeps-from world given given1 ledger c.record_missing-spares.new.members tape1 tape2 did.given
     (named.safe told world ledger (room-then tape2 told room did.rise) gone (λ is. unclean) (over-at world given given1 ledger n tape1 did.given one.next)))

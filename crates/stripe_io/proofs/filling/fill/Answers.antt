@@ -16,7 +16,7 @@ use Rattle.sb_safe_updates.proofs.array_members_LackingLaws.{since-same, since-t
 use Rattle.sb_safe_updates.proofs.array_members_LackingLists.{none-of}
 use Rattle.sb_safe_updates.proofs.crash_safety_laws_Risen.{risen-none, risen-then}
 use Rattle.sb_safe_updates.proofs.array_members_SafeStretch.{safe-none}
-use Rattle.sb_safe_updates.proofs.array_members_MendedParts.{IsInParts, valid-in, part-within, part-touches, safe-part}
+use Rattle.sb_safe_updates.proofs.array_members_SyncedParts.{IsInParts, valid-in, part-within, part-touches, safe-part}
 use Rattle.stripe_io.proofs.FillingLaws.{filled-none, filled-then}
 use Rattle.sb_safe_updates.proofs.array_members_FilledParts.{touched-in_parts, touched-late, parts-longer, parts-of_stripe, stripe-in_parts, found-in, none-found, recovered-alone, recovered-rows, filled-before, data-filled, row-filled, full-kept}
 use Rattle.stripe_io.proofs.CallLaws.{some-none}

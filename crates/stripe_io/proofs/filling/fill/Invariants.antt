@@ -12,7 +12,7 @@ use Rattle.sb_safe_updates.specs.history_World.{World}
 use Rattle.sb_safe_updates.specs.array_members_Rebuilding.{IsFilledAmong}
 use Rattle.sb_safe_updates.specs.crash_views_Views.{Ledger}
 use Rattle.sb_safe_updates.specs.crash_safety_laws_Steady.{IsSafeOver, KeepsSafe, AreGoneTold, IsUncleanTold}
-use Rattle.sb_safe_updates.proofs.array_members_MendedParts.{IsInParts}
+use Rattle.sb_safe_updates.proofs.array_members_SyncedParts.{IsInParts}
 use Rattle.stripe_io.proofs.filling.fill.Given as goal
 
 abbrev pub decreases-loop-done : goal.decreases-loop-done

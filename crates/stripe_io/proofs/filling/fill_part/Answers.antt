@@ -92,8 +92,8 @@ returns-then-is_some-clause-named g c =
     λ still.
     named-none (g.B.Bank.given c.args.bank.now) (g.B.Bank.tape c.args.bank.now) (g.B.Bank.tape c.read_touched-read.new.bank) c.read_touched-read.ensures.tape
 
-pub name_missing-named-requires-clause-placed : goal.name_missing-named-requires-clause-placed
-name_missing-named-requires-clause-placed g c =
+pub record_missing-named-requires-clause-placed : goal.record_missing-named-requires-clause-placed
+record_missing-named-requires-clause-placed g c =
     let m = c.args.members.now in
     let n = c.read_touched-read.new.members in
     let given = g.B.Bank.given c.args.bank.now in
@@ -105,8 +105,8 @@ name_missing-named-requires-clause-placed g c =
     let lost : AreLost given shape m n r f0 f1 = lost-of given shape m n r f0 f1 c.requires.placed did.lost in
     subst (λ (b : Given). IsPlaced b n) (sym did.given) lost.placed
 
-pub name_missing-named-requires-clause-unlost : goal.name_missing-named-requires-clause-unlost
-name_missing-named-requires-clause-unlost g c =
+pub record_missing-named-requires-clause-unlost : goal.record_missing-named-requires-clause-unlost
+record_missing-named-requires-clause-unlost g c =
     let m = c.args.members.now in
     let n = c.read_touched-read.new.members in
     let given = g.B.Bank.given c.args.bank.now in
@@ -119,8 +119,8 @@ name_missing-named-requires-clause-unlost g c =
     let one : IsMoved given m n = moved-lost given shape m n r f0 f1 c.requires.placed lost c.requires.unlost in
     one.unlost
 
-pub name_missing-named-requires-clause-free : goal.name_missing-named-requires-clause-free
-name_missing-named-requires-clause-free g c =
+pub record_missing-named-requires-clause-free : goal.record_missing-named-requires-clause-free
+record_missing-named-requires-clause-free g c =
     let m = c.args.members.now in
     let n = c.read_touched-read.new.members in
     let given = g.B.Bank.given c.args.bank.now in
@@ -146,8 +146,8 @@ returns-then-is_some-2-clause-moved g c =
     let did = c.read_touched-read.ensures in
     let lost : AreLost given shape m n r f0 f1 = lost-of given shape m n r f0 f1 c.requires.placed did.lost in
     let one : IsMoved given m n = moved-lost given shape m n r f0 f1 c.requires.placed lost c.requires.unlost in
-    let p = c.name_missing-named.new.members in
-    let named = c.name_missing-named.ensures in
+    let p = c.record_missing-named.new.members in
+    let named = c.record_missing-named.ensures in
     let two : IsMoved given n p = moved-from given given1 n n p did.given refl named.moved in
     let both : IsMoved given m p = moved-then given m n p one two in
     both
@@ -163,21 +163,21 @@ returns-then-is_some-2-clause-failed g c =
     let shape = c.args.shape.now in
     let did = c.read_touched-read.ensures in
     let lost : AreLost given shape m n r f0 f1 = lost-of given shape m n r f0 f1 c.requires.placed did.lost in
-    let p = c.name_missing-named.new.members in
-    let f2 = g.B.Bank.faults_of c.name_missing-named.new.bank in
-    let named = c.name_missing-named.ensures in
-    let s = c.name_missing-named.result in
+    let p = c.record_missing-named.new.members in
+    let f2 = g.B.Bank.faults_of c.record_missing-named.new.bank in
+    let named = c.record_missing-named.ensures in
+    let s = c.record_missing-named.result in
     let failed2 : HaveFailedSince m p s f0 f2 = since-then m n p 0 s s f0 f1 f2 did.lost.never_falls named.counts (since-lost given shape m n r f0 f1 lost) named.failed (in-second s) in
     failed2
 
 pub returns-then-is_some-2-clause-grows : goal.returns-then-is_some-2-clause-grows
 returns-then-is_some-2-clause-grows g c =
     let early : Grows g.B.Bank.tells (g.B.Bank.tape c.args.bank.now) (g.B.Bank.tape c.read_touched-read.new.bank) = grows-none c.read_touched-read.ensures.tape in
-    grows-then early c.name_missing-named.ensures.grows
+    grows-then early c.record_missing-named.ensures.grows
 
 pub returns-then-is_some-2-clause-clean : goal.returns-then-is_some-2-clause-clean
 returns-then-is_some-2-clause-clean g c =
-    c.name_missing-named.ensures.clean ∙ ap (λ (x : Members). is_clean x.newest) c.read_touched-read.ensures.lost.members
+    c.record_missing-named.ensures.clean ∙ ap (λ (x : Members). is_clean x.newest) c.read_touched-read.ensures.lost.members
 
 pub returns-then-is_some-2-clause-named : goal.returns-then-is_some-2-clause-named
 returns-then-is_some-2-clause-named g c =
@@ -185,10 +185,10 @@ returns-then-is_some-2-clause-named g c =
     let given = g.B.Bank.given c.args.bank.now in
     let given1 = g.B.Bank.given c.read_touched-read.new.bank in
     let did = c.read_touched-read.ensures in
-    let named = c.name_missing-named.ensures in
+    let named = c.record_missing-named.ensures in
     let tape0 = g.B.Bank.tape c.args.bank.now in
     let tape1 = g.B.Bank.tape c.read_touched-read.new.bank in
-    let tape2 = g.B.Bank.tape c.name_missing-named.new.bank in
+    let tape2 = g.B.Bank.tape c.record_missing-named.new.bank in
     named-only given given1 tape0 tape1 tape2 did.given did.tape named.«data»
 
 pub returns-then-is_some-2-clause-others : goal.returns-then-is_some-2-clause-others
@@ -198,12 +198,12 @@ returns-then-is_some-2-clause-others g c =
     let given = g.B.Bank.given c.args.bank.now in
     let shape = c.args.shape.now in
     let did = c.read_touched-read.ensures in
-    let named = c.name_missing-named.ensures in
+    let named = c.record_missing-named.ensures in
     let role = c.args.target.now.role in
     let slot = c.args.target.now.slot in
     let tape0 = g.B.Bank.tape c.args.bank.now in
     let tape1 = g.B.Bank.tape c.read_touched-read.new.bank in
-    let tape2 = g.B.Bank.tape c.name_missing-named.new.bank in
+    let tape2 = g.B.Bank.tape c.record_missing-named.new.bank in
     let touched = IsTouched shape c.args.first c.args.count in
     others-filled m role slot touched (present given tape0) (present given tape0) (present given tape2) (filled-none m role slot touched (present given tape0))
     (subst (λ (l : List Operation). AreOthersPresent (present given l) (present given tape2)) (did.tape told)
@@ -220,11 +220,11 @@ returns-then-is_some-2-clause-rise g c =
     let shape = c.args.shape.now in
     let did = c.read_touched-read.ensures in
     let lost : AreLost given shape m n r f0 f1 = lost-of given shape m n r f0 f1 c.requires.placed did.lost in
-    let p = c.name_missing-named.new.members in
-    let named = c.name_missing-named.ensures in
+    let p = c.record_missing-named.new.members in
+    let named = c.record_missing-named.ensures in
     let tape0 = g.B.Bank.tape c.args.bank.now in
     let tape1 = g.B.Bank.tape c.read_touched-read.new.bank in
-    let tape2 = g.B.Bank.tape c.name_missing-named.new.bank in
+    let tape2 = g.B.Bank.tape c.record_missing-named.new.bank in
     let risen1 : IsRisen g.B.Bank.tells m n tape0 tape1 = risen-lost m n r tape0 tape1 did.lost.members (λ told. let same = ap (λ (l : List Operation). length l) (did.tape told) in omega (arith, same)) in
     let risen2 : IsRisen g.B.Bank.tells m p tape0 tape2 = risen-then risen1 named.rise in
     risen2
@@ -242,11 +242,11 @@ returns-then-is_some-2-clause-safe g c =
     let shape = c.args.shape.now in
     let did = c.read_touched-read.ensures in
     let lost : AreLost given shape m n r f0 f1 = lost-of given shape m n r f0 f1 c.requires.placed did.lost in
-    let p = c.name_missing-named.new.members in
-    let named = c.name_missing-named.ensures in
+    let p = c.record_missing-named.new.members in
+    let named = c.record_missing-named.ensures in
     let tape0 = g.B.Bank.tape c.args.bank.now in
     let tape1 = g.B.Bank.tape c.read_touched-read.new.bank in
-    let tape2 = g.B.Bank.tape c.name_missing-named.new.bank in
+    let tape2 = g.B.Bank.tape c.record_missing-named.new.bank in
     let risen1 : IsRisen g.B.Bank.tells m n tape0 tape1 = risen-lost m n r tape0 tape1 did.lost.members (λ told. let same = ap (λ (l : List Operation). length l) (did.tape told) in omega (arith, same)) in
     let first : KeepsSafe world given ledger n tape0 tape1 = safe-lost (OpensFit world) world.scope given ledger m n r tape0 tape1 did.lost.members (did.tape told) safe in
     let unclean1 : IsUncleanTold ledger n = λ dirty. unclean (sym (ap (λ (x : Members). is_clean x.newest) did.lost.members) ∙ dirty) in
@@ -256,14 +256,14 @@ returns-then-is_some-2-clause-safe g c =
 
 pub returns-then-is_some-2-clause-counts : goal.returns-then-is_some-2-clause-counts
 returns-then-is_some-2-clause-counts g c =
-    λ k. le_trans (c.read_touched-read.ensures.lost.never_falls k) (c.name_missing-named.ensures.counts k)
+    λ k. le_trans (c.read_touched-read.ensures.lost.never_falls k) (c.record_missing-named.ensures.counts k)
 
 pub fill_rows-lost-requires-clause-slots : goal.fill_rows-lost-requires-clause-slots
 fill_rows-lost-requires-clause-slots g c =
     let given = g.B.Bank.given c.args.bank.now in
     let did = c.read_touched-read.ensures in
-    let given2 = g.B.Bank.given c.name_missing-named.new.bank in
-    let named = c.name_missing-named.ensures in
+    let given2 = g.B.Bank.given c.record_missing-named.new.bank in
+    let named = c.record_missing-named.ensures in
     let same2 : given2 ≡ given = named.given ∙ did.given in
     subst (λ (b : Given). b.slots ≤ 32) (sym same2) c.requires.slots
 
@@ -273,9 +273,9 @@ fill_rows-lost-requires-clause-placed g c =
     let given = g.B.Bank.given c.args.bank.now in
     let given1 = g.B.Bank.given c.read_touched-read.new.bank in
     let did = c.read_touched-read.ensures in
-    let p = c.name_missing-named.new.members in
-    let given2 = g.B.Bank.given c.name_missing-named.new.bank in
-    let named = c.name_missing-named.ensures in
+    let p = c.record_missing-named.new.members in
+    let given2 = g.B.Bank.given c.record_missing-named.new.bank in
+    let named = c.record_missing-named.ensures in
     let same2 : given2 ≡ given = named.given ∙ did.given in
     let two : IsMoved given n p = moved-from given given1 n n p did.given refl named.moved in
     subst (λ (b : Given). IsPlaced b p) (sym same2) two.placed
@@ -286,8 +286,8 @@ fill_rows-lost-requires-clause-unlost g c =
     let given = g.B.Bank.given c.args.bank.now in
     let given1 = g.B.Bank.given c.read_touched-read.new.bank in
     let did = c.read_touched-read.ensures in
-    let p = c.name_missing-named.new.members in
-    let named = c.name_missing-named.ensures in
+    let p = c.record_missing-named.new.members in
+    let named = c.record_missing-named.ensures in
     let two : IsMoved given n p = moved-from given given1 n n p did.given refl named.moved in
     two.unlost
 
@@ -304,9 +304,9 @@ fill_rows-lost-requires-clause-free g c =
     let did = c.read_touched-read.ensures in
     let lost : AreLost given shape m n r f0 f1 = lost-of given shape m n r f0 f1 c.requires.placed did.lost in
     let one : IsMoved given m n = moved-lost given shape m n r f0 f1 c.requires.placed lost c.requires.unlost in
-    let p = c.name_missing-named.new.members in
-    let given2 = g.B.Bank.given c.name_missing-named.new.bank in
-    let named = c.name_missing-named.ensures in
+    let p = c.record_missing-named.new.members in
+    let given2 = g.B.Bank.given c.record_missing-named.new.bank in
+    let named = c.record_missing-named.ensures in
     let same2 : given2 ≡ given = named.given ∙ did.given in
     let two : IsMoved given n p = moved-from given given1 n n p did.given refl named.moved in
     let both : IsMoved given m p = moved-then given m n p one two in
@@ -319,8 +319,8 @@ fill_rows-lost-requires-clause-named g c =
     let given = g.B.Bank.given c.args.bank.now in
     let given1 = g.B.Bank.given c.read_touched-read.new.bank in
     let did = c.read_touched-read.ensures in
-    let p = c.name_missing-named.new.members in
-    let named = c.name_missing-named.ensures in
+    let p = c.record_missing-named.new.members in
+    let named = c.record_missing-named.ensures in
     let two : IsMoved given n p = moved-from given given1 n n p did.given refl named.moved in
     let role = c.args.target.now.role in
     let slot = c.args.target.now.slot in
@@ -339,8 +339,8 @@ fill_rows-lost-requires-clause-shape g c =
     let did = c.read_touched-read.ensures in
     let lost : AreLost given shape m n r f0 f1 = lost-of given shape m n r f0 f1 c.requires.placed did.lost in
     let one : IsMoved given m n = moved-lost given shape m n r f0 f1 c.requires.placed lost c.requires.unlost in
-    let p = c.name_missing-named.new.members in
-    let named = c.name_missing-named.ensures in
+    let p = c.record_missing-named.new.members in
+    let named = c.record_missing-named.ensures in
     let two : IsMoved given n p = moved-from given given1 n n p did.given refl named.moved in
     let both : IsMoved given m p = moved-then given m n p one two in
     c.requires.shape ∙ sym both.shape
@@ -358,8 +358,8 @@ fill_rows-lost-requires-clause-recovering g c =
     let did = c.read_touched-read.ensures in
     let lost : AreLost given shape m n r f0 f1 = lost-of given shape m n r f0 f1 c.requires.placed did.lost in
     let one : IsMoved given m n = moved-lost given shape m n r f0 f1 c.requires.placed lost c.requires.unlost in
-    let p = c.name_missing-named.new.members in
-    let named = c.name_missing-named.ensures in
+    let p = c.record_missing-named.new.members in
+    let named = c.record_missing-named.ensures in
     let two : IsMoved given n p = moved-from given given1 n n p did.given refl named.moved in
     let both : IsMoved given m p = moved-then given m n p one two in
     let role = c.args.target.now.role in
@@ -379,8 +379,8 @@ fill_rows-lost-requires-clause-offset g c =
     let did = c.read_touched-read.ensures in
     let lost : AreLost given shape m n r f0 f1 = lost-of given shape m n r f0 f1 c.requires.placed did.lost in
     let one : IsMoved given m n = moved-lost given shape m n r f0 f1 c.requires.placed lost c.requires.unlost in
-    let p = c.name_missing-named.new.members in
-    let named = c.name_missing-named.ensures in
+    let p = c.record_missing-named.new.members in
+    let named = c.record_missing-named.ensures in
     let two : IsMoved given n p = moved-from given given1 n n p did.given refl named.moved in
     let both : IsMoved given m p = moved-then given m n p one two in
     let slot = c.args.target.now.slot in
@@ -399,8 +399,8 @@ fill_rows-lost-requires-clause-held g c =
     let did = c.read_touched-read.ensures in
     let lost : AreLost given shape m n r f0 f1 = lost-of given shape m n r f0 f1 c.requires.placed did.lost in
     let one : IsMoved given m n = moved-lost given shape m n r f0 f1 c.requires.placed lost c.requires.unlost in
-    let p = c.name_missing-named.new.members in
-    let named = c.name_missing-named.ensures in
+    let p = c.record_missing-named.new.members in
+    let named = c.record_missing-named.ensures in
     let two : IsMoved given n p = moved-from given given1 n n p did.given refl named.moved in
     let both : IsMoved given m p = moved-then given m n p one two in
     let role = c.args.target.now.role in
@@ -421,8 +421,8 @@ fill_rows-lost-requires-clause-below g c =
     let did = c.read_touched-read.ensures in
     let lost : AreLost given shape m n r f0 f1 = lost-of given shape m n r f0 f1 c.requires.placed did.lost in
     let one : IsMoved given m n = moved-lost given shape m n r f0 f1 c.requires.placed lost c.requires.unlost in
-    let p = c.name_missing-named.new.members in
-    let named = c.name_missing-named.ensures in
+    let p = c.record_missing-named.new.members in
+    let named = c.record_missing-named.ensures in
     let two : IsMoved given n p = moved-from given given1 n n p did.given refl named.moved in
     let both : IsMoved given m p = moved-then given m n p one two in
     subst (λ (most : ℕ). row < most) (sym both.size) (did.below row (subst (λ (l : List ℕ). Contains l row) c.as_slice.ensures.value has))
@@ -440,9 +440,9 @@ returns-clause-moved g c =
     let did = c.read_touched-read.ensures in
     let lost : AreLost given shape m n r f0 f1 = lost-of given shape m n r f0 f1 c.requires.placed did.lost in
     let one : IsMoved given m n = moved-lost given shape m n r f0 f1 c.requires.placed lost c.requires.unlost in
-    let p = c.name_missing-named.new.members in
-    let given2 = g.B.Bank.given c.name_missing-named.new.bank in
-    let named = c.name_missing-named.ensures in
+    let p = c.record_missing-named.new.members in
+    let given2 = g.B.Bank.given c.record_missing-named.new.bank in
+    let named = c.record_missing-named.ensures in
     let same2 : given2 ≡ given = named.given ∙ did.given in
     let two : IsMoved given n p = moved-from given given1 n n p did.given refl named.moved in
     let both : IsMoved given m p = moved-then given m n p one two in
@@ -462,10 +462,10 @@ returns-clause-failed g c =
     let shape = c.args.shape.now in
     let did = c.read_touched-read.ensures in
     let lost : AreLost given shape m n r f0 f1 = lost-of given shape m n r f0 f1 c.requires.placed did.lost in
-    let p = c.name_missing-named.new.members in
-    let f2 = g.B.Bank.faults_of c.name_missing-named.new.bank in
-    let named = c.name_missing-named.ensures in
-    let s = c.name_missing-named.result in
+    let p = c.record_missing-named.new.members in
+    let f2 = g.B.Bank.faults_of c.record_missing-named.new.bank in
+    let named = c.record_missing-named.ensures in
+    let s = c.record_missing-named.result in
     let q = c.fill_rows-lost.new.members in
     let filled = c.fill_rows-lost.ensures in
     let f3 = g.B.Bank.faults_of c.fill_rows-lost.new.bank in
@@ -476,16 +476,16 @@ returns-clause-failed g c =
 pub returns-clause-grows : goal.returns-clause-grows
 returns-clause-grows g c =
     let early : Grows g.B.Bank.tells (g.B.Bank.tape c.args.bank.now) (g.B.Bank.tape c.read_touched-read.new.bank) = grows-none c.read_touched-read.ensures.tape in
-    grows-then early (grows-then c.name_missing-named.ensures.grows c.fill_rows-lost.ensures.grows)
+    grows-then early (grows-then c.record_missing-named.ensures.grows c.fill_rows-lost.ensures.grows)
 
 pub returns-clause-clean : goal.returns-clause-clean
 returns-clause-clean g c =
-    c.fill_rows-lost.ensures.clean ∙ c.name_missing-named.ensures.clean ∙ ap (λ (x : Members). is_clean x.newest) c.read_touched-read.ensures.lost.members
+    c.fill_rows-lost.ensures.clean ∙ c.record_missing-named.ensures.clean ∙ ap (λ (x : Members). is_clean x.newest) c.read_touched-read.ensures.lost.members
 
 pub returns-clause-missing : goal.returns-clause-missing
 returns-clause-missing g c =
     λ none live.
-    let named = c.name_missing-named.ensures in
+    let named = c.record_missing-named.ensures in
     let filled = c.fill_rows-lost.ensures in
     filled.missing (named.missing (filled.rise.left live)) live
 
@@ -495,13 +495,13 @@ returns-clause-named g c =
     let given = g.B.Bank.given c.args.bank.now in
     let given1 = g.B.Bank.given c.read_touched-read.new.bank in
     let did = c.read_touched-read.ensures in
-    let given2 = g.B.Bank.given c.name_missing-named.new.bank in
-    let named = c.name_missing-named.ensures in
+    let given2 = g.B.Bank.given c.record_missing-named.new.bank in
+    let named = c.record_missing-named.ensures in
     let same2 : given2 ≡ given = named.given ∙ did.given in
     let filled = c.fill_rows-lost.ensures in
     let tape0 = g.B.Bank.tape c.args.bank.now in
     let tape1 = g.B.Bank.tape c.read_touched-read.new.bank in
-    let tape2 = g.B.Bank.tape c.name_missing-named.new.bank in
+    let tape2 = g.B.Bank.tape c.record_missing-named.new.bank in
     let tape3 = g.B.Bank.tape c.fill_rows-lost.new.bank in
     named-first given given1 given2 tape0 tape1 tape2 tape3 did.given same2 did.tape named.«data» (filled.kept still)
 
@@ -513,8 +513,8 @@ returns-clause-filled g c =
     let given = g.B.Bank.given c.args.bank.now in
     let shape = c.args.shape.now in
     let did = c.read_touched-read.ensures in
-    let given2 = g.B.Bank.given c.name_missing-named.new.bank in
-    let named = c.name_missing-named.ensures in
+    let given2 = g.B.Bank.given c.record_missing-named.new.bank in
+    let named = c.record_missing-named.ensures in
     let same2 : given2 ≡ given = named.given ∙ did.given in
     let role = c.args.target.now.role in
     let slot = c.args.target.now.slot in
@@ -551,9 +551,9 @@ returns-clause-others g c =
     let did = c.read_touched-read.ensures in
     let lost : AreLost given shape m n r f0 f1 = lost-of given shape m n r f0 f1 c.requires.placed did.lost in
     let one : IsMoved given m n = moved-lost given shape m n r f0 f1 c.requires.placed lost c.requires.unlost in
-    let p = c.name_missing-named.new.members in
-    let given2 = g.B.Bank.given c.name_missing-named.new.bank in
-    let named = c.name_missing-named.ensures in
+    let p = c.record_missing-named.new.members in
+    let given2 = g.B.Bank.given c.record_missing-named.new.bank in
+    let named = c.record_missing-named.ensures in
     let same2 : given2 ≡ given = named.given ∙ did.given in
     let two : IsMoved given n p = moved-from given given1 n n p did.given refl named.moved in
     let both : IsMoved given m p = moved-then given m n p one two in
@@ -562,7 +562,7 @@ returns-clause-others g c =
     let filled = c.fill_rows-lost.ensures in
     let tape0 = g.B.Bank.tape c.args.bank.now in
     let tape1 = g.B.Bank.tape c.read_touched-read.new.bank in
-    let tape2 = g.B.Bank.tape c.name_missing-named.new.bank in
+    let tape2 = g.B.Bank.tape c.record_missing-named.new.bank in
     let tape3 = g.B.Bank.tape c.fill_rows-lost.new.bank in
     let touched = IsTouched shape c.args.first c.args.count in
     let c0 = present given tape0 in
@@ -588,12 +588,12 @@ returns-clause-rise g c =
     let shape = c.args.shape.now in
     let did = c.read_touched-read.ensures in
     let lost : AreLost given shape m n r f0 f1 = lost-of given shape m n r f0 f1 c.requires.placed did.lost in
-    let p = c.name_missing-named.new.members in
-    let named = c.name_missing-named.ensures in
+    let p = c.record_missing-named.new.members in
+    let named = c.record_missing-named.ensures in
     let filled = c.fill_rows-lost.ensures in
     let tape0 = g.B.Bank.tape c.args.bank.now in
     let tape1 = g.B.Bank.tape c.read_touched-read.new.bank in
-    let tape2 = g.B.Bank.tape c.name_missing-named.new.bank in
+    let tape2 = g.B.Bank.tape c.record_missing-named.new.bank in
     let risen1 : IsRisen g.B.Bank.tells m n tape0 tape1 = risen-lost m n r tape0 tape1 did.lost.members (λ told. let same = ap (λ (l : List Operation). length l) (did.tape told) in omega (arith, same)) in
     let risen2 : IsRisen g.B.Bank.tells m p tape0 tape2 = risen-then risen1 named.rise in
     risen-then risen2 filled.rise
@@ -611,9 +611,9 @@ returns-clause-safe g c =
     let shape = c.args.shape.now in
     let did = c.read_touched-read.ensures in
     let lost : AreLost given shape m n r f0 f1 = lost-of given shape m n r f0 f1 c.requires.placed did.lost in
-    let p = c.name_missing-named.new.members in
-    let given2 = g.B.Bank.given c.name_missing-named.new.bank in
-    let named = c.name_missing-named.ensures in
+    let p = c.record_missing-named.new.members in
+    let given2 = g.B.Bank.given c.record_missing-named.new.bank in
+    let named = c.record_missing-named.ensures in
     let same2 : given2 ≡ given = named.given ∙ did.given in
     let two : IsMoved given n p = moved-from given given1 n n p did.given refl named.moved in
     let q = c.fill_rows-lost.new.members in
@@ -621,7 +621,7 @@ returns-clause-safe g c =
     let three : IsMoved given p q = moved-from given given2 p p q same2 refl filled.moved in
     let tape0 = g.B.Bank.tape c.args.bank.now in
     let tape1 = g.B.Bank.tape c.read_touched-read.new.bank in
-    let tape2 = g.B.Bank.tape c.name_missing-named.new.bank in
+    let tape2 = g.B.Bank.tape c.record_missing-named.new.bank in
     let tape3 = g.B.Bank.tape c.fill_rows-lost.new.bank in
     let risen1 : IsRisen g.B.Bank.tells m n tape0 tape1 = risen-lost m n r tape0 tape1 did.lost.members (λ told. let same = ap (λ (l : List Operation). length l) (did.tape told) in omega (arith, same)) in
     let risen2 : IsRisen g.B.Bank.tells m p tape0 tape2 = risen-then risen1 named.rise in
@@ -638,7 +638,7 @@ returns-clause-safe g c =
 
 pub returns-clause-counts : goal.returns-clause-counts
 returns-clause-counts g c =
-    λ k. le_trans (c.read_touched-read.ensures.lost.never_falls k) (le_trans (c.name_missing-named.ensures.counts k) (c.fill_rows-lost.ensures.counts k))
+    λ k. le_trans (c.read_touched-read.ensures.lost.never_falls k) (le_trans (c.record_missing-named.ensures.counts k) (c.fill_rows-lost.ensures.counts k))
 
 pub read_touched-read-requires-clause-rows : goal.read_touched-read-requires-clause-rows
 read_touched-read-requires-clause-rows g c = has-rows (g.B.Bank.given c.args.bank.now) c.args.members.now c.requires.placed c.args.shape.now (inl c.requires.shape)
@@ -675,29 +675,29 @@ pub returns-then-is_some-clause-others : goal.returns-then-is_some-clause-others
 returns-then-is_some-clause-others g c told s k places =
     inl (ap (λ (l : List Operation). present (g.B.Bank.given c.args.bank.now) l s k) (c.read_touched-read.ensures.tape told))
 
-pub name_missing-named-requires-clause-slots : goal.name_missing-named-requires-clause-slots
-name_missing-named-requires-clause-slots g c = subst (λ (b : Given). b.slots ≤ 32) (sym c.read_touched-read.ensures.given) c.requires.slots
+pub record_missing-named-requires-clause-slots : goal.record_missing-named-requires-clause-slots
+record_missing-named-requires-clause-slots g c = subst (λ (b : Given). b.slots ≤ 32) (sym c.read_touched-read.ensures.given) c.requires.slots
 
 pub too_many_of-refusal-requires-clause-shape : goal.too_many_of-refusal-requires-clause-shape
 too_many_of-refusal-requires-clause-shape g c = force-valid c.args.members.now.newest c.requires.placed.fit c.args.shape.now (inl c.requires.shape)
 
 pub too_many_of-refusal-requires-clause-roles : goal.too_many_of-refusal-requires-clause-roles
 too_many_of-refusal-requires-clause-roles g c =
-    disks-within (g.B.Bank.given c.read_touched-read.new.bank) c.name_missing-named.new.members c.name_missing-named.ensures.moved.placed c.args.shape.now
-    (inl (c.requires.shape ∙ sym (c.name_missing-named.ensures.moved.shape ∙ ap (λ (x : Members). shape_of x.newest) c.read_touched-read.ensures.lost.members)))
+    disks-within (g.B.Bank.given c.read_touched-read.new.bank) c.record_missing-named.new.members c.record_missing-named.ensures.moved.placed c.args.shape.now
+    (inl (c.requires.shape ∙ sym (c.record_missing-named.ensures.moved.shape ∙ ap (λ (x : Members). shape_of x.newest) c.read_touched-read.ensures.lost.members)))
 
 pub is_some-requires-2 : goal.is_some-requires-2
 is_some-requires-2 g c κs a has = absurd (not-mem-nil has)
 
 pub returns-then-is_some-2-clause-refused : goal.returns-then-is_some-2-clause-refused
 returns-then-is_some-2-clause-refused g c =
-    told-only (DoesWithout c.args.shape.now c.name_missing-named.new.members) (LacksTooMany c.args.shape.now c.name_missing-named.new.members) c.too_many_of-refusal.result c.too_many_of-refusal.ensures
+    told-only (DoesWithout c.args.shape.now c.record_missing-named.new.members) (LacksTooMany c.args.shape.now c.record_missing-named.new.members) c.too_many_of-refusal.result c.too_many_of-refusal.ensures
 
 pub returns-then-is_some-2-clause-filled : goal.returns-then-is_some-2-clause-filled
 returns-then-is_some-2-clause-filled g c none still told list stands rows row touched held = absurd (some-none c.too_many_of-refusal.result (sym c.is_some-2.ensures ∙ c.if-is_some-2.true) none)
 
 pub returns-then-is_some-2-clause-given : goal.returns-then-is_some-2-clause-given
-returns-then-is_some-2-clause-given g c = c.name_missing-named.ensures.given ∙ c.read_touched-read.ensures.given
+returns-then-is_some-2-clause-given g c = c.record_missing-named.ensures.given ∙ c.read_touched-read.ensures.given
 
 pub as_mut_slice-bytes-requires : goal.as_mut_slice-bytes-requires
 as_mut_slice-bytes-requires g c κs = ((λ a has. absurd (not-mem-nil has)), (λ a has. absurd (not-mem-nil has)))
@@ -714,7 +714,7 @@ fill_rows-lost-requires-clause-buffer g c =
     c.as_slice.ensures.value c.read_touched-read.ensures.few c.requires.few c.as_mut_slice-bytes.ensures.value c.read_touched-read.ensures.size c.requires.buffer
 
 pub returns-clause-given : goal.returns-clause-given
-returns-clause-given g c = c.fill_rows-lost.ensures.given ∙ c.name_missing-named.ensures.given ∙ c.read_touched-read.ensures.given
+returns-clause-given g c = c.fill_rows-lost.ensures.given ∙ c.record_missing-named.ensures.given ∙ c.read_touched-read.ensures.given
 
 pub returns-clause-buffer : goal.returns-clause-buffer
 returns-clause-buffer g c =
@@ -743,7 +743,7 @@ pub returns-then-is_some-clause-given : goal.returns-then-is_some-clause-given
 returns-then-is_some-clause-given g c = c.read_touched-read.ensures.given
 
 pub returns-then-is_some-2-clause-missing : goal.returns-then-is_some-2-clause-missing
-returns-then-is_some-2-clause-missing g c none = c.name_missing-named.ensures.missing
+returns-then-is_some-2-clause-missing g c none = c.record_missing-named.ensures.missing
 
 pub fill_rows-lost-requires-clause-role : goal.fill_rows-lost-requires-clause-role
 fill_rows-lost-requires-clause-role g c = c.requires.role

@@ -65,12 +65,12 @@ lose_slot-requires-clause-slot g c =
 pub lose_slot-requires-clause-small : goal.lose_slot-requires-clause-small
 lose_slot-requires-clause-small g c = λ role slot held. (c.requires.placed.holders role slot held).small
 
-pub name_missing-requires-clause-slots : goal.name_missing-requires-clause-slots
-name_missing-requires-clause-slots g c =
+pub record_missing-requires-clause-slots : goal.record_missing-requires-clause-slots
+record_missing-requires-clause-slots g c =
     subst (λ (b : Given). b.slots ≤ 32) (sym c.write_filled.ensures.given) c.requires.slots
 
-pub name_missing-requires-clause-placed : goal.name_missing-requires-clause-placed
-name_missing-requires-clause-placed g c =
+pub record_missing-requires-clause-placed : goal.record_missing-requires-clause-placed
+record_missing-requires-clause-placed g c =
     let given = g.B.Bank.given c.args.bank.now in
     let m = c.args.members.now in
     let n = c.lose_slot.new.members in
@@ -86,8 +86,8 @@ name_missing-requires-clause-placed g c =
     let one : IsMoved given m n = moved-lost given shape m n c.lose_slot.result f0 f1 c.requires.placed lost c.requires.unlost in
     subst (λ (b : Given). IsPlaced b n) (sym c.write_filled.ensures.given) one.placed
 
-pub name_missing-requires-clause-unlost : goal.name_missing-requires-clause-unlost
-name_missing-requires-clause-unlost g c =
+pub record_missing-requires-clause-unlost : goal.record_missing-requires-clause-unlost
+record_missing-requires-clause-unlost g c =
     let given = g.B.Bank.given c.args.bank.now in
     let m = c.args.members.now in
     let n = c.lose_slot.new.members in
@@ -103,8 +103,8 @@ name_missing-requires-clause-unlost g c =
     let one : IsMoved given m n = moved-lost given shape m n c.lose_slot.result f0 f1 c.requires.placed lost c.requires.unlost in
     one.unlost
 
-pub name_missing-requires-clause-free : goal.name_missing-requires-clause-free
-name_missing-requires-clause-free g c =
+pub record_missing-requires-clause-free : goal.record_missing-requires-clause-free
+record_missing-requires-clause-free g c =
     let given = g.B.Bank.given c.args.bank.now in
     let m = c.args.members.now in
     let n = c.lose_slot.new.members in
@@ -137,8 +137,8 @@ returns-clause-moved g c =
     let one : IsMoved given m n = moved-lost given shape m n c.lose_slot.result f0 f1 c.requires.placed lost c.requires.unlost in
     let given1 = g.B.Bank.given c.write_filled.new.bank in
     let same : given1 ≡ given = c.write_filled.ensures.given in
-    let q = c.name_missing.new.members in
-    let named = c.name_missing.ensures in
+    let q = c.record_missing.new.members in
+    let named = c.record_missing.ensures in
     let two : IsMoved given n q = moved-from given given1 n n q same refl named.moved in
     moved-then given m n q one two
 
@@ -156,19 +156,19 @@ returns-clause-failed g c =
     let recovers : role_state (reading_of m) role ≡ Recovering slot = subst (λ (s : ℕ). role_state (reading_of m) role ≡ Recovering s) (c.requires.recovering found.0 found.1) found.1 in
     let lost : AreLost given shape m n c.lose_slot.result f0 f1 = lost-of given shape m n c.lose_slot.result f0 f1 c.requires.placed
     (slot_lost shape m n c.lose_slot.result slot role f0 f1 c.lose_slot.ensures.members c.lose_slot.ensures.alone c.requires.role (ap holder recovers) (c.write_filled.ensures.failed c.if-write_filled.false) c.write_filled.ensures.counts) in
-    let q = c.name_missing.new.members in
-    let named = c.name_missing.ensures in
-    let f2 = g.B.Bank.faults_of c.name_missing.new.bank in
-    let s = c.name_missing.result in
+    let q = c.record_missing.new.members in
+    let named = c.record_missing.ensures in
+    let f2 = g.B.Bank.faults_of c.record_missing.new.bank in
+    let s = c.record_missing.result in
     since-then m n q 0 s s f0 f1 f2 c.write_filled.ensures.counts named.counts (since-lost given shape m n c.lose_slot.result f0 f1 lost) named.failed (in-second s)
 
 pub returns-clause-clean : goal.returns-clause-clean
 returns-clause-clean g c =
-    c.name_missing.ensures.clean ∙ ap (λ (x : Members). is_clean x.newest) c.lose_slot.ensures.members
+    c.record_missing.ensures.clean ∙ ap (λ (x : Members). is_clean x.newest) c.lose_slot.ensures.members
 
 pub returns-clause-missing : goal.returns-clause-missing
 returns-clause-missing g c =
-    λ unnamed live. c.name_missing.ensures.missing live
+    λ unnamed live. c.record_missing.ensures.missing live
 
 pub returns-clause-kept : goal.returns-clause-kept
 returns-clause-kept g c =
@@ -187,8 +187,8 @@ returns-clause-kept g c =
     (slot_lost shape m n c.lose_slot.result slot role f0 f1 c.lose_slot.ensures.members c.lose_slot.ensures.alone c.requires.role (ap holder recovers) (c.write_filled.ensures.failed c.if-write_filled.false) c.write_filled.ensures.counts) in
     let given1 = g.B.Bank.given c.write_filled.new.bank in
     let same : given1 ≡ given = c.write_filled.ensures.given in
-    let q = c.name_missing.new.members in
-    let named = c.name_missing.ensures in
+    let q = c.record_missing.new.members in
+    let named = c.record_missing.ensures in
     let two : IsMoved given n q = moved-from given given1 n n q same refl named.moved in
     let out = (recovering-after m c.lose_slot.result role slot (subst (λ (x : Members). role_state (reading_of x) role ≡ Recovering slot) c.lose_slot.ensures.members (recovering-before two role slot still))).1 in
     let gone : has_slot c.lose_slot.result slot ≡ true = c.lose_slot.ensures.alone slot ∙ eq-eqb slot slot refl in
@@ -211,8 +211,8 @@ returns-clause-written g c =
     (slot_lost shape m n c.lose_slot.result slot role f0 f1 c.lose_slot.ensures.members c.lose_slot.ensures.alone c.requires.role (ap holder recovers) (c.write_filled.ensures.failed c.if-write_filled.false) c.write_filled.ensures.counts) in
     let given1 = g.B.Bank.given c.write_filled.new.bank in
     let same : given1 ≡ given = c.write_filled.ensures.given in
-    let q = c.name_missing.new.members in
-    let named = c.name_missing.ensures in
+    let q = c.record_missing.new.members in
+    let named = c.record_missing.ensures in
     let two : IsMoved given n q = moved-from given given1 n n q same refl named.moved in
     let out = (recovering-after m c.lose_slot.result role slot (subst (λ (x : Members). role_state (reading_of x) role ≡ Recovering slot) c.lose_slot.ensures.members (recovering-before two role slot still))).1 in
     let gone : has_slot c.lose_slot.result slot ≡ true = c.lose_slot.ensures.alone slot ∙ eq-eqb slot slot refl in
@@ -235,10 +235,10 @@ returns-clause-others g c =
     (slot_lost shape m n c.lose_slot.result slot role f0 f1 c.lose_slot.ensures.members c.lose_slot.ensures.alone c.requires.role (ap holder recovers) (c.write_filled.ensures.failed c.if-write_filled.false) c.write_filled.ensures.counts) in
     let given1 = g.B.Bank.given c.write_filled.new.bank in
     let same : given1 ≡ given = c.write_filled.ensures.given in
-    let named = c.name_missing.ensures in
+    let named = c.record_missing.ensures in
     let tape0 = g.B.Bank.tape c.args.bank.now in
     let tape1 = g.B.Bank.tape c.write_filled.new.bank in
-    let tape2 = g.B.Bank.tape c.name_missing.new.bank in
+    let tape2 = g.B.Bank.tape c.record_missing.new.bank in
     inr (
       recovers,
       others-filled m role slot (Contains c.args.rows.now) (present given tape0) (present given tape1) (present given tape2) (c.write_filled.ensures.others told)
@@ -247,7 +247,7 @@ returns-clause-others g c =
 
 pub returns-clause-grows : goal.returns-clause-grows
 returns-clause-grows g c =
-    grows-then c.write_filled.ensures.grows c.name_missing.ensures.grows
+    grows-then c.write_filled.ensures.grows c.record_missing.ensures.grows
 
 pub returns-clause-rise : goal.returns-clause-rise
 returns-clause-rise g c =
@@ -255,7 +255,7 @@ returns-clause-rise g c =
     let tape1 = g.B.Bank.tape c.write_filled.new.bank in
     let risen1 : IsRisen g.B.Bank.tells c.args.members.now c.lose_slot.new.members tape0 tape1 =
     risen-lost c.args.members.now c.lose_slot.new.members c.lose_slot.result tape0 tape1 c.lose_slot.ensures.members (grows-longer c.write_filled.ensures.grows) in
-    risen-then risen1 c.name_missing.ensures.rise
+    risen-then risen1 c.record_missing.ensures.rise
 
 pub returns-clause-safe : goal.returns-clause-safe
 returns-clause-safe g c =
@@ -274,11 +274,11 @@ returns-clause-safe g c =
     (slot_lost shape m n c.lose_slot.result slot role f0 f1 c.lose_slot.ensures.members c.lose_slot.ensures.alone c.requires.role (ap holder recovers) (c.write_filled.ensures.failed c.if-write_filled.false) c.write_filled.ensures.counts) in
     let given1 = g.B.Bank.given c.write_filled.new.bank in
     let same : given1 ≡ given = c.write_filled.ensures.given in
-    let q = c.name_missing.new.members in
-    let named = c.name_missing.ensures in
+    let q = c.record_missing.new.members in
+    let named = c.record_missing.ensures in
     let tape0 = g.B.Bank.tape c.args.bank.now in
     let tape1 = g.B.Bank.tape c.write_filled.new.bank in
-    let tape2 = g.B.Bank.tape c.name_missing.new.bank in
+    let tape2 = g.B.Bank.tape c.record_missing.new.bank in
     let risen1 : IsRisen g.B.Bank.tells m n tape0 tape1 = risen-lost m n c.lose_slot.result tape0 tape1 c.lose_slot.ensures.members (grows-longer c.write_filled.ensures.grows) in
     let first : KeepsSafe world given ledger m tape0 tape1 = safe-filled (OpensFit world) world.scope given ledger m role slot tape0 tape1 told c.requires.placed c.requires.unlost recovers c.write_filled.ensures.each_mark safe in
     let second : KeepsSafe world given ledger n tape0 tape1 = safe-then (OpensFit world) world.scope given ledger m n tape0 tape1 tape1 first (safe-lost (OpensFit world) world.scope given ledger m n c.lose_slot.result tape1 tape1 c.lose_slot.ensures.members refl first.next) in
@@ -289,7 +289,7 @@ returns-clause-safe g c =
 
 pub returns-clause-counts : goal.returns-clause-counts
 returns-clause-counts g c =
-    λ slot. le_trans (c.write_filled.ensures.counts slot) (c.name_missing.ensures.counts slot)
+    λ slot. le_trans (c.write_filled.ensures.counts slot) (c.record_missing.ensures.counts slot)
 
 pub lose_slot-requires-clause-few : goal.lose_slot-requires-clause-few
 lose_slot-requires-clause-few g c = let roles = few (g.B.Bank.given c.args.bank.now) c.args.members.now c.requires.placed in omega (arith, roles)
@@ -370,7 +370,7 @@ pub returns-then-write_filled-clause-size : goal.returns-then-write_filled-claus
 returns-then-write_filled-clause-size g c = c.write_filled.ensures.size
 
 pub returns-clause-given : goal.returns-clause-given
-returns-clause-given g c = c.name_missing.ensures.given ∙ c.write_filled.ensures.given
+returns-clause-given g c = c.record_missing.ensures.given ∙ c.write_filled.ensures.given
 
 pub returns-clause-size : goal.returns-clause-size
 returns-clause-size g c = c.write_filled.ensures.size

@@ -11,7 +11,7 @@ use Rattle.sb_safe_updates.proofs.stripe_list_PutLaws.{data_same}
 use Rattle.sb_safe_updates.specs.array_members_Rebuilding.{IsFilledAmong, IsFilling}
 use Rattle.sb_safe_updates.proofs.array_members_Elements.{contains-at}
 use Rattle.sb_safe_updates.proofs.array_members_MovedLaws.{grows-then, grows-none}
-use Rattle.sb_safe_updates.proofs.array_members_MendedParts.{valid-in}
+use Rattle.sb_safe_updates.proofs.array_members_SyncedParts.{valid-in}
 use Rattle.stripe_io.proofs.FillingLaws.{filled-then, marks-then, full-next, part-is, filled-none}
 use Rattle.sb_safe_updates.specs.bank_Tape.{disk}
 use Rattle.sb_safe_updates.proofs.bank_Causes.{faulted_longer}

@@ -40,8 +40,8 @@ returns-then-is_err-clause-moved g c =
 pub returns-then-is_err-clause-below : goal.returns-then-is_err-clause-below
 returns-then-is_err-clause-below g c row has = subst (λ (x : Members). row < x.newest.size) (sym c.read_touched-read.ensures.lost.members) (c.read_touched-read.ensures.below row has)
 
-pub raise-spares-requires-clause-placed : goal.raise-spares-requires-clause-placed
-raise-spares-requires-clause-placed g c =
+pub mark_dirty-spares-requires-clause-placed : goal.mark_dirty-spares-requires-clause-placed
+mark_dirty-spares-requires-clause-placed g c =
     let m = c.args.members.now in
     let n = c.read_touched-read.new.members in
     let given = g.B.Bank.given c.args.bank.now in
@@ -52,8 +52,8 @@ raise-spares-requires-clause-placed g c =
     let lost : AreLost given c.args.shape.now m n r f0 f1 = lost-of given c.args.shape.now m n r f0 f1 c.requires.placed did.lost in
     subst (λ (b : Given). IsPlaced b n) (sym did.given) lost.placed
 
-pub raise-spares-requires-clause-unlost : goal.raise-spares-requires-clause-unlost
-raise-spares-requires-clause-unlost g c =
+pub mark_dirty-spares-requires-clause-unlost : goal.mark_dirty-spares-requires-clause-unlost
+mark_dirty-spares-requires-clause-unlost g c =
     let m = c.args.members.now in
     let n = c.read_touched-read.new.members in
     let given = g.B.Bank.given c.args.bank.now in
@@ -63,8 +63,8 @@ raise-spares-requires-clause-unlost g c =
     let shape = c.args.shape.now in
     (moved-lost given shape m n r f0 f1 c.requires.placed (lost-of given shape m n r f0 f1 c.requires.placed c.read_touched-read.ensures.lost) c.requires.unlost).unlost
 
-pub raise-spares-requires-clause-free : goal.raise-spares-requires-clause-free
-raise-spares-requires-clause-free g c =
+pub mark_dirty-spares-requires-clause-free : goal.mark_dirty-spares-requires-clause-free
+mark_dirty-spares-requires-clause-free g c =
     let m = c.args.members.now in
     let n = c.read_touched-read.new.members in
     let given = g.B.Bank.given c.args.bank.now in
@@ -168,24 +168,24 @@ returns-clause-safe g c = λ told world ledger room gone unclean safe.
     (c.raise-spares.ensures.safe told world ledger (room-then tape2 told room risen) gone unclean (over-at world given given1 ledger n tape1 did.given one.next)))
 
 pub returns-then-is_err-clause-first : goal.returns-then-is_err-clause-first
-returns-then-is_err-clause-first g c = told-first c.unwritten.result c.unwritten.ensures
+returns-then-is_err-clause-first g c = told-first c.first_write_refusal.result c.first_write_refusal.ensures
 
 pub returns-then-is_err-clause-refused : goal.returns-then-is_err-clause-refused
-returns-then-is_err-clause-refused g c = told-why c.unwritten.result (write-cause c.args.shape.now c.args.synced c.read_touched-read.new.members) (told-first c.unwritten.result c.unwritten.ensures)
+returns-then-is_err-clause-refused g c = told-why c.first_write_refusal.result (write-cause c.args.shape.now c.args.synced c.read_touched-read.new.members) (told-first c.first_write_refusal.result c.first_write_refusal.ensures)
 
 pub returns-then-is_err-clause-read : goal.returns-then-is_err-clause-read
 returns-then-is_err-clause-read g c = λ none.
     let n = c.read_touched-read.new.members in
     let did = c.read_touched-read.ensures in
     absurd (write-told n c.args.shape.now c.args.synced c.read_touched-read.result.answer
-    (sym c.is_err.ensures.value ∙ c.if-is_err.true) did.answer (sym c.unwritten.ensures ∙ none))
+    (sym c.is_err.ensures.value ∙ c.if-is_err.true) did.answer (sym c.first_write_refusal.ensures ∙ none))
 
 pub returns-then-is_err-clause-dirty : goal.returns-then-is_err-clause-dirty
 returns-then-is_err-clause-dirty g c = λ none.
     let n = c.read_touched-read.new.members in
     let did = c.read_touched-read.ensures in
     absurd (write-told n c.args.shape.now c.args.synced c.read_touched-read.result.answer
-    (sym c.is_err.ensures.value ∙ c.if-is_err.true) did.answer (sym c.unwritten.ensures ∙ none))
+    (sym c.is_err.ensures.value ∙ c.if-is_err.true) did.answer (sym c.first_write_refusal.ensures ∙ none))
 
 pub returns-clause-first : goal.returns-clause-first
 returns-clause-first g c = many-told _ c.args.shape.now c.args.synced c.raise-spares.new.members c.too_many_of.result c.too_many_of.ensures
@@ -258,11 +258,11 @@ read_touched-read-requires-clause-buffer g c = c.requires.buffer
 pub read_touched-read-requires-clause-room : goal.read_touched-read-requires-clause-room
 read_touched-read-requires-clause-room g c = c.requires.rows
 
-pub unwritten-requires-clause-shape : goal.unwritten-requires-clause-shape
-unwritten-requires-clause-shape g c = force-valid c.args.members.now.newest c.requires.placed.fit c.args.shape.now c.requires.shape
+pub first_write_refusal-requires-clause-shape : goal.first_write_refusal-requires-clause-shape
+first_write_refusal-requires-clause-shape g c = force-valid c.args.members.now.newest c.requires.placed.fit c.args.shape.now c.requires.shape
 
-pub unwritten-requires-clause-roles : goal.unwritten-requires-clause-roles
-unwritten-requires-clause-roles g c =
+pub first_write_refusal-requires-clause-roles : goal.first_write_refusal-requires-clause-roles
+first_write_refusal-requires-clause-roles g c =
     roles-left (g.B.Bank.given c.args.bank.now) c.args.members.now c.read_touched-read.new.members c.read_touched-read.result.lost c.read_touched-read.ensures.lost.members c.requires.placed c.args.shape.now c.requires.shape
 
 pub returns-then-is_err-clause-others : goal.returns-then-is_err-clause-others
@@ -289,8 +289,8 @@ returns-then-is_err-clause-rows g c = c.read_touched-read.ensures.capacity
 pub returns-then-is_err-clause-buffer : goal.returns-then-is_err-clause-buffer
 returns-then-is_err-clause-buffer g c = c.read_touched-read.ensures.size
 
-pub raise-spares-requires-clause-slots : goal.raise-spares-requires-clause-slots
-raise-spares-requires-clause-slots g c = subst (λ (b : Given). b.slots ≤ 32) (sym c.read_touched-read.ensures.given) c.requires.slots
+pub mark_dirty-spares-requires-clause-slots : goal.mark_dirty-spares-requires-clause-slots
+mark_dirty-spares-requires-clause-slots g c = subst (λ (b : Given). b.slots ≤ 32) (sym c.read_touched-read.ensures.given) c.requires.slots
 
 pub too_many_of-requires-clause-roles : goal.too_many_of-requires-clause-roles
 too_many_of-requires-clause-roles g c =

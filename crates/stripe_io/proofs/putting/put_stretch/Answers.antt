@@ -17,8 +17,8 @@ use Rattle.sb_safe_updates.specs.array_members_Placed.{IsPlaced}
 use Rattle.sb_safe_updates.proofs.array_members_LackingLists.{none-of}
 use Rattle.stripe_io.proofs.putting.put_stretch.Goals as goal
 
-pub name_missing-spares-requires-clause-free : goal.name_missing-spares-requires-clause-free
-name_missing-spares-requires-clause-free g c =
+pub record_missing-spares-requires-clause-free : goal.record_missing-spares-requires-clause-free
+record_missing-spares-requires-clause-free g c =
     let did = c.write_stretch-next.ensures in
     subst (λ (b : Given). AreSparesFree b c.write_stretch-next.new.members) (sym did.given) (did.moved.free c.requires.free)
 
@@ -27,27 +27,27 @@ returns-clause-moved g c =
     let given = g.B.Bank.given c.args.bank.now in
     let n = c.write_stretch-next.new.members in
     let did = c.write_stretch-next.ensures in
-    moved-then given c.args.members.now n c.name_missing-spares.new.members did.moved
-    (moved-from given (g.B.Bank.given c.write_stretch-next.new.bank) n n c.name_missing-spares.new.members did.given refl c.name_missing-spares.ensures.moved)
+    moved-then given c.args.members.now n c.record_missing-spares.new.members did.moved
+    (moved-from given (g.B.Bank.given c.write_stretch-next.new.bank) n n c.record_missing-spares.new.members did.given refl c.record_missing-spares.ensures.moved)
 
 pub returns-clause-failed : goal.returns-clause-failed
 returns-clause-failed g c =
-    since-then c.args.members.now c.write_stretch-next.new.members c.name_missing-spares.new.members 0 c.name_missing-spares.result c.name_missing-spares.result
-    (g.B.Bank.faults_of c.args.bank.now) (g.B.Bank.faults_of c.write_stretch-next.new.bank) (g.B.Bank.faults_of c.name_missing-spares.new.bank)
-    c.write_stretch-next.ensures.counts c.name_missing-spares.ensures.counts c.write_stretch-next.ensures.failed c.name_missing-spares.ensures.failed (in-second c.name_missing-spares.result)
+    since-then c.args.members.now c.write_stretch-next.new.members c.record_missing-spares.new.members 0 c.record_missing-spares.result c.record_missing-spares.result
+    (g.B.Bank.faults_of c.args.bank.now) (g.B.Bank.faults_of c.write_stretch-next.new.bank) (g.B.Bank.faults_of c.record_missing-spares.new.bank)
+    c.write_stretch-next.ensures.counts c.record_missing-spares.ensures.counts c.write_stretch-next.ensures.failed c.record_missing-spares.ensures.failed (in-second c.record_missing-spares.result)
 
 pub returns-clause-written : goal.returns-clause-written
 returns-clause-written g c = λ told.
     let given = g.B.Bank.given c.args.bank.now in
     let given1 = g.B.Bank.given c.write_stretch-next.new.bank in
     let tape1 = g.B.Bank.tape c.write_stretch-next.new.bank in
-    let tape2 = g.B.Bank.tape c.name_missing-spares.new.bank in
+    let tape2 = g.B.Bank.tape c.record_missing-spares.new.bank in
     let n = c.write_stretch-next.new.members in
     let did = c.write_stretch-next.ensures in
-    written-later given n c.name_missing-spares.new.members
-    (moved-from given given1 n n c.name_missing-spares.new.members did.given refl c.name_missing-spares.ensures.moved) did.moved.placed
+    written-later given n c.record_missing-spares.new.members
+    (moved-from given given1 n n c.record_missing-spares.new.members did.given refl c.record_missing-spares.ensures.moved) did.moved.placed
     (present given tape1) (present given tape2)
-    (subst (λ (b : Given). AreOthersPresent (present b tape1) (present b tape2)) did.given (c.name_missing-spares.ensures.others told))
+    (subst (λ (b : Given). AreOthersPresent (present b tape1) (present b tape2)) did.given (c.record_missing-spares.ensures.others told))
     c.args.shape.now c.args.first c.args.from.now c.args.rows.now c.args.start c.write_stretch-next.result.next (present given (g.B.Bank.tape c.args.bank.now)) c.args.buffer.now.items c.write_stretch-next.new.buffer.items
     (did.written told)
 
@@ -55,7 +55,7 @@ pub returns-then-is_some-clause-safe : goal.returns-then-is_some-clause-safe
 returns-then-is_some-clause-safe g c = λ told world ledger room gone unclean dirty region list list' w has allowed zeros safe. c.write_stretch-next.ensures.safe told world ledger dirty region list list' w has allowed zeros safe
 
 pub returns-clause-rise : goal.returns-clause-rise
-returns-clause-rise g c = risen-then c.write_stretch-next.ensures.rise c.name_missing-spares.ensures.rise
+returns-clause-rise g c = risen-then c.write_stretch-next.ensures.rise c.record_missing-spares.ensures.rise
 
 pub returns-clause-safe : goal.returns-clause-safe
 returns-clause-safe g c = λ told world ledger room gone unclean dirty region list list' w has allowed zeros safe.
@@ -63,35 +63,35 @@ returns-clause-safe g c = λ told world ledger room gone unclean dirty region li
     let given1 = g.B.Bank.given c.write_stretch-next.new.bank in
     let tape0 = g.B.Bank.tape c.args.bank.now in
     let tape1 = g.B.Bank.tape c.write_stretch-next.new.bank in
-    let tape2 = g.B.Bank.tape c.name_missing-spares.new.bank in
+    let tape2 = g.B.Bank.tape c.record_missing-spares.new.bank in
     let n = c.write_stretch-next.new.members in
     let did = c.write_stretch-next.ensures in
-    let named = c.name_missing-spares.ensures in
+    let named = c.record_missing-spares.ensures in
     let one = did.safe told world ledger dirty region list list' w has allowed zeros safe in
-    safe-then (OpensFit world) world.scope given ledger n c.name_missing-spares.new.members tape0 tape1 tape2 one
-    (keeps-from world given given1 ledger c.name_missing-spares.new.members tape1 tape2 did.given
+    safe-then (OpensFit world) world.scope given ledger n c.record_missing-spares.new.members tape0 tape1 tape2 one
+    (keeps-from world given given1 ledger c.record_missing-spares.new.members tape1 tape2 did.given
     (named.safe told world ledger (room-then tape2 told room did.rise) gone (λ is. unclean) (over-at world given given1 ledger n tape1 did.given one.next)))
 
 pub returns-clause-grows : goal.returns-clause-grows
-returns-clause-grows g c = grows-then c.write_stretch-next.ensures.grows c.name_missing-spares.ensures.grows
+returns-clause-grows g c = grows-then c.write_stretch-next.ensures.grows c.record_missing-spares.ensures.grows
 
 pub returns-clause-kept : goal.returns-clause-kept
 returns-clause-kept g c = λ whole.
-    let mid = c.name_missing-spares.ensures.moved.whole whole in
-    c.name_missing-spares.ensures.kept mid ∙ c.write_stretch-next.ensures.kept mid
+    let mid = c.record_missing-spares.ensures.moved.whole whole in
+    c.record_missing-spares.ensures.kept mid ∙ c.write_stretch-next.ensures.kept mid
 
 pub returns-clause-counts : goal.returns-clause-counts
-returns-clause-counts g c = λ s. le_trans (c.write_stretch-next.ensures.counts s) (c.name_missing-spares.ensures.counts s)
+returns-clause-counts g c = λ s. le_trans (c.write_stretch-next.ensures.counts s) (c.record_missing-spares.ensures.counts s)
 
 pub returns-clause-unused : goal.returns-clause-unused
 returns-clause-unused g c = λ told.
     let given = g.B.Bank.given c.args.bank.now in
     let n = c.write_stretch-next.new.members in
     let tape1 = g.B.Bank.tape c.write_stretch-next.new.bank in
-    let tape2 = g.B.Bank.tape c.name_missing-spares.new.bank in
+    let tape2 = g.B.Bank.tape c.record_missing-spares.new.bank in
     let did = c.write_stretch-next.ensures in
     let named : IsRestKept n (disk given.start tape1) (disk given.start tape2) =
-    subst (λ (b : Given). IsRestKept n (disk b.start tape1) (disk b.start tape2)) did.given (c.name_missing-spares.ensures.rest told) in
+    subst (λ (b : Given). IsRestKept n (disk b.start tape1) (disk b.start tape2)) did.given (c.record_missing-spares.ensures.rest told) in
     unused-then given c.args.members.now n (disk given.start (g.B.Bank.tape c.args.bank.now)) (disk given.start tape1) (disk given.start tape2) did.moved (did.unused told)
     (rest-unused n (disk given.start tape1) (disk given.start tape2) named)
 
@@ -155,14 +155,14 @@ returns-then-is_some-clause-counts g c = c.write_stretch-next.ensures.counts
 pub returns-then-is_some-clause-size : goal.returns-then-is_some-clause-size
 returns-then-is_some-clause-size g c = c.write_stretch-next.ensures.size
 
-pub name_missing-spares-requires-clause-slots : goal.name_missing-spares-requires-clause-slots
-name_missing-spares-requires-clause-slots g c = subst (λ (b : Given). b.slots ≤ 32) (sym c.write_stretch-next.ensures.given) c.requires.slots
+pub record_missing-spares-requires-clause-slots : goal.record_missing-spares-requires-clause-slots
+record_missing-spares-requires-clause-slots g c = subst (λ (b : Given). b.slots ≤ 32) (sym c.write_stretch-next.ensures.given) c.requires.slots
 
-pub name_missing-spares-requires-clause-placed : goal.name_missing-spares-requires-clause-placed
-name_missing-spares-requires-clause-placed g c = subst (λ (b : Given). IsPlaced b c.write_stretch-next.new.members) (sym c.write_stretch-next.ensures.given) c.write_stretch-next.ensures.moved.placed
+pub record_missing-spares-requires-clause-placed : goal.record_missing-spares-requires-clause-placed
+record_missing-spares-requires-clause-placed g c = subst (λ (b : Given). IsPlaced b c.write_stretch-next.new.members) (sym c.write_stretch-next.ensures.given) c.write_stretch-next.ensures.moved.placed
 
-pub name_missing-spares-requires-clause-unlost : goal.name_missing-spares-requires-clause-unlost
-name_missing-spares-requires-clause-unlost g c = c.write_stretch-next.ensures.moved.unlost
+pub record_missing-spares-requires-clause-unlost : goal.record_missing-spares-requires-clause-unlost
+record_missing-spares-requires-clause-unlost g c = c.write_stretch-next.ensures.moved.unlost
 
 pub returns-clause-reached : goal.returns-clause-reached
 returns-clause-reached g c = c.write_stretch-next.ensures.reached
@@ -177,7 +177,7 @@ pub returns-clause-further : goal.returns-clause-further
 returns-clause-further g c none low = c.write_stretch-next.ensures.further (none-of c.write_stretch-next.result.refusal (sym c.is_some.ensures ∙ c.if-is_some.false)) low
 
 pub returns-clause-clean : goal.returns-clause-clean
-returns-clause-clean g c = c.name_missing-spares.ensures.clean ∙ c.write_stretch-next.ensures.clean
+returns-clause-clean g c = c.record_missing-spares.ensures.clean ∙ c.write_stretch-next.ensures.clean
 
 pub returns-clause-given : goal.returns-clause-given
-returns-clause-given g c = c.name_missing-spares.ensures.given ∙ c.write_stretch-next.ensures.given
+returns-clause-given g c = c.record_missing-spares.ensures.given ∙ c.write_stretch-next.ensures.given

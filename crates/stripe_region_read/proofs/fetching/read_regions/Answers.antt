@@ -12,19 +12,19 @@ overflow_add-to g c =
     let short = list-short newest _ (inl refl) in
     omega (arith, few, short, c.requires.within)
 
-pub unread_list-requires-clause-within : goal.unread_list-requires-clause-within
-unread_list-requires-clause-within g c =
+pub first_list_refusal-requires-clause-within : goal.first_list_refusal-requires-clause-within
+first_list_refusal-requires-clause-within g c =
     subst (λ (m : Members). c.args.first + length c.args.into.now / 512 ≤ list_length m.newest) (sym c.read_stretches-at.ensures.lost.1) c.requires.within
 
 pub returns-then-at-to-clause-refused : goal.returns-then-at-to-clause-refused
 returns-then-at-to-clause-refused g c =
     let did = c.read_stretches-at.ensures in
-    wider-unread c.args.relied c.args.first c.read_stretches-at.result (c.args.first + length c.args.into.now / 512) c.read_stretches-at.new.members did.from c.unread_list.result c.unread_list.ensures
+    wider-unread c.args.relied c.args.first c.read_stretches-at.result (c.args.first + length c.args.into.now / 512) c.read_stretches-at.new.members did.from c.first_list_refusal.result c.first_list_refusal.ensures
 
 pub returns-then-at-to-clause-holds : goal.returns-then-at-to-clause-holds
 returns-then-at-to-clause-holds g c =
-    λ none. absurd (never-none c.args.relied c.read_stretches-at.result (c.args.first + length c.args.into.now / 512) c.read_stretches-at.new.members (c.read_stretches-at.ensures.unread c.if-at-to.true)
-    c.unread_list.result c.unread_list.ensures none)
+    λ none. absurd (never-none c.args.relied c.read_stretches-at.result (c.args.first + length c.args.into.now / 512) c.read_stretches-at.new.members (c.read_stretches-at.ensures.first_read_refusal c.if-at-to.true)
+    c.first_list_refusal.result c.first_list_refusal.ensures none)
 
 pub returns-clause-holds : goal.returns-clause-holds
 returns-clause-holds g c =
@@ -47,11 +47,11 @@ read_stretches-at-requires-clause-within g c = c.requires.within
 pub read_stretches-at-requires-clause-scratch : goal.read_stretches-at-requires-clause-scratch
 read_stretches-at-requires-clause-scratch g c = c.requires.scratch
 
-pub unread_list-requires-clause-fit : goal.unread_list-requires-clause-fit
-unread_list-requires-clause-fit g c = c.read_stretches-at.ensures.moved.placed.fit
+pub first_list_refusal-requires-clause-fit : goal.first_list_refusal-requires-clause-fit
+first_list_refusal-requires-clause-fit g c = c.read_stretches-at.ensures.moved.placed.fit
 
-pub unread_list-requires-clause-roles : goal.unread_list-requires-clause-roles
-unread_list-requires-clause-roles g c = c.read_stretches-at.ensures.moved.placed.roles
+pub first_list_refusal-requires-clause-roles : goal.first_list_refusal-requires-clause-roles
+first_list_refusal-requires-clause-roles g c = c.read_stretches-at.ensures.moved.placed.roles
 
 pub returns-then-at-to-clause-moved : goal.returns-then-at-to-clause-moved
 returns-then-at-to-clause-moved g c = c.read_stretches-at.ensures.moved

@@ -24,15 +24,15 @@ use Rattle.stripe_region_write.proofs.writing.prepare_runs.Goals as goal
 still-long : (before after : List Operation) → after ≡ before → length before ≤ length after
 still-long before after same = subst (λ (l : List Operation). length before ≤ length l) (sym same) (omega arith)
 
-pub unwritten_runs-requires-clause-low : goal.unwritten_runs-requires-clause-low
-unwritten_runs-requires-clause-low g c =
+pub first_runs_refusal-requires-clause-low : goal.first_runs_refusal-requires-clause-low
+first_runs_refusal-requires-clause-low g c =
     let m = c.args.members.now in
     let n = c.read_runs-read.new.members in
     let did = c.read_runs-read.ensures in
     alike-force m.newest n.newest did.moved.reshape did.moved.shape did.moved.size c.args.low.now.shape c.requires.low.force
 
-pub unwritten_runs-requires-clause-high : goal.unwritten_runs-requires-clause-high
-unwritten_runs-requires-clause-high g c =
+pub first_runs_refusal-requires-clause-high : goal.first_runs_refusal-requires-clause-high
+first_runs_refusal-requires-clause-high g c =
     let m = c.args.members.now in
     let n = c.read_runs-read.new.members in
     let did = c.read_runs-read.ensures in
@@ -40,7 +40,7 @@ unwritten_runs-requires-clause-high g c =
 
 pub returns-then-not-read-clause-refused : goal.returns-then-not-read-clause-refused
 returns-then-not-read-clause-refused g c =
-    told-as _ _ _ c.unwritten_runs.result (λ refusal is. is) c.unwritten_runs.ensures
+    told-as _ _ _ c.first_runs_refusal.result (λ refusal is. is) c.first_runs_refusal.ensures
 
 pub returns-then-not-read-clause-grows : goal.returns-then-not-read-clause-grows
 returns-then-not-read-clause-grows g c =
@@ -49,32 +49,32 @@ returns-then-not-read-clause-grows g c =
 pub returns-then-not-read-clause-low : goal.returns-then-not-read-clause-low
 returns-then-not-read-clause-low g c =
     let did = c.read_runs-read.ensures in
-    λ none. absurd (told-never _ _ c.unwritten_runs.result (did.unread c.if-not-read.true) c.unwritten_runs.ensures none)
+    λ none. absurd (told-never _ _ c.first_runs_refusal.result (did.first_read_refusal c.if-not-read.true) c.first_runs_refusal.ensures none)
 
 pub returns-then-not-read-clause-high : goal.returns-then-not-read-clause-high
 returns-then-not-read-clause-high g c =
     let did = c.read_runs-read.ensures in
-    λ none. absurd (told-never _ _ c.unwritten_runs.result (did.unread c.if-not-read.true) c.unwritten_runs.ensures none)
+    λ none. absurd (told-never _ _ c.first_runs_refusal.result (did.first_read_refusal c.if-not-read.true) c.first_runs_refusal.ensures none)
 
 pub returns-then-not-read-clause-low_rows : goal.returns-then-not-read-clause-low_rows
 returns-then-not-read-clause-low_rows g c =
     let did = c.read_runs-read.ensures in
-    λ none. absurd (told-never _ _ c.unwritten_runs.result (did.unread c.if-not-read.true) c.unwritten_runs.ensures none)
+    λ none. absurd (told-never _ _ c.first_runs_refusal.result (did.first_read_refusal c.if-not-read.true) c.first_runs_refusal.ensures none)
 
 pub returns-then-not-read-clause-high_rows : goal.returns-then-not-read-clause-high_rows
 returns-then-not-read-clause-high_rows g c =
     let did = c.read_runs-read.ensures in
-    λ none. absurd (told-never _ _ c.unwritten_runs.result (did.unread c.if-not-read.true) c.unwritten_runs.ensures none)
+    λ none. absurd (told-never _ _ c.first_runs_refusal.result (did.first_read_refusal c.if-not-read.true) c.first_runs_refusal.ensures none)
 
 pub returns-then-not-read-clause-dirty : goal.returns-then-not-read-clause-dirty
 returns-then-not-read-clause-dirty g c =
     let did = c.read_runs-read.ensures in
-    λ none. absurd (told-never _ _ c.unwritten_runs.result (did.unread c.if-not-read.true) c.unwritten_runs.ensures none)
+    λ none. absurd (told-never _ _ c.first_runs_refusal.result (did.first_read_refusal c.if-not-read.true) c.first_runs_refusal.ensures none)
 
 pub returns-then-not-read-clause-does : goal.returns-then-not-read-clause-does
 returns-then-not-read-clause-does g c =
     let did = c.read_runs-read.ensures in
-    λ none. absurd (told-never _ _ c.unwritten_runs.result (did.unread c.if-not-read.true) c.unwritten_runs.ensures none)
+    λ none. absurd (told-never _ _ c.first_runs_refusal.result (did.first_read_refusal c.if-not-read.true) c.first_runs_refusal.ensures none)
 
 pub returns-then-not-read-clause-stays : goal.returns-then-not-read-clause-stays
 returns-then-not-read-clause-stays g c =
@@ -111,15 +111,15 @@ pub returns-then-not-read-clause-unused : goal.returns-then-not-read-clause-unus
 returns-then-not-read-clause-unused g c = λ told.
     read-unused c.args.members.now (g.B.Bank.given c.args.bank.now).start (g.B.Bank.tape c.args.bank.now) (g.B.Bank.tape c.read_runs-read.new.bank) (c.read_runs-read.ensures.tape told)
 
-pub raise-spares-requires-clause-placed : goal.raise-spares-requires-clause-placed
-raise-spares-requires-clause-placed g c =
+pub mark_dirty-spares-requires-clause-placed : goal.mark_dirty-spares-requires-clause-placed
+mark_dirty-spares-requires-clause-placed g c =
     let n = c.read_runs-read.new.members in
     let given = g.B.Bank.given c.args.bank.now in
     let did = c.read_runs-read.ensures in
     subst (λ (b : Given). IsPlaced b n) (sym did.given) did.moved.placed
 
-pub raise-spares-requires-clause-free : goal.raise-spares-requires-clause-free
-raise-spares-requires-clause-free g c =
+pub mark_dirty-spares-requires-clause-free : goal.mark_dirty-spares-requires-clause-free
+mark_dirty-spares-requires-clause-free g c =
     let n = c.read_runs-read.new.members in
     let given = g.B.Bank.given c.args.bank.now in
     let did = c.read_runs-read.ensures in
@@ -335,11 +335,11 @@ returns-then-not-read-clause-buffer g c = c.read_runs-read.ensures.buffer
 pub returns-then-not-read-clause-far_buffer : goal.returns-then-not-read-clause-far_buffer
 returns-then-not-read-clause-far_buffer g c = c.read_runs-read.ensures.far_buffer
 
-pub raise-spares-requires-clause-slots : goal.raise-spares-requires-clause-slots
-raise-spares-requires-clause-slots g c = subst (λ (b : Given). b.slots ≤ 32) (sym c.read_runs-read.ensures.given) c.requires.slots
+pub mark_dirty-spares-requires-clause-slots : goal.mark_dirty-spares-requires-clause-slots
+mark_dirty-spares-requires-clause-slots g c = subst (λ (b : Given). b.slots ≤ 32) (sym c.read_runs-read.ensures.given) c.requires.slots
 
-pub raise-spares-requires-clause-unlost : goal.raise-spares-requires-clause-unlost
-raise-spares-requires-clause-unlost g c = c.read_runs-read.ensures.moved.unlost
+pub mark_dirty-spares-requires-clause-unlost : goal.mark_dirty-spares-requires-clause-unlost
+mark_dirty-spares-requires-clause-unlost g c = c.read_runs-read.ensures.moved.unlost
 
 pub returns-clause-dirty : goal.returns-clause-dirty
 returns-clause-dirty g c none = c.raise-spares.ensures.dirty

@@ -1,6 +1,6 @@
 use Rattle.std.proofs.Common.{sym, ◌∙◌, ap, subst}
 use Rattle.array_grow.specs.array_reshaping_state_Due.{due_of}
-use Rattle.array_grow.proofs.array_reshaping_laws_MendLaws.{left-some}
+use Rattle.array_grow.proofs.array_reshaping_laws_ResyncLaws.{left-some}
 use Rattle.array.specs.Calls.{IsNext}
 use Rattle.array.specs.declared.state.choosing.Next.{Next}
 use Rattle.array.proofs.Answered.{moving-some}

@@ -21,8 +21,8 @@ invariant_of-result g c =
     let tape = g.B.Bank.tape c.args.bank in
     let far = c.in-Ok.ensures in
     let room = c.in-Ok-room_for.ensures in
-    let did = c.enter_all_absent.ensures in
-    let epoch = c.enter_all_absent.new.epoch in
+    let did = c.append_absent.ensures in
+    let epoch = c.append_absent.new.epoch in
     let adoptable : IsAdoptable g.B.Bank.tells given tape (scope_in given epoch.uuid epoch.given c.args.opened.backup) m =
     subst (λ (s : Scope). IsAdoptable g.B.Bank.tells given tape s m) (sym (scope-same given c.args.opened.backup refl did.same.uuid did.same.given)) c.requires.adoptable in
     let entries : epoch.entries.items ≡ entries_of opener epoch.first (found_losses (reading_of m)) =
@@ -42,10 +42,10 @@ found_work-work-requires-clause-roles g c = roles-still (g.B.Bank.given c.args.b
 
 -- ---- the roles
 
-pub enter_all_absent-requires-clause-disks : goal.enter_all_absent-requires-clause-disks
-enter_all_absent-requires-clause-disks g c =
+pub append_absent-requires-clause-disks : goal.append_absent-requires-clause-disks
+append_absent-requires-clause-disks g c =
     let m = c.args.opened.members in
     subst (λ (s : Shape). s.disks ≤ 16) (sym c.shape_in-disks.ensures) (limited (shape_of m.newest) (valid (g.B.Bank.given c.args.bank) m c.requires.adoptable.placed)).most
 
-pub enter_all_absent-requires-clause-roles : goal.enter_all_absent-requires-clause-roles
-enter_all_absent-requires-clause-roles g c = known-at c.requires.adoptable.placed c.shape_in-disks.ensures
+pub append_absent-requires-clause-roles : goal.append_absent-requires-clause-roles
+append_absent-requires-clause-roles g c = known-at c.requires.adoptable.placed c.shape_in-disks.ensures

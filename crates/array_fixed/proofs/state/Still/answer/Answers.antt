@@ -31,8 +31,8 @@ invariant_of-self g c =
     (answer-stands a.work a.members a.ahead c.args.who end c.args.event was.kept goes c.requires.caller c.ops-end.ensures.count plans may reply)
     (answered-plain was c.args.who end goes c.requires.caller c.ops-end.ensures.count (grows-none (λ t. refl)) c.args.event reply)
     (λ slot. omega arith) (reply-keeps a.work a.members a.ahead c.args.who end c.args.event reply)
-    refl (scope-same given a.backup refl c.enter.ensures.uuid c.enter.ensures.given) c.enter.ensures.first refl c.enter.ensures.items
-    (omega (arith, c.enter.ensures.room, was.room_left, some))
+    refl (scope-same given a.backup refl c.append_entry.ensures.uuid c.append_entry.ensures.given) c.append_entry.ensures.first refl c.append_entry.ensures.items
+    (omega (arith, c.append_entry.ensures.room, was.room_left, some))
 
 pub returns-clause-stepped : goal.returns-clause-stepped
 returns-clause-stepped g c =
@@ -42,9 +42,9 @@ returns-clause-stepped g c =
     let end = c.ops-end.result in
     let lossless = reply-lossless c.args.self.now.parts.work c.args.self.now.parts.members c.args.self.now.ahead (Held a.members) (WasSpare a.members) faults faults c.args.event c.requires.reply in
     rw (← c.self.view_is) (stepped (grows-none (λ t. refl)) (shapes-same a.members.newest)
-    (ended-behind (g.B.Bank.tape a.bank) c.enter.new.epoch.first a.epoch.entries.items c.args.who end [] c.args.event c.enter.ensures.items c.ops-end.ensures.count)
+    (ended-behind (g.B.Bank.tape a.bank) c.append_entry.new.epoch.first a.epoch.entries.items c.args.who end [] c.args.event c.append_entry.ensures.items c.ops-end.ensures.count)
     (λ role slot held. inl held)
-    (alone-lossless a.members faults faults a.epoch.entries.items a.epoch.entries.items c.enter.new.epoch.entries.items c.args.who end c.args.event lossless refl c.enter.ensures.items)
+    (alone-lossless a.members faults faults a.epoch.entries.items a.epoch.entries.items c.append_entry.new.epoch.entries.items c.args.who end c.args.event lossless refl c.append_entry.ensures.items)
     (λ slot. omega arith)
-    (record { uuid = c.enter.ensures.uuid; given = c.enter.ensures.given; first = c.enter.ensures.first; backup = refl; ahead = refl; limit = refl })
+    (record { uuid = c.append_entry.ensures.uuid; given = c.append_entry.ensures.given; first = c.append_entry.ensures.first; backup = refl; ahead = refl; limit = refl })
     (λ t. (was.kept.recorded t).begun))

@@ -35,8 +35,8 @@ invariant_of-self-in-Some g c =
     (unlimited-stands who end c.args.limit was.kept number c.requires.caller c.ops-end.ensures.count phases c.length-size.result refusal (sym c.in-Some.ensures))
     (unlimited-plain was who end (begins-going a.epoch.entries.items who number) c.requires.caller c.ops-end.ensures.count (grows-none (λ t. refl)) phases c.length-size.result c.args.limit refusal (sym c.in-Some.ensures))
     (λ slot. omega arith) (alone-keeps who end (Refused refusal) (λ n. refl) (λ limit. refl))
-    refl (scope-same given a.backup refl c.enter.ensures.uuid c.enter.ensures.given) c.enter.ensures.first c.make_room.ensures.items c.enter.ensures.items
-    (omega (arith, c.enter.ensures.room, c.in-Ok.ensures.ok))
+    refl (scope-same given a.backup refl c.append_entry.ensures.uuid c.append_entry.ensures.given) c.append_entry.ensures.first c.make_room.ensures.items c.append_entry.ensures.items
+    (omega (arith, c.append_entry.ensures.room, c.in-Ok.ensures.ok))
 
 pub returns-in-Some-clause-answered : goal.returns-in-Some-clause-answered
 returns-in-Some-clause-answered g c =
@@ -50,7 +50,7 @@ returns-in-Some-clause-answered g c =
     rw (← c.self.view_is) (record {
       end = end;
       at_end = c.ops-end.ensures.count;
-      is = c.enter.ensures.items ∙ ap (λ (l : List Entry). l ++ entries_of who end (Refused refusal ∷ [])) c.make_room.ensures.items;
+      is = c.append_entry.ensures.items ∙ ap (λ (l : List Entry). l ++ entries_of who end (Refused refusal ∷ [])) c.make_room.ensures.items;
       fits = λ t ahead. unlimited-fits who end c.args.limit was.kept number c.requires.caller c.ops-end.ensures.count (length (phases_of a.ahead)) refusal
           (ap (λ (n : ℕ). visible_refusal (length (phases_of a.ahead)) n c.args.limit) (sym size) ∙ sym c.in-Some.ensures) t ahead;
     })
@@ -65,9 +65,9 @@ pub returns-in-Some-clause-limited : goal.returns-in-Some-clause-limited
 returns-in-Some-clause-limited g c = rw (← c.self.view_is) (record {
   limit_is = refl;
   bank = refl;
-  uuid = c.enter.ensures.uuid;
-  given = c.enter.ensures.given;
-  first = c.enter.ensures.first;
+  uuid = c.append_entry.ensures.uuid;
+  given = c.append_entry.ensures.given;
+  first = c.append_entry.ensures.first;
   backup = refl;
   members = refl;
   work = refl;
@@ -77,7 +77,7 @@ returns-in-Some-clause-limited g c = rw (← c.self.view_is) (record {
 
 pub returns-in-Some-clause-ended : goal.returns-in-Some-clause-ended
 returns-in-Some-clause-ended g c =
-    ended-behind (g.B.Bank.tape c.self.inside.bank) c.enter.new.epoch.first c.make_room.new.self.items c.args.who c.ops-end.result [] (Refused c.in-Some.refusal) c.enter.ensures.items c.ops-end.ensures.count
+    ended-behind (g.B.Bank.tape c.self.inside.bank) c.append_entry.new.epoch.first c.make_room.new.self.items c.args.who c.ops-end.result [] (Refused c.in-Some.refusal) c.append_entry.ensures.items c.ops-end.ensures.count
 
 -- ---- limited
 

@@ -43,16 +43,16 @@ overflow_cast-count g c =
     let long = c.len-count.ensures in
     omega (arith, few, roles, long)
 
-pub vacant_roles-before-requires-clause-few : goal.vacant_roles-before-requires-clause-few
-vacant_roles-before-requires-clause-few g c =
+pub unassigned_roles-before-requires-clause-few : goal.unassigned_roles-before-requires-clause-few
+unassigned_roles-before-requires-clause-few g c =
     let members = c.self.invariant.kept.members_are in
     let few = few-roles c.self.inside.members.newest members.placed.fit.valid in
     let roles = members.placed.roles in
     let long = c.len-count.ensures in
     omega (arith, few, roles, long)
 
-pub newly_vacant-roles-requires-clause-few : goal.newly_vacant-roles-requires-clause-few
-newly_vacant-roles-requires-clause-few g c =
+pub newly_unassigned-roles-requires-clause-few : goal.newly_unassigned-roles-requires-clause-few
+newly_unassigned-roles-requires-clause-few g c =
     let members = c.self.invariant.kept.members_are in
     let few = few-roles c.self.inside.members.newest members.placed.fit.valid in
     let roles = members.placed.roles in
@@ -74,12 +74,12 @@ invariant_of-self-in-Some g c =
     (here-plain was c.args.who end (begins-going a.epoch.entries.items c.args.who number) c.requires.caller c.ops-end.ensures.count (grows-none (λ t. refl)) refusal
     (too-many-here (visible_size a.members a.limit) a.work.resync a.members refusal c.in-Some.ensures))
     (λ slot. omega arith) (alone-keeps c.args.who end (Refused refusal) (λ n. refl) (λ limit. refl))
-    refl (scope-same given a.backup refl c.enter.ensures.uuid c.enter.ensures.given) c.enter.ensures.first c.make_room.ensures.items c.enter.ensures.items
-    (omega (arith, c.enter.ensures.room, c.in-Ok.ensures.ok))
+    refl (scope-same given a.backup refl c.append_entry.ensures.uuid c.append_entry.ensures.given) c.append_entry.ensures.first c.make_room.ensures.items c.append_entry.ensures.items
+    (omega (arith, c.append_entry.ensures.room, c.in-Ok.ensures.ok))
 
 pub returns-in-Some-clause-answered : goal.returns-in-Some-clause-answered
 returns-in-Some-clause-answered g c =
-    rw (← c.self.view_is) (behind-alone c.args.who c.ops-end.result (Refused c.in-Some.refusal) c.make_room.ensures.items c.enter.ensures.items)
+    rw (← c.self.view_is) (behind-alone c.args.who c.ops-end.result (Refused c.in-Some.refusal) c.make_room.ensures.items c.append_entry.ensures.items)
 
 pub returns-in-Some-clause-called : goal.returns-in-Some-clause-called
 returns-in-Some-clause-called g c =
@@ -90,10 +90,10 @@ returns-in-Some-clause-called g c =
     let end = c.ops-end.result in
     let refusal = c.in-Some.refusal in
     rw (← c.self.view_is) (called (grows-none (λ t. refl)) (moved-same given given a.members a.members refl refl was.kept.members_are.placed was.kept.members_are.unlost)
-    (ended-behind (g.B.Bank.tape a.bank) c.enter.new.epoch.first c.make_room.new.self.items c.args.who end [] (Refused refusal) c.enter.ensures.items c.ops-end.ensures.count)
-    (alone-lossless a.members faults faults a.epoch.entries.items c.make_room.new.self.items c.enter.new.epoch.entries.items c.args.who end (Refused refusal) tt c.make_room.ensures.items c.enter.ensures.items)
+    (ended-behind (g.B.Bank.tape a.bank) c.append_entry.new.epoch.first c.make_room.new.self.items c.args.who end [] (Refused refusal) c.append_entry.ensures.items c.ops-end.ensures.count)
+    (alone-lossless a.members faults faults a.epoch.entries.items c.make_room.new.self.items c.append_entry.new.epoch.entries.items c.args.who end (Refused refusal) tt c.make_room.ensures.items c.append_entry.ensures.items)
     (λ slot. omega arith)
-    (record { uuid = c.enter.ensures.uuid; given = c.enter.ensures.given; first = c.enter.ensures.first; backup = refl; work = refl; ahead = refl; limit = refl })
+    (record { uuid = c.append_entry.ensures.uuid; given = c.append_entry.ensures.given; first = c.append_entry.ensures.first; backup = refl; work = refl; ahead = refl; limit = refl })
     (λ t. (was.kept.recorded t).begun))
 
 -- ---- it is refused behind what it lost
@@ -112,14 +112,14 @@ invariant_of-self-in-Some-refusal g c =
     let tape' = g.B.Bank.tape c.settle-settled.new.bank in
     let before = g.B.Bank.faults_of a.bank in
     let after = g.B.Bank.faults_of c.settle-settled.new.bank in
-    let roles = c.newly_vacant-roles.result in
+    let roles = c.newly_unassigned-roles.result in
     let spares = c.settle-settled.result.spares in
     let end = c.ops-end-2.result in
     let refusal = c.in-Some-refusal.refusal in
     let left = still_left a.work a.members a.ahead in
     let left' = still_left a.work m a.ahead in
-    let since = lost-since given a.members m c.len-count.result c.vacant_roles-before.result roles spares before after here.placed did.moved did.failed
-    (c.len-count.ensures ∙ here.placed.roles) c.vacant_roles-before.ensures c.newly_vacant-roles.ensures in
+    let since = lost-since given a.members m c.len-count.result c.unassigned_roles-before.result roles spares before after here.placed did.moved did.failed
+    (c.len-count.ensures ∙ here.placed.roles) c.unassigned_roles-before.ensures c.newly_unassigned-roles.ensures in
     let flushed : IsFlushedStill g.B.Bank.tells given tape tape' a.members m roles spares before after c.is_some.result =
     record { moved = did.moved; since = since; grows = did.grows; rise = risen-told did.rise; others = did.others; safe = did.safe } in
     ready (entries_of c.args.who end (losses_of roles spares ++ Refused refusal ∷ [])) was (rows-moved given a.members m did.moved)
@@ -130,8 +130,8 @@ invariant_of-self-in-Some-refusal g c =
     (plain-refused was c.args.who end (begins-going a.epoch.entries.items c.args.who number) c.requires.caller c.ops-end-2.ensures.count did.grows did.moved since refusal
     (too-many-here (visible_size a.members a.limit) a.work.resync m refusal (many-of m c.settle-settled.result.refusal refusal c.in-Some-refusal.is did.refused)))
     did.counts (behind-keeps c.args.who end roles spares (Refused refusal ∷ []) (alone-keeps c.args.who end (Refused refusal) (λ n. refl) (λ limit. refl)))
-    did.given (scope-same given a.backup did.given c.enter_behind.ensures.uuid c.enter_behind.ensures.given) c.enter_behind.ensures.first c.make_room.ensures.items c.enter_behind.ensures.items
-    (omega (arith, c.enter_behind.ensures.room, c.in-Ok.ensures.ok))
+    did.given (scope-same given a.backup did.given c.append_after_losses.ensures.uuid c.append_after_losses.ensures.given) c.append_after_losses.ensures.first c.make_room.ensures.items c.append_after_losses.ensures.items
+    (omega (arith, c.append_after_losses.ensures.room, c.in-Ok.ensures.ok))
 
 pub returns-in-Some-refusal-clause-called : goal.returns-in-Some-refusal-clause-called
 returns-in-Some-refusal-clause-called g c =
@@ -143,17 +143,17 @@ returns-in-Some-refusal-clause-called g c =
     let did = c.settle-settled.ensures in
     let before = g.B.Bank.faults_of a.bank in
     let after = g.B.Bank.faults_of c.settle-settled.new.bank in
-    let roles = c.newly_vacant-roles.result in
+    let roles = c.newly_unassigned-roles.result in
     let spares = c.settle-settled.result.spares in
     let end = c.ops-end-2.result in
     let event = Refused c.in-Some-refusal.refusal in
-    let since = lost-since given a.members m c.len-count.result c.vacant_roles-before.result roles spares before after here.placed did.moved did.failed
-    (c.len-count.ensures ∙ here.placed.roles) c.vacant_roles-before.ensures c.newly_vacant-roles.ensures in
+    let since = lost-since given a.members m c.len-count.result c.unassigned_roles-before.result roles spares before after here.placed did.moved did.failed
+    (c.len-count.ensures ∙ here.placed.roles) c.unassigned_roles-before.ensures c.newly_unassigned-roles.ensures in
     rw (← c.self.view_is) (called did.grows did.moved
-    (ended-behind (g.B.Bank.tape c.settle-settled.new.bank) c.enter_behind.new.epoch.first c.make_room.new.self.items c.args.who end (losses_of roles spares) event c.enter_behind.ensures.items c.ops-end-2.ensures.count)
-    (losses-behind a.members m before after a.epoch.entries.items c.make_room.new.self.items c.enter_behind.new.epoch.entries.items c.args.who end roles spares event since tt c.make_room.ensures.items c.enter_behind.ensures.items)
+    (ended-behind (g.B.Bank.tape c.settle-settled.new.bank) c.append_after_losses.new.epoch.first c.make_room.new.self.items c.args.who end (losses_of roles spares) event c.append_after_losses.ensures.items c.ops-end-2.ensures.count)
+    (losses-behind a.members m before after a.epoch.entries.items c.make_room.new.self.items c.append_after_losses.new.epoch.entries.items c.args.who end roles spares event since tt c.make_room.ensures.items c.append_after_losses.ensures.items)
     did.counts
-    (record { uuid = c.enter_behind.ensures.uuid; given = c.enter_behind.ensures.given; first = c.enter_behind.ensures.first; backup = refl; work = refl; ahead = refl; limit = refl })
+    (record { uuid = c.append_after_losses.ensures.uuid; given = c.append_after_losses.ensures.given; first = c.append_after_losses.ensures.first; backup = refl; work = refl; ahead = refl; limit = refl })
     (λ t. (was.kept.recorded t).begun))
 
 -- ---- it is done
@@ -171,11 +171,11 @@ invariant_of-self-2 g c =
     let tape' = g.B.Bank.tape c.settle-settled.new.bank in
     let before = g.B.Bank.faults_of a.bank in
     let after = g.B.Bank.faults_of c.settle-settled.new.bank in
-    let roles = c.newly_vacant-roles.result in
+    let roles = c.newly_unassigned-roles.result in
     let spares = c.settle-settled.result.spares in
     let end = c.ops-end-2.result in
-    let since = lost-since given a.members m c.len-count.result c.vacant_roles-before.result roles spares before after here.placed did.moved did.failed
-    (c.len-count.ensures ∙ here.placed.roles) c.vacant_roles-before.ensures c.newly_vacant-roles.ensures in
+    let since = lost-since given a.members m c.len-count.result c.unassigned_roles-before.result roles spares before after here.placed did.moved did.failed
+    (c.len-count.ensures ∙ here.placed.roles) c.unassigned_roles-before.ensures c.newly_unassigned-roles.ensures in
     let flushed : IsFlushedStill g.B.Bank.tells given tape tape' a.members m roles spares before after c.is_some.result =
     record { moved = did.moved; since = since; grows = did.grows; rise = risen-told did.rise; others = did.others; safe = did.safe } in
     ready (entries_of c.args.who end (losses_of roles spares ++ c.args.event ∷ [])) was (rows-moved given a.members m did.moved)
@@ -185,8 +185,8 @@ invariant_of-self-2 g c =
     (left-alike a.work a.ahead roles spares before after did.moved since))
     (plain-settled was c.args.who end (begins-going a.epoch.entries.items c.args.who number) c.requires.caller c.ops-end-2.ensures.count did.grows did.moved since c.args.event c.requires.event)
     did.counts (behind-keeps c.args.who end roles spares (c.args.event ∷ []) (settling-keeps c.args.who end c.args.event c.requires.event))
-    did.given (scope-same given a.backup did.given c.enter_behind-2.ensures.uuid c.enter_behind-2.ensures.given) c.enter_behind-2.ensures.first c.make_room.ensures.items c.enter_behind-2.ensures.items
-    (omega (arith, c.enter_behind-2.ensures.room, c.in-Ok.ensures.ok))
+    did.given (scope-same given a.backup did.given c.append_after_losses-2.ensures.uuid c.append_after_losses-2.ensures.given) c.append_after_losses-2.ensures.first c.make_room.ensures.items c.append_after_losses-2.ensures.items
+    (omega (arith, c.append_after_losses-2.ensures.room, c.in-Ok.ensures.ok))
 
 pub returns-clause-called : goal.returns-clause-called
 returns-clause-called g c =
@@ -198,17 +198,17 @@ returns-clause-called g c =
     let did = c.settle-settled.ensures in
     let before = g.B.Bank.faults_of a.bank in
     let after = g.B.Bank.faults_of c.settle-settled.new.bank in
-    let roles = c.newly_vacant-roles.result in
+    let roles = c.newly_unassigned-roles.result in
     let spares = c.settle-settled.result.spares in
     let end = c.ops-end-2.result in
-    let since = lost-since given a.members m c.len-count.result c.vacant_roles-before.result roles spares before after here.placed did.moved did.failed
-    (c.len-count.ensures ∙ here.placed.roles) c.vacant_roles-before.ensures c.newly_vacant-roles.ensures in
+    let since = lost-since given a.members m c.len-count.result c.unassigned_roles-before.result roles spares before after here.placed did.moved did.failed
+    (c.len-count.ensures ∙ here.placed.roles) c.unassigned_roles-before.ensures c.newly_unassigned-roles.ensures in
     rw (← c.self.view_is) (called did.grows did.moved
-    (ended-behind (g.B.Bank.tape c.settle-settled.new.bank) c.enter_behind-2.new.epoch.first c.make_room.new.self.items c.args.who end (losses_of roles spares) c.args.event c.enter_behind-2.ensures.items c.ops-end-2.ensures.count)
-    (losses-behind a.members m before after a.epoch.entries.items c.make_room.new.self.items c.enter_behind-2.new.epoch.entries.items c.args.who end roles spares c.args.event since
-    (settling-no-loss a.members before after c.args.event c.requires.event) c.make_room.ensures.items c.enter_behind-2.ensures.items)
+    (ended-behind (g.B.Bank.tape c.settle-settled.new.bank) c.append_after_losses-2.new.epoch.first c.make_room.new.self.items c.args.who end (losses_of roles spares) c.args.event c.append_after_losses-2.ensures.items c.ops-end-2.ensures.count)
+    (losses-behind a.members m before after a.epoch.entries.items c.make_room.new.self.items c.append_after_losses-2.new.epoch.entries.items c.args.who end roles spares c.args.event since
+    (settling-no-loss a.members before after c.args.event c.requires.event) c.make_room.ensures.items c.append_after_losses-2.ensures.items)
     did.counts
-    (record { uuid = c.enter_behind-2.ensures.uuid; given = c.enter_behind-2.ensures.given; first = c.enter_behind-2.ensures.first; backup = refl; work = refl; ahead = refl; limit = refl })
+    (record { uuid = c.append_after_losses-2.ensures.uuid; given = c.append_after_losses-2.ensures.given; first = c.append_after_losses-2.ensures.first; backup = refl; work = refl; ahead = refl; limit = refl })
     (λ t. (was.kept.recorded t).begun))
 
 pub returns-clause-left : goal.returns-clause-left
@@ -220,12 +220,12 @@ returns-clause-left g c =
     let did = c.settle-settled.ensures in
     let before = g.B.Bank.faults_of a.bank in
     let after = g.B.Bank.faults_of c.settle-settled.new.bank in
-    let roles = c.newly_vacant-roles.result in
+    let roles = c.newly_unassigned-roles.result in
     let spares = c.settle-settled.result.spares in
-    let since = lost-since given a.members m c.len-count.result c.vacant_roles-before.result roles spares before after here.placed did.moved did.failed
-    (c.len-count.ensures ∙ here.placed.roles) c.vacant_roles-before.ensures c.newly_vacant-roles.ensures in
-    rw (← c.self.view_is) (λ t. left-settled given a.members m a.epoch.entries.items c.make_room.new.self.items c.enter_behind-2.new.epoch.entries.items c.args.who c.ops-end-2.result roles spares c.args.event before after
-    (g.B.Bank.tape c.settle-settled.new.bank) here.placed did.moved (few-roles m.newest did.moved.placed.fit.valid) since c.make_room.ensures.items c.enter_behind-2.ensures.items (did.flushed t))
+    let since = lost-since given a.members m c.len-count.result c.unassigned_roles-before.result roles spares before after here.placed did.moved did.failed
+    (c.len-count.ensures ∙ here.placed.roles) c.unassigned_roles-before.ensures c.newly_unassigned-roles.ensures in
+    rw (← c.self.view_is) (λ t. left-settled given a.members m a.epoch.entries.items c.make_room.new.self.items c.append_after_losses-2.new.epoch.entries.items c.args.who c.ops-end-2.result roles spares c.args.event before after
+    (g.B.Bank.tape c.settle-settled.new.bank) here.placed did.moved (few-roles m.newest did.moved.placed.fit.valid) since c.make_room.ensures.items c.append_after_losses-2.ensures.items (did.flushed t))
 
 pub returns-clause-caused : goal.returns-clause-caused
 returns-clause-caused g c = rw (← c.self.view_is) (omega arith, λ refusal many. never-both c.self.inside.members refusal c.in_default.ensures many)
@@ -264,11 +264,11 @@ pub check_number-requires : goal.check_number-requires
 check_number-requires g c =
     c.requires.next ∙ ap (λ p. next_number c.args.who.caller p.parts.entries) (sym c.self.view_is) ∙ ap (λ (l : List Entry). next_number c.args.who.caller l) (sym c.make_room.ensures.items)
 
-pub enter-requires-clause-room : goal.enter-requires-clause-room
-enter-requires-clause-room g c = room-1 c.make_room.new.self.room c.in-Ok.ensures.ok
+pub append_entry-requires-clause-room : goal.append_entry-requires-clause-room
+append_entry-requires-clause-room g c = room-1 c.make_room.new.self.room c.in-Ok.ensures.ok
 
-pub enter-requires-clause-number : goal.enter-requires-clause-number
-enter-requires-clause-number g c = c.check_number.ensures
+pub append_entry-requires-clause-number : goal.append_entry-requires-clause-number
+append_entry-requires-clause-number g c = c.check_number.ensures
 
 pub returns-in-Some-clause-whole : goal.returns-in-Some-clause-whole
 returns-in-Some-clause-whole g c = subst (λ p. AreWhole c.self.inside.members → AreWhole p.parts.members) c.self.view_is (λ whole. whole)
@@ -293,32 +293,32 @@ returns-in-Some-clause-failed g c =
 pub returns-in-Some-clause-given : goal.returns-in-Some-clause-given
 returns-in-Some-clause-given g c = ap (λ p. g.B.Bank.given p.parts.bank) c.self.view_is
 
-pub vacant_roles-before-requires-clause-known : goal.vacant_roles-before-requires-clause-known
-vacant_roles-before-requires-clause-known g c = le-of c.len-count.ensures
+pub unassigned_roles-before-requires-clause-known : goal.unassigned_roles-before-requires-clause-known
+unassigned_roles-before-requires-clause-known g c = le-of c.len-count.ensures
 
-pub settle-settled-requires-clause-slots : goal.settle-settled-requires-clause-slots
-settle-settled-requires-clause-slots g c = c.self.invariant.kept.slots
+pub flush_and_mark-settled-requires-clause-slots : goal.flush_and_mark-settled-requires-clause-slots
+flush_and_mark-settled-requires-clause-slots g c = c.self.invariant.kept.slots
 
-pub newly_vacant-roles-requires-clause-known : goal.newly_vacant-roles-requires-clause-known
-newly_vacant-roles-requires-clause-known g c = count-moved c.len-count.result c.self.invariant.kept.members_are.placed c.settle-settled.ensures.moved c.len-count.ensures
+pub newly_unassigned-roles-requires-clause-known : goal.newly_unassigned-roles-requires-clause-known
+newly_unassigned-roles-requires-clause-known g c = count-moved c.len-count.result c.self.invariant.kept.members_are.placed c.settle-settled.ensures.moved c.len-count.ensures
 
-pub enter_behind-requires-clause-room : goal.enter_behind-requires-clause-room
-enter_behind-requires-clause-room g c = room-49 c.make_room.new.self.room c.in-Ok.ensures.ok
+pub append_after_losses-requires-clause-room : goal.append_after_losses-requires-clause-room
+append_after_losses-requires-clause-room g c = room-49 c.make_room.new.self.room c.in-Ok.ensures.ok
 
-pub enter_behind-requires-clause-number : goal.enter_behind-requires-clause-number
-enter_behind-requires-clause-number g c = c.check_number.ensures
+pub append_after_losses-requires-clause-number : goal.append_after_losses-requires-clause-number
+append_after_losses-requires-clause-number g c = c.check_number.ensures
 
 pub returns-in-Some-refusal-clause-answered : goal.returns-in-Some-refusal-clause-answered
 returns-in-Some-refusal-clause-answered g c =
     let end = c.ops-end-2.result in
-    let roles = c.newly_vacant-roles.result in
+    let roles = c.newly_unassigned-roles.result in
     let spares = c.settle-settled.result.spares in
     let refusal = c.in-Some-refusal.refusal in
     record {
       roles = roles;
       spares = spares;
       end = end;
-      is = c.enter_behind.ensures.items ∙ ap (λ (l : List Entry). l ++ entries_of c.args.who end (losses_of roles spares ++ Refused refusal ∷ [])) (c.make_room.ensures.items ∙ ap (λ p. p.parts.entries) c.self.view_is);
+      is = c.append_after_losses.ensures.items ∙ ap (λ (l : List Entry). l ++ entries_of c.args.who end (losses_of roles spares ++ Refused refusal ∷ [])) (c.make_room.ensures.items ∙ ap (λ p. p.parts.entries) c.self.view_is);
     }
 
 pub returns-in-Some-refusal-clause-caused : goal.returns-in-Some-refusal-clause-caused
@@ -333,29 +333,29 @@ returns-in-Some-refusal-clause-caused g c =
 pub returns-in-Some-refusal-clause-given : goal.returns-in-Some-refusal-clause-given
 returns-in-Some-refusal-clause-given g c = c.settle-settled.ensures.given ∙ ap (λ p. g.B.Bank.given p.parts.bank) c.self.view_is
 
-pub enter_behind-requires-2-clause-room : goal.enter_behind-requires-2-clause-room
-enter_behind-requires-2-clause-room g c = room-49 c.make_room.new.self.room c.in-Ok.ensures.ok
+pub append_after_losses-requires-2-clause-room : goal.append_after_losses-requires-2-clause-room
+append_after_losses-requires-2-clause-room g c = room-49 c.make_room.new.self.room c.in-Ok.ensures.ok
 
-pub enter_behind-requires-2-clause-number : goal.enter_behind-requires-2-clause-number
-enter_behind-requires-2-clause-number g c = c.check_number.ensures
+pub append_after_losses-requires-2-clause-number : goal.append_after_losses-requires-2-clause-number
+append_after_losses-requires-2-clause-number g c = c.check_number.ensures
 
 pub returns-clause-answered : goal.returns-clause-answered
 returns-clause-answered g c =
     let end = c.ops-end-2.result in
-    let roles = c.newly_vacant-roles.result in
+    let roles = c.newly_unassigned-roles.result in
     let spares = c.settle-settled.result.spares in
     record {
       roles = roles;
       spares = spares;
       end = end;
-      is = c.enter_behind-2.ensures.items ∙ ap (λ (l : List Entry). l ++ entries_of c.args.who end (losses_of roles spares ++ c.args.event ∷ [])) (c.make_room.ensures.items ∙ ap (λ p. p.parts.entries) c.self.view_is);
+      is = c.append_after_losses-2.ensures.items ∙ ap (λ (l : List Entry). l ++ entries_of c.args.who end (losses_of roles spares ++ c.args.event ∷ [])) (c.make_room.ensures.items ∙ ap (λ p. p.parts.entries) c.self.view_is);
     }
 
 pub returns-clause-clean : goal.returns-clause-clean
 returns-clause-clean g c = λ none. c.settle-settled.ensures.clean c.in_default-refusal.is (c.is_some.ensures ∙ ap (λ p. is_some p.parts.work.resync) c.self.view_is ∙ ap is_some none)
 
 pub returns-clause-last : goal.returns-clause-last
-returns-clause-last g c = λ t. c.enter_behind-2.ensures.last ∙ c.ops-end-2.ensures.count t
+returns-clause-last g c = λ t. c.append_after_losses-2.ensures.last ∙ c.ops-end-2.ensures.count t
 
 pub returns-clause-given : goal.returns-clause-given
 returns-clause-given g c = c.settle-settled.ensures.given ∙ ap (λ p. g.B.Bank.given p.parts.bank) c.self.view_is

@@ -41,12 +41,12 @@ invariant_of-self-2 g c =
     (shown-plain was c.args.who c.ops-end.result (begins-going a.epoch.entries.items c.args.who number) c.requires.caller c.ops-end.ensures.count (grows-none (λ t. refl)) c.in-Ok.shown steps
     (c.in-Ok.ensures.spares ∙ ap (λ p. p.parts.members.spares) (sym c.self.view_is)))
     (λ slot. omega arith) (alone-keeps c.args.who c.ops-end.result (Shown c.in-Ok.shown) (λ n. refl) (λ limit. refl))
-    refl (scope-same given a.backup refl c.enter.ensures.uuid c.enter.ensures.given) c.enter.ensures.first c.make_room.ensures.items c.enter.ensures.items
-    (omega (arith, c.enter.ensures.room, c.in-Ok-make_room.ensures.ok))
+    refl (scope-same given a.backup refl c.append_entry.ensures.uuid c.append_entry.ensures.given) c.append_entry.ensures.first c.make_room.ensures.items c.append_entry.ensures.items
+    (omega (arith, c.append_entry.ensures.room, c.in-Ok-make_room.ensures.ok))
 
 pub returns-clause-ended : goal.returns-clause-ended
 returns-clause-ended g c =
-    ended-behind (g.B.Bank.tape c.self.inside.bank) c.enter.new.epoch.first c.make_room.new.self.items c.args.who c.ops-end.result [] (Shown c.in-Ok.shown) c.enter.ensures.items c.ops-end.ensures.count
+    ended-behind (g.B.Bank.tape c.self.inside.bank) c.append_entry.new.epoch.first c.make_room.new.self.items c.args.who c.ops-end.result [] (Shown c.in-Ok.shown) c.append_entry.ensures.items c.ops-end.ensures.count
 
 pub returns-clause-entered : goal.returns-clause-entered
 returns-clause-entered g c =
@@ -54,7 +54,7 @@ returns-clause-entered g c =
     rw (← c.self.view_is) (record {
       end = c.ops-end.result;
       at_end = c.ops-end.ensures.count;
-      is = c.enter.ensures.items ∙ ap₂ (λ (l : List Entry) (s : Status). l ++ entries_of c.args.who c.ops-end.result (Shown s ∷ [])) c.make_room.ensures.items same;
+      is = c.append_entry.ensures.items ∙ ap₂ (λ (l : List Entry) (s : Status). l ++ entries_of c.args.who c.ops-end.result (Shown s ∷ [])) c.make_room.ensures.items same;
     })
 
 pub returns-clause-few : goal.returns-clause-few
@@ -96,7 +96,7 @@ returns-in-Err-make_room-clause-same g c =
 
 pub returns-clause-same : goal.returns-clause-same
 returns-clause-same g c =
-    rw (← c.self.view_is) (still-same (g.B.Bank.given c.self.inside.bank) (g.B.Bank.tape c.self.inside.bank) (record { uuid = c.enter.ensures.uuid; given = c.enter.ensures.given; first = c.enter.ensures.first; backup = refl; ahead = refl; limit = refl }) refl (λ t. (c.self.invariant.kept.recorded t).begun))
+    rw (← c.self.view_is) (still-same (g.B.Bank.given c.self.inside.bank) (g.B.Bank.tape c.self.inside.bank) (record { uuid = c.append_entry.ensures.uuid; given = c.append_entry.ensures.given; first = c.append_entry.ensures.first; backup = refl; ahead = refl; limit = refl }) refl (λ t. (c.self.invariant.kept.recorded t).begun))
 
 pub returns-in-Err-make_room-clause-unchanged : goal.returns-in-Err-make_room-clause-unchanged
 returns-in-Err-make_room-clause-unchanged g c = entries-alike c.make_room.new.self.items c.self.view_is c.make_room.ensures.items
@@ -117,8 +117,8 @@ pub check_number-requires : goal.check_number-requires
 check_number-requires g c =
     c.requires.next ∙ ap (λ p. next_number c.args.who.caller p.parts.entries) (sym c.self.view_is) ∙ ap (λ (l : List Entry). next_number c.args.who.caller l) (sym c.make_room.ensures.items)
 
-pub enter-requires-clause-number : goal.enter-requires-clause-number
-enter-requires-clause-number g c = c.check_number.ensures
+pub append_entry-requires-clause-number : goal.append_entry-requires-clause-number
+append_entry-requires-clause-number g c = c.check_number.ensures
 
 pub returns-in-Err-clause-ended : goal.returns-in-Err-clause-ended
 returns-in-Err-clause-ended g c = subst (λ p. IsEndOf g.B.Bank.tells p.parts.first p.parts.entries (g.B.Bank.tape p.parts.bank)) c.self.view_is (λ t. (c.self.invariant.kept.recorded t).ended)
@@ -129,8 +129,8 @@ returns-in-Err-told-clause-ended g c = subst (λ p. IsEndOf g.B.Bank.tells p.par
 room-first : (room : ℕ) → 2 ≤ room → 0 < room
 room-first room left = omega (arith, left)
 
-pub enter-requires-clause-room : goal.enter-requires-clause-room
-enter-requires-clause-room g c = room-first c.make_room.new.self.room c.in-Ok-make_room.ensures.ok
+pub append_entry-requires-clause-room : goal.append_entry-requires-clause-room
+append_entry-requires-clause-room g c = room-first c.make_room.new.self.room c.in-Ok-make_room.ensures.ok
 
 -- ---- what stays
 

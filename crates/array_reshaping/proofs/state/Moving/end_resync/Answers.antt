@@ -24,7 +24,7 @@ use Rattle.array_reshaping_laws.proofs.array_specs_Called.{not_254, called, alon
 use Rattle.array_reshaping_laws.specs.Mending.{IsResyncEndDue}
 use Rattle.array_reshaping_laws.specs.Ready.{bytes_in}
 use Rattle.array_reshaping_laws.proofs.Kept.{ready, ready-with, shapes-same, shapes-moved, behind-keeps, behind-whole}
-use Rattle.array_reshaping_laws.proofs.MendLaws.{aside-right, end-refused, end-done, end-left, rows-good}
+use Rattle.array_reshaping_laws.proofs.ResyncLaws.{aside-right, end-refused, end-done, end-left, rows-good}
 use Rattle.array_parts.specs.reshape_request_Left.{phases_of}
 use Rattle.array_reshaping_laws.specs.array_call_specs_Calls.{IsRefusedFor}
 use Rattle.array_reshaping_laws.proofs.array_reshaping_state_ReshapeLaws.{under-way-of}
@@ -50,12 +50,12 @@ invariant_of-self g c =
     c.args.who end (Refused refusal) was.kept goes (not_254 c.args.who.caller c.requires.caller) c.ops-end.ensures.count (quiet-refusal refusal) (λ told is. is)
     (λ t right. refused-right (world_in given tape scope a.epoch.first) a.epoch.entries.items given a.members was.kept.members_are.placed (was.kept.gone t right) (was.kept.levelled t right) refusal c.in-Some.ensures) in
     ready (entries_of c.args.who end (Refused refusal ∷ [])) was (grows-none (λ t. refl)) (shapes-same a.members.newest) kept
-    refl (never-falls _) (alone-keeps c.args.who end (Refused refusal) (λ n. refl) (λ limit. refl)) (λ none whole. whole) refl (scope-same given (Some a.backup) refl c.enter.ensures.uuid c.enter.ensures.given) c.enter.ensures.first refl c.enter.ensures.items
-    (room-after-1 a.steps a.epoch.entries.room c.enter.new.epoch.entries.room was.room_left c.enter.ensures.room some)
+    refl (never-falls _) (alone-keeps c.args.who end (Refused refusal) (λ n. refl) (λ limit. refl)) (λ none whole. whole) refl (scope-same given (Some a.backup) refl c.append_entry.ensures.uuid c.append_entry.ensures.given) c.append_entry.ensures.first refl c.append_entry.ensures.items
+    (room-after-1 a.steps a.epoch.entries.room c.append_entry.new.epoch.entries.room was.room_left c.append_entry.ensures.room some)
 
 pub returns-in-Some-clause-entered : goal.returns-in-Some-clause-entered
 returns-in-Some-clause-entered g c =
-    rw (← c.self.view_is) (behind-alone c.args.who c.ops-end.result (Refused c.in-Some.refusal) refl c.enter.ensures.items)
+    rw (← c.self.view_is) (behind-alone c.args.who c.ops-end.result (Refused c.in-Some.refusal) refl c.append_entry.ensures.items)
 
 pub returns-in-Some-clause-called : goal.returns-in-Some-clause-called
 returns-in-Some-clause-called g c =
@@ -66,10 +66,10 @@ returns-in-Some-clause-called g c =
     let end = c.ops-end.result in
     let refusal = c.in-Some.refusal in
     rw (← c.self.view_is) (called (grows-none (λ t. refl)) (moved-same given given a.members a.members refl refl was.kept.members_are.placed was.kept.members_are.unlost)
-    (ended-behind (g.B.Bank.tape a.bank) c.enter.new.epoch.first a.epoch.entries.items c.args.who end [] (Refused refusal) c.enter.ensures.items c.ops-end.ensures.count)
-    (alone-lossless a.members faults faults a.epoch.entries.items a.epoch.entries.items c.enter.new.epoch.entries.items c.args.who end (Refused refusal) tt refl c.enter.ensures.items)
+    (ended-behind (g.B.Bank.tape a.bank) c.append_entry.new.epoch.first a.epoch.entries.items c.args.who end [] (Refused refusal) c.append_entry.ensures.items c.ops-end.ensures.count)
+    (alone-lossless a.members faults faults a.epoch.entries.items a.epoch.entries.items c.append_entry.new.epoch.entries.items c.args.who end (Refused refusal) tt refl c.append_entry.ensures.items)
     (never-falls _)
-    (record { uuid = c.enter.ensures.uuid; given = c.enter.ensures.given; first = c.enter.ensures.first; backup = refl; work = refl; ahead = refl; limit = refl })
+    (record { uuid = c.append_entry.ensures.uuid; given = c.append_entry.ensures.given; first = c.append_entry.ensures.first; backup = refl; work = refl; ahead = refl; limit = refl })
     (λ t. (was.kept.recorded t).begun))
 
 -- ---- the roles
@@ -82,16 +82,16 @@ overflow_cast-count g c =
     let long = c.len-count.ensures in
     omega (arith, few, roles, long)
 
-pub vacant_roles-before-requires-clause-few : goal.vacant_roles-before-requires-clause-few
-vacant_roles-before-requires-clause-few g c =
+pub unassigned_roles-before-requires-clause-few : goal.unassigned_roles-before-requires-clause-few
+unassigned_roles-before-requires-clause-few g c =
     let members = c.self.invariant.kept.members_are in
     let few = few-roles c.self.inside.members.newest members.placed.fit.valid in
     let roles = members.backed.roles in
     let long = c.len-count.ensures in
     omega (arith, few, roles, long)
 
-pub newly_vacant-lost-requires-clause-few : goal.newly_vacant-lost-requires-clause-few
-newly_vacant-lost-requires-clause-few g c =
+pub newly_unassigned-lost-requires-clause-few : goal.newly_unassigned-lost-requires-clause-few
+newly_unassigned-lost-requires-clause-few g c =
     let members = c.self.invariant.kept.members_are in
     let few = few-roles c.self.inside.members.newest members.placed.fit.valid in
     let roles = members.backed.roles in
@@ -115,12 +115,12 @@ invariant_of-self-in-Some-refusal g c =
     let tape' = g.B.Bank.tape c.settle-settled.new.bank in
     let before = g.B.Bank.faults_of a.bank in
     let after = g.B.Bank.faults_of c.settle-settled.new.bank in
-    let roles = c.newly_vacant-lost.result in
+    let roles = c.newly_unassigned-lost.result in
     let spares = c.settle-settled.result.spares in
     let end = c.ops-end-2.result in
     let refusal = c.in-Some-refusal.refusal in
-    let since = lost-since given a.members m c.len-count.result c.vacant_roles-before.result roles spares before after here.placed did.moved did.failed
-    (c.len-count.ensures ∙ here.backed.roles) c.vacant_roles-before.ensures c.newly_vacant-lost.ensures in
+    let since = lost-since given a.members m c.len-count.result c.unassigned_roles-before.result roles spares before after here.placed did.moved did.failed
+    (c.len-count.ensures ∙ here.backed.roles) c.unassigned_roles-before.ensures c.newly_unassigned-lost.ensures in
     let flushed : AreFlushed g.B.Bank.tells given tape tape' a.members m roles false = record {
       moved = did.moved;
       few = few-roles m.newest did.moved.placed.fit.valid;
@@ -134,8 +134,8 @@ invariant_of-self-in-Some-refusal g c =
     let kept = end-refused a.work a.course a.ahead c.args.who end roles spares due.is due.aside was.kept c.in_default.ensures goes c.requires.caller c.ops-end-2.ensures.count did.grows flushed refusal
     (many-of m c.settle-settled.result.refusal refusal c.in-Some-refusal.is did.refused) in
     ready (entries_of c.args.who end (losses_of roles spares ++ Refused refusal ∷ [])) was did.grows (shapes-moved given a.members m did.moved) kept
-    refl did.counts (behind-keeps c.args.who end roles spares (Refused refusal) (λ n. refl) (λ limit. refl)) (behind-whole tape' (scope_in given a.epoch.uuid a.epoch.given (Some a.backup)) a.epoch.first a.epoch.entries.items c.args.who end roles spares (Refused refusal) did.moved (missing-since roles did.moved since.vacant)) did.given (scope-same given (Some a.backup) did.given c.enter_behind.ensures.uuid c.enter_behind.ensures.given) c.enter_behind.ensures.first refl c.enter_behind.ensures.items
-    (room-after-49 a.steps a.epoch.entries.room c.enter_behind.new.epoch.entries.room was.room_left c.enter_behind.ensures.room some)
+    refl did.counts (behind-keeps c.args.who end roles spares (Refused refusal) (λ n. refl) (λ limit. refl)) (behind-whole tape' (scope_in given a.epoch.uuid a.epoch.given (Some a.backup)) a.epoch.first a.epoch.entries.items c.args.who end roles spares (Refused refusal) did.moved (missing-since roles did.moved since.vacant)) did.given (scope-same given (Some a.backup) did.given c.append_after_losses.ensures.uuid c.append_after_losses.ensures.given) c.append_after_losses.ensures.first refl c.append_after_losses.ensures.items
+    (room-after-49 a.steps a.epoch.entries.room c.append_after_losses.new.epoch.entries.room was.room_left c.append_after_losses.ensures.room some)
 
 pub returns-in-Some-refusal-clause-called : goal.returns-in-Some-refusal-clause-called
 returns-in-Some-refusal-clause-called g c =
@@ -147,17 +147,17 @@ returns-in-Some-refusal-clause-called g c =
     let did = c.settle-settled.ensures in
     let before = g.B.Bank.faults_of a.bank in
     let after = g.B.Bank.faults_of c.settle-settled.new.bank in
-    let roles = c.newly_vacant-lost.result in
+    let roles = c.newly_unassigned-lost.result in
     let spares = c.settle-settled.result.spares in
     let end = c.ops-end-2.result in
     let refusal = c.in-Some-refusal.refusal in
-    let since = lost-since given a.members m c.len-count.result c.vacant_roles-before.result roles spares before after here.placed did.moved did.failed
-    (c.len-count.ensures ∙ here.backed.roles) c.vacant_roles-before.ensures c.newly_vacant-lost.ensures in
+    let since = lost-since given a.members m c.len-count.result c.unassigned_roles-before.result roles spares before after here.placed did.moved did.failed
+    (c.len-count.ensures ∙ here.backed.roles) c.unassigned_roles-before.ensures c.newly_unassigned-lost.ensures in
     rw (← c.self.view_is) (called did.grows did.moved
-    (ended-behind (g.B.Bank.tape c.settle-settled.new.bank) c.enter_behind.new.epoch.first a.epoch.entries.items c.args.who end (losses_of roles spares) (Refused refusal) c.enter_behind.ensures.items c.ops-end-2.ensures.count)
-    (losses-behind a.members m before after a.epoch.entries.items a.epoch.entries.items c.enter_behind.new.epoch.entries.items c.args.who end roles spares (Refused refusal) since tt refl c.enter_behind.ensures.items)
+    (ended-behind (g.B.Bank.tape c.settle-settled.new.bank) c.append_after_losses.new.epoch.first a.epoch.entries.items c.args.who end (losses_of roles spares) (Refused refusal) c.append_after_losses.ensures.items c.ops-end-2.ensures.count)
+    (losses-behind a.members m before after a.epoch.entries.items a.epoch.entries.items c.append_after_losses.new.epoch.entries.items c.args.who end roles spares (Refused refusal) since tt refl c.append_after_losses.ensures.items)
     did.counts
-    (record { uuid = c.enter_behind.ensures.uuid; given = c.enter_behind.ensures.given; first = c.enter_behind.ensures.first; backup = refl; work = refl; ahead = refl; limit = refl })
+    (record { uuid = c.append_after_losses.ensures.uuid; given = c.append_after_losses.ensures.given; first = c.append_after_losses.ensures.first; backup = refl; work = refl; ahead = refl; limit = refl })
     (λ t. (was.kept.recorded t).begun))
 
 pub returns-in-Some-refusal-clause-caused : goal.returns-in-Some-refusal-clause-caused
@@ -191,12 +191,12 @@ invariant_of-self-2 g c =
     let tape' = g.B.Bank.tape c.settle-settled.new.bank in
     let before = g.B.Bank.faults_of a.bank in
     let after = g.B.Bank.faults_of c.settle-settled.new.bank in
-    let roles = c.newly_vacant-lost.result in
+    let roles = c.newly_unassigned-lost.result in
     let spares = c.settle-settled.result.spares in
     let end = c.ops-end-2.result in
     let left = c.all_left-left.result in
-    let since = lost-since given a.members m c.len-count.result c.vacant_roles-before.result roles spares before after here.placed did.moved did.failed
-    (c.len-count.ensures ∙ here.backed.roles) c.vacant_roles-before.ensures c.newly_vacant-lost.ensures in
+    let since = lost-since given a.members m c.len-count.result c.unassigned_roles-before.result roles spares before after here.placed did.moved did.failed
+    (c.len-count.ensures ∙ here.backed.roles) c.unassigned_roles-before.ensures c.newly_unassigned-lost.ensures in
     let flushed : AreFlushed g.B.Bank.tells given tape tape' a.members m roles false = record {
       moved = did.moved;
       few = few-roles m.newest did.moved.placed.fit.valid;
@@ -210,8 +210,8 @@ invariant_of-self-2 g c =
     let done : AreSettled g.B.Bank.tells given tape tape' a.members m false = record { clean = did.clean c.in_default-refusal.is; settled = did.settled c.in_default-refusal.is } in
     let kept = end-done a.work a.course a.ahead c.args.who end roles spares due.is due.aside was.kept c.in_default.ensures goes c.requires.caller c.ops-end-2.ensures.count did.grows flushed left c.all_left-left.ensures done in
     ready-with (entries_of c.args.who end (losses_of roles spares ++ Step EndsResync left ∷ [])) was did.grows (shapes-moved given a.members m did.moved) kept
-    refl did.counts (behind-keeps c.args.who end roles spares (Step EndsResync left) (λ n. refl) (λ limit. refl)) (behind-whole tape' (scope_in given a.epoch.uuid a.epoch.given (Some a.backup)) a.epoch.first a.epoch.entries.items c.args.who end roles spares (Step EndsResync left) did.moved (missing-since roles did.moved since.vacant)) did.given (scope-same given (Some a.backup) did.given c.enter_behind-2.ensures.uuid c.enter_behind-2.ensures.given) c.enter_behind-2.ensures.first refl c.enter_behind-2.ensures.items
-    (room-after-49 a.steps a.epoch.entries.room c.enter_behind-2.new.epoch.entries.room was.room_left c.enter_behind-2.ensures.room some)
+    refl did.counts (behind-keeps c.args.who end roles spares (Step EndsResync left) (λ n. refl) (λ limit. refl)) (behind-whole tape' (scope_in given a.epoch.uuid a.epoch.given (Some a.backup)) a.epoch.first a.epoch.entries.items c.args.who end roles spares (Step EndsResync left) did.moved (missing-since roles did.moved since.vacant)) did.given (scope-same given (Some a.backup) did.given c.append_after_losses-2.ensures.uuid c.append_after_losses-2.ensures.given) c.append_after_losses-2.ensures.first refl c.append_after_losses-2.ensures.items
+    (room-after-49 a.steps a.epoch.entries.room c.append_after_losses-2.new.epoch.entries.room was.room_left c.append_after_losses-2.ensures.room some)
 
 pub returns-clause-called : goal.returns-clause-called
 returns-clause-called g c =
@@ -223,17 +223,17 @@ returns-clause-called g c =
     let did = c.settle-settled.ensures in
     let before = g.B.Bank.faults_of a.bank in
     let after = g.B.Bank.faults_of c.settle-settled.new.bank in
-    let roles = c.newly_vacant-lost.result in
+    let roles = c.newly_unassigned-lost.result in
     let spares = c.settle-settled.result.spares in
     let end = c.ops-end-2.result in
     let event = Step EndsResync c.all_left-left.result in
-    let since = lost-since given a.members m c.len-count.result c.vacant_roles-before.result roles spares before after here.placed did.moved did.failed
-    (c.len-count.ensures ∙ here.backed.roles) c.vacant_roles-before.ensures c.newly_vacant-lost.ensures in
+    let since = lost-since given a.members m c.len-count.result c.unassigned_roles-before.result roles spares before after here.placed did.moved did.failed
+    (c.len-count.ensures ∙ here.backed.roles) c.unassigned_roles-before.ensures c.newly_unassigned-lost.ensures in
     rw (← c.self.view_is) (called did.grows did.moved
-    (ended-behind (g.B.Bank.tape c.settle-settled.new.bank) c.enter_behind-2.new.epoch.first a.epoch.entries.items c.args.who end (losses_of roles spares) event c.enter_behind-2.ensures.items c.ops-end-2.ensures.count)
-    (losses-behind a.members m before after a.epoch.entries.items a.epoch.entries.items c.enter_behind-2.new.epoch.entries.items c.args.who end roles spares event since tt refl c.enter_behind-2.ensures.items)
+    (ended-behind (g.B.Bank.tape c.settle-settled.new.bank) c.append_after_losses-2.new.epoch.first a.epoch.entries.items c.args.who end (losses_of roles spares) event c.append_after_losses-2.ensures.items c.ops-end-2.ensures.count)
+    (losses-behind a.members m before after a.epoch.entries.items a.epoch.entries.items c.append_after_losses-2.new.epoch.entries.items c.args.who end roles spares event since tt refl c.append_after_losses-2.ensures.items)
     did.counts
-    (record { uuid = c.enter_behind-2.ensures.uuid; given = c.enter_behind-2.ensures.given; first = c.enter_behind-2.ensures.first; backup = refl; work = refl; ahead = refl; limit = refl })
+    (record { uuid = c.append_after_losses-2.ensures.uuid; given = c.append_after_losses-2.ensures.given; first = c.append_after_losses-2.ensures.first; backup = refl; work = refl; ahead = refl; limit = refl })
     (λ t. (was.kept.recorded t).begun))
 
 pub returns-clause-left : goal.returns-clause-left
@@ -276,38 +276,38 @@ returns-in-Some-refusal-clause-room g c = one-less c.self.inside.steps (subst (�
 pub returns-clause-room : goal.returns-clause-room
 returns-clause-room g c = one-less c.self.inside.steps (subst (λ p. 1 ≤ p.parts.steps) (sym c.self.view_is) c.requires.room) ∙ ap (λ p. p.parts.steps) c.self.view_is
 
-pub enter_behind-requires-clause-room : goal.enter_behind-requires-clause-room
-enter_behind-requires-clause-room g c = room-49 c.self.inside.steps c.self.inside.epoch.entries.room (subst (λ p. 1 ≤ p.parts.steps) (sym c.self.view_is) c.requires.room) c.self.invariant.room_left
+pub append_after_losses-requires-clause-room : goal.append_after_losses-requires-clause-room
+append_after_losses-requires-clause-room g c = room-49 c.self.inside.steps c.self.inside.epoch.entries.room (subst (λ p. 1 ≤ p.parts.steps) (sym c.self.view_is) c.requires.room) c.self.invariant.room_left
 
-pub enter_behind-requires-2-clause-room : goal.enter_behind-requires-2-clause-room
-enter_behind-requires-2-clause-room g c = room-49 c.self.inside.steps c.self.inside.epoch.entries.room (subst (λ p. 1 ≤ p.parts.steps) (sym c.self.view_is) c.requires.room) c.self.invariant.room_left
+pub append_after_losses-requires-2-clause-room : goal.append_after_losses-requires-2-clause-room
+append_after_losses-requires-2-clause-room g c = room-49 c.self.inside.steps c.self.inside.epoch.entries.room (subst (λ p. 1 ≤ p.parts.steps) (sym c.self.view_is) c.requires.room) c.self.invariant.room_left
 
-pub enter_behind-requires-clause-number : goal.enter_behind-requires-clause-number
-enter_behind-requires-clause-number g c = c.check_going.ensures
+pub append_after_losses-requires-clause-number : goal.append_after_losses-requires-clause-number
+append_after_losses-requires-clause-number g c = c.check_going.ensures
 
-pub enter_behind-requires-2-clause-number : goal.enter_behind-requires-2-clause-number
-enter_behind-requires-2-clause-number g c = c.check_going.ensures
+pub append_after_losses-requires-2-clause-number : goal.append_after_losses-requires-2-clause-number
+append_after_losses-requires-2-clause-number g c = c.check_going.ensures
 
-pub enter-requires-clause-number : goal.enter-requires-clause-number
-enter-requires-clause-number g c = c.check_going.ensures
+pub append_entry-requires-clause-number : goal.append_entry-requires-clause-number
+append_entry-requires-clause-number g c = c.check_going.ensures
 
 pub returns-in-Some-refusal-clause-entered : goal.returns-in-Some-refusal-clause-entered
-returns-in-Some-refusal-clause-entered g c = rw (← c.self.view_is) (record { roles = c.newly_vacant-lost.result; spares = c.settle-settled.result.spares; end = c.ops-end-2.result; is = c.enter_behind.ensures.items })
+returns-in-Some-refusal-clause-entered g c = rw (← c.self.view_is) (record { roles = c.newly_unassigned-lost.result; spares = c.settle-settled.result.spares; end = c.ops-end-2.result; is = c.append_after_losses.ensures.items })
 
 pub returns-clause-entered : goal.returns-clause-entered
-returns-clause-entered g c = step-entered c.newly_vacant-lost.result c.settle-settled.result.spares c.ops-end-2.result c.enter_behind-2.ensures.items c.all_left-left.ensures (ap (λ p. p.parts.entries) c.self.view_is)
+returns-clause-entered g c = step-entered c.newly_unassigned-lost.result c.settle-settled.result.spares c.ops-end-2.result c.append_after_losses-2.ensures.items c.all_left-left.ensures (ap (λ p. p.parts.entries) c.self.view_is)
 
-pub settle-settled-requires-clause-placed : goal.settle-settled-requires-clause-placed
-settle-settled-requires-clause-placed g c = c.self.invariant.kept.members_are.placed
+pub flush_and_mark-settled-requires-clause-placed : goal.flush_and_mark-settled-requires-clause-placed
+flush_and_mark-settled-requires-clause-placed g c = c.self.invariant.kept.members_are.placed
 
-pub settle-settled-requires-clause-unlost : goal.settle-settled-requires-clause-unlost
-settle-settled-requires-clause-unlost g c = c.self.invariant.kept.members_are.unlost
+pub flush_and_mark-settled-requires-clause-unlost : goal.flush_and_mark-settled-requires-clause-unlost
+flush_and_mark-settled-requires-clause-unlost g c = c.self.invariant.kept.members_are.unlost
 
-pub settle-settled-requires-clause-free : goal.settle-settled-requires-clause-free
-settle-settled-requires-clause-free g c = c.self.invariant.kept.members_are.free
+pub flush_and_mark-settled-requires-clause-free : goal.flush_and_mark-settled-requires-clause-free
+flush_and_mark-settled-requires-clause-free g c = c.self.invariant.kept.members_are.free
 
-pub settle-settled-requires-clause-slots : goal.settle-settled-requires-clause-slots
-settle-settled-requires-clause-slots g c = c.self.invariant.kept.slots
+pub flush_and_mark-settled-requires-clause-slots : goal.flush_and_mark-settled-requires-clause-slots
+flush_and_mark-settled-requires-clause-slots g c = c.self.invariant.kept.slots
 
 pub returns-in-Some-refusal-clause-given : goal.returns-in-Some-refusal-clause-given
 returns-in-Some-refusal-clause-given g c = c.settle-settled.ensures.given ∙ ap (λ p. g.B.Bank.given p.parts.bank) c.self.view_is
@@ -342,8 +342,8 @@ all_left-left-requires-clause-zeroed g c =
     let moved = c.settle-settled.ensures.moved in
     zeroed-moved _ moved c.self.invariant.kept.course_is.few
 
-pub newly_vacant-lost-requires-clause-known : goal.newly_vacant-lost-requires-clause-known
-newly_vacant-lost-requires-clause-known g c = known-moved c.len-count.result c.settle-settled.ensures.moved c.len-count.ensures c.self.invariant.kept.members_are.placed.roles
+pub newly_unassigned-lost-requires-clause-known : goal.newly_unassigned-lost-requires-clause-known
+newly_unassigned-lost-requires-clause-known g c = known-moved c.len-count.result c.settle-settled.ensures.moved c.len-count.ensures c.self.invariant.kept.members_are.placed.roles
 
 pub returns-in-Some-clause-work : goal.returns-in-Some-clause-work
 returns-in-Some-clause-work g c = ap (λ p. p.parts.work) c.self.view_is

@@ -76,36 +76,36 @@ lose_slot-requires-clause-few g c =
 pub lose_slot-requires-clause-small : goal.lose_slot-requires-clause-small
 lose_slot-requires-clause-small g c = λ role slot held. (c.self.invariant.kept.members_are.placed.holders role slot held).small
 
-pub vacant_roles-before-requires-clause-few : goal.vacant_roles-before-requires-clause-few
-vacant_roles-before-requires-clause-few g c =
+pub unassigned_roles-before-requires-clause-few : goal.unassigned_roles-before-requires-clause-few
+unassigned_roles-before-requires-clause-few g c =
     let placed = c.self.invariant.kept.members_are.placed in
     let few = few-roles c.self.inside.members.newest placed.fit.valid in
     let n = placed.roles in
     let l = c.len-count.ensures in
     omega (arith, few, n, l)
 
-pub newly_vacant-roles-requires-clause-few : goal.newly_vacant-roles-requires-clause-few
-newly_vacant-roles-requires-clause-few g c =
+pub newly_unassigned-roles-requires-clause-few : goal.newly_unassigned-roles-requires-clause-few
+newly_unassigned-roles-requires-clause-few g c =
     let placed = c.self.invariant.kept.members_are.placed in
     let few = few-roles c.self.inside.members.newest placed.fit.valid in
     let n = placed.roles in
     let l = c.len-count.ensures in
     omega (arith, few, n, l)
 
-pub name_missing-spares-requires-clause-placed : goal.name_missing-spares-requires-clause-placed
-name_missing-spares-requires-clause-placed g c =
+pub record_missing-spares-requires-clause-placed : goal.record_missing-spares-requires-clause-placed
+record_missing-spares-requires-clause-placed g c =
     let was = c.self.invariant.kept.members_are in
     placed-out (g.B.Bank.given c.self.inside.bank) c.self.inside.members c.lose_slot.new.members c.lose_slot.result c.in-Some.slot c.args.role was.placed was.unlost
     c.lose_slot.ensures.members c.lose_slot.ensures.alone c.in-Some.ensures.held
 
-pub name_missing-spares-requires-clause-unlost : goal.name_missing-spares-requires-clause-unlost
-name_missing-spares-requires-clause-unlost g c =
+pub record_missing-spares-requires-clause-unlost : goal.record_missing-spares-requires-clause-unlost
+record_missing-spares-requires-clause-unlost g c =
     let was = c.self.invariant.kept.members_are in
     unlost-out (g.B.Bank.given c.self.inside.bank) c.self.inside.members c.lose_slot.new.members c.lose_slot.result c.in-Some.slot c.args.role was.placed was.unlost
     c.lose_slot.ensures.members c.lose_slot.ensures.alone c.in-Some.ensures.held
 
-pub name_missing-spares-requires-clause-free : goal.name_missing-spares-requires-clause-free
-name_missing-spares-requires-clause-free g c =
+pub record_missing-spares-requires-clause-free : goal.record_missing-spares-requires-clause-free
+record_missing-spares-requires-clause-free g c =
     let was = c.self.invariant.kept.members_are in
     (moved-out (g.B.Bank.given c.self.inside.bank) c.self.inside.members c.lose_slot.new.members c.lose_slot.result c.in-Some.slot c.args.role was.placed was.unlost
     c.lose_slot.ensures.members c.lose_slot.ensures.alone c.in-Some.ensures.held).free was.free
@@ -124,13 +124,13 @@ invariant_of-self-in_default g c =
     (resting-moves g.B.Bank.tells given tape (scope_in given a.epoch.uuid a.epoch.given (Some a.backup)) a.epoch.first a.epoch.entries.items a.members (bears a.work) a.work.resync a.course
     (bytes_in a.course.window a.window.items) (left_in a.work a.members a.course a.ahead) c.args.who c.ops-end.result (Refused (NoSuchRole c.args.role))
     was.kept (begins-going a.epoch.entries.items c.args.who number) (not_254 c.args.who.caller c.requires.caller) c.ops-end.ensures.count (quiet-refusal (NoSuchRole c.args.role)) (λ told is. is) (λ t fills. tt))
-    refl (never-falls _) (alone-keeps c.args.who c.ops-end.result (Refused (NoSuchRole c.args.role)) (λ n. refl) (λ limit. refl)) (λ none whole. whole) refl (scope-same given (Some a.backup) refl c.enter.ensures.uuid c.enter.ensures.given) c.enter.ensures.first c.make_room.ensures.items c.enter.ensures.items
-    (omega (arith, c.enter.ensures.room, c.in-Ok.ensures.ok))
+    refl (never-falls _) (alone-keeps c.args.who c.ops-end.result (Refused (NoSuchRole c.args.role)) (λ n. refl) (λ limit. refl)) (λ none whole. whole) refl (scope-same given (Some a.backup) refl c.append_entry.ensures.uuid c.append_entry.ensures.given) c.append_entry.ensures.first c.make_room.ensures.items c.append_entry.ensures.items
+    (omega (arith, c.append_entry.ensures.room, c.in-Ok.ensures.ok))
 
 pub returns-in_default-clause-answered : goal.returns-in_default-clause-answered
 returns-in_default-clause-answered g c =
-    no_role_reply (list_length c.args.self.now.parts.members.newest) c.args.who c.args.self.now.parts.entries c.enter.new.epoch.entries.items c.ops-end.result c.args.role
-    (c.enter.ensures.items ∙ ap (λ (l : List Entry). l ++ entries_of c.args.who c.ops-end.result (Refused (NoSuchRole c.args.role) ∷ [])) (c.make_room.ensures.items ∙ ap (λ p. p.parts.entries) c.self.view_is))
+    no_role_reply (list_length c.args.self.now.parts.members.newest) c.args.who c.args.self.now.parts.entries c.append_entry.new.epoch.entries.items c.ops-end.result c.args.role
+    (c.append_entry.ensures.items ∙ ap (λ (l : List Entry). l ++ entries_of c.args.who c.ops-end.result (Refused (NoSuchRole c.args.role) ∷ [])) (c.make_room.ensures.items ∙ ap (λ p. p.parts.entries) c.self.view_is))
     c.requires.next
 
 pub returns-in_default-clause-called : goal.returns-in_default-clause-called
@@ -141,10 +141,10 @@ returns-in_default-clause-called g c =
     let faults = g.B.Bank.faults_of a.bank in
     let end = c.ops-end.result in
     called-over g.B.Bank.given g.B.Bank.tape g.B.Bank.faults_of c.self.view_is (called (grows-none (λ t. refl)) (moved-same given given a.members a.members refl refl was.kept.members_are.placed was.kept.members_are.unlost)
-    (ended-behind (g.B.Bank.tape a.bank) c.enter.new.epoch.first c.make_room.new.self.items c.args.who end [] (Refused (NoSuchRole c.args.role)) c.enter.ensures.items c.ops-end.ensures.count)
-    (alone-lossless a.members faults faults a.epoch.entries.items c.make_room.new.self.items c.enter.new.epoch.entries.items c.args.who end (Refused (NoSuchRole c.args.role)) tt c.make_room.ensures.items c.enter.ensures.items)
+    (ended-behind (g.B.Bank.tape a.bank) c.append_entry.new.epoch.first c.make_room.new.self.items c.args.who end [] (Refused (NoSuchRole c.args.role)) c.append_entry.ensures.items c.ops-end.ensures.count)
+    (alone-lossless a.members faults faults a.epoch.entries.items c.make_room.new.self.items c.append_entry.new.epoch.entries.items c.args.who end (Refused (NoSuchRole c.args.role)) tt c.make_room.ensures.items c.append_entry.ensures.items)
     (never-falls _)
-    (record { uuid = c.enter.ensures.uuid; given = c.enter.ensures.given; first = c.enter.ensures.first; backup = refl; work = refl; ahead = refl; limit = refl })
+    (record { uuid = c.append_entry.ensures.uuid; given = c.append_entry.ensures.given; first = c.append_entry.ensures.first; backup = refl; work = refl; ahead = refl; limit = refl })
     (λ t. (was.kept.recorded t).begun))
 
 -- ---- a slot is taken out
@@ -156,22 +156,22 @@ invariant_of-self-2 g c =
     let a = c.self.inside in
     let given = g.B.Bank.given a.bank in
     let tape = g.B.Bank.tape a.bank in
-    let tape' = g.B.Bank.tape c.name_missing-spares.new.bank in
+    let tape' = g.B.Bank.tape c.record_missing-spares.new.bank in
     let number : c.args.who.number ≡ next_number c.args.who.caller a.epoch.entries.items = c.requires.next ∙ ap (λ p. next_number c.args.who.caller p.parts.entries) (sym c.self.view_is) in
     let role = c.args.role in
     let mid = c.lose_slot.new.members in
-    let m = c.name_missing-spares.new.members in
-    let did = c.name_missing-spares.ensures in
-    let roles = c.newly_vacant-roles.result in
-    let spares = c.name_missing-spares.result in
+    let m = c.record_missing-spares.new.members in
+    let did = c.record_missing-spares.ensures in
+    let roles = c.newly_unassigned-roles.result in
+    let spares = c.record_missing-spares.result in
     let end = c.ops-end-2.result in
     let scope = scope_in given a.epoch.uuid a.epoch.given (Some a.backup) in
     let buffer = bytes_in a.course.window a.window.items in
     let moved = moved-all given a.members mid m c.lose_slot.result c.in-Some.slot role here.placed here.unlost c.lose_slot.ensures.members c.lose_slot.ensures.alone c.in-Some.ensures.held did.moved in
     let out = taken-out given a.members mid m c.lose_slot.result c.in-Some.slot role here.placed here.unlost c.lose_slot.ensures.members c.lose_slot.ensures.alone c.in-Some.ensures.held did.moved
-    c.len-count.result c.vacant_roles-before.result roles spares (g.B.Bank.faults_of a.bank) (g.B.Bank.faults_of c.name_missing-spares.new.bank) did.failed (c.len-count.ensures ∙ here.placed.roles)
-    c.vacant_roles-before.ensures c.newly_vacant-roles.ensures g.B.Bank.tells tape tape' did.clean did.rise did.others did.rest did.safe in
-    let items = behind-loss c.make_room.new.self.items c.enter-2.new.epoch.entries.items c.enter_behind.new.epoch.entries.items c.args.who end (Lost role Command) (losses_of roles spares ++ Failed role ∷ []) c.enter-2.ensures.items c.enter_behind.ensures.items in
+    c.len-count.result c.unassigned_roles-before.result roles spares (g.B.Bank.faults_of a.bank) (g.B.Bank.faults_of c.record_missing-spares.new.bank) did.failed (c.len-count.ensures ∙ here.placed.roles)
+    c.unassigned_roles-before.ensures c.newly_unassigned-roles.ensures g.B.Bank.tells tape tape' did.clean did.rise did.others did.rest did.safe in
+    let items = behind-loss c.make_room.new.self.items c.enter-2.new.epoch.entries.items c.append_after_losses.new.epoch.entries.items c.args.who end (Lost role Command) (losses_of roles spares ++ Failed role ∷ []) c.enter-2.ensures.items c.append_after_losses.ensures.items in
     ready (entries_of c.args.who end ((Lost role Command ∷ losses_of roles spares) ++ Failed role ∷ []))
     was did.grows (shapes-moved given a.members m moved)
     (subst (λ (n : ℕ). IsMoving g.B.Bank.tells given tape' scope a.epoch.first (a.epoch.entries.items ++ entries_of c.args.who end ((Lost role Command ∷ losses_of roles spares) ++ Failed role ∷ [])) m (bears a.work) a.work.resync a.course buffer n)
@@ -179,17 +179,17 @@ invariant_of-self-2 g c =
     (failed-moves g.B.Bank.tells given tape tape' scope a.epoch.first a.epoch.entries.items a.members m (bears a.work) a.work.resync a.course buffer (left_in a.work a.members a.course a.ahead) c.args.who end role roles spares
     was.kept (holder-left given a.members role c.in-Some.slot here.placed here.unlost c.in-Some.ensures.held) (begins-going a.epoch.entries.items c.args.who number) (not_254 c.args.who.caller c.requires.caller) c.ops-end-2.ensures.count did.grows out))
     refl did.counts (record { long = (behind-keeps c.args.who end roles spares (Failed role) (λ n. refl) (λ limit. refl)).long; free = (behind-keeps c.args.who end roles spares (Failed role) (λ n. refl) (λ limit. refl)).free })
-    (λ none whole. takes-lost (world_in given tape' scope a.epoch.first) role a.epoch.entries.items (entries_of c.args.who end ((Lost role Command ∷ losses_of roles spares) ++ Failed role ∷ [])) (lost-here role c.args.who end Command (losses_of roles spares ++ Failed role ∷ [])) none) did.given (scope-same given (Some a.backup) did.given (c.enter_behind.ensures.uuid ∙ c.enter-2.ensures.uuid) (c.enter_behind.ensures.given ∙ c.enter-2.ensures.given)) (c.enter_behind.ensures.first ∙ c.enter-2.ensures.first)
-    c.make_room.ensures.items items (omega (arith, c.enter_behind.ensures.room, c.enter-2.ensures.room, c.in-Ok.ensures.ok))
+    (λ none whole. takes-lost (world_in given tape' scope a.epoch.first) role a.epoch.entries.items (entries_of c.args.who end ((Lost role Command ∷ losses_of roles spares) ++ Failed role ∷ [])) (lost-here role c.args.who end Command (losses_of roles spares ++ Failed role ∷ [])) none) did.given (scope-same given (Some a.backup) did.given (c.append_after_losses.ensures.uuid ∙ c.enter-2.ensures.uuid) (c.append_after_losses.ensures.given ∙ c.enter-2.ensures.given)) (c.append_after_losses.ensures.first ∙ c.enter-2.ensures.first)
+    c.make_room.ensures.items items (omega (arith, c.append_after_losses.ensures.room, c.enter-2.ensures.room, c.in-Ok.ensures.ok))
 
 pub returns-clause-answered : goal.returns-clause-answered
 returns-clause-answered g c =
     let role = c.args.role in
-    let roles = c.newly_vacant-roles.result in
-    let spares = c.name_missing-spares.result in
+    let roles = c.newly_unassigned-roles.result in
+    let spares = c.record_missing-spares.result in
     let end = c.ops-end-2.result in
-    let items = behind-loss c.make_room.new.self.items c.enter-2.new.epoch.entries.items c.enter_behind.new.epoch.entries.items c.args.who end (Lost role Command) (losses_of roles spares ++ Failed role ∷ []) c.enter-2.ensures.items c.enter_behind.ensures.items in
-    fail_reply (list_length c.args.self.now.parts.members.newest) c.args.who c.args.self.now.parts.entries c.enter_behind.new.epoch.entries.items end role roles spares
+    let items = behind-loss c.make_room.new.self.items c.enter-2.new.epoch.entries.items c.append_after_losses.new.epoch.entries.items c.args.who end (Lost role Command) (losses_of roles spares ++ Failed role ∷ []) c.enter-2.ensures.items c.append_after_losses.ensures.items in
+    fail_reply (list_length c.args.self.now.parts.members.newest) c.args.who c.args.self.now.parts.entries c.append_after_losses.new.epoch.entries.items end role roles spares
     (items ∙ ap (λ (l : List Entry). l ++ entries_of c.args.who end ((Lost role Command ∷ losses_of roles spares) ++ Failed role ∷ [])) (c.make_room.ensures.items ∙ ap (λ p. p.parts.entries) c.self.view_is))
     c.requires.next
 
@@ -201,52 +201,52 @@ returns-clause-called g c =
     let given = g.B.Bank.given a.bank in
     let role = c.args.role in
     let mid = c.lose_slot.new.members in
-    let m = c.name_missing-spares.new.members in
-    let did = c.name_missing-spares.ensures in
+    let m = c.record_missing-spares.new.members in
+    let did = c.record_missing-spares.ensures in
     let before = g.B.Bank.faults_of a.bank in
-    let after = g.B.Bank.faults_of c.name_missing-spares.new.bank in
-    let roles = c.newly_vacant-roles.result in
-    let spares = c.name_missing-spares.result in
+    let after = g.B.Bank.faults_of c.record_missing-spares.new.bank in
+    let roles = c.newly_unassigned-roles.result in
+    let spares = c.record_missing-spares.result in
     let end = c.ops-end-2.result in
     let moved = moved-all given a.members mid m c.lose_slot.result c.in-Some.slot role here.placed here.unlost c.lose_slot.ensures.members c.lose_slot.ensures.alone c.in-Some.ensures.held did.moved in
     let since = since-out given a.members mid m c.lose_slot.result c.in-Some.slot role here.placed here.unlost c.lose_slot.ensures.members c.lose_slot.ensures.alone c.in-Some.ensures.held did.moved
-    c.len-count.result c.vacant_roles-before.result roles spares before after did.failed (c.len-count.ensures ∙ here.placed.roles) c.vacant_roles-before.ensures c.newly_vacant-roles.ensures in
+    c.len-count.result c.unassigned_roles-before.result roles spares before after did.failed (c.len-count.ensures ∙ here.placed.roles) c.unassigned_roles-before.ensures c.newly_unassigned-roles.ensures in
     let first = moved-out given a.members mid c.lose_slot.result c.in-Some.slot role here.placed here.unlost c.lose_slot.ensures.members c.lose_slot.ensures.alone c.in-Some.ensures.held in
-    let items = behind-loss c.make_room.new.self.items c.enter-2.new.epoch.entries.items c.enter_behind.new.epoch.entries.items c.args.who end (Lost role Command) (losses_of roles spares ++ Failed role ∷ []) c.enter-2.ensures.items c.enter_behind.ensures.items in
+    let items = behind-loss c.make_room.new.self.items c.enter-2.new.epoch.entries.items c.append_after_losses.new.epoch.entries.items c.args.who end (Lost role Command) (losses_of roles spares ++ Failed role ∷ []) c.enter-2.ensures.items c.append_after_losses.ensures.items in
     called-over g.B.Bank.given g.B.Bank.tape g.B.Bank.faults_of c.self.view_is (called did.grows moved
-    (ended-behind (g.B.Bank.tape c.name_missing-spares.new.bank) c.enter_behind.new.epoch.first c.make_room.new.self.items c.args.who end (Lost role Command ∷ losses_of roles spares) (Failed role) items c.ops-end-2.ensures.count)
-    (losses-failed a.members mid m before after a.epoch.entries.items c.make_room.new.self.items c.enter_behind.new.epoch.entries.items c.args.who end role c.in-Some.slot roles spares first.held first.fewer since c.in-Some.ensures.held c.make_room.ensures.items items)
+    (ended-behind (g.B.Bank.tape c.record_missing-spares.new.bank) c.append_after_losses.new.epoch.first c.make_room.new.self.items c.args.who end (Lost role Command ∷ losses_of roles spares) (Failed role) items c.ops-end-2.ensures.count)
+    (losses-failed a.members mid m before after a.epoch.entries.items c.make_room.new.self.items c.append_after_losses.new.epoch.entries.items c.args.who end role c.in-Some.slot roles spares first.held first.fewer since c.in-Some.ensures.held c.make_room.ensures.items items)
     did.counts
-    (record { uuid = c.enter_behind.ensures.uuid ∙ c.enter-2.ensures.uuid; given = c.enter_behind.ensures.given ∙ c.enter-2.ensures.given; first = c.enter_behind.ensures.first ∙ c.enter-2.ensures.first; backup = refl; work = refl; ahead = refl; limit = refl })
+    (record { uuid = c.append_after_losses.ensures.uuid ∙ c.enter-2.ensures.uuid; given = c.append_after_losses.ensures.given ∙ c.enter-2.ensures.given; first = c.append_after_losses.ensures.first ∙ c.enter-2.ensures.first; backup = refl; work = refl; ahead = refl; limit = refl })
     (λ t. (was.kept.recorded t).begun))
 
 pub returns-clause-others : goal.returns-clause-others
-returns-clause-others g c = subst (λ p. g.B.Bank.tells → AreOthersPresent (present (g.B.Bank.given p.parts.bank) (g.B.Bank.tape p.parts.bank)) (present (g.B.Bank.given p.parts.bank) (g.B.Bank.tape c.name_missing-spares.new.bank))) c.self.view_is c.name_missing-spares.ensures.others
+returns-clause-others g c = subst (λ p. g.B.Bank.tells → AreOthersPresent (present (g.B.Bank.given p.parts.bank) (g.B.Bank.tape p.parts.bank)) (present (g.B.Bank.given p.parts.bank) (g.B.Bank.tape c.record_missing-spares.new.bank))) c.self.view_is c.record_missing-spares.ensures.others
 
 pub returns-clause-caused : goal.returns-clause-caused
 returns-clause-caused g c =
     let here = c.self.invariant.kept.members_are in
     let a = c.self.inside in
     let gone = out-vacant (g.B.Bank.given a.bank) a.members c.lose_slot.new.members c.lose_slot.result c.in-Some.slot c.args.role here.placed here.unlost c.lose_slot.ensures.members c.lose_slot.ensures.alone c.in-Some.ensures.held in
-    rw (← c.self.view_is) (c.in-Some.ensures.some, vacant-moved c.name_missing-spares.ensures.moved c.args.role gone)
+    rw (← c.self.view_is) (c.in-Some.ensures.some, vacant-moved c.record_missing-spares.ensures.moved c.args.role gone)
 
 -- ---- by what stands above
 
 pub invariant_of-self : goal.invariant_of-self
 invariant_of-self g c = roomed c.make_room.ensures.items (let had = c.self.invariant.room_left in let keeps = c.make_room.ensures.keeps in omega (arith, had, keeps)) c.self.invariant
 
-pub enter_behind-requires-clause-number : goal.enter_behind-requires-clause-number
-enter_behind-requires-clause-number g c = fits-longer c.make_room.new.self.items c.enter-2.new.epoch.entries.items (entries_of c.args.who c.ops-end-2.result (Lost c.args.role Command ∷ [])) c.check_number.ensures c.enter-2.ensures.items
+pub append_after_losses-requires-clause-number : goal.append_after_losses-requires-clause-number
+append_after_losses-requires-clause-number g c = fits-longer c.make_room.new.self.items c.enter-2.new.epoch.entries.items (entries_of c.args.who c.ops-end-2.result (Lost c.args.role Command ∷ [])) c.check_number.ensures c.enter-2.ensures.items
 
-pub vacant_roles-before-requires-clause-known : goal.vacant_roles-before-requires-clause-known
-vacant_roles-before-requires-clause-known g c =
+pub unassigned_roles-before-requires-clause-known : goal.unassigned_roles-before-requires-clause-known
+unassigned_roles-before-requires-clause-known g c =
     let was = c.self.invariant.kept.members_are in
     known-moved c.len-count.result (moved-out (g.B.Bank.given c.self.inside.bank) c.self.inside.members c.lose_slot.new.members c.lose_slot.result c.in-Some.slot c.args.role was.placed was.unlost c.lose_slot.ensures.members c.lose_slot.ensures.alone c.in-Some.ensures.held) c.len-count.ensures was.placed.roles
 
-pub newly_vacant-roles-requires-clause-known : goal.newly_vacant-roles-requires-clause-known
-newly_vacant-roles-requires-clause-known g c =
+pub newly_unassigned-roles-requires-clause-known : goal.newly_unassigned-roles-requires-clause-known
+newly_unassigned-roles-requires-clause-known g c =
     let was = c.self.invariant.kept.members_are in
-    known-moved c.len-count.result (moved-all (g.B.Bank.given c.self.inside.bank) c.self.inside.members c.lose_slot.new.members c.name_missing-spares.new.members c.lose_slot.result c.in-Some.slot c.args.role was.placed was.unlost c.lose_slot.ensures.members c.lose_slot.ensures.alone c.in-Some.ensures.held c.name_missing-spares.ensures.moved) c.len-count.ensures was.placed.roles
+    known-moved c.len-count.result (moved-all (g.B.Bank.given c.self.inside.bank) c.self.inside.members c.lose_slot.new.members c.record_missing-spares.new.members c.lose_slot.result c.in-Some.slot c.args.role was.placed was.unlost c.lose_slot.ensures.members c.lose_slot.ensures.alone c.in-Some.ensures.held c.record_missing-spares.ensures.moved) c.len-count.ensures was.placed.roles
 
 pub returns-in_default-clause-caused : goal.returns-in_default-clause-caused
 returns-in_default-clause-caused g c = rw (← c.self.view_is) (refl, refl, c.in_default.ensures.none)
@@ -284,19 +284,19 @@ pub returns-clause-course : goal.returns-clause-course
 returns-clause-course g c = ap (λ p. p.course) c.self.view_is
 
 pub returns-clause-given : goal.returns-clause-given
-returns-clause-given g c = c.name_missing-spares.ensures.given ∙ ap (λ p. g.B.Bank.given p.parts.bank) c.self.view_is
+returns-clause-given g c = c.record_missing-spares.ensures.given ∙ ap (λ p. g.B.Bank.given p.parts.bank) c.self.view_is
 
-pub enter-requires-2-clause-number : goal.enter-requires-2-clause-number
-enter-requires-2-clause-number g c = c.check_number.ensures
+pub append_entry-requires-2-clause-number : goal.append_entry-requires-2-clause-number
+append_entry-requires-2-clause-number g c = c.check_number.ensures
 
-pub enter-requires-clause-number : goal.enter-requires-clause-number
-enter-requires-clause-number g c = c.check_number.ensures
+pub append_entry-requires-clause-number : goal.append_entry-requires-clause-number
+append_entry-requires-clause-number g c = c.check_number.ensures
 
-pub enter-requires-2-clause-room : goal.enter-requires-2-clause-room
-enter-requires-2-clause-room g c = one-of-51 c.in-Ok.ensures.ok
+pub append_entry-requires-2-clause-room : goal.append_entry-requires-2-clause-room
+append_entry-requires-2-clause-room g c = one-of-51 c.in-Ok.ensures.ok
 
-pub enter-requires-clause-room : goal.enter-requires-clause-room
-enter-requires-clause-room g c = one-of-51 c.in-Ok.ensures.ok
+pub append_entry-requires-clause-room : goal.append_entry-requires-clause-room
+append_entry-requires-clause-room g c = one-of-51 c.in-Ok.ensures.ok
 
 pub returns-in_default-clause-course : goal.returns-in_default-clause-course
 returns-in_default-clause-course g c = ap (λ p. p.course) c.self.view_is

@@ -42,16 +42,16 @@ overflow_cast-count g c =
     let long = c.len-count.ensures in
     omega (arith, few, roles, long)
 
-pub vacant_roles-before-requires-clause-few : goal.vacant_roles-before-requires-clause-few
-vacant_roles-before-requires-clause-few g c =
+pub unassigned_roles-before-requires-clause-few : goal.unassigned_roles-before-requires-clause-few
+unassigned_roles-before-requires-clause-few g c =
     let members = c.self.invariant.kept.members_are in
     let few = few-roles c.self.inside.members.newest members.placed.fit.valid in
     let roles = members.backed.roles in
     let long = c.len-count.ensures in
     omega (arith, few, roles, long)
 
-pub newly_vacant-roles-requires-clause-few : goal.newly_vacant-roles-requires-clause-few
-newly_vacant-roles-requires-clause-few g c =
+pub newly_unassigned-roles-requires-clause-few : goal.newly_unassigned-roles-requires-clause-few
+newly_unassigned-roles-requires-clause-few g c =
     let members = c.self.invariant.kept.members_are in
     let few = few-roles c.self.inside.members.newest members.placed.fit.valid in
     let roles = members.backed.roles in
@@ -60,7 +60,7 @@ newly_vacant-roles-requires-clause-few g c =
 
 pub returns-in-Some-clause-answered : goal.returns-in-Some-clause-answered
 returns-in-Some-clause-answered g c =
-    rw (← c.self.view_is) (behind-alone c.args.who c.ops-end.result (Refused c.in-Some.refusal) c.make_room.ensures.items c.enter.ensures.items)
+    rw (← c.self.view_is) (behind-alone c.args.who c.ops-end.result (Refused c.in-Some.refusal) c.make_room.ensures.items c.append_entry.ensures.items)
 
 pub invariant_of-self-2 : goal.invariant_of-self-2
 invariant_of-self-2 g c =
@@ -73,11 +73,11 @@ invariant_of-self-2 g c =
     let did = c.settle-settled.ensures in
     let tape = g.B.Bank.tape a.bank in
     let tape' = g.B.Bank.tape c.settle-settled.new.bank in
-    let roles = c.newly_vacant-roles.result in
+    let roles = c.newly_unassigned-roles.result in
     let spares = c.settle-settled.result.spares in
     let end = c.ops-end-2.result in
-    let since = lost-since given a.members m c.len-count.result c.vacant_roles-before.result roles spares (g.B.Bank.faults_of a.bank) (g.B.Bank.faults_of c.settle-settled.new.bank) was.kept.members_are.placed did.moved did.failed
-    (c.len-count.ensures ∙ was.kept.members_are.backed.roles) c.vacant_roles-before.ensures c.newly_vacant-roles.ensures in
+    let since = lost-since given a.members m c.len-count.result c.unassigned_roles-before.result roles spares (g.B.Bank.faults_of a.bank) (g.B.Bank.faults_of c.settle-settled.new.bank) was.kept.members_are.placed did.moved did.failed
+    (c.len-count.ensures ∙ was.kept.members_are.backed.roles) c.unassigned_roles-before.ensures c.newly_unassigned-roles.ensures in
     let flushed : AreFlushed g.B.Bank.tells given tape tape' a.members m roles c.is_some.result =
     record {
       moved = did.moved;
@@ -95,8 +95,8 @@ invariant_of-self-2 g c =
     ready (entries_of c.args.who end (losses_of roles spares ++ c.args.event ∷ [])) was did.grows (shapes-moved given a.members m did.moved)
     (subst (λ (left : ℕ). IsMoving g.B.Bank.tells given tape' scope a.epoch.first (a.epoch.entries.items ++ entries_of c.args.who end (losses_of roles spares ++ c.args.event ∷ [])) m (bears a.work) a.work.resync a.course (bytes_in a.course.window a.window.items) left)
     (sym (left-moved given a.members m a.work.resync a.course a.ahead did.moved)) kept)
-    refl did.counts (behind-keeps c.args.who end roles spares c.args.event (settling-long c.args.event c.requires.event) (settling-free c.args.event c.requires.event)) (behind-whole tape' (scope_in given a.epoch.uuid a.epoch.given (Some a.backup)) a.epoch.first a.epoch.entries.items c.args.who end roles spares c.args.event did.moved (missing-since roles did.moved since.vacant)) did.given (scope-same given (Some a.backup) did.given c.enter_behind-2.ensures.uuid c.enter_behind-2.ensures.given) c.enter_behind-2.ensures.first c.make_room.ensures.items c.enter_behind-2.ensures.items
-    (omega (arith, c.enter_behind-2.ensures.room, c.in-Ok.ensures.ok))
+    refl did.counts (behind-keeps c.args.who end roles spares c.args.event (settling-long c.args.event c.requires.event) (settling-free c.args.event c.requires.event)) (behind-whole tape' (scope_in given a.epoch.uuid a.epoch.given (Some a.backup)) a.epoch.first a.epoch.entries.items c.args.who end roles spares c.args.event did.moved (missing-since roles did.moved since.vacant)) did.given (scope-same given (Some a.backup) did.given c.append_after_losses-2.ensures.uuid c.append_after_losses-2.ensures.given) c.append_after_losses-2.ensures.first c.make_room.ensures.items c.append_after_losses-2.ensures.items
+    (omega (arith, c.append_after_losses-2.ensures.room, c.in-Ok.ensures.ok))
 
 pub invariant_of-self-in-Some-refusal : goal.invariant_of-self-in-Some-refusal
 invariant_of-self-in-Some-refusal g c =
@@ -109,12 +109,12 @@ invariant_of-self-in-Some-refusal g c =
     let did = c.settle-settled.ensures in
     let tape = g.B.Bank.tape a.bank in
     let tape' = g.B.Bank.tape c.settle-settled.new.bank in
-    let roles = c.newly_vacant-roles.result in
+    let roles = c.newly_unassigned-roles.result in
     let spares = c.settle-settled.result.spares in
     let end = c.ops-end-2.result in
     let refusal = c.in-Some-refusal.refusal in
-    let since = lost-since given a.members m c.len-count.result c.vacant_roles-before.result roles spares (g.B.Bank.faults_of a.bank) (g.B.Bank.faults_of c.settle-settled.new.bank) was.kept.members_are.placed did.moved did.failed
-    (c.len-count.ensures ∙ was.kept.members_are.backed.roles) c.vacant_roles-before.ensures c.newly_vacant-roles.ensures in
+    let since = lost-since given a.members m c.len-count.result c.unassigned_roles-before.result roles spares (g.B.Bank.faults_of a.bank) (g.B.Bank.faults_of c.settle-settled.new.bank) was.kept.members_are.placed did.moved did.failed
+    (c.len-count.ensures ∙ was.kept.members_are.backed.roles) c.unassigned_roles-before.ensures c.newly_unassigned-roles.ensures in
     let flushed : AreFlushed g.B.Bank.tells given tape tape' a.members m roles c.is_some.result =
     record {
       moved = did.moved;
@@ -132,8 +132,8 @@ invariant_of-self-in-Some-refusal g c =
     ready (entries_of c.args.who end (losses_of roles spares ++ Refused refusal ∷ [])) was did.grows (shapes-moved given a.members m did.moved)
     (subst (λ (left : ℕ). IsMoving g.B.Bank.tells given tape' scope a.epoch.first (a.epoch.entries.items ++ entries_of c.args.who end (losses_of roles spares ++ Refused refusal ∷ [])) m (bears a.work) a.work.resync a.course (bytes_in a.course.window a.window.items) left)
     (sym (left-moved given a.members m a.work.resync a.course a.ahead did.moved)) kept)
-    refl did.counts (behind-keeps c.args.who end roles spares (Refused refusal) (λ n. refl) (λ limit. refl)) (behind-whole tape' (scope_in given a.epoch.uuid a.epoch.given (Some a.backup)) a.epoch.first a.epoch.entries.items c.args.who end roles spares (Refused refusal) did.moved (missing-since roles did.moved since.vacant)) did.given (scope-same given (Some a.backup) did.given c.enter_behind.ensures.uuid c.enter_behind.ensures.given) c.enter_behind.ensures.first c.make_room.ensures.items c.enter_behind.ensures.items
-    (omega (arith, c.enter_behind.ensures.room, c.in-Ok.ensures.ok))
+    refl did.counts (behind-keeps c.args.who end roles spares (Refused refusal) (λ n. refl) (λ limit. refl)) (behind-whole tape' (scope_in given a.epoch.uuid a.epoch.given (Some a.backup)) a.epoch.first a.epoch.entries.items c.args.who end roles spares (Refused refusal) did.moved (missing-since roles did.moved since.vacant)) did.given (scope-same given (Some a.backup) did.given c.append_after_losses.ensures.uuid c.append_after_losses.ensures.given) c.append_after_losses.ensures.first c.make_room.ensures.items c.append_after_losses.ensures.items
+    (omega (arith, c.append_after_losses.ensures.room, c.in-Ok.ensures.ok))
 
 pub returns-clause-called : goal.returns-clause-called
 returns-clause-called g c =
@@ -145,30 +145,30 @@ returns-clause-called g c =
     let did = c.settle-settled.ensures in
     let before = g.B.Bank.faults_of a.bank in
     let after = g.B.Bank.faults_of c.settle-settled.new.bank in
-    let roles = c.newly_vacant-roles.result in
+    let roles = c.newly_unassigned-roles.result in
     let spares = c.settle-settled.result.spares in
     let end = c.ops-end-2.result in
-    let since = lost-since given a.members m c.len-count.result c.vacant_roles-before.result roles spares before after was.kept.members_are.placed did.moved did.failed
-    (c.len-count.ensures ∙ was.kept.members_are.backed.roles) c.vacant_roles-before.ensures c.newly_vacant-roles.ensures in
+    let since = lost-since given a.members m c.len-count.result c.unassigned_roles-before.result roles spares before after was.kept.members_are.placed did.moved did.failed
+    (c.len-count.ensures ∙ was.kept.members_are.backed.roles) c.unassigned_roles-before.ensures c.newly_unassigned-roles.ensures in
     rw (← c.self.view_is) (record {
       grows = did.grows;
-      ended = ended-behind (g.B.Bank.tape c.settle-settled.new.bank) c.enter_behind-2.new.epoch.first c.make_room.new.self.items c.args.who end (losses_of roles spares) c.args.event c.enter_behind-2.ensures.items c.ops-end-2.ensures.count;
+      ended = ended-behind (g.B.Bank.tape c.settle-settled.new.bank) c.append_after_losses-2.new.epoch.first c.make_room.new.self.items c.args.who end (losses_of roles spares) c.args.event c.append_after_losses-2.ensures.items c.ops-end-2.ensures.count;
       held = did.moved.held;
       spares = did.moved.fewer;
-      losses = losses-behind a.members m before after a.epoch.entries.items c.make_room.new.self.items c.enter_behind-2.new.epoch.entries.items c.args.who end roles spares
-          c.args.event since (settling-no-loss a.members before after c.args.event c.requires.event) c.make_room.ensures.items c.enter_behind-2.ensures.items;
+      losses = losses-behind a.members m before after a.epoch.entries.items c.make_room.new.self.items c.append_after_losses-2.new.epoch.entries.items c.args.who end roles spares
+          c.args.event since (settling-no-loss a.members before after c.args.event c.requires.event) c.make_room.ensures.items c.append_after_losses-2.ensures.items;
       never_falls = did.counts;
       work = refl;
       same = record {
         array = record {
-          uuid = c.enter_behind-2.ensures.uuid;
-          given = c.enter_behind-2.ensures.given;
-          first = c.enter_behind-2.ensures.first;
+          uuid = c.append_after_losses-2.ensures.uuid;
+          given = c.append_after_losses-2.ensures.given;
+          first = c.append_after_losses-2.ensures.first;
           backup = refl;
           shape = did.moved.shape;
           size = did.moved.size;
           list = list-same given scope a.epoch.first refl
-              (scope-same given (Some a.backup) refl c.enter_behind-2.ensures.uuid c.enter_behind-2.ensures.given) c.enter_behind-2.ensures.first did.grows (λ t. (was.kept.recorded t).begun);
+              (scope-same given (Some a.backup) refl c.append_after_losses-2.ensures.uuid c.append_after_losses-2.ensures.given) c.append_after_losses-2.ensures.first did.grows (λ t. (was.kept.recorded t).begun);
         };
         final = did.moved.reshape.final;
         backward = did.moved.reshape.backward;
@@ -206,8 +206,8 @@ invariant_of-self-in-Some g c =
     c.args.who end (Refused refusal) was.kept (begins-going a.epoch.entries.items c.args.who number) (not_254 c.args.who.caller c.requires.caller) c.ops-end.ensures.count (quiet-refusal refusal) (λ told is. is)
     (λ t right. refused-right (world_in given tape scope a.epoch.first) a.epoch.entries.items given a.members was.kept.members_are.placed (was.kept.gone t right) (was.kept.levelled t right) refusal c.in-Some.ensures) in
     ready (entries_of c.args.who end (Refused refusal ∷ [])) was (grows-none (λ t. refl)) (shapes-same a.members.newest) kept
-    refl (λ slot. omega arith) (alone-keeps c.args.who end (Refused refusal) (λ n. refl) (λ limit. refl)) (λ none whole. whole) refl (scope-same given (Some a.backup) refl c.enter.ensures.uuid c.enter.ensures.given) c.enter.ensures.first c.make_room.ensures.items c.enter.ensures.items
-    (omega (arith, c.enter.ensures.room, c.in-Ok.ensures.ok))
+    refl (λ slot. omega arith) (alone-keeps c.args.who end (Refused refusal) (λ n. refl) (λ limit. refl)) (λ none whole. whole) refl (scope-same given (Some a.backup) refl c.append_entry.ensures.uuid c.append_entry.ensures.given) c.append_entry.ensures.first c.make_room.ensures.items c.append_entry.ensures.items
+    (omega (arith, c.append_entry.ensures.room, c.in-Ok.ensures.ok))
 
 pub returns-in-Some-clause-called : goal.returns-in-Some-clause-called
 returns-in-Some-clause-called g c =
@@ -219,21 +219,21 @@ returns-in-Some-clause-called g c =
     let refusal = c.in-Some.refusal in
     rw (← c.self.view_is) (record {
       grows = grows-none (λ t. refl);
-      ended = ended-behind (g.B.Bank.tape a.bank) c.enter.new.epoch.first c.make_room.new.self.items c.args.who end [] (Refused refusal) c.enter.ensures.items c.ops-end.ensures.count;
+      ended = ended-behind (g.B.Bank.tape a.bank) c.append_entry.new.epoch.first c.make_room.new.self.items c.args.who end [] (Refused refusal) c.append_entry.ensures.items c.ops-end.ensures.count;
       held = λ role slot held. held;
       spares = λ slot spare. spare;
-      losses = alone-lossless a.members (g.B.Bank.faults_of a.bank) (g.B.Bank.faults_of a.bank) a.epoch.entries.items c.make_room.new.self.items c.enter.new.epoch.entries.items c.args.who end (Refused refusal) tt c.make_room.ensures.items c.enter.ensures.items;
+      losses = alone-lossless a.members (g.B.Bank.faults_of a.bank) (g.B.Bank.faults_of a.bank) a.epoch.entries.items c.make_room.new.self.items c.append_entry.new.epoch.entries.items c.args.who end (Refused refusal) tt c.make_room.ensures.items c.append_entry.ensures.items;
       never_falls = λ slot. omega arith;
       work = refl;
       same = record {
         array = record {
-          uuid = c.enter.ensures.uuid;
-          given = c.enter.ensures.given;
-          first = c.enter.ensures.first;
+          uuid = c.append_entry.ensures.uuid;
+          given = c.append_entry.ensures.given;
+          first = c.append_entry.ensures.first;
           backup = refl;
           shape = refl;
           size = refl;
-          list = list-same given scope a.epoch.first refl (scope-same given (Some a.backup) refl c.enter.ensures.uuid c.enter.ensures.given) c.enter.ensures.first (grows-none (λ t. refl)) (λ t. (was.kept.recorded t).begun);
+          list = list-same given scope a.epoch.first refl (scope-same given (Some a.backup) refl c.append_entry.ensures.uuid c.append_entry.ensures.given) c.append_entry.ensures.first (grows-none (λ t. refl)) (λ t. (was.kept.recorded t).begun);
         };
         final = refl;
         backward = refl;
@@ -252,30 +252,30 @@ returns-in-Some-refusal-clause-called g c =
     let did = c.settle-settled.ensures in
     let before = g.B.Bank.faults_of a.bank in
     let after = g.B.Bank.faults_of c.settle-settled.new.bank in
-    let roles = c.newly_vacant-roles.result in
+    let roles = c.newly_unassigned-roles.result in
     let spares = c.settle-settled.result.spares in
     let end = c.ops-end-2.result in
-    let since = lost-since given a.members m c.len-count.result c.vacant_roles-before.result roles spares before after was.kept.members_are.placed did.moved did.failed
-    (c.len-count.ensures ∙ was.kept.members_are.backed.roles) c.vacant_roles-before.ensures c.newly_vacant-roles.ensures in
+    let since = lost-since given a.members m c.len-count.result c.unassigned_roles-before.result roles spares before after was.kept.members_are.placed did.moved did.failed
+    (c.len-count.ensures ∙ was.kept.members_are.backed.roles) c.unassigned_roles-before.ensures c.newly_unassigned-roles.ensures in
     rw (← c.self.view_is) (record {
       grows = did.grows;
-      ended = ended-behind (g.B.Bank.tape c.settle-settled.new.bank) c.enter_behind.new.epoch.first c.make_room.new.self.items c.args.who end (losses_of roles spares) (Refused c.in-Some-refusal.refusal) c.enter_behind.ensures.items c.ops-end-2.ensures.count;
+      ended = ended-behind (g.B.Bank.tape c.settle-settled.new.bank) c.append_after_losses.new.epoch.first c.make_room.new.self.items c.args.who end (losses_of roles spares) (Refused c.in-Some-refusal.refusal) c.append_after_losses.ensures.items c.ops-end-2.ensures.count;
       held = did.moved.held;
       spares = did.moved.fewer;
-      losses = losses-behind a.members m before after a.epoch.entries.items c.make_room.new.self.items c.enter_behind.new.epoch.entries.items c.args.who end roles spares
-          (Refused c.in-Some-refusal.refusal) since tt c.make_room.ensures.items c.enter_behind.ensures.items;
+      losses = losses-behind a.members m before after a.epoch.entries.items c.make_room.new.self.items c.append_after_losses.new.epoch.entries.items c.args.who end roles spares
+          (Refused c.in-Some-refusal.refusal) since tt c.make_room.ensures.items c.append_after_losses.ensures.items;
       never_falls = did.counts;
       work = refl;
       same = record {
         array = record {
-          uuid = c.enter_behind.ensures.uuid;
-          given = c.enter_behind.ensures.given;
-          first = c.enter_behind.ensures.first;
+          uuid = c.append_after_losses.ensures.uuid;
+          given = c.append_after_losses.ensures.given;
+          first = c.append_after_losses.ensures.first;
           backup = refl;
           shape = did.moved.shape;
           size = did.moved.size;
           list = list-same given scope a.epoch.first refl
-              (scope-same given (Some a.backup) refl c.enter_behind.ensures.uuid c.enter_behind.ensures.given) c.enter_behind.ensures.first did.grows (λ t. (was.kept.recorded t).begun);
+              (scope-same given (Some a.backup) refl c.append_after_losses.ensures.uuid c.append_after_losses.ensures.given) c.append_after_losses.ensures.first did.grows (λ t. (was.kept.recorded t).begun);
         };
         final = did.moved.reshape.final;
         backward = did.moved.reshape.backward;
@@ -325,8 +325,8 @@ returns-in-Err-clause-course g c = ap (λ p. p.course) c.self.view_is
 pub returns-in-Err-clause-given : goal.returns-in-Err-clause-given
 returns-in-Err-clause-given g c = ap (λ p. g.B.Bank.given p.parts.bank) c.self.view_is
 
-pub enter-requires-clause-number : goal.enter-requires-clause-number
-enter-requires-clause-number g c = c.check_number.ensures
+pub append_entry-requires-clause-number : goal.append_entry-requires-clause-number
+append_entry-requires-clause-number g c = c.check_number.ensures
 
 pub returns-in-Some-clause-caused : goal.returns-in-Some-clause-caused
 returns-in-Some-clause-caused g c =
@@ -343,31 +343,31 @@ returns-in-Some-clause-course g c = ap (λ p. p.course) c.self.view_is
 pub returns-in-Some-clause-given : goal.returns-in-Some-clause-given
 returns-in-Some-clause-given g c = ap (λ p. g.B.Bank.given p.parts.bank) c.self.view_is
 
-pub settle-settled-requires-clause-slots : goal.settle-settled-requires-clause-slots
-settle-settled-requires-clause-slots g c = c.self.invariant.kept.slots
+pub flush_and_mark-settled-requires-clause-slots : goal.flush_and_mark-settled-requires-clause-slots
+flush_and_mark-settled-requires-clause-slots g c = c.self.invariant.kept.slots
 
-pub settle-settled-requires-clause-placed : goal.settle-settled-requires-clause-placed
-settle-settled-requires-clause-placed g c = c.self.invariant.kept.members_are.placed
+pub flush_and_mark-settled-requires-clause-placed : goal.flush_and_mark-settled-requires-clause-placed
+flush_and_mark-settled-requires-clause-placed g c = c.self.invariant.kept.members_are.placed
 
-pub settle-settled-requires-clause-unlost : goal.settle-settled-requires-clause-unlost
-settle-settled-requires-clause-unlost g c = c.self.invariant.kept.members_are.unlost
+pub flush_and_mark-settled-requires-clause-unlost : goal.flush_and_mark-settled-requires-clause-unlost
+flush_and_mark-settled-requires-clause-unlost g c = c.self.invariant.kept.members_are.unlost
 
-pub settle-settled-requires-clause-free : goal.settle-settled-requires-clause-free
-settle-settled-requires-clause-free g c = c.self.invariant.kept.members_are.free
+pub flush_and_mark-settled-requires-clause-free : goal.flush_and_mark-settled-requires-clause-free
+flush_and_mark-settled-requires-clause-free g c = c.self.invariant.kept.members_are.free
 
-pub newly_vacant-roles-requires-clause-known : goal.newly_vacant-roles-requires-clause-known
-newly_vacant-roles-requires-clause-known g c =
+pub newly_unassigned-roles-requires-clause-known : goal.newly_unassigned-roles-requires-clause-known
+newly_unassigned-roles-requires-clause-known g c =
     roles-moved (g.B.Bank.given c.self.inside.bank) c.self.inside.members c.settle-settled.new.members c.settle-settled.ensures.moved c.len-count.result c.len-count.ensures c.self.invariant.kept.members_are.placed.roles
 
-pub enter_behind-requires-clause-room : goal.enter_behind-requires-clause-room
-enter_behind-requires-clause-room g c = room-made _ c.in-Ok.ensures.ok
+pub append_after_losses-requires-clause-room : goal.append_after_losses-requires-clause-room
+append_after_losses-requires-clause-room g c = room-made _ c.in-Ok.ensures.ok
 
-pub enter_behind-requires-clause-number : goal.enter_behind-requires-clause-number
-enter_behind-requires-clause-number g c = c.check_number.ensures
+pub append_after_losses-requires-clause-number : goal.append_after_losses-requires-clause-number
+append_after_losses-requires-clause-number g c = c.check_number.ensures
 
 pub returns-in-Some-refusal-clause-answered : goal.returns-in-Some-refusal-clause-answered
 returns-in-Some-refusal-clause-answered g c =
-    rw (← c.self.view_is) (behind-roomed c.args.who c.ops-end-2.result c.newly_vacant-roles.result c.settle-settled.result.spares (Refused c.in-Some-refusal.refusal) c.make_room.ensures.items c.enter_behind.ensures.items)
+    rw (← c.self.view_is) (behind-roomed c.args.who c.ops-end-2.result c.newly_unassigned-roles.result c.settle-settled.result.spares (Refused c.in-Some-refusal.refusal) c.make_room.ensures.items c.append_after_losses.ensures.items)
 
 pub returns-in-Some-refusal-clause-caused : goal.returns-in-Some-refusal-clause-caused
 returns-in-Some-refusal-clause-caused g c =
@@ -383,21 +383,21 @@ returns-in-Some-refusal-clause-course g c = ap (λ p. p.course) c.self.view_is
 pub returns-in-Some-refusal-clause-given : goal.returns-in-Some-refusal-clause-given
 returns-in-Some-refusal-clause-given g c = c.settle-settled.ensures.given ∙ ap (λ p. g.B.Bank.given p.parts.bank) c.self.view_is
 
-pub enter_behind-requires-2-clause-room : goal.enter_behind-requires-2-clause-room
-enter_behind-requires-2-clause-room g c = room-made _ c.in-Ok.ensures.ok
+pub append_after_losses-requires-2-clause-room : goal.append_after_losses-requires-2-clause-room
+append_after_losses-requires-2-clause-room g c = room-made _ c.in-Ok.ensures.ok
 
-pub enter_behind-requires-2-clause-number : goal.enter_behind-requires-2-clause-number
-enter_behind-requires-2-clause-number g c = c.check_number.ensures
+pub append_after_losses-requires-2-clause-number : goal.append_after_losses-requires-2-clause-number
+append_after_losses-requires-2-clause-number g c = c.check_number.ensures
 
 pub returns-clause-answered : goal.returns-clause-answered
 returns-clause-answered g c =
-    rw (← c.self.view_is) (behind-roomed c.args.who c.ops-end-2.result c.newly_vacant-roles.result c.settle-settled.result.spares c.args.event c.make_room.ensures.items c.enter_behind-2.ensures.items)
+    rw (← c.self.view_is) (behind-roomed c.args.who c.ops-end-2.result c.newly_unassigned-roles.result c.settle-settled.result.spares c.args.event c.make_room.ensures.items c.append_after_losses-2.ensures.items)
 
 pub returns-clause-caused : goal.returns-clause-caused
 returns-clause-caused g c = rw (← c.self.view_is) (zero-le, λ refusal many. never-both c.self.inside.members refusal c.in_default.ensures many)
 
 pub returns-clause-last : goal.returns-clause-last
-returns-clause-last g c = λ t. c.enter_behind-2.ensures.last ∙ c.ops-end-2.ensures.count t
+returns-clause-last g c = λ t. c.append_after_losses-2.ensures.last ∙ c.ops-end-2.ensures.count t
 
 pub returns-clause-course : goal.returns-clause-course
 returns-clause-course g c = ap (λ p. p.course) c.self.view_is

@@ -30,12 +30,12 @@ invariant_of-self-2 g c =
     let steps : c.in-Ok.shown.left ≡ left_in a.work a.members a.course a.ahead = c.in-Ok.ensures.left ∙ ap (λ p. left_in p.parts.work p.parts.members p.course p.ahead) (sym c.self.view_is) in
     ready (entries_of c.args.who c.ops-end.result (Shown c.in-Ok.shown ∷ [])) was (grows-none (λ t. refl)) (shapes-same a.members.newest)
     (shown-moves c.args.who c.ops-end.result was.kept number c.requires.caller c.ops-end.ensures.count c.in-Ok.shown steps)
-    refl (λ slot. omega arith) (alone-keeps c.args.who c.ops-end.result (Shown c.in-Ok.shown) (λ n. refl) (λ limit. refl)) (λ none whole. whole) refl (scope-same given (Some a.backup) refl c.enter.ensures.uuid c.enter.ensures.given) c.enter.ensures.first c.make_room.ensures.items c.enter.ensures.items
-    (omega (arith, c.enter.ensures.room, c.in-Ok-make_room.ensures.ok))
+    refl (λ slot. omega arith) (alone-keeps c.args.who c.ops-end.result (Shown c.in-Ok.shown) (λ n. refl) (λ limit. refl)) (λ none whole. whole) refl (scope-same given (Some a.backup) refl c.append_entry.ensures.uuid c.append_entry.ensures.given) c.append_entry.ensures.first c.make_room.ensures.items c.append_entry.ensures.items
+    (omega (arith, c.append_entry.ensures.room, c.in-Ok-make_room.ensures.ok))
 
 pub returns-clause-ended : goal.returns-clause-ended
 returns-clause-ended g c =
-    ended-behind (g.B.Bank.tape c.self.inside.bank) c.enter.new.epoch.first c.make_room.new.self.items c.args.who c.ops-end.result [] (Shown c.in-Ok.shown) c.enter.ensures.items c.ops-end.ensures.count
+    ended-behind (g.B.Bank.tape c.self.inside.bank) c.append_entry.new.epoch.first c.make_room.new.self.items c.args.who c.ops-end.result [] (Shown c.in-Ok.shown) c.append_entry.ensures.items c.ops-end.ensures.count
 
 pub returns-clause-entered : goal.returns-clause-entered
 returns-clause-entered g c =
@@ -43,7 +43,7 @@ returns-clause-entered g c =
     rw (← c.self.view_is) (record {
       end = c.ops-end.result;
       at_end = c.ops-end.ensures.count;
-      is = c.enter.ensures.items ∙ ap₂ (λ (l : List Entry) (s : Status). l ++ entries_of c.args.who c.ops-end.result (Shown s ∷ [])) c.make_room.ensures.items same;
+      is = c.append_entry.ensures.items ∙ ap₂ (λ (l : List Entry) (s : Status). l ++ entries_of c.args.who c.ops-end.result (Shown s ∷ [])) c.make_room.ensures.items same;
     })
 
 pub returns-clause-few : goal.returns-clause-few
@@ -100,11 +100,11 @@ pub check_number-requires : goal.check_number-requires
 check_number-requires g c =
     c.requires.next ∙ ap (λ p. next_number c.args.who.caller p.parts.entries) (sym c.self.view_is) ∙ ap (λ (l : List Entry). next_number c.args.who.caller l) (sym c.make_room.ensures.items)
 
-pub enter-requires-clause-number : goal.enter-requires-clause-number
-enter-requires-clause-number g c = c.check_number.ensures
+pub append_entry-requires-clause-number : goal.append_entry-requires-clause-number
+append_entry-requires-clause-number g c = c.check_number.ensures
 
-pub enter-requires-clause-room : goal.enter-requires-clause-room
-enter-requires-clause-room g c = one-of-2 c.in-Ok-make_room.ensures.ok
+pub append_entry-requires-clause-room : goal.append_entry-requires-clause-room
+append_entry-requires-clause-room g c = one-of-2 c.in-Ok-make_room.ensures.ok
 
 pub returns-in-Err-told-clause-ended : goal.returns-in-Err-told-clause-ended
 returns-in-Err-told-clause-ended g c = subst (λ p. IsEndOf g.B.Bank.tells p.parts.first p.parts.entries (g.B.Bank.tape p.parts.bank)) c.self.view_is (λ t. (c.self.invariant.kept.recorded t).ended)
@@ -128,13 +128,13 @@ returns-clause-same g c =
     let scope = scope_in given a.epoch.uuid a.epoch.given (Some a.backup) in
     rw (← c.self.view_is) (record {
       array = record {
-        uuid = c.enter.ensures.uuid;
-        given = c.enter.ensures.given;
-        first = c.enter.ensures.first;
+        uuid = c.append_entry.ensures.uuid;
+        given = c.append_entry.ensures.given;
+        first = c.append_entry.ensures.first;
         backup = refl;
         shape = refl;
         size = refl;
-        list = list-same given scope a.epoch.first refl (scope-same given (Some a.backup) refl c.enter.ensures.uuid c.enter.ensures.given) c.enter.ensures.first (grows-none (λ t. refl)) (λ t. (c.self.invariant.kept.recorded t).begun);
+        list = list-same given scope a.epoch.first refl (scope-same given (Some a.backup) refl c.append_entry.ensures.uuid c.append_entry.ensures.given) c.append_entry.ensures.first (grows-none (λ t. refl)) (λ t. (c.self.invariant.kept.recorded t).begun);
       };
       final = refl;
       backward = refl;

@@ -1,0 +1,44 @@
+use Rattle.std.proofs.Common.{◌≤◌, ◌+◌, ◌*◌, ℕ, refl, ◌∙◌, ap₂, sym, subst, arith}
+use Rattle.stripe_io.specs.raid_types_the_Shape.{Shape}
+use Rattle.stripe_io.specs.raid_types_Shapes.{data_disks}
+use Rattle.stripe_io.specs.sb_specs_Reading.{shape_of}
+use Rattle.sb_add_spare.specs.array_members_Whole.{list_size}
+use Rattle.sb_add_spare.specs.array_members_Placed.{places_of}
+use Rattle.sb_add_spare.specs.array_members_Lacking.{synced_rows}
+use Rattle.sb_add_spare.specs.sb_safe_updates_First.{read_refusal}
+use Rattle.array_state.proofs.FirstLaws.{short-list, past-is, within-is, read-judged}
+use Rattle.array_state.proofs.refusing.first_read_refusal_from.Goals as goal
+
+pub returns-then-sectors-at-clause-first : goal.returns-then-sectors-at-clause-first
+returns-then-sectors-at-clause-first c = past-is c.visible-sectors.result _ _ _ c.visible-sectors.ensures c.if-sectors-at.true
+
+pub returns-then-sectors-at-clause-why : goal.returns-then-sectors-at-clause-why
+returns-then-sectors-at-clause-why c = (c.visible-sectors.ensures, (let same = c.visible-sectors.ensures in let past = c.if-sectors-at.true in omega (arith, same, past)), refl)
+
+pub first_read_refusal-requires-clause-within : goal.first_read_refusal-requires-clause-within
+first_read_refusal-requires-clause-within c =
+    let m = c.args.members.now in
+    let within : c.args.at + c.args.count ≤ data_disks (shape_of m.newest) * m.newest.size = omega (arith, c.visible-sectors.ensures, c.if-sectors-at.false) in
+    subst (λ (s : Shape). c.args.at + c.args.count ≤ data_disks s * m.newest.size) (sym c.shape_in.ensures) within
+
+pub first_read_refusal-requires-clause-short : goal.first_read_refusal-requires-clause-short
+first_read_refusal-requires-clause-short c =
+    let m = c.args.members.now in
+    let few = short-list (shape_of m.newest) m.newest.size c.requires.shape c.requires.size in
+    omega (arith, c.visible-sectors.ensures, few, c.if-sectors-at.false)
+
+pub returns-clause-first : goal.returns-clause-first
+returns-clause-first c =
+    let m = c.args.members.now in
+    let to = c.args.at + c.args.count in
+    let within : to ≤ list_size (places_of m) = omega (arith, c.visible-sectors.ensures, c.if-sectors-at.false) in
+    within-is (list_size (places_of m)) to c.first_read_refusal.result (read_refusal (shape_of m.newest) (synced_rows c.args.resync m) c.args.at c.args.count m) within
+    (c.first_read_refusal.ensures ∙ ap₂ (λ (s : Shape) (n : ℕ). read_refusal s n c.args.at c.args.count m) c.shape_in.ensures c.synced_rows-mended.ensures.rows)
+
+pub returns-clause-why : goal.returns-clause-why
+returns-clause-why c =
+    let m = c.args.members.now in
+    let to = c.args.at + c.args.count in
+    let within : to ≤ list_size (places_of m) = omega (arith, c.visible-sectors.ensures, c.if-sectors-at.false) in
+    read-judged (shape_of m.newest) (list_size (places_of m)) to (synced_rows c.args.resync m) c.args.at c.args.count m c.first_read_refusal.result within
+    (c.first_read_refusal.ensures ∙ ap₂ (λ (s : Shape) (n : ℕ). read_refusal s n c.args.at c.args.count m) c.shape_in.ensures c.synced_rows-mended.ensures.rows)

@@ -1,5 +1,0 @@
-use Rattle.crash_views.proofs.Stands.{moved-stands}
-use Rattle.crash_views.proofs.a_moved_list_stands.Goals as goal
-
-pub returns : goal.returns
-returns c = moved-stands

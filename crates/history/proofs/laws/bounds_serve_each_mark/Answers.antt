@@ -1,5 +1,0 @@
-use Rattle.history.proofs.StretchLaws.{bounds-serve}
-use Rattle.history.proofs.laws.bounds_serve_each_mark.Goals as goal
-
-pub returns : goal.returns
-returns c = bounds-serve

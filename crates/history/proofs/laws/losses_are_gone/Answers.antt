@@ -1,5 +1,0 @@
-use Rattle.history.proofs.OneShapeGone.{losses-gone}
-use Rattle.history.proofs.laws.losses_are_gone.Goals as goal
-
-pub returns : goal.returns
-returns c = losses-gone

@@ -1,5 +1,0 @@
-use Rattle.history.proofs.SameLaws.{stands-by-row}
-use Rattle.history.proofs.laws.stands_by_its_row.Goals as goal
-
-pub returns : goal.returns
-returns c = stands-by-row

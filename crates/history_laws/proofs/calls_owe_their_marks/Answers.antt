@@ -1,5 +1,0 @@
-use Rattle.history_laws.proofs.GrowingLaws.{calls-owe}
-use Rattle.history_laws.proofs.calls_owe_their_marks.Goals as goal
-
-pub returns : goal.returns
-returns c = calls-owe

@@ -1,5 +1,0 @@
-use Rattle.history_laws.proofs.GrowingLaws.{marks-stay-safe}
-use Rattle.history_laws.proofs.marks_stay_safe.Goals as goal
-
-pub returns : goal.returns
-returns c = marks-stay-safe

@@ -1,6 +1,0 @@
-use Rattle.std.specs.Prelude.{◌≡◌, true, ⊤}
-use Rattle.reshape_progress.proofs.Courses.{courses-move}
-use Rattle.reshape_progress.proofs.laws.a_course_moves.Goals as goal
-
-pub returns : goal.returns
-returns c = λ among. courses-move ⊤ (λ shape. among shape ≡ true)

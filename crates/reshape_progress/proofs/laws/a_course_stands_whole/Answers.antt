@@ -1,6 +1,0 @@
-use Rattle.std.specs.Prelude.{⊤}
-use Rattle.reshape_progress.proofs.Frames.{stands-whole}
-use Rattle.reshape_progress.proofs.laws.a_course_stands_whole.Goals as goal
-
-pub returns : goal.returns
-returns c = stands-whole ⊤

@@ -1,6 +1,0 @@
-use Rattle.std.specs.Prelude.{◌≡◌, true, ⊤}
-use Rattle.reshape_progress.proofs.Spares.{spares-leave}
-use Rattle.reshape_progress.proofs.laws.spares_leave_a_course.Goals as goal
-
-pub returns : goal.returns
-returns c = λ among. spares-leave ⊤ (λ shape. among shape ≡ true)

@@ -1,5 +1,0 @@
-use Rattle.run_specs.proofs.RuledLaws.{gone-ends}
-use Rattle.run_specs.proofs.laws.gone_roles_end_steps.Goals as goal
-
-pub returns : goal.returns
-returns c = gone-ends

@@ -1,5 +1,0 @@
-use Rattle.run_specs.proofs.PlainReplies.{rest-tells}
-use Rattle.run_specs.proofs.laws.rest_tells_plainly.Goals as goal
-
-pub returns : goal.returns
-returns c = rest-tells

@@ -1,5 +1,0 @@
-use Rattle.stripe_list.proofs.FullLaws.{losing-keeps}
-use Rattle.stripe_list.proofs.laws.losing_keeps.Goals as goal
-
-pub returns : goal.returns
-returns c = losing-keeps

@@ -1,5 +1,0 @@
-use Rattle.stripe_region_resync.proofs.LeftLaws.{mends-counted}
-use Rattle.stripe_region_resync.proofs.laws.mends_are_counted.Goals as goal
-
-pub returns : goal.returns
-returns c = mends-counted

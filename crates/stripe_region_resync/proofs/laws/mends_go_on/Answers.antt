@@ -1,5 +1,0 @@
-use Rattle.stripe_region_resync.proofs.StripeLaws.{mends-go-on}
-use Rattle.stripe_region_resync.proofs.laws.mends_go_on.Goals as goal
-
-pub returns : goal.returns
-returns c = mends-go-on
